@@ -1,0 +1,9 @@
+//! HMAC-SHA-256 (RFC 2104) and the tag of 128 bits that authenticates a LISP control message
+//! (RFC 9301 sections 5.6 and 12.5, RFC 4868 section 2.3). Nothing here takes memory.
+#![tactic(auto)]
+
+mod hmac;
+mod tag;
+
+pub use hmac::hmac_sha256;
+pub use tag::{TAG_LEN, checks, tag128};
