@@ -1,0 +1,9 @@
+pub mod AddressLemmas
+pub mod Fields
+pub mod Grown
+pub mod LocatorLaws
+pub mod Loop
+pub mod Masks
+pub mod Positions
+pub mod RecordLaws
+pub mod WrittenLemmas

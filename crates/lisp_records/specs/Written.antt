@@ -1,0 +1,29 @@
+-- The written spelling of a record: each free bit is 0.
+use Rattle.std.specs.Prelude.{ℕ, ◌+◌, ◌*◌, ◌/◌, ◌%◌, List, [], ◌∷◌, ◌++◌, length}
+use Rattle.std.specs.List.{flat_map}
+use Rattle.std.specs.Int.{w16, w32, to_be_bytes}
+use Rattle.lisp_records.specs.declared.address.Addr.{Addr}
+use Rattle.lisp_records.specs.declared.locator.Locator.{Locator}
+use Rattle.lisp_records.specs.Address.{afi, family, octets}
+use Rattle.lisp_records.specs.Record.{Mapping, bit}
+
+-- an address behind its AFI
+abbrev pub written_address : Addr → List ℕ
+written_address a = to_be_bytes w16 (afi (family a)) ++ octets a
+
+abbrev pub written_locator : Locator → List ℕ
+written_locator l = l.priority ∷ l.weight ∷ l.m_priority ∷ l.m_weight ∷ 0 ∷ (bit l.local * 4 + bit l.probe * 2 + bit l.reachable) ∷ written_address l.addr
+
+abbrev pub written_locators : List Locator → List ℕ
+written_locators ls = flat_map written_locator ls
+
+-- the Locator Count, the mask length, ACT and A, a reserved byte, and the Map-Version
+abbrev pub written_counts : Mapping → List ℕ
+written_counts m = length m.locators ∷ m.eid.mask_len ∷ (m.act * 32 + bit m.authoritative * 16) ∷ 0 ∷ (m.version / 256) ∷ m.version % 256 ∷ []
+
+-- what stands before the EID-Prefix-AFI
+abbrev pub written_head : Mapping → List ℕ
+written_head m = to_be_bytes w32 m.ttl ++ written_counts m
+
+unfoldable pub written : Mapping → List ℕ
+written m = written_head m ++ (written_address m.eid.addr ++ written_locators m.locators)

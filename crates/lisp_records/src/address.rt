@@ -1,0 +1,169 @@
+//! Addresses of the two families that EIDs and locators may have.
+
+ghost use Rattle.std.specs.Prelude.{◌≡◌, ◌*◌, ◌++◌, ◌≤◌, length, IfOk, OnOk, OnErr};
+ghost use Rattle.lisp_records.specs.Grown.{Grew};
+ghost use Rattle.lisp_records.specs.Written.{written_address};
+ghost use Rattle.lisp_records.specs.Address.{afi, width, family, octets, IsWhole, high_bits, masked, cleared};
+ghost use Rattle.lisp_records.specs.Reading.{Gives, family_of, address_at};
+
+use crate::fault::RecordFault;
+use std::alloc::{AllocError, Allocator};
+
+/// An address family, as an AFI field names it (RFC 9301 section 5.4).
+#[derive(Clone, Copy, Debug, PartialEq, Eq)]
+pub enum Family {
+    Ipv4,
+    Ipv6,
+}
+
+impl Family {
+    /// The family that an AFI field names; `Afi` at any number but 1 and 2.
+    pub(crate) fn from_afi(number: u16) -> Result<Family, RecordFault>
+        ensures { Gives (λ f. f) result (family_of number) }
+    {
+        match number {
+            1 => Ok(Family::Ipv4),
+            2 => Ok(Family::Ipv6),
+            _ => Err(RecordFault::Afi),
+        }
+    }
+
+    /// The number in an AFI field: 1 for IPv4, 2 for IPv6.
+    pub const fn afi(self) -> u16
+        ensures { result ≡ afi self }
+    {
+        match self {
+            Family::Ipv4 => 1,
+            Family::Ipv6 => 2,
+        }
+    }
+
+    /// The bytes of an address: 4 or 16.
+    pub const fn width(self) -> u8
+        ensures { result ≡ width self }
+    {
+        match self {
+            Family::Ipv4 => 4,
+            Family::Ipv6 => 16,
+        }
+    }
+
+    /// The longest mask: 32 or 128.
+    pub const fn max_mask_len(self) -> u8
+        ensures { result ≡ 8 * width self }
+    {
+        match self {
+            Family::Ipv4 => 32,
+            Family::Ipv6 => 128,
+        }
+    }
+}
+
+/// An address, its bytes in network order. IPv4 is ordered before IPv6, then bytes decide.
+#[derive(Clone, Copy, Debug, PartialEq, Eq, PartialOrd, Ord, Hash)]
+pub enum Addr {
+    V4([u8; 4]),
+    V6([u8; 16]),
+}
+
+impl Addr {
+    /// The family that the address is of.
+    pub const fn family(&self) -> Family
+        ensures { result ≡ family self.now }
+    {
+        match self {
+            Addr::V4(_) => Family::Ipv4,
+            Addr::V6(_) => Family::Ipv6,
+        }
+    }
+
+    /// The bytes of the address: 4 or 16, in network order.
+    pub fn octets(&self) -> &[u8]
+        ensures { result.now ≡ octets self.now }
+    {
+        match self {
+            Addr::V4(bytes) => bytes,
+            Addr::V6(bytes) => bytes,
+        }
+    }
+
+    /// The address with all but its first `mask_len` bits cleared.
+    pub(crate) fn cleared(self, mask_len: u8) -> Addr
+        ensures { result ≡ cleared self mask_len }
+    {
+        match self {
+            Addr::V4(mut bytes) => {
+                clear_past(&mut bytes, mask_len);
+                Addr::V4(bytes)
+            }
+            Addr::V6(mut bytes) => {
+                clear_past(&mut bytes, mask_len);
+                Addr::V6(bytes)
+            }
+        }
+    }
+
+    // The type's own promise, for callers' proofs: an address has its family's bytes.
+    pub(crate) fn whole(self)
+        ensures { IsWhole self }
+    {
+        match self {
+            Addr::V4(_) | Addr::V6(_) => {}
+        }
+    }
+}
+
+/// The address of a family at the front of the bytes, and the bytes after it; `Short` where they
+/// are too few.
+#[tactic(auto, unfolding(crate::specs::Reading::address_at))]
+pub(crate) fn read_address(expected: Family, bytes: &[u8]) -> Result<(Addr, &[u8]), RecordFault>
+    ensures read { Gives (λ x. (x.0, x.1.now)) result (address_at expected bytes.now) }
+    ensures family { IfOk result (λ x. family x.0 ≡ expected) }
+{
+    match expected {
+        Family::Ipv4 => {
+            let Some((octets, rest)) = bytes.split_first_chunk::<4>() else {
+                return Err(RecordFault::Short);
+            };
+            Ok((Addr::V4(*octets), rest))
+        }
+        Family::Ipv6 => {
+            let Some((octets, rest)) = bytes.split_first_chunk::<16>() else {
+                return Err(RecordFault::Short);
+            };
+            Ok((Addr::V6(*octets), rest))
+        }
+    }
+}
+
+// Clears all bits but the first `mask_len`.
+fn clear_past(bytes: &mut [u8], mask_len: u8)
+    ensures { bytes.new ≡ masked bytes.old mask_len }
+{
+    let mut left = mask_len;
+    for byte in bytes.iter_mut() {
+        let kept = left.min(8);
+        *byte = first_bits(*byte, kept);
+        left -= kept;
+    }
+}
+
+// The byte with all but its first `count` bits cleared.
+fn first_bits(byte: u8, count: u8) -> u8
+    requires { count ≤ 8 }
+    ensures { result ≡ high_bits byte count }
+{
+    let dropped = 8 - count;
+    ((u16::from(byte) >> dropped) << dropped) as u8
+}
+
+/// Appends an address behind its AFI. Want of memory may leave a part of it.
+#[tactic(auto, using(crate::proofs::Grown::steps))]
+pub(crate) fn put_address<A: Allocator>(out: &mut Vec<u8, A>, addr: &Addr) -> Result<(), AllocError>
+    ensures ok { OnOk result (out.new.items ≡ out.old.items ++ written_address addr.now) }
+    ensures err { OnErr result (Grew out.old.items out.new.items) }
+{
+    out.extend_from_slice(&addr.family().afi().to_be_bytes())?;
+    out.extend_from_slice(addr.octets())?;
+    Ok(())
+}

@@ -1,0 +1,109 @@
+//! Locators: where the addresses of a prefix are reached.
+
+ghost use Rattle.std.specs.Prelude.{◌≡◌, ◌+◌, ◌*◌, ◌++◌, ◌∷◌, [], ◌<◌, ◌≤◌, length, OnOk, OnErr};
+ghost use Rattle.lisp_records.specs.Grown.{Grew};
+ghost use Rattle.lisp_records.specs.Record.{bit};
+ghost use Rattle.lisp_records.specs.Written.{written_address, written_locator};
+ghost use Rattle.lisp_records.specs.Reading.{Gives, family_of, locator_at, locator_of};
+
+use crate::address::{Addr, Family, put_address, read_address};
+use crate::fault::RecordFault;
+use std::alloc::{AllocError, Allocator};
+
+/// One locator of a record (RFC 9301 section 5.4):
+///
+/// ```text
+/// byte 0  Priority       byte 4     unused, save L 0x04, p 0x02 and R 0x01 of byte 5
+/// byte 1  Weight         byte 6, 7  Loc-AFI: 1 is IPv4, 2 is IPv6
+/// byte 2  M Priority     byte 8 on  the address, 4 or 16 bytes
+/// byte 3  M Weight
+/// ```
+#[derive(Clone, Copy, Debug, PartialEq, Eq)]
+pub struct Locator {
+    /// Unicast priority: less is preferred, 255 is never used.
+    pub priority: u8,
+    /// The share of unicast traffic among locators of one priority.
+    pub weight: u8,
+    /// Multicast priority.
+    pub m_priority: u8,
+    /// Multicast weight.
+    pub m_weight: u8,
+    /// L: the locator is of the router that sent the record.
+    pub local: bool,
+    /// p: the locator is probed.
+    pub probe: bool,
+    /// R: the sender can reach the locator.
+    pub reachable: bool,
+    /// The locator itself.
+    pub addr: Addr,
+}
+
+impl Locator {
+    /// The length of the written spelling, in bytes: 12 or 24.
+    pub(crate) fn written_len(&self) -> usize
+        ensures len { result ≡ length (written_locator self.now) }
+        ensures small { result ≤ 24 }
+    {
+        self.addr.whole();
+        8 + self.addr.family().width() as usize
+    }
+}
+
+/// The locator at the front of the bytes, and the bytes after it. Its faults come in the order
+/// `Short` (no 8 bytes), `Afi`, `Short` (no whole address).
+#[tactic(auto, unfolding(crate::specs::Reading::locator_at))]
+pub(crate) fn read_locator(bytes: &[u8]) -> Result<(Locator, &[u8]), RecordFault>
+    ensures { Gives (λ x. (x.0, x.1.now)) result (locator_at bytes.now) }
+{
+    let [
+        priority,
+        weight,
+        m_priority,
+        m_weight,
+        _,
+        flags,
+        afi_high,
+        afi_low,
+        rest @ ..,
+    ] = bytes
+    else {
+        return Err(RecordFault::Short);
+    };
+    let family = Family::from_afi(u16::from_be_bytes([*afi_high, *afi_low]))?;
+    let (addr, rest) = read_address(family, rest)?;
+    let locator = Locator {
+        priority: *priority,
+        weight: *weight,
+        m_priority: *m_priority,
+        m_weight: *m_weight,
+        local: *flags / 4 % 2 == 1,
+        probe: *flags / 2 % 2 == 1,
+        reachable: *flags % 2 == 1,
+        addr,
+    };
+    Ok((locator, rest))
+}
+
+/// Appends the written spelling of a locator. Want of memory may leave a part of it.
+#[tactic(auto, using(crate::proofs::Grown::steps))]
+pub(crate) fn put_locator<A: Allocator>(
+    out: &mut Vec<u8, A>,
+    locator: &Locator,
+) -> Result<(), AllocError>
+    ensures ok { OnOk result (out.new.items ≡ out.old.items ++ written_locator locator.now) }
+    ensures err { OnErr result (Grew out.old.items out.new.items) }
+{
+    let flags = u8::from(locator.local) * 4
+        + u8::from(locator.probe) * 2
+        + u8::from(locator.reachable);
+    out.extend_from_slice(&[
+        locator.priority,
+        locator.weight,
+        locator.m_priority,
+        locator.m_weight,
+        0,
+        flags,
+    ])?;
+    put_address(out, &locator.addr)?;
+    Ok(())
+}

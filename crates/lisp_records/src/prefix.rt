@@ -1,0 +1,76 @@
+//! EID-Prefixes: blocks of addresses.
+
+ghost use Rattle.std.specs.Prelude.{◌≡◌, ◌≤◌, ◌↔◌, IsTrue, IsSome, IfSome};
+ghost use Rattle.lisp_records.specs.Address.{IsWhole, IsBlock, Covers, max_len, cleared};
+
+use crate::address::Addr;
+use std::marker::Model;
+
+/// A block of addresses: those that begin with the first `mask_len` bits of `addr`. Prefixes are
+/// ordered by address (IPv4 before IPv6, then by its bytes), then by mask length.
+#[derive(Clone, Copy, Debug, PartialEq, Eq, PartialOrd, Ord, Hash)]
+pub struct Prefix {
+    addr: Addr,
+    mask_len: u8,
+}
+
+impl Model for Prefix {
+    ghost use Rattle.lisp_records.specs.Address.{Block, IsBlock};
+
+    ghost Value = { Block };
+
+    ghost view = { λ p. record { addr = p.addr; mask_len = p.mask_len } };
+
+    ghost invariant = { λ p. IsBlock (record { addr = p.addr; mask_len = p.mask_len }) };
+
+    ghost inverse = { λ b. record { addr = b.addr; mask_len = b.mask_len } };
+}
+
+impl Prefix {
+    /// The block of the addresses that share the first `mask_len` bits of `addr`; its later bits
+    /// are cleared. `None` where the mask is longer than the address: 32 bits, or 128.
+    pub fn new(addr: Addr, mask_len: u8) -> Option<Prefix>
+        ensures valid { IsSome result ↔ (mask_len ≤ max_len addr) }
+        ensures value { IfSome result (λ p. p ≡ record { addr = cleared addr mask_len; mask_len = mask_len }) }
+    {
+        if mask_len > addr.family().max_mask_len() {
+            return None;
+        }
+        Some(Prefix::masked(addr, mask_len))
+    }
+
+    /// As `new`, for a mask that is known to fit.
+    pub(crate) fn masked(addr: Addr, mask_len: u8) -> Prefix
+        requires { mask_len ≤ max_len addr }
+        ensures { result ≡ record { addr = cleared addr mask_len; mask_len = mask_len } }
+    {
+        Prefix {
+            addr: addr.cleared(mask_len),
+            mask_len,
+        }
+    }
+
+    /// The first address of the block.
+    pub fn addr(&self) -> Addr
+        ensures addr { result ≡ self.now.addr }
+        ensures whole { IsWhole self.now.addr }
+        ensures block { IsBlock self.now }
+    {
+        self.addr.whole();
+        self.addr
+    }
+
+    /// How many leading bits the addresses of the block share.
+    pub fn mask_len(&self) -> u8
+        ensures { result ≡ self.now.mask_len }
+    {
+        self.mask_len
+    }
+
+    /// Whether `other` is this block or lies inside it.
+    pub fn covers(&self, other: &Prefix) -> bool
+        ensures { IsTrue result ↔ Covers self.now other.now }
+    {
+        self.mask_len <= other.mask_len && other.addr.cleared(self.mask_len) == self.addr
+    }
+}

@@ -1,0 +1,351 @@
+//! The record: an EID-Prefix and its locators, read from bytes and written as bytes.
+
+ghost use Rattle.std.specs.Prelude.{◌≡◌, ℕ, ◌+◌, ◌*◌, ◌/◌, ◌%◌, ◌<◌, ◌≤◌, ◌↔◌, List, [], ◌∷◌, ◌++◌, length, drop, slice_range, All, IsSome, IfSome, IfOk, IfErr, OnOk, OnErr, Ok};
+ghost use Rattle.lisp_records.specs.Address.{IsWhole, family, width};
+ghost use Rattle.lisp_records.specs.Grown.{Grew};
+ghost use Rattle.lisp_records.specs.Record.{Mapping, IsMapping, bit};
+ghost use Rattle.lisp_records.specs.Spelling.{Spells};
+ghost use Rattle.lisp_records.specs.Written.{written, written_head, written_counts, written_locators};
+ghost use Rattle.lisp_records.specs.Reading.{Gives, Fails, family_of, number_at, mask_of, locators_at, mapping_of, record_at};
+
+use crate::address::{Addr, Family, put_address, read_address};
+use crate::fault::RecordFault;
+use crate::locator::{Locator, put_locator, read_locator};
+use crate::prefix::Prefix;
+use std::alloc::{AllocError, Allocator, Global};
+use std::marker::Model;
+
+/// The most locators of one record: their count is one byte.
+pub const MAX_LOCATORS: usize = 255;
+
+/// One mapping record (RFC 9301 section 5.4):
+///
+/// ```text
+/// byte 0 to 3  Record TTL, minutes      byte 8, 9    reserved (4 bits), Map-Version (12 bits)
+/// byte 4       Locator Count            byte 10, 11  EID-Prefix-AFI: 1 is IPv4, 2 is IPv6
+/// byte 5       EID mask-len             byte 12 on   EID-Prefix, 4 or 16 bytes, then the locators
+/// byte 6, 7    ACT 0xe000, A 0x1000, the rest reserved
+/// ```
+#[derive(Debug, Drop)]
+pub struct MapRecord<A: Allocator = Global> {
+    ttl: u32,
+    act: u8,
+    authoritative: bool,
+    version: u16,
+    eid: Prefix,
+    locators: Vec<Locator, A>,
+}
+
+impl<A: Allocator> Model for MapRecord<A> {
+    ghost use Rattle.std.specs.Prelude.{◌<◌, length};
+    ghost use Rattle.lisp_records.specs.Record.{Mapping};
+
+    ghost Value = { Mapping };
+
+    ghost view = { λ r. record { ttl = r.ttl; act = r.act; authoritative = r.authoritative; version = r.version; eid = r.eid; locators = r.locators.items } };
+
+    ghost invariant = { λ r. (r.act < 8) × (r.version < 4096) × (length r.locators.items < 256) };
+}
+
+impl<A: Allocator> MapRecord<A> {
+    /// A record of these fields: the TTL in minutes, the ACT bits, the A bit, the Map-Version
+    /// number, the EID-Prefix and the locators in their order. `None` where `act` is above 7,
+    /// `version` above 4095, or there are more than 255 locators.
+    pub fn new(
+        ttl: u32,
+        act: u8,
+        authoritative: bool,
+        version: u16,
+        eid: Prefix,
+        locators: Vec<Locator, A>,
+    ) -> Option<MapRecord<A>>
+    where
+        A: Drop,
+        ensures valid { IsSome result ↔ ((act < 8) × (version < 4096) × (length locators.items < 256)) }
+        ensures value { IfSome result (λ r. r ≡ record { ttl = ttl; act = act; authoritative = authoritative; version = version; eid = eid; locators = locators.items }) }
+    {
+        if act > 7 || version > 4095 || locators.len() > MAX_LOCATORS {
+            return None;
+        }
+        Some(MapRecord {
+            ttl,
+            act,
+            authoritative,
+            version,
+            eid,
+            locators,
+        })
+    }
+
+    /// How long a cache may keep the record, in minutes.
+    pub fn ttl(&self) -> u32
+        ensures { result ≡ self.now.ttl }
+    {
+        self.ttl
+    }
+
+    /// The ACT bits, 0 to 7: what to do where the record has no locators.
+    pub fn act(&self) -> u8
+        ensures value { result ≡ self.now.act }
+        ensures small { result < 8 }
+    {
+        self.act
+    }
+
+    /// The A bit: the record is its owner's own.
+    pub fn authoritative(&self) -> bool
+        ensures { result ≡ self.now.authoritative }
+    {
+        self.authoritative
+    }
+
+    /// The Map-Version number, 0 to 4095.
+    pub fn version(&self) -> u16
+        ensures value { result ≡ self.now.version }
+        ensures small { result < 4096 }
+    {
+        self.version
+    }
+
+    /// The EID-Prefix that the record maps.
+    pub fn eid(&self) -> Prefix
+        ensures { result ≡ self.now.eid }
+    {
+        self.eid
+    }
+
+    /// The locators, in the record's order; at most 255.
+    pub fn locators(&self) -> &[Locator]
+        ensures value { result.now ≡ self.now.locators }
+        ensures few { length result.now < 256 }
+    {
+        &self.locators
+    }
+
+    /// An equal record, its locators in memory of `alloc`.
+    pub fn copy<B: Allocator>(&self, alloc: B) -> Result<MapRecord<B>, AllocError>
+        ensures { IfOk result (λ r. r ≡ self.now) }
+    {
+        let locators = Vec::from_slice(alloc, &self.locators)?;
+        Ok(MapRecord {
+            ttl: self.ttl,
+            act: self.act,
+            authoritative: self.authoritative,
+            version: self.version,
+            eid: self.eid,
+            locators,
+        })
+    }
+
+    /// The length of the written spelling, in bytes.
+    pub fn written_len(&self) -> usize
+        ensures { result ≡ length (written self.now) }
+    {
+        let mut len = 12 + self.eid.addr().family().width() as usize;
+        for locator in &self.locators {
+            len += locator.written_len();
+        }
+        len
+    }
+
+    // What the types promise of every record, for the proof of what is written.
+    fn known(&self)
+        ensures { IsMapping self.now }
+    {
+        let _ttl = self.ttl;
+        self.eid.addr().whole();
+        known_locators(&self.locators);
+    }
+}
+
+fn known_locators(locators: &[Locator])
+    ensures { All (λ l. IsWhole l.addr) locators.now }
+{
+    for locator in locators {
+        locator.addr.whole();
+    }
+}
+
+/// The record that begins at byte `at`, its locators in memory of `alloc`, and the position after
+/// it. EID bits past the mask, and reserved bits, are ignored. The faults come in this order:
+/// `Short` (no 12 bytes), `Afi`, `Mask` (longer than the address), `Short` (no whole address), then
+/// for each locator `Short` (no 8 bytes), `Afi`, `Short` (no whole address). `OutOfMemory` may come
+/// in place of any answer past the first address.
+pub fn read_record<A: Allocator>(
+    alloc: A,
+    bytes: &[u8],
+    at: usize,
+) -> Result<(MapRecord<A>, usize), RecordFault>
+    requires { at ≤ length bytes.now }
+    // What is read is spelled there.
+    ensures found { IfOk result (λ x. (at ≤ x.1) × (x.1 ≤ length bytes.now) × Spells (slice_range bytes.now at x.1) x.0) }
+
+    // What is spelled there is read, unless memory runs out.
+    ensures only { (m : Mapping) (text rest : List ℕ) → Spells text m → drop at bytes.now ≡ text ++ rest → Gives (λ x. x) result (Ok (m, at + length text)) }
+
+    // Which answer it is.
+    ensures exact { Gives (λ x. (x.0, drop x.1 bytes.now)) result (record_at (drop at bytes.now)) }
+{
+    read_at(alloc, bytes, at)
+}
+
+// As `read_record`.
+fn read_at<A: Allocator>(
+    alloc: A,
+    bytes: &[u8],
+    at: usize,
+) -> Result<(MapRecord<A>, usize), RecordFault>
+    requires { at ≤ length bytes.now }
+    ensures exact { Gives (λ x. (x.0, drop x.1 bytes.now)) result (record_at (drop at bytes.now)) }
+    ensures within { IfOk result (λ x. (at ≤ x.1) × (x.1 ≤ length bytes.now)) }
+{
+    let (_, after) = bytes.split_at(at);
+    match read_front(alloc, after) {
+        Ok((record, rest)) => Ok((record, bytes.len() - rest.len())),
+        Err(fault) => Err(fault),
+    }
+}
+
+// The record at the front of the bytes, and the bytes after it.
+#[tactic(auto, unfolding(crate::specs::Reading::record_at))]
+fn read_front<A: Allocator>(alloc: A, bytes: &[u8]) -> Result<(MapRecord<A>, &[u8]), RecordFault>
+    ensures { Gives (λ x. (x.0, x.1.now)) result (record_at bytes.now) }
+{
+    let [
+        ttl_0,
+        ttl_1,
+        ttl_2,
+        ttl_3,
+        count,
+        mask_len,
+        flags,
+        _,
+        version_high,
+        version_low,
+        afi_high,
+        afi_low,
+        rest @ ..,
+    ] = bytes
+    else {
+        return Err(RecordFault::Short);
+    };
+    let family = Family::from_afi(u16::from_be_bytes([*afi_high, *afi_low]))?;
+    check_mask(family, *mask_len)?;
+    let (addr, rest) = read_address(family, rest)?;
+    let (locators, rest) = read_locators(alloc, *count, rest)?;
+    let record = MapRecord {
+        ttl: u32::from_be_bytes([*ttl_0, *ttl_1, *ttl_2, *ttl_3]),
+        act: *flags >> 5,
+        authoritative: *flags / 16 % 2 == 1,
+        version: u16::from_be_bytes([*version_high & 0x0f, *version_low]),
+        eid: Prefix::masked(addr, *mask_len),
+        locators,
+    };
+    Ok((record, rest))
+}
+
+// `Mask` where the mask is longer than an address of the family.
+fn check_mask(family: Family, mask_len: u8) -> Result<(), RecordFault>
+    ensures mask { Gives (λ _. mask_len) result (mask_of family mask_len) }
+    ensures fits { OnOk result (mask_len ≤ 8 * width family) }
+{
+    if mask_len > family.max_mask_len() {
+        return Err(RecordFault::Mask);
+    }
+    Ok(())
+}
+
+// So many locators from the front of the bytes, and the bytes after them.
+fn read_locators<A: Allocator>(
+    alloc: A,
+    count: u8,
+    bytes: &[u8],
+) -> Result<(Vec<Locator, A>, &[u8]), RecordFault>
+    ensures locators { Gives (λ x. (x.0.items, x.1.now)) result (locators_at count bytes.now) }
+    ensures count { IfOk result (λ x. length x.0.items ≡ count) }
+{
+    let mut locators = Vec::new(alloc);
+    let mut rest = bytes;
+    for _ in 0..count {
+        let (locator, after) = read_locator(rest)?;
+        locators.push(locator)?;
+        rest = after;
+    }
+    Ok((locators, rest))
+}
+
+/// Appends the written spelling of a record: all reserved bits 0. Want of memory leaves `out` as
+/// it was.
+#[tactic(auto, using(crate::proofs::Grown::steps))]
+pub fn write_record<A: Allocator, B: Allocator>(
+    entry: &MapRecord<A>,
+    out: &mut Vec<u8, B>,
+) -> Result<(), AllocError>
+    ensures ok { OnOk result (out.new.items ≡ out.old.items ++ written entry.now) }
+    ensures err { OnErr result (out.new.items ≡ out.old.items) }
+
+    // Every record of the program has a spelling, so that what is written is read again.
+    ensures known { IsMapping entry.now }
+{
+    entry.known();
+    let start = out.len();
+    if let Err(full) = put_record(out, entry) {
+        out.truncate(start);
+        return Err(full);
+    }
+    Ok(())
+}
+
+// As `write_record`, but want of memory may leave a part of the record.
+#[tactic(auto, using(crate::proofs::Grown::steps))]
+fn put_record<A: Allocator, B: Allocator>(
+    out: &mut Vec<u8, B>,
+    entry: &MapRecord<A>,
+) -> Result<(), AllocError>
+    ensures ok { OnOk result (out.new.items ≡ out.old.items ++ written entry.now) }
+    ensures err { OnErr result (Grew out.old.items out.new.items) }
+{
+    put_head(out, entry)?;
+    put_address(out, &entry.eid().addr())?;
+    put_locators(out, entry.locators())?;
+    Ok(())
+}
+
+#[tactic(auto, using(crate::proofs::Grown::steps))]
+fn put_head<A: Allocator, B: Allocator>(
+    out: &mut Vec<u8, B>,
+    entry: &MapRecord<A>,
+) -> Result<(), AllocError>
+    ensures ok { OnOk result (out.new.items ≡ out.old.items ++ written_head entry.now) }
+    ensures err { OnErr result (Grew out.old.items out.new.items) }
+{
+    out.extend_from_slice(&entry.ttl().to_be_bytes())?;
+    out.extend_from_slice(&counts_and_flags(entry))?;
+    Ok(())
+}
+
+// The six bytes from the Locator Count to the Map-Version.
+fn counts_and_flags<A: Allocator>(entry: &MapRecord<A>) -> [u8; 6]
+    ensures { result ≡ written_counts entry.now }
+{
+    let [version_high, version_low] = entry.version().to_be_bytes();
+    [
+        entry.locators().len() as u8,
+        entry.eid().mask_len(),
+        entry.act() << 5 | u8::from(entry.authoritative()) << 4,
+        0,
+        version_high,
+        version_low,
+    ]
+}
+
+#[tactic(auto, using(crate::proofs::Grown::steps))]
+fn put_locators<A: Allocator>(out: &mut Vec<u8, A>, locators: &[Locator]) -> Result<(), AllocError>
+    ensures ok { OnOk result (out.new.items ≡ out.old.items ++ written_locators locators.now) }
+    ensures err { OnErr result (Grew out.old.items out.new.items) }
+{
+    for locator in locators {
+        put_locator(out, locator)?;
+    }
+    Ok(())
+}
