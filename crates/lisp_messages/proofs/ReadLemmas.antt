@@ -1,0 +1,34 @@
+-- What is known of an answer of `read_message`.
+use Rattle.std.proofs.Common.{◌≡◌, ℕ, List, Result, Ok, Err, sym, ◌∙◌}
+use Rattle.std.specs.Prelude.{IfOk}
+use Rattle.lisp_records.proofs.Fields.{IsBytes}
+use Rattle.lisp_messages.specs.declared.fault.ReadFault.{ReadFault}
+use Rattle.lisp_messages.specs.declared.fault.ReadFault.TheVariants as faults
+use Rattle.lisp_messages.specs.declared.message.Message.{Message}
+use Rattle.lisp_messages.specs.Message.{Said}
+use Rattle.lisp_messages.specs.Meaning.{said}
+use Rattle.lisp_messages.specs.Spelling.{Spells}
+use Rattle.lisp_messages.specs.Reading.{Fails, Gives, message_at}
+use Rattle.lisp_messages.proofs.Fields.{done}
+use Rattle.lisp_messages.proofs.MessageLaws.{message_takes, message_again}
+
+-- what is answered is spelled
+pub message_found : {A : Type 0} (bytes : List ℕ) (r : Result (Message A) ReadFault) → IsBytes bytes → Gives said r (message_at bytes) → IfOk r (λ m. Spells bytes (said m))
+message_found bytes (Ok m) fits given = message_takes bytes (said m) fits given
+message_found bytes (Err e) fits given = tt
+
+-- want of memory aside, a fault is none where reading succeeds
+Fails-never : (e : ReadFault) (bytes : List ℕ) (x : Said) → message_at bytes ≡ Ok x → Fails e (message_at bytes) → Fails e (done x)
+Fails-never faults.OutOfMemory bytes x reads fails = tt
+Fails-never faults.Short bytes x reads fails = sym reads ∙ fails
+Fails-never faults.Kind bytes x reads fails = sym reads ∙ fails
+Fails-never faults.Algorithm bytes x reads fails = sym reads ∙ fails
+Fails-never faults.AuthLength bytes x reads fails = sym reads ∙ fails
+Fails-never faults.NoIds bytes x reads fails = sym reads ∙ fails
+Fails-never faults.Trailing bytes x reads fails = sym reads ∙ fails
+Fails-never (faults.Record i f) bytes x reads fails = sym reads ∙ fails
+
+-- what is spelled is answered
+pub message_only : {A : Type 0} (bytes : List ℕ) (r : Result (Message A) ReadFault) → Gives said r (message_at bytes) → (x : Said) → Spells bytes x → Gives said r (Ok x)
+message_only bytes (Ok m) given x spells = sym (message_again bytes x spells) ∙ given
+message_only bytes (Err e) given x spells = Fails-never e bytes x (message_again bytes x spells) given

@@ -1,0 +1,16 @@
+-- Authentication of a message by its tag (RFC 9301 sections 5.6 and 5.7).
+use Rattle.std.specs.Prelude.{◌≡◌, ℕ, ◌≤◌, nat_le, Bool, ◌&&◌, List, length, replicate, slice_range}
+use Rattle.std.specs.Str.{bytes_eq}
+use Rattle.lisp_hmac.specs.Tag.{tag}
+
+-- the Authentication Data is the tag of the whole payload under the secret
+abbrev pub IsAuthentic : List ℕ → List ℕ → Type 0
+IsAuthentic bytes secret = (32 ≤ length bytes) × (slice_range bytes 16 32 ≡ tag secret bytes 16)
+
+-- the same as a test
+abbrev pub is_authentic : List ℕ → List ℕ → Bool
+is_authentic bytes secret = nat_le 32 (length bytes) && bytes_eq (slice_range bytes 16 32) (tag secret bytes 16)
+
+-- a spelling, given as a function of its Authentication Data, with its own tag in that place
+abbrev pub signed : List ℕ → (List ℕ → List ℕ) → List ℕ
+signed secret spelling = spelling (tag secret (spelling (replicate 16 0)) 16)

@@ -1,0 +1,7 @@
+pub mod Fault
+pub mod Message
+pub mod Meaning
+pub mod Spelling
+pub mod Written
+pub mod Authentic
+pub mod Reading

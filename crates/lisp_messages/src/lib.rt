@@ -1,0 +1,20 @@
+//! The three messages of LISP registration: Map-Register (RFC 9301 section 5.6), Map-Notify and
+//! Map-Notify-Ack (section 5.7), read from bytes, written as bytes, and authenticated.
+#![tactic(auto)]
+
+mod authentication;
+mod fault;
+mod kind;
+pub mod laws;
+mod message;
+mod notify;
+mod reading;
+mod register;
+mod writing;
+
+pub use authentication::authentic;
+pub use fault::ReadFault;
+pub use message::Message;
+pub use notify::{MapNotify, write_notify};
+pub use reading::read_message;
+pub use register::MapRegister;

@@ -1,0 +1,107 @@
+//! The Map-Notify and the Map-Notify-Ack.
+
+ghost use Rattle.std.specs.Prelude.{◌≡◌, ◌<◌, ◌≤◌, [], length, replicate, IfOk, OnOk};
+ghost use Rattle.lisp_messages.specs.Message.{Notifies, IsNotification};
+ghost use Rattle.lisp_messages.specs.Spelling.{Spells};
+ghost use Rattle.lisp_messages.specs.Authentic.{IsAuthentic, signed};
+ghost use Rattle.lisp_messages.specs.Written.{written_notify};
+ghost use Rattle.lisp_messages.specs.Reading.{Gives, notify_at};
+
+use crate::authentication::sign;
+use crate::fault::ReadFault;
+use crate::kind::Kind;
+use crate::reading::read_nonce;
+use crate::writing::{common_head, put_records};
+use lisp_records::{MapRecord, Records};
+use std::alloc::{AllocError, Allocator, Global};
+use std::marker::Model;
+
+/// A Map-Notify, type 4, or a Map-Notify-Ack, type 5 (RFC 9301 section 5.7), with at most 255
+/// records. Its bytes are those of a Map-Register, without flags and with nothing behind the
+/// records; 24 bytes there are ignored.
+#[derive(Debug, Drop)]
+pub struct MapNotify<A: Allocator = Global> {
+    /// Whether it is a Map-Notify-Ack.
+    pub ack: bool,
+    /// The nonce of the Map-Register that it answers, or the server's own.
+    pub nonce: u64,
+    /// The secret that the message is authenticated under.
+    pub key_id: u8,
+    /// The records, at most 255.
+    pub records: Records<A>,
+}
+
+impl<A: Allocator> Model for MapNotify<A> {
+    ghost use Rattle.std.specs.Prelude.{◌<◌, length};
+    ghost use Rattle.lisp_messages.specs.Message.{Notification};
+
+    ghost Value = { Notification };
+
+    ghost view = { λ m. record { ack = m.ack; nonce = m.nonce; key_id = m.key_id; records = m.records } };
+
+    ghost invariant = { λ m. length m.records < 256 };
+}
+
+/// The Map-Notify, or Map-Notify-Ack, of these bytes and records; `Trailing` where neither nothing
+/// nor 24 bytes stand behind the records.
+#[tactic(auto, unfolding(crate::specs::Reading::notify_at))]
+pub(crate) fn read_notify<A: Allocator>(
+    ack: bool,
+    bytes: &[u8],
+    records: Vec<MapRecord<A>, A>,
+    tail: &[u8],
+) -> Result<MapNotify<A>, ReadFault>
+    requires head { 32 ≤ length bytes.now }
+    requires few { length records.items < 256 }
+    ensures { Gives Notifies result (notify_at ack bytes.now records.items tail.now) }
+{
+    if !(tail.is_empty() || tail.len() == 24) {
+        return Err(ReadFault::Trailing);
+    }
+    Ok(MapNotify {
+        ack,
+        nonce: read_nonce(bytes),
+        key_id: bytes[12],
+        records: Records::from_vec(records),
+    })
+}
+
+/// The written spelling of a Map-Notify or Map-Notify-Ack, authentic under the secret: all reserved
+/// bits 0, and nothing behind the records. It lies in memory of `alloc`; want of memory is the only
+/// refusal.
+pub fn write_notify<A: Allocator, B: Allocator>(
+    alloc: A,
+    message: &MapNotify<B>,
+    secret: &[u8],
+) -> Result<Vec<u8, A>, AllocError>
+    ensures written { IfOk result (λ v. v.items ≡ signed secret.now (written_notify message.now)) }
+    ensures authentic { IfOk result (λ v. IsAuthentic v.items secret.now) }
+    ensures spells { IfOk result (λ v. Spells v.items (Notifies message.now)) }
+{
+    let mut out = Vec::new(alloc);
+    put_notify(&mut out, message)?;
+    sign(&mut out, secret);
+    Ok(out)
+}
+
+// The written spelling, its Authentication Data zeros.
+#[tactic(auto, unfolding(crate::specs::Written::written_notify))]
+fn put_notify<A: Allocator, B: Allocator>(
+    out: &mut Vec<u8, A>,
+    message: &MapNotify<B>,
+) -> Result<(), AllocError>
+    requires { out.old.items ≡ [] }
+    ensures written { OnOk result (out.new.items ≡ written_notify message.now (replicate 16 0)) }
+    ensures known { OnOk result (IsNotification message.now) }
+{
+    let kind = if message.ack {
+        Kind::NotifyAck
+    } else {
+        Kind::Notify
+    };
+    let records = message.records.as_slice();
+    out.extend_from_slice(&[kind.number() * 16, 0, 0])?;
+    out.extend_from_slice(&common_head(records.len() as u8, message.nonce, message.key_id))?;
+    put_records(out, records)?;
+    Ok(())
+}

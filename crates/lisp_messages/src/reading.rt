@@ -1,0 +1,129 @@
+//! Reading a message.
+
+ghost use Rattle.std.specs.Prelude.{◌≡◌, ◌<◌, ◌≤◌, length, drop, slice_index, IfOk, OnOk, Ok};
+ghost use Rattle.lisp_messages.specs.Message.{Said};
+ghost use Rattle.lisp_messages.specs.Meaning.{said};
+ghost use Rattle.lisp_messages.specs.Spelling.{Spells};
+ghost use Rattle.lisp_messages.specs.Reading.{Gives, kind_at, records_at, nonce_of, tail_at, notify_at, register_at, message_at};
+
+use crate::fault::ReadFault;
+use crate::kind::Kind;
+use crate::message::Message;
+use crate::notify::read_notify;
+use crate::register::read_register;
+use lisp_records::{MapRecord, read_record};
+use std::alloc::Allocator;
+
+/// The one Algorithm ID that is served: HMAC-SHA-256-128-None (RFC 9301 section 12.5).
+pub(crate) const HMAC_SHA_256_128_NONE: u8 = 2;
+
+/// The bytes of a message before its records.
+pub(crate) const HEAD_LEN: usize = 32;
+
+/// The message that the bytes spell, all of the bytes; its records in memory of `alloc`. Reserved
+/// bits are ignored. The faults come in this order: `Short` (no 16 bytes), `Kind` (type other than
+/// 3, 4 and 5), `Algorithm` (other than 2), `AuthLength` (other than 16), `Short` (no 32 bytes),
+/// `Record` for the first record that can't be read; then for a Map-Register `NoIds` (bit I is
+/// clear), `Short` or `Trailing` (other than 24 bytes behind the records), for the other two
+/// `Trailing` (other than 0 or 24 bytes there, which are ignored). `OutOfMemory` may come in place
+/// of any answer past the first record.
+pub fn read_message<A: Allocator + Copy>(alloc: A, bytes: &[u8]) -> Result<Message<A>, ReadFault>
+    // What is read is spelled so.
+    ensures found { IfOk result (λ m. Spells bytes.now (said m)) }
+
+    // What is spelled so is read, unless memory runs out.
+    ensures only { (x : Said) → Spells bytes.now x → Gives said result (Ok x) }
+
+    // Which answer it is.
+    ensures exact { Gives said result (message_at bytes.now) }
+{
+    read_whole(alloc, bytes)
+}
+
+#[tactic(auto, unfolding(crate::specs::Reading::message_at))]
+fn read_whole<A: Allocator + Copy>(alloc: A, bytes: &[u8]) -> Result<Message<A>, ReadFault>
+    ensures { Gives said result (message_at bytes.now) }
+{
+    let kind = read_kind(bytes)?;
+    let (records, tail) = read_records(alloc, bytes)?;
+    match kind {
+        Kind::Register => Ok(Message::Register(read_register(bytes, records, tail)?)),
+        Kind::Notify => Ok(Message::Notify(read_notify(false, bytes, records, tail)?)),
+        Kind::NotifyAck => Ok(Message::Notify(read_notify(true, bytes, records, tail)?)),
+    }
+}
+
+// The message type, where the 32 bytes before the records are as they must be.
+#[tactic(auto, unfolding(crate::specs::Reading::kind_at))]
+fn read_kind(bytes: &[u8]) -> Result<Kind, ReadFault>
+    ensures kind { Gives (λ k. k) result (kind_at bytes.now) }
+    ensures head { OnOk result (32 ≤ length bytes.now) }
+{
+    let [
+        first,
+        _,
+        _,
+        _,
+        _,
+        _,
+        _,
+        _,
+        _,
+        _,
+        _,
+        _,
+        _,
+        algorithm,
+        length_high,
+        length_low,
+        ..
+    ] = bytes
+    else {
+        return Err(ReadFault::Short);
+    };
+    let kind = Kind::from_number(*first / 16)?;
+    if *algorithm != HMAC_SHA_256_128_NONE {
+        return Err(ReadFault::Algorithm);
+    }
+    if u16::from_be_bytes([*length_high, *length_low]) as usize != lisp_hmac::TAG_LEN {
+        return Err(ReadFault::AuthLength);
+    }
+    if bytes.len() < HEAD_LEN {
+        return Err(ReadFault::Short);
+    }
+    Ok(kind)
+}
+
+// The records behind the first 32 bytes, and the bytes after them.
+fn read_records<A: Allocator + Copy>(
+    alloc: A,
+    bytes: &[u8],
+) -> Result<(Vec<MapRecord<A>, A>, &[u8]), ReadFault>
+    requires { 32 ≤ length bytes.now }
+    ensures records { Gives (λ x. (x.0.items, x.1.now)) result (records_at 0 (slice_index bytes.now 3) (drop 32 bytes.now)) }
+    ensures few { IfOk result (λ x. length x.0.items < 256) }
+{
+    let mut records = Vec::new(alloc);
+    let mut at = HEAD_LEN;
+    for place in 0..bytes[3] {
+        match read_record(alloc, bytes, at) {
+            Ok((record, next)) => {
+                records.push(record)?;
+                at = next;
+            }
+            Err(fault) => return Err(ReadFault::of_record(place, fault)),
+        }
+    }
+    let (_, tail) = bytes.split_at(at);
+    Ok((records, tail))
+}
+
+/// The nonce of a message.
+pub(crate) fn read_nonce(bytes: &[u8]) -> u64
+    requires { 32 ≤ length bytes.now }
+    ensures { result ≡ nonce_of bytes.now }
+{
+    let (_, after) = bytes.split_at(4);
+    let (nonce, _) = after.split_first_chunk::<8>().unwrap();
+    u64::from_be_bytes(*nonce)
+}

@@ -1,0 +1,133 @@
+//! The Map-Register.
+
+ghost use Rattle.std.specs.Prelude.{◌≡◌, ◌<◌, ◌≤◌, length};
+ghost use Rattle.lisp_records.specs.Reading.{is_set};
+ghost use Rattle.lisp_messages.specs.Message.{Registers};
+ghost use Rattle.lisp_messages.specs.Reading.{Gives, ids_at, register_at};
+
+use crate::fault::ReadFault;
+use crate::reading::read_nonce;
+use lisp_records::{MapRecord, Records};
+use std::alloc::{Allocator, Global};
+use std::marker::Model;
+
+// The bits of the first byte.
+const PROXY: u8 = 0x08;
+
+const SEC: u8 = 0x04;
+
+const IDS: u8 = 0x02;
+
+// The bits of the third byte.
+const EID_NOTIFY: u8 = 0x10;
+
+const USE_TTL: u8 = 0x08;
+
+const MERGE: u8 = 0x04;
+
+const WANT_NOTIFY: u8 = 0x01;
+
+/// A Map-Register (RFC 9301 section 5.6), type 3, with at most 255 records:
+///
+/// ```text
+/// byte 0        type 3 in the high 4 bits, P 0x08, S 0x04, I 0x02 (always set), the rest reserved
+/// byte 1        reserved
+/// byte 2        E 0x10, T 0x08, a 0x04, M 0x01, the rest reserved
+/// byte 3        Record Count
+/// byte 4 to 11  nonce
+/// byte 12       Key ID
+/// byte 13       Algorithm ID: 2 is HMAC-SHA-256-128-None
+/// byte 14, 15   Authentication Data Length: 16
+/// byte 16 on    Authentication Data, the records, xTR-ID (16 bytes), Site-ID (8 bytes)
+/// ```
+#[derive(Debug, Drop)]
+pub struct MapRegister<A: Allocator = Global> {
+    /// P: the Map-Server is to answer Map-Requests for the router.
+    pub proxy: bool,
+    /// S: the router is capable of LISP-SEC; kept, and without effect here.
+    pub sec: bool,
+    /// E: dynamic EID discovery; kept, and without effect here.
+    pub eid_notify: bool,
+    /// T: registrations time out by the TTL of their records.
+    pub use_ttl: bool,
+    /// a: the records are to be merged with those of other routers.
+    pub merge: bool,
+    /// M: a Map-Notify is wanted.
+    pub want_notify: bool,
+    /// The nonce, which rises from one Map-Register of a router to its next.
+    pub nonce: u64,
+    /// The secret that the message is authenticated under.
+    pub key_id: u8,
+    /// The records, at most 255.
+    pub records: Records<A>,
+    /// The xTR-ID: which router of the site.
+    pub xtr: [u8; 16],
+    /// The Site-ID.
+    pub site: u64,
+}
+
+impl<A: Allocator> Model for MapRegister<A> {
+    ghost use Rattle.std.specs.Prelude.{◌<◌, length};
+    ghost use Rattle.lisp_messages.specs.Message.{Registration};
+
+    ghost Value = { Registration };
+
+    ghost view = { λ m. record { proxy = m.proxy; sec = m.sec; eid_notify = m.eid_notify; use_ttl = m.use_ttl; merge = m.merge; want_notify = m.want_notify; nonce = m.nonce; key_id = m.key_id; records = m.records; xtr = m.xtr; site = m.site } };
+
+    ghost invariant = { λ m. length m.records < 256 };
+}
+
+/// The Map-Register of these bytes and records, by what stands behind the records: `NoIds`, then
+/// `Short` or `Trailing`.
+#[tactic(auto, unfolding(crate::specs::Reading::register_at))]
+pub(crate) fn read_register<A: Allocator>(
+    bytes: &[u8],
+    records: Vec<MapRecord<A>, A>,
+    tail: &[u8],
+) -> Result<MapRegister<A>, ReadFault>
+    requires head { 32 ≤ length bytes.now }
+    requires few { length records.items < 256 }
+    ensures { Gives Registers result (register_at bytes.now records.items tail.now) }
+{
+    if !is_set(bytes[0], IDS) {
+        return Err(ReadFault::NoIds);
+    }
+    let (xtr, site) = read_ids(tail)?;
+    Ok(MapRegister {
+        proxy: is_set(bytes[0], PROXY),
+        sec: is_set(bytes[0], SEC),
+        eid_notify: is_set(bytes[2], EID_NOTIFY),
+        use_ttl: is_set(bytes[2], USE_TTL),
+        merge: is_set(bytes[2], MERGE),
+        want_notify: is_set(bytes[2], WANT_NOTIFY),
+        nonce: read_nonce(bytes),
+        key_id: bytes[12],
+        records: Records::from_vec(records),
+        xtr,
+        site,
+    })
+}
+
+fn is_set(flags: u8, bit: u8) -> bool
+    requires { 0 < bit }
+    ensures { result ≡ is_set flags bit }
+{
+    flags / bit % 2 == 1
+}
+
+// xTR-ID and Site-ID, which end the message.
+#[tactic(auto, unfolding(crate::specs::Reading::ids_at))]
+fn read_ids(tail: &[u8]) -> Result<([u8; 16], u64), ReadFault>
+    ensures { Gives (λ x. x) result (ids_at tail.now) }
+{
+    let Some((xtr, rest)) = tail.split_first_chunk::<16>() else {
+        return Err(ReadFault::Short);
+    };
+    let Some((site, rest)) = rest.split_first_chunk::<8>() else {
+        return Err(ReadFault::Short);
+    };
+    if !rest.is_empty() {
+        return Err(ReadFault::Trailing);
+    }
+    Ok((*xtr, u64::from_be_bytes(*site)))
+}

@@ -1,0 +1,64 @@
+//! What is written in each message alike.
+
+ghost use Rattle.std.specs.Prelude.{◌≡◌, ◌++◌, ◌<◌, ◌^◌, length, replicate, All, OnOk};
+ghost use Rattle.lisp_records.specs.Record.{IsMapping};
+ghost use Rattle.lisp_messages.specs.Spelling.{common};
+ghost use Rattle.lisp_messages.specs.Written.{written_records};
+
+use crate::reading::HMAC_SHA_256_128_NONE;
+use lisp_hmac::TAG_LEN;
+use lisp_records::{MapRecord, write_record};
+use std::alloc::{AllocError, Allocator};
+
+/// The bytes from the Record Count to the Authentication Data, that one as zeros.
+pub(crate) fn common_head(count: u8, nonce: u64, key_id: u8) -> [u8; 29]
+    ensures head { result ≡ common count nonce key_id (replicate 16 0) }
+    ensures fits { nonce < 2 ^ 64 }
+{
+    let [n0, n1, n2, n3, n4, n5, n6, n7] = nonce.to_be_bytes();
+    [
+        count,
+        n0,
+        n1,
+        n2,
+        n3,
+        n4,
+        n5,
+        n6,
+        n7,
+        key_id,
+        HMAC_SHA_256_128_NONE,
+        0,
+        TAG_LEN as u8,
+        0,
+        0,
+        0,
+        0,
+        0,
+        0,
+        0,
+        0,
+        0,
+        0,
+        0,
+        0,
+        0,
+        0,
+        0,
+        0,
+    ]
+}
+
+/// Appends the written spellings of the records, one after the other.
+pub(crate) fn put_records<A: Allocator, B: Allocator>(
+    out: &mut Vec<u8, A>,
+    records: &[MapRecord<B>],
+) -> Result<(), AllocError>
+    ensures records { OnOk result (out.new.items ≡ out.old.items ++ written_records records.now) }
+    ensures known { OnOk result (All IsMapping records.now) }
+{
+    for record in records {
+        write_record(record, out)?;
+    }
+    Ok(())
+}
