@@ -1,19 +1,21 @@
-# make run: answers the sample Map-Register.  make test: the gate, which proves and tests everything.
+# make run     answers a sample Map-Register with the program, which is built where needed
+# make test    the gate: proves everything from nothing, runs the tests and the program
+# make bench   measures the codec and the tag on the 84 byte Map-Register
+# make clean   removes what was built
 .PHONY: run test bench clean
 
-LISPD = crates/lispd/out/lispd
+SOURCES = crates.txt $(shell find crates -name '*.rt' -o -name '*.antt')
 
-run: $(LISPD)
-	$(LISPD) answer < examples/map-register.hex
+run: out/lispd
+	out/lispd answer < examples/map-register.hex
 
 test:
 	rt ci
 
-bench:
-	cd crates/lisp_bench && rt run -- 200000
-
-$(LISPD): crates.txt $(wildcard crates/*/src/*.rt crates/*/specs/*.antt crates/*/proofs/*.antt)
-	cd crates/lispd && rt run < /dev/null > /dev/null
+out/lispd: $(SOURCES)
+	@mkdir -p out
+	@cd crates/lispd_main && rt run < /dev/null > ../../out/build.log 2>&1 || { cat ../../out/build.log; exit 1; }
+	@cp crates/lispd_main/out/lispd_main out/lispd
 
 clean:
-	rm -rf crates/*/out
+	rm -rf out crates/*/out

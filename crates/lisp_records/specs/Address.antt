@@ -1,5 +1,6 @@
 -- Addresses, and the blocks of them that an EID-Prefix names (RFC 9301 section 5.4).
-use Rattle.std.specs.Prelude.{◌≡◌, ℕ, ◌-◌, ◌*◌, ◌/◌, ◌^◌, ◌≤◌, List, [], ◌∷◌, length, min}
+use Rattle.std.specs.Prelude.{◌≡◌, ℕ, ◌-◌, ◌*◌, ◌/◌, ◌^◌, ◌≤◌, nat_le, ◌==◌, Bool, false, ◌&&◌, List, [], ◌∷◌, length, min}
+use Rattle.std.specs.Str.{bytes_eq}
 use Rattle.std.specs.declared.cmp.Ordering.{Ordering}
 use Rattle.std.specs.declared.cmp.Ordering.TheVariants.{Less, Greater}
 use Rattle.std.specs.Ordering.{nat_cmp, ordering_then}
@@ -62,6 +63,19 @@ IsBlock b = (b.mask_len ≤ max_len b.addr) × (cleared b.addr b.mask_len ≡ b.
 -- each address of the second block is one of the first
 abbrev pub Covers : Block → Block → Type 0
 Covers b other = (b.mask_len ≤ other.mask_len) × (cleared other.addr b.mask_len ≡ b.addr)
+
+-- equality and covering as tests
+abbrev pub addr_eq : Addr → Addr → Bool
+addr_eq (V4 a) (V4 b) = bytes_eq a b
+addr_eq (V4 _) (V6 _) = false
+addr_eq (V6 _) (V4 _) = false
+addr_eq (V6 a) (V6 b) = bytes_eq a b
+
+abbrev pub block_eq : Block → Block → Bool
+block_eq a b = addr_eq a.addr b.addr && (a.mask_len == b.mask_len)
+
+abbrev pub covers : Block → Block → Bool
+covers b other = nat_le b.mask_len other.mask_len && addr_eq (cleared other.addr b.mask_len) b.addr
 
 -- the order of addresses: IPv4 before IPv6, then by the first byte that differs
 abbrev pub addr_cmp : Addr → Addr → Ordering

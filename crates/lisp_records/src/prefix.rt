@@ -1,7 +1,7 @@
 //! EID-Prefixes: blocks of addresses.
 
 ghost use Rattle.std.specs.Prelude.{◌≡◌, ◌≤◌, ◌↔◌, IsTrue, IsSome, IfSome};
-ghost use Rattle.lisp_records.specs.Address.{IsWhole, IsBlock, Covers, max_len, cleared};
+ghost use Rattle.lisp_records.specs.Address.{IsWhole, IsBlock, Covers, covers, max_len, cleared};
 
 use crate::address::Addr;
 use std::marker::Model;
@@ -69,7 +69,8 @@ impl Prefix {
 
     /// Whether `other` is this block or lies inside it.
     pub fn covers(&self, other: &Prefix) -> bool
-        ensures { IsTrue result ↔ Covers self.now other.now }
+        ensures covers { IsTrue result ↔ Covers self.now other.now }
+        ensures test { result ≡ covers self.now other.now }
     {
         self.mask_len <= other.mask_len && other.addr.cleared(self.mask_len) == self.addr
     }

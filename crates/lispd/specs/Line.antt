@@ -1,0 +1,39 @@
+-- The line that answers a line of hexadecimal digits.
+use Rattle.std.specs.Prelude.{ℕ, List, ◌++◌, ◌∷◌, [], codes, Option, Some, None, Result, Ok, Err, ◌≡◌, ◌⊎◌}
+use Rattle.std.specs.Fmt.{decimal}
+use Rattle.std.specs.Io.BufRead.{first_line}
+use Rattle.std.specs.Io.KnownBytes.{Appends}
+use Rattle.hex.specs.Hex.{decode_of, encode_lower}
+use Rattle.hex.specs.declared.error.FromHexError.{FromHexError}
+use Rattle.lispd.specs.declared.refusal.Refusal.TheVariants.{OutOfMemory}
+use Rattle.lispd.specs.Setup.{Setup}
+use Rattle.lispd.specs.Refusal.{refusal_words}
+use Rattle.lispd.specs.Answer.{Answer, answer_of}
+
+-- an answer in words: the Map-Notify in digits, or why there is none
+abbrev pub answer_words : Answer → List ℕ
+answer_words (Ok (Some notify)) = encode_lower notify
+answer_words (Ok None) = codes "accepted"
+answer_words (Err refusal) = refusal_words refusal
+
+-- what stands for bytes that were decoded, or for a text that is not hexadecimal
+abbrev pub decoded_words : Setup → Result (List ℕ) FromHexError → List ℕ
+decoded_words s (Ok bytes) = answer_words (answer_of s bytes)
+decoded_words s (Err _) = codes "refused " ++ decimal 94
+
+-- the line, without its line feed, that answers an input: its first line is read, which ends with a
+-- line feed, or a carriage return and a line feed, or the input
+abbrev pub line_of : Setup → List ℕ → List ℕ
+line_of s input = decoded_words s (decode_of (first_line input))
+
+-- the words where the server had no memory
+abbrev pub no_memory_words : List ℕ
+no_memory_words = refusal_words OutOfMemory
+
+-- these words, or those for want of memory
+abbrev pub AreWords : List ℕ → List ℕ → Type 0
+AreWords text words = (text ≡ words) ⊎ (text ≡ no_memory_words)
+
+-- to what was held, the line that answers the input was added, or the one for want of memory
+abbrev pub Adds : Option (List ℕ) → Option (List ℕ) → Setup → List ℕ → Type 0
+Adds old new s input = (words : List ℕ) × AreWords words (line_of s input) × Appends old new (words ++ 10 ∷ [])

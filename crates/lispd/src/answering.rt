@@ -1,0 +1,45 @@
+//! The subcommand `answer`.
+
+ghost use Rattle.std.specs.Prelude.{◌≡◌, ◌≢◌, ◌<◌, ◌≤◌, length, IfSome, OnOk, IfErr, IsErrOf};
+ghost use Rattle.std.specs.Io.BufRead.{take_through};
+ghost use Rattle.std.specs.Io.KnownBytes.{Consumes, Keeps};
+ghost use Rattle.lispd.specs.Line.{Adds};
+ghost use Rattle.lispd.specs.Input.{most_bytes};
+ghost use Rattle.lispd.specs.declared.fault.AnswerFault.{AnswerFault};
+
+use crate::fault::AnswerFault;
+use crate::input::{content, read_line};
+use crate::line::words_for;
+use crate::setup::AnswerSetup;
+use std::alloc::Allocator;
+use std::io::{Read, Write};
+
+/// Reads one line of hexadecimal digits, the bytes of a message, and writes one line: what a fresh
+/// server with this setup answers. That is the Map-Notify in lower case digits; `accepted` where
+/// bit M is clear; `refused` with the number of the refusal and what it carries; or `refused 94`
+/// where the line isn't hexadecimal. Want of memory in the server is `refused 58`.
+///
+/// The line ends with a line feed, before which a carriage return is dropped, or with the input; it
+/// has at most 1,048,576 bytes, its line feed among them, and nothing behind it is read. Faults:
+/// `Read` where a read fails or 2,097,152 reads are not enough, `TooLong`, `OutOfMemory` where there
+/// is no memory for the line or its answer, `Write`. Nothing was written at all but `Write`.
+pub fn answer<A: Allocator + Copy, B: Allocator, R: Read, W: Write>(
+    alloc: A,
+    setup: &AnswerSetup<B>,
+    reader: &mut R,
+    writer: &mut W,
+) -> Result<(), AnswerFault>
+    ensures ok { OnOk result (IfSome (R.remaining reader.old) (λ input. Adds (W.contents writer.old) (W.contents writer.new) setup.now input)) }
+    ensures consumed { OnOk result (IfSome (R.remaining reader.old) (λ input. Consumes (R.remaining reader.old) (R.remaining reader.new) (take_through 10 input))) }
+    ensures fits { OnOk result (IfSome (R.remaining reader.old) (λ input. length (take_through 10 input) ≤ most_bytes)) }
+    ensures too_long { IsErrOf result AnswerFault.TooLong → IfSome (R.remaining reader.old) (λ input. most_bytes < length (take_through 10 input)) }
+    ensures err { IfErr result (λ e. e ≢ AnswerFault.Write → Keeps (W.contents writer.old) (W.contents writer.new)) }
+{
+    let line = read_line(alloc, reader)?;
+    let mut text = words_for(alloc, setup, content(&line))?;
+    text.push('\n')?;
+    match writer.write_all(text.as_bytes()) {
+        Ok(()) => Ok(()),
+        Err(_) => Err(AnswerFault::Write),
+    }
+}

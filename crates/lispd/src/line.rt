@@ -1,0 +1,46 @@
+//! The line that answers a line of hexadecimal digits.
+
+ghost use Rattle.std.specs.Prelude.{◌≡◌, IfOk};
+ghost use Rattle.std.specs.String.{string_bytes};
+ghost use Rattle.hex.specs.Hex.{decode_of};
+ghost use Rattle.lispd.specs.Answer.{seen};
+ghost use Rattle.lispd.specs.Line.{answer_words, decoded_words, AreWords};
+
+use crate::refusal::Refusal;
+use crate::server::respond;
+use crate::setup::AnswerSetup;
+use hex::FromHexError;
+use std::alloc::{AllocError, Allocator};
+
+/// The number of a line that isn't hexadecimal.
+const NOT_HEXADECIMAL: u16 = 94;
+
+/// The words that answer a line of digits: the Map-Notify in lower case digits, `accepted`, or the
+/// refusal; `refused 94` where the line isn't hexadecimal.
+pub(crate) fn words_for<A: Allocator + Copy, B: Allocator>(
+    alloc: A,
+    setup: &AnswerSetup<B>,
+    digits: &[u8],
+) -> Result<String<A>, AllocError>
+    ensures { IfOk result (λ words. AreWords (string_bytes words) (decoded_words setup.now (decode_of digits.now))) }
+{
+    match hex::decode(alloc, digits) {
+        Ok(bytes) => words_of(alloc, respond(alloc, setup, &bytes)),
+        Err(FromHexError::OutOfMemory) => Err(AllocError),
+        Err(_) => format!(in alloc; "refused {NOT_HEXADECIMAL}"),
+    }
+}
+
+// The words of an answer.
+fn words_of<A: Allocator>(
+    alloc: A,
+    answer: Result<Option<Vec<u8, A>>, Refusal>,
+) -> Result<String<A>, AllocError>
+    ensures { IfOk result (λ words. string_bytes words ≡ answer_words (seen answer)) }
+{
+    match answer {
+        Ok(Some(notify)) => hex::encode(alloc, notify.as_slice()),
+        Ok(None) => String::from_str(alloc, "accepted"),
+        Err(refusal) => refusal.words(alloc),
+    }
+}

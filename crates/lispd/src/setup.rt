@@ -1,0 +1,75 @@
+//! The one site of the server that `answer` starts afresh.
+
+ghost use Rattle.std.specs.Prelude.{◌≡◌, IfOk};
+ghost use Rattle.lispd.specs.Block.{default_block};
+
+use lisp_records::{Addr, Bytes, MapRecord, Prefix};
+use std::alloc::{AllocError, Allocator, Global};
+use std::marker::Model;
+
+/// A site with one key and one prefix.
+#[derive(Debug, Drop)]
+pub struct AnswerSetup<A: Allocator = Global> {
+    /// The Site-ID.
+    pub site: u64,
+    /// The Key ID.
+    pub key: u8,
+    /// The pre-shared secret of the Key ID, 1 to 256 bytes.
+    pub secret: Bytes<A>,
+    /// The prefix that the site's routers may register.
+    pub prefix: Prefix,
+    /// Whether they may register prefixes inside it too.
+    pub more_specifics: bool,
+}
+
+impl<A: Allocator> Model for AnswerSetup<A> {
+    ghost use Rattle.lispd.specs.Setup.{Setup};
+
+    ghost Value = { Setup };
+
+    ghost view = { λ s. record { site = s.site; key = s.key; secret = s.secret; prefix = s.prefix; more_specifics = s.more_specifics } };
+}
+
+impl<A: Allocator> AnswerSetup<A> {
+    ghost use Rattle.lispd.specs.Setup.{is_allowed, default_setup};
+    ghost use Rattle.lispd.specs.Answer.{first_not_allowed};
+
+    /// The setup where nothing else is asked: site 0000000000000001, key 1, the secret `secret`,
+    /// prefix 10.1.0.0/16 without more-specifics.
+    pub fn defaults(alloc: A) -> Result<AnswerSetup<A>, AllocError>
+        ensures { IfOk result (λ setup. setup ≡ default_setup) }
+    {
+        let secret = Vec::from_slice(alloc, b"secret")?;
+        Ok(AnswerSetup {
+            site: 1,
+            key: 1,
+            secret: Bytes::from_vec(secret),
+            prefix: default_prefix(),
+            more_specifics: false,
+        })
+    }
+
+    /// Whether the site's routers may register the prefix.
+    pub(crate) fn allows(&self, prefix: &Prefix) -> bool
+        ensures { result ≡ is_allowed self.now prefix.now }
+    {
+        self.prefix == *prefix || self.more_specifics && self.prefix.covers(prefix)
+    }
+
+    /// The place, from 0 on, of the first record whose prefix isn't allowed.
+    pub(crate) fn first_not_allowed<B: Allocator>(&self, records: &[MapRecord<B>]) -> Option<usize>
+        ensures { result ≡ first_not_allowed self.now records.now }
+    {
+        records
+            .iter()
+            .position(|record| !self.allows(&record.eid()))
+    }
+}
+
+// 10.1.0.0/16.
+#[tactic(auto, unfolding(lisp_records::specs::Address::masked))]
+fn default_prefix() -> Prefix
+    ensures { result ≡ default_block }
+{
+    Prefix::new(Addr::V4([10, 1, 0, 0]), 16).unwrap()
+}
