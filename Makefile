@@ -12,6 +12,9 @@ run: out/lispd
 test:
 	rt ci
 
+bench:
+	@cd crates/lisp_bench && rt run -- 200000 2> /dev/null
+
 out/lispd: $(SOURCES)
 	@mkdir -p out
 	@cd crates/lispd_main && rt run < /dev/null > ../../out/build.log 2>&1 || { cat ../../out/build.log; exit 1; }

@@ -106,7 +106,7 @@ begins_made bytes kind ms fits p listed =
     }
 
 -- four lists, grouped from the left and from the right
-regrouped : (a b c d : List ℕ) → a ++ b ++ c ++ d ≡ a ++ (b ++ (c ++ d))
+pub regrouped : (a b c d : List ℕ) → a ++ b ++ c ++ d ≡ a ++ (b ++ (c ++ d))
 regrouped a b c d = simp append_assoc
 
 -- what begins as a Map-Register and ends with its bit I set, an xTR-ID and a Site-ID is one

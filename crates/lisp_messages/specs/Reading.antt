@@ -31,6 +31,11 @@ abbrev pub Gives : {X Y : Type 0} → (X → Y) → Result X ReadFault → Resul
 Gives view (Ok x) read = read ≡ Ok (view x)
 Gives view (Err e) read = Fails e read
 
+-- the same of a function that takes no memory
+abbrev pub Reads : {X Y : Type 0} → (X → Y) → Result X ReadFault → Result Y ReadFault → Type 0
+Reads view (Ok x) read = read ≡ Ok (view x)
+Reads view (Err e) read = read ≡ Err e
+
 -- the bytes after a field of so many
 abbrev pub after : ℕ → List ℕ → Result (List ℕ) ReadFault
 after n bytes = if nat_lt (length bytes) n then Err faults.Short else Ok (drop n bytes)

@@ -1,7 +1,7 @@
 //! The types of messages.
 
 ghost use Rattle.std.specs.Prelude.{◌≡◌};
-ghost use Rattle.lisp_messages.specs.Reading.{Gives, kind_of};
+ghost use Rattle.lisp_messages.specs.Reading.{Reads, kind_of};
 ghost use Rattle.lisp_messages.specs.Written.{kind_number};
 
 use crate::fault::ReadFault;
@@ -20,7 +20,7 @@ pub enum Kind {
 impl Kind {
     /// The kind of a type number; `Kind` at any number but 3, 4 and 5.
     pub(crate) fn from_number(number: u8) -> Result<Kind, ReadFault>
-        ensures { Gives (λ k. k) result (kind_of number) }
+        ensures { Reads (λ k. k) result (kind_of number) }
     {
         match number {
             3 => Ok(Kind::Register),

@@ -1,11 +1,25 @@
 //! What holds of the format itself: each function's contract is a law, and its body is empty.
 
-ghost use Rattle.std.specs.Prelude.{◌≡◌, ℕ, List};
-ghost use Rattle.lisp_messages.specs.Message.{Said};
+ghost use Rattle.std.specs.Prelude.{◌≡◌, ℕ, List, length, Ok};
+ghost use Rattle.lisp_messages.specs.Message.{Said, IsSaid};
 ghost use Rattle.lisp_messages.specs.Spelling.{Spells};
+ghost use Rattle.lisp_messages.specs.Written.{written};
+ghost use Rattle.lisp_messages.specs.Reading.{message_at};
 
 /// Bytes spell at most one message.
 #[tactic(auto, using(crate::proofs::MessageLaws::one_message))]
 pub fn one_message()
     ensures { (bytes : List ℕ) (x y : Said) → Spells bytes x → Spells bytes y → x ≡ y }
+{}
+
+/// The written spelling of a message is one of its spellings, whatever its Authentication Data.
+#[tactic(auto, using(crate::proofs::WrittenLaws::written_spells))]
+pub fn written_spells()
+    ensures { (x : Said) (auth : List ℕ) → IsSaid x → length auth ≡ 16 → Spells (written x auth) x }
+{}
+
+/// What is written is read again.
+#[tactic(auto, using(crate::proofs::WrittenLaws::reads_back))]
+pub fn reads_back()
+    ensures { (x : Said) (auth : List ℕ) → IsSaid x → length auth ≡ 16 → message_at (written x auth) ≡ Ok x }
 {}

@@ -17,4 +17,4 @@ pub use fault::ReadFault;
 pub use message::Message;
 pub use notify::{MapNotify, write_notify};
 pub use reading::read_message;
-pub use register::MapRegister;
+pub use register::{MapRegister, write_register};

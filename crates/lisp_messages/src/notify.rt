@@ -5,7 +5,7 @@ ghost use Rattle.lisp_messages.specs.Message.{Notifies, IsNotification};
 ghost use Rattle.lisp_messages.specs.Spelling.{Spells};
 ghost use Rattle.lisp_messages.specs.Authentic.{IsAuthentic, signed};
 ghost use Rattle.lisp_messages.specs.Written.{written_notify};
-ghost use Rattle.lisp_messages.specs.Reading.{Gives, notify_at};
+ghost use Rattle.lisp_messages.specs.Reading.{Reads, notify_at};
 
 use crate::authentication::sign;
 use crate::fault::ReadFault;
@@ -53,7 +53,7 @@ pub(crate) fn read_notify<A: Allocator>(
 ) -> Result<MapNotify<A>, ReadFault>
     requires head { 32 ≤ length bytes.now }
     requires few { length records.items < 256 }
-    ensures { Gives Notifies result (notify_at ack bytes.now records.items tail.now) }
+    ensures { Reads Notifies result (notify_at ack bytes.now records.items tail.now) }
 {
     if !(tail.is_empty() || tail.len() == 24) {
         return Err(ReadFault::Trailing);

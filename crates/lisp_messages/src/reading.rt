@@ -1,10 +1,11 @@
 //! Reading a message.
 
-ghost use Rattle.std.specs.Prelude.{◌≡◌, ◌<◌, ◌≤◌, length, drop, slice_index, IfOk, OnOk, Ok};
+ghost use Rattle.std.specs.Prelude.{◌≡◌, ◌<◌, ◌≤◌, length, drop, slice_index, IfOk, OnOk, Ok, Err};
+ghost use Rattle.lisp_messages.specs.declared.fault.ReadFault.{ReadFault};
 ghost use Rattle.lisp_messages.specs.Message.{Said};
 ghost use Rattle.lisp_messages.specs.Meaning.{said};
 ghost use Rattle.lisp_messages.specs.Spelling.{Spells};
-ghost use Rattle.lisp_messages.specs.Reading.{Gives, kind_at, records_at, nonce_of, tail_at, notify_at, register_at, message_at};
+ghost use Rattle.lisp_messages.specs.Reading.{Gives, Reads, kind_at, records_at, nonce_of, tail_at, notify_at, register_at, message_at};
 
 use crate::fault::ReadFault;
 use crate::kind::Kind;
@@ -36,13 +37,17 @@ pub fn read_message<A: Allocator + Copy>(alloc: A, bytes: &[u8]) -> Result<Messa
 
     // Which answer it is.
     ensures exact { Gives said result (message_at bytes.now) }
+
+    // Before the first record nothing takes memory.
+    ensures early { (fault : ReadFault) → kind_at bytes.now ≡ Err fault → result ≡ Err fault }
 {
     read_whole(alloc, bytes)
 }
 
 #[tactic(auto, unfolding(crate::specs::Reading::message_at))]
 fn read_whole<A: Allocator + Copy>(alloc: A, bytes: &[u8]) -> Result<Message<A>, ReadFault>
-    ensures { Gives said result (message_at bytes.now) }
+    ensures exact { Gives said result (message_at bytes.now) }
+    ensures early { (fault : ReadFault) → kind_at bytes.now ≡ Err fault → result ≡ Err fault }
 {
     let kind = read_kind(bytes)?;
     let (records, tail) = read_records(alloc, bytes)?;
@@ -56,7 +61,7 @@ fn read_whole<A: Allocator + Copy>(alloc: A, bytes: &[u8]) -> Result<Message<A>,
 // The message type, where the 32 bytes before the records are as they must be.
 #[tactic(auto, unfolding(crate::specs::Reading::kind_at))]
 fn read_kind(bytes: &[u8]) -> Result<Kind, ReadFault>
-    ensures kind { Gives (λ k. k) result (kind_at bytes.now) }
+    ensures kind { Reads (λ k. k) result (kind_at bytes.now) }
     ensures head { OnOk result (32 ≤ length bytes.now) }
 {
     let [

@@ -1,14 +1,21 @@
 //! The Map-Register.
 
-ghost use Rattle.std.specs.Prelude.{◌≡◌, ◌<◌, ◌≤◌, length};
+ghost use Rattle.std.specs.Prelude.{◌≡◌, ◌^◌, ◌<◌, ◌≤◌, [], ◌∷◌, ◌++◌, length, replicate, IfOk, OnOk};
+ghost use Rattle.std.specs.Int.{w64, to_be_bytes};
 ghost use Rattle.lisp_records.specs.Reading.{is_set};
-ghost use Rattle.lisp_messages.specs.Message.{Registers};
-ghost use Rattle.lisp_messages.specs.Reading.{Gives, ids_at, register_at};
+ghost use Rattle.lisp_messages.specs.Message.{Registers, IsRegistration};
+ghost use Rattle.lisp_messages.specs.Spelling.{Spells};
+ghost use Rattle.lisp_messages.specs.Authentic.{IsAuthentic, signed};
+ghost use Rattle.lisp_messages.specs.Written.{register_kind, register_flags, written_register_head, written_register};
+ghost use Rattle.lisp_messages.specs.Reading.{Reads, ids_at, register_at};
 
+use crate::authentication::sign;
 use crate::fault::ReadFault;
+use crate::kind::Kind;
 use crate::reading::read_nonce;
+use crate::writing::{common_head, put_records};
 use lisp_records::{MapRecord, Records};
-use std::alloc::{Allocator, Global};
+use std::alloc::{AllocError, Allocator, Global};
 use std::marker::Model;
 
 // The bits of the first byte.
@@ -77,6 +84,86 @@ impl<A: Allocator> Model for MapRegister<A> {
     ghost invariant = { λ m. length m.records < 256 };
 }
 
+/// The written spelling of a Map-Register, authentic under the secret: bit I set, all reserved bits
+/// 0. It lies in memory of `alloc`; want of memory is the only refusal.
+pub fn write_register<A: Allocator, B: Allocator>(
+    alloc: A,
+    message: &MapRegister<B>,
+    secret: &[u8],
+) -> Result<Vec<u8, A>, AllocError>
+    ensures written { IfOk result (λ v. v.items ≡ signed secret.now (written_register message.now)) }
+    ensures authentic { IfOk result (λ v. IsAuthentic v.items secret.now) }
+    ensures spells { IfOk result (λ v. Spells v.items (Registers message.now)) }
+{
+    let mut out = Vec::new(alloc);
+    put_register(&mut out, message)?;
+    sign(&mut out, secret);
+    Ok(out)
+}
+
+// The written spelling, its Authentication Data zeros.
+#[tactic(auto, unfolding(crate::specs::Written::written_register))]
+fn put_register<A: Allocator, B: Allocator>(
+    out: &mut Vec<u8, A>,
+    message: &MapRegister<B>,
+) -> Result<(), AllocError>
+    requires { out.old.items ≡ [] }
+    ensures written { OnOk result (out.new.items ≡ written_register message.now (replicate 16 0)) }
+    ensures known { OnOk result (IsRegistration message.now) }
+{
+    put_head(out, message)?;
+    put_records(out, message.records.as_slice())?;
+    put_ids(out, message.xtr, message.site)?;
+    Ok(())
+}
+
+// The 32 bytes before the records, the Authentication Data zeros.
+fn put_head<A: Allocator, B: Allocator>(
+    out: &mut Vec<u8, A>,
+    message: &MapRegister<B>,
+) -> Result<(), AllocError>
+    requires { out.old.items ≡ [] }
+    ensures head { OnOk result (out.new.items ≡ written_register_head message.now (replicate 16 0)) }
+    ensures nonce { message.now.nonce < 2 ^ 64 }
+    ensures few { length message.now.records < 256 }
+{
+    let count = message.records.as_slice().len() as u8;
+    let common = common_head(count, message.nonce, message.key_id);
+    out.extend_from_slice(&[kind_of(message), 0, flags_of(message)])?;
+    out.extend_from_slice(&common)?;
+    Ok(())
+}
+
+// The first byte: type, P, S and I.
+fn kind_of<A: Allocator>(message: &MapRegister<A>) -> u8
+    ensures { result ≡ register_kind message.now }
+{
+    Kind::Register.number() * 16
+        + u8::from(message.proxy) * PROXY
+        + u8::from(message.sec) * SEC
+        + IDS
+}
+
+// The third byte: E, T, a and M.
+fn flags_of<A: Allocator>(message: &MapRegister<A>) -> u8
+    ensures { result ≡ register_flags message.now }
+{
+    u8::from(message.eid_notify) * EID_NOTIFY
+        + u8::from(message.use_ttl) * USE_TTL
+        + u8::from(message.merge) * MERGE
+        + u8::from(message.want_notify) * WANT_NOTIFY
+}
+
+// xTR-ID and Site-ID.
+fn put_ids<A: Allocator>(out: &mut Vec<u8, A>, xtr: [u8; 16], site: u64) -> Result<(), AllocError>
+    ensures ids { OnOk result (out.new.items ≡ out.old.items ++ (xtr ++ to_be_bytes w64 site)) }
+    ensures fits { (length xtr ≡ 16) × (site < 2 ^ 64) }
+{
+    out.extend_from_slice(&xtr)?;
+    out.extend_from_slice(&site.to_be_bytes())?;
+    Ok(())
+}
+
 /// The Map-Register of these bytes and records, by what stands behind the records: `NoIds`, then
 /// `Short` or `Trailing`.
 #[tactic(auto, unfolding(crate::specs::Reading::register_at))]
@@ -87,7 +174,7 @@ pub(crate) fn read_register<A: Allocator>(
 ) -> Result<MapRegister<A>, ReadFault>
     requires head { 32 ≤ length bytes.now }
     requires few { length records.items < 256 }
-    ensures { Gives Registers result (register_at bytes.now records.items tail.now) }
+    ensures { Reads Registers result (register_at bytes.now records.items tail.now) }
 {
     if !is_set(bytes[0], IDS) {
         return Err(ReadFault::NoIds);
@@ -118,7 +205,7 @@ fn is_set(flags: u8, bit: u8) -> bool
 // xTR-ID and Site-ID, which end the message.
 #[tactic(auto, unfolding(crate::specs::Reading::ids_at))]
 fn read_ids(tail: &[u8]) -> Result<([u8; 16], u64), ReadFault>
-    ensures { Gives (λ x. x) result (ids_at tail.now) }
+    ensures { Reads (λ x. x) result (ids_at tail.now) }
 {
     let Some((xtr, rest)) = tail.split_first_chunk::<16>() else {
         return Err(ReadFault::Short);

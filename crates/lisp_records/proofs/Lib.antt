@@ -6,4 +6,5 @@ pub mod Loop
 pub mod Masks
 pub mod Positions
 pub mod RecordLaws
+pub mod StartLemmas
 pub mod WrittenLemmas

@@ -30,13 +30,21 @@ goes_on front count i bytes l after total lt h so_far =
     let one : with_front front (locators_at (count - i) bytes) ≡ with_front (front ++ l ∷ []) (locators_at (count - (i + 1)) after) = rw (k, h) (regrouped front l (locators_at (count - (i + 1)) after)) in
     sym one ∙ so_far
 
+-- a fault is the one that reading meets
+pub Fails-met : {Y : Type 0} (e : RecordFault) (read : Result Y RecordFault) → read ≡ Err e → Fails e read
+Fails-met Short read at = at
+Fails-met Afi read at = at
+Fails-met Mask read at = at
+Fails-met OutOfMemory read at = tt
+
 -- the next locator is not read
-pub ends : (e : RecordFault) (front : List Locator) (count i : ℕ) (bytes : List ℕ) (total : Result (List Locator × List ℕ) RecordFault) → i < count → Fails e (locator_at bytes)
+pub ends : (e : RecordFault) (front : List Locator) (count i : ℕ) (bytes : List ℕ) (total : Result (List Locator × List ℕ) RecordFault) → i < count → locator_at bytes ≡ Err e
     → with_front front (locators_at (count - i) bytes) ≡ total → Fails e total
 unfolding locators_at
 ends e front count i bytes total lt h so_far =
     let k : count - i ≡ suc (count - (i + 1)) = omega arith in
-    Fails-passed e (locator_at bytes) total (λ f at. let one : with_front front (locators_at (count - i) bytes) ≡ Err f = rw (k, at) refl in sym so_far ∙ one) h
+    let one : with_front front (locators_at (count - i) bytes) ≡ Err e = rw (k, h) refl in
+    Fails-met e total (sym so_far ∙ one)
 
 -- all locators are read
 pub is_done : (front : List Locator) (count i : ℕ) (bytes : List ℕ) (total : Result (List Locator × List ℕ) RecordFault) → count ≤ i → with_front front (locators_at (count - i) bytes) ≡ total → total ≡ Ok (front, bytes)

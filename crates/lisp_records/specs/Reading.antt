@@ -28,6 +28,11 @@ abbrev pub Gives : {X Y : Type 0} → (X → Y) → Result X RecordFault → Res
 Gives view (Ok x) read = read ≡ Ok (view x)
 Gives view (Err e) read = Fails e read
 
+-- the same of a function that takes no memory
+abbrev pub Reads : {X Y : Type 0} → (X → Y) → Result X RecordFault → Result Y RecordFault → Type 0
+Reads view (Ok x) read = read ≡ Ok (view x)
+Reads view (Err e) read = read ≡ Err e
+
 -- the bytes after a field of so many
 abbrev pub after : ℕ → List ℕ → Result (List ℕ) RecordFault
 after n bytes = if nat_lt (length bytes) n then Err Short else Ok (drop n bytes)
@@ -101,3 +106,11 @@ record_at bytes = do
   addr ← address_at f rest
   locators ← locators_at (slice_index bytes 4) addr.1
   Ok (mapping_of bytes addr.0 locators.0, locators.1)
+
+-- what is read before the first locator: of these bytes nothing takes memory
+unfoldable pub start_at : List ℕ → Result (Addr × List ℕ) RecordFault
+start_at bytes = do
+  rest ← after 12 bytes
+  f ← family_of (number_at bytes 10)
+  mask_len ← mask_of f (slice_index bytes 5)
+  address_at f rest

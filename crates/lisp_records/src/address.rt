@@ -4,7 +4,7 @@ ghost use Rattle.std.specs.Prelude.{◌≡◌, ◌*◌, ◌++◌, ◌≤◌, len
 ghost use Rattle.lisp_records.specs.Grown.{Grew};
 ghost use Rattle.lisp_records.specs.Written.{written_address};
 ghost use Rattle.lisp_records.specs.Address.{afi, width, family, octets, IsWhole, high_bits, masked, cleared};
-ghost use Rattle.lisp_records.specs.Reading.{Gives, family_of, address_at};
+ghost use Rattle.lisp_records.specs.Reading.{Reads, family_of, address_at};
 
 use crate::fault::RecordFault;
 use std::alloc::{AllocError, Allocator};
@@ -19,7 +19,7 @@ pub enum Family {
 impl Family {
     /// The family that an AFI field names; `Afi` at any number but 1 and 2.
     pub(crate) fn from_afi(number: u16) -> Result<Family, RecordFault>
-        ensures { Gives (λ f. f) result (family_of number) }
+        ensures { Reads (λ f. f) result (family_of number) }
     {
         match number {
             1 => Ok(Family::Ipv4),
@@ -117,7 +117,7 @@ impl Addr {
 /// are too few.
 #[tactic(auto, unfolding(crate::specs::Reading::address_at))]
 pub(crate) fn read_address(expected: Family, bytes: &[u8]) -> Result<(Addr, &[u8]), RecordFault>
-    ensures read { Gives (λ x. (x.0, x.1.now)) result (address_at expected bytes.now) }
+    ensures read { Reads (λ x. (x.0, x.1.now)) result (address_at expected bytes.now) }
     ensures family { IfOk result (λ x. family x.0 ≡ expected) }
 {
     match expected {

@@ -4,7 +4,7 @@ ghost use Rattle.std.specs.Prelude.{◌≡◌, ◌+◌, ◌*◌, ◌++◌, ◌�
 ghost use Rattle.lisp_records.specs.Grown.{Grew};
 ghost use Rattle.lisp_records.specs.Record.{bit};
 ghost use Rattle.lisp_records.specs.Written.{written_address, written_locator};
-ghost use Rattle.lisp_records.specs.Reading.{Gives, family_of, locator_at, locator_of};
+ghost use Rattle.lisp_records.specs.Reading.{Reads, family_of, locator_at, locator_of};
 
 use crate::address::{Addr, Family, put_address, read_address};
 use crate::fault::RecordFault;
@@ -53,7 +53,7 @@ impl Locator {
 /// `Short` (no 8 bytes), `Afi`, `Short` (no whole address).
 #[tactic(auto, unfolding(crate::specs::Reading::locator_at))]
 pub(crate) fn read_locator(bytes: &[u8]) -> Result<(Locator, &[u8]), RecordFault>
-    ensures { Gives (λ x. (x.0, x.1.now)) result (locator_at bytes.now) }
+    ensures { Reads (λ x. (x.0, x.1.now)) result (locator_at bytes.now) }
 {
     let [
         priority,

@@ -1,12 +1,13 @@
 //! The record: an EID-Prefix and its locators, read from bytes and written as bytes.
 
-ghost use Rattle.std.specs.Prelude.{◌≡◌, ℕ, ◌+◌, ◌*◌, ◌/◌, ◌%◌, ◌<◌, ◌≤◌, ◌↔◌, List, [], ◌∷◌, ◌++◌, length, drop, slice_range, All, IsSome, IfSome, IfOk, IfErr, OnOk, OnErr, Ok};
+ghost use Rattle.std.specs.Prelude.{◌≡◌, ℕ, ◌+◌, ◌*◌, ◌/◌, ◌%◌, ◌<◌, ◌≤◌, ◌↔◌, List, [], ◌∷◌, ◌++◌, length, drop, slice_range, All, IsSome, IfSome, IfOk, IfErr, OnOk, OnErr, Ok, Err};
 ghost use Rattle.lisp_records.specs.Address.{IsWhole, family, width};
 ghost use Rattle.lisp_records.specs.Grown.{Grew};
 ghost use Rattle.lisp_records.specs.Record.{Mapping, IsMapping, bit};
 ghost use Rattle.lisp_records.specs.Spelling.{Spells};
 ghost use Rattle.lisp_records.specs.Written.{written, written_head, written_counts, written_locators};
-ghost use Rattle.lisp_records.specs.Reading.{Gives, Fails, family_of, number_at, mask_of, locators_at, mapping_of, record_at};
+ghost use Rattle.lisp_records.specs.Reading.{Gives, Reads, start_at, family_of, number_at, mask_of, locators_at, mapping_of, record_at};
+ghost use Rattle.lisp_records.specs.declared.fault.RecordFault.{RecordFault};
 
 use crate::address::{Addr, Family, put_address, read_address};
 use crate::fault::RecordFault;
@@ -185,6 +186,9 @@ pub fn read_record<A: Allocator>(
 
     // Which answer it is.
     ensures exact { Gives (λ x. (x.0, drop x.1 bytes.now)) result (record_at (drop at bytes.now)) }
+
+    // Before the first locator nothing takes memory.
+    ensures early { (fault : RecordFault) → start_at (drop at bytes.now) ≡ Err fault → result ≡ Err fault }
 {
     read_at(alloc, bytes, at)
 }
@@ -198,6 +202,7 @@ fn read_at<A: Allocator>(
     requires { at ≤ length bytes.now }
     ensures exact { Gives (λ x. (x.0, drop x.1 bytes.now)) result (record_at (drop at bytes.now)) }
     ensures within { IfOk result (λ x. (at ≤ x.1) × (x.1 ≤ length bytes.now)) }
+    ensures early { (fault : RecordFault) → start_at (drop at bytes.now) ≡ Err fault → result ≡ Err fault }
 {
     let (_, after) = bytes.split_at(at);
     match read_front(alloc, after) {
@@ -207,9 +212,10 @@ fn read_at<A: Allocator>(
 }
 
 // The record at the front of the bytes, and the bytes after it.
-#[tactic(auto, unfolding(crate::specs::Reading::record_at))]
+#[tactic(auto, unfolding(crate::specs::Reading::record_at, crate::specs::Reading::start_at))]
 fn read_front<A: Allocator>(alloc: A, bytes: &[u8]) -> Result<(MapRecord<A>, &[u8]), RecordFault>
-    ensures { Gives (λ x. (x.0, x.1.now)) result (record_at bytes.now) }
+    ensures read { Gives (λ x. (x.0, x.1.now)) result (record_at bytes.now) }
+    ensures early { (fault : RecordFault) → start_at bytes.now ≡ Err fault → result ≡ Err fault }
 {
     let [
         ttl_0,
@@ -246,7 +252,7 @@ fn read_front<A: Allocator>(alloc: A, bytes: &[u8]) -> Result<(MapRecord<A>, &[u
 
 // `Mask` where the mask is longer than an address of the family.
 fn check_mask(family: Family, mask_len: u8) -> Result<(), RecordFault>
-    ensures mask { Gives (λ _. mask_len) result (mask_of family mask_len) }
+    ensures mask { Reads (λ _. mask_len) result (mask_of family mask_len) }
     ensures fits { OnOk result (mask_len ≤ 8 * width family) }
 {
     if mask_len > family.max_mask_len() {

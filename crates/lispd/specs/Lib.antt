@@ -4,4 +4,5 @@ pub mod Refusal
 pub mod Answer
 pub mod Line
 pub mod Fault
+pub mod Options
 pub mod Input

@@ -10,7 +10,7 @@ ghost use Rattle.lispd.specs.declared.fault.AnswerFault.{AnswerFault};
 use crate::fault::AnswerFault;
 use crate::input::{content, read_line};
 use crate::line::words_for;
-use crate::setup::AnswerSetup;
+use crate::site::AnswerSetup;
 use std::alloc::Allocator;
 use std::io::{Read, Write};
 

@@ -1,7 +1,7 @@
-//! Why `answer` gave no answer.
+//! Why `answer` gave no answer, and `setup` no setup.
 
 ghost use Rattle.std.specs.Prelude.{◌≡◌};
-ghost use Rattle.lispd.specs.Fault.{fault_number};
+ghost use Rattle.lispd.specs.Fault.{fault_number, setup_fault_number};
 ghost use Rattle.lispd.specs.declared.fault.AnswerFault.TheVariants.{OutOfMemory};
 
 use std::alloc::{AllocError, AllocFailed};
@@ -51,5 +51,38 @@ impl<T: Drop> From<AllocFailed<T>> for AnswerFault {
 
     fn from(_failed: AllocFailed<T>) -> AnswerFault {
         AnswerFault::OutOfMemory
+    }
+}
+
+/// What kept `setup` from giving a setup.
+#[derive(Clone, Copy, Debug, PartialEq, Eq, Error)]
+pub enum SetupFault {
+    /// An option whose value is out of its form.
+    #[error("an option is out of its form")]
+    BadOption,
+    /// No memory for the setup.
+    #[error("out of memory")]
+    OutOfMemory,
+}
+
+impl SetupFault {
+    /// The number that operators see: `BadOption` 98, `OutOfMemory` 97.
+    pub const fn number(&self) -> u16
+        ensures { result ≡ setup_fault_number self.now }
+    {
+        match self {
+            SetupFault::BadOption => 98,
+            SetupFault::OutOfMemory => 97,
+        }
+    }
+}
+
+impl From<AllocError> for SetupFault {
+    ghost use Rattle.lispd.specs.declared.fault.SetupFault.TheVariants as setup_faults;
+
+    ghost from_gives = { λ _ fault. fault ≡ setup_faults.OutOfMemory };
+
+    fn from(_error: AllocError) -> SetupFault {
+        SetupFault::OutOfMemory
     }
 }

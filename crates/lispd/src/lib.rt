@@ -3,14 +3,18 @@
 #![tactic(auto)]
 
 mod answering;
+mod command_line;
 mod fault;
 mod input;
 mod line;
+mod options;
 mod refusal;
 mod server;
-mod setup;
+mod site;
 
 pub use answering::answer;
-pub use fault::AnswerFault;
+pub use command_line::command;
+pub use fault::{AnswerFault, SetupFault};
+pub use options::setup;
 pub use refusal::Refusal;
-pub use setup::AnswerSetup;
+pub use site::AnswerSetup;

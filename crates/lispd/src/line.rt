@@ -8,7 +8,7 @@ ghost use Rattle.lispd.specs.Line.{answer_words, decoded_words, AreWords};
 
 use crate::refusal::Refusal;
 use crate::server::respond;
-use crate::setup::AnswerSetup;
+use crate::site::AnswerSetup;
 use hex::FromHexError;
 use std::alloc::{AllocError, Allocator};
 

@@ -5,7 +5,7 @@ ghost use Rattle.lisp_messages.specs.Meaning.{said};
 ghost use Rattle.lispd.specs.Answer.{Answers, first_not_allowed, refusal_of, reply_of, said_answer, answer_of};
 
 use crate::refusal::Refusal;
-use crate::setup::AnswerSetup;
+use crate::site::AnswerSetup;
 use lisp_messages::{MapNotify, MapRegister, Message, authentic, read_message, write_notify};
 use std::alloc::Allocator;
 

@@ -7,6 +7,15 @@ use lisp_records::{Addr, Bytes, MapRecord, Prefix};
 use std::alloc::{AllocError, Allocator, Global};
 use std::marker::Model;
 
+/// The Site-ID where none is asked for.
+pub(crate) const DEFAULT_SITE: u64 = 1;
+
+/// The Key ID where none is asked for.
+pub(crate) const DEFAULT_KEY: u8 = 1;
+
+/// The secret where none is asked for.
+pub(crate) const DEFAULT_SECRET: &[u8; 6] = b"secret";
+
 /// A site with one key and one prefix.
 #[derive(Debug, Drop)]
 pub struct AnswerSetup<A: Allocator = Global> {
@@ -39,10 +48,10 @@ impl<A: Allocator> AnswerSetup<A> {
     pub fn defaults(alloc: A) -> Result<AnswerSetup<A>, AllocError>
         ensures { IfOk result (λ setup. setup ≡ default_setup) }
     {
-        let secret = Vec::from_slice(alloc, b"secret")?;
+        let secret = Vec::from_slice(alloc, DEFAULT_SECRET)?;
         Ok(AnswerSetup {
-            site: 1,
-            key: 1,
+            site: DEFAULT_SITE,
+            key: DEFAULT_KEY,
             secret: Bytes::from_vec(secret),
             prefix: default_prefix(),
             more_specifics: false,
@@ -66,9 +75,9 @@ impl<A: Allocator> AnswerSetup<A> {
     }
 }
 
-// 10.1.0.0/16.
+/// 10.1.0.0/16, the prefix where none is asked for.
 #[tactic(auto, unfolding(lisp_records::specs::Address::masked))]
-fn default_prefix() -> Prefix
+pub(crate) fn default_prefix() -> Prefix
     ensures { result ≡ default_block }
 {
     Prefix::new(Addr::V4([10, 1, 0, 0]), 16).unwrap()

@@ -1,0 +1,13 @@
+use Rattle.std.proofs.lemmas.List.Elements.{recursion_from_All}
+use Rattle.lisp_records.specs.Record.{IsMapping}
+use Rattle.lisp_messages.proofs.register.put_register.Goals as goal
+
+pub returns-clause-known : goal.returns-clause-known
+returns-clause-known g c =
+    let known = rw c.as_slice.ensures at c.in_ok-put_records.ensures.known in
+    rw (← c.message.view_is) (record {
+      nonce = rw (← c.message.view_is) at c.in_ok-put_head.ensures.nonce;
+      records = (rw (← c.message.view_is) at c.in_ok-put_head.ensures.few, recursion_from_All IsMapping c.message.inside.records known);
+      xtr = c.in_ok-put_ids.ensures.fits.0;
+      site = c.in_ok-put_ids.ensures.fits.1;
+    })

@@ -1,0 +1,165 @@
+//! What the tests share: the worked record and messages, and what reading them must give. The
+//! tags of the messages come from Python's `hmac`.
+
+use lisp_messages::{MapNotify, MapRegister, Message};
+use lisp_records::{Addr, Locator, MapRecord, Prefix, Records};
+use std::alloc::{Allocator, Global};
+use std::process::Abort;
+use std::test::Fail;
+
+/// The worked record, as it is written.
+pub const RECORD: [u8; 28] = [
+    0, 0, 0x05, 0xa0, // TTL: 1440 minutes
+    1, 16, // one locator, a mask of 16 bits
+    0x10, 0, // ACT 0, authoritative
+    0, 0, // Map-Version 0
+    0, 1, 10, 1, 0, 0, // IPv4, 10.1.0.0
+    1, 100, 255, 0, // priority, weight, multicast priority and weight
+    0, 0x05, // local and reachable, not probed
+    0, 1, 192, 0, 2, 1, // IPv4, 192.0.2.1
+];
+
+/// The locator of the worked record.
+pub const LOCATOR: Locator = Locator {
+    priority: 1,
+    weight: 100,
+    m_priority: 255,
+    m_weight: 0,
+    local: true,
+    probe: false,
+    reachable: true,
+    addr: Addr::V4([192, 0, 2, 1]),
+};
+
+/// What the worked messages are authentic under.
+pub const SECRET: &[u8] = b"secret";
+
+/// The worked Map-Register.
+pub const MAP_REGISTER: [u8; 84] = [
+    0x3a, 0, 0x01, // type 3, P and I; reserved; M
+    1, // one record
+    0, 0, 0, 0, 0, 0, 0, 1, // nonce
+    1, 2, 0, 16, // Key ID, HMAC-SHA-256-128-None, 16 bytes of Authentication Data
+    0xcf, 0x84, 0x57, 0xee, 0x97, 0xfb, 0x53, 0x1b, // the tag
+    0x55, 0x49, 0x86, 0x25, 0x74, 0xf7, 0x76, 0xad, // its second half
+    0, 0, 0x05, 0xa0, 1, 16, 0x10, 0, 0, 0, 0, 1, 10, 1, 0, 0, // the worked record
+    1, 100, 255, 0, 0, 0x05, 0, 1, 192, 0, 2, 1, // its locator
+    0, 0, 0, 0, 0, 0, 0, 0, 0, 0, 0, 0, 0, 0, 0, 10, // xTR-ID
+    0, 0, 0, 0, 0, 0, 0, 1, // Site-ID
+];
+
+/// The worked Map-Notify.
+pub const MAP_NOTIFY: [u8; 60] = [
+    0x40, 0, 0, // type 4; reserved
+    1, // one record
+    0, 0, 0, 0, 0, 0, 0, 1, // nonce
+    1, 2, 0, 16, // Key ID, HMAC-SHA-256-128-None, 16 bytes of Authentication Data
+    0x4f, 0x18, 0xaa, 0x8f, 0xdf, 0x87, 0x91, 0xb5, // the tag
+    0x1c, 0xf1, 0x27, 0x26, 0x40, 0xb5, 0x5d, 0x8d, // its second half
+    0, 0, 0x05, 0xa0, 1, 16, 0x10, 0, 0, 0, 0, 1, 10, 1, 0, 0, // the worked record
+    1, 100, 255, 0, 0, 0x05, 0, 1, 192, 0, 2, 1, // its locator
+];
+
+/// Where the Authentication Data stands in a message.
+pub const TAG_AT: usize = 16;
+
+/// What `MapRecord::new` takes.
+pub type Fields<'a> = (u32, u8, bool, u16, Prefix, &'a [Locator]);
+
+/// What a record holds.
+pub fn fields<A: Allocator>(record: &MapRecord<A>) -> Fields<'_> {
+    (
+        record.ttl(),
+        record.act(),
+        record.authoritative(),
+        record.version(),
+        record.eid(),
+        record.locators(),
+    )
+}
+
+/// The block of the addresses that begin as this one does.
+pub fn block(addr: Addr, mask_len: u8) -> Result<Prefix, Fail> {
+    Ok(Prefix::new(addr, mask_len).ok_or("the mask is too long")?)
+}
+
+/// A block of IPv4 addresses.
+pub fn ipv4_block(octets: [u8; 4], mask_len: u8) -> Result<Prefix, Fail> {
+    block(Addr::V4(octets), mask_len)
+}
+
+/// The worked record, built.
+pub fn worked_record(alloc: Global) -> Result<MapRecord, Fail> {
+    let eid = ipv4_block([10, 1, 0, 0], 16)?;
+    let locators = vec![in alloc; LOCATOR]?;
+    Ok(MapRecord::new(1440, 0, true, 0, eid, locators).ok_or("a field is too large")?)
+}
+
+/// The worked Map-Notify, or the Map-Notify-Ack that answers it, built.
+pub fn worked_notify(alloc: Global, ack: bool) -> Result<MapNotify, Fail> {
+    let records = vec![in alloc; worked_record(alloc)?]?;
+    Ok(MapNotify {
+        ack,
+        nonce: 1,
+        key_id: 1,
+        records: Records::from_vec(records),
+    })
+}
+
+/// Stops the test unless the records are the worked record alone.
+pub fn assert_worked_records<A: Allocator>(
+    rt: &impl Abort,
+    records: &Records<A>,
+) -> Result<(), Fail> {
+    let eid = ipv4_block([10, 1, 0, 0], 16)?;
+    assert_eq!(rt; records.as_slice().len(), 1);
+    for record in records.as_slice() {
+        assert_eq!(rt;
+            fields(record),
+            (1440, 0, true, 0, eid, [LOCATOR].as_slice())
+        );
+    }
+    Ok(())
+}
+
+/// Stops the test unless the message is the worked Map-Register.
+pub fn assert_worked_register<A: Allocator>(
+    rt: &impl Abort,
+    message: &Message<A>,
+) -> Result<(), Fail> {
+    let Message::Register(register) = message else {
+        return Err("no Map-Register")?;
+    };
+    assert_eq!(rt; flags(register), [true, false, false, false, false, true]);
+    assert_eq!(rt; (register.nonce, register.key_id, register.site), (1, 1, 1));
+    assert_eq!(rt;
+        register.xtr,
+        [0, 0, 0, 0, 0, 0, 0, 0, 0, 0, 0, 0, 0, 0, 0, 10]
+    );
+    assert_worked_records(rt, &register.records)
+}
+
+/// P, S, E, T, a and M of a Map-Register.
+pub fn flags<A: Allocator>(register: &MapRegister<A>) -> [bool; 6] {
+    [
+        register.proxy,
+        register.sec,
+        register.eid_notify,
+        register.use_ttl,
+        register.merge,
+        register.want_notify,
+    ]
+}
+
+/// Stops the test unless the message is the worked Map-Notify, or the Map-Notify-Ack like it.
+pub fn assert_worked_notify<A: Allocator>(
+    rt: &impl Abort,
+    message: &Message<A>,
+    ack: bool,
+) -> Result<(), Fail> {
+    let Message::Notify(notify) = message else {
+        return Err("no Map-Notify")?;
+    };
+    assert_eq!(rt; (notify.ack, notify.nonce, notify.key_id), (ack, 1, 1));
+    assert_worked_records(rt, &notify.records)
+}

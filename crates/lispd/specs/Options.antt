@@ -1,0 +1,70 @@
+-- The options of `answer`, as `clap` matched them: each in its form, the defaults where they are
+-- absent, in the order --site, --key, --secret, --prefix.
+use Rattle.std.specs.Prelude.{◌≡◌, ℕ, Bool, false, ◌&&◌, List, length, codes, Option, Some, None, Result, Ok, Err, nat_le, nat_lt, if◌then◌else◌}
+use Rattle.std.specs.Option.{option_map}
+use Rattle.std.specs.Result.{result_ok}
+use Rattle.std.specs.Str.{bytes_eq}
+use Rattle.std.specs.Int.{w64, from_be_bytes}
+use Rattle.hex.specs.Hex.{decode_of, decode_sized}
+use Rattle.clap.specs.Words.{first_value, found_of}
+use Rattle.clap.specs.declared.parser.matches.ArgMatches.{ArgMatches}
+use denote.Ref.{Bor}
+use Rattle.lisp_sites.specs.Number.{number_of}
+use Rattle.lispd.specs.declared.fault.SetupFault.{SetupFault}
+use Rattle.lispd.specs.declared.fault.SetupFault.TheVariants.{BadOption, OutOfMemory}
+use Rattle.lispd.specs.Setup.{Setup, default_setup}
+
+infixl 10 ◌>>=◌
+abbrev pub ◌>>=◌ : {A B : Type 0} → Option A → (A → Option B) → Option B
+(Some x) >>= f = f x
+None >>= f = None
+
+-- the value where it meets the test
+abbrev pub such : {A : Type 0} → Bool → A → Option A
+such holds x = if holds then Some x else None
+
+-- the text of an option, where it was given
+abbrev pub option_text : Option (Bor ArgMatches) → List ℕ → Option (List ℕ)
+option_text None id = None
+option_text (Some matches) id = first_value (found_of matches.now) id
+
+-- an option in its form, or the default where it was not given
+abbrev pub or_default : {X : Type 0} → X → (List ℕ → Option X) → Option (List ℕ) → Option X
+or_default x form None = Some x
+or_default x form (Some text) = form text
+
+-- a Site-ID: 16 hexadecimal digits
+abbrev pub site_of : List ℕ → Option ℕ
+site_of text = option_map (from_be_bytes w64) (result_ok (decode_sized text 8))
+
+-- a Key ID: a decimal number up to 255
+abbrev pub key_of : List ℕ → Option ℕ
+key_of text = number_of text >>= λ n. such (nat_lt n 256) n
+
+-- a secret: hexadecimal text of 1 to 256 bytes
+abbrev pub secret_of : List ℕ → Option (List ℕ)
+secret_of text = result_ok (decode_of text) >>= λ bytes. such (nat_le 1 (length bytes) && nat_le (length bytes) 256) bytes
+
+-- a flag is given as `true`
+abbrev pub flag_of : Option (List ℕ) → Bool
+flag_of None = false
+flag_of (Some text) = bytes_eq text (codes "true")
+
+unfoldable pub setup_of : Option (Bor ArgMatches) → Option Setup
+setup_of matches = do
+  site ← or_default default_setup.site site_of (option_text matches (codes "site"))
+  key ← or_default default_setup.key key_of (option_text matches (codes "key"))
+  secret ← or_default default_setup.secret secret_of (option_text matches (codes "secret"))
+  Some (record {
+    site = site;
+    key = key;
+    secret = secret;
+    prefix = default_setup.prefix;
+    more_specifics = flag_of (option_text matches (codes "more-specifics"));
+  })
+
+-- the result, seen by view, is the value, or the fault of a form; want of memory may come at any time
+abbrev pub Gives : {X Y : Type 0} → (X → Y) → Result X SetupFault → Option Y → Type 0
+Gives view (Ok x) value = value ≡ Some (view x)
+Gives view (Err BadOption) value = value ≡ None
+Gives view (Err OutOfMemory) value = Unit {0}

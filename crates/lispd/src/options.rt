@@ -1,0 +1,88 @@
+//! The options of `answer`.
+
+ghost use Rattle.std.specs.Prelude.{◌≡◌, codes};
+ghost use Rattle.std.specs.Option.{option_map};
+ghost use Rattle.lispd.specs.Setup.{default_setup};
+ghost use Rattle.lispd.specs.Options.{Gives, option_text, or_default, site_of, key_of, secret_of, flag_of, setup_of};
+
+use crate::fault::SetupFault;
+use crate::site::{AnswerSetup, DEFAULT_KEY, DEFAULT_SECRET, DEFAULT_SITE, default_prefix};
+use clap::ArgMatches;
+use hex::{FromHex, FromHexError};
+use lisp_records::Bytes;
+use lisp_sites::number_from_text;
+use std::alloc::Allocator;
+
+/// The setup that the options ask for, in memory of `alloc`: `--site` 16 hexadecimal digits, `--key`
+/// a decimal number 0 to 255, `--secret` hexadecimal text of 1 to 256 bytes, `--more-specifics`. What
+/// is absent, and `None`, are the defaults. `BadOption` where a value is out of its form.
+#[tactic(auto, unfolding(crate::specs::Options::setup_of))]
+pub fn setup<A: Allocator>(
+    alloc: A,
+    matches: Option<&ArgMatches<'_>>,
+) -> Result<AnswerSetup<A>, SetupFault>
+    ensures { Gives (λ s. s) result (setup_of matches.entry) }
+{
+    let site = site(matches)?;
+    let key = key(matches)?;
+    let secret = secret(alloc, matches)?;
+    Ok(AnswerSetup {
+        site,
+        key,
+        secret,
+        prefix: default_prefix(),
+        more_specifics: is_given(matches, "more-specifics"),
+    })
+}
+
+fn text<'a>(matches: Option<&ArgMatches<'a>>, id: &str) -> Option<&'a str>
+    ensures { option_map (λ s. s.now) result ≡ option_text matches.entry id.now }
+{
+    matches?.get_str(id)
+}
+
+fn is_given(matches: Option<&ArgMatches<'_>>, id: &str) -> bool
+    ensures { result ≡ flag_of (option_text matches.entry id.now) }
+{
+    match text(matches, id) {
+        None => false,
+        Some(word) => word == "true",
+    }
+}
+
+fn site(matches: Option<&ArgMatches<'_>>) -> Result<u64, SetupFault>
+    ensures { Gives (λ n. n) result (or_default default_setup.site site_of (option_text matches.entry (codes "site"))) }
+{
+    let Some(digits) = text(matches, "site") else {
+        return Ok(DEFAULT_SITE);
+    };
+    match <[u8; 8]>::from_hex(digits) {
+        Ok(bytes) => Ok(u64::from_be_bytes(bytes)),
+        Err(_) => Err(SetupFault::BadOption),
+    }
+}
+
+fn key(matches: Option<&ArgMatches<'_>>) -> Result<u8, SetupFault>
+    ensures { Gives (λ n. n) result (or_default default_setup.key key_of (option_text matches.entry (codes "key"))) }
+{
+    let Some(digits) = text(matches, "key") else {
+        return Ok(DEFAULT_KEY);
+    };
+    match number_from_text(digits) {
+        Some(number) if number < 256 => Ok(number as u8),
+        _ => Err(SetupFault::BadOption),
+    }
+}
+
+fn secret<A: Allocator>(alloc: A, matches: Option<&ArgMatches<'_>>) -> Result<Bytes<A>, SetupFault>
+    ensures { Gives (λ b. b) result (or_default default_setup.secret secret_of (option_text matches.entry (codes "secret"))) }
+{
+    let Some(digits) = text(matches, "secret") else {
+        return Ok(Bytes::from_vec(Vec::from_slice(alloc, DEFAULT_SECRET)?));
+    };
+    match hex::decode(alloc, digits) {
+        Ok(bytes) if !bytes.is_empty() && bytes.len() <= 256 => Ok(Bytes::from_vec(bytes)),
+        Err(FromHexError::OutOfMemory) => Err(SetupFault::OutOfMemory),
+        _ => Err(SetupFault::BadOption),
+    }
+}
