@@ -10,6 +10,7 @@ use Rattle.clap.specs.Words.{first_value, found_of}
 use Rattle.clap.specs.declared.parser.matches.ArgMatches.{ArgMatches}
 use denote.Ref.{Bor}
 use Rattle.lisp_sites.specs.Number.{number_of}
+use Rattle.lisp_sites.specs.Reading.{prefix_of}
 use Rattle.lispd.specs.declared.fault.SetupFault.{SetupFault}
 use Rattle.lispd.specs.declared.fault.SetupFault.TheVariants.{BadOption, OutOfMemory}
 use Rattle.lispd.specs.Setup.{Setup, default_setup}
@@ -55,11 +56,12 @@ setup_of matches = do
   site ← or_default default_setup.site site_of (option_text matches (codes "site"))
   key ← or_default default_setup.key key_of (option_text matches (codes "key"))
   secret ← or_default default_setup.secret secret_of (option_text matches (codes "secret"))
+  prefix ← or_default default_setup.prefix prefix_of (option_text matches (codes "prefix"))
   Some (record {
     site = site;
     key = key;
     secret = secret;
-    prefix = default_setup.prefix;
+    prefix = prefix;
     more_specifics = flag_of (option_text matches (codes "more-specifics"));
   })
 

@@ -29,6 +29,9 @@ fn answer_command<'a>(alloc: Global) -> Result<Command<'a>, AllocError> {
     let secret = option(alloc, "secret", "H").help(
         "The secret of the key, 1 to 256 bytes in hexadecimal digits [default: 736563726574]",
     );
+    let prefix = option(alloc, "prefix", "P").help(
+        "The prefix that routers may register [default: 10.1.0.0/16]",
+    );
     let more_specifics = Arg::new(alloc, "more-specifics")
         .long("more-specifics")
         .action(ArgAction::SetTrue)
@@ -39,6 +42,7 @@ fn answer_command<'a>(alloc: Global) -> Result<Command<'a>, AllocError> {
         .arg(site)?
         .arg(key)?
         .arg(secret)?
+        .arg(prefix)?
         .arg(more_specifics)
 }
 

@@ -2,6 +2,7 @@
 
 ghost use Rattle.std.specs.Prelude.{◌≡◌, codes};
 ghost use Rattle.std.specs.Option.{option_map};
+ghost use Rattle.lisp_sites.specs.Reading.{prefix_of};
 ghost use Rattle.lispd.specs.Setup.{default_setup};
 ghost use Rattle.lispd.specs.Options.{Gives, option_text, or_default, site_of, key_of, secret_of, flag_of, setup_of};
 
@@ -9,13 +10,14 @@ use crate::fault::SetupFault;
 use crate::site::{AnswerSetup, DEFAULT_KEY, DEFAULT_SECRET, DEFAULT_SITE, default_prefix};
 use clap::ArgMatches;
 use hex::{FromHex, FromHexError};
-use lisp_records::Bytes;
-use lisp_sites::number_from_text;
+use lisp_records::{Bytes, Prefix};
+use lisp_sites::{number_from_text, prefix_from_text};
 use std::alloc::Allocator;
 
 /// The setup that the options ask for, in memory of `alloc`: `--site` 16 hexadecimal digits, `--key`
-/// a decimal number 0 to 255, `--secret` hexadecimal text of 1 to 256 bytes, `--more-specifics`. What
-/// is absent, and `None`, are the defaults. `BadOption` where a value is out of its form.
+/// a decimal number 0 to 255, `--secret` hexadecimal text of 1 to 256 bytes, `--prefix` a prefix as
+/// [`lisp_sites::prefix_from_text`] reads it, `--more-specifics`. What is absent, and `None`, are the
+/// defaults. `BadOption` where a value is out of its form.
 #[tactic(auto, unfolding(crate::specs::Options::setup_of))]
 pub fn setup<A: Allocator>(
     alloc: A,
@@ -26,11 +28,12 @@ pub fn setup<A: Allocator>(
     let site = site(matches)?;
     let key = key(matches)?;
     let secret = secret(alloc, matches)?;
+    let prefix = prefix(matches)?;
     Ok(AnswerSetup {
         site,
         key,
         secret,
-        prefix: default_prefix(),
+        prefix,
         more_specifics: is_given(matches, "more-specifics"),
     })
 }
@@ -84,5 +87,17 @@ fn secret<A: Allocator>(alloc: A, matches: Option<&ArgMatches<'_>>) -> Result<By
         Ok(bytes) if !bytes.is_empty() && bytes.len() <= 256 => Ok(Bytes::from_vec(bytes)),
         Err(FromHexError::OutOfMemory) => Err(SetupFault::OutOfMemory),
         _ => Err(SetupFault::BadOption),
+    }
+}
+
+fn prefix(matches: Option<&ArgMatches<'_>>) -> Result<Prefix, SetupFault>
+    ensures { Gives (λ p. p) result (or_default default_setup.prefix prefix_of (option_text matches.entry (codes "prefix"))) }
+{
+    let Some(words) = text(matches, "prefix") else {
+        return Ok(default_prefix());
+    };
+    match prefix_from_text(words) {
+        Some(prefix) => Ok(prefix),
+        None => Err(SetupFault::BadOption),
     }
 }

@@ -1,0 +1,140 @@
+//! The texts of addresses and prefixes.
+
+ghost use Rattle.std.specs.Prelude.{◌≡◌, ◌==◌, IfSome, position};
+ghost use Rattle.std.specs.Option.{option_map};
+ghost use Rattle.lisp_records.specs.Address.{Block};
+ghost use Rattle.lisp_sites.specs.Text.{IsAddressText, IsPrefixText};
+ghost use Rattle.lisp_sites.specs.Reading.{cut, byte_of, digit_of, group_of, v4_of, v6_of, address_of, prefix_of};
+
+use lisp_records::{Addr, Prefix};
+
+/// The address that a text spells, or `None`:
+///
+/// ```text
+/// IPv4  four numbers from 0 to 255, joined by dots, without leading zeros: 10.1.0.255
+/// IPv6  eight groups of one to four hexadecimal digits, joined by colons: 2001:DB8:0:0:0:0:0:1
+/// ```
+///
+/// There is no `::`, no sign and no space.
+pub fn addr_from_text(text: &str) -> Option<Addr>
+    ensures found { IfSome result (λ a. IsAddressText text.now a) }
+    ensures only { (a : Addr) → IsAddressText text.now a → result ≡ Some a }
+    ensures exact { result ≡ address_of text.now }
+{
+    address(text.as_bytes())
+}
+
+/// The prefix that a text spells, or `None`: an address as for [`addr_from_text`], `/`, and the
+/// mask length, at most 32 or 128, without leading zeros: `10.1.0.0/16`. Bits past the mask may
+/// be set in the text and are cleared in the prefix.
+pub fn prefix_from_text(text: &str) -> Option<Prefix>
+    ensures found { IfSome result (λ b. IsPrefixText text.now b) }
+    ensures only { (b : Block) → IsPrefixText text.now b → result ≡ Some b }
+    ensures exact { result ≡ prefix_of text.now }
+{
+    prefix(text.as_bytes())
+}
+
+// A prefix of either family.
+#[tactic(auto, unfolding(crate::specs::Reading::prefix_of))]
+fn prefix(text: &[u8]) -> Option<Prefix>
+    ensures { result ≡ prefix_of text.now }
+{
+    let (addr, mask_len) = cut(text, b'/')?;
+    Prefix::new(address(addr)?, byte(mask_len)?)
+}
+
+// An address of either family.
+#[tactic(auto, unfolding(crate::specs::Reading::address_of))]
+fn address(text: &[u8]) -> Option<Addr>
+    ensures { result ≡ address_of text.now }
+{
+    match v4(text) {
+        Some(octets) => Some(Addr::V4(octets)),
+        None => v6(text).map(Addr::V6),
+    }
+}
+
+// The octets of an IPv4 address.
+#[tactic(auto, unfolding(crate::specs::Reading::v4_of))]
+fn v4(text: &[u8]) -> Option<[u8; 4]>
+    ensures { result ≡ v4_of text.now }
+{
+    let (first, rest) = cut(text, b'.')?;
+    let (second, rest) = cut(rest, b'.')?;
+    let (third, fourth) = cut(rest, b'.')?;
+    Some([byte(first)?, byte(second)?, byte(third)?, byte(fourth)?])
+}
+
+// A number from 0 to 255 in decimal, without leading zeros.
+#[tactic(auto, unfolding(crate::specs::Reading::byte_of))]
+fn byte(text: &[u8]) -> Option<u8>
+    ensures { result ≡ byte_of text.now }
+{
+    match text {
+        [c @ b'0'..=b'9'] => Some(*c - b'0'),
+        [c @ b'1'..=b'9', d @ b'0'..=b'9'] => Some((*c - b'0') * 10 + (*d - b'0')),
+        [c @ b'1'..=b'2', d @ b'0'..=b'9', e @ b'0'..=b'9'] => {
+            ((*c - b'0') * 100).checked_add((*d - b'0') * 10 + (*e - b'0'))
+        }
+        _ => None,
+    }
+}
+
+// The octets of an IPv6 address.
+fn v6(text: &[u8]) -> Option<[u8; 16]>
+    ensures { result ≡ v6_of text.now }
+{
+    let mut octets = [0; 16];
+    let mut rest = text;
+    for at in 0..7 {
+        let (digits, behind) = cut(rest, b':')?;
+        [octets[2 * at], octets[2 * at + 1]] = group(digits)?.to_be_bytes();
+        rest = behind;
+    }
+    [octets[14], octets[15]] = group(rest)?.to_be_bytes();
+    Some(octets)
+}
+
+// The number that one to four hexadecimal digits stand for.
+#[tactic(auto, using(crate::proofs::Hex::digits), unfolding(crate::specs::Reading::group_of))]
+fn group(text: &[u8]) -> Option<u16>
+    ensures { result ≡ group_of text.now }
+{
+    if text.is_empty() || text.len() > 4 {
+        return None;
+    }
+    let mut value = 0;
+    for digit in text {
+        value = value * 16 + u16::from(hex_digit(*digit)?);
+    }
+    Some(value)
+}
+
+// The value of a hexadecimal digit, in either letter case.
+fn hex_digit(digit: u8) -> Option<u8>
+    ensures { result ≡ digit_of digit }
+{
+    match digit {
+        b'0'..=b'9' => Some(digit - b'0'),
+        b'A'..=b'F' => Some(digit - b'A' + 10),
+        b'a'..=b'f' => Some(digit - b'a' + 10),
+        _ => None,
+    }
+}
+
+// The parts before and behind the first mark.
+#[tactic(auto, using(std::proofs::lemmas::List::take_rest), unfolding(crate::specs::Reading::cut))]
+fn cut(text: &[u8], mark: u8) -> Option<(&[u8], &[u8])>
+    ensures { option_map (λ p. (p.0.now, p.1.now)) result ≡ cut mark text.now }
+{
+    let place = place_of(text, mark)?;
+    Some((&text[..place], &text[place + 1..]))
+}
+
+// The place of the first mark.
+fn place_of(text: &[u8], mark: u8) -> Option<usize>
+    ensures { result ≡ position (λ byte. byte == mark) text.now }
+{
+    text.iter().position(|byte| *byte == mark)
+}
