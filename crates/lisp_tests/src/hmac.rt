@@ -1,7 +1,7 @@
 //! HMAC-SHA-256 and the tag, against RFC 4231 and Python's `hmac`.
 
+use crate::support::hex;
 use lisp_hmac::{TAG_LEN, checks, hmac_sha256, tag128};
-use std::alloc::Global;
 use std::test::Fail;
 
 /// The key of RFC 4231's case 2.
@@ -106,13 +106,4 @@ fn one_changed_bit_of_tag_or_message_is_seen(rt: HostRuntime) -> Result<(), Fail
         }
     }
     Ok(())
-}
-
-/// The bytes as digits.
-fn hex(alloc: Global, bytes: &[u8]) -> Result<String, Fail> {
-    let mut digits = String::new(alloc);
-    for byte in bytes {
-        write!(&mut digits, "{byte:02x}")?;
-    }
-    Ok(digits)
 }

@@ -3,12 +3,18 @@
 #![tactic(auto)]
 
 #[cfg(test)]
+mod answering;
+#[cfg(test)]
 mod hmac;
 #[cfg(test)]
 mod memory;
 #[cfg(test)]
 mod messages;
 #[cfg(test)]
+mod options;
+#[cfg(test)]
 mod records;
 #[cfg(test)]
 mod support;
+#[cfg(test)]
+mod texts;

@@ -2,12 +2,14 @@
 //! memory; and nothing stays in use.
 
 use crate::support::{
-    MAP_NOTIFY, MAP_REGISTER, RECORD, SECRET, assert_worked_notify, assert_worked_register, fields,
-    worked_notify, worked_record,
+    FLAGS, MAP_NOTIFY, MAP_REGISTER, NOTIFY_LINE, RECORD, REGISTER_DIGITS, SECRET,
+    assert_worked_notify, assert_worked_register, fields, worked_notify, worked_record,
+    worked_register,
 };
 use linked_list_allocator::LocalHeap;
-use lisp_messages::{ReadFault, read_message, write_notify};
+use lisp_messages::{ReadFault, read_message, write_notify, write_register};
 use lisp_records::{RecordFault, read_record, write_record};
+use lispd::{AnswerFault, AnswerSetup, SetupFault, answer, command, setup};
 use std::alloc::Allocator;
 use std::process::Abort;
 use std::test::Fail;
@@ -30,16 +32,41 @@ enum Call {
     ReadRegister,
     ReadNotify,
     WriteNotify,
+    WriteRegister,
+    AnswerRegister,
+    AnswerUntagged,
+    AnswerCut,
+    AnswerNoDigits,
+    DefaultSetup,
+    SetupWithoutSecret,
+    SetupWithSecret,
 }
 
-const CALLS: [Call; 6] = [
+const CALLS: [Call; 14] = [
     Call::ReadRecord,
     Call::CopyRecord,
     Call::WriteRecord,
     Call::ReadRegister,
     Call::ReadNotify,
     Call::WriteNotify,
+    Call::WriteRegister,
+    Call::AnswerRegister,
+    Call::AnswerUntagged,
+    Call::AnswerCut,
+    Call::AnswerNoDigits,
+    Call::DefaultSetup,
+    Call::SetupWithoutSecret,
+    Call::SetupWithSecret,
 ];
+
+/// The digits of the worked Map-Register, its Authentication Data zeros.
+const UNTAGGED_DIGITS: &str = "3a00010100000000000000010102001000000000000000000000000000000000\
+    000005a001101000000000010a0100000164ff0000050001c0000201\
+    0000000000000000000000000000000a0000000000000001";
+
+/// The digits of its first 59 bytes.
+const CUT_DIGITS: &str = "3a000101000000000000000101020010cf8457ee97fb531b5549862574f776ad\
+    000005a001101000000000010a0100000164ff0000050001c00002";
 
 #[test]
 fn each_call_answers_with_ample_memory(rt: HostRuntime) -> Result<(), Fail> {
@@ -86,6 +113,28 @@ fn answers<A: Allocator + Copy>(
         Call::ReadRegister => reads_register(rt, alloc),
         Call::ReadNotify => reads_notify(rt, alloc),
         Call::WriteNotify => writes_notify(rt, alloc),
+        Call::WriteRegister => writes_register(rt, alloc),
+        Call::AnswerRegister => answers_line(rt, alloc, REGISTER_DIGITS, NOTIFY_LINE),
+        Call::AnswerUntagged => answers_line(rt, alloc, UNTAGGED_DIGITS, "refused 53\n"),
+        Call::AnswerCut => {
+            answers_line(
+                rt,
+                alloc,
+                CUT_DIGITS,
+                "refused 50 read 15 record 0 fault 1\n",
+            )
+        }
+        Call::AnswerNoDigits => answers_line(rt, alloc, "zz\n", "refused 94\n"),
+        Call::DefaultSetup => gives_default_setup(rt, alloc),
+        Call::SetupWithoutSecret => gives_setup(rt, alloc, &["lispd", "answer"], SECRET),
+        Call::SetupWithSecret => {
+            gives_setup(
+                rt,
+                alloc,
+                &["lispd", "answer", "--secret", "6e6577"],
+                b"new",
+            )
+        }
     }
 }
 
@@ -169,5 +218,68 @@ fn writes_notify<A: Allocator + Copy>(
         return Ok(false);
     };
     assert_eq!(rt; written.as_slice(), MAP_NOTIFY.as_slice());
+    Ok(true)
+}
+
+fn writes_register<A: Allocator + Copy>(
+    rt: &(impl Abort + AllocGlobal),
+    alloc: A,
+) -> Result<bool, Fail> {
+    let register = worked_register(rt.alloc(), FLAGS)?;
+    let Ok(written) = write_register(alloc, &register, SECRET) else {
+        return Ok(false);
+    };
+    assert_eq!(rt; written.as_slice(), MAP_REGISTER.as_slice());
+    Ok(true)
+}
+
+/// Want of memory for the line or its answer is a fault, with nothing written; for the server it is
+/// a refusal of its own.
+fn answers_line<A: Allocator + Copy>(
+    rt: &(impl Abort + AllocGlobal),
+    alloc: A,
+    line: &str,
+    want: &str,
+) -> Result<bool, Fail> {
+    let defaults = AnswerSetup::defaults(rt.alloc())?;
+    let mut reader = line.as_bytes();
+    let mut writer = Vec::new(rt.alloc());
+    if let Err(fault) = answer(alloc, &defaults, &mut reader, &mut writer) {
+        assert_eq!(rt; fault, AnswerFault::OutOfMemory);
+        assert!(rt; writer.is_empty());
+        return Ok(false);
+    }
+    if writer.as_slice() == b"refused 58\n".as_slice() {
+        return Ok(false);
+    }
+    assert_eq!(rt; writer.as_slice(), want.as_bytes());
+    Ok(true)
+}
+
+fn gives_default_setup<A: Allocator + Copy>(
+    rt: &(impl Abort + AllocGlobal),
+    alloc: A,
+) -> Result<bool, Fail> {
+    let Ok(defaults) = AnswerSetup::defaults(alloc) else {
+        return Ok(false);
+    };
+    assert_eq!(rt; defaults.secret.as_slice(), SECRET);
+    Ok(true)
+}
+
+fn gives_setup<A: Allocator + Copy>(
+    rt: &(impl Abort + AllocGlobal),
+    alloc: A,
+    words: &[&str],
+    secret: &[u8],
+) -> Result<bool, Fail> {
+    let matches = command(rt.alloc())?.try_get_matches_from(words)?;
+    match setup(alloc, matches.subcommand_matches("answer")) {
+        Ok(setup) => assert_eq!(rt; setup.secret.as_slice(), secret),
+        Err(fault) => {
+            assert_eq!(rt; fault, SetupFault::OutOfMemory);
+            return Ok(false);
+        }
+    }
     Ok(true)
 }

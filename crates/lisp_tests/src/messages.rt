@@ -1,17 +1,30 @@
 //! Messages, against bytes that were worked by hand from RFC 9301 sections 5.6 and 5.7.
 
 use crate::support::{
-    MAP_NOTIFY, MAP_REGISTER, SECRET, TAG_AT, assert_worked_notify, assert_worked_register, flags,
-    worked_notify,
+    FLAGS, MAP_NOTIFY, MAP_REGISTER, SECRET, TAG_AT, assert_register, assert_worked_notify,
+    assert_worked_register, flags, sign, worked_notify, worked_register,
 };
-use lisp_hmac::{TAG_LEN, tag128};
-use lisp_messages::{Message, ReadFault, authentic, read_message, write_notify};
+use lisp_hmac::TAG_LEN;
+use lisp_messages::{Message, ReadFault, authentic, read_message, write_notify, write_register};
 use lisp_records::RecordFault;
-use std::process::Abort;
 use std::test::Fail;
+
+/// Where P, S, E, T, a and M of a Map-Register stand, in this order: the bits of the first byte,
+/// and of the third.
+const FLAG_BITS: [(u8, u8); 6] = [
+    (0x08, 0),
+    (0x04, 0),
+    (0, 0x10),
+    (0, 0x08),
+    (0, 0x04),
+    (0, 0x01),
+];
 
 /// The first byte of a Map-Notify-Ack: type 5.
 const NOTIFY_ACK: u8 = 0x50;
+
+/// The first byte of a Map-Register with I alone: type 3.
+const TYPE_AND_IDS: u8 = 0x32;
 
 /// The tag of the Map-Notify-Ack that is like the worked Map-Notify, by Python's `hmac`.
 const ACK_TAG: [u8; TAG_LEN] = [
@@ -67,6 +80,30 @@ fn the_worked_notify_is_written(rt: HostRuntime) -> Result<(), Fail> {
     let written = write_notify(rt.alloc(), &worked_notify(rt.alloc(), true)?, SECRET)?;
     assert_eq!(rt; written.as_slice(), ack.as_slice());
     assert_worked_notify(&rt, &read_message(rt.alloc(), &written)?, true)
+}
+
+#[test]
+fn the_worked_register_is_written(rt: HostRuntime) -> Result<(), Fail> {
+    let written = write_register(rt.alloc(), &worked_register(rt.alloc(), FLAGS)?, SECRET)?;
+    assert_eq!(rt; written.as_slice(), MAP_REGISTER.as_slice());
+    assert_worked_register(&rt, &read_message(rt.alloc(), &written)?)
+}
+
+#[test]
+fn each_flag_is_written_alone(rt: HostRuntime) -> Result<(), Fail> {
+    for (place, (first, third)) in FLAG_BITS.into_iter().enumerate() {
+        let mut bytes = MAP_REGISTER;
+        bytes[0] = TYPE_AND_IDS | first;
+        bytes[2] = third;
+        sign(&rt, &mut bytes);
+        let mut flags = [false; 6];
+        flags[place] = true;
+        let register = worked_register(rt.alloc(), flags)?;
+        let written = write_register(rt.alloc(), &register, SECRET)?;
+        assert_eq!(rt; written.as_slice(), bytes.as_slice(), "flag {place}");
+        assert_register(&rt, &read_message(rt.alloc(), &written)?, flags)?;
+    }
+    Ok(())
 }
 
 #[test]
@@ -132,18 +169,9 @@ fn reserved_bits_are_ignored_and_authentic(rt: HostRuntime) -> Result<(), Fail> 
 
 #[test]
 fn each_flag_is_read_alone(rt: HostRuntime) -> Result<(), Fail> {
-    // P, S, E, T, a and M: the bits of the first byte, beside type 3 and I, and of the third.
-    let bits = [
-        (0x08, 0),
-        (0x04, 0),
-        (0, 0x10),
-        (0, 0x08),
-        (0, 0x04),
-        (0, 0x01),
-    ];
-    for (place, (first, third)) in bits.into_iter().enumerate() {
+    for (place, (first, third)) in FLAG_BITS.into_iter().enumerate() {
         let mut bytes = MAP_REGISTER;
-        bytes[0] = 0x32 | first;
+        bytes[0] = TYPE_AND_IDS | first;
         bytes[2] = third;
         let Message::Register(register) = read_message(rt.alloc(), &bytes)? else {
             return Err("no Map-Register")?;
@@ -235,11 +263,4 @@ fn faults_have_their_numbers(rt: HostRuntime) -> Result<(), Fail> {
         assert_eq!(rt; fault.number(), number, "{fault}");
     }
     Ok(())
-}
-
-/// Puts into a message the tag that makes it authentic.
-fn sign(rt: &impl Abort, message: &mut [u8]) {
-    assert!(rt; message.len() >= TAG_AT + TAG_LEN);
-    let tag = tag128(SECRET, message, TAG_AT);
-    message[TAG_AT..TAG_AT + TAG_LEN].copy_from_slice(&tag);
 }

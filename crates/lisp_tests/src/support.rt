@@ -1,6 +1,7 @@
 //! What the tests share: the worked record and messages, and what reading them must give. The
 //! tags of the messages come from Python's `hmac`.
 
+use lisp_hmac::{TAG_LEN, tag128};
 use lisp_messages::{MapNotify, MapRegister, Message};
 use lisp_records::{Addr, Locator, MapRecord, Prefix, Records};
 use std::alloc::{Allocator, Global};
@@ -60,6 +61,21 @@ pub const MAP_NOTIFY: [u8; 60] = [
     1, 100, 255, 0, 0, 0x05, 0, 1, 192, 0, 2, 1, // its locator
 ];
 
+/// The digits of the worked Map-Register.
+pub const REGISTER_DIGITS: &str = "3a000101000000000000000101020010cf8457ee97fb531b5549862574f776ad\
+    000005a001101000000000010a0100000164ff0000050001c0000201\
+    0000000000000000000000000000000a0000000000000001";
+
+/// The line that answers it: the digits of the worked Map-Notify, and a line feed.
+pub const NOTIFY_LINE: &str = "400000010000000000000001010200104f18aa8fdf8791b51cf1272640b55d8d\
+    000005a001101000000000010a0100000164ff0000050001c0000201\n";
+
+/// P, S, E, T, a and M of the worked Map-Register.
+pub const FLAGS: [bool; 6] = [true, false, false, false, false, true];
+
+/// The xTR-ID of the worked Map-Register.
+pub const XTR: [u8; 16] = [0, 0, 0, 0, 0, 0, 0, 0, 0, 0, 0, 0, 0, 0, 0, 10];
+
 /// Where the Authentication Data stands in a message.
 pub const TAG_AT: usize = 16;
 
@@ -95,6 +111,25 @@ pub fn worked_record(alloc: Global) -> Result<MapRecord, Fail> {
     Ok(MapRecord::new(1440, 0, true, 0, eid, locators).ok_or("a field is too large")?)
 }
 
+/// The worked Map-Register with these flags, P, S, E, T, a and M, built.
+pub fn worked_register(alloc: Global, flags: [bool; 6]) -> Result<MapRegister, Fail> {
+    let [proxy, sec, eid_notify, use_ttl, merge, want_notify] = flags;
+    let records = vec![in alloc; worked_record(alloc)?]?;
+    Ok(MapRegister {
+        proxy,
+        sec,
+        eid_notify,
+        use_ttl,
+        merge,
+        want_notify,
+        nonce: 1,
+        key_id: 1,
+        records: Records::from_vec(records),
+        xtr: XTR,
+        site: 1,
+    })
+}
+
 /// The worked Map-Notify, or the Map-Notify-Ack that answers it, built.
 pub fn worked_notify(alloc: Global, ack: bool) -> Result<MapNotify, Fail> {
     let records = vec![in alloc; worked_record(alloc)?]?;
@@ -127,15 +162,21 @@ pub fn assert_worked_register<A: Allocator>(
     rt: &impl Abort,
     message: &Message<A>,
 ) -> Result<(), Fail> {
+    assert_register(rt, message, FLAGS)
+}
+
+/// Stops the test unless the message is the worked Map-Register with these flags.
+pub fn assert_register<A: Allocator>(
+    rt: &impl Abort,
+    message: &Message<A>,
+    want: [bool; 6],
+) -> Result<(), Fail> {
     let Message::Register(register) = message else {
         return Err("no Map-Register")?;
     };
-    assert_eq!(rt; flags(register), [true, false, false, false, false, true]);
+    assert_eq!(rt; flags(register), want);
     assert_eq!(rt; (register.nonce, register.key_id, register.site), (1, 1, 1));
-    assert_eq!(rt;
-        register.xtr,
-        [0, 0, 0, 0, 0, 0, 0, 0, 0, 0, 0, 0, 0, 0, 0, 10]
-    );
+    assert_eq!(rt; register.xtr, XTR);
     assert_worked_records(rt, &register.records)
 }
 
@@ -162,4 +203,20 @@ pub fn assert_worked_notify<A: Allocator>(
     };
     assert_eq!(rt; (notify.ack, notify.nonce, notify.key_id), (ack, 1, 1));
     assert_worked_records(rt, &notify.records)
+}
+
+/// Puts into a message the tag that makes it authentic.
+pub fn sign(rt: &impl Abort, message: &mut [u8]) {
+    assert!(rt; message.len() >= TAG_AT + TAG_LEN);
+    let tag = tag128(SECRET, message, TAG_AT);
+    message[TAG_AT..TAG_AT + TAG_LEN].copy_from_slice(&tag);
+}
+
+/// The bytes as digits.
+pub fn hex(alloc: Global, bytes: &[u8]) -> Result<String, Fail> {
+    let mut digits = String::new(alloc);
+    for byte in bytes {
+        write!(&mut digits, "{byte:02x}")?;
+    }
+    Ok(digits)
 }
