@@ -59,30 +59,13 @@ fn read_whole<A: Allocator + Copy>(alloc: A, bytes: &[u8]) -> Result<Message<A>,
 }
 
 // The message type, where the 32 bytes before the records are as they must be.
+#[rattlefmt::skip]
 #[tactic(auto, unfolding(crate::specs::Reading::kind_at))]
 fn read_kind(bytes: &[u8]) -> Result<Kind, ReadFault>
     ensures kind { Reads (λ k. k) result (kind_at bytes.now) }
     ensures head { OnOk result (32 ≤ length bytes.now) }
 {
-    let [
-        first,
-        _,
-        _,
-        _,
-        _,
-        _,
-        _,
-        _,
-        _,
-        _,
-        _,
-        _,
-        _,
-        algorithm,
-        length_high,
-        length_low,
-        ..
-    ] = bytes
+    let [first, _, _, _, _, _, _, _, _, _, _, _, _, algorithm, length_high, length_low, ..] = bytes
     else {
         return Err(ReadFault::Short);
     };

@@ -11,41 +11,15 @@ use lisp_records::{MapRecord, write_record};
 use std::alloc::{AllocError, Allocator};
 
 /// The bytes from the Record Count to the Authentication Data, that one as zeros.
+#[rattlefmt::skip]
 pub(crate) fn common_head(count: u8, nonce: u64, key_id: u8) -> [u8; 29]
     ensures head { result ≡ common count nonce key_id (replicate 16 0) }
     ensures fits { nonce < 2 ^ 64 }
 {
     let [n0, n1, n2, n3, n4, n5, n6, n7] = nonce.to_be_bytes();
     [
-        count,
-        n0,
-        n1,
-        n2,
-        n3,
-        n4,
-        n5,
-        n6,
-        n7,
-        key_id,
-        HMAC_SHA_256_128_NONE,
-        0,
-        TAG_LEN as u8,
-        0,
-        0,
-        0,
-        0,
-        0,
-        0,
-        0,
-        0,
-        0,
-        0,
-        0,
-        0,
-        0,
-        0,
-        0,
-        0,
+        count, n0, n1, n2, n3, n4, n5, n6, n7, key_id, HMAC_SHA_256_128_NONE, 0, TAG_LEN as u8,
+        0, 0, 0, 0, 0, 0, 0, 0, 0, 0, 0, 0, 0, 0, 0, 0,
     ]
 }
 
