@@ -1,8 +1,8 @@
 # make run     answers a sample Map-Register with the program, which is built where needed
-# make test    the gate: proves everything from nothing, runs the tests and the program
+# make test    the gate: proves everything from nothing, runs the tests and the samples
 # make bench   measures the codec and the tag on the 84 byte Map-Register
 # make clean   removes what was built
-.PHONY: run test bench clean
+.PHONY: run test check-samples bench clean
 
 SOURCES = crates.txt $(shell find crates -name '*.rt' -o -name '*.antt')
 
@@ -11,6 +11,11 @@ run: out/lispd
 
 test:
 	rt ci
+	@$(MAKE) --no-print-directory --silent check-samples
+
+# Prints nothing where all is well.
+check-samples: out/lispd
+	examples/check.sh
 
 bench:
 	@cd crates/lisp_bench && rt run -- 200000 2> /dev/null
