@@ -1,23 +1,14 @@
-//! Measures the codec and the tag on the 84 byte Map-Register. The one word is how often each call
-//! is made; with no word nothing is measured. `make bench` runs it.
+//! Measures the codec and the tag, and the reading of configurations. The one word is how often each
+//! call of the codec is made; with no word nothing is measured. `make bench` runs it.
 #![tactic(auto)]
 
-use anyhow::{Result, anyhow};
-use lisp_messages::{MapNotify, Message, authentic, read_message, write_notify};
-use lisp_records::Records;
+mod codec;
+mod configuration;
+
+use anyhow::Result;
+use std::env;
 use std::rt::{Clock, Env};
 use std::time::Instant;
-use std::{env, io};
-
-/// A Map-Register with one record of one locator, authentic under `SECRET`.
-static REGISTER: [u8; 84] = [
-    0x3a, 0x00, 0x01, 0x01, 0, 0, 0, 0, 0, 0, 0, 1, 0x01, 0x02, 0x00, 0x10, 0xcf, 0x84, 0x57, 0xee,
-    0x97, 0xfb, 0x53, 0x1b, 0x55, 0x49, 0x86, 0x25, 0x74, 0xf7, 0x76, 0xad, 0, 0, 0x05, 0xa0, 0x01,
-    0x10, 0x10, 0, 0, 0, 0, 0x01, 0x0a, 0x01, 0, 0, 0x01, 0x64, 0xff, 0, 0, 0x05, 0, 0x01, 0xc0, 0,
-    0x02, 0x01, 0, 0, 0, 0, 0, 0, 0, 0, 0, 0, 0, 0, 0, 0, 0, 0x0a, 0, 0, 0, 0, 0, 0, 0, 0x01,
-];
-
-static SECRET: [u8; 6] = *b"secret";
 
 fn main(rt: HostRuntime) -> Result<()> {
     run(&rt)
@@ -31,51 +22,14 @@ fn run<R: Env + Print + Clock + AllocGlobal>(rt: &R) -> Result<()> {
         }
     }
     if count > 0 {
-        measure(rt, count)?;
+        codec::measure(rt, count)?;
+        configuration::measure(rt)?;
     }
     Ok(())
 }
 
-fn measure<R: Print + Clock + AllocGlobal>(rt: &R, count: u32) -> Result<()> {
-    let start = Instant::now(rt)?;
-    let mut right = 0u64;
-    for _ in 0..count {
-        if read_message(rt.alloc(), &REGISTER).is_ok() {
-            right = right.wrapping_add(1);
-        }
-    }
-    tell(rt, "read_message", start, count)?;
-
-    let start = Instant::now(rt)?;
-    for _ in 0..count {
-        if authentic(&REGISTER, &SECRET) {
-            right = right.wrapping_add(1);
-        }
-    }
-    tell(rt, "authentic", start, count)?;
-
-    let Ok(Message::Register(register)) = read_message(rt.alloc(), &REGISTER) else {
-        return Err(anyhow!("the sample is no Map-Register"));
-    };
-    let notify = MapNotify {
-        ack: false,
-        nonce: register.nonce,
-        key_id: register.key_id,
-        records: register.records,
-    };
-    let start = Instant::now(rt)?;
-    for _ in 0..count {
-        if write_notify(rt.alloc(), &notify, &SECRET).is_ok() {
-            right = right.wrapping_add(1);
-        }
-    }
-    tell(rt, "write_notify", start, count)?;
-    println!(rt; "{right} calls gave their answer")?;
-    Ok(())
-}
-
-// Prints the nanoseconds that each of `count` calls took since `start`.
-fn tell<R: Print + Clock + AllocGlobal>(
+/// Prints the nanoseconds that each of `count` calls or entries took since `start`.
+pub(crate) fn tell<R: Print + Clock + AllocGlobal>(
     rt: &R,
     name: &str,
     start: Instant,

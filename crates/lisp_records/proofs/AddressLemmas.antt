@@ -1,9 +1,10 @@
 -- Clearing the bits of an address past a mask: twice is once, and it keeps family and length.
-use Rattle.std.proofs.Common.{◌≡◌, ℕ, ◌-◌, ◌*◌, ◌/◌, ◌^◌, ◌≤◌, List, [], ◌∷◌, length, min, refl, ap, ◌∙◌}
-use Rattle.std.proofs.lemmas.Nat.{shl-shr}
+use Rattle.std.proofs.Common.{◌≡◌, ℕ, ◌+◌, ◌-◌, ◌*◌, ◌/◌, ◌^◌, ◌≤◌, List, [], ◌∷◌, length, min, refl, sym, ap, ◌∙◌, arith}
+use Rattle.std.proofs.Math.Nat.{div-div-eq-div-mul}
+use Rattle.std.proofs.lemmas.Nat.{shl-shr, pow-add}
 use Rattle.lisp_records.specs.declared.address.Addr.{Addr}
 use Rattle.lisp_records.specs.declared.address.Addr.TheVariants.{V4, V6}
-use Rattle.lisp_records.specs.Address.{family, IsWhole, max_len, high_bits, masked, cleared, IsBlock}
+use Rattle.lisp_records.specs.Address.{family, IsWhole, max_len, high_bits, masked, cleared, Block, IsBlock, Covers, Holds}
 
 -- clearing a byte's last bits twice is clearing them once
 pub high_bits-again : (byte k : ℕ) → high_bits (high_bits byte k) k ≡ high_bits byte k
@@ -40,3 +41,27 @@ IsWhole-cleared (V6 bytes) n whole = length-masked bytes n ∙ whole
 pub IsBlock-cleared : (a : Addr) (n : ℕ) → n ≤ max_len a → IsBlock (record { addr = cleared a n; mask_len = n })
 IsBlock-cleared (V4 bytes) n fits = (fits, cleared-again (V4 bytes) n)
 IsBlock-cleared (V6 bytes) n fits = (fits, cleared-again (V6 bytes) n)
+
+-- clearing a byte's last bits after fewer of them is clearing the more
+pub high_bits-wider : (byte k j : ℕ) → j ≤ k → k ≤ 8 → high_bits (high_bits byte k) j ≡ high_bits byte j
+high_bits-wider byte k j le fits =
+    let more : 8 - j ≡ (8 - k) + (k - j) = omega arith in
+    let parts : 2 ^ (8 - j) ≡ 2 ^ (8 - k) * 2 ^ (k - j) = ap (λ (n : ℕ). 2 ^ n) more ∙ pow-add 2 (8 - k) (k - j) in
+    let kept : byte / 2 ^ (8 - k) * 2 ^ (8 - k) / 2 ^ (8 - j) ≡ byte / 2 ^ (8 - j) =
+    rw (parts, ← div-div-eq-div-mul (byte / 2 ^ (8 - k) * 2 ^ (8 - k)) (2 ^ (8 - k)) (2 ^ (k - j)), ← div-div-eq-div-mul byte (2 ^ (8 - k)) (2 ^ (k - j)), shl-shr (byte / 2 ^ (8 - k)) (8 - k)) refl in
+    ap (λ (n : ℕ). n * 2 ^ (8 - j)) kept
+
+-- clearing the bits past a mask, after those past a longer one
+pub masked-wider : (bytes : List ℕ) (n m : ℕ) → m ≤ n → masked (masked bytes n) m ≡ masked bytes m
+unfolding masked
+masked-wider [] n m le = refl
+masked-wider (byte ∷ bytes) n m le = rw (high_bits-wider byte (min n 8) (min m 8) (omega arith) (omega arith), masked-wider bytes (n - 8) (m - 8) (omega arith)) refl
+
+-- clearing an address's bits past a mask, after those past a longer one
+pub cleared-wider : (a : Addr) (n m : ℕ) → m ≤ n → cleared (cleared a n) m ≡ cleared a m
+cleared-wider (V4 bytes) n m le = ap V4 (masked-wider bytes n m le)
+cleared-wider (V6 bytes) n m le = ap V6 (masked-wider bytes n m le)
+
+-- what a covered block holds, the covering one holds
+pub covers_holds : (b c : Block) (a : Addr) → Covers b c → Holds c a → Holds b a
+covers_holds b c a covers holds = sym (cleared-wider a c.mask_len b.mask_len covers.0) ∙ ap (λ (x : Addr). cleared x b.mask_len) holds ∙ covers.1

@@ -1,4 +1,6 @@
 pub mod AddressLemmas
+pub mod DatabaseLaws
+pub mod DatabaseLemmas
 pub mod Fields
 pub mod Grown
 pub mod LocatorLaws

@@ -64,7 +64,11 @@ IsBlock b = (b.mask_len ≤ max_len b.addr) × (cleared b.addr b.mask_len ≡ b.
 abbrev pub Covers : Block → Block → Type 0
 Covers b other = (b.mask_len ≤ other.mask_len) × (cleared other.addr b.mask_len ≡ b.addr)
 
--- equality and covering as tests
+-- the address is one of the block
+abbrev pub Holds : Block → Addr → Type 0
+Holds b a = cleared a b.mask_len ≡ b.addr
+
+-- equality, covering and holding as tests
 abbrev pub addr_eq : Addr → Addr → Bool
 addr_eq (V4 a) (V4 b) = bytes_eq a b
 addr_eq (V4 _) (V6 _) = false
@@ -76,6 +80,9 @@ block_eq a b = addr_eq a.addr b.addr && (a.mask_len == b.mask_len)
 
 abbrev pub covers : Block → Block → Bool
 covers b other = nat_le b.mask_len other.mask_len && addr_eq (cleared other.addr b.mask_len) b.addr
+
+abbrev pub holds : Block → Addr → Bool
+holds b a = addr_eq (cleared a b.mask_len) b.addr
 
 -- the order of addresses: IPv4 before IPv6, then by the first byte that differs
 abbrev pub addr_cmp : Addr → Addr → Ordering

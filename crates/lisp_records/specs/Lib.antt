@@ -5,3 +5,5 @@ pub mod Spelling
 pub mod Grown
 pub mod Written
 pub mod Reading
+pub mod Router
+pub mod Database

@@ -1,8 +1,8 @@
 //! A list of bytes that a value keeps.
 
-ghost use Rattle.std.specs.Prelude.{◌≡◌};
+ghost use Rattle.std.specs.Prelude.{◌≡◌, IfOk};
 
-use std::alloc::{Allocator, Global};
+use std::alloc::{AllocError, Allocator, Global};
 use std::marker::Model;
 
 /// Bytes in their order, seen as a list.
@@ -32,6 +32,14 @@ impl<A: Allocator> Bytes<A> {
         ensures { result.now ≡ self.now }
     {
         &self.items
+    }
+
+    /// Equal bytes, in memory of `alloc`.
+    pub fn copy<B: Allocator>(&self, alloc: B) -> Result<Bytes<B>, AllocError>
+        ensures { IfOk result (λ b. b ≡ self.now) }
+    {
+        let items = Vec::from_slice(alloc, self.as_slice())?;
+        Ok(Bytes { items })
     }
 
     /// The bytes as a `Vec`; takes no memory.

@@ -1,13 +1,19 @@
 //! What holds of the format itself: each function's contract is a law, and its body is empty.
 
-ghost use Rattle.std.specs.Prelude.{◌≡◌, ℕ, List, [], ◌++◌, Ok};
-ghost use Rattle.lisp_records.specs.Address.{Block, block_cmp};
+ghost use Rattle.std.specs.Prelude.{◌≡◌, ◌≢◌, ◌↔◌, ℕ, List, [], ◌++◌, map, false, Ok};
+ghost use Rattle.std.specs.List.{AllPairs};
+ghost use Rattle.lisp_records.specs.Address.{Block, Covers, Holds, block_cmp};
+ghost use Rattle.lisp_records.specs.Router.{router_cmp};
+ghost use Rattle.lisp_records.specs.Database.{repeats};
 ghost use Rattle.lisp_records.specs.Record.{Mapping, IsMapping};
 ghost use Rattle.lisp_records.specs.Spelling.{Spells};
 ghost use Rattle.lisp_records.specs.Written.{written};
 ghost use Rattle.lisp_records.specs.Reading.{record_at};
+ghost use Rattle.lisp_records.specs.declared.address.Addr.{Addr};
+ghost use Rattle.lisp_records.specs.declared.router.RouterId.{RouterId};
 
 use crate::prefix::Prefix;
+use crate::router::RouterId;
 
 /// Bytes spell at most one record.
 pub fn one_record()
@@ -34,4 +40,21 @@ pub fn reads_back()
 /// Prefixes are ordered by address, IPv4 before IPv6, and then by mask length.
 pub fn prefix_order()
     ensures { (a b : Block) → ⟦<Prefix as Ord>⟧.cmp a b ≡ block_cmp a b }
+{}
+
+/// Routers are ordered by site, and then by xTR-ID.
+pub fn router_order()
+    ensures { (a b : RouterId) → ⟦<RouterId as Ord>⟧.cmp a b ≡ router_cmp a b }
+{}
+
+/// What a covered block holds, the covering one holds.
+#[tactic(auto, using(crate::proofs::AddressLemmas::covers_holds))]
+pub fn covers_holds()
+    ensures { (b c : Block) (a : Addr) → Covers b c → Holds c a → Holds b a }
+{}
+
+/// No EID-Prefix is repeated exactly where those of each two records differ.
+#[tactic(auto, using(crate::proofs::DatabaseLaws::distinct_prefixes))]
+pub fn distinct_prefixes()
+    ensures { (ms : List Mapping) → (repeats ms ≡ false) ↔ AllPairs (λ a b. a ≢ b) (map (λ m. m.eid) ms) }
 {}

@@ -1,20 +1,24 @@
 //! The mapping records of LISP control messages (RFC 9301 section 5.4): addresses, EID-Prefixes,
-//! locators, and reading and writing a record as bytes.
+//! locators, reading and writing a record as bytes, and the records that a router registers.
 #![tactic(auto)]
 
 mod address;
 mod bytes;
+mod database;
 mod fault;
 pub mod laws;
 mod locator;
 mod prefix;
 mod record;
 mod records;
+mod router;
 
 pub use address::{Addr, Family};
 pub use bytes::Bytes;
+pub use database::{Database, DatabaseFault, MAX_RECORDS, MAX_SIZE};
 pub use fault::RecordFault;
 pub use locator::Locator;
 pub use prefix::Prefix;
 pub use record::{MAX_LOCATORS, MapRecord, read_record, write_record};
 pub use records::Records;
+pub use router::RouterId;

@@ -1,7 +1,7 @@
 //! EID-Prefixes: blocks of addresses.
 
 ghost use Rattle.std.specs.Prelude.{◌≡◌, ◌≤◌, ◌↔◌, IsTrue, IsSome, IfSome};
-ghost use Rattle.lisp_records.specs.Address.{IsWhole, IsBlock, Covers, covers, max_len, cleared};
+ghost use Rattle.lisp_records.specs.Address.{IsWhole, IsBlock, Covers, covers, Holds, holds, max_len, cleared};
 
 use crate::address::Addr;
 use std::marker::Model;
@@ -73,5 +73,13 @@ impl Prefix {
         ensures test { result ≡ covers self.now other.now }
     {
         self.mask_len <= other.mask_len && other.addr.cleared(self.mask_len) == self.addr
+    }
+
+    /// Whether an address is one of the block.
+    pub fn contains(&self, addr: &Addr) -> bool
+        ensures holds { IsTrue result ↔ Holds self.now addr.now }
+        ensures test { result ≡ holds self.now addr.now }
+    {
+        addr.cleared(self.mask_len) == self.addr
     }
 }

@@ -138,9 +138,10 @@ impl<A: Allocator> MapRecord<A> {
         })
     }
 
-    /// The length of the written spelling, in bytes.
+    /// The length of the written spelling, in bytes: at most 12 + 16 + 255 * 24.
     pub fn written_len(&self) -> usize
-        ensures { result ≡ length (written self.now) }
+        ensures len { result ≡ length (written self.now) }
+        ensures small { result ≤ 6148 }
     {
         let mut len = 12 + self.eid.addr().family().width() as usize;
         for locator in &self.locators {

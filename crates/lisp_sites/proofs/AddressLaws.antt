@@ -163,10 +163,10 @@ unfolding address_of
 address_again text (V4 octets) s = rw (v4_again text octets s) refl
 address_again text (V6 octets) s = rw (v4-free text (free-v6 46 text octets (omega arith) refl s), v6_again text octets s) refl
 
--- no slash stands in an address
-pub free-address : (text : List ℕ) (a : Addr) → IsAddressText text a → IsFree 47 text
-free-address text (V4 octets) s = free-v4 47 text octets (omega arith) refl s
-free-address text (V6 octets) s = free-v6 47 text octets (omega arith) refl s
+-- no mark but a dot and a colon stands in an address
+pub free-address : (mark : ℕ) (text : List ℕ) (a : Addr) → 16 ≤ digit_value mark → eqb 46 mark ≡ false → eqb 58 mark ≡ false → IsAddressText text a → IsFree mark text
+free-address mark text (V4 octets) none dot colon s = free-v4 mark text octets (omega arith) dot s
+free-address mark text (V6 octets) none dot colon s = free-v6 mark text octets none colon s
 
 -- a text spells at most one address
 pub one_address : (text : List ℕ) (a b : Addr) → IsAddressText text a → IsAddressText text b → a ≡ b

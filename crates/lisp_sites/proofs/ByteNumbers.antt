@@ -21,7 +21,7 @@ three_digits n c d e le lt first second third = rw (decimal_step n (omega arith)
 within : (low high c : ℕ) → low ≤ c → c ≤ high → is_in_range low high c ≡ true
 within low high c ge le = and_from (leb low c) (leb c high) (le-leb _ _ ge) (le-leb _ _ le)
 
-in_range : (low high c : ℕ) → is_in_range low high c ≡ true → (low ≤ c) × (c ≤ high)
+pub in_range : (low high c : ℕ) → is_in_range low high c ≡ true → (low ≤ c) × (c ≤ high)
 in_range low high c test = let parts = and_parts (leb low c) (leb c high) test in (leb-true _ _ parts.0, leb-true _ _ parts.1)
 
 -- a number below 256 is read

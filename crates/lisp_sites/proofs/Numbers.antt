@@ -8,11 +8,11 @@ use Rattle.std.proofs.lemmas.Bool.{le-leb, lt-ltb, le-ltb, cases_lt}
 use Rattle.std.proofs.lemmas.Str.Parse.{IsDigitsTest, numerals_by_value, parse_digits}
 use Rattle.lisp_sites.specs.Number.{is_number, number_of}
 
-digits : IsDigitsTest (λ ds. list_all is_ascii_digit ds ≡ true)
+pub digits : IsDigitsTest (λ ds. list_all is_ascii_digit ds ≡ true)
 digits = search rules
 
 -- 1 to 20 digits are a number
-is_number-digits : (text : List ℕ) → 1 ≤ length text → length text ≤ 20 → list_all is_ascii_digit text ≡ true → is_number text ≡ true
+pub is_number-digits : (text : List ℕ) → 1 ≤ length text → length text ≤ 20 → list_all is_ascii_digit text ≡ true → is_number text ≡ true
 is_number-digits text some few all = rw (le-leb 1 (length text) some, le-leb (length text) 20 few, all) refl
 
 -- what `parse` gives of them is the number where it fits

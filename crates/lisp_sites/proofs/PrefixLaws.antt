@@ -1,5 +1,6 @@
 -- A prefix that is read is spelled so, and a prefix that is spelled so is read.
-use Rattle.std.proofs.Common.{◌≡◌, ℕ, ◌<◌, ◌≤◌, leb, List, [], ◌∷◌, ◌++◌, Option, Some, None, refl, sym, ap, subst, ◌∙◌, append_assoc, arith}
+use Rattle.std.proofs.Common.{◌≡◌, ℕ, ◌^◌, ◌<◌, ◌≤◌, false, eqb, leb, List, [], ◌∷◌, ◌++◌, Option, Some, None, refl, sym, ap, subst, ◌∙◌, append_assoc, arith}
+use Rattle.std.specs.Char.{digit_value}
 use Rattle.std.specs.Fmt.{decimal}
 use Rattle.std.specs.Prelude.{IfSome}
 use Rattle.std.proofs.lemmas.Bool.{le-leb, leb-true}
@@ -10,7 +11,7 @@ use Rattle.lisp_records.specs.Address.{Block, max_len, cleared}
 use Rattle.lisp_sites.specs.Text.{IsAddressText, IsPrefixText}
 use Rattle.lisp_sites.specs.Reading.{cut, byte_of, address_of, prefix_of}
 use Rattle.lisp_sites.proofs.Options.{bind_some}
-use Rattle.lisp_sites.proofs.Cut.{cut-at, cut_parts}
+use Rattle.lisp_sites.proofs.Cut.{IsFree, cut-at, cut_parts, free-append, free-decimal}
 use Rattle.lisp_sites.proofs.ByteNumbers.{byte_again, byte_takes}
 use Rattle.lisp_sites.proofs.AddressLaws.{address_takes, address_again, free-address}
 
@@ -34,7 +35,7 @@ prefix_made text front behind a n parts spelled number fits = record {
 }
 
 -- a prefix that is read is spelled so
-prefix_takes : (text : List ℕ) (b : Block) → prefix_of text ≡ Some b → IsPrefixText text b
+pub prefix_takes : (text : List ℕ) (b : Block) → prefix_of text ≡ Some b → IsPrefixText text b
 unfolding prefix_of
 prefix_takes text b e =
     let p = bind_some (cut 47 text) _ b e in
@@ -46,7 +47,7 @@ prefix_takes text b e =
 prefix_read : (front : List ℕ) (a : Addr) (n : ℕ) → IsAddressText front a → n ≤ max_len a → prefix_of (front ++ 47 ∷ decimal n) ≡ Some (under a n)
 unfolding prefix_of
 prefix_read front a n spelled fits =
-    rw (cut-at 47 front (decimal n) (free-address front a spelled), address_again front a spelled, byte_again n (mask_small a n fits), le-leb n (max_len a) fits) refl
+    rw (cut-at 47 front (decimal n) (free-address 47 front a (omega arith) refl refl spelled), address_again front a spelled, byte_again n (mask_small a n fits), le-leb n (max_len a) fits) refl
 
 -- a prefix that is spelled so is read
 pub prefix_again : (text : List ℕ) (b : Block) → IsPrefixText text b → prefix_of text ≡ Some b
@@ -54,6 +55,13 @@ prefix_again text b s =
     let parts : text ≡ s.address ++ 47 ∷ decimal b.mask_len = s.parts ∙ append_assoc s.address (47 ∷ []) (decimal b.mask_len) in
     let same : under s.written b.mask_len ≡ b = ap (λ (a : Addr). record { addr = a; mask_len = b.mask_len }) s.masked in
     ap prefix_of parts ∙ prefix_read s.address s.written b.mask_len s.spelled s.mask ∙ ap (λ (c : Block). Some c) same
+
+-- no mark but a slash and those of addresses stands in a prefix
+pub free-prefix : (mark : ℕ) (text : List ℕ) (b : Block) → 16 ≤ digit_value mark → eqb 46 mark ≡ false → eqb 58 mark ≡ false → eqb 47 mark ≡ false → IsPrefixText text b → IsFree mark text
+free-prefix mark text b none dot colon slash s =
+    let parts : text ≡ s.address ++ 47 ∷ decimal b.mask_len = s.parts ∙ append_assoc s.address (47 ∷ []) (decimal b.mask_len) in
+    let small : b.mask_len < 2 ^ 64 = omega (arith, mask_small s.written b.mask_len s.mask) in
+    rw parts (free-append mark s.address (47 ∷ decimal b.mask_len) (free-address mark s.address s.written none dot colon s.spelled) (slash, free-decimal mark b.mask_len (omega arith) small))
 
 -- a text spells at most one prefix
 pub one_prefix : (text : List ℕ) (p q : Block) → IsPrefixText text p → IsPrefixText text q → p ≡ q

@@ -1,3 +1,9 @@
 pub mod Number
 pub mod Text
 pub mod Reading
+pub mod Written
+pub mod Site
+pub mod Form
+pub mod Configuration
+pub mod Field
+pub mod Table

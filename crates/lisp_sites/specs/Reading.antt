@@ -1,13 +1,16 @@
 -- Reading a text from left to right: what the grammar's relations come to as functions.
-use Rattle.std.specs.Prelude.{ℕ, zero, suc, ◌+◌, ◌-◌, ◌*◌, List, [], ◌∷◌, ◌++◌, length, take, drop, Bool, ◌&&◌, nat_lt, nat_le, ◌==◌, if◌then◌else◌, Option, Some, None}
+use Rattle.std.specs.Prelude.{ℕ, zero, suc, ◌+◌, ◌-◌, ◌*◌, ◌^◌, List, [], ◌∷◌, ◌++◌, length, take, drop, slice_index, Bool, true, false, ◌&&◌, nat_lt, nat_le, ◌==◌, if◌then◌else◌, Option, Some, None}
 use Rattle.std.specs.Char.{digit_value, is_ascii_digit}
 use Rattle.std.specs.Int.{w16, to_be_bytes, is_in_range}
-use Rattle.std.specs.List.{position, list_all}
+use Rattle.std.specs.List.{position, list_all, slice_split}
 use Rattle.std.specs.Option.{option_map}
 use Rattle.std.specs.Str.Parse.{digits_value}
 use Rattle.lisp_records.specs.declared.address.Addr.{Addr}
 use Rattle.lisp_records.specs.declared.address.Addr.TheVariants.{V4, V6}
+use Rattle.lisp_records.specs.declared.locator.Locator.{Locator}
 use Rattle.lisp_records.specs.Address.{Block, max_len, cleared}
+use Rattle.lisp_records.specs.Record.{Mapping}
+use Rattle.lisp_sites.specs.Number.{number_of}
 
 infixl 10 ◌>>=◌
 abbrev pub ◌>>=◌ : {A B : Type 0} → Option A → (A → Option B) → Option B
@@ -78,3 +81,76 @@ prefix_of text = do
   addr ← address_of pieces.0
   mask_len ← byte_of pieces.1
   if_so (nat_le mask_len (max_len addr)) (record { addr = cleared addr mask_len; mask_len = mask_len })
+
+-- a number below a limit; leading zeros are allowed
+unfoldable pub number_below : ℕ → List ℕ → Option ℕ
+number_below limit text = do
+  number ← number_of text
+  if_so (nat_lt number limit) number
+
+-- four numbers below 256, joined by slashes
+unfoldable pub numbers_of : List ℕ → Option (List ℕ)
+numbers_of text = do
+  first ← cut 47 text
+  second ← cut 47 first.1
+  third ← cut 47 second.1
+  a ← number_below 256 first.0
+  b ← number_below 256 second.0
+  c ← number_below 256 third.0
+  d ← number_below 256 third.1
+  Some (a ∷ b ∷ c ∷ d ∷ [])
+
+-- the locator with this address and these numbers
+abbrev pub located : Addr → List ℕ → Locator
+located addr numbers = record {
+  priority = slice_index numbers 0;
+  weight = slice_index numbers 1;
+  m_priority = slice_index numbers 2;
+  m_weight = slice_index numbers 3;
+  local = true;
+  probe = false;
+  reachable = true;
+  addr = addr;
+}
+
+-- a locator whose numbers, if it has some, are cut off
+abbrev pub locator_of_parts : List ℕ → Option (List ℕ × List ℕ) → Option Locator
+locator_of_parts text None = do
+  addr ← address_of text
+  Some (located addr (1 ∷ 100 ∷ 255 ∷ 0 ∷ []))
+locator_of_parts text (Some parts) = do
+  addr ← address_of parts.0
+  numbers ← numbers_of parts.1
+  Some (located addr numbers)
+
+unfoldable pub locator_of : List ℕ → Option Locator
+locator_of text = locator_of_parts text (cut 47 text)
+
+unfoldable pub locators_of : List (List ℕ) → Option (List Locator)
+locators_of [] = Some []
+locators_of (piece ∷ pieces) = do
+  first ← locator_of piece
+  others ← locators_of pieces
+  Some (first ∷ others)
+
+-- a prefix and a TTL
+unfoldable pub front_of : List ℕ → Option (Block × ℕ)
+front_of text = do
+  parts ← cut 61 text
+  eid ← prefix_of parts.0
+  ttl ← number_below (2 ^ 32) parts.1
+  Some (eid, ttl)
+
+abbrev pub mapping_of : Block → ℕ → List Locator → Mapping
+mapping_of eid ttl locators = record { ttl = ttl; act = 0; authoritative = true; version = 0; eid = eid; locators = locators }
+
+-- a record from the pieces between plus signs
+unfoldable pub record_of : List (List ℕ) → Option Mapping
+record_of [] = None
+record_of (piece ∷ pieces) = do
+  front ← front_of piece
+  locators ← locators_of pieces
+  if_so (nat_lt (length locators) 256) (mapping_of front.0 front.1 locators)
+
+abbrev pub record_text_of : List ℕ → Option Mapping
+record_text_of text = record_of (slice_split (λ b. b == 43) text)

@@ -1,12 +1,16 @@
 //! The texts of addresses and prefixes.
 
-ghost use Rattle.std.specs.Prelude.{◌≡◌, ◌==◌, IfSome, position};
+ghost use Rattle.std.specs.Prelude.{◌≡◌, ◌<◌, ◌==◌, ◌++◌, IfSome, IfOk, OnOk, map, position, string_bytes};
+ghost use Rattle.std.specs.Fmt.{decimal};
+ghost use Rattle.std.specs.List.{AllByRecursion, join_with_byte};
 ghost use Rattle.std.specs.Option.{option_map};
-ghost use Rattle.lisp_records.specs.Address.{Block};
+ghost use Rattle.lisp_records.specs.Address.{Block, IsBlock};
 ghost use Rattle.lisp_sites.specs.Text.{IsAddressText, IsPrefixText};
 ghost use Rattle.lisp_sites.specs.Reading.{cut, byte_of, digit_of, group_of, v4_of, v6_of, address_of, prefix_of};
+ghost use Rattle.lisp_sites.specs.Written.{hex_text, groups_text, addr_text, prefix_text, HasOctets};
 
 use lisp_records::{Addr, Prefix};
+use std::alloc::{AllocError, Allocator};
 
 /// The address that a text spells, or `None`:
 ///
@@ -34,6 +38,50 @@ pub fn prefix_from_text(text: &str) -> Option<Prefix>
 {
     prefix(text.as_bytes())
 }
+
+/// The text of an address: for IPv4 four decimal numbers joined by dots, for IPv6 eight groups of
+/// four lower case hexadecimal digits joined by colons.
+pub fn addr_to_text<A: Allocator>(alloc: A, addr: &Addr) -> Result<String<A>, AllocError>
+    ensures text { IfOk result (λ t. string_bytes t ≡ addr_text addr.now) }
+
+    // Every address of the program has this text, so that what is written is read again.
+    ensures known { HasOctets addr.now }
+{
+    known_addr(*addr);
+    let mut text = String::new(alloc);
+    put_addr(&mut text, *addr)?;
+    Ok(text)
+}
+
+/// The text of a prefix: its address as for [`addr_to_text`], `/`, and the mask length.
+pub fn prefix_to_text<A: Allocator>(alloc: A, prefix: &Prefix) -> Result<String<A>, AllocError>
+    ensures text { IfOk result (λ t. string_bytes t ≡ prefix_text prefix.now) }
+
+    // Every prefix of the program has this text, so that what is written is read again.
+    ensures known { HasOctets prefix.now.addr }
+    ensures block { IsBlock prefix.now }
+{
+    known_addr(prefix.addr());
+    let mut text = String::new(alloc);
+    put_prefix(&mut text, *prefix)?;
+    Ok(text)
+}
+
+/// What the types promise of every address, for the proof of what is read again.
+pub(crate) fn known_addr(addr: Addr)
+    ensures { HasOctets addr }
+{
+    match addr {
+        Addr::V4(octets) => known_bytes(&octets),
+        Addr::V6(octets) => known_bytes(&octets),
+    }
+}
+
+// What the type promises of every byte of a list.
+#[tactic(auto, using(crate::proofs::Known::bytes_small))]
+fn known_bytes(bytes: &[u8])
+    ensures { AllByRecursion (λ n. n < 256) bytes.now }
+{}
 
 // A prefix of either family.
 #[tactic(auto, unfolding(crate::specs::Reading::prefix_of))]
@@ -137,4 +185,58 @@ fn place_of(text: &[u8], mark: u8) -> Option<usize>
     ensures { result ≡ position (λ byte. byte == mark) text.now }
 {
     text.iter().position(|byte| *byte == mark)
+}
+
+/// Appends the text of a prefix. Want of memory may leave a part of it.
+#[tactic(auto, using(crate::proofs::Appends::steps))]
+pub(crate) fn put_prefix<A: Allocator>(
+    text: &mut String<A>,
+    prefix: Prefix,
+) -> Result<(), AllocError>
+    ensures { OnOk result (string_bytes text.new ≡ string_bytes text.old ++ prefix_text prefix) }
+{
+    let mask_len = prefix.mask_len();
+    put_addr(text, prefix.addr())?;
+    write!(text, "/{mask_len}")?;
+    Ok(())
+}
+
+/// Appends the text of an address. Want of memory may leave a part of it.
+pub(crate) fn put_addr<A: Allocator>(text: &mut String<A>, addr: Addr) -> Result<(), AllocError>
+    ensures { OnOk result (string_bytes text.new ≡ string_bytes text.old ++ addr_text addr) }
+{
+    match addr {
+        Addr::V4(octets) => put_v4(text, octets),
+        Addr::V6(octets) => put_v6(text, octets),
+    }
+}
+
+// Appends four decimal numbers, joined by dots.
+fn put_v4<A: Allocator>(text: &mut String<A>, octets: [u8; 4]) -> Result<(), AllocError>
+    ensures { OnOk result (string_bytes text.new ≡ string_bytes text.old ++ join_with_byte 46 (map decimal octets)) }
+{
+    let [a, b, c, d] = octets;
+    write!(text, "{a}.{b}.{c}.{d}")?;
+    Ok(())
+}
+
+// Appends eight groups, joined by colons.
+fn put_v6<A: Allocator>(text: &mut String<A>, octets: [u8; 16]) -> Result<(), AllocError>
+    ensures { OnOk result (string_bytes text.new ≡ string_bytes text.old ++ join_with_byte 58 (groups_text octets)) }
+{
+    put_group(text, octets[0], octets[1])?;
+    for at in 1..8 {
+        text.push(':')?;
+        put_group(text, octets[2 * at], octets[2 * at + 1])?;
+    }
+    Ok(())
+}
+
+// Appends the four digits of a group.
+#[tactic(auto, using(crate::proofs::Appends::octets))]
+fn put_group<A: Allocator>(text: &mut String<A>, high: u8, low: u8) -> Result<(), AllocError>
+    ensures { OnOk result (string_bytes text.new ≡ string_bytes text.old ++ (hex_text high ++ hex_text low)) }
+{
+    write!(text, "{high:02x}{low:02x}")?;
+    Ok(())
 }

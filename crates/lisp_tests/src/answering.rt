@@ -1,10 +1,9 @@
 //! What a fresh server answers to one line, against rows worked by hand from RFC 9301 sections 5.6,
 //! 5.7 and 8.2.
 
-use crate::support::{
-    MAP_NOTIFY, MAP_REGISTER, NOTIFY_LINE, RECORD, REGISTER_DIGITS, TAG_AT, hex, sign,
-};
+use crate::support::{MAP_NOTIFY, MAP_REGISTER, NOTIFY_LINE, REGISTER_DIGITS, TAG_AT, hex, sign};
 use lisp_hmac::TAG_LEN;
+use lisp_samples::RECORD;
 use lispd::{AnswerFault, AnswerSetup, answer};
 use std::io::{self, ErrorKind, Read, Write};
 use std::process::Abort;

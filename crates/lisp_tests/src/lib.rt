@@ -5,6 +5,8 @@
 #[cfg(test)]
 mod answering;
 #[cfg(test)]
+mod databases;
+#[cfg(test)]
 mod hmac;
 #[cfg(test)]
 mod memory;
@@ -16,5 +18,3 @@ mod options;
 mod records;
 #[cfg(test)]
 mod support;
-#[cfg(test)]
-mod texts;

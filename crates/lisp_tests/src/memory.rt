@@ -2,13 +2,13 @@
 //! memory; and nothing stays in use.
 
 use crate::support::{
-    FLAGS, MAP_NOTIFY, MAP_REGISTER, NOTIFY_LINE, RECORD, REGISTER_DIGITS, SECRET,
-    assert_worked_notify, assert_worked_register, fields, worked_notify, worked_record,
-    worked_register,
+    FLAGS, MAP_NOTIFY, MAP_REGISTER, NOTIFY_LINE, REGISTER_DIGITS, assert_worked_notify,
+    assert_worked_register, worked_notify, worked_register,
 };
 use linked_list_allocator::LocalHeap;
 use lisp_messages::{ReadFault, read_message, write_notify, write_register};
 use lisp_records::{RecordFault, read_record, write_record};
+use lisp_samples::{RECORD, SECRET, fields, worked_record};
 use lispd::{AnswerFault, AnswerSetup, SetupFault, answer, command, setup};
 use std::alloc::Allocator;
 use std::process::Abort;

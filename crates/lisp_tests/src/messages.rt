@@ -1,12 +1,13 @@
 //! Messages, against bytes that were worked by hand from RFC 9301 sections 5.6 and 5.7.
 
 use crate::support::{
-    FLAGS, MAP_NOTIFY, MAP_REGISTER, SECRET, TAG_AT, assert_register, assert_worked_notify,
+    FLAGS, MAP_NOTIFY, MAP_REGISTER, TAG_AT, assert_register, assert_worked_notify,
     assert_worked_register, flags, sign, worked_notify, worked_register,
 };
 use lisp_hmac::TAG_LEN;
 use lisp_messages::{Message, ReadFault, authentic, read_message, write_notify, write_register};
 use lisp_records::RecordFault;
+use lisp_samples::SECRET;
 use std::test::Fail;
 
 /// Where P, S, E, T, a and M of a Map-Register stand, in this order: the bits of the first byte,

@@ -1,7 +1,8 @@
 //! The words of the program, and the setup that its options ask for.
 
-use crate::support::{MAP_REGISTER, REGISTER_DIGITS, hex, ipv4_block};
+use crate::support::{MAP_REGISTER, REGISTER_DIGITS, hex};
 use clap::error::ErrorKind;
+use lisp_samples::ipv4_block;
 use lispd::{AnswerSetup, SetupFault, answer, command, setup};
 use std::alloc::Global;
 use std::process::Abort;

@@ -1,10 +1,10 @@
 //! Records, prefixes and locators, against rows worked by hand from RFC 9301 section 5.4.
 
-use crate::support::{LOCATOR, RECORD, block, fields, ipv4_block, worked_record};
 use lisp_records::{
     Addr, Bytes, Family, Locator, MapRecord, Prefix, RecordFault, Records, read_record,
     write_record,
 };
+use lisp_samples::{LOCATOR, RECORD, block, fields, ipv4_block, worked_record};
 use std::test::Fail;
 
 /// A record with no locator and with bits past its mask.

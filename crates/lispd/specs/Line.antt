@@ -6,7 +6,8 @@ use Rattle.std.specs.Io.KnownBytes.{Appends}
 use Rattle.hex.specs.Hex.{decode_of, encode_lower}
 use Rattle.hex.specs.declared.error.FromHexError.{FromHexError}
 use Rattle.lispd.specs.declared.refusal.Refusal.TheVariants.{OutOfMemory}
-use Rattle.lispd.specs.Setup.{Setup}
+use Rattle.lisp_sites.specs.Site.{SiteEntry}
+use Rattle.lispd.specs.Setup.{Setup, sites_of}
 use Rattle.lispd.specs.Refusal.{refusal_words}
 use Rattle.lispd.specs.Answer.{Answer, answer_of}
 
@@ -17,14 +18,14 @@ answer_words (Ok None) = codes "accepted"
 answer_words (Err refusal) = refusal_words refusal
 
 -- what stands for bytes that were decoded, or for a text that is not hexadecimal
-abbrev pub decoded_words : Setup → Result (List ℕ) FromHexError → List ℕ
-decoded_words s (Ok bytes) = answer_words (answer_of s bytes)
-decoded_words s (Err _) = codes "refused " ++ decimal 94
+abbrev pub decoded_words : List SiteEntry → Result (List ℕ) FromHexError → List ℕ
+decoded_words sites (Ok bytes) = answer_words (answer_of sites bytes)
+decoded_words sites (Err _) = codes "refused " ++ decimal 94
 
 -- the line, without its line feed, that answers an input: its first line is read, which ends with a
 -- line feed, or a carriage return and a line feed, or the input
 abbrev pub line_of : Setup → List ℕ → List ℕ
-line_of s input = decoded_words s (decode_of (first_line input))
+line_of s input = decoded_words (sites_of s) (decode_of (first_line input))
 
 -- the words where the server had no memory
 abbrev pub no_memory_words : List ℕ

@@ -1,15 +1,12 @@
 -- The options of `answer`, as `clap` matched them: each in its form, the defaults where they are
 -- absent, in the order --site, --key, --secret, --prefix.
-use Rattle.std.specs.Prelude.{◌≡◌, ℕ, Bool, false, ◌&&◌, List, length, codes, Option, Some, None, Result, Ok, Err, nat_le, nat_lt, if◌then◌else◌}
-use Rattle.std.specs.Option.{option_map}
-use Rattle.std.specs.Result.{result_ok}
+use Rattle.std.specs.Prelude.{◌≡◌, ℕ, Bool, false, List, codes, Option, Some, None, Result, Ok, Err, nat_lt, if◌then◌else◌}
 use Rattle.std.specs.Str.{bytes_eq}
-use Rattle.std.specs.Int.{w64, from_be_bytes}
-use Rattle.hex.specs.Hex.{decode_of, decode_sized}
 use Rattle.clap.specs.Words.{first_value, found_of}
 use Rattle.clap.specs.declared.parser.matches.ArgMatches.{ArgMatches}
 use denote.Ref.{Bor}
 use Rattle.lisp_sites.specs.Number.{number_of}
+use Rattle.lisp_sites.specs.Form.{site_id_of, secret_text_of}
 use Rattle.lisp_sites.specs.Reading.{prefix_of}
 use Rattle.lispd.specs.declared.fault.SetupFault.{SetupFault}
 use Rattle.lispd.specs.declared.fault.SetupFault.TheVariants.{BadOption, OutOfMemory}
@@ -34,17 +31,9 @@ abbrev pub or_default : {X : Type 0} → X → (List ℕ → Option X) → Optio
 or_default x form None = Some x
 or_default x form (Some text) = form text
 
--- a Site-ID: 16 hexadecimal digits
-abbrev pub site_of : List ℕ → Option ℕ
-site_of text = option_map (from_be_bytes w64) (result_ok (decode_sized text 8))
-
 -- a Key ID: a decimal number up to 255
 abbrev pub key_of : List ℕ → Option ℕ
 key_of text = number_of text >>= λ n. such (nat_lt n 256) n
-
--- a secret: hexadecimal text of 1 to 256 bytes
-abbrev pub secret_of : List ℕ → Option (List ℕ)
-secret_of text = result_ok (decode_of text) >>= λ bytes. such (nat_le 1 (length bytes) && nat_le (length bytes) 256) bytes
 
 -- a flag is given as `true`
 abbrev pub flag_of : Option (List ℕ) → Bool
@@ -53,9 +42,9 @@ flag_of (Some text) = bytes_eq text (codes "true")
 
 unfoldable pub setup_of : Option (Bor ArgMatches) → Option Setup
 setup_of matches = do
-  site ← or_default default_setup.site site_of (option_text matches (codes "site"))
+  site ← or_default default_setup.site site_id_of (option_text matches (codes "site"))
   key ← or_default default_setup.key key_of (option_text matches (codes "key"))
-  secret ← or_default default_setup.secret secret_of (option_text matches (codes "secret"))
+  secret ← or_default default_setup.secret secret_text_of (option_text matches (codes "secret"))
   prefix ← or_default default_setup.prefix prefix_of (option_text matches (codes "prefix"))
   Some (record {
     site = site;

@@ -22,7 +22,7 @@ use std::io::{Read, Write};
 /// The line ends with a line feed, before which a carriage return is dropped, or with the input; it
 /// has at most 1,048,576 bytes, its line feed among them, and nothing behind it is read. Faults:
 /// `Read` where a read fails or 2,097,152 reads are not enough, `TooLong`, `OutOfMemory` where there
-/// is no memory for the line or its answer, `Write`. Nothing was written at all but `Write`.
+/// is no memory for the site, the line or its answer, `Write`. Nothing was written at all but `Write`.
 pub fn answer<A: Allocator + Copy, B: Allocator, R: Read, W: Write>(
     alloc: A,
     setup: &AnswerSetup<B>,
@@ -35,8 +35,9 @@ pub fn answer<A: Allocator + Copy, B: Allocator, R: Read, W: Write>(
     ensures too_long { IsErrOf result AnswerFault.TooLong → IfSome (R.remaining reader.old) (λ input. most_bytes < length (take_through 10 input)) }
     ensures err { IfErr result (λ e. e ≢ AnswerFault.Write → Keeps (W.contents writer.old) (W.contents writer.new)) }
 {
+    let sites = setup.sites(alloc)?;
     let line = read_line(alloc, reader)?;
-    let mut text = words_for(alloc, setup, content(&line))?;
+    let mut text = words_for(alloc, &sites, content(&line))?;
     text.push('\n')?;
     match writer.write_all(text.as_bytes()) {
         Ok(()) => Ok(()),

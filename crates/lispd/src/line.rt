@@ -8,8 +8,8 @@ ghost use Rattle.lispd.specs.Line.{answer_words, decoded_words, AreWords};
 
 use crate::refusal::Refusal;
 use crate::server::respond;
-use crate::site::AnswerSetup;
 use hex::FromHexError;
+use lisp_sites::Sites;
 use std::alloc::{AllocError, Allocator};
 
 /// The number of a line that isn't hexadecimal.
@@ -19,13 +19,13 @@ const NOT_HEXADECIMAL: u16 = 94;
 /// refusal; `refused 94` where the line isn't hexadecimal.
 pub(crate) fn words_for<A: Allocator + Copy, B: Allocator>(
     alloc: A,
-    setup: &AnswerSetup<B>,
+    sites: &Sites<B>,
     digits: &[u8],
 ) -> Result<String<A>, AllocError>
-    ensures { IfOk result (λ words. AreWords (string_bytes words) (decoded_words setup.now (decode_of digits.now))) }
+    ensures { IfOk result (λ words. AreWords (string_bytes words) (decoded_words sites.now (decode_of digits.now))) }
 {
     match hex::decode(alloc, digits) {
-        Ok(bytes) => words_of(alloc, respond(alloc, setup, &bytes)),
+        Ok(bytes) => words_of(alloc, respond(alloc, sites, &bytes)),
         Err(FromHexError::OutOfMemory) => Err(AllocError),
         Err(_) => format!(in alloc; "refused {NOT_HEXADECIMAL}"),
     }

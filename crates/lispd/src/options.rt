@@ -4,14 +4,14 @@ ghost use Rattle.std.specs.Prelude.{◌≡◌, codes};
 ghost use Rattle.std.specs.Option.{option_map};
 ghost use Rattle.lisp_sites.specs.Reading.{prefix_of};
 ghost use Rattle.lispd.specs.Setup.{default_setup};
-ghost use Rattle.lispd.specs.Options.{Gives, option_text, or_default, site_of, key_of, secret_of, flag_of, setup_of};
+ghost use Rattle.lisp_sites.specs.Form.{site_id_of, secret_text_of};
+ghost use Rattle.lispd.specs.Options.{Gives, option_text, or_default, key_of, flag_of, setup_of};
 
 use crate::fault::SetupFault;
 use crate::site::{AnswerSetup, DEFAULT_KEY, DEFAULT_SECRET, DEFAULT_SITE, default_prefix};
 use clap::ArgMatches;
-use hex::{FromHex, FromHexError};
 use lisp_records::{Bytes, Prefix};
-use lisp_sites::{number_from_text, prefix_from_text};
+use lisp_sites::{number_from_text, prefix_from_text, secret_from_text, site_id_from_text};
 use std::alloc::Allocator;
 
 /// The setup that the options ask for, in memory of `alloc`: `--site` 16 hexadecimal digits, `--key`
@@ -54,15 +54,12 @@ fn is_given(matches: Option<&ArgMatches<'_>>, id: &str) -> bool
 }
 
 fn site(matches: Option<&ArgMatches<'_>>) -> Result<u64, SetupFault>
-    ensures { Gives (λ n. n) result (or_default default_setup.site site_of (option_text matches.entry (codes "site"))) }
+    ensures { Gives (λ n. n) result (or_default default_setup.site site_id_of (option_text matches.entry (codes "site"))) }
 {
     let Some(digits) = text(matches, "site") else {
         return Ok(DEFAULT_SITE);
     };
-    match <[u8; 8]>::from_hex(digits) {
-        Ok(bytes) => Ok(u64::from_be_bytes(bytes)),
-        Err(_) => Err(SetupFault::BadOption),
-    }
+    site_id_from_text(digits).ok_or(SetupFault::BadOption)
 }
 
 fn key(matches: Option<&ArgMatches<'_>>) -> Result<u8, SetupFault>
@@ -78,15 +75,14 @@ fn key(matches: Option<&ArgMatches<'_>>) -> Result<u8, SetupFault>
 }
 
 fn secret<A: Allocator>(alloc: A, matches: Option<&ArgMatches<'_>>) -> Result<Bytes<A>, SetupFault>
-    ensures { Gives (λ b. b) result (or_default default_setup.secret secret_of (option_text matches.entry (codes "secret"))) }
+    ensures { Gives (λ b. b) result (or_default default_setup.secret secret_text_of (option_text matches.entry (codes "secret"))) }
 {
     let Some(digits) = text(matches, "secret") else {
         return Ok(Bytes::from_vec(Vec::from_slice(alloc, DEFAULT_SECRET)?));
     };
-    match hex::decode(alloc, digits) {
-        Ok(bytes) if !bytes.is_empty() && bytes.len() <= 256 => Ok(Bytes::from_vec(bytes)),
-        Err(FromHexError::OutOfMemory) => Err(SetupFault::OutOfMemory),
-        _ => Err(SetupFault::BadOption),
+    match secret_from_text(alloc, digits)? {
+        Some(secret) => Ok(secret),
+        None => Err(SetupFault::BadOption),
     }
 }
 

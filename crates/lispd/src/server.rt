@@ -2,25 +2,26 @@
 
 ghost use Rattle.std.specs.Prelude.{◌≡◌, Ok};
 ghost use Rattle.lisp_messages.specs.Meaning.{said};
-ghost use Rattle.lispd.specs.Answer.{Answers, first_not_allowed, refusal_of, reply_of, said_answer, answer_of};
+ghost use Rattle.lispd.specs.Answer.{Answers, Reads, first_not_allowed, accepted_under, reply_of, said_answer, answer_of};
 
 use crate::refusal::Refusal;
-use crate::site::AnswerSetup;
 use lisp_messages::{MapNotify, MapRegister, Message, authentic, read_message, write_notify};
+use lisp_records::MapRecord;
+use lisp_sites::{Site, Sites};
 use std::alloc::Allocator;
 
-/// What a fresh server with this setup answers to the bytes: the Map-Notify where the Map-Register
+/// What a fresh server with these sites answers to the bytes: the Map-Notify where the Map-Register
 /// wants one, in memory of `alloc`, or the refusal of the first check that fails.
 #[tactic(auto, unfolding(crate::specs::Answer::answer_of))]
 pub(crate) fn respond<A: Allocator + Copy, B: Allocator>(
     alloc: A,
-    setup: &AnswerSetup<B>,
+    sites: &Sites<B>,
     bytes: &[u8],
 ) -> Result<Option<Vec<u8, A>>, Refusal>
-    ensures { Answers result (answer_of setup.now bytes.now) }
+    ensures { Answers result (answer_of sites.now bytes.now) }
 {
     match read_message(alloc, bytes) {
-        Ok(message) => respond_to(alloc, setup, bytes, message),
+        Ok(message) => respond_to(alloc, sites, bytes, message),
         Err(fault) => Err(Refusal::of_read(fault)),
     }
 }
@@ -28,16 +29,16 @@ pub(crate) fn respond<A: Allocator + Copy, B: Allocator>(
 // The answer to a message that was read from the bytes.
 fn respond_to<A: Allocator + Copy, B: Allocator>(
     alloc: A,
-    setup: &AnswerSetup<B>,
+    sites: &Sites<B>,
     bytes: &[u8],
     message: Message<A>,
 ) -> Result<Option<Vec<u8, A>>, Refusal>
-    ensures { Answers result (said_answer setup.now bytes.now (said message)) }
+    ensures { Answers result (said_answer sites.now bytes.now (said message)) }
 {
     match message {
-        Message::Register(register) => match refusal(setup, bytes, &register) {
-            Some(refusal) => Err(refusal),
-            None => reply(alloc, setup, register),
+        Message::Register(register) => match accepted_under(sites, bytes, &register) {
+            Ok(secret) => reply(alloc, secret, register),
+            Err(refusal) => Err(refusal),
         },
         Message::Notify(notify) => {
             if notify.ack {
@@ -49,38 +50,48 @@ fn respond_to<A: Allocator + Copy, B: Allocator>(
     }
 }
 
-// The first check that a Map-Register fails.
-fn refusal<A: Allocator, B: Allocator>(
-    setup: &AnswerSetup<B>,
+// The secret that a Map-Register is accepted under, or the first check that it fails.
+#[tactic(auto, unfolding(crate::specs::Answer::accepted_under))]
+fn accepted_under<'s, A: Allocator, B: Allocator>(
+    sites: &'s Sites<B>,
     bytes: &[u8],
     register: &MapRegister<A>,
-) -> Option<Refusal>
-    ensures { result ≡ refusal_of setup.now bytes.now register.now }
+) -> Result<&'s [u8], Refusal>
+    ensures { Reads (λ s. s.now) result (accepted_under sites.now bytes.now register.now) }
 {
-    if register.site != setup.site {
-        return Some(Refusal::UnknownSite);
-    }
-    if register.key_id != setup.key {
-        return Some(Refusal::UnknownKey);
-    }
-    if !authentic(bytes, setup.secret.as_slice()) {
-        return Some(Refusal::BadAuth);
+    let site = sites.site(register.site).ok_or(Refusal::UnknownSite)?;
+    let secret = site.secret(register.key_id).ok_or(Refusal::UnknownKey)?;
+    if !authentic(bytes, secret) {
+        return Err(Refusal::BadAuth);
     }
     if register.merge {
-        return Some(Refusal::MergeAsked);
+        return Err(Refusal::MergeAsked);
     }
-    setup
-        .first_not_allowed(register.records.as_slice())
-        .map(Refusal::NotAllowed)
+    match first_not_allowed(site, register.records.as_slice()) {
+        Some(place) => Err(Refusal::NotAllowed(place)),
+        None => Ok(secret),
+    }
+}
+
+// The place, from 0 on, of the first record whose prefix the site doesn't allow.
+fn first_not_allowed<A: Allocator, B: Allocator>(
+    site: &Site<B>,
+    records: &[MapRecord<A>],
+) -> Option<usize>
+    ensures { result ≡ first_not_allowed site.now records.now }
+{
+    records
+        .iter()
+        .position(|record| !site.allows(&record.eid()))
 }
 
 // The Map-Notify that an accepted Map-Register wants, if it wants one.
-fn reply<A: Allocator + Copy, B: Allocator>(
+fn reply<A: Allocator + Copy>(
     alloc: A,
-    setup: &AnswerSetup<B>,
+    secret: &[u8],
     register: MapRegister<A>,
 ) -> Result<Option<Vec<u8, A>>, Refusal>
-    ensures { Answers result (Ok (reply_of setup.now register)) }
+    ensures { Answers result (Ok (reply_of secret.now register)) }
 {
     if !register.want_notify {
         return Ok(None);
@@ -91,5 +102,5 @@ fn reply<A: Allocator + Copy, B: Allocator>(
         key_id: register.key_id,
         records: register.records,
     };
-    Ok(Some(write_notify(alloc, &notify, setup.secret.as_slice())?))
+    Ok(Some(write_notify(alloc, &notify, secret)?))
 }

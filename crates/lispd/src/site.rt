@@ -3,7 +3,8 @@
 ghost use Rattle.std.specs.Prelude.{◌≡◌, IfOk};
 ghost use Rattle.lispd.specs.Block.{default_block};
 
-use lisp_records::{Addr, Bytes, MapRecord, Prefix};
+use lisp_records::{Addr, Bytes, Prefix};
+use lisp_sites::Sites;
 use std::alloc::{AllocError, Allocator, Global};
 use std::marker::Model;
 
@@ -40,8 +41,7 @@ impl<A: Allocator> Model for AnswerSetup<A> {
 }
 
 impl<A: Allocator> AnswerSetup<A> {
-    ghost use Rattle.lispd.specs.Setup.{is_allowed, default_setup};
-    ghost use Rattle.lispd.specs.Answer.{first_not_allowed};
+    ghost use Rattle.lispd.specs.Setup.{default_setup, sites_of};
 
     /// The setup where nothing else is asked: site 0000000000000001, key 1, the secret `secret`,
     /// prefix 10.1.0.0/16 without more-specifics.
@@ -58,20 +58,18 @@ impl<A: Allocator> AnswerSetup<A> {
         })
     }
 
-    /// Whether the site's routers may register the prefix.
-    pub(crate) fn allows(&self, prefix: &Prefix) -> bool
-        ensures { result ≡ is_allowed self.now prefix.now }
+    /// The sites of the fresh server: this one alone, in memory of `alloc`.
+    pub(crate) fn sites<B: Allocator + Copy>(&self, alloc: B) -> Result<Sites<B>, AllocError>
+        ensures { IfOk result (λ sites. sites ≡ sites_of self.now) }
     {
-        self.prefix == *prefix || self.more_specifics && self.prefix.covers(prefix)
-    }
-
-    /// The place, from 0 on, of the first record whose prefix isn't allowed.
-    pub(crate) fn first_not_allowed<B: Allocator>(&self, records: &[MapRecord<B>]) -> Option<usize>
-        ensures { result ≡ first_not_allowed self.now records.now }
-    {
-        records
-            .iter()
-            .position(|record| !self.allows(&record.eid()))
+        Sites::single(
+            alloc,
+            self.site,
+            self.key,
+            self.secret.as_slice(),
+            self.prefix,
+            self.more_specifics,
+        )
     }
 }
 

@@ -5,8 +5,8 @@ use Rattle.lisp_records.specs.Record.{Mapping}
 use Rattle.lisp_records.proofs.WrittenLemmas.{length-written}
 use Rattle.lisp_records.proofs.record.MapRecord.written_len.Goals as goal
 
-pub returns : goal.returns
-returns g c =
+pub returns-clause-len : goal.returns-clause-len
+returns-clause-len g c =
     let all = take_all c.loop-locator.locator-index c.deref-locator-items.result.now c.loop-locator-test.false in
     let items : c.deref-locator-items.result.now ≡ c.args.self.now.locators = c.deref-locator-items.ensures.value ∙ ap (λ (m : Mapping). m.locators) c.self.view_is in
     let whole : IsWhole c.args.self.now.eid.addr = rw (← c.self.view_is) c.addr.ensures.whole in

@@ -1,7 +1,7 @@
 //! Texts of numbers, addresses and prefixes.
 
-use crate::support::ipv4_block;
 use lisp_records::{Addr, Prefix};
+use lisp_samples::ipv4_block;
 use lisp_sites::{addr_from_text, number_from_text, prefix_from_text};
 use std::test::Fail;
 

@@ -1,0 +1,61 @@
+-- EID-Prefixes that do not occur again later are those of which each two differ.
+use Rattle.std.proofs.Common.{◌≡◌, ◌≢◌, Bool, true, false, ◌||◌, List, [], ◌∷◌, map, refl, ap}
+use Rattle.std.specs.Prelude.{◌↔◌}
+use Rattle.std.specs.Bool.{Decides}
+use Rattle.std.specs.List.{AllByRecursion, AllPairs, IsDistinct}
+use Rattle.std.proofs.lemmas.Bool.Decides.{Decides-eqb, Decides-and}
+use Rattle.std.proofs.lemmas.Slice.Eq.{bytes_eq-Decides}
+use Rattle.std.proofs.lemmas.Map.Made.{AllPairs-from_IsDistinct, IsDistinct-from_AllPairs}
+use Rattle.lisp_records.specs.declared.address.Addr.{Addr}
+use Rattle.lisp_records.specs.declared.address.Addr.TheVariants.{V4, V6}
+use Rattle.lisp_records.specs.Address.{Block, addr_eq, block_eq}
+use Rattle.lisp_records.specs.Record.{Mapping}
+use Rattle.lisp_records.specs.Database.{has_prefix, repeats}
+
+-- the test of addresses decides whether they are equal
+addr_eq-Decides : (a b : Addr) → Decides (addr_eq a b) (a ≡ b)
+addr_eq-Decides (V4 a) (V4 b) = (λ t. ap V4 ((bytes_eq-Decides a b).0 t), λ e. (bytes_eq-Decides a b).1 cc)
+addr_eq-Decides (V4 a) (V6 b) = (λ t. absurd cc, λ e. absurd cc)
+addr_eq-Decides (V6 a) (V4 b) = (λ t. absurd cc, λ e. absurd cc)
+addr_eq-Decides (V6 a) (V6 b) = (λ t. ap V6 ((bytes_eq-Decides a b).0 t), λ e. (bytes_eq-Decides a b).1 cc)
+
+-- the test of blocks decides whether they are equal
+block_eq-Decides : (a b : Block) → Decides (block_eq a b) (a ≡ b)
+block_eq-Decides a b =
+    let both = Decides-and _ _ (addr_eq-Decides a.addr b.addr) (Decides-eqb a.mask_len b.mask_len) in
+    (λ t. (let e = both.0 t in λ i. record { addr = e.0 i; mask_len = e.1 i }), λ e. both.1 (ap (λ (x : Block). x.addr) e, ap (λ (x : Block). x.mask_len) e))
+
+-- neither of two tests is passed
+neither : (a b : Bool) → (a || b) ≡ false → (a ≡ false) × (b ≡ false)
+neither true b e = absurd cc
+neither false b e = (refl, e)
+
+-- of two tests neither is passed
+none_of : (a b : Bool) → a ≡ false → b ≡ false → (a || b) ≡ false
+none_of a b x y = rw (x, y) refl
+
+-- no record is of a prefix that differs from all of theirs
+apart : (eid : Block) (ms : List Mapping) → has_prefix eid ms ≡ false → AllByRecursion (λ b. block_eq eid b ≡ false) (map (λ m. m.eid) ms)
+apart eid [] none = tt
+apart eid (m ∷ ms) none = (let n = neither (block_eq eid m.eid) (has_prefix eid ms) none in (n.0, apart eid ms n.1))
+
+-- the converse
+from_apart : (eid : Block) (ms : List Mapping) → AllByRecursion (λ b. block_eq eid b ≡ false) (map (λ m. m.eid) ms) → has_prefix eid ms ≡ false
+from_apart eid [] all = refl
+from_apart eid (m ∷ ms) all = none_of (block_eq eid m.eid) (has_prefix eid ms) all.0 (from_apart eid ms all.1)
+
+-- no prefix is repeated: each differs from the later ones
+distinct : (ms : List Mapping) → repeats ms ≡ false → IsDistinct block_eq (map (λ m. m.eid) ms)
+unfolding repeats IsDistinct
+distinct [] none = tt
+distinct (m ∷ ms) none = (let n = neither (has_prefix m.eid ms) (repeats ms) none in (apart m.eid ms n.0, distinct ms n.1))
+
+-- the converse
+from_distinct : (ms : List Mapping) → IsDistinct block_eq (map (λ m. m.eid) ms) → repeats ms ≡ false
+unfolding repeats IsDistinct
+from_distinct [] all = refl
+from_distinct (m ∷ ms) all = none_of (has_prefix m.eid ms) (repeats ms) (from_apart m.eid ms all.0) (from_distinct ms all.1)
+
+-- no prefix is repeated exactly where each two differ
+pub distinct_prefixes : (ms : List Mapping) → (repeats ms ≡ false) ↔ AllPairs (λ a b. a ≢ b) (map (λ m. m.eid) ms)
+distinct_prefixes ms = (λ none. AllPairs-from_IsDistinct block_eq-Decides (map (λ m. m.eid) ms) (distinct ms none), λ all. from_distinct ms (IsDistinct-from_AllPairs block_eq-Decides (map (λ m. m.eid) ms) all))

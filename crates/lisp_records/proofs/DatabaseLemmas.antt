@@ -1,0 +1,39 @@
+-- Records whose EID-Prefixes are compared with those of the later ones, one after the other.
+use Rattle.std.proofs.Common.{◌≡◌, ℕ, ◌+◌, ◌-◌, ◌<◌, ◌≤◌, Bool, true, false, ◌||◌, List, length, get_or, take, drop, refl, sym, ap, ◌∙◌, add-one, arith}
+use Rattle.std.proofs.Math.Seq.{drop-cons}
+use Rattle.std.proofs.Math.ListN.{drop_of_length-le}
+use Rattle.std.proofs.lemmas.List.{take_all, length-drop}
+use Rattle.lisp_records.specs.Address.{Block}
+use Rattle.lisp_records.specs.Record.{Mapping}
+use Rattle.lisp_records.specs.Database.{has_prefix, repeats}
+
+-- the records behind a place
+abbrev pub behind : List Mapping → ℕ → List Mapping
+behind ms i = take (length ms - (i + 1)) (drop (i + 1) ms)
+
+behind-is : (ms : List Mapping) (i : ℕ) → behind ms i ≡ drop (i + 1) ms
+behind-is ms i = take_all (length ms - (i + 1)) (drop (i + 1) ms) (omega (arith, length-drop (i + 1) ms))
+
+-- the next record is compared with those after it
+next_repeats : (ms : List Mapping) (i : ℕ) (m : Mapping) (eid : Block) → i < length ms → m ≡ get_or ms i m → eid ≡ m.eid → repeats (drop i ms) ≡ (has_prefix eid (behind ms i) || repeats (drop (i + 1) ms))
+unfolding repeats
+next_repeats ms i m eid lt at of =
+    let here : eid ≡ (get_or ms i m).eid = of ∙ ap (λ (x : Mapping). x.eid) at in
+    rw (behind-is ms i, here, drop-cons ms i m lt, add-one) refl
+
+-- a later record is of the same EID-Prefix
+pub repeats_here : (ms : List Mapping) (i : ℕ) (m : Mapping) (eid : Block) → i < length ms → m ≡ get_or ms i m → eid ≡ m.eid → repeats (drop i ms) ≡ repeats ms → has_prefix eid (behind ms i) ≡ true → true ≡ repeats ms
+repeats_here ms i m eid lt at of so_far met =
+    sym (next_repeats ms i m eid lt at of ∙ ap (λ (b : Bool). b || repeats (drop (i + 1) ms)) met) ∙ so_far
+
+-- no later record is of the same EID-Prefix
+pub repeats_goes_on : (ms : List Mapping) (i : ℕ) (m : Mapping) (eid : Block) → i < length ms → m ≡ get_or ms i m → eid ≡ m.eid → repeats (drop i ms) ≡ repeats ms → has_prefix eid (behind ms i) ≡ false → repeats (drop (i + 1) ms) ≡ repeats ms
+repeats_goes_on ms i m eid lt at of so_far none =
+    sym (next_repeats ms i m eid lt at of ∙ ap (λ (b : Bool). b || repeats (drop (i + 1) ms)) none) ∙ so_far
+
+-- no record is left
+pub repeats_ends : (ms : List Mapping) (i : ℕ) → length ms ≤ i → repeats (drop i ms) ≡ repeats ms → false ≡ repeats ms
+unfolding repeats
+repeats_ends ms i le so_far =
+    let none : repeats (drop i ms) ≡ false = rw (drop_of_length-le ms le) refl in
+    sym none ∙ so_far

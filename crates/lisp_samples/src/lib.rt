@@ -1,0 +1,66 @@
+//! What both crates of tests share: the worked record and its secret, and what a record holds. Nothing
+//! here is part of the program.
+#![tactic(auto)]
+
+use lisp_records::{Addr, Locator, MapRecord, Prefix};
+use std::alloc::{Allocator, Global};
+use std::test::Fail;
+
+/// The worked record, as it is written.
+pub const RECORD: [u8; 28] = [
+    0, 0, 0x05, 0xa0, // TTL: 1440 minutes
+    1, 16, // one locator, a mask of 16 bits
+    0x10, 0, // ACT 0, authoritative
+    0, 0, // Map-Version 0
+    0, 1, 10, 1, 0, 0, // IPv4, 10.1.0.0
+    1, 100, 255, 0, // priority, weight, multicast priority and weight
+    0, 0x05, // local and reachable, not probed
+    0, 1, 192, 0, 2, 1, // IPv4, 192.0.2.1
+];
+
+/// The locator of the worked record.
+pub const LOCATOR: Locator = Locator {
+    priority: 1,
+    weight: 100,
+    m_priority: 255,
+    m_weight: 0,
+    local: true,
+    probe: false,
+    reachable: true,
+    addr: Addr::V4([192, 0, 2, 1]),
+};
+
+/// What the worked messages are authentic under.
+pub const SECRET: &[u8] = b"secret";
+
+/// What `MapRecord::new` takes.
+pub type Fields<'a> = (u32, u8, bool, u16, Prefix, &'a [Locator]);
+
+/// What a record holds.
+pub fn fields<A: Allocator>(record: &MapRecord<A>) -> Fields<'_> {
+    (
+        record.ttl(),
+        record.act(),
+        record.authoritative(),
+        record.version(),
+        record.eid(),
+        record.locators(),
+    )
+}
+
+/// The block of the addresses that begin as this one does.
+pub fn block(addr: Addr, mask_len: u8) -> Result<Prefix, Fail> {
+    Ok(Prefix::new(addr, mask_len).ok_or("the mask is too long")?)
+}
+
+/// A block of IPv4 addresses.
+pub fn ipv4_block(octets: [u8; 4], mask_len: u8) -> Result<Prefix, Fail> {
+    block(Addr::V4(octets), mask_len)
+}
+
+/// The worked record, built.
+pub fn worked_record(alloc: Global) -> Result<MapRecord, Fail> {
+    let eid = ipv4_block([10, 1, 0, 0], 16)?;
+    let locators = vec![in alloc; LOCATOR]?;
+    Ok(MapRecord::new(1440, 0, true, 0, eid, locators).ok_or("a field is too large")?)
+}

@@ -1,0 +1,96 @@
+//! The configuration of a network: its sites, Map-Servers and routers.
+
+ghost use Rattle.std.specs.Prelude.{◌≡◌};
+ghost use Rattle.toml.specs.Parse.{parse_document};
+ghost use Rattle.toml.specs.View.{view};
+ghost use Rattle.lisp_sites.specs.Table.{Gives, document_of, configuration_of, config_of};
+
+use crate::fault::ConfigFault;
+use crate::router::{RouterEntry, read_routers};
+use crate::server::{ServerEntry, read_servers};
+use crate::site_entries::read_sites;
+use crate::sites::Sites;
+use std::alloc::{Allocator, Global};
+use std::marker::Model;
+use toml::Value;
+
+/// What a configuration file says.
+#[derive(Debug, Drop)]
+pub struct Config<A: Allocator = Global> {
+    sites: Sites<A>,
+    servers: Vec<ServerEntry<A>, A>,
+    routers: Vec<RouterEntry<A>, A>,
+}
+
+impl<A: Allocator> Model for Config<A> {
+    ghost use Rattle.lisp_sites.specs.Configuration.{Configuration};
+
+    ghost Value = { Configuration };
+
+    ghost view = { λ c. record { sites = c.sites; servers = c.servers.items; routers = c.routers.items } };
+}
+
+impl<A: Allocator> Config<A> {
+    /// The sites, in the order of the file.
+    pub fn sites(&self) -> &Sites<A>
+        ensures { result.now ≡ self.now.sites }
+    {
+        &self.sites
+    }
+
+    /// The Map-Servers, in the order of the file.
+    pub fn servers(&self) -> &[ServerEntry<A>]
+        ensures { result.now ≡ self.now.servers }
+    {
+        &self.servers
+    }
+
+    /// The site routers, in the order of the file.
+    pub fn routers(&self) -> &[RouterEntry<A>]
+        ensures { result.now ≡ self.now.routers }
+    {
+        &self.routers
+    }
+}
+
+impl<A: Allocator + Copy> Config<A> {
+    /// Reads a configuration file, TOML, into memory of `alloc`; `heap` serves the reading of TOML
+    /// alone. The first fault found is the answer: `Toml` where the text is no TOML; then sites,
+    /// Map-Servers and routers, each entry field by field in the order of [`Field`](crate::Field):
+    /// `Missing` for an absent field without a default, `BadValue` for a value of another type or
+    /// form, out of its range, or naming what isn't there, `Repeated` where no two may be alike.
+    pub fn from_toml(heap: Global, alloc: A, text: &str) -> Result<Config<A>, ConfigFault>
+        ensures { Gives (λ c. c) result (config_of (parse_document text.now)) }
+    {
+        let document = read_document(heap, text)?;
+        read_configuration(alloc, &document)
+    }
+}
+
+// The text as a TOML value.
+fn read_document(heap: Global, text: &str) -> Result<Value, ConfigFault>
+    ensures { Gives view result (document_of (parse_document text.now)) }
+{
+    match toml::table_from_str(heap, text) {
+        Ok(table) => Ok(Value::Table(table)),
+        Err(error) if error.is_memory() => Err(ConfigFault::OutOfMemory),
+        Err(_) => Err(ConfigFault::Toml),
+    }
+}
+
+#[tactic(auto, unfolding(crate::specs::Table::configuration_of))]
+fn read_configuration<A: Allocator + Copy>(
+    alloc: A,
+    document: &Value,
+) -> Result<Config<A>, ConfigFault>
+    ensures { Gives (λ c. c) result (configuration_of (view document.now)) }
+{
+    let sites = Sites::from_vec(read_sites(alloc, document)?);
+    let servers = read_servers(alloc, document)?;
+    let routers = read_routers(alloc, document, &sites, &servers)?;
+    Ok(Config {
+        sites,
+        servers,
+        routers,
+    })
+}

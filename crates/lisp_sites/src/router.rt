@@ -1,0 +1,285 @@
+//! Site routers as a configuration names them.
+
+ghost use Rattle.std.specs.Prelude.{◌≡◌, []};
+ghost use Rattle.toml.specs.View.{view, items_view};
+ghost use Rattle.lisp_sites.specs.Table.{Gives, Reads, field, each, has_router, fresh_router_name, router_node, router_site, router_key, router_identity, place_of, place_at, places_of, router_flags, record_at, as_database, database_at, router_at, routers_of};
+
+use crate::fault::ConfigFault;
+use crate::field::Field;
+use crate::name::Name;
+use crate::places::Places;
+use crate::record_text::record_from_text;
+use crate::server::{ServerEntry, has_server, server_place};
+use crate::site::{Site, has_key};
+use crate::sites::Sites;
+use crate::value::{address, array, byte, check_table, flag, name, site_id, tables, xtr};
+use lisp_records::{Addr, Database, MapRecord, RouterId};
+use std::alloc::{Allocator, Global};
+use std::marker::Model;
+use toml::Value;
+
+/// A site router of the configuration.
+#[derive(Debug, Drop)]
+pub struct RouterEntry<A: Allocator = Global> {
+    /// Its name, which no other node has.
+    pub name: Name<A>,
+    /// Where it receives.
+    pub address: Addr,
+    /// Its site and xTR-ID.
+    pub me: RouterId,
+    /// The key of its site that it registers under.
+    pub key_id: u8,
+    /// The Map-Servers that it registers with, as places in the configuration's list.
+    pub servers: Places<A>,
+    /// P: it asks for proxy Map-Replies.
+    pub proxy: bool,
+    /// T: its registrations time out by the TTL of their records.
+    pub use_ttl: bool,
+    /// What it registers when it starts.
+    pub database: Database<A>,
+}
+
+impl<A: Allocator> Model for RouterEntry<A> {
+    ghost use Rattle.lisp_sites.specs.Configuration.{Router};
+
+    ghost Value = { Router };
+
+    ghost view = { λ r. record { name = r.name; address = r.address; me = r.me; key_id = r.key_id; servers = r.servers; proxy = r.proxy; use_ttl = r.use_ttl; database = r.database } };
+}
+
+/// The routers of the document, in its order; they name the sites and Map-Servers given.
+pub(crate) fn read_routers<A: Allocator + Copy>(
+    alloc: A,
+    document: &Value,
+    sites: &Sites<A>,
+    servers: &[ServerEntry<A>],
+) -> Result<Vec<RouterEntry<A>, A>, ConfigFault>
+    ensures { Gives (λ routers. routers.items) result (routers_of sites.now servers.now (view document.now)) }
+{
+    each_router(
+        alloc,
+        tables(document, "router", Field::Router)?,
+        sites,
+        servers,
+    )
+}
+
+fn each_router<A: Allocator + Copy>(
+    alloc: A,
+    entries: &[Value],
+    sites: &Sites<A>,
+    servers: &[ServerEntry<A>],
+) -> Result<Vec<RouterEntry<A>, A>, ConfigFault>
+    ensures { Gives (λ routers. routers.items) result (each (router_at sites.now servers.now) [] (items_view entries.now)) }
+{
+    let mut routers = Vec::new(alloc);
+    for entry in entries {
+        let router = read_router(alloc, entry, sites, servers, &routers)?;
+        routers.push(router)?;
+    }
+    Ok(routers)
+}
+
+#[tactic(auto, unfolding(crate::specs::Table::router_at))]
+fn read_router<A: Allocator + Copy>(
+    alloc: A,
+    entry: &Value,
+    sites: &Sites<A>,
+    servers: &[ServerEntry<A>],
+    before: &[RouterEntry<A>],
+) -> Result<RouterEntry<A>, ConfigFault>
+    ensures { Gives (λ r. r) result (router_at sites.now servers.now before.now (view entry.now)) }
+{
+    let (name, address) = read_node(alloc, entry, servers, before)?;
+    let (me, key_id) = read_identity(entry, sites)?;
+    let servers = read_places(alloc, entry, servers)?;
+    let (proxy, use_ttl) = read_flags(entry)?;
+    let database = read_database(alloc, entry)?;
+    Ok(RouterEntry {
+        name,
+        address,
+        me,
+        key_id,
+        servers,
+        proxy,
+        use_ttl,
+        database,
+    })
+}
+
+// Name and address.
+#[tactic(auto, unfolding(crate::specs::Table::router_node))]
+fn read_node<A: Allocator + Copy>(
+    alloc: A,
+    entry: &Value,
+    servers: &[ServerEntry<A>],
+    before: &[RouterEntry<A>],
+) -> Result<(Name<A>, Addr), ConfigFault>
+    ensures { Gives (λ n. (n.0, n.1)) result (router_node servers.now before.now (view entry.now)) }
+{
+    check_table(entry, Field::Router)?;
+    let name = fresh_router_name(entry, servers, before)?;
+    let address = address(entry, "address", Field::RouterAddress)?;
+    Ok((Name::from_string(String::from_str(alloc, name)?), address))
+}
+
+fn fresh_router_name<'a, A: Allocator>(
+    entry: &'a Value,
+    servers: &[ServerEntry<A>],
+    before: &[RouterEntry<A>],
+) -> Result<&'a str, ConfigFault>
+    ensures { Reads (λ n. n.now) result (fresh_router_name servers.now before.now (view entry.now)) }
+{
+    let name = name(entry, "name", Field::RouterName)?;
+    if has_server(servers, name) || has_router(before, name) {
+        return Err(ConfigFault::Repeated(Field::RouterName));
+    }
+    Ok(name)
+}
+
+fn has_router<A: Allocator>(routers: &[RouterEntry<A>], name: &str) -> bool
+    ensures { result ≡ has_router routers.now name.now }
+{
+    routers.iter().any(|router| router.name.as_str() == name)
+}
+
+// Site, xTR-ID and key.
+#[tactic(auto, unfolding(crate::specs::Table::router_identity))]
+fn read_identity<A: Allocator>(
+    entry: &Value,
+    sites: &Sites<A>,
+) -> Result<(RouterId, u8), ConfigFault>
+    ensures { result ≡ router_identity sites.now (view entry.now) }
+{
+    let site = read_site(entry, sites)?;
+    let xtr = xtr(entry, "xtr", Field::RouterXtr)?;
+    let key_id = read_key(entry, site)?;
+    let me = RouterId {
+        site: site.id(),
+        xtr,
+    };
+    Ok((me, key_id))
+}
+
+fn read_site<'a, A: Allocator>(
+    entry: &Value,
+    sites: &'a Sites<A>,
+) -> Result<&'a Site<A>, ConfigFault>
+    ensures { Reads (λ s. s.now) result (field (router_site sites.now) (view entry.now)) }
+{
+    let id = site_id(entry, "site", Field::RouterSite)?;
+    sites
+        .site(id)
+        .ok_or(ConfigFault::BadValue(Field::RouterSite))
+}
+
+fn read_key<A: Allocator>(entry: &Value, site: &Site<A>) -> Result<u8, ConfigFault>
+    ensures { result ≡ field (router_key site.now) (view entry.now) }
+{
+    let id = byte(entry, "key", Field::RouterKey)?;
+    if !has_key(&site.keys, id) {
+        return Err(ConfigFault::BadValue(Field::RouterKey));
+    }
+    Ok(id)
+}
+
+// The places of the Map-Servers that the router names.
+fn read_places<A: Allocator + Copy>(
+    alloc: A,
+    entry: &Value,
+    servers: &[ServerEntry<A>],
+) -> Result<Places<A>, ConfigFault>
+    ensures { Gives (λ p. p) result (places_of servers.now (view entry.now)) }
+{
+    let names = array(entry, "servers", Field::RouterServers)?;
+    Ok(Places::from_vec(each_place(alloc, names, servers)?))
+}
+
+fn each_place<A: Allocator + Copy>(
+    alloc: A,
+    names: &[Value],
+    servers: &[ServerEntry<A>],
+) -> Result<Vec<usize, A>, ConfigFault>
+    ensures { Gives (λ places. places.items) result (each (place_at servers.now) [] (items_view names.now)) }
+{
+    let mut places = Vec::new(alloc);
+    for name in names {
+        let place = fresh_place(name, servers, &places)?;
+        places.push(place)?;
+    }
+    Ok(places)
+}
+
+fn fresh_place<A: Allocator>(
+    name: &Value,
+    servers: &[ServerEntry<A>],
+    before: &[usize],
+) -> Result<usize, ConfigFault>
+    ensures { result ≡ place_at servers.now before.now (view name.now) }
+{
+    let place = place(name, servers)?;
+    if before.contains(&place) {
+        return Err(ConfigFault::Repeated(Field::RouterServers));
+    }
+    Ok(place)
+}
+
+fn place<A: Allocator>(name: &Value, servers: &[ServerEntry<A>]) -> Result<usize, ConfigFault>
+    ensures { result ≡ place_of servers.now (view name.now) }
+{
+    match name.as_str() {
+        Some(name) => {
+            server_place(servers, name).ok_or(ConfigFault::BadValue(Field::RouterServers))
+        }
+        None => Err(ConfigFault::BadValue(Field::RouterServers)),
+    }
+}
+
+// Bits P and T.
+#[tactic(auto, unfolding(crate::specs::Table::router_flags))]
+fn read_flags(entry: &Value) -> Result<(bool, bool), ConfigFault>
+    ensures { result ≡ router_flags (view entry.now) }
+{
+    let proxy = flag(entry, "proxy", Field::RouterProxy)?;
+    let use_ttl = flag(entry, "use_ttl", Field::RouterUseTtl)?;
+    Ok((proxy, use_ttl))
+}
+
+// The records.
+#[tactic(auto, unfolding(crate::specs::Table::database_at))]
+fn read_database<A: Allocator + Copy>(alloc: A, entry: &Value) -> Result<Database<A>, ConfigFault>
+    ensures { Gives (λ d. d) result (database_at (view entry.now)) }
+{
+    let texts = tables(entry, "records", Field::RouterRecords)?;
+    let records = each_record(alloc, texts)?;
+    match Database::new(records) {
+        Ok(database) => Ok(database),
+        Err(_) => Err(ConfigFault::BadValue(Field::RouterRecords)),
+    }
+}
+
+fn each_record<A: Allocator + Copy>(
+    alloc: A,
+    texts: &[Value],
+) -> Result<Vec<MapRecord<A>, A>, ConfigFault>
+    ensures { Gives (λ records. records.items) result (each record_at [] (items_view texts.now)) }
+{
+    let mut records = Vec::new(alloc);
+    for text in texts {
+        let record = read_record(alloc, text)?;
+        records.push(record)?;
+    }
+    Ok(records)
+}
+
+fn read_record<A: Allocator + Copy>(alloc: A, text: &Value) -> Result<MapRecord<A>, ConfigFault>
+    ensures { Gives (λ r. r) result (record_at [] (view text.now)) }
+{
+    let Some(text) = text.as_str() else {
+        return Err(ConfigFault::BadValue(Field::RouterRecords));
+    };
+    match record_from_text(alloc, text)? {
+        Some(record) => Ok(record),
+        None => Err(ConfigFault::BadValue(Field::RouterRecords)),
+    }
+}

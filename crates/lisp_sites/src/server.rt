@@ -1,0 +1,101 @@
+//! Map-Servers as a configuration names them.
+
+ghost use Rattle.std.specs.Prelude.{◌≡◌, []};
+ghost use Rattle.toml.specs.View.{view, items_view};
+ghost use Rattle.lisp_sites.specs.Table.{Gives, Reads, each, has_server, server_place, fresh_server_name, server_at, servers_of};
+
+use crate::fault::ConfigFault;
+use crate::field::Field;
+use crate::name::Name;
+use crate::value::{address, check_table, name, tables};
+use lisp_records::Addr;
+use std::alloc::{Allocator, Global};
+use std::marker::Model;
+use toml::Value;
+
+/// A Map-Server of the configuration.
+#[derive(Debug, Drop)]
+pub struct ServerEntry<A: Allocator = Global> {
+    /// Its name, which no other node has.
+    pub name: Name<A>,
+    /// Where it receives.
+    pub address: Addr,
+}
+
+impl<A: Allocator> Model for ServerEntry<A> {
+    ghost use Rattle.lisp_sites.specs.Configuration.{Server};
+
+    ghost Value = { Server };
+
+    ghost view = { λ s. record { name = s.name; address = s.address } };
+}
+
+/// The Map-Servers of the document, in its order.
+pub(crate) fn read_servers<A: Allocator + Copy>(
+    alloc: A,
+    document: &Value,
+) -> Result<Vec<ServerEntry<A>, A>, ConfigFault>
+    ensures { Gives (λ servers. servers.items) result (servers_of (view document.now)) }
+{
+    each_server(alloc, tables(document, "server", Field::Server)?)
+}
+
+fn each_server<A: Allocator + Copy>(
+    alloc: A,
+    entries: &[Value],
+) -> Result<Vec<ServerEntry<A>, A>, ConfigFault>
+    ensures { Gives (λ servers. servers.items) result (each server_at [] (items_view entries.now)) }
+{
+    let mut servers = Vec::new(alloc);
+    for entry in entries {
+        let server = read_server(alloc, entry, &servers)?;
+        servers.push(server)?;
+    }
+    Ok(servers)
+}
+
+#[tactic(auto, unfolding(crate::specs::Table::server_at))]
+fn read_server<A: Allocator + Copy>(
+    alloc: A,
+    entry: &Value,
+    before: &[ServerEntry<A>],
+) -> Result<ServerEntry<A>, ConfigFault>
+    ensures { Gives (λ s. s) result (server_at before.now (view entry.now)) }
+{
+    check_table(entry, Field::Server)?;
+    let name = fresh_server_name(entry, before)?;
+    let address = address(entry, "address", Field::ServerAddress)?;
+    Ok(ServerEntry {
+        name: Name::from_string(String::from_str(alloc, name)?),
+        address,
+    })
+}
+
+fn fresh_server_name<'a, A: Allocator>(
+    entry: &'a Value,
+    before: &[ServerEntry<A>],
+) -> Result<&'a str, ConfigFault>
+    ensures { Reads (λ n. n.now) result (fresh_server_name before.now (view entry.now)) }
+{
+    let name = name(entry, "name", Field::ServerName)?;
+    if has_server(before, name) {
+        return Err(ConfigFault::Repeated(Field::ServerName));
+    }
+    Ok(name)
+}
+
+/// Whether a Map-Server has the name.
+pub(crate) fn has_server<A: Allocator>(servers: &[ServerEntry<A>], name: &str) -> bool
+    ensures { result ≡ has_server servers.now name.now }
+{
+    servers.iter().any(|server| server.name.as_str() == name)
+}
+
+/// The place of the Map-Server with a name.
+pub(crate) fn server_place<A: Allocator>(servers: &[ServerEntry<A>], name: &str) -> Option<usize>
+    ensures { result ≡ server_place servers.now name.now }
+{
+    servers
+        .iter()
+        .position(|server| server.name.as_str() == name)
+}

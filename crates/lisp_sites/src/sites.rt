@@ -1,0 +1,120 @@
+//! The sites that a Map-Server serves.
+
+ghost use Rattle.std.specs.Prelude.{◌≡◌, [], ◌∷◌, IfOk};
+ghost use Rattle.std.specs.Option.{option_map};
+ghost use Rattle.lisp_sites.specs.Site.{site_of, is_configured, single};
+
+use crate::site::{Site, SiteKey, SitePrefix};
+use lisp_records::{Addr, Bytes, Prefix};
+use std::alloc::{AllocError, Allocator, Global};
+use std::marker::Model;
+
+/// Sites, in the order of the configuration.
+#[derive(Debug, Drop)]
+pub struct Sites<A: Allocator = Global> {
+    items: Vec<Site<A>, A>,
+}
+
+impl<A: Allocator> Model for Sites<A> {
+    ghost use Rattle.std.specs.Prelude.{List};
+    ghost use Rattle.lisp_sites.specs.Site.{SiteEntry};
+
+    ghost Value = { List SiteEntry };
+
+    ghost view = { λ s. s.items.items };
+}
+
+impl<A: Allocator> Sites<A> {
+    /// The sites of a `Vec`; takes no memory.
+    pub(crate) fn from_vec(items: Vec<Site<A>, A>) -> Sites<A>
+        ensures { result ≡ items.items }
+    {
+        Sites { items }
+    }
+
+    /// The sites in their order.
+    pub fn as_slice(&self) -> &[Site<A>]
+        ensures { result.now ≡ self.now }
+    {
+        &self.items
+    }
+
+    /// The site with a Site-ID, `None` where there is none.
+    pub fn site(&self, id: u64) -> Option<&Site<A>>
+        ensures { option_map (λ s. s.now) result ≡ site_of self.now id }
+    {
+        self.items.iter().find(|site| site.id() == id)
+    }
+
+    /// Whether the address is one of some prefix of some site.
+    pub fn configured(&self, addr: &Addr) -> bool
+        ensures { result ≡ is_configured self.now addr.now }
+    {
+        self.items.iter().any(|site| site.has_address(addr))
+    }
+
+    /// Equal sites, in memory of `alloc`.
+    pub fn copy<B: Allocator + Copy>(&self, alloc: B) -> Result<Sites<B>, AllocError>
+        ensures { IfOk result (λ s. s ≡ self.now) }
+    {
+        Ok(Sites {
+            items: copy_sites(alloc, &self.items)?,
+        })
+    }
+}
+
+impl<A: Allocator + Copy> Sites<A> {
+    /// One site with one key and one prefix, in memory of `alloc`.
+    pub fn single(
+        alloc: A,
+        id: u64,
+        key_id: u8,
+        secret: &[u8],
+        prefix: Prefix,
+        more_specifics: bool,
+    ) -> Result<Sites<A>, AllocError>
+        ensures { IfOk result (λ s. s ≡ single id key_id secret.now prefix more_specifics) }
+    {
+        let entry = SitePrefix {
+            eid: prefix,
+            more_specifics,
+        };
+        let mut items = Vec::new(alloc);
+        items.push(Site {
+            id,
+            keys: one_key(alloc, key_id, secret)?,
+            prefixes: Vec::from_slice(alloc, &[entry])?,
+        })?;
+        Ok(Sites { items })
+    }
+}
+
+// Equal sites, in memory of `alloc`.
+fn copy_sites<A: Allocator, B: Allocator + Copy>(
+    alloc: B,
+    sites: &[Site<A>],
+) -> Result<Vec<Site<B>, B>, AllocError>
+    ensures { IfOk result (λ copies. copies.items ≡ sites.now) }
+{
+    let mut copies = Vec::with_capacity(alloc, sites.len())?;
+    for site in sites {
+        copies.push(site.copy(alloc)?)?;
+    }
+    Ok(copies)
+}
+
+// One key, in memory of `alloc`.
+fn one_key<A: Allocator + Copy>(
+    alloc: A,
+    id: u8,
+    secret: &[u8],
+) -> Result<Vec<SiteKey<A>, A>, AllocError>
+    ensures { IfOk result (λ keys. keys.items ≡ record { id = id; secret = secret.now } ∷ []) }
+{
+    let mut keys = Vec::new(alloc);
+    keys.push(SiteKey {
+        id,
+        secret: Bytes::from_vec(Vec::from_slice(alloc, secret)?),
+    })?;
+    Ok(keys)
+}

@@ -1,0 +1,155 @@
+//! The fields of an entry of the configuration file: TOML values in their forms. Nothing here takes
+//! memory but what is passed an allocator.
+
+ghost use Rattle.std.specs.Prelude.{◌≡◌, false, ok_or};
+ghost use Rattle.toml.specs.Data.{as_str, as_bool, as_array};
+ghost use Rattle.toml.specs.View.{view, items_view};
+ghost use Rattle.lisp_sites.specs.Reading.{address_of, prefix_of};
+ghost use Rattle.lisp_sites.specs.Form.{site_id_of, xtr_of, secret_text_of, name_of, text_as, byte_as};
+ghost use Rattle.lisp_sites.specs.Table.{Gives, Reads, required, optional, field, items, as_entry};
+ghost use Rattle.lisp_sites.specs.declared.fault.ConfigFault.TheVariants.{BadValue};
+
+use crate::fault::ConfigFault;
+use crate::field::Field;
+use crate::form::{is_name, secret_from_text, site_id_from_text, xtr_from_text};
+use crate::text::{addr_from_text, prefix_from_text};
+use lisp_records::{Addr, Bytes, Prefix};
+use std::alloc::Allocator;
+use toml::Value;
+
+/// The tables of an array of tables; none where the array is absent.
+pub(crate) fn tables<'a>(
+    entry: &'a Value,
+    key: &str,
+    name: Field,
+) -> Result<&'a [Value], ConfigFault>
+    ensures { Reads (λ vs. items_view vs.now) result (items name key.now (view entry.now)) }
+{
+    match entry.get(key) {
+        None => Ok(&[]),
+        Some(value) => elements(value, name),
+    }
+}
+
+/// The elements of an array that has to be there.
+pub(crate) fn array<'a>(
+    entry: &'a Value,
+    key: &str,
+    name: Field,
+) -> Result<&'a [Value], ConfigFault>
+    ensures { Reads (λ vs. items_view vs.now) result (field (required name key.now as_array) (view entry.now)) }
+{
+    match entry.get(key) {
+        None => Err(ConfigFault::Missing(name)),
+        Some(value) => elements(value, name),
+    }
+}
+
+// The elements of an array.
+fn elements(value: &Value, name: Field) -> Result<&[Value], ConfigFault>
+    ensures { Reads (λ vs. items_view vs.now) result (ok_or (as_array (view value.now)) (BadValue name)) }
+{
+    match value.as_array() {
+        Some(values) => Ok(values),
+        None => Err(ConfigFault::BadValue(name)),
+    }
+}
+
+/// Checks that an entry is a table.
+pub(crate) fn check_table(entry: &Value, name: Field) -> Result<(), ConfigFault>
+    ensures { Reads (λ _. view entry.now) result (as_entry name (view entry.now)) }
+{
+    if entry.is_table() {
+        Ok(())
+    } else {
+        Err(ConfigFault::BadValue(name))
+    }
+}
+
+// A text that has to be there.
+fn text<'a>(entry: &'a Value, key: &str, name: Field) -> Result<&'a str, ConfigFault>
+    ensures { Reads (λ t. t.now) result (field (required name key.now as_str) (view entry.now)) }
+{
+    match entry.get(key) {
+        None => Err(ConfigFault::Missing(name)),
+        Some(value) => value.as_str().ok_or(ConfigFault::BadValue(name)),
+    }
+}
+
+/// A Site-ID.
+pub(crate) fn site_id(entry: &Value, key: &str, name: Field) -> Result<u64, ConfigFault>
+    ensures { result ≡ field (required name key.now (text_as site_id_of)) (view entry.now) }
+{
+    site_id_from_text(text(entry, key, name)?).ok_or(ConfigFault::BadValue(name))
+}
+
+/// An xTR-ID.
+pub(crate) fn xtr(entry: &Value, key: &str, name: Field) -> Result<[u8; 16], ConfigFault>
+    ensures { result ≡ field (required name key.now (text_as xtr_of)) (view entry.now) }
+{
+    xtr_from_text(text(entry, key, name)?).ok_or(ConfigFault::BadValue(name))
+}
+
+/// An address.
+pub(crate) fn address(entry: &Value, key: &str, name: Field) -> Result<Addr, ConfigFault>
+    ensures { result ≡ field (required name key.now (text_as address_of)) (view entry.now) }
+{
+    addr_from_text(text(entry, key, name)?).ok_or(ConfigFault::BadValue(name))
+}
+
+/// A prefix.
+pub(crate) fn prefix(entry: &Value, key: &str, name: Field) -> Result<Prefix, ConfigFault>
+    ensures { result ≡ field (required name key.now (text_as prefix_of)) (view entry.now) }
+{
+    prefix_from_text(text(entry, key, name)?).ok_or(ConfigFault::BadValue(name))
+}
+
+/// A whole number from 0 to 255.
+pub(crate) fn byte(entry: &Value, key: &str, name: Field) -> Result<u8, ConfigFault>
+    ensures { result ≡ field (required name key.now byte_as) (view entry.now) }
+{
+    match entry.get(key) {
+        None => Err(ConfigFault::Missing(name)),
+        Some(value) => match value.as_integer() {
+            Some(number @ 0..=255) => Ok(number as u8),
+            _ => Err(ConfigFault::BadValue(name)),
+        },
+    }
+}
+
+/// A truth value, false where it is absent.
+pub(crate) fn flag(entry: &Value, key: &str, name: Field) -> Result<bool, ConfigFault>
+    ensures { result ≡ field (optional name key.now as_bool false) (view entry.now) }
+{
+    match entry.get(key) {
+        None => Ok(false),
+        Some(value) => value.as_bool().ok_or(ConfigFault::BadValue(name)),
+    }
+}
+
+/// A secret.
+pub(crate) fn secret<A: Allocator>(
+    alloc: A,
+    entry: &Value,
+    key: &str,
+    name: Field,
+) -> Result<Bytes<A>, ConfigFault>
+    ensures { Gives (λ b. b) result (field (required name key.now (text_as secret_text_of)) (view entry.now)) }
+{
+    match secret_from_text(alloc, text(entry, key, name)?)? {
+        Some(secret) => Ok(secret),
+        None => Err(ConfigFault::BadValue(name)),
+    }
+}
+
+/// The text of a node's name.
+pub(crate) fn name<'a>(entry: &'a Value, key: &str, name: Field) -> Result<&'a str, ConfigFault>
+    ensures { Reads (λ t. t.now) result (field (required name key.now (text_as name_of)) (view entry.now)) }
+{
+    let text = text(entry, key, name)?;
+    if is_name(text) {
+        Ok(text)
+    } else {
+        Err(ConfigFault::BadValue(name))
+    }
+}
