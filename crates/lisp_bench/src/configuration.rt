@@ -10,18 +10,22 @@ use std::time::Instant;
 /// The bytes of a long text.
 const LONG: usize = 1_048_576;
 
+/// Long texts that are no TOML: their names, how they begin, and the letter that follows.
+const NO_TOML: [(&str, &str, char); 3] = [
+    ("a key of 1 MiB", "", 'a'),
+    ("an open string of 1 MiB", "a = \"", 'a'),
+    ("1 MiB of open brackets", "a = ", '['),
+];
+
 /// How many sites, and as many routers, the measured networks have.
 const NETWORKS: [u32; 3] = [250, 500, 1_000];
 
 /// Prints how long texts are read that are no TOML, and for each network how long one of its entries
 /// takes.
 pub(crate) fn measure<R: Print + Clock + AllocGlobal>(rt: &R) -> Result<()> {
-    refuse(rt, "1 MiB of garbage", &repeated(rt.alloc(), "", ']')?)?;
-    refuse(
-        rt,
-        "1 MiB of open brackets",
-        &repeated(rt.alloc(), "a = ", '[')?,
-    )?;
+    for (name, front, letter) in NO_TOML {
+        refuse(rt, name, &repeated(rt.alloc(), front, letter)?)?;
+    }
     for size in NETWORKS {
         read(rt, size)?;
     }
