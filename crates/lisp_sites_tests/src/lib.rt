@@ -12,6 +12,8 @@ mod configuration_order;
 #[cfg(test)]
 mod configuration_values;
 #[cfg(test)]
+mod identities;
+#[cfg(test)]
 mod record_texts;
 #[cfg(test)]
 mod sites;
