@@ -21,7 +21,7 @@ const HEAP_LEN: usize = 4096;
 const BLOCK_LEN: usize = 16;
 
 /// So many blocks are room enough for each call.
-const MOST_BLOCKS: usize = 64;
+const MOST_BLOCKS: usize = 128;
 
 /// What takes memory.
 #[derive(Clone, Copy, Debug)]
