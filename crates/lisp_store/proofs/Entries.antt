@@ -1,0 +1,98 @@
+-- What setting an entry does to the values of each pair.
+use Rattle.std.proofs.Common.{◌≡◌, ◌≢◌, ℕ, zero, suc, ◌+◌, ◌<◌, Bool, true, false, cond, List, [], ◌∷◌, ◌++◌, length, slice_index_or, slice_set, map, Option, Some, None, refl, sym, ap, ◌∙◌, true≢false, arith}
+use Rattle.std.specs.Option.{option_map, unwrap_or}
+use Rattle.std.specs.FinMap.{get-from_entries, find as map_find}
+use Rattle.std.specs.List.{find, position, position_from}
+use Rattle.std.specs.Ordering.{eq_by_cmp, is_eq}
+use Rattle.std.specs.Cmp.{eq_by_cmp_equiv}
+use Rattle.std.specs.declared.cmp.Ordering.{Ordering}
+use Rattle.std.specs.declared.cmp.Ordering.TheVariants.{Less, Equal, Greater}
+use Rattle.std.proofs.lemmas.List.Quantifiers.{position-Some}
+use Rattle.std.proofs.lemmas.List.Recursion.{found_set_other, found_push_other}
+use Rattle.std.proofs.lemmas.Iterator.Adapters.{position_from-zero}
+use Rattle.lisp_store.specs.declared.pair.Pair.{Pair}
+use Rattle.lisp_store.specs.Pair.{pair_cmp}
+use Rattle.lisp_store.specs.Kept.{kept_at}
+use Rattle.lisp_store.specs.Entries.{EntryOf, is_of, kept_of, answers_of}
+use Rattle.lisp_store.proofs.Pairs.{pair_total, same_pair}
+
+-- a pair is that of its entry
+pub is_of_itself : (q : Pair) (values : List (Option ℕ)) → is_of q (record { pair = q; values = values }) ≡ true
+is_of_itself q values = (eq_by_cmp_equiv pair_total).refl q
+
+ties : (o : Ordering) → is_eq o ≡ true → o ≡ Equal
+ties Less e = absurd (true≢false (sym e))
+ties Equal e = refl
+ties Greater e = absurd (true≢false (sym e))
+
+not_of_case : (q p : Pair) → q ≢ p → (b : Bool) → eq_by_cmp pair_cmp q p ≡ b → b ≡ false
+not_of_case q p differ true e = absurd (differ (same_pair q p (ties (pair_cmp q p) e)))
+not_of_case q p differ false e = refl
+
+-- another pair isn't
+pub is_not_of : (q : Pair) (e : EntryOf) → q ≢ e.pair → is_of q e ≡ false
+is_not_of q e differ = not_of_case q e.pair differ (is_of q e) refl
+
+picks : (b : Bool) (x : EntryOf) (rest : Option EntryOf) → unwrap_or (option_map (λ e. e.values) (cond b (Some x) rest)) (None ∷ []) ≡ cond b x.values (unwrap_or (option_map (λ e. e.values) rest) (None ∷ []))
+picks true x rest = refl
+picks false x rest = refl
+
+pub step : (q : Pair) (x : EntryOf) (xs : List EntryOf) → answers_of (x ∷ xs) q ≡ cond (is_of q x) x.values (answers_of xs q)
+unfolding answers_of
+step q x xs = picks (is_of q x) x (find (is_of q) xs)
+
+pub none : (q : Pair) → answers_of [] q ≡ None ∷ []
+unfolding answers_of
+none q = refl
+
+module _ (q : Pair) where
+  found : List EntryOf → List (Option ℕ)
+  found es = answers_of es q
+
+  set_at : (es : List EntryOf) (i : ℕ) (y d : EntryOf) → i < length es → ((k : ℕ) → k < i → is_of q (slice_index_or es k d) ≡ false) → is_of q y ≡ true → answers_of (slice_set es i y) q ≡ y.values
+  set_at [] i y d lt before is = absurd (omega arith)
+  set_at (x ∷ xs) zero y d lt before is = step q y xs ∙ ap (λ b. cond b y.values (answers_of xs q)) is
+  set_at (x ∷ xs) (suc i) y d lt before is = step q x (slice_set xs i y) ∙ ap (λ b. cond b x.values (answers_of (slice_set xs i y) q)) (before 0 (omega arith)) ∙ set_at xs i y d (omega arith) (λ k below. before (suc k) (omega arith)) is
+
+  -- the first entry of the pair was set
+  pub set_here : (es : List EntryOf) (i : ℕ) (y : EntryOf) → position (is_of q) es ≡ Some i → is_of q y ≡ true → answers_of (slice_set es i y) q ≡ y.values
+  set_here es i y at is =
+      let place = position-Some (is_of q) es i y at in
+      set_at es i y y place.0 place.2 is
+
+  pushed_case : (x : EntryOf) (xs : List EntryOf) (n : ℕ) (y : EntryOf) (b : Bool) → is_of q x ≡ b → cond b (Some n) (position_from (is_of q) (n + 1) xs) ≡ None → (position_from (is_of q) (n + 1) xs ≡ None → answers_of (xs ++ y ∷ []) q ≡ y.values)
+      → answers_of (x ∷ xs ++ y ∷ []) q ≡ y.values
+  pushed_case x xs n y true of at rest = absurd (let clash : ◌≡◌ {A = Option ℕ} (Some n) None = at in cc)
+  pushed_case x xs n y false of at rest = step q x (xs ++ y ∷ []) ∙ ap (λ b. cond b x.values (answers_of (xs ++ y ∷ []) q)) of ∙ rest at
+
+  pushed : (es : List EntryOf) (n : ℕ) (y : EntryOf) → position_from (is_of q) n es ≡ None → is_of q y ≡ true → answers_of (es ++ y ∷ []) q ≡ y.values
+  pushed [] n y at is = step q y [] ∙ ap (λ b. cond b y.values (answers_of [] q)) is
+  pushed (x ∷ xs) n y at is = pushed_case x xs n y (is_of q x) refl at (λ later. pushed xs (n + 1) y later is)
+
+  -- the pair had no entry, and one was added
+  pub push_here : (es : List EntryOf) (y : EntryOf) → position (is_of q) es ≡ None → is_of q y ≡ true → answers_of (es ++ y ∷ []) q ≡ y.values
+  push_here es y at is = pushed es 0 y (sym (position_from-zero (is_of q) es) ∙ at) is
+
+  -- another pair's entry was set
+  pub set_there : (p : Pair) (es : List EntryOf) (i : ℕ) (y : EntryOf) → q ≢ p → position (is_of p) es ≡ Some i → q ≢ y.pair → answers_of (slice_set es i y) q ≡ answers_of es q
+  set_there p es i y differ at other =
+      let place = position-Some (is_of p) es i y at in
+      let same : p ≡ (slice_index_or es i y).pair = same_pair p (slice_index_or es i y).pair (ties (pair_cmp p (slice_index_or es i y).pair) place.1) in
+      found_set_other (λ (es : List EntryOf). answers_of es q) (is_of q) (λ e. e.values) (None ∷ []) (none q) (step q) es i y y (is_not_of q (slice_index_or es i y) (λ e. differ (e ∙ sym same))) (is_not_of q y other)
+
+  -- another pair's entry was added
+  pub push_there : (es : List EntryOf) (y : EntryOf) → q ≢ y.pair → answers_of (es ++ y ∷ []) q ≡ answers_of es q
+  push_there es y other = found_push_other (λ (es : List EntryOf). answers_of es q) (is_of q) (λ e. e.values) (None ∷ []) (none q) (step q) es y (is_not_of q y other)
+
+find_in_map : (q : Pair) (es : List EntryOf) → map_find pair_cmp q (map (λ e. (e.pair, e.values)) es) ≡ option_map (λ e. e.values) (find (is_of q) es)
+find_in_map q [] = refl
+find_in_map q (x ∷ xs) = alike (is_of q x) x xs (find_in_map q xs)
+  where
+    alike : (b : Bool) (x : EntryOf) (xs : List EntryOf) → map_find pair_cmp q (map (λ e. (e.pair, e.values)) xs) ≡ option_map (λ e. e.values) (find (is_of q) xs) → cond b (Some x.values) (map_find pair_cmp q (map (λ e. (e.pair, e.values)) xs)) ≡ option_map (λ e. e.values) (cond b (Some x) (find (is_of q) xs))
+    alike true x xs rest = refl
+    alike false x xs rest = rest
+
+-- the lists that the entries make
+pub kept_of_entries : (es : List EntryOf) (q : Pair) → kept_at (kept_of es) q ≡ answers_of es q
+unfolding kept_at kept_of answers_of
+kept_of_entries es q = ap (λ (o : Option (List (Option ℕ))). unwrap_or o (None ∷ [])) (get-from_entries pair_total (map (λ e. (e.pair, e.values)) es) q ∙ find_in_map q es)

@@ -1,0 +1,22 @@
+//! What nonces are kept for.
+
+use lisp_records::RouterId;
+
+/// Which nonces: those that a router sent, those that a server received, those of a server's notices.
+#[derive(Clone, Copy, Debug, PartialEq, Eq, PartialOrd, Ord, Hash)]
+pub enum PairKind {
+    Sent,
+    Received,
+    Notice,
+}
+
+/// What a store keeps one nonce for. Ordered by kind, then router, then key.
+#[derive(Clone, Copy, Debug, PartialEq, Eq, PartialOrd, Ord, Hash)]
+pub struct Pair {
+    /// Which nonces.
+    pub kind: PairKind,
+    /// Whose nonces.
+    pub router: RouterId,
+    /// The Key ID that they were authenticated under.
+    pub key: u8,
+}
