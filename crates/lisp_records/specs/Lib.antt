@@ -7,3 +7,4 @@ pub mod Written
 pub mod Reading
 pub mod Router
 pub mod Database
+pub mod Row

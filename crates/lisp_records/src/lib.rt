@@ -1,5 +1,6 @@
 //! The mapping records of LISP control messages (RFC 9301 section 5.4): addresses, EID-Prefixes,
-//! locators, reading and writing a record as bytes, and the records that a router registers.
+//! locators, reading and writing a record as bytes, the records that a router registers, and the rows
+//! that a Map-Server holds.
 #![tactic(auto)]
 
 mod address;
@@ -12,6 +13,7 @@ mod prefix;
 mod record;
 mod records;
 mod router;
+mod row;
 
 pub use address::{Addr, Family};
 pub use bytes::Bytes;
@@ -22,3 +24,4 @@ pub use prefix::Prefix;
 pub use record::{MAX_LOCATORS, MapRecord, read_record, write_record};
 pub use records::Records;
 pub use router::RouterId;
+pub use row::Row;
