@@ -20,7 +20,7 @@ addr_eq-Decides (V6 a) (V4 b) = (λ t. absurd cc, λ e. absurd cc)
 addr_eq-Decides (V6 a) (V6 b) = (λ t. ap V6 ((bytes_eq-Decides a b).0 t), λ e. (bytes_eq-Decides a b).1 cc)
 
 -- the test of blocks decides whether they are equal
-block_eq-Decides : (a b : Block) → Decides (block_eq a b) (a ≡ b)
+pub block_eq-Decides : (a b : Block) → Decides (block_eq a b) (a ≡ b)
 block_eq-Decides a b =
     let both = Decides-and _ _ (addr_eq-Decides a.addr b.addr) (Decides-eqb a.mask_len b.mask_len) in
     (λ t. (let e = both.0 t in λ i. record { addr = e.0 i; mask_len = e.1 i }), λ e. both.1 (ap (λ (x : Block). x.addr) e, ap (λ (x : Block). x.mask_len) e))

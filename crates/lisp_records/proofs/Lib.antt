@@ -8,5 +8,6 @@ pub mod Loop
 pub mod Masks
 pub mod Positions
 pub mod RecordLaws
+pub mod RouterLaws
 pub mod StartLemmas
 pub mod WrittenLemmas

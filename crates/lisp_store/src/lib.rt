@@ -8,8 +8,6 @@ pub mod laws;
 mod memory;
 mod pair;
 mod store;
-#[cfg(test)]
-mod tests;
 
 pub use fate::Fate;
 pub use fault::StoreFault;

@@ -1,12 +1,12 @@
 //! Tests of the store in memory: what is kept by each fate, and refused memory.
 
-use crate::{Fate, MemoryStore, NonceStore, Pair, PairKind, StoreFault, WorldStore};
 use linked_list_allocator::LocalHeap;
 use lisp_records::RouterId;
+use lisp_store::{Fate, MemoryStore, NonceStore, Pair, PairKind, StoreFault, WorldStore};
 use std::test::Fail;
 
 /// A pair of site 1.
-const PAIR: Pair = Pair {
+pub const PAIR: Pair = Pair {
     kind: PairKind::Sent,
     router: RouterId {
         site: 1,
