@@ -5,7 +5,7 @@ use Rattle.toml.specs.Data.{Data, as_str, get}
 use Rattle.lisp_sites.specs.declared.field.Field.{Field}
 use Rattle.lisp_sites.specs.declared.fault.ConfigFault.{ConfigFault}
 use Rattle.lisp_sites.specs.declared.fault.ConfigFault.TheVariants.{Missing, BadValue}
-use Rattle.lisp_sites.specs.Reading.{◌>>=◌}
+use Rattle.lisp_texts.specs.Reading.{◌>>=◌}
 use Rattle.lisp_sites.specs.Form.{text_as}
 use Rattle.lisp_sites.specs.Table.{required, field_at, field}
 

@@ -1,7 +1,3 @@
-pub mod Number
-pub mod Text
-pub mod Reading
-pub mod Written
 pub mod Site
 pub mod Form
 pub mod Configuration

@@ -10,15 +10,16 @@ use Rattle.lisp_records.specs.declared.router.RouterId.{RouterId}
 use Rattle.lisp_records.specs.Address.{Block, block_eq}
 use Rattle.lisp_records.specs.Record.{Mapping}
 use Rattle.lisp_records.specs.Database.{database_of}
+use Rattle.lisp_texts.specs.Reading.{if_so, address_of, prefix_of, record_text_of}
+use Rattle.lisp_texts.specs.Form.{site_id_of, xtr_of, secret_text_of}
 use Rattle.lisp_sites.specs.declared.field.Field.{Field}
 use Rattle.lisp_sites.specs.declared.field.Field.TheVariants as fields
 use Rattle.lisp_sites.specs.declared.fault.ConfigFault.{ConfigFault}
 use Rattle.lisp_sites.specs.declared.fault.ConfigFault.TheVariants.{Toml, Missing, BadValue, Repeated, OutOfMemory}
 use Rattle.lisp_sites.specs.declared.site.SitePrefix.{SitePrefix}
-use Rattle.lisp_sites.specs.Reading.{if_so, address_of, prefix_of, record_text_of}
 use Rattle.lisp_sites.specs.Site.{KeyEntry, SiteEntry, site_of, has_key}
 use Rattle.lisp_sites.specs.Configuration.{Server, Router, Configuration}
-use Rattle.lisp_sites.specs.Form.{site_id_of, xtr_of, secret_text_of, name_of, text_as, byte_as}
+use Rattle.lisp_sites.specs.Form.{name_of, text_as, byte_as}
 
 infixl 10 ◌>>=◌
 abbrev pub ◌>>=◌ : {A B : Type 0} → Result A ConfigFault → (A → Result B ConfigFault) → Result B ConfigFault

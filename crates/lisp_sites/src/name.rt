@@ -1,9 +1,14 @@
 //! Names of nodes.
 
 ghost use Rattle.std.specs.Prelude.{◌≡◌, string_bytes};
+ghost use Rattle.std.specs.List.{list_all};
+ghost use Rattle.lisp_sites.specs.Form.{is_name, is_name_letter};
 
 use std::alloc::{Allocator, Global};
 use std::marker::Model;
+
+/// The most letters of a name.
+const MAX_NAME: usize = 32;
 
 /// The name of a Map-Server or router in a configuration, seen as the bytes of its text.
 #[derive(Debug, Drop)]
@@ -33,4 +38,18 @@ impl<A: Allocator> Name<A> {
     {
         self.text.as_str()
     }
+}
+
+/// Whether a text may be a node's name: 1 to 32 of `a` to `z`, `0` to `9` and `-`.
+pub(crate) fn is_name(text: &str) -> bool
+    ensures { result ≡ is_name text.now }
+{
+    !text.is_empty() && text.len() <= MAX_NAME && are_name_letters(text.as_bytes())
+}
+
+fn are_name_letters(text: &[u8]) -> bool
+    ensures { result ≡ list_all is_name_letter text.now }
+{
+    text.iter()
+        .all(|c| matches!(c, b'a'..=b'z' | b'0'..=b'9' | b'-'))
 }

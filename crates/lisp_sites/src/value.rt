@@ -4,16 +4,19 @@
 ghost use Rattle.std.specs.Prelude.{◌≡◌, false, ok_or};
 ghost use Rattle.toml.specs.Data.{as_str, as_bool, as_array};
 ghost use Rattle.toml.specs.View.{view, items_view};
-ghost use Rattle.lisp_sites.specs.Reading.{address_of, prefix_of};
-ghost use Rattle.lisp_sites.specs.Form.{site_id_of, xtr_of, secret_text_of, name_of, text_as, byte_as};
+ghost use Rattle.lisp_texts.specs.Reading.{address_of, prefix_of};
+ghost use Rattle.lisp_texts.specs.Form.{site_id_of, xtr_of, secret_text_of};
+ghost use Rattle.lisp_sites.specs.Form.{name_of, text_as, byte_as};
 ghost use Rattle.lisp_sites.specs.Table.{Gives, Reads, required, optional, field, items, as_entry};
 ghost use Rattle.lisp_sites.specs.declared.fault.ConfigFault.TheVariants.{BadValue};
 
 use crate::fault::ConfigFault;
 use crate::field::Field;
-use crate::form::{is_name, secret_from_text, site_id_from_text, xtr_from_text};
-use crate::text::{addr_from_text, prefix_from_text};
+use crate::name::is_name;
 use lisp_records::{Addr, Bytes, Prefix};
+use lisp_texts::{
+    addr_from_text, prefix_from_text, secret_from_text, site_id_from_text, xtr_from_text,
+};
 use std::alloc::Allocator;
 use toml::Value;
 

@@ -5,9 +5,9 @@ use Rattle.std.specs.Str.{bytes_eq}
 use Rattle.clap.specs.Words.{first_value, found_of}
 use Rattle.clap.specs.declared.parser.matches.ArgMatches.{ArgMatches}
 use denote.Ref.{Bor}
-use Rattle.lisp_sites.specs.Number.{number_of}
-use Rattle.lisp_sites.specs.Form.{site_id_of, secret_text_of}
-use Rattle.lisp_sites.specs.Reading.{prefix_of}
+use Rattle.lisp_texts.specs.Number.{number_of}
+use Rattle.lisp_texts.specs.Form.{site_id_of, secret_text_of}
+use Rattle.lisp_texts.specs.Reading.{prefix_of}
 use Rattle.lispd.specs.declared.fault.SetupFault.{SetupFault}
 use Rattle.lispd.specs.declared.fault.SetupFault.TheVariants.{BadOption, OutOfMemory}
 use Rattle.lispd.specs.Setup.{Setup, default_setup}

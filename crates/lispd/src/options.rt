@@ -2,9 +2,9 @@
 
 ghost use Rattle.std.specs.Prelude.{◌≡◌, codes};
 ghost use Rattle.std.specs.Option.{option_map};
-ghost use Rattle.lisp_sites.specs.Reading.{prefix_of};
+ghost use Rattle.lisp_texts.specs.Reading.{prefix_of};
 ghost use Rattle.lispd.specs.Setup.{default_setup};
-ghost use Rattle.lisp_sites.specs.Form.{site_id_of, secret_text_of};
+ghost use Rattle.lisp_texts.specs.Form.{site_id_of, secret_text_of};
 ghost use Rattle.lispd.specs.Options.{Gives, option_text, or_default, key_of, flag_of, setup_of};
 
 use crate::fault::SetupFault;

@@ -1,7 +1,7 @@
 use Rattle.std.proofs.Common.{sym}
 use Rattle.std.proofs.lemmas.Result.{err_from_is_err_and}
 use Rattle.toml.specs.View.{view}
-use Rattle.lisp_sites.specs.Form.{site_id_of}
+use Rattle.lisp_texts.specs.Form.{site_id_of}
 use Rattle.lisp_sites.proofs.Fields.{no_text}
 use Rattle.lisp_sites.proofs.value.site_id.Goals as goal
 

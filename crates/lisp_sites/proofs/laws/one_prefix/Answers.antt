@@ -1,5 +1,0 @@
-use Rattle.lisp_sites.proofs.PrefixLaws.{one_prefix}
-use Rattle.lisp_sites.proofs.laws.one_prefix.Goals as goal
-
-pub returns : goal.returns
-returns c = one_prefix

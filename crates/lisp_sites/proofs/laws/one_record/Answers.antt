@@ -1,5 +1,0 @@
-use Rattle.lisp_sites.proofs.RecordLaws.{one_record}
-use Rattle.lisp_sites.proofs.laws.one_record.Goals as goal
-
-pub returns : goal.returns
-returns c = one_record

@@ -1,0 +1,15 @@
+pub mod AddressLaws
+pub mod Appends
+pub mod ByteNumbers
+pub mod Cut
+pub mod Groups
+pub mod Hex
+pub mod Known
+pub mod Locators
+pub mod NumberTexts
+pub mod Numbers
+pub mod Options
+pub mod PrefixLaws
+pub mod RecordLaws
+pub mod WrittenGroups
+pub mod WrittenLaws

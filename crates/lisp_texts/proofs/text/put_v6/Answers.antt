@@ -1,0 +1,11 @@
+use Rattle.std.proofs.Common.{◌++◌, lit<, rules}
+use Rattle.std.specs.Prelude.{string_bytes}
+use Rattle.std.specs.List.{join_with_byte}
+use Rattle.lisp_texts.specs.Written.{groups_text}
+use Rattle.lisp_texts.proofs.WrittenGroups.{groups_next}
+use Rattle.lisp_texts.proofs.text.put_v6.Goals as goal
+
+pub loop-at-preserved : goal.loop-at-preserved
+loop-at-preserved g c =
+    let colon = rw (c.in_ok-push.ensures.ascii (lit< tt)) at c.in_ok-push.ensures.bytes in
+    groups_next (string_bytes c.loop-at.text) (string_bytes c.push.new.self) (string_bytes c.put_group-in-loop-at.new.text) (string_bytes c.args.text.now ++ join_with_byte 58 (groups_text c.args.octets)) c.args.octets c.loop-at.at (search rules) c.loop-at-test.true colon c.in_ok-put_group-2.ensures c.loop-at.invariant

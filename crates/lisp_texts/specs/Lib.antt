@@ -1,0 +1,5 @@
+pub mod Number
+pub mod Text
+pub mod Reading
+pub mod Written
+pub mod Form

@@ -1,0 +1,59 @@
+-- The written text of an address, a prefix and a record.
+use Rattle.std.specs.Prelude.{ℕ, ◌/◌, ◌%◌, ◌<◌, true, List, [], ◌∷◌, ◌++◌, map, codes}
+use Rattle.std.specs.Char.{digit_char}
+use Rattle.std.specs.Fmt.{decimal}
+use Rattle.std.specs.List.{AllByRecursion, flat_map, join_with_byte}
+use Rattle.lisp_records.specs.declared.address.Addr.{Addr}
+use Rattle.lisp_records.specs.declared.address.Addr.TheVariants.{V4, V6}
+use Rattle.lisp_records.specs.declared.locator.Locator.{Locator}
+use Rattle.lisp_records.specs.Address.{Block, octets, IsWhole}
+use Rattle.lisp_records.specs.Record.{Mapping, IsMapping}
+use Rattle.lisp_texts.specs.Text.{numbers_of_locator, shown_locator}
+
+-- an octet as two lower case hexadecimal digits
+abbrev pub hex_text : ℕ → List ℕ
+hex_text octet = digit_char (octet / 16) ∷ digit_char (octet % 16) ∷ []
+
+-- the groups of an IPv6 address, of two octets and so of four digits each
+abbrev pub groups_text : List ℕ → List (List ℕ)
+groups_text (high ∷ low ∷ octets) = (hex_text high ++ hex_text low) ∷ groups_text octets
+groups_text _ = []
+
+-- numbers in decimal, joined by dots (46); groups, joined by colons (58)
+abbrev pub addr_text : Addr → List ℕ
+addr_text (V4 octets) = join_with_byte 46 (map decimal octets)
+addr_text (V6 octets) = join_with_byte 58 (groups_text octets)
+
+abbrev pub prefix_text : Block → List ℕ
+prefix_text b = addr_text b.addr ++ codes "/" ++ decimal b.mask_len
+
+-- the four numbers of a locator, each behind a slash (47)
+abbrev pub numbers_text : Locator → List ℕ
+numbers_text l = flat_map (λ n. 47 ∷ decimal n) (numbers_of_locator l)
+
+abbrev pub locator_text : Locator → List ℕ
+locator_text l = addr_text l.addr ++ numbers_text l
+
+-- a prefix, `=`, the TTL, and the locators, each behind a plus sign (43)
+abbrev pub record_text : Mapping → List ℕ
+record_text m = prefix_text m.eid ++ codes "=" ++ decimal m.ttl ++ flat_map (λ l. 43 ∷ locator_text l) m.locators
+
+-- what a record's text shows of it
+abbrev pub shown : Mapping → Mapping
+shown m = record m { act = 0; authoritative = true; version = 0; locators = map shown_locator m.locators }
+
+-- an address with the octets of its family, each a byte
+pub record HasOctets (a : Addr) : Type 0 where
+  pub whole : IsWhole a
+  pub bytes : AllByRecursion (λ n. n < 256) (octets a)
+
+-- a locator with such an address, each of its numbers a byte
+pub record HasNumbers (l : Locator) : Type 0 where
+  pub addr : HasOctets l.addr
+  pub bytes : AllByRecursion (λ n. n < 256) (numbers_of_locator l)
+
+-- what a record's text is read back of: each number fits its place
+pub record HasText (m : Mapping) : Type 0 where
+  pub mapping : IsMapping m
+  pub eid : HasOctets m.eid.addr
+  pub locators : AllByRecursion HasNumbers m.locators

@@ -1,0 +1,222 @@
+//! The texts of records.
+
+ghost use Rattle.std.specs.Prelude.{◌≡◌, ◌<◌, ◌==◌, ◌++◌, ◌∷◌, Some, map, IfSome, IfOk, OnOk, string_bytes, All};
+ghost use Rattle.std.specs.List.{flat_map, slice_split};
+ghost use Rattle.std.specs.Option.{option_map};
+ghost use Rattle.lisp_records.specs.Record.{Mapping};
+ghost use Rattle.lisp_texts.specs.Text.{IsRecordText};
+ghost use Rattle.lisp_texts.specs.Reading.{cut, number_below, numbers_of, located, locator_of, locators_of, front_of, record_of, record_text_of};
+ghost use Rattle.lisp_texts.specs.Written.{numbers_text, locator_text, record_text, HasNumbers, HasText};
+
+use crate::number::number_from_text;
+use crate::text::{addr_from_text, known_addr, prefix_from_text, put_addr, put_prefix};
+use lisp_records::{Addr, Locator, MapRecord, Prefix};
+use std::alloc::{AllocError, Allocator};
+
+/// The record that a text spells, or `None`: a prefix as for [`prefix_from_text`], `=`, the TTL,
+/// and for each locator `+`, its address and, all or none, its four numbers:
+///
+/// ```text
+/// 10.1.0.0/16=1440+192.0.2.1+192.0.2.2/2/50/255/0
+/// ```
+///
+/// They are priority, weight, multicast priority and multicast weight, from 0 to 255; left out,
+/// they are 1, 100, 255 and 0. Numbers may have leading zeros. There are at most 255 locators.
+/// ACT and the Map-Version are 0, A is set; of a locator L and R are set, and p is clear.
+pub fn record_from_text<A: Allocator + Copy>(
+    alloc: A,
+    text: &str,
+) -> Result<Option<MapRecord<A>>, AllocError>
+    ensures found { IfOk result (λ r. IfSome r (λ m. IsRecordText text.now m)) }
+    ensures only { (m : Mapping) → IsRecordText text.now m → IfOk result (λ r. r ≡ Some m) }
+    ensures exact { IfOk result (λ r. r ≡ record_text_of text.now) }
+{
+    let pieces = pieces(alloc, text)?;
+    record(alloc, &pieces)
+}
+
+/// The text of a record: its prefix, `=`, its TTL, and for each locator `+`, its address and its
+/// four numbers. ACT, A, the Map-Version and the locators' flags are not shown.
+pub fn record_to_text<A: Allocator, B: Allocator>(
+    alloc: A,
+    entry: &MapRecord<B>,
+) -> Result<String<A>, AllocError>
+    ensures text { IfOk result (λ t. string_bytes t ≡ record_text entry.now) }
+
+    // Every record of the program has this text, so that what is written is read again.
+    ensures known { HasText entry.now }
+{
+    known_record(entry);
+    let ttl = entry.ttl();
+    let mut text = String::new(alloc);
+    put_prefix(&mut text, entry.eid())?;
+    write!(&mut text, "={ttl}")?;
+    put_locators(&mut text, entry.locators())?;
+    Ok(text)
+}
+
+// What the types promise of every record.
+fn known_record<A: Allocator>(entry: &MapRecord<A>)
+    ensures { HasText entry.now }
+{
+    let (_ttl, _act, _version) = (entry.ttl(), entry.act(), entry.version());
+    known_addr(entry.eid().addr());
+    known_locators(entry.locators());
+}
+
+fn known_locators(locators: &[Locator])
+    ensures { All HasNumbers locators.now }
+{
+    for locator in locators {
+        known_locator(*locator);
+    }
+}
+
+fn known_locator(locator: Locator)
+    ensures { HasNumbers locator }
+{
+    known_addr(locator.addr);
+}
+
+// The pieces between plus signs.
+fn pieces<A: Allocator>(alloc: A, text: &str) -> Result<Vec<&str, A>, AllocError>
+    ensures { IfOk result (λ v. map (λ x. x.now) v.items ≡ slice_split (λ b. b == 43) text.now) }
+{
+    text.split('+').collect(alloc)
+}
+
+// A record from its pieces.
+#[tactic(auto, unfolding(crate::specs::Reading::record_of))]
+fn record<A: Allocator + Copy>(
+    alloc: A,
+    pieces: &[&str],
+) -> Result<Option<MapRecord<A>>, AllocError>
+    ensures { IfOk result (λ r. r ≡ record_of (map (λ x. x.now) pieces.now)) }
+{
+    let [piece, pieces @ ..] = pieces else {
+        return Ok(None);
+    };
+    let Some((eid, ttl)) = front(piece) else {
+        return Ok(None);
+    };
+    let Some(locators) = locators(alloc, pieces)? else {
+        return Ok(None);
+    };
+    Ok(MapRecord::new(ttl, 0, true, 0, eid, locators))
+}
+
+// A prefix and a TTL.
+#[tactic(auto, unfolding(crate::specs::Reading::front_of, crate::specs::Reading::number_below))]
+fn front(text: &str) -> Option<(Prefix, u32)>
+    ensures { result ≡ front_of text.now }
+{
+    let (eid, ttl) = parted(text, '=')?;
+    let eid = prefix_from_text(eid)?;
+    let ttl = u32::try_from(number_from_text(ttl)?).ok()?;
+    Some((eid, ttl))
+}
+
+// The locators of pieces, one each.
+fn locators<A: Allocator>(alloc: A, pieces: &[&str]) -> Result<Option<Vec<Locator, A>>, AllocError>
+    ensures { IfOk result (λ r. option_map (λ v. v.items) r ≡ locators_of (map (λ x. x.now) pieces.now)) }
+{
+    let mut locators = Vec::new(alloc);
+    for piece in pieces {
+        let Some(locator) = locator(piece) else {
+            return Ok(None);
+        };
+        locators.push(locator)?;
+    }
+    Ok(Some(locators))
+}
+
+// A locator: its address, and its numbers where a slash follows.
+#[tactic(auto, unfolding(crate::specs::Reading::locator_of))]
+fn locator(text: &str) -> Option<Locator>
+    ensures { result ≡ locator_of text.now }
+{
+    match parted(text, '/') {
+        None => Some(located(addr_from_text(text)?, [1, 100, 255, 0])),
+        Some((addr, behind)) => {
+            let addr = addr_from_text(addr)?;
+            Some(located(addr, numbers(behind)?))
+        }
+    }
+}
+
+// The locator with this address, and with this priority and weight, multicast priority and weight.
+fn located(addr: Addr, numbers: [u8; 4]) -> Locator
+    ensures { result ≡ located addr numbers }
+{
+    let [priority, weight, m_priority, m_weight] = numbers;
+    Locator {
+        priority,
+        weight,
+        m_priority,
+        m_weight,
+        local: true,
+        probe: false,
+        reachable: true,
+        addr,
+    }
+}
+
+// Four numbers, joined by slashes.
+#[tactic(auto, unfolding(crate::specs::Reading::numbers_of))]
+fn numbers(text: &str) -> Option<[u8; 4]>
+    ensures { result ≡ numbers_of text.now }
+{
+    let (first, rest) = parted(text, '/')?;
+    let (second, rest) = parted(rest, '/')?;
+    let (third, fourth) = parted(rest, '/')?;
+    Some([byte(first)?, byte(second)?, byte(third)?, byte(fourth)?])
+}
+
+// A number from 0 to 255; leading zeros are allowed.
+#[tactic(auto, unfolding(crate::specs::Reading::number_below))]
+fn byte(text: &str) -> Option<u8>
+    ensures { result ≡ number_below 256 text.now }
+{
+    u8::try_from(number_from_text(text)?).ok()
+}
+
+// The parts before and behind the first mark.
+#[tactic(auto, unfolding(crate::specs::Reading::cut))]
+fn parted(text: &str, mark: char) -> Option<(&str, &str)>
+    requires { mark < 128 }
+    ensures { option_map (λ p. (p.0.now, p.1.now)) result ≡ cut mark text.now }
+{
+    text.split_once(mark)
+}
+
+// Appends the texts of locators, each behind a plus sign. Want of memory may leave a part of them.
+#[tactic(auto, using(crate::proofs::Appends::steps))]
+fn put_locators<A: Allocator>(text: &mut String<A>, locators: &[Locator]) -> Result<(), AllocError>
+    ensures { OnOk result (string_bytes text.new ≡ string_bytes text.old ++ flat_map (λ l. 43 ∷ locator_text l) locators.now) }
+{
+    for locator in locators {
+        text.push('+')?;
+        put_locator(text, locator)?;
+    }
+    Ok(())
+}
+
+// Appends the text of a locator. Want of memory may leave a part of it.
+#[tactic(auto, using(crate::proofs::Appends::steps))]
+fn put_locator<A: Allocator>(text: &mut String<A>, locator: &Locator) -> Result<(), AllocError>
+    ensures { OnOk result (string_bytes text.new ≡ string_bytes text.old ++ locator_text locator.now) }
+{
+    put_addr(text, locator.addr)?;
+    put_numbers(text, locator)?;
+    Ok(())
+}
+
+// Appends the numbers of a locator, each behind a slash.
+fn put_numbers<A: Allocator>(text: &mut String<A>, locator: &Locator) -> Result<(), AllocError>
+    ensures { OnOk result (string_bytes text.new ≡ string_bytes text.old ++ numbers_text locator.now) }
+{
+    let (priority, weight) = (locator.priority, locator.weight);
+    let (m_priority, m_weight) = (locator.m_priority, locator.m_weight);
+    write!(text, "/{priority}/{weight}/{m_priority}/{m_weight}")?;
+    Ok(())
+}

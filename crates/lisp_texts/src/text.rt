@@ -1,0 +1,242 @@
+//! The texts of addresses and prefixes.
+
+ghost use Rattle.std.specs.Prelude.{◌≡◌, ◌<◌, ◌==◌, ◌++◌, IfSome, IfOk, OnOk, map, position, string_bytes};
+ghost use Rattle.std.specs.Fmt.{decimal};
+ghost use Rattle.std.specs.List.{AllByRecursion, join_with_byte};
+ghost use Rattle.std.specs.Option.{option_map};
+ghost use Rattle.lisp_records.specs.Address.{Block, IsBlock};
+ghost use Rattle.lisp_texts.specs.Text.{IsAddressText, IsPrefixText};
+ghost use Rattle.lisp_texts.specs.Reading.{cut, byte_of, digit_of, group_of, v4_of, v6_of, address_of, prefix_of};
+ghost use Rattle.lisp_texts.specs.Written.{hex_text, groups_text, addr_text, prefix_text, HasOctets};
+
+use lisp_records::{Addr, Prefix};
+use std::alloc::{AllocError, Allocator};
+
+/// The address that a text spells, or `None`:
+///
+/// ```text
+/// IPv4  four numbers from 0 to 255, joined by dots, without leading zeros: 10.1.0.255
+/// IPv6  eight groups of one to four hexadecimal digits, joined by colons: 2001:DB8:0:0:0:0:0:1
+/// ```
+///
+/// There is no `::`, no sign and no space.
+pub fn addr_from_text(text: &str) -> Option<Addr>
+    ensures found { IfSome result (λ a. IsAddressText text.now a) }
+    ensures only { (a : Addr) → IsAddressText text.now a → result ≡ Some a }
+    ensures exact { result ≡ address_of text.now }
+{
+    address(text.as_bytes())
+}
+
+/// The prefix that a text spells, or `None`: an address as for [`addr_from_text`], `/`, and the
+/// mask length, at most 32 or 128, without leading zeros: `10.1.0.0/16`. Bits past the mask may
+/// be set in the text and are cleared in the prefix.
+pub fn prefix_from_text(text: &str) -> Option<Prefix>
+    ensures found { IfSome result (λ b. IsPrefixText text.now b) }
+    ensures only { (b : Block) → IsPrefixText text.now b → result ≡ Some b }
+    ensures exact { result ≡ prefix_of text.now }
+{
+    prefix(text.as_bytes())
+}
+
+/// The text of an address: for IPv4 four decimal numbers joined by dots, for IPv6 eight groups of
+/// four lower case hexadecimal digits joined by colons.
+pub fn addr_to_text<A: Allocator>(alloc: A, addr: &Addr) -> Result<String<A>, AllocError>
+    ensures text { IfOk result (λ t. string_bytes t ≡ addr_text addr.now) }
+
+    // Every address of the program has this text, so that what is written is read again.
+    ensures known { HasOctets addr.now }
+{
+    known_addr(*addr);
+    let mut text = String::new(alloc);
+    put_addr(&mut text, *addr)?;
+    Ok(text)
+}
+
+/// The text of a prefix: its address as for [`addr_to_text`], `/`, and the mask length.
+pub fn prefix_to_text<A: Allocator>(alloc: A, prefix: &Prefix) -> Result<String<A>, AllocError>
+    ensures text { IfOk result (λ t. string_bytes t ≡ prefix_text prefix.now) }
+
+    // Every prefix of the program has this text, so that what is written is read again.
+    ensures known { HasOctets prefix.now.addr }
+    ensures block { IsBlock prefix.now }
+{
+    known_addr(prefix.addr());
+    let mut text = String::new(alloc);
+    put_prefix(&mut text, *prefix)?;
+    Ok(text)
+}
+
+/// What the types promise of every address, for the proof of what is read again.
+pub(crate) fn known_addr(addr: Addr)
+    ensures { HasOctets addr }
+{
+    match addr {
+        Addr::V4(octets) => known_bytes(&octets),
+        Addr::V6(octets) => known_bytes(&octets),
+    }
+}
+
+// What the type promises of every byte of a list.
+#[tactic(auto, using(crate::proofs::Known::bytes_small))]
+fn known_bytes(bytes: &[u8])
+    ensures { AllByRecursion (λ n. n < 256) bytes.now }
+{}
+
+// A prefix of either family.
+#[tactic(auto, unfolding(crate::specs::Reading::prefix_of))]
+fn prefix(text: &[u8]) -> Option<Prefix>
+    ensures { result ≡ prefix_of text.now }
+{
+    let (addr, mask_len) = cut(text, b'/')?;
+    Prefix::new(address(addr)?, byte(mask_len)?)
+}
+
+// An address of either family.
+#[tactic(auto, unfolding(crate::specs::Reading::address_of))]
+fn address(text: &[u8]) -> Option<Addr>
+    ensures { result ≡ address_of text.now }
+{
+    match v4(text) {
+        Some(octets) => Some(Addr::V4(octets)),
+        None => v6(text).map(Addr::V6),
+    }
+}
+
+// The octets of an IPv4 address.
+#[tactic(auto, unfolding(crate::specs::Reading::v4_of))]
+fn v4(text: &[u8]) -> Option<[u8; 4]>
+    ensures { result ≡ v4_of text.now }
+{
+    let (first, rest) = cut(text, b'.')?;
+    let (second, rest) = cut(rest, b'.')?;
+    let (third, fourth) = cut(rest, b'.')?;
+    Some([byte(first)?, byte(second)?, byte(third)?, byte(fourth)?])
+}
+
+// A number from 0 to 255 in decimal, without leading zeros.
+#[tactic(auto, unfolding(crate::specs::Reading::byte_of))]
+fn byte(text: &[u8]) -> Option<u8>
+    ensures { result ≡ byte_of text.now }
+{
+    match text {
+        [c @ b'0'..=b'9'] => Some(*c - b'0'),
+        [c @ b'1'..=b'9', d @ b'0'..=b'9'] => Some((*c - b'0') * 10 + (*d - b'0')),
+        [c @ b'1'..=b'2', d @ b'0'..=b'9', e @ b'0'..=b'9'] => {
+            ((*c - b'0') * 100).checked_add((*d - b'0') * 10 + (*e - b'0'))
+        }
+        _ => None,
+    }
+}
+
+// The octets of an IPv6 address.
+fn v6(text: &[u8]) -> Option<[u8; 16]>
+    ensures { result ≡ v6_of text.now }
+{
+    let mut octets = [0; 16];
+    let mut rest = text;
+    for at in 0..7 {
+        let (digits, behind) = cut(rest, b':')?;
+        [octets[2 * at], octets[2 * at + 1]] = group(digits)?.to_be_bytes();
+        rest = behind;
+    }
+    [octets[14], octets[15]] = group(rest)?.to_be_bytes();
+    Some(octets)
+}
+
+// The number that one to four hexadecimal digits stand for.
+#[tactic(auto, using(crate::proofs::Hex::digits), unfolding(crate::specs::Reading::group_of))]
+fn group(text: &[u8]) -> Option<u16>
+    ensures { result ≡ group_of text.now }
+{
+    if text.is_empty() || text.len() > 4 {
+        return None;
+    }
+    let mut value = 0;
+    for digit in text {
+        value = value * 16 + u16::from(hex_digit(*digit)?);
+    }
+    Some(value)
+}
+
+// The value of a hexadecimal digit, in either letter case.
+fn hex_digit(digit: u8) -> Option<u8>
+    ensures { result ≡ digit_of digit }
+{
+    match digit {
+        b'0'..=b'9' => Some(digit - b'0'),
+        b'A'..=b'F' => Some(digit - b'A' + 10),
+        b'a'..=b'f' => Some(digit - b'a' + 10),
+        _ => None,
+    }
+}
+
+// The parts before and behind the first mark.
+#[tactic(auto, using(std::proofs::lemmas::List::take_rest), unfolding(crate::specs::Reading::cut))]
+fn cut(text: &[u8], mark: u8) -> Option<(&[u8], &[u8])>
+    ensures { option_map (λ p. (p.0.now, p.1.now)) result ≡ cut mark text.now }
+{
+    let place = place_of(text, mark)?;
+    Some((&text[..place], &text[place + 1..]))
+}
+
+// The place of the first mark.
+fn place_of(text: &[u8], mark: u8) -> Option<usize>
+    ensures { result ≡ position (λ byte. byte == mark) text.now }
+{
+    text.iter().position(|byte| *byte == mark)
+}
+
+/// Appends the text of a prefix. Want of memory may leave a part of it.
+#[tactic(auto, using(crate::proofs::Appends::steps))]
+pub(crate) fn put_prefix<A: Allocator>(
+    text: &mut String<A>,
+    prefix: Prefix,
+) -> Result<(), AllocError>
+    ensures { OnOk result (string_bytes text.new ≡ string_bytes text.old ++ prefix_text prefix) }
+{
+    let mask_len = prefix.mask_len();
+    put_addr(text, prefix.addr())?;
+    write!(text, "/{mask_len}")?;
+    Ok(())
+}
+
+/// Appends the text of an address. Want of memory may leave a part of it.
+pub(crate) fn put_addr<A: Allocator>(text: &mut String<A>, addr: Addr) -> Result<(), AllocError>
+    ensures { OnOk result (string_bytes text.new ≡ string_bytes text.old ++ addr_text addr) }
+{
+    match addr {
+        Addr::V4(octets) => put_v4(text, octets),
+        Addr::V6(octets) => put_v6(text, octets),
+    }
+}
+
+// Appends four decimal numbers, joined by dots.
+fn put_v4<A: Allocator>(text: &mut String<A>, octets: [u8; 4]) -> Result<(), AllocError>
+    ensures { OnOk result (string_bytes text.new ≡ string_bytes text.old ++ join_with_byte 46 (map decimal octets)) }
+{
+    let [a, b, c, d] = octets;
+    write!(text, "{a}.{b}.{c}.{d}")?;
+    Ok(())
+}
+
+// Appends eight groups, joined by colons.
+fn put_v6<A: Allocator>(text: &mut String<A>, octets: [u8; 16]) -> Result<(), AllocError>
+    ensures { OnOk result (string_bytes text.new ≡ string_bytes text.old ++ join_with_byte 58 (groups_text octets)) }
+{
+    put_group(text, octets[0], octets[1])?;
+    for at in 1..8 {
+        text.push(':')?;
+        put_group(text, octets[2 * at], octets[2 * at + 1])?;
+    }
+    Ok(())
+}
+
+// Appends the four digits of a group.
+#[tactic(auto, using(crate::proofs::Appends::octets))]
+fn put_group<A: Allocator>(text: &mut String<A>, high: u8, low: u8) -> Result<(), AllocError>
+    ensures { OnOk result (string_bytes text.new ≡ string_bytes text.old ++ (hex_text high ++ hex_text low)) }
+{
+    write!(text, "{high:02x}{low:02x}")?;
+    Ok(())
+}
