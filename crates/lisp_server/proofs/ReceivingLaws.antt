@@ -1,0 +1,225 @@
+-- What a Map-Register that is taken, or refused, amounts to.
+use Rattle.std.proofs.Common.{◌≡◌, ◌≤◌, ℕ, Bool, true, false, List, [], ◌∷◌, Option, Some, None, Result, Ok, Err, ok_or, IsTrue, not, refl, sym, ap, ◌∙◌, subst, inl, inr, arith}
+use Rattle.lisp_records.specs.declared.address.Addr.{Addr}
+use Rattle.lisp_records.specs.Row.{Holding}
+use Rattle.lisp_messages.specs.Message.{Registration, Registers, Notification, Notifies}
+use Rattle.lisp_messages.specs.Reading.{message_at, Fails}
+use Rattle.lisp_messages.specs.declared.fault.ReadFault.{ReadFault}
+use Rattle.lisp_messages.specs.declared.fault.ReadFault.TheVariants as reads
+use Rattle.lisp_messages.specs.Authentic.{is_authentic}
+use Rattle.lisp_sites.specs.Site.{SiteEntry, site_of, secret_of}
+use Rattle.lisp_store.specs.declared.pair.Pair.{Pair}
+use Rattle.lisp_store.specs.declared.fault.StoreFault.{StoreFault}
+use Rattle.lisp_store.specs.Kept.{Kept, kept_at, SameElsewhere, InDoubt}
+use Rattle.lisp_store.specs.Store.{StoreState, Rose, Proceeds}
+use Rattle.lisp_server.specs.declared.refused.Refused.{Refused}
+use Rattle.lisp_server.specs.declared.refused.Refused.TheVariants as refusals
+use Rattle.lisp_server.specs.declared.contacts.Contact.{Contact}
+use Rattle.lisp_server.specs.declared.tables.Tables.{Tables}
+use Rattle.lisp_server.specs.declared.took.Took.TheVariants.{Accepted}
+use Rattle.lisp_server.specs.Refused.{refused_of_notify, refused_of_read}
+use Rattle.lisp_server.specs.Registration.{router_of, pair_of, holdings}
+use Rattle.lisp_server.specs.Rows.{Sets}
+use Rattle.lisp_server.specs.Nonces.{Nonces, nonce_at, SetsNonce}
+use Rattle.lisp_server.specs.Contacts.{SetsContact}
+use Rattle.lisp_server.specs.Server.{ServerState, SameTables, state_of}
+use Rattle.lisp_server.specs.Checks.{Passed, secret_under, register_checked, checked, read_checked, reply_of, ◌>>=◌, check, refused_at, first_not_allowed}
+use Rattle.lisp_server.specs.Receiving.{IsFresh, KeepsLists, HasCause, Stops, NotKept, Accepts, Refuses, SaveFailed}
+
+abbrev register_passed : Registration → List ℕ → Result Passed Refused
+register_passed m secret = Ok (record { message = m; secret = secret })
+
+pub proceeds_on : {a b c : StoreState} → Proceeds a b → Proceeds b c → Proceeds a c
+proceeds_on {a} {b} {c} first second = record {
+  honest = second.honest ∙ first.honest;
+  obedient = second.obedient ∙ first.obedient;
+  count = omega (arith, first.count, second.count);
+  quiet = λ q. (let one = first.quiet q in let two = second.quiet one.0 in (two.0, two.1 ∙ one.1));
+}
+
+rose_later : (a b c : StoreState) → a.faults ≤ b.faults → Rose b c → Rose a c
+rose_later a b c up (inl more) = inl (omega (arith, up, more))
+rose_later a b c up (inr top) = inr top
+
+-- what is known once a nonce was saved, for a pair and nonce
+pub record Saved {A : Type 0} (sites : List SiteEntry) (bytes : List ℕ) (m : Registration) (from : Addr) (now : ℕ) (old mid new : Tables A) (before between after : StoreState) (rows : List Holding) (reply : Option (List ℕ)) (pair : Pair) (nonce : ℕ) : Type 0 where
+  pub secret : List ℕ
+  pub checks : secret_under sites bytes m ≡ Ok secret
+  pub fresh : IsFresh (nonce_at old.nonces.nonces pair) before pair nonce
+  pub loaded : KeepsLists before between
+  pub honest : between.is_honest ≡ before.is_honest
+  pub same : SameTables old mid
+  pub brings : rows ≡ holdings m from now
+  pub replies : reply ≡ reply_of secret m
+  pub sets : Sets mid.rows.rows new.rows.rows rows
+  pub nonces : SetsNonce mid.nonces.nonces new.nonces.nonces pair nonce
+  pub contacts : SetsContact mid.contacts.contacts new.contacts.contacts (record { router = pair.router; key = pair.key; from = from })
+  pub done : IsTrue between.is_honest → kept_at after.kept pair ≡ Some nonce ∷ []
+  pub others : IsTrue between.is_honest → SameElsewhere between.kept after.kept pair
+
+module _ {A : Type 0} {sites : List SiteEntry} {bytes : List ℕ} {m : Registration} {from : Addr} {now : ℕ} {old mid new : Tables A} {before between after : StoreState} {rows : List Holding} {reply : Option (List ℕ)} where
+  accepts_own : Saved sites bytes m from now old mid new before between after rows reply (pair_of m) m.nonce → Accepts {A = A} (register_checked sites bytes m) (state_of sites old) (state_of sites new) before after from now (Accepted (router_of m) m.key_id m.nonce reply)
+  accepts_own s = record {
+    passed = record { message = m; secret = s.secret };
+    checks = ap (λ r. r >>= λ (secret : List ℕ). register_passed m secret) s.checks;
+    fresh = s.fresh;
+    answer = ap (λ (r : Option (List ℕ)). Accepted (router_of m) m.key_id m.nonce r) s.replies;
+    rows = subst (λ (was : List Holding). Sets was new.rows.rows (holdings m from now)) s.same.rows (subst (λ (given : List Holding). Sets mid.rows.rows new.rows.rows given) s.brings s.sets);
+    nonces = subst (λ (was : Nonces). SetsNonce was new.nonces.nonces (pair_of m) m.nonce) s.same.nonces s.nonces;
+    contacts = subst (λ (was : List Contact). SetsContact was new.contacts.contacts (record { router = router_of m; key = m.key_id; from = from })) s.same.contacts s.contacts;
+    sites = refl;
+    kept = λ honest. s.done (subst (λ (b : Bool). IsTrue b) (sym s.honest) honest);
+    others = λ honest. subst (λ (was : Kept). SameElsewhere was after.kept (pair_of m)) (s.loaded honest) (s.others (subst (λ (b : Bool). IsTrue b) (sym s.honest) honest));
+  }
+
+  pub accepts : (pair : Pair) (nonce : ℕ) → pair ≡ pair_of m → nonce ≡ m.nonce → Saved sites bytes m from now old mid new before between after rows reply pair nonce → Accepts {A = A} (register_checked sites bytes m) (state_of sites old) (state_of sites new) before after from now (Accepted pair.router pair.key nonce reply)
+  accepts pair nonce p n = subst (λ (x : Pair × ℕ). Saved sites bytes m from now old mid new before between after rows reply x.0 x.1 → Accepts {A = A} (register_checked sites bytes m) (state_of sites old) (state_of sites new) before after from now (Accepted x.0.router x.0.key x.1 reply)) (λ i. (sym p i, sym n i)) accepts_own
+
+-- a fault's cause lies later than where the store was before
+cause_later : (fault : StoreFault) (a b c : StoreState) → a.faults ≤ b.faults → HasCause fault b c → HasCause fault a c
+cause_later fault a b c up cause other = rose_later a b c up (cause other)
+
+-- what is known where the save failed, for a pair and nonce
+pub record Unsaved {A : Type 0} (sites : List SiteEntry) (bytes : List ℕ) (m : Registration) (old : Tables A) (before between after : StoreState) (why : Refused) (pair : Pair) (nonce : ℕ) : Type 0 where
+  pub secret : List ℕ
+  pub checks : secret_under sites bytes m ≡ Ok secret
+  pub fresh : IsFresh (nonce_at old.nonces.nonces pair) before pair nonce
+  pub loaded : KeepsLists before between
+  pub went : Proceeds before between
+  pub not_kept : NotKept between after pair nonce why
+  pub others : IsTrue between.is_honest → SameElsewhere between.kept after.kept pair
+
+module _ {A : Type 0} {sites : List SiteEntry} {bytes : List ℕ} {m : Registration} {old : Tables A} {before between after : StoreState} where
+  save_failed : (fault : StoreFault) → Unsaved sites bytes m old before between after (refusals.StoreSave fault) (pair_of m) m.nonce → SaveFailed (register_checked sites bytes m) (state_of sites old) before after fault
+  save_failed fault s = record {
+    passed = record { message = m; secret = s.secret };
+    checks = ap (λ r. r >>= λ (secret : List ℕ). register_passed m secret) s.checks;
+    fresh = s.fresh;
+    cause = cause_later fault before between after s.went.count s.not_kept.0;
+    sound = s.not_kept.1;
+    doubt = λ honest. subst (λ (was : Kept). InDoubt (kept_at was (pair_of m)) (kept_at after.kept (pair_of m)) m.nonce) (s.loaded honest) (s.not_kept.2 (subst (λ (b : Bool). IsTrue b) (sym s.went.honest) honest));
+    others = λ honest. subst (λ (was : Kept). SameElsewhere was after.kept (pair_of m)) (s.loaded honest) (s.others (subst (λ (b : Bool). IsTrue b) (sym s.went.honest) honest));
+  }
+
+  unsaved_own : (why : Refused) → Unsaved sites bytes m old before between after why (pair_of m) m.nonce → Refuses (register_checked sites bytes m) (state_of sites old) before after why
+  unsaved_own (refusals.StoreSave fault) s = save_failed fault s
+  unsaved_own (refusals.Read _) s = absurd s.not_kept
+  unsaved_own refusals.NotMine s = absurd s.not_kept
+  unsaved_own refusals.UnknownSite s = absurd s.not_kept
+  unsaved_own refusals.UnknownKey s = absurd s.not_kept
+  unsaved_own refusals.BadAuth s = absurd s.not_kept
+  unsaved_own refusals.MergeAsked s = absurd s.not_kept
+  unsaved_own (refusals.NotAllowed _) s = absurd s.not_kept
+  unsaved_own (refusals.StoreLoad _) s = absurd s.not_kept
+  unsaved_own (refusals.Replay _) s = absurd s.not_kept
+  unsaved_own refusals.OutOfMemory s = absurd s.not_kept
+  unsaved_own refusals.NoNotice s = absurd s.not_kept
+
+  pub save_fails : (why : Refused) (pair : Pair) (nonce : ℕ) → pair ≡ pair_of m → nonce ≡ m.nonce → Unsaved sites bytes m old before between after why pair nonce → Refuses (register_checked sites bytes m) (state_of sites old) before after why
+  save_fails why pair nonce p n = subst (λ (x : Pair × ℕ). Unsaved sites bytes m old before between after why x.0 x.1 → Refuses (register_checked sites bytes m) (state_of sites old) before after why) (λ i. (sym p i, sym n i)) (unsaved_own why)
+
+-- the refusals that the checks of a Map-Register give
+abbrev IsCheck : Refused → Type 0
+IsCheck refusals.UnknownSite = Unit {0}
+IsCheck refusals.UnknownKey = Unit {0}
+IsCheck refusals.BadAuth = Unit {0}
+IsCheck refusals.MergeAsked = Unit {0}
+IsCheck (refusals.NotAllowed _) = Unit {0}
+IsCheck _ = ⊥
+
+OnlyChecks : {X : Type 0} → Result X Refused → Type 0
+OnlyChecks (Ok x) = Unit {0}
+OnlyChecks (Err e) = IsCheck e
+
+bind_only : {X Y : Type 0} (r : Result X Refused) (f : X → Result Y Refused) → OnlyChecks r → ((x : X) → OnlyChecks (f x)) → OnlyChecks (r >>= f)
+unfolding OnlyChecks
+bind_only (Ok x) f here next = next x
+bind_only (Err e) f here next = here
+
+ok_or_only : {X : Type 0} (o : Option X) (e : Refused) → IsCheck e → OnlyChecks (ok_or o e)
+unfolding OnlyChecks
+ok_or_only None e is = is
+ok_or_only (Some x) e is = tt
+
+check_only : (b : Bool) (e : Refused) → IsCheck e → OnlyChecks (check b e)
+unfolding OnlyChecks
+check_only true e is = tt
+check_only false e is = is
+
+place_only : (o : Option ℕ) (secret : List ℕ) → OnlyChecks (refused_at o secret)
+unfolding OnlyChecks
+place_only None secret = tt
+place_only (Some place) secret = tt
+
+secret_only : (sites : List SiteEntry) (bytes : List ℕ) (m : Registration) → OnlyChecks (secret_under sites bytes m)
+unfolding secret_under
+secret_only sites bytes m = bind_only _ _ (ok_or_only (site_of sites m.site) refusals.UnknownSite tt) (λ site. bind_only _ _ (ok_or_only (secret_of site m.key_id) refusals.UnknownKey tt) (λ secret. bind_only _ _ (check_only (is_authentic bytes secret) refusals.BadAuth tt) (λ b. bind_only _ _ (check_only (not m.merge) refusals.MergeAsked tt) (λ d. place_only (first_not_allowed site m.records) secret))))
+
+only_of : {X : Type 0} (r : Result X Refused) (e : Refused) → OnlyChecks r → r ≡ Err e → IsCheck e
+unfolding OnlyChecks
+only_of r e only is = subst (λ (x : Result _ Refused). OnlyChecks x) is only
+
+refuses_check : (e : Refused) (c : Result Passed Refused) (old : ServerState) (before : StoreState) → IsCheck e → c ≡ Err e → Refuses c old before before e
+refuses_check refusals.UnknownSite c old before is at = (at, refl)
+refuses_check refusals.UnknownKey c old before is at = (at, refl)
+refuses_check refusals.BadAuth c old before is at = (at, refl)
+refuses_check refusals.MergeAsked c old before is at = (at, refl)
+refuses_check (refusals.NotAllowed _) c old before is at = (at, refl)
+refuses_check (refusals.Read _) c old before is at = absurd is
+refuses_check refusals.NotMine c old before is at = absurd is
+refuses_check (refusals.StoreLoad _) c old before is at = absurd is
+refuses_check (refusals.Replay _) c old before is at = absurd is
+refuses_check refusals.OutOfMemory c old before is at = absurd is
+refuses_check (refusals.StoreSave _) c old before is at = absurd is
+refuses_check refusals.NoNotice c old before is at = absurd is
+
+-- a Map-Register fails a check
+pub check_fails : (sites : List SiteEntry) (bytes : List ℕ) (m : Registration) (e : Refused) (old : ServerState) (before : StoreState) → secret_under sites bytes m ≡ Err e → Refuses (register_checked sites bytes m) old before before e
+check_fails sites bytes m e old before at = refuses_check e (register_checked sites bytes m) old before (only_of (secret_under sites bytes m) e (secret_only sites bytes m) at) (ap (λ r. r >>= λ (secret : List ℕ). register_passed m secret) at)
+
+-- the nonce isn't let through
+pub stops : (sites : List SiteEntry) (bytes : List ℕ) (m : Registration) (secret : List ℕ) (old : ServerState) (before after : StoreState) (pair : Pair) (nonce : ℕ) (e : Refused) → pair ≡ pair_of m → nonce ≡ m.nonce → secret_under sites bytes m ≡ Ok secret → KeepsLists before after → Stops (nonce_at old.nonces pair) before after pair nonce e → Refuses (register_checked sites bytes m) old before after e
+stops sites bytes m secret old before after pair nonce e p n checks same = subst (λ (x : Pair × ℕ). Stops (nonce_at old.nonces x.0) before after x.0 x.1 e → Refuses (register_checked sites bytes m) old before after e) (λ i. (sym p i, sym n i)) (own e)
+  where
+    passes : register_checked sites bytes m ≡ register_passed m secret
+    passes = ap (λ r. r >>= λ (s : List ℕ). register_passed m s) checks
+
+    own : (e : Refused) → Stops (nonce_at old.nonces (pair_of m)) before after (pair_of m) m.nonce e → Refuses (register_checked sites bytes m) old before after e
+    own (refusals.StoreLoad fault) (unknown, cause) = record { passed = record { message = m; secret = secret }; checks = passes; unknown = unknown; cause = cause; same = same }
+    own (refusals.Replay saved) (base, stale) = record { passed = record { message = m; secret = secret }; checks = passes; base = base; stale = stale; same = same }
+    own (refusals.Read _) never = absurd never
+    own refusals.NotMine never = absurd never
+    own refusals.UnknownSite never = absurd never
+    own refusals.UnknownKey never = absurd never
+    own refusals.BadAuth never = absurd never
+    own refusals.MergeAsked never = absurd never
+    own (refusals.NotAllowed _) never = absurd never
+    own refusals.OutOfMemory never = absurd never
+    own (refusals.StoreSave _) never = absurd never
+    own refusals.NoNotice never = absurd never
+
+-- bytes that can't be read
+pub read_fails : (sites : List SiteEntry) (bytes : List ℕ) (fault : ReadFault) (old : ServerState) (before : StoreState) → Fails fault (message_at bytes) → Refuses (checked sites bytes) old before before (refused_of_read fault)
+unfolding checked
+read_fails sites bytes reads.OutOfMemory old before at = λ honest. refl
+read_fails sites bytes reads.Short old before at = (ap (read_checked sites bytes) at, refl)
+read_fails sites bytes reads.Kind old before at = (ap (read_checked sites bytes) at, refl)
+read_fails sites bytes reads.Algorithm old before at = (ap (read_checked sites bytes) at, refl)
+read_fails sites bytes reads.AuthLength old before at = (ap (read_checked sites bytes) at, refl)
+read_fails sites bytes reads.NoIds old before at = (ap (read_checked sites bytes) at, refl)
+read_fails sites bytes reads.Trailing old before at = (ap (read_checked sites bytes) at, refl)
+read_fails sites bytes (reads.Record _ _) old before at = (ap (read_checked sites bytes) at, refl)
+
+-- a Map-Register that was read
+pub registers : (sites : List SiteEntry) (bytes : List ℕ) (m : Registration) → message_at bytes ≡ Ok (Registers m) → checked sites bytes ≡ register_checked sites bytes m
+unfolding checked
+registers sites bytes m at = ap (read_checked sites bytes) at
+
+-- a Map-Notify or a Map-Notify-Ack that was read
+pub notify_fails : (sites : List SiteEntry) (bytes : List ℕ) (m : Notification) (old : ServerState) (before : StoreState) → message_at bytes ≡ Ok (Notifies m) → Refuses (checked sites bytes) old before before (refused_of_notify m.ack)
+unfolding checked
+notify_fails sites bytes m old before at = by_ack m.ack (ap (read_checked sites bytes) at)
+  where
+    by_ack : (ack : Bool) → {c : Result Passed Refused} → c ≡ Err (refused_of_notify ack) → Refuses c old before before (refused_of_notify ack)
+    by_ack true e = (e, refl)
+    by_ack false e = (e, refl)

@@ -1,0 +1,107 @@
+-- What a Map-Server makes of a message (RFC 9301 sections 5.6 and 8.2).
+use Rattle.std.specs.Prelude.{◌≡◌, ◌≢◌, ◌<◌, ◌≤◌, ℕ, [], ◌∷◌, Option, Some, None, Result, Ok, Err, IsTrue}
+use Rattle.std.specs.List.{Contains}
+use Rattle.lisp_records.specs.declared.address.Addr.{Addr}
+use Rattle.lisp_messages.specs.Message.{Registration}
+use Rattle.lisp_store.specs.declared.pair.Pair.{Pair}
+use Rattle.lisp_store.specs.declared.fault.StoreFault.{StoreFault}
+use Rattle.lisp_store.specs.declared.fault.StoreFault.TheVariants as faults
+use Rattle.lisp_store.specs.Kept.{kept_at, SameElsewhere, InDoubt}
+use Rattle.lisp_store.specs.Store.{StoreState, Rose}
+use Rattle.lisp_server.specs.declared.refused.Refused.{Refused}
+use Rattle.lisp_server.specs.declared.refused.Refused.TheVariants.{StoreLoad, Replay, OutOfMemory, StoreSave}
+use Rattle.lisp_server.specs.declared.took.Took.{Took}
+use Rattle.lisp_server.specs.declared.took.Took.TheVariants.{Accepted}
+use Rattle.lisp_server.specs.declared.contacts.Contact.{Contact}
+use Rattle.lisp_server.specs.Registration.{router_of, pair_of, holdings}
+use Rattle.lisp_server.specs.Rows.{Sets}
+use Rattle.lisp_server.specs.Nonces.{nonce_at, SetsNonce}
+use Rattle.lisp_server.specs.Contacts.{SetsContact}
+use Rattle.lisp_server.specs.Server.{ServerState}
+use Rattle.lisp_server.specs.Checks.{Passed, reply_of}
+
+-- the number that a nonce has to be above: the pair's last since the start, or where there is none
+-- a value that the store may answer
+abbrev pub IsBase : Option ℕ → StoreState → Pair → Option ℕ → Type 0
+IsBase (Some last) store pair base = base ≡ Some last
+IsBase None store pair base = IsTrue store.is_honest → Contains (kept_at store.kept pair) base
+
+-- 'nothing' is below each nonce
+abbrev pub IsBelow : Option ℕ → ℕ → Type 0
+IsBelow None nonce = Unit {0}
+IsBelow (Some base) nonce = base < nonce
+
+-- the nonce is above its base
+abbrev pub IsFresh : Option ℕ → StoreState → Pair → ℕ → Type 0
+IsFresh last store pair nonce = (base : Option ℕ) × IsBase last store pair base × IsBelow base nonce
+
+-- no list of the store changed
+abbrev pub KeepsLists : StoreState → StoreState → Type 0
+KeepsLists before after = IsTrue before.is_honest → after.kept ≡ before.kept
+
+-- a fault other than want of memory comes only where a device failed in between
+abbrev pub HasCause : StoreFault → StoreState → StoreState → Type 0
+HasCause fault before after = fault ≢ faults.OutOfMemory → Rose before after
+
+-- why a nonce is not let through: its base can't be told, or is not below it
+abbrev pub Stops : Option ℕ → StoreState → StoreState → Pair → ℕ → Refused → Type 0
+Stops last before after pair nonce (StoreLoad fault) = (last ≡ None) × HasCause fault before after
+Stops last before after pair nonce (Replay saved) = IsBase last before pair (Some saved) × (nonce ≤ saved)
+Stops last before after pair nonce _ = ⊥
+
+-- why a nonce isn't saved, and what may be kept of it
+abbrev pub NotKept : StoreState → StoreState → Pair → ℕ → Refused → Type 0
+NotKept before after pair nonce (StoreSave fault) = HasCause fault before after × (fault ≢ faults.Damaged) × (IsTrue before.is_honest → InDoubt (kept_at before.kept pair) (kept_at after.kept pair) nonce)
+NotKept before after pair nonce _ = ⊥
+
+-- where a router was heard last
+abbrev pub contact_of : Registration → Addr → Contact
+contact_of m from = record { router = router_of m; key = m.key_id; from = from }
+
+-- a Map-Register was accepted: it passed all checks with a fresh nonce, which alone is kept for its
+-- pair from now on; its records were set, and no others; the answer is its own
+pub record Accepts {A : Type 0} (check : Result Passed Refused) (old new : ServerState) (before after : StoreState) (from : Addr) (now : ℕ) (took : Took A) : Type 0 where
+  pub passed : Passed
+  pub checks : check ≡ Ok passed
+  pub fresh : IsFresh (nonce_at old.nonces (pair_of passed.message)) before (pair_of passed.message) passed.message.nonce
+  pub answer : took ≡ Accepted (router_of passed.message) passed.message.key_id passed.message.nonce (reply_of passed.secret passed.message)
+  pub rows : Sets old.rows new.rows (holdings passed.message from now)
+  pub nonces : SetsNonce old.nonces new.nonces (pair_of passed.message) passed.message.nonce
+  pub contacts : SetsContact old.contacts new.contacts (contact_of passed.message from)
+  pub sites : new.sites ≡ old.sites
+  pub kept : IsTrue before.is_honest → kept_at after.kept (pair_of passed.message) ≡ Some passed.message.nonce ∷ []
+  pub others : IsTrue before.is_honest → SameElsewhere before.kept after.kept (pair_of passed.message)
+
+-- the store could not tell the pair's base
+pub record LoadFailed (check : Result Passed Refused) (old : ServerState) (before after : StoreState) (fault : StoreFault) : Type 0 where
+  pub passed : Passed
+  pub checks : check ≡ Ok passed
+  pub unknown : nonce_at old.nonces (pair_of passed.message) ≡ None
+  pub cause : HasCause fault before after
+  pub same : KeepsLists before after
+
+-- the nonce isn't above the base
+pub record Replays (check : Result Passed Refused) (old : ServerState) (before after : StoreState) (saved : ℕ) : Type 0 where
+  pub passed : Passed
+  pub checks : check ≡ Ok passed
+  pub base : IsBase (nonce_at old.nonces (pair_of passed.message)) before (pair_of passed.message) (Some saved)
+  pub stale : passed.message.nonce ≤ saved
+  pub same : KeepsLists before after
+
+-- the nonce was fresh, and it is open whether it is kept
+pub record SaveFailed (check : Result Passed Refused) (old : ServerState) (before after : StoreState) (fault : StoreFault) : Type 0 where
+  pub passed : Passed
+  pub checks : check ≡ Ok passed
+  pub fresh : IsFresh (nonce_at old.nonces (pair_of passed.message)) before (pair_of passed.message) passed.message.nonce
+  pub cause : HasCause fault before after
+  pub sound : fault ≢ faults.Damaged
+  pub doubt : IsTrue before.is_honest → InDoubt (kept_at before.kept (pair_of passed.message)) (kept_at after.kept (pair_of passed.message)) passed.message.nonce
+  pub others : IsTrue before.is_honest → SameElsewhere before.kept after.kept (pair_of passed.message)
+
+-- a message was refused: what the refusal means, and what it leaves of the store
+abbrev pub Refuses : Result Passed Refused → ServerState → StoreState → StoreState → Refused → Type 0
+Refuses check old before after (StoreLoad fault) = LoadFailed check old before after fault
+Refuses check old before after (Replay saved) = Replays check old before after saved
+Refuses check old before after OutOfMemory = KeepsLists before after
+Refuses check old before after (StoreSave fault) = SaveFailed check old before after fault
+Refuses check old before after refused = (check ≡ Err refused) × (after ≡ before)

@@ -1,0 +1,30 @@
+-- What a Map-Server is (RFC 9301 section 8.2).
+use Rattle.std.specs.Prelude.{◌≡◌, ◌<◌, ◌≤◌, ℕ, List}
+use Rattle.lisp_records.specs.Row.{Holding}
+use Rattle.lisp_sites.specs.Site.{SiteEntry}
+use Rattle.lisp_server.specs.declared.contacts.Contact.{Contact}
+use Rattle.lisp_server.specs.declared.tables.Tables.{Tables}
+use Rattle.lisp_server.specs.Nonces.{Nonces}
+
+-- its sites; the rows that it holds, dead ones too; the last nonce of each pair, and where each router
+-- was heard last, both since the start
+pub record ServerState : Type 0 where
+  pub sites : List SiteEntry
+  pub rows : List Holding
+  pub nonces : Nonces
+  pub contacts : List Contact
+
+abbrev pub state_of : {A : Type 0} → List SiteEntry → Tables A → ServerState
+state_of sites t = record { sites = sites; rows = t.rows.rows; nonces = t.nonces.nonces; contacts = t.contacts.contacts }
+
+-- only the room changed
+pub record SameTables {A : Type 0} (old new : Tables A) : Type 0 where
+  pub rows : new.rows.rows ≡ old.rows.rows
+  pub nonces : new.nonces.nonces ≡ old.nonces.nonces
+  pub contacts : new.contacts.contacts ≡ old.contacts.contacts
+
+-- there is room for what one Map-Register with so many records brings
+pub record HasRoom {A : Type 0} (t : Tables A) (count : ℕ) : Type 0 where
+  pub rows : count ≤ t.rows.spare
+  pub nonces : 0 < t.nonces.spare
+  pub contacts : 0 < t.contacts.spare

@@ -1,0 +1,46 @@
+//! What is checked of a Map-Register before its nonce is looked at.
+
+ghost use Rattle.std.specs.Prelude.{◌≡◌};
+ghost use Rattle.lisp_server.specs.Checks.{Reads, first_not_allowed, secret_under};
+
+use crate::refused::Refused;
+use lisp_messages::{MapRegister, authentic};
+use lisp_records::MapRecord;
+use lisp_sites::{Site, Sites};
+use std::alloc::Allocator;
+
+/// The secret that a Map-Register stands under, or the first check that it fails: `UnknownSite`,
+/// `UnknownKey`, `BadAuth`, `MergeAsked`, `NotAllowed`.
+#[tactic(auto, unfolding(crate::specs::Checks::secret_under))]
+pub(crate) fn secret_under<'s, A: Allocator, B: Allocator>(
+    sites: &'s Sites<B>,
+    bytes: &[u8],
+    register: &MapRegister<A>,
+) -> Result<&'s [u8], Refused>
+    ensures { Reads (λ s. s.now) result (secret_under sites.now bytes.now register.now) }
+{
+    let site = sites.site(register.site).ok_or(Refused::UnknownSite)?;
+    let secret = site.secret(register.key_id).ok_or(Refused::UnknownKey)?;
+    if !authentic(bytes, secret) {
+        return Err(Refused::BadAuth);
+    }
+    if register.merge {
+        return Err(Refused::MergeAsked);
+    }
+    match first_not_allowed(site, register.records.as_slice()) {
+        Some(place) => Err(Refused::NotAllowed(place)),
+        None => Ok(secret),
+    }
+}
+
+// The place, from 0 on, of the first record whose prefix the site doesn't allow.
+fn first_not_allowed<A: Allocator, B: Allocator>(
+    site: &Site<B>,
+    records: &[MapRecord<A>],
+) -> Option<usize>
+    ensures { result ≡ first_not_allowed site.now records.now }
+{
+    records
+        .iter()
+        .position(|record| !site.allows(&record.eid()))
+}

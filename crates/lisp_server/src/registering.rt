@@ -1,0 +1,58 @@
+//! Taking a Map-Register.
+
+ghost use Rattle.std.specs.Prelude.{◌≡◌, IfOk, IfErr, OnErr};
+ghost use Rattle.lisp_store.specs.Store.{Proceeds};
+ghost use Rattle.lisp_server.specs.Checks.{register_checked};
+ghost use Rattle.lisp_server.specs.Receiving.{Accepts, Refuses};
+ghost use Rattle.lisp_server.specs.Server.{SameTables, state_of};
+
+use crate::checks::secret_under;
+use crate::refused::Refused;
+use crate::registration::{nonce_of, pair_of, registered};
+use crate::stored::{check_nonce, save_nonce};
+use crate::tables::Tables;
+use crate::took::Took;
+use lisp_messages::MapRegister;
+use lisp_records::Addr;
+use lisp_sites::Sites;
+use lisp_store::NonceStore;
+use std::alloc::Allocator;
+
+/// Bytes that came from an address at a moment, in ms.
+#[derive(Clone, Copy)]
+pub(crate) struct Arrival<'a> {
+    pub(crate) from: Addr,
+    pub(crate) bytes: &'a [u8],
+    pub(crate) now: u64,
+}
+
+/// Takes a Map-Register that was read from the bytes of an arrival. All that takes memory comes before
+/// its nonce is saved; what the tables hold changes only after that.
+pub(crate) fn register<S: NonceStore, A: Allocator + Copy>(
+    alloc: A,
+    sites: &Sites<A>,
+    tables: &mut Tables<A>,
+    store: &mut S,
+    arrival: Arrival<'_>,
+    register: MapRegister<A>,
+) -> Result<Took<A>, Refused>
+    ensures accepted { IfOk result (λ took. Accepts (register_checked sites.now arrival.entry.bytes.now register) (state_of sites.now tables.old) (state_of sites.now tables.new) (S.seen store.old) (S.seen store.new) arrival.entry.from arrival.entry.now took) }
+    ensures refused { IfErr result (λ why. Refuses (register_checked sites.now arrival.entry.bytes.now register) (state_of sites.now tables.old) (S.seen store.old) (S.seen store.new) why) }
+    ensures err { OnErr result (SameTables tables.old tables.new) }
+    ensures proceeds { Proceeds (S.seen store.old) (S.seen store.new) }
+{
+    let secret = secret_under(sites, arrival.bytes, &register)?;
+    let pair = pair_of(&register);
+    let nonce = nonce_of(&register);
+    check_nonce(store, &pair, tables.nonces.get(&pair), nonce)?;
+    let (rows, reply) = registered(alloc, secret, register, arrival.from, arrival.now)?;
+    tables.prepare(rows.len())?;
+    save_nonce(store, &pair, nonce)?;
+    tables.accept(rows, pair, nonce, arrival.from);
+    Ok(Took::Accepted {
+        router: pair.router,
+        key: pair.key,
+        nonce,
+        reply,
+    })
+}

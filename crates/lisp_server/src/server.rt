@@ -1,0 +1,138 @@
+//! The Map-Server.
+
+ghost use Rattle.std.specs.Prelude.{◌≡◌, ◌≢◌, [], ◌∷◌, Some, Ok, Err, IfOk, IfErr, OnOk, OnErr, IsTrue};
+ghost use Rattle.std.specs.FinMap.{empty};
+ghost use Rattle.lisp_store.specs.Store.{Proceeds};
+ghost use Rattle.lisp_messages.specs.Reading.{kind_at};
+ghost use Rattle.lisp_messages.specs.declared.fault.ReadFault.{ReadFault};
+ghost use Rattle.lisp_server.specs.Rows.{Expires, IsHeld};
+ghost use Rattle.lisp_server.specs.Nonces.{nonce_at};
+ghost use Rattle.lisp_server.specs.Checks.{checked};
+ghost use Rattle.lisp_server.specs.Receiving.{Accepts, Refuses};
+ghost use Rattle.lisp_server.specs.Refused.{refused_of_read};
+ghost use Rattle.lisp_server.specs.declared.refused.Refused.{Refused};
+
+use crate::contacts::Contacts;
+use crate::nonces::LastNonces;
+use crate::refused::Refused;
+use crate::registering::{Arrival, register};
+use crate::rows::Rows;
+use crate::tables::Tables;
+use crate::took::Took;
+use lisp_messages::{Message, read_message};
+use lisp_records::{Addr, Row};
+use lisp_sites::Sites;
+use lisp_store::{NonceStore, Pair};
+use std::alloc::{AllocError, Allocator, Global};
+use std::marker::Model;
+
+/// A Map-Server: its sites, and what it learnt of their routers since its start.
+#[derive(Debug, Drop)]
+pub struct Server<A: Allocator = Global> {
+    alloc: A,
+    sites: Sites<A>,
+    tables: Tables<A>,
+}
+
+impl<A: Allocator> Model for Server<A> {
+    ghost use Rattle.std.specs.Coded.{codes};
+    ghost use Rattle.lisp_server.specs.Nonces.{nonces_code};
+    ghost use Rattle.lisp_server.specs.Server.{ServerState, state_of};
+
+    ghost Value = { ServerState };
+
+    ghost coded = { Prim.hlevel (codes, nonces_code) };
+
+    ghost view = { λ s. state_of s.sites s.tables };
+}
+
+impl<A: Allocator + Copy> Server<A> {
+    /// A Map-Server of these sites that holds nothing; what it learns lies in memory of `alloc`. Takes
+    /// no memory.
+    pub fn start(alloc: A, sites: Sites<A>) -> Server<A>
+        ensures { result ≡ record { sites = sites; rows = []; nonces = empty; contacts = [] } }
+    {
+        Server {
+            alloc,
+            sites,
+            tables: Tables {
+                rows: Rows::new(alloc),
+                nonces: LastNonces::new(alloc),
+                contacts: Contacts::new(alloc),
+            },
+        }
+    }
+
+    /// Its sites again; rows and nonces in memory are gone. Takes no memory.
+    pub fn stop(self) -> Sites<A>
+        ensures { result ≡ self.sites }
+    {
+        self.sites
+    }
+
+    /// Takes a message that came from an address at a moment, in ms.
+    ///
+    /// It refuses in this order: `Read` (the bytes spell no message); `NotMine` (a Map-Notify) and
+    /// `NoNotice` (a Map-Notify-Ack); for a Map-Register `UnknownSite`, `UnknownKey`, `BadAuth`,
+    /// `MergeAsked`, `NotAllowed` (the first record whose prefix its site doesn't allow), `StoreLoad`
+    /// (only where the last nonce isn't in memory), `Replay` (the nonce isn't above the last one),
+    /// `OutOfMemory` (also in reading) and `StoreSave`. A refusal changes nothing here.
+    ///
+    /// An accepted Map-Register sets the row of each prefix that it names, of several records for one
+    /// prefix the last, and no other row; its nonce was saved before (RFC 9301 sections 5.6 and 8.2).
+    pub fn receive<S: NonceStore>(
+        &mut self,
+        store: &mut S,
+        from: Addr,
+        bytes: &[u8],
+        now: u64,
+    ) -> Result<Took<A>, Refused>
+        // Accepted: what that means.
+        ensures accepted { IfOk result (λ took. Accepts (checked self.old.sites bytes.now) self.old self.new (S.seen store.old) (S.seen store.new) from now took) }
+
+        // Refused: why, and what is left of the store.
+        ensures refused { IfErr result (λ why. Refuses (checked self.old.sites bytes.now) self.old (S.seen store.old) (S.seen store.new) why) }
+
+        // A refusal changes nothing here.
+        ensures err { OnErr result (self.new ≡ self.old) }
+        ensures proceeds { Proceeds (S.seen store.old) (S.seen store.new) }
+
+        // Before the first record nothing takes memory.
+        ensures early { (fault : ReadFault) → kind_at bytes.now ≡ Err fault → result ≡ Err (refused_of_read fault) }
+    {
+        match read_message(self.alloc, bytes) {
+            Ok(Message::Register(message)) => register(
+                self.alloc,
+                &self.sites,
+                &mut self.tables,
+                store,
+                Arrival { from, bytes, now },
+                message,
+            ),
+            Ok(Message::Notify(notify)) => Err(Refused::of_notify(notify.ack)),
+            Err(fault) => Err(Refused::of_read(fault)),
+        }
+    }
+
+    /// The rows that are alive at a moment, in ms: by router, then by prefix.
+    pub fn held(&self, now: u64) -> Result<Vec<Row<A>, A>, AllocError>
+        ensures { IfOk result (λ rows. IsHeld self.now.rows now rows.items) }
+    {
+        self.tables.rows.live(now)
+    }
+
+    /// The nonce of the last message of the pair that was accepted since the start. Takes no memory.
+    pub fn last_nonce(&self, pair: &Pair) -> Option<u64>
+        ensures { result ≡ nonce_at self.now.nonces pair.now }
+    {
+        self.tables.nonces.get(pair)
+    }
+
+    /// Drops the rows that are dead at a moment, in ms. Takes no memory.
+    pub fn expire(&mut self, now: u64)
+        ensures rows { Expires self.old.rows self.new.rows now }
+        ensures rest { self.new ≡ record self.old { rows = self.new.rows } }
+    {
+        self.tables.rows.drop_dead(now);
+    }
+}

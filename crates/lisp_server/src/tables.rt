@@ -1,0 +1,51 @@
+//! What a Map-Server learnt since its start.
+
+ghost use Rattle.std.specs.Prelude.{◌≡◌, ◌≤◌, ◌<◌, length, OnOk};
+ghost use Rattle.lisp_server.specs.Rows.{Sets};
+ghost use Rattle.lisp_server.specs.Nonces.{SetsNonce};
+ghost use Rattle.lisp_server.specs.Contacts.{SetsContact};
+ghost use Rattle.lisp_server.specs.Server.{SameTables, HasRoom};
+
+use crate::contacts::{Contact, Contacts};
+use crate::nonces::LastNonces;
+use crate::rows::Rows;
+use lisp_records::{Addr, Row};
+use lisp_store::Pair;
+use std::alloc::{AllocError, Allocator};
+
+/// The rows that are held, the last nonces, and where each router was heard last.
+#[derive(Debug, Drop)]
+pub(crate) struct Tables<A: Allocator> {
+    pub(crate) rows: Rows<A>,
+    pub(crate) nonces: LastNonces<A>,
+    pub(crate) contacts: Contacts<A>,
+}
+
+impl<A: Allocator + Copy> Tables<A> {
+    /// Makes room for what one Map-Register with so many records brings.
+    pub(crate) fn prepare(&mut self, count: usize) -> Result<(), AllocError>
+        ensures same { SameTables self.old self.new }
+        ensures room { OnOk result (HasRoom self.new count) }
+    {
+        self.rows.prepare(count)?;
+        self.nonces.prepare()?;
+        self.contacts.prepare()?;
+        Ok(())
+    }
+
+    /// Keeps what an accepted Map-Register brings; takes no memory.
+    pub(crate) fn accept(&mut self, rows: Vec<Row<A>, A>, pair: Pair, nonce: u64, from: Addr)
+        requires { HasRoom self.old (length rows.items) }
+        ensures rows { Sets self.old.rows.rows self.new.rows.rows rows.items }
+        ensures nonces { SetsNonce self.old.nonces.nonces self.new.nonces.nonces pair nonce }
+        ensures contacts { SetsContact self.old.contacts.contacts self.new.contacts.contacts (record { router = pair.router; key = pair.key; from = from }) }
+    {
+        self.rows.put_all(rows);
+        self.nonces.set(pair, nonce);
+        self.contacts.set(Contact {
+            router: pair.router,
+            key: pair.key,
+            from,
+        });
+    }
+}

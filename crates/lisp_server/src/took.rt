@@ -1,0 +1,27 @@
+//! What a Map-Server took.
+
+use lisp_records::{Bytes, RouterId};
+use std::alloc::{Allocator, Global};
+
+/// A message that a Map-Server took.
+#[derive(Debug, Drop)]
+pub enum Took<A: Allocator = Global> {
+    /// A Map-Register was accepted.
+    Accepted {
+        /// The router that sent it.
+        router: RouterId,
+        /// The Key ID that it was authenticated under.
+        key: u8,
+        /// Its nonce.
+        nonce: u64,
+        /// The Map-Notify for its source, where bit M asks for one (RFC 9301 section 5.7).
+        reply: Option<Bytes<A>>,
+    },
+    /// A Map-Notify-Ack ended a notice.
+    NoticeDone {
+        /// The router that the notice was for.
+        router: RouterId,
+        /// The nonce of the notice.
+        nonce: u64,
+    },
+}
