@@ -1,6 +1,6 @@
 # make run     answers a sample Map-Register with the program, which is built where needed
 # make test    the gate: proves everything from nothing, runs the tests and the samples
-# make bench   measures the codec, the tag and the reading of configurations
+# make bench   measures the codec, the tag, the reading of configurations and registrations
 # make clean   removes what was built
 .PHONY: run test check-samples bench clean
 

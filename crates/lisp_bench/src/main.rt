@@ -1,9 +1,10 @@
-//! Measures the codec and the tag, and the reading of configurations. The one word is how often each
+//! Measures the codec and the tag, the reading of configurations, and registrations. The one word is how often each
 //! call of the codec is made; with no word nothing is measured. `make bench` runs it.
 #![tactic(auto)]
 
 mod codec;
 mod configuration;
+mod registration;
 
 use anyhow::Result;
 use std::env;
@@ -24,6 +25,7 @@ fn run<R: Env + Print + Clock + AllocGlobal>(rt: &R) -> Result<()> {
     if count > 0 {
         codec::measure(rt, count)?;
         configuration::measure(rt)?;
+        registration::measure(rt)?;
     }
     Ok(())
 }

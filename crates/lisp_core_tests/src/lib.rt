@@ -4,4 +4,10 @@
 #[cfg(test)]
 mod counters;
 #[cfg(test)]
+mod server_memory;
+#[cfg(test)]
+mod server_support;
+#[cfg(test)]
+mod servers;
+#[cfg(test)]
 mod stores;

@@ -97,6 +97,7 @@ module _ {A : Type 0} {sites : List SiteEntry} {bytes : List ℕ} {m : Registrat
     fresh = s.fresh;
     cause = cause_later fault before between after s.went.count s.not_kept.0;
     sound = s.not_kept.1;
+    memory = λ want honest. ap (λ (x : StoreState). x.kept) (s.not_kept.3 want) ∙ s.loaded honest;
     doubt = λ honest. subst (λ (was : Kept). InDoubt (kept_at was (pair_of m)) (kept_at after.kept (pair_of m)) m.nonce) (s.loaded honest) (s.not_kept.2 (subst (λ (b : Bool). IsTrue b) (sym s.went.honest) honest));
     others = λ honest. subst (λ (was : Kept). SameElsewhere was after.kept (pair_of m)) (s.loaded honest) (s.others (subst (λ (b : Bool). IsTrue b) (sym s.went.honest) honest));
   }
@@ -185,7 +186,7 @@ stops sites bytes m secret old before after pair nonce e p n checks same = subst
     passes = ap (λ r. r >>= λ (s : List ℕ). register_passed m s) checks
 
     own : (e : Refused) → Stops (nonce_at old.nonces (pair_of m)) before after (pair_of m) m.nonce e → Refuses (register_checked sites bytes m) old before after e
-    own (refusals.StoreLoad fault) (unknown, cause) = record { passed = record { message = m; secret = secret }; checks = passes; unknown = unknown; cause = cause; same = same }
+    own (refusals.StoreLoad fault) (unknown, cause, unchanged) = record { passed = record { message = m; secret = secret }; checks = passes; unknown = unknown; cause = cause; same = same }
     own (refusals.Replay saved) (base, stale) = record { passed = record { message = m; secret = secret }; checks = passes; base = base; stale = stale; same = same }
     own (refusals.Read _) never = absurd never
     own refusals.NotMine never = absurd never

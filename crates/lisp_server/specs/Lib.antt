@@ -1,4 +1,5 @@
 pub mod Refused
+pub mod Took
 pub mod Registration
 pub mod Rows
 pub mod Nonces

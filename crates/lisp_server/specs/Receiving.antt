@@ -45,13 +45,13 @@ HasCause fault before after = fault ≢ faults.OutOfMemory → Rose before after
 
 -- why a nonce is not let through: its base can't be told, or is not below it
 abbrev pub Stops : Option ℕ → StoreState → StoreState → Pair → ℕ → Refused → Type 0
-Stops last before after pair nonce (StoreLoad fault) = (last ≡ None) × HasCause fault before after
+Stops last before after pair nonce (StoreLoad fault) = (last ≡ None) × HasCause fault before after × (fault ≡ faults.OutOfMemory → after ≡ before)
 Stops last before after pair nonce (Replay saved) = IsBase last before pair (Some saved) × (nonce ≤ saved)
 Stops last before after pair nonce _ = ⊥
 
 -- why a nonce isn't saved, and what may be kept of it
 abbrev pub NotKept : StoreState → StoreState → Pair → ℕ → Refused → Type 0
-NotKept before after pair nonce (StoreSave fault) = HasCause fault before after × (fault ≢ faults.Damaged) × (IsTrue before.is_honest → InDoubt (kept_at before.kept pair) (kept_at after.kept pair) nonce)
+NotKept before after pair nonce (StoreSave fault) = HasCause fault before after × (fault ≢ faults.Damaged) × (IsTrue before.is_honest → InDoubt (kept_at before.kept pair) (kept_at after.kept pair) nonce) × (fault ≡ faults.OutOfMemory → after ≡ before)
 NotKept before after pair nonce _ = ⊥
 
 -- where a router was heard last
@@ -88,13 +88,14 @@ pub record Replays (check : Result Passed Refused) (old : ServerState) (before a
   pub stale : passed.message.nonce ≤ saved
   pub same : KeepsLists before after
 
--- the nonce was fresh, and it is open whether it is kept
+-- the nonce was fresh, and it is open whether it is kept; not where memory ran out: then no list changed
 pub record SaveFailed (check : Result Passed Refused) (old : ServerState) (before after : StoreState) (fault : StoreFault) : Type 0 where
   pub passed : Passed
   pub checks : check ≡ Ok passed
   pub fresh : IsFresh (nonce_at old.nonces (pair_of passed.message)) before (pair_of passed.message) passed.message.nonce
   pub cause : HasCause fault before after
   pub sound : fault ≢ faults.Damaged
+  pub memory : fault ≡ faults.OutOfMemory → KeepsLists before after
   pub doubt : IsTrue before.is_honest → InDoubt (kept_at before.kept (pair_of passed.message)) (kept_at after.kept (pair_of passed.message)) passed.message.nonce
   pub others : IsTrue before.is_honest → SameElsewhere before.kept after.kept (pair_of passed.message)
 

@@ -1,5 +1,8 @@
 //! What a Map-Server took.
 
+ghost use Rattle.std.specs.Prelude.{◌≡◌};
+ghost use Rattle.lisp_server.specs.Took.{reply_in};
+
 use lisp_records::{Bytes, RouterId};
 use std::alloc::{Allocator, Global};
 
@@ -24,4 +27,16 @@ pub enum Took<A: Allocator = Global> {
         /// The nonce of the notice.
         nonce: u64,
     },
+}
+
+impl<A: Allocator> Took<A> {
+    /// The Map-Notify that answers the message, where there is one; takes no memory.
+    pub fn into_reply(self) -> Option<Bytes<A>>
+        ensures { result ≡ reply_in self }
+    {
+        match self {
+            Took::Accepted { reply, .. } => reply,
+            Took::NoticeDone { .. } => None,
+        }
+    }
 }

@@ -15,13 +15,13 @@ use std::process::Abort;
 use std::test::Fail;
 
 /// The bytes of the heap that the calls may use a part of.
-const HEAP_LEN: usize = 4096;
+const HEAP_LEN: usize = 8192;
 
 /// The heap's smallest block, by which its free room grows.
 const BLOCK_LEN: usize = 16;
 
 /// So many blocks are room enough for each call.
-const MOST_BLOCKS: usize = 128;
+const MOST_BLOCKS: usize = 256;
 
 /// What takes memory.
 #[derive(Clone, Copy, Debug)]
@@ -249,7 +249,7 @@ fn answers_line<A: Allocator + Copy>(
         assert!(rt; writer.is_empty());
         return Ok(false);
     }
-    if writer.as_slice() == b"refused 58\n".as_slice() {
+    if [b"refused 58\n".as_slice(), b"refused 59 store 32\n"].contains(&writer.as_slice()) {
         return Ok(false);
     }
     assert_eq!(rt; writer.as_slice(), want.as_bytes());

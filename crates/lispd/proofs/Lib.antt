@@ -1,1 +1,2 @@
 pub mod InputLemmas
+pub mod FreshLaws

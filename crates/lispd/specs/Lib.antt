@@ -1,6 +1,6 @@
 pub mod Block
 pub mod Setup
-pub mod Refusal
+pub mod Words
 pub mod Answer
 pub mod Line
 pub mod Fault

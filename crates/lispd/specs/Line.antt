@@ -5,17 +5,17 @@ use Rattle.std.specs.Io.BufRead.{first_line}
 use Rattle.std.specs.Io.KnownBytes.{Appends}
 use Rattle.hex.specs.Hex.{decode_of, encode_lower}
 use Rattle.hex.specs.declared.error.FromHexError.{FromHexError}
-use Rattle.lispd.specs.declared.refusal.Refusal.TheVariants.{OutOfMemory}
+use Rattle.lisp_server.specs.declared.refused.Refused.{Refused}
 use Rattle.lisp_sites.specs.Site.{SiteEntry}
 use Rattle.lispd.specs.Setup.{Setup, sites_of}
-use Rattle.lispd.specs.Refusal.{refusal_words}
-use Rattle.lispd.specs.Answer.{Answer, answer_of}
+use Rattle.lispd.specs.Words.{refused_words}
+use Rattle.lispd.specs.Answer.{Answer, answer_of, IsWant}
 
 -- an answer in words: the Map-Notify in digits, or why there is none
 abbrev pub answer_words : Answer → List ℕ
 answer_words (Ok (Some notify)) = encode_lower notify
 answer_words (Ok None) = codes "accepted"
-answer_words (Err refusal) = refusal_words refusal
+answer_words (Err refused) = refused_words refused
 
 -- what stands for bytes that were decoded, or for a text that is not hexadecimal
 abbrev pub decoded_words : List SiteEntry → Result (List ℕ) FromHexError → List ℕ
@@ -27,13 +27,9 @@ decoded_words sites (Err _) = codes "refused " ++ decimal 94
 abbrev pub line_of : Setup → List ℕ → List ℕ
 line_of s input = decoded_words (sites_of s) (decode_of (first_line input))
 
--- the words where the server had no memory
-abbrev pub no_memory_words : List ℕ
-no_memory_words = refusal_words OutOfMemory
-
 -- these words, or those for want of memory
 abbrev pub AreWords : List ℕ → List ℕ → Type 0
-AreWords text words = (text ≡ words) ⊎ (text ≡ no_memory_words)
+AreWords text words = (text ≡ words) ⊎ ((refused : Refused) × IsWant refused × (text ≡ refused_words refused))
 
 -- to what was held, the line that answers the input was added, or the one for want of memory
 abbrev pub Adds : Option (List ℕ) → Option (List ℕ) → Setup → List ℕ → Type 0

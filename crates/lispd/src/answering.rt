@@ -37,7 +37,7 @@ pub fn answer<A: Allocator + Copy, B: Allocator, R: Read, W: Write>(
 {
     let sites = setup.sites(alloc)?;
     let line = read_line(alloc, reader)?;
-    let mut text = words_for(alloc, &sites, content(&line))?;
+    let mut text = words_for(alloc, sites, content(&line))?;
     text.push('\n')?;
     match writer.write_all(text.as_bytes()) {
         Ok(()) => Ok(()),

@@ -5,16 +5,15 @@
 mod answering;
 mod command_line;
 mod fault;
+mod fresh;
 mod input;
 mod line;
 mod options;
-mod refusal;
-mod server;
 mod site;
+mod words;
 
 pub use answering::answer;
 pub use command_line::command;
 pub use fault::{AnswerFault, SetupFault};
 pub use options::setup;
-pub use refusal::Refusal;
 pub use site::AnswerSetup;

@@ -3,12 +3,13 @@
 ghost use Rattle.std.specs.Prelude.{◌≡◌, IfOk};
 ghost use Rattle.std.specs.String.{string_bytes};
 ghost use Rattle.hex.specs.Hex.{decode_of};
-ghost use Rattle.lispd.specs.Answer.{seen};
 ghost use Rattle.lispd.specs.Line.{answer_words, decoded_words, AreWords};
 
-use crate::refusal::Refusal;
-use crate::server::respond;
+use crate::fresh::respond;
+use crate::words::words_of_refused;
 use hex::FromHexError;
+use lisp_records::Bytes;
+use lisp_server::Refused;
 use lisp_sites::Sites;
 use std::alloc::{AllocError, Allocator};
 
@@ -17,12 +18,12 @@ const NOT_HEXADECIMAL: u16 = 94;
 
 /// The words that answer a line of digits: the Map-Notify in lower case digits, `accepted`, or the
 /// refusal; `refused 94` where the line isn't hexadecimal.
-pub(crate) fn words_for<A: Allocator + Copy, B: Allocator>(
+pub(crate) fn words_for<A: Allocator + Copy>(
     alloc: A,
-    sites: &Sites<B>,
+    sites: Sites<A>,
     digits: &[u8],
 ) -> Result<String<A>, AllocError>
-    ensures { IfOk result (λ words. AreWords (string_bytes words) (decoded_words sites.now (decode_of digits.now))) }
+    ensures { IfOk result (λ words. AreWords (string_bytes words) (decoded_words sites (decode_of digits.now))) }
 {
     match hex::decode(alloc, digits) {
         Ok(bytes) => words_of(alloc, respond(alloc, sites, &bytes)),
@@ -34,13 +35,13 @@ pub(crate) fn words_for<A: Allocator + Copy, B: Allocator>(
 // The words of an answer.
 fn words_of<A: Allocator>(
     alloc: A,
-    answer: Result<Option<Vec<u8, A>>, Refusal>,
+    answer: Result<Option<Bytes<A>>, Refused>,
 ) -> Result<String<A>, AllocError>
-    ensures { IfOk result (λ words. string_bytes words ≡ answer_words (seen answer)) }
+    ensures { IfOk result (λ words. string_bytes words ≡ answer_words answer) }
 {
     match answer {
         Ok(Some(notify)) => hex::encode(alloc, notify.as_slice()),
         Ok(None) => String::from_str(alloc, "accepted"),
-        Err(refusal) => refusal.words(alloc),
+        Err(refused) => words_of_refused(alloc, &refused),
     }
 }

@@ -1,0 +1,125 @@
+//! Registrations at a Map-Server whose store lies in memory.
+
+use crate::tell;
+use anyhow::{Result, anyhow};
+use lisp_messages::{MapRegister, write_register};
+use lisp_records::{Addr, MapRecord, Prefix, Records};
+use lisp_server::{Server, Took};
+use lisp_sites::Sites;
+use lisp_store::MemoryStore;
+use std::alloc::Global;
+use std::rt::Clock;
+use std::time::Instant;
+
+/// How many rows the server holds.
+const HELD: [u32; 3] = [1, 1_000, 100_000];
+
+/// How many records a Map-Register has.
+const RECORDS: [u32; 3] = [1, 10, 255];
+
+/// How many rows one Map-Register brings at most, until the server holds enough.
+const BLOCK: u32 = 250;
+
+/// How many Map-Registers are measured.
+const MEASURED: u32 = 10;
+
+const SECRET: &[u8] = b"secret";
+
+const SOURCE: Addr = Addr::V4([127, 0, 0, 21]);
+
+/// A server, its store, and the nonce of the last Map-Register.
+#[derive(Drop)]
+struct Network {
+    server: Server,
+    store: MemoryStore,
+    nonce: u64,
+}
+
+impl Network {
+    // A server that serves 10.0.0.0/8 and holds nothing.
+    fn new(alloc: Global) -> Result<Network> {
+        let Some(prefix) = Prefix::new(Addr::V4([10, 0, 0, 0]), 8) else {
+            return Err(anyhow!("10.0.0.0/8 is no prefix"));
+        };
+        let sites = Sites::single(alloc, 1, 1, SECRET, prefix, true)?;
+        Ok(Network {
+            server: Server::start(alloc, sites),
+            store: MemoryStore::new(alloc),
+            nonce: 0,
+        })
+    }
+
+    // A Map-Register, with the next nonce, of so many host prefixes from one on.
+    fn datagram(&mut self, alloc: Global, first: u32, count: u32) -> Result<Vec<u8>> {
+        self.nonce = self.nonce.wrapping_add(1);
+        let mut records = Vec::new(alloc);
+        for place in 0..count.min(255) {
+            let [_, a, b, c] = first.wrapping_add(place).to_be_bytes();
+            let Some(eid) = Prefix::new(Addr::V4([10, a, b, c]), 32) else {
+                return Err(anyhow!("a host is no prefix"));
+            };
+            let Some(record) = MapRecord::new(1440, 0, true, 0, eid, Vec::new(alloc)) else {
+                return Err(anyhow!("the fields are no record"));
+            };
+            records.push(record)?;
+        }
+        if records.len() > 255 {
+            return Err(anyhow!("there are too many records"));
+        }
+        let register = MapRegister {
+            proxy: true,
+            sec: false,
+            eid_notify: false,
+            use_ttl: false,
+            merge: false,
+            want_notify: true,
+            nonce: self.nonce,
+            key_id: 1,
+            records: Records::from_vec(records),
+            xtr: [10; 16],
+            site: 1,
+        };
+        Ok(write_register(alloc, &register, SECRET)?)
+    }
+
+    // Registers so many host prefixes from one on.
+    fn register(&mut self, alloc: Global, first: u32, count: u32) -> Result<()> {
+        let datagram = self.datagram(alloc, first, count)?;
+        self.take(&datagram)
+    }
+
+    fn take(&mut self, datagram: &[u8]) -> Result<()> {
+        match self.server.receive(&mut self.store, SOURCE, datagram, 0) {
+            Ok(Took::Accepted { .. }) => Ok(()),
+            _ => Err(anyhow!("the Map-Register was not accepted")),
+        }
+    }
+}
+
+/// Prints how long a registration takes, by the rows that are held and the records that it has.
+pub(crate) fn measure<R: Print + Clock + AllocGlobal>(rt: &R) -> Result<()> {
+    for held in HELD {
+        let mut network = Network::new(rt.alloc())?;
+        for block in 0..held.div_ceil(BLOCK) {
+            let first = block.saturating_mul(BLOCK);
+            network.register(rt.alloc(), first, held.saturating_sub(first).min(BLOCK))?;
+        }
+        for records in RECORDS {
+            println!(rt; "{held} rows held, {records} records, each Map-Register")?;
+            let mut datagrams = Vec::new(rt.alloc());
+            for _ in 0..MEASURED {
+                datagrams.push(network.datagram(
+                    rt.alloc(),
+                    held.saturating_sub(records),
+                    records,
+                )?)?;
+            }
+            let start = Instant::now(rt)?;
+            for datagram in &datagrams {
+                network.take(datagram)?;
+            }
+            tell(rt, "receive", start, MEASURED)?;
+        }
+    }
+    Ok(())
+}

@@ -1,0 +1,76 @@
+-- What a fresh server over an empty store makes of a message: no nonce stands in its way.
+use Rattle.std.proofs.Common.{◌≡◌, ◌⊎◌, inl, inr, ℕ, zero, suc, List, [], ◌∷◌, Option, Some, None, Result, Ok, Err, refl, sym, ap, ◌∙◌, subst, arith}
+use Rattle.std.specs.FinMap.{empty, get-empty}
+use Rattle.std.specs.Option.{unwrap_or}
+use Rattle.std.specs.List.{Contains}
+use Rattle.lisp_records.specs.declared.address.Addr.{Addr}
+use Rattle.lisp_sites.specs.Site.{SiteEntry}
+use Rattle.lisp_store.specs.declared.fault.StoreFault.{StoreFault}
+use Rattle.lisp_store.specs.declared.fault.StoreFault.TheVariants as faults
+use Rattle.lisp_store.specs.declared.fate.Fate.TheVariants.{Done}
+use Rattle.lisp_store.specs.declared.pair.Pair.{Pair}
+use Rattle.lisp_store.specs.Pair.{pair_cmp}
+use Rattle.lisp_store.specs.Kept.{kept_at}
+use Rattle.lisp_store.specs.Memory.{memory_state}
+use Rattle.lisp_store.specs.Store.{StoreState, Rose, Proceeds}
+use Rattle.lisp_server.specs.Checks.{Passed}
+use Rattle.lisp_server.specs.Nonces.{nonce_at}
+use Rattle.lisp_server.specs.Receiving.{IsBase, Accepts, Refuses, HasCause}
+use Rattle.lisp_server.specs.Registration.{pair_of}
+use Rattle.lisp_server.specs.Server.{ServerState}
+use Rattle.lisp_server.specs.Took.{reply_in}
+use Rattle.lisp_server.specs.declared.took.Took.{Took}
+use Rattle.lisp_server.specs.declared.refused.Refused.{Refused}
+use Rattle.lisp_server.specs.declared.refused.Refused.TheVariants as refusals
+use Rattle.lispd.specs.Answer.{answer_to, IsWant}
+
+abbrev fresh_server : List SiteEntry → ServerState
+fresh_server sites = record { sites = sites; rows = []; nonces = empty; contacts = [] }
+
+abbrev fresh_store : StoreState
+fresh_store = memory_state (record { kept = empty; faults = 0; fate = Done })
+
+nothing_at : (pair : Pair) → nonce_at empty pair ≡ None
+unfolding nonce_at
+nothing_at pair = get-empty pair_cmp pair
+
+nothing_kept : (pair : Pair) → kept_at empty pair ≡ None ∷ []
+unfolding kept_at
+nothing_kept pair = ap (λ (o : Option (List (Option ℕ))). unwrap_or o (None ∷ [])) (get-empty pair_cmp pair)
+
+-- such a store doesn't fail
+no_fault : (after : StoreState) → Proceeds fresh_store after → Rose fresh_store after → ⊥
+no_fault after went (inl more) = omega (arith, (went.quiet refl).1, more)
+no_fault after went (inr top) = omega (arith, (went.quiet refl).1, top)
+
+only_memory : (after : StoreState) (fault : StoreFault) → Proceeds fresh_store after → HasCause fault fresh_store after → fault ≡ faults.OutOfMemory
+only_memory after faults.Device went cause = absurd (no_fault after went (cause (λ e. absurd cc)))
+only_memory after faults.Damaged went cause = absurd (no_fault after went (cause (λ e. absurd cc)))
+only_memory after faults.OutOfMemory went cause = refl
+
+-- and no number was saved there
+no_base : (pair : Pair) (saved : ℕ) → IsBase (nonce_at empty pair) fresh_store pair (Some saved) → ⊥
+no_base pair saved base =
+    let kept : Contains (kept_at empty pair) (Some saved) = subst (λ (last : Option ℕ). IsBase last fresh_store pair (Some saved)) (nothing_at pair) base refl in
+    only_none saved (subst (λ (values : List (Option ℕ)). Contains values (Some saved)) (nothing_kept pair) kept)
+  where
+    only_none : (saved : ℕ) → Contains (None ∷ []) (Some saved) → ⊥
+    only_none saved (zero, lt, at) = (let clash : ◌≡◌ {A = Option ℕ} None (Some saved) = at in absurd cc)
+    only_none saved (suc k, lt, at) = omega (arith, lt)
+
+pub accepted : {A : Type 0} (sites : List SiteEntry) (c : Result Passed Refused) (new : ServerState) (after : StoreState) (from : Addr) (took : Took A) → Accepts c (fresh_server sites) new fresh_store after from 0 took → answer_to c ≡ Ok (reply_in took)
+accepted sites c new after from took a = ap answer_to a.checks ∙ ap (λ t. Ok (reply_in t)) (sym a.answer)
+
+pub refused : (sites : List SiteEntry) (c : Result Passed Refused) (after : StoreState) (why : Refused) → Proceeds fresh_store after → Refuses c (fresh_server sites) fresh_store after why → IsWant why ⊎ (answer_to c ≡ Err why)
+refused sites c after (refusals.StoreLoad fault) went r = inl (only_memory after fault went r.cause)
+refused sites c after (refusals.StoreSave fault) went r = inl (only_memory after fault went r.cause)
+refused sites c after refusals.OutOfMemory went r = inl tt
+refused sites c after (refusals.Replay saved) went r = absurd (no_base (pair_of r.passed.message) saved r.base)
+refused sites c after (refusals.Read _) went r = inr (ap answer_to r.0)
+refused sites c after refusals.NotMine went r = inr (ap answer_to r.0)
+refused sites c after refusals.UnknownSite went r = inr (ap answer_to r.0)
+refused sites c after refusals.UnknownKey went r = inr (ap answer_to r.0)
+refused sites c after refusals.BadAuth went r = inr (ap answer_to r.0)
+refused sites c after refusals.MergeAsked went r = inr (ap answer_to r.0)
+refused sites c after (refusals.NotAllowed _) went r = inr (ap answer_to r.0)
+refused sites c after refusals.NoNotice went r = inr (ap answer_to r.0)
