@@ -6,8 +6,8 @@ use Rattle.std.proofs.lemmas.List.{append-nil}
 use Rattle.std.proofs.lemmas.List.Elements.{All-nil, All-push, All-weaker}
 use Rattle.std.proofs.lemmas.List.Quantifiers.{all_pairs_push}
 use Rattle.lisp_store.specs.declared.pair.Pair.{Pair}
-use Rattle.lisp_store.specs.Kept.{Kept}
-use Rattle.lisp_counter.specs.Counter.{CounterState, Rises, NoneBelow, Floor, Steps}
+use Rattle.lisp_store.specs.Kept.{Kept, NoneBelow}
+use Rattle.lisp_counter.specs.Counter.{CounterState, Rises, Floor, Steps}
 
 -- the numbers rise; each is a floor from here on, and so is what was below all at the opening
 pub record Running (pair : Pair) (opening : List (Option ℕ)) (numbers : List ℕ) (kept : Kept) (counter : Option CounterState) : Type 0 where

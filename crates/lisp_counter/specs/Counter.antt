@@ -1,9 +1,8 @@
 -- A counter over a store, and what it means that numbers rise.
 use Rattle.std.specs.Prelude.{◌≡◌, ℕ, ◌<◌, ◌≤◌, List, Option, IfSome}
-use Rattle.std.specs.List.{AllPairs, Contains}
-use Rattle.std.specs.Option.{unwrap_or}
+use Rattle.std.specs.List.{AllPairs}
 use Rattle.lisp_store.specs.declared.pair.Pair.{Pair}
-use Rattle.lisp_store.specs.Kept.{Kept, kept_at}
+use Rattle.lisp_store.specs.Kept.{Kept, kept_at, NoneBelow}
 
 -- a counter: what its numbers are for, and the last of them
 pub record CounterState : Type 0 where
@@ -13,18 +12,6 @@ pub record CounterState : Type 0 where
 -- each number is above all before it
 abbrev pub Rises : List ℕ → Type 0
 Rises numbers = AllPairs (λ x y. x < y) numbers
-
--- what is kept, as a number: nothing counts as 0
-abbrev pub number : Option ℕ → ℕ
-number value = unwrap_or value 0
-
--- the number of one of the values
-abbrev pub IsLast : List (Option ℕ) → ℕ → Type 0
-IsLast values last = (v : Option ℕ) × Contains values v × (last ≡ number v)
-
--- each value is a number, and at least n; of 0 this asks nothing
-abbrev pub NoneBelow : ℕ → List (Option ℕ) → Type 0
-NoneBelow n values = (v : Option ℕ) → Contains values v → n ≤ number v
 
 -- no number of the pair below n is kept, nor is it the last of a counter that is up
 pub record Floor (pair : Pair) (n : ℕ) (kept : Kept) (counter : Option CounterState) : Type 0 where

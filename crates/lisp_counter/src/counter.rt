@@ -1,10 +1,9 @@
 //! A counter, which saves each number before it hands it out.
 
 ghost use Rattle.std.specs.Prelude.{◌≡◌, ◌≢◌, ◌+◌, ◌-◌, ◌^◌, ◌↔◌, [], ◌∷◌, Some, Err, IsTrue, IfOk, IfErr, OnErr, IsErrOf};
-ghost use Rattle.lisp_store.specs.Kept.{kept_at, SameElsewhere, InDoubt};
+ghost use Rattle.lisp_store.specs.Kept.{kept_at, IsKept, SameElsewhere, InDoubt};
 ghost use Rattle.lisp_store.specs.Store.{Rose, Proceeds};
 ghost use Rattle.lisp_store.specs.declared.fault.StoreFault.{StoreFault};
-ghost use Rattle.lisp_counter.specs.Counter.{IsLast};
 ghost use Rattle.lisp_counter.specs.declared.fault.CounterFault.{CounterFault};
 
 use crate::fault::CounterFault;
@@ -30,7 +29,7 @@ impl Counter {
     /// A counter whose last number is the one that the store keeps; nothing counts as 0.
     pub fn start<S: NonceStore>(pair: Pair, store: &mut S) -> Result<Counter, StoreFault>
         ensures pair { IfOk result (λ c. c.pair ≡ pair) }
-        ensures last { IsTrue (S.seen store.old).is_honest → IfOk result (λ c. IsLast (kept_at (S.seen store.old).kept pair) c.last) }
+        ensures last { IsTrue (S.seen store.old).is_honest → IfOk result (λ c. IsKept (kept_at (S.seen store.old).kept pair) c.last) }
         ensures same { IsTrue (S.seen store.old).is_honest → (S.seen store.new).kept ≡ (S.seen store.old).kept }
         ensures cause { IfErr result (λ f. f ≢ StoreFault.OutOfMemory → Rose (S.seen store.old) (S.seen store.new)) }
         ensures refused { IsErrOf result StoreFault.OutOfMemory → S.seen store.new ≡ S.seen store.old }

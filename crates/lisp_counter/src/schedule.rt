@@ -2,8 +2,8 @@
 
 ghost use Rattle.std.specs.Prelude.{◌≡◌, ◌<◌, ◌≤◌, ◌+◌, ◌++◌, [], ◌∷◌, ℕ, IsTrue, IfOk, OnErr, IfSome, All, vec_len, vec_capacity};
 ghost use Rattle.std.specs.Option.{option_to_list};
-ghost use Rattle.lisp_store.specs.Kept.{kept_at};
-ghost use Rattle.lisp_counter.specs.Counter.{NoneBelow, Floor, Steps, Rises};
+ghost use Rattle.lisp_store.specs.Kept.{kept_at, NoneBelow};
+ghost use Rattle.lisp_counter.specs.Counter.{Floor, Steps, Rises};
 
 use crate::counter::Counter;
 use lisp_store::{Fate, Pair, WorldStore};

@@ -1,11 +1,12 @@
 //! What a router registers: its records, as one message carries them.
 
-ghost use Rattle.std.specs.Prelude.{◌≡◌, ◌≤◌, length, IfOk};
+ghost use Rattle.std.specs.Prelude.{◌≡◌, ◌<◌, ◌≤◌, length, IfOk};
 ghost use Rattle.lisp_records.specs.Fault.{database_fault_number};
 ghost use Rattle.lisp_records.specs.Database.{has_prefix, repeats, size, database_of};
 
 use crate::prefix::Prefix;
 use crate::record::MapRecord;
+use crate::records::Records;
 use std::alloc::{AllocError, Allocator, Global};
 use std::marker::Model;
 use thiserror::Error;
@@ -93,6 +94,14 @@ impl<A: Allocator> Database<A> {
     {
         let records = copy_records(&self.records, alloc)?;
         Ok(Database { records })
+    }
+
+    /// Equal records as a message carries them, in memory of `alloc`.
+    pub fn to_records<B: Allocator + Copy>(&self, alloc: B) -> Result<Records<B>, AllocError>
+        ensures value { IfOk result (λ r. r ≡ self.now) }
+        ensures few { IfOk result (λ r. length r < 256) }
+    {
+        Ok(Records::from_vec(copy_records(&self.records, alloc)?))
     }
 }
 

@@ -1,5 +1,5 @@
 -- Kept: for each pair the values that a load may still answer. 'Nothing' is a value too.
-use Rattle.std.specs.Prelude.{◌≡◌, ◌≢◌, ◌⊎◌, ℕ, List, [], ◌∷◌, ◌++◌, Option, Some, None}
+use Rattle.std.specs.Prelude.{◌≡◌, ◌≢◌, ◌⊎◌, ℕ, ◌≤◌, List, [], ◌∷◌, ◌++◌, Option, Some, None}
 use Rattle.std.specs.Coded.{Coded, coded_ℕ, coded_list, coded_option}
 use Rattle.std.specs.FinMap.{FinMap, get, code}
 use Rattle.std.specs.List.{Contains}
@@ -16,6 +16,18 @@ kept_code = code pair_code (coded_list (coded_option coded_ℕ))
 
 unfoldable pub kept_at : Kept → Pair → List (Option ℕ)
 kept_at kept pair = unwrap_or (get kept pair) (None ∷ [])
+
+-- what is kept, as a number: nothing counts as 0
+abbrev pub number : Option ℕ → ℕ
+number value = unwrap_or value 0
+
+-- n is the number of one of the values
+abbrev pub IsKept : List (Option ℕ) → ℕ → Type 0
+IsKept values n = (v : Option ℕ) × Contains values v × (n ≡ number v)
+
+-- no value is below n; of 0 this asks nothing
+abbrev pub NoneBelow : ℕ → List (Option ℕ) → Type 0
+NoneBelow n values = (v : Option ℕ) → Contains values v → n ≤ number v
 
 -- every other pair keeps what it kept
 abbrev pub SameElsewhere : Kept → Kept → Pair → Type 0

@@ -1,6 +1,6 @@
 //! Refused memory in a Map-Server: the right answer or want of memory, and nothing half done.
 
-use crate::server_support::{FIRST, pair_of, worked_sites, written};
+use crate::support::{FIRST, pair_of, worked_sites, written};
 use linked_list_allocator::LocalHeap;
 use lisp_samples::{fields, worked_record};
 use lisp_server::{Refused, Server};

@@ -1,0 +1,2 @@
+pub mod TimerLaws
+pub mod SafeLaws

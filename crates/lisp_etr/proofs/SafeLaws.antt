@@ -1,0 +1,14 @@
+-- What a save that failed leaves.
+use Rattle.std.proofs.Common.{◌≡◌, ◌⊎◌, inl, inr, ℕ, ◌≤◌, List, [], ◌∷◌, ◌++◌, Option, Some, sym, ap, subst, arith}
+use Rattle.std.specs.List.{Contains}
+use Rattle.std.proofs.lemmas.List.Elements.{Contains-push_cases}
+use Rattle.lisp_store.specs.Kept.{number, InDoubt, NoneBelow}
+
+-- what was below no value is below none of a list to which a number above it may have been added
+pub none_below : (n m : ℕ) (old new : List (Option ℕ)) → n ≤ m → InDoubt old new m → NoneBelow n old → NoneBelow n new
+none_below n m old new within (inl same) none v has = none v (subst (λ (vs : List (Option ℕ)). Contains vs v) same has)
+none_below n m old new within (inr more) none v has = here (Contains-push_cases old (Some m) v (subst (λ (vs : List (Option ℕ)). Contains vs v) more has))
+  where
+    here : Contains old v ⊎ (Some m ≡ v) → n ≤ number v
+    here (inl was) = none v was
+    here (inr is) = subst (λ (x : Option ℕ). n ≤ number x) is within

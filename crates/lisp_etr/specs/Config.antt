@@ -1,0 +1,19 @@
+-- What a router is told (RFC 9301 section 8.2).
+use Rattle.std.specs.Prelude.{ℕ, Bool, List}
+use Rattle.lisp_records.specs.declared.address.Addr.{Addr}
+use Rattle.lisp_records.specs.declared.router.RouterId.{RouterId}
+use Rattle.lisp_store.specs.declared.pair.Pair.{Pair}
+use Rattle.lisp_store.specs.declared.pair.PairKind.TheVariants.{Sent}
+
+-- its site and xTR-ID; its key and the secret of it; its Map-Servers; P and T
+pub record Settings : Type 0 where
+  pub me : RouterId
+  pub key_id : ℕ
+  pub secret : List ℕ
+  pub servers : List Addr
+  pub proxy : Bool
+  pub use_ttl : Bool
+
+-- what its nonces are kept for
+abbrev pub sent_pair : Settings → Pair
+sent_pair c = record { kind = Sent; router = c.me; key = c.key_id }

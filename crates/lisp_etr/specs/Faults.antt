@@ -1,0 +1,33 @@
+-- The numbers of a router's faults.
+use Rattle.std.specs.Prelude.{ℕ}
+use Rattle.lisp_messages.specs.declared.fault.ReadFault.{ReadFault}
+use Rattle.lisp_messages.specs.declared.fault.ReadFault.TheVariants as reads
+use Rattle.lisp_etr.specs.declared.start_fault.StartFault.{StartFault}
+use Rattle.lisp_etr.specs.declared.start_fault.StartFault.TheVariants as starts
+use Rattle.lisp_etr.specs.declared.send_fault.SendFault.{SendFault}
+use Rattle.lisp_etr.specs.declared.send_fault.SendFault.TheVariants as sends
+use Rattle.lisp_etr.specs.declared.notify_fault.NotifyFault.{NotifyFault}
+use Rattle.lisp_etr.specs.declared.notify_fault.NotifyFault.TheVariants as notifies
+
+abbrev pub start_fault_number : StartFault → ℕ
+start_fault_number (starts.Store _) = 35
+start_fault_number starts.OutOfMemory = 36
+
+abbrev pub send_fault_number : SendFault → ℕ
+send_fault_number sends.NoServer = 40
+send_fault_number sends.NonceSpent = 41
+send_fault_number (sends.Store _) = 42
+send_fault_number sends.OutOfMemory = 48
+
+abbrev pub notify_fault_number : NotifyFault → ℕ
+notify_fault_number (notifies.Read _) = 43
+notify_fault_number notifies.NotMine = 44
+notify_fault_number notifies.WrongKey = 45
+notify_fault_number notifies.BadAuth = 46
+notify_fault_number (notifies.Stale _) = 47
+notify_fault_number notifies.OutOfMemory = 48
+
+-- the refusal of a message that can't be read; want of memory says nothing of the message
+abbrev pub fault_of_read : ReadFault → NotifyFault
+fault_of_read reads.OutOfMemory = notifies.OutOfMemory
+fault_of_read fault = notifies.Read fault

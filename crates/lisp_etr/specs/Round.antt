@@ -1,0 +1,44 @@
+-- How a router stands with one of its Map-Servers, and what changes that (RFC 9301 section 8.2).
+use Rattle.std.specs.Prelude.{◌≡◌, ℕ, ◌+◌, ◌==◌, min, List, [], ◌∷◌, length, Option, Some, None, if◌then◌else◌}
+use Rattle.lisp_etr.specs.declared.round.Round.{Round}
+use Rattle.lisp_etr.specs.Timers.{minute, gap, due_after}
+
+-- the router starts
+abbrev pub started : ℕ → Round
+started now = record { due = now; sends = 0; renewal = 0; latest = 0; acked = None }
+
+-- a new round is due now
+abbrev pub begun : ℕ → Round → Round
+begun now r = record r { due = now; sends = 0 }
+
+-- a Map-Register went out; six sends stand for more too
+abbrev pub sent : ℕ → ℕ → Round → Round
+sent nonce now r = record r { due = now + gap r.sends; sends = min (r.sends + 1) 6; renewal = now + minute; latest = nonce }
+
+-- the last send was acknowledged: where it is of this round, a new round is due a minute after it
+abbrev pub counted : ℕ → Round → Round
+counted key r = if r.sends == 0
+    then record r { acked = Some (key, r.latest) }
+    else record r { due = r.renewal; sends = 0; acked = Some (key, r.latest) }
+
+-- after a send the next round would be due a minute later
+abbrev pub IsRenewal : ℕ → List ℕ → Type 0
+IsRenewal renewal [] = Unit {0}
+IsRenewal renewal (last ∷ before) = renewal ≡ last + minute
+
+-- the timer is that of a round with this beginning and the sends at these moments, the last one first
+pub record Keeps (r : Round) (begin : ℕ) (moments : List ℕ) : Type 0 where
+  pub due : r.due ≡ due_after begin moments
+  pub sends : r.sends ≡ min (length moments) 6
+  pub renewal : IsRenewal r.renewal moments
+
+-- a round begins at the start, at each change of the database, and a minute after a send of a round
+-- that is acknowledged; a send goes on with it
+pub record KeepsTime : Type 0 where
+  pub start : (now : ℕ) → Keeps (started now) now []
+  pub begin : (now : ℕ) (r : Round) → Keeps (begun now r) now []
+  pub send : (r : Round) (begin : ℕ) (moments : List ℕ) (nonce now : ℕ) → Keeps r begin moments
+      → Keeps (sent nonce now r) begin (now ∷ moments)
+  pub renew : (r : Round) (begin last : ℕ) (before : List ℕ) (key : ℕ) → Keeps r begin (last ∷ before)
+      → Keeps (counted key r) (last + minute) []
+  pub idle : (r : Round) (begin key : ℕ) → Keeps r begin [] → Keeps (counted key r) begin []

@@ -1,0 +1,45 @@
+-- What a router sends, and what its store keeps then (RFC 9301 sections 5.6 and 8.2).
+use Rattle.std.specs.Prelude.{◌≡◌, ℕ, ◌+◌, ◌-◌, ◌<◌, ◌^◌, List, [], ◌∷◌, ◌++◌, Option, Some, true, false, slice_set, slice_index_or}
+use Rattle.lisp_records.specs.Record.{Mapping}
+use Rattle.lisp_messages.specs.Message.{Registration}
+use Rattle.lisp_messages.specs.Authentic.{signed}
+use Rattle.lisp_messages.specs.Written.{written_register}
+use Rattle.lisp_store.specs.Kept.{InDoubt}
+use Rattle.lisp_etr.specs.Config.{Settings}
+use Rattle.lisp_etr.specs.Round.{started, sent}
+use Rattle.lisp_etr.specs.Etr.{EtrState}
+
+-- the last nonce of a router; those from 2^63 on are a Map-Server's own
+abbrev pub last_nonce : ℕ
+last_nonce = 2 ^ 63 - 1
+
+-- the Map-Register of a database: I and M set, S, E and a clear
+abbrev pub registration_of : Settings → List Mapping → ℕ → Registration
+registration_of c database nonce = record {
+  proxy = c.proxy;
+  sec = false;
+  eid_notify = false;
+  use_ttl = c.use_ttl;
+  merge = false;
+  want_notify = true;
+  nonce = nonce;
+  key_id = c.key_id;
+  records = database;
+  xtr = c.me.xtr;
+  site = c.me.site;
+}
+
+-- its bytes, authentic under the router's secret
+abbrev pub datagram_of : Settings → List Mapping → ℕ → List ℕ
+datagram_of c database nonce = signed c.secret (written_register (registration_of c database nonce))
+
+-- what a send with the next nonce to a Map-Server makes of the router
+pub record Sends (old new : EtrState) (server now : ℕ) : Type 0 where
+  pub config : new.config ≡ old.config
+  pub database : new.database ≡ old.database
+  pub last : new.last ≡ old.last + 1
+  pub rounds : new.rounds ≡ slice_set old.rounds server (sent (old.last + 1) now (slice_index_or old.rounds server (started 0)))
+
+-- what a refused send leaves of the pair: its values as they were, or with a number above the last one
+abbrev pub LeavesPair : List (Option ℕ) → List (Option ℕ) → ℕ → Type 0
+LeavesPair old new last = (n : ℕ) × (last < n) × InDoubt old new n

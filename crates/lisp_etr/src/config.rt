@@ -1,0 +1,48 @@
+//! What a router is told.
+
+ghost use Rattle.std.specs.Prelude.{◌≡◌};
+ghost use Rattle.lisp_etr.specs.Config.{sent_pair};
+
+use crate::servers::Servers;
+use lisp_records::{Bytes, RouterId};
+use lisp_store::{Pair, PairKind};
+use std::alloc::{Allocator, Global};
+use std::marker::Model;
+
+/// What a router is told before it starts.
+#[derive(Debug, Drop)]
+pub struct EtrConfig<A: Allocator = Global> {
+    /// Its site and xTR-ID.
+    pub me: RouterId,
+    /// The key of its site that it registers under.
+    pub key_id: u8,
+    /// The secret of that key.
+    pub secret: Bytes<A>,
+    /// The Map-Servers that it registers with.
+    pub servers: Servers<A>,
+    /// P: the Map-Servers are to answer Map-Requests for it.
+    pub proxy: bool,
+    /// T: its registrations time out by the TTL of their records.
+    pub use_ttl: bool,
+}
+
+impl<A: Allocator> Model for EtrConfig<A> {
+    ghost use Rattle.lisp_etr.specs.Config.{Settings};
+
+    ghost Value = { Settings };
+
+    ghost view = { λ c. record { me = c.me; key_id = c.key_id; secret = c.secret; servers = c.servers; proxy = c.proxy; use_ttl = c.use_ttl } };
+}
+
+impl<A: Allocator> EtrConfig<A> {
+    /// What its nonces are kept for.
+    pub(crate) fn pair(&self) -> Pair
+        ensures { result ≡ sent_pair self.now }
+    {
+        Pair {
+            kind: PairKind::Sent,
+            router: self.me,
+            key: self.key_id,
+        }
+    }
+}

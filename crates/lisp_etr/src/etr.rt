@@ -1,0 +1,262 @@
+//! The site router.
+
+ghost use Rattle.std.specs.Prelude.{◌≡◌, ◌≢◌, ◌↔◌, ◌≤◌, ◌<◌, ◌+◌, ℕ, List, Some, Ok, Err, IsTrue, IfOk, IfErr, OnOk, OnErr, IsErrOf, length, map, nat_le, position, replicate, slice_get};
+ghost use Rattle.std.specs.Option.{option_and_then};
+ghost use Rattle.lisp_store.specs.Kept.{kept_at, IsKept, NoneBelow, SameElsewhere};
+ghost use Rattle.lisp_store.specs.Store.{Rose, Proceeds};
+ghost use Rattle.lisp_store.specs.declared.fault.StoreFault.{StoreFault};
+ghost use Rattle.lisp_messages.specs.Reading.{kind_at};
+ghost use Rattle.lisp_messages.specs.declared.fault.ReadFault.{ReadFault};
+ghost use Rattle.lisp_etr.specs.Config.{Settings, sent_pair};
+ghost use Rattle.lisp_etr.specs.Timers.{max_moment};
+ghost use Rattle.lisp_etr.specs.Round.{started, begun};
+ghost use Rattle.lisp_etr.specs.Faults.{fault_of_read};
+ghost use Rattle.lisp_etr.specs.Etr.{etr_started};
+ghost use Rattle.lisp_etr.specs.Sending.{last_nonce, datagram_of, Sends, LeavesPair};
+ghost use Rattle.lisp_etr.specs.Hearing.{Gives, notice_in, counted_in, seen_at, after};
+ghost use Rattle.lisp_etr.specs.declared.start_fault.StartFault.{StartFault};
+ghost use Rattle.lisp_etr.specs.declared.send_fault.SendFault.{SendFault};
+ghost use Rattle.lisp_etr.specs.declared.notify_fault.NotifyFault.{NotifyFault};
+
+use crate::config::EtrConfig;
+use crate::hearing::{answer, hear};
+use crate::notify_fault::NotifyFault;
+use crate::round::{Round, begin_all};
+use crate::seen::Seen;
+use crate::send_fault::SendFault;
+use crate::sending::{LAST_NONCE, datagram};
+use crate::start_fault::{StartFault, StartRefused};
+use lisp_messages::MapNotify;
+use lisp_records::{Addr, Bytes, Database};
+use lisp_store::NonceStore;
+use std::alloc::{Allocator, Global};
+use std::marker::Model;
+
+/// A site router: what it registers, its last nonce, and how it stands with its Map-Servers.
+#[derive(Debug, Drop)]
+pub struct Etr<A: Allocator = Global> {
+    alloc: A,
+    config: EtrConfig<A>,
+    database: Database<A>,
+    last: u64,
+    // What the last save that was done has saved, 0 before: after a restart the store has no less.
+    safe: u64,
+    rounds: Vec<Round, A>,
+}
+
+impl<A: Allocator> Model for Etr<A> {
+    ghost use Rattle.std.specs.Prelude.{◌≡◌, ◌≤◌, length};
+    ghost use Rattle.lisp_etr.specs.Etr.{EtrState};
+
+    ghost Value = { EtrState };
+
+    ghost view = { λ e. record { config = e.config; database = e.database; last = e.last; safe = e.safe; rounds = e.rounds.items } };
+
+    ghost invariant = { λ e. (length e.rounds.items ≡ length e.config.servers) × (e.safe ≤ e.last) };
+}
+
+impl<A: Allocator + Copy> Etr<A> {
+    /// A router that starts at a moment, in ms: its last nonce is the one that the store keeps, 0 where
+    /// it keeps none, and all its Map-Servers are due. What it makes lies in memory of `alloc`. It
+    /// refuses in this order, and gives back what it was given: `OutOfMemory`, `Store`.
+    pub fn start<S: NonceStore>(
+        alloc: A,
+        config: EtrConfig<A>,
+        database: Database<A>,
+        store: &mut S,
+        now: u64,
+    ) -> Result<Etr<A>, StartRefused<A>>
+        ensures started { IfOk result (λ e. e ≡ etr_started config database e.last now) }
+        ensures last { IsTrue (S.seen store.old).is_honest → IfOk result (λ e. IsKept (kept_at (S.seen store.old).kept (sent_pair config)) e.last) }
+        ensures back { IfErr result (λ r. (r.config ≡ config) × (r.database ≡ database)) }
+        ensures same { IsTrue (S.seen store.old).is_honest → (S.seen store.new).kept ≡ (S.seen store.old).kept }
+        ensures memory { IfErr result (λ r. r.fault ≡ StartFault.OutOfMemory → S.seen store.new ≡ S.seen store.old) }
+        ensures refused { IfErr result (λ r. r.fault ≡ StartFault.Store StoreFault.OutOfMemory → S.seen store.new ≡ S.seen store.old) }
+        ensures cause { IfErr result (λ r. (f : StoreFault) → r.fault ≡ StartFault.Store f → f ≢ StoreFault.OutOfMemory → Rose (S.seen store.old) (S.seen store.new)) }
+        ensures proceeds { Proceeds (S.seen store.old) (S.seen store.new) }
+    {
+        match begin(alloc, &config, store, now) {
+            Ok((rounds, last)) => Ok(Etr {
+                alloc,
+                config,
+                database,
+                last,
+                safe: 0,
+                rounds,
+            }),
+            Err(fault) => Err(StartRefused {
+                fault,
+                config,
+                database,
+            }),
+        }
+    }
+
+    /// What it was told, and what it registers; the rest is gone. Takes no memory.
+    pub fn stop(self) -> (EtrConfig<A>, Database<A>)
+        ensures config { result.0 ≡ self.config }
+        ensures database { result.1 ≡ self.database }
+    {
+        (self.config, self.database)
+    }
+
+    /// Registers this database from a moment on, in ms: all its Map-Servers are due. Takes no memory.
+    pub fn change(&mut self, database: Database<A>, now: u64)
+        ensures { self.new ≡ record self.old { database = database; rounds = map (begun now) self.old.rounds } }
+    {
+        self.database = database;
+        begin_all(&mut self.rounds, now);
+    }
+
+    /// The least number of a Map-Server that is due at a moment, in ms. Takes no memory.
+    pub fn due(&self, now: u64) -> Option<usize>
+        ensures { result ≡ position (λ round. nat_le round.due now) self.now.rounds }
+    {
+        self.rounds.iter().position(|round| round.due <= now)
+    }
+
+    /// A Map-Register to a Map-Server, by its number, at a moment, in ms: of the present database, under
+    /// the nonce after the last, which is saved before (RFC 9301 sections 5.6 and 8.2).
+    ///
+    /// It refuses in this order: `NoServer`, `NonceSpent` (the last nonce is 2^63 - 1 or more),
+    /// `OutOfMemory`, `Store`. A refusal changes nothing here.
+    pub fn send<S: NonceStore>(
+        &mut self,
+        store: &mut S,
+        server: usize,
+        now: u64,
+    ) -> Result<Vec<u8, A>, SendFault>
+        requires { now ≤ max_moment }
+        ensures datagram { IfOk result (λ bytes. bytes.items ≡ datagram_of self.old.config self.old.database (self.old.last + 1)) }
+        ensures sends { OnOk result (Sends self.old self.new server now) }
+
+        // The refusals, in their order.
+        ensures no_server { (result ≡ Err SendFault.NoServer) ↔ (length self.old.config.servers ≤ server) }
+        ensures spent { (result ≡ Err SendFault.NonceSpent) ↔ ((server < length self.old.config.servers) × (last_nonce ≤ self.old.last)) }
+        ensures err { OnErr result (self.new ≡ self.old) }
+
+        // No lower nonce comes back from the store: not after a send, nor after one that failed.
+        ensures safe { OnOk result (self.old.last + 1 ≤ self.new.safe) }
+        ensures keeps_safe { IsTrue (S.seen store.old).is_honest → NoneBelow self.old.safe (kept_at (S.seen store.old).kept (sent_pair self.old.config)) → NoneBelow self.new.safe (kept_at (S.seen store.new).kept (sent_pair self.old.config)) }
+        ensures leaves { IsTrue (S.seen store.old).is_honest → OnErr result (LeavesPair (kept_at (S.seen store.old).kept (sent_pair self.old.config)) (kept_at (S.seen store.new).kept (sent_pair self.old.config)) self.old.last) }
+        ensures others { IsTrue (S.seen store.old).is_honest → SameElsewhere (S.seen store.old).kept (S.seen store.new).kept (sent_pair self.old.config) }
+
+        // Only a device that failed leaves the store in doubt.
+        ensures refused { IfErr result (λ f. f ≢ SendFault.Store StoreFault.Device → S.seen store.new ≡ S.seen store.old) }
+        ensures cause { IsErrOf result (SendFault.Store StoreFault.Device) → Rose (S.seen store.old) (S.seen store.new) }
+        ensures sound { result ≢ Err (SendFault.Store StoreFault.Damaged) }
+        ensures proceeds { Proceeds (S.seen store.old) (S.seen store.new) }
+    {
+        if server >= self.rounds.len() {
+            return Err(SendFault::NoServer);
+        }
+        if self.last >= LAST_NONCE {
+            return Err(SendFault::NonceSpent);
+        }
+        let nonce = self.last + 1;
+        let datagram = datagram(self.alloc, &self.config, &self.database, nonce)?;
+        if let Err(fault) = store.save(&self.config.pair(), nonce) {
+            return Err(SendFault::Store(fault));
+        }
+        self.last = nonce;
+        self.safe = nonce;
+        self.rounds[server].send(nonce, now);
+        Ok(datagram)
+    }
+
+    /// Takes a message that came from an address; it counts from the moment of the send that it
+    /// acknowledges, not from `now` (RFC 9301 section 5.7).
+    ///
+    /// It refuses in this order: `Read` (the bytes spell no message), `NotMine` (no Map-Notify, or from
+    /// no Map-Server of this router), `WrongKey`, `BadAuth`, `Stale` (the nonce is below 2^63 and isn't
+    /// that of the last Map-Register to that Map-Server). `OutOfMemory` may come in place of any of
+    /// them, in reading or in building the answer to a notice. A refusal changes nothing.
+    #[tactic(auto, unfolding(crate::specs::Hearing::seen_in))]
+    pub fn receive(&mut self, from: Addr, bytes: &[u8], _now: u64) -> Result<Seen<A>, NotifyFault>
+        ensures answer { Gives (λ seen. seen) result (seen_at self.old from bytes.now) }
+        ensures after { self.new ≡ after self.old result }
+
+        // Before the first record nothing takes memory.
+        ensures early { (fault : ReadFault) → kind_at bytes.now ≡ Err fault → result ≡ Err (fault_of_read fault) }
+    {
+        let (server, notify) = hear(self.alloc, &self.config, from, bytes)?;
+        if notify.nonce > LAST_NONCE {
+            return self.notice(server, notify);
+        }
+        self.count(server, notify.nonce)
+    }
+
+    // A Map-Server's notice, and its answer.
+    fn notice(&self, server: usize, notify: MapNotify<A>) -> Result<Seen<A>, NotifyFault>
+        ensures notice { IfOk result (λ seen. seen ≡ notice_in self.now.config (record { server = server; message = notify })) }
+        ensures err { IfErr result (λ fault. fault ≡ NotifyFault.OutOfMemory) }
+    {
+        let ack = MapNotify {
+            ack: true,
+            ..notify
+        };
+        let bytes = answer(self.alloc, &ack, self.config.secret.as_slice())?;
+        Ok(Seen::Notice {
+            server,
+            nonce: ack.nonce,
+            records: ack.records,
+            answer: Bytes::from_vec(bytes),
+        })
+    }
+
+    // The acknowledgement of the last Map-Register to a Map-Server.
+    fn count(&mut self, server: usize, nonce: u64) -> Result<Seen<A>, NotifyFault>
+        requires { server < length self.old.config.servers }
+        ensures answer { result ≡ counted_in self.old.rounds server nonce }
+        ensures after { self.new ≡ after self.old result }
+    {
+        let round = &mut self.rounds[server];
+        if nonce == 0 || nonce != round.latest {
+            return Err(NotifyFault::Stale {
+                latest: round.latest,
+            });
+        }
+        round.count(self.config.key_id);
+        Ok(Seen::Counted { server, nonce })
+    }
+
+    /// The Key ID and the nonce of the last Map-Register to a Map-Server, by its number, that was
+    /// acknowledged since the start. Takes no memory.
+    pub fn acked(&self, server: usize) -> Option<(u8, u64)>
+        ensures { result ≡ option_and_then (λ round. round.acked) (slice_get self.now.rounds server) }
+    {
+        self.rounds.get(server)?.acked
+    }
+
+    /// What it registers. Takes no memory.
+    pub fn database(&self) -> &Database<A>
+        ensures { result.now ≡ self.now.database }
+    {
+        &self.database
+    }
+}
+
+// The rounds of a router that starts, and its last nonce; `OutOfMemory`, `Store`.
+fn begin<S: NonceStore, A: Allocator + Copy>(
+    alloc: A,
+    config: &EtrConfig<A>,
+    store: &mut S,
+    now: u64,
+) -> Result<(Vec<Round, A>, u64), StartFault>
+    ensures rounds { IfOk result (λ x. x.0.items ≡ replicate (length config.now.servers) (started now)) }
+    ensures last { IsTrue (S.seen store.old).is_honest → IfOk result (λ x. IsKept (kept_at (S.seen store.old).kept (sent_pair config.now)) x.1) }
+    ensures same { IsTrue (S.seen store.old).is_honest → (S.seen store.new).kept ≡ (S.seen store.old).kept }
+    ensures memory { IsErrOf result StartFault.OutOfMemory → S.seen store.new ≡ S.seen store.old }
+    ensures refused { IsErrOf result (StartFault.Store StoreFault.OutOfMemory) → S.seen store.new ≡ S.seen store.old }
+    ensures cause { IfErr result (λ fault. (f : StoreFault) → fault ≡ StartFault.Store f → f ≢ StoreFault.OutOfMemory → Rose (S.seen store.old) (S.seen store.new)) }
+    ensures proceeds { Proceeds (S.seen store.old) (S.seen store.new) }
+{
+    let servers = config.servers.as_slice().len();
+    let Ok(rounds) = vec![in alloc; Round::start(now); servers] else {
+        return Err(StartFault::OutOfMemory);
+    };
+    match store.load(&config.pair()) {
+        Ok(last) => Ok((rounds, last.unwrap_or(0))),
+        Err(fault) => Err(StartFault::Store(fault)),
+    }
+}

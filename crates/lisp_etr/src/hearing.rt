@@ -1,0 +1,69 @@
+//! What a router checks of a message, and how it answers a notice.
+
+ghost use Rattle.std.specs.Prelude.{◌≡◌, ◌<◌, Err, IfOk, length};
+ghost use Rattle.lisp_messages.specs.Reading.{kind_at, message_at};
+ghost use Rattle.lisp_messages.specs.declared.fault.ReadFault.{ReadFault};
+ghost use Rattle.lisp_messages.specs.Authentic.{signed};
+ghost use Rattle.lisp_messages.specs.Written.{written_notify};
+ghost use Rattle.lisp_etr.specs.Faults.{fault_of_read};
+ghost use Rattle.lisp_etr.specs.Hearing.{Gives, Heard, notify_read, server_at, heard, ack_of};
+
+use crate::config::EtrConfig;
+use crate::notify_fault::NotifyFault;
+use lisp_messages::{MapNotify, Message, authentic, read_message, write_notify};
+use lisp_records::Addr;
+use std::alloc::{AllocError, Allocator};
+
+/// The Map-Notify that bytes from an address spell and the number of the Map-Server there, or the
+/// first check that they fail.
+#[tactic(auto, unfolding(crate::specs::Hearing::heard))]
+pub(crate) fn hear<A: Allocator + Copy>(
+    alloc: A,
+    config: &EtrConfig<A>,
+    from: Addr,
+    bytes: &[u8],
+) -> Result<(usize, MapNotify<A>), NotifyFault>
+    ensures exact { Gives (λ x. record { server = x.0; message = x.1 }) result (heard config.now from bytes.now) }
+    ensures server { IfOk result (λ x. x.0 < length config.now.servers) }
+    ensures early { (fault : ReadFault) → kind_at bytes.now ≡ Err fault → result ≡ Err (fault_of_read fault) }
+{
+    let notify = read_notify(alloc, bytes)?;
+    let server = server_at(config.servers.as_slice(), from).ok_or(NotifyFault::NotMine)?;
+    if notify.key_id != config.key_id {
+        return Err(NotifyFault::WrongKey);
+    }
+    if !authentic(bytes, config.secret.as_slice()) {
+        return Err(NotifyFault::BadAuth);
+    }
+    Ok((server, notify))
+}
+
+// The Map-Notify that bytes spell; `Read`, `NotMine`.
+fn read_notify<A: Allocator + Copy>(alloc: A, bytes: &[u8]) -> Result<MapNotify<A>, NotifyFault>
+    ensures exact { Gives (λ m. m) result (notify_read (message_at bytes.now)) }
+    ensures early { (fault : ReadFault) → kind_at bytes.now ≡ Err fault → result ≡ Err (fault_of_read fault) }
+{
+    match read_message(alloc, bytes) {
+        Ok(Message::Notify(notify)) if !notify.ack => Ok(notify),
+        Ok(_) => Err(NotifyFault::NotMine),
+        Err(fault) => Err(NotifyFault::of_read(fault)),
+    }
+}
+
+// The number of the Map-Server with an address, the first one of several.
+fn server_at(servers: &[Addr], from: Addr) -> Option<usize>
+    ensures { result ≡ server_at servers.now from }
+{
+    servers.iter().position(|server| *server == from)
+}
+
+/// The bytes of the Map-Notify-Ack that answers a notice (RFC 9301 section 5.7).
+pub(crate) fn answer<A: Allocator + Copy>(
+    alloc: A,
+    ack: &MapNotify<A>,
+    secret: &[u8],
+) -> Result<Vec<u8, A>, AllocError>
+    ensures { IfOk result (λ bytes. bytes.items ≡ signed secret.now (written_notify ack.now)) }
+{
+    write_notify(alloc, ack, secret)
+}

@@ -1,0 +1,95 @@
+//! A router's rounds of Map-Registers to one of its Map-Servers (RFC 9301 section 8.2).
+
+ghost use Rattle.std.specs.Prelude.{◌≡◌, ◌≤◌, ℕ, map};
+ghost use Rattle.lisp_etr.specs.Timers.{gap, max_moment};
+ghost use Rattle.lisp_etr.specs.Round.{started, begun, sent, counted};
+
+/// A minute, in ms.
+const MINUTE: u64 = 60_000;
+
+/// From so many sends on a round's gaps are the same.
+const MOST_SENDS: u8 = 6;
+
+/// How a router stands with one of its Map-Servers. Moments are in ms.
+#[derive(Clone, Copy, Debug, Drop)]
+pub(crate) struct Round {
+    /// When the next Map-Register is due.
+    pub(crate) due: u64,
+    /// The sends of this round; six stands for more too.
+    pub(crate) sends: u8,
+    /// When the next round is due once the last send is acknowledged.
+    pub(crate) renewal: u64,
+    /// The nonce of the last send; 0 where there was none.
+    pub(crate) latest: u64,
+    /// The Key ID and the nonce of the last send that was acknowledged.
+    pub(crate) acked: Option<(u8, u64)>,
+}
+
+impl Round {
+    /// A router that starts at a moment, and hasn't sent.
+    pub(crate) const fn start(now: u64) -> Round
+        ensures { result ≡ started now }
+    {
+        Round {
+            due: now,
+            sends: 0,
+            renewal: 0,
+            latest: 0,
+            acked: None,
+        }
+    }
+
+    /// A new round, due now.
+    pub(crate) fn begin(&mut self, now: u64)
+        ensures { self.new ≡ begun now self.old }
+    {
+        self.due = now;
+        self.sends = 0;
+    }
+
+    /// A Map-Register goes out.
+    pub(crate) fn send(&mut self, nonce: u64, now: u64)
+        requires { now ≤ max_moment }
+        ensures { self.new ≡ sent nonce now self.old }
+    {
+        self.due = now + gap(self.sends);
+        self.sends = self.sends.saturating_add(1).min(MOST_SENDS);
+        self.renewal = now + MINUTE;
+        self.latest = nonce;
+    }
+
+    /// The last send is acknowledged.
+    pub(crate) fn count(&mut self, key: u8)
+        ensures { self.new ≡ counted key self.old }
+    {
+        if self.sends > 0 {
+            self.due = self.renewal;
+            self.sends = 0;
+        }
+        self.acked = Some((key, self.latest));
+    }
+}
+
+/// A new round with each Map-Server, due now.
+pub(crate) fn begin_all(rounds: &mut [Round], now: u64)
+    ensures { rounds.new ≡ map (begun now) rounds.old }
+{
+    for round in rounds.iter_mut() {
+        round.begin(now);
+    }
+}
+
+// How long after a send that follows so many others of its round the next one is due, in ms.
+const fn gap(sends: u8) -> u64
+    ensures { result ≡ gap sends }
+{
+    match sends {
+        0 => 1_000,
+        1 => 2_000,
+        2 => 4_000,
+        3 => 8_000,
+        4 => 16_000,
+        5 => 32_000,
+        _ => MINUTE,
+    }
+}

@@ -1,0 +1,41 @@
+//! Why a router doesn't start.
+
+ghost use Rattle.std.specs.Prelude.{◌≡◌};
+ghost use Rattle.lisp_etr.specs.Faults.{start_fault_number};
+
+use crate::config::EtrConfig;
+use lisp_records::Database;
+use lisp_store::StoreFault;
+use std::alloc::{Allocator, Global};
+use thiserror::Error;
+
+/// What keeps a router from starting.
+#[derive(Clone, Copy, Debug, PartialEq, Eq, Error)]
+pub enum StartFault {
+    /// The store can't tell the last nonce.
+    #[error("the last nonce can't be loaded: {0}")]
+    Store(StoreFault),
+    /// No memory; the store wasn't asked.
+    #[error("out of memory")]
+    OutOfMemory,
+}
+
+impl StartFault {
+    /// The number that operators see: `Store` 35, `OutOfMemory` 36.
+    pub const fn number(&self) -> u16
+        ensures { result ≡ start_fault_number self.now }
+    {
+        match self {
+            StartFault::Store(_) => 35,
+            StartFault::OutOfMemory => 36,
+        }
+    }
+}
+
+/// A router that didn't start: why, and what it was given.
+#[derive(Debug, Drop)]
+pub struct StartRefused<A: Allocator = Global> {
+    pub fault: StartFault,
+    pub config: EtrConfig<A>,
+    pub database: Database<A>,
+}

@@ -1,0 +1,9 @@
+//! Tests of the Map-Server over the store in memory. This crate has no function of its own.
+#![tactic(auto)]
+
+#[cfg(test)]
+mod memory;
+#[cfg(test)]
+mod servers;
+#[cfg(test)]
+mod support;
