@@ -1,11 +1,11 @@
 -- The gaps of a round, and what follows from them.
-use Rattle.std.proofs.Common.{◌≡◌, ◌==◌, ◌⊎◌, inl, inr, Bool, true, false, ℕ, zero, suc, ◌+◌, ◌-◌, ◌*◌, ◌^◌, ◌<◌, ◌≤◌, min, List, [], ◌∷◌, length, arith, refl, sym, ◌∙◌, ap, subst}
+use Rattle.std.proofs.Common.{◌≡◌, ◌==◌, ◌⊎◌, inl, inr, true, false, ℕ, suc, ◌+◌, ◌*◌, ◌^◌, ◌<◌, ◌≤◌, min, [], ◌∷◌, length, arith, refl, sym, ◌∙◌, ap}
 use Rattle.std.proofs.Math.Nat.{min-eq_left, min-eq_right, le-min, pow-suc}
 use Rattle.std.proofs.Math.Pow.{pow_mono, suc_ones}
 use Rattle.std.proofs.lemmas.Bool.{cases_lt, ne_eqb}
 use Rattle.lisp_etr.specs.declared.round.Round.{Round}
 use Rattle.lisp_etr.specs.Timers.{second, minute, gap, due_after, IsPrompt, IsAfter, PromptSends}
-use Rattle.lisp_etr.specs.Round.{started, begun, sent, counted, Keeps, KeepsTime}
+use Rattle.lisp_etr.specs.Round.{counted, Keeps, KeepsTime}
 
 -- from the seventh send on a minute
 pub gap_late : (k : ℕ) → 6 ≤ k → gap k ≡ minute

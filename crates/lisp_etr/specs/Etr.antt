@@ -1,5 +1,5 @@
 -- What a router is (RFC 9301 section 8.2).
-use Rattle.std.specs.Prelude.{◌≡◌, ℕ, ◌≤◌, List, length, replicate}
+use Rattle.std.specs.Prelude.{ℕ, List, length, replicate}
 use Rattle.lisp_records.specs.Record.{Mapping}
 use Rattle.lisp_etr.specs.Config.{Settings}
 use Rattle.lisp_etr.specs.declared.round.Round.{Round}

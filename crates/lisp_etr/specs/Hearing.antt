@@ -1,5 +1,5 @@
 -- Counted: what a router makes of a message (RFC 9301 sections 5.7 and 8.2).
-use Rattle.std.specs.Prelude.{◌≡◌, ℕ, ◌^◌, ◌==◌, ◌&&◌, nat_le, Bool, true, false, not, List, Option, Some, None, Result, Ok, Err, position, ok_or, slice_set, slice_index_or, if◌then◌else◌}
+use Rattle.std.specs.Prelude.{◌≡◌, ℕ, ◌^◌, ◌==◌, ◌&&◌, nat_le, Bool, true, not, List, Option, Result, Ok, Err, position, ok_or, slice_set, slice_index_or, if◌then◌else◌}
 use Rattle.lisp_records.specs.declared.address.Addr.{Addr}
 use Rattle.lisp_records.specs.Address.{addr_eq}
 use Rattle.lisp_messages.specs.Message.{Notification, Said, Registers, Notifies}

@@ -3,18 +3,10 @@
 use crate::support::{PAIR, SERVERS, acknowledgement, config, database};
 use linked_list_allocator::LocalHeap;
 use lisp_etr::{Etr, NotifyFault, Seen, SendFault, StartFault};
+use lisp_samples::{HEAP_LEN, MOST_BLOCKS, fill};
 use lisp_store::{MemoryStore, NonceStore, StoreFault};
 use std::alloc::Global;
 use std::test::Fail;
-
-/// The bytes of the heap that a call may use a part of.
-const HEAP_LEN: usize = 4096;
-
-/// The heap's smallest block, by which its free room grows.
-const BLOCK_LEN: usize = 16;
-
-/// So many blocks are room enough for each call.
-const MOST_BLOCKS: usize = 128;
 
 #[test]
 fn want_of_memory_gives_back_what_was_told(rt: HostRuntime) -> Result<(), Fail> {
@@ -23,7 +15,7 @@ fn want_of_memory_gives_back_what_was_told(rt: HostRuntime) -> Result<(), Fail> 
         let heap = LocalHeap::new(rt.alloc(), HEAP_LEN)?;
         let mut store = MemoryStore::new(rt.alloc());
         let (config, database) = (config(&heap)?, database(rt.alloc(), 1440)?.copy(&heap)?);
-        let ballast = fill(rt.alloc(), &heap, blocks)?;
+        let ballast = fill(&rt, rt.alloc(), &heap, blocks);
         let start = Etr::start(&heap, config, database, &mut store, 0);
         drop(ballast);
         match start {
@@ -46,7 +38,7 @@ fn want_of_memory_sends_nothing(rt: HostRuntime) -> Result<(), Fail> {
         let heap = LocalHeap::new(rt.alloc(), HEAP_LEN)?;
         let mut store = MemoryStore::new(rt.alloc());
         let mut router = started(rt.alloc(), &heap, &mut store)?;
-        let ballast = fill(rt.alloc(), &heap, blocks)?;
+        let ballast = fill(&rt, rt.alloc(), &heap, blocks);
         let refusal = router.send(&mut store, 0, 0).err();
         drop(ballast);
         match refusal {
@@ -72,7 +64,7 @@ fn a_store_without_memory_sends_nothing(rt: HostRuntime) -> Result<(), Fail> {
     let mut store = MemoryStore::new(&heap);
     let router_heap = LocalHeap::new(rt.alloc(), HEAP_LEN)?;
     let mut router = started(rt.alloc(), &router_heap, &mut store)?;
-    let ballast = fill(rt.alloc(), &heap, 0)?;
+    let ballast = fill(&rt, rt.alloc(), &heap, 0);
     let refusal = router.send(&mut store, 0, 0).err();
     drop(ballast);
     assert_eq!(rt; refusal, Some(SendFault::Store(StoreFault::OutOfMemory)));
@@ -94,7 +86,7 @@ fn want_of_memory_counts_nothing(rt: HostRuntime) -> Result<(), Fail> {
         let mut router = started(rt.alloc(), &heap, &mut store)?;
         let _sent = router.send(&mut store, 0, 0)?;
         for (bytes, acked) in [(&notice, None), (&counts, Some((1, 1)))] {
-            let ballast = fill(rt.alloc(), &heap, blocks)?;
+            let ballast = fill(&rt, rt.alloc(), &heap, blocks);
             let refusal = router.receive(SERVERS[0], bytes, 0).err();
             drop(ballast);
             match refusal {
@@ -124,19 +116,4 @@ fn started<'h>(
         Ok(router) => Ok(router),
         Err(_) => Err("the router did not start")?,
     }
-}
-
-/// Takes all the memory of a heap but so many blocks.
-fn fill(alloc: Global, heap: &LocalHeap, blocks: usize) -> Result<Vec<Vec<u8, &LocalHeap>>, Fail> {
-    let mut ballast = Vec::new(alloc);
-    for _ in 0..HEAP_LEN / BLOCK_LEN {
-        let Ok(block) = Vec::with_capacity(heap, BLOCK_LEN) else {
-            break;
-        };
-        ballast.push(block)?;
-    }
-    for _ in 0..blocks {
-        ballast.pop();
-    }
-    Ok(ballast)
 }

@@ -1,7 +1,10 @@
-//! What both crates of tests share: the worked record and its secret, and what a record holds. Nothing
-//! here is part of the program.
+//! What the crates of tests share: the worked record and its secret, what a record holds, and a heap of
+//! which a test leaves a part. Nothing here is part of the program.
 #![tactic(auto)]
 
+mod heap;
+
+pub use heap::{HEAP_LEN, MOST_BLOCKS, fill};
 use lisp_records::{Addr, Locator, MapRecord, Prefix};
 use std::alloc::{Allocator, Global};
 use std::test::Fail;

@@ -7,7 +7,7 @@ use Rattle.lisp_records.proofs.RouterLaws.{router_eq-Decides}
 use Rattle.lisp_records.specs.declared.router.RouterId.{RouterId}
 use Rattle.lisp_server.specs.declared.contacts.Contact.{Contact}
 use Rattle.lisp_server.specs.Contacts.{contact_at, is_contact_of, SetsContact}
-use Rattle.lisp_server.proofs.Found.{put_set, put_push, has_own, has_no_other}
+use Rattle.lisp_lookup.proofs.Found.{put_set, put_push, has_own, has_no_other}
 
 decides : (q : RouterId) (c : Contact) → Decides (is_contact_of q c) (c.router ≡ q)
 decides q c = router_eq-Decides c.router q

@@ -19,12 +19,12 @@ use Rattle.lisp_server.specs.declared.tables.Tables.{Tables}
 use Rattle.lisp_server.specs.declared.took.Took.TheVariants.{Accepted}
 use Rattle.lisp_server.specs.Refused.{refused_of_notify, refused_of_read}
 use Rattle.lisp_server.specs.Registration.{router_of, pair_of, holdings}
-use Rattle.lisp_server.specs.Rows.{Sets}
+use Rattle.lisp_lookup.specs.Table.{Sets}
 use Rattle.lisp_server.specs.Nonces.{Nonces, nonce_at, SetsNonce}
 use Rattle.lisp_server.specs.Contacts.{SetsContact}
 use Rattle.lisp_server.specs.Server.{ServerState, SameTables, state_of}
 use Rattle.lisp_server.specs.Checks.{Passed, secret_under, register_checked, checked, read_checked, reply_of, ◌>>=◌, check, refused_at, first_not_allowed}
-use Rattle.lisp_server.specs.Receiving.{IsFresh, KeepsLists, HasCause, Stops, NotKept, Accepts, Refuses, SaveFailed}
+use Rattle.lisp_server.specs.Receiving.{IsFresh, KeepsLists, Unasked, HasCause, Stops, NotKept, Accepts, OutOfRoom, RefusesRead, Refuses, SaveFailed}
 
 abbrev register_passed : Registration → List ℕ → Result Passed Refused
 register_passed m secret = Ok (record { message = m; secret = secret })
@@ -102,7 +102,7 @@ module _ {A : Type 0} {sites : List SiteEntry} {bytes : List ℕ} {m : Registrat
     others = λ honest. subst (λ (was : Kept). SameElsewhere was after.kept (pair_of m)) (s.loaded honest) (s.others (subst (λ (b : Bool). IsTrue b) (sym s.went.honest) honest));
   }
 
-  unsaved_own : (why : Refused) → Unsaved sites bytes m old before between after why (pair_of m) m.nonce → Refuses (register_checked sites bytes m) (state_of sites old) before after why
+  unsaved_own : (why : Refused) → Unsaved sites bytes m old before between after why (pair_of m) m.nonce → RefusesRead (register_checked sites bytes m) (state_of sites old) before after why
   unsaved_own (refusals.StoreSave fault) s = save_failed fault s
   unsaved_own (refusals.Read _) s = absurd s.not_kept
   unsaved_own refusals.NotMine s = absurd s.not_kept
@@ -116,8 +116,8 @@ module _ {A : Type 0} {sites : List SiteEntry} {bytes : List ℕ} {m : Registrat
   unsaved_own refusals.OutOfMemory s = absurd s.not_kept
   unsaved_own refusals.NoNotice s = absurd s.not_kept
 
-  pub save_fails : (why : Refused) (pair : Pair) (nonce : ℕ) → pair ≡ pair_of m → nonce ≡ m.nonce → Unsaved sites bytes m old before between after why pair nonce → Refuses (register_checked sites bytes m) (state_of sites old) before after why
-  save_fails why pair nonce p n = subst (λ (x : Pair × ℕ). Unsaved sites bytes m old before between after why x.0 x.1 → Refuses (register_checked sites bytes m) (state_of sites old) before after why) (λ i. (sym p i, sym n i)) (unsaved_own why)
+  pub save_fails : (why : Refused) (pair : Pair) (nonce : ℕ) → pair ≡ pair_of m → nonce ≡ m.nonce → Unsaved sites bytes m old before between after why pair nonce → RefusesRead (register_checked sites bytes m) (state_of sites old) before after why
+  save_fails why pair nonce p n = subst (λ (x : Pair × ℕ). Unsaved sites bytes m old before between after why x.0 x.1 → RefusesRead (register_checked sites bytes m) (state_of sites old) before after why) (λ i. (sym p i, sym n i)) (unsaved_own why)
 
 -- the refusals that the checks of a Map-Register give
 abbrev IsCheck : Refused → Type 0
@@ -160,7 +160,7 @@ only_of : {X : Type 0} (r : Result X Refused) (e : Refused) → OnlyChecks r →
 unfolding OnlyChecks
 only_of r e only is = subst (λ (x : Result _ Refused). OnlyChecks x) is only
 
-refuses_check : (e : Refused) (c : Result Passed Refused) (old : ServerState) (before : StoreState) → IsCheck e → c ≡ Err e → Refuses c old before before e
+refuses_check : (e : Refused) (c : Result Passed Refused) (old : ServerState) (before : StoreState) → IsCheck e → c ≡ Err e → RefusesRead c old before before e
 refuses_check refusals.UnknownSite c old before is at = (at, refl)
 refuses_check refusals.UnknownKey c old before is at = (at, refl)
 refuses_check refusals.BadAuth c old before is at = (at, refl)
@@ -175,34 +175,59 @@ refuses_check (refusals.StoreSave _) c old before is at = absurd is
 refuses_check refusals.NoNotice c old before is at = absurd is
 
 -- a Map-Register fails a check
-pub check_fails : (sites : List SiteEntry) (bytes : List ℕ) (m : Registration) (e : Refused) (old : ServerState) (before : StoreState) → secret_under sites bytes m ≡ Err e → Refuses (register_checked sites bytes m) old before before e
+pub check_fails : (sites : List SiteEntry) (bytes : List ℕ) (m : Registration) (e : Refused) (old : ServerState) (before : StoreState) → secret_under sites bytes m ≡ Err e → RefusesRead (register_checked sites bytes m) old before before e
 check_fails sites bytes m e old before at = refuses_check e (register_checked sites bytes m) old before (only_of (secret_under sites bytes m) e (secret_only sites bytes m) at) (ap (λ r. r >>= λ (secret : List ℕ). register_passed m secret) at)
 
 -- the nonce isn't let through
-pub stops : (sites : List SiteEntry) (bytes : List ℕ) (m : Registration) (secret : List ℕ) (old : ServerState) (before after : StoreState) (pair : Pair) (nonce : ℕ) (e : Refused) → pair ≡ pair_of m → nonce ≡ m.nonce → secret_under sites bytes m ≡ Ok secret → KeepsLists before after → Stops (nonce_at old.nonces pair) before after pair nonce e → Refuses (register_checked sites bytes m) old before after e
-stops sites bytes m secret old before after pair nonce e p n checks same = subst (λ (x : Pair × ℕ). Stops (nonce_at old.nonces x.0) before after x.0 x.1 e → Refuses (register_checked sites bytes m) old before after e) (λ i. (sym p i, sym n i)) (own e)
+pub stops : (sites : List SiteEntry) (bytes : List ℕ) (m : Registration) (secret : List ℕ) (old : ServerState) (before after : StoreState) (pair : Pair) (nonce : ℕ) (e : Refused) → pair ≡ pair_of m → nonce ≡ m.nonce → secret_under sites bytes m ≡ Ok secret → KeepsLists before after → Unasked (nonce_at old.nonces pair) before after → Stops (nonce_at old.nonces pair) before after pair nonce e → RefusesRead (register_checked sites bytes m) old before after e
+stops sites bytes m secret old before after pair nonce e p n checks same = subst (λ (x : Pair × ℕ). Unasked (nonce_at old.nonces x.0) before after → Stops (nonce_at old.nonces x.0) before after x.0 x.1 e → RefusesRead (register_checked sites bytes m) old before after e) (λ i. (sym p i, sym n i)) (own e)
   where
     passes : register_checked sites bytes m ≡ register_passed m secret
     passes = ap (λ r. r >>= λ (s : List ℕ). register_passed m s) checks
 
-    own : (e : Refused) → Stops (nonce_at old.nonces (pair_of m)) before after (pair_of m) m.nonce e → Refuses (register_checked sites bytes m) old before after e
-    own (refusals.StoreLoad fault) (unknown, cause, unchanged) = record { passed = record { message = m; secret = secret }; checks = passes; unknown = unknown; cause = cause; same = same }
-    own (refusals.Replay saved) (base, stale) = record { passed = record { message = m; secret = secret }; checks = passes; base = base; stale = stale; same = same }
-    own (refusals.Read _) never = absurd never
-    own refusals.NotMine never = absurd never
-    own refusals.UnknownSite never = absurd never
-    own refusals.UnknownKey never = absurd never
-    own refusals.BadAuth never = absurd never
-    own refusals.MergeAsked never = absurd never
-    own (refusals.NotAllowed _) never = absurd never
-    own refusals.OutOfMemory never = absurd never
-    own (refusals.StoreSave _) never = absurd never
-    own refusals.NoNotice never = absurd never
+    own : (e : Refused) → Unasked (nonce_at old.nonces (pair_of m)) before after → Stops (nonce_at old.nonces (pair_of m)) before after (pair_of m) m.nonce e → RefusesRead (register_checked sites bytes m) old before after e
+    own (refusals.StoreLoad fault) unasked (unknown, cause, unchanged) = record { passed = record { message = m; secret = secret }; checks = passes; unknown = unknown; cause = cause; memory = unchanged; same = same }
+    own (refusals.Replay saved) unasked (base, stale) = record { passed = record { message = m; secret = secret }; checks = passes; base = base; stale = stale; unasked = unasked; same = same }
+    own (refusals.Read _) unasked never = absurd never
+    own refusals.NotMine unasked never = absurd never
+    own refusals.UnknownSite unasked never = absurd never
+    own refusals.UnknownKey unasked never = absurd never
+    own refusals.BadAuth unasked never = absurd never
+    own refusals.MergeAsked unasked never = absurd never
+    own (refusals.NotAllowed _) unasked never = absurd never
+    own refusals.OutOfMemory unasked never = absurd never
+    own (refusals.StoreSave _) unasked never = absurd never
+    own refusals.NoNotice unasked never = absurd never
+
+-- the nonce was let through, and there is no room
+pub no_room : (sites : List SiteEntry) (bytes : List ℕ) (m : Registration) (secret : List ℕ) (old : ServerState) (before after : StoreState) (pair : Pair) (nonce : ℕ) → pair ≡ pair_of m → nonce ≡ m.nonce → secret_under sites bytes m ≡ Ok secret → IsFresh (nonce_at old.nonces pair) before pair nonce → Unasked (nonce_at old.nonces pair) before after → KeepsLists before after → OutOfRoom (register_checked sites bytes m) old before after
+no_room sites bytes m secret old before after pair nonce p n checks fresh unasked same = record {
+  passed = record { message = m; secret = secret };
+  checks = ap (λ r. r >>= λ (s : List ℕ). register_passed m s) checks;
+  fresh = subst (λ (x : Pair × ℕ). IsFresh (nonce_at old.nonces x.0) before x.0 x.1) (λ i. (p i, n i)) fresh;
+  unasked = subst (λ (q : Pair). Unasked (nonce_at old.nonces q) before after) p unasked;
+  same = same;
+}
+
+-- the refusal of a message that was read
+pub refuses_read : (c : Result Passed Refused) (old : ServerState) (before after : StoreState) (why : Refused) → RefusesRead c old before after why → Refuses c old before after why
+refuses_read c old before after refusals.OutOfMemory r = inr r
+refuses_read c old before after refusals.UnknownSite r = r
+refuses_read c old before after refusals.UnknownKey r = r
+refuses_read c old before after refusals.BadAuth r = r
+refuses_read c old before after refusals.MergeAsked r = r
+refuses_read c old before after (refusals.NotAllowed _) r = r
+refuses_read c old before after (refusals.Read _) r = r
+refuses_read c old before after refusals.NotMine r = r
+refuses_read c old before after (refusals.StoreLoad _) r = r
+refuses_read c old before after (refusals.Replay _) r = r
+refuses_read c old before after (refusals.StoreSave _) r = r
+refuses_read c old before after refusals.NoNotice r = r
 
 -- bytes that can't be read
 pub read_fails : (sites : List SiteEntry) (bytes : List ℕ) (fault : ReadFault) (old : ServerState) (before : StoreState) → Fails fault (message_at bytes) → Refuses (checked sites bytes) old before before (refused_of_read fault)
 unfolding checked
-read_fails sites bytes reads.OutOfMemory old before at = λ honest. refl
+read_fails sites bytes reads.OutOfMemory old before at = inl refl
 read_fails sites bytes reads.Short old before at = (ap (read_checked sites bytes) at, refl)
 read_fails sites bytes reads.Kind old before at = (ap (read_checked sites bytes) at, refl)
 read_fails sites bytes reads.Algorithm old before at = (ap (read_checked sites bytes) at, refl)

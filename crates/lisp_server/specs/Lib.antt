@@ -1,7 +1,6 @@
 pub mod Refused
 pub mod Took
 pub mod Registration
-pub mod Rows
 pub mod Nonces
 pub mod Contacts
 pub mod Server

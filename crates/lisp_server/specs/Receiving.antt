@@ -1,5 +1,5 @@
 -- What a Map-Server makes of a message (RFC 9301 sections 5.6 and 8.2).
-use Rattle.std.specs.Prelude.{◌≡◌, ◌≢◌, ◌<◌, ◌≤◌, ℕ, [], ◌∷◌, Option, Some, None, Result, Ok, Err, IsTrue}
+use Rattle.std.specs.Prelude.{◌≡◌, ◌≢◌, ◌<◌, ◌≤◌, ◌⊎◌, ℕ, [], ◌∷◌, Option, Some, None, Result, Ok, Err, IfSome, IsTrue}
 use Rattle.std.specs.List.{Contains}
 use Rattle.lisp_records.specs.declared.address.Addr.{Addr}
 use Rattle.lisp_messages.specs.Message.{Registration}
@@ -14,7 +14,7 @@ use Rattle.lisp_server.specs.declared.took.Took.{Took}
 use Rattle.lisp_server.specs.declared.took.Took.TheVariants.{Accepted}
 use Rattle.lisp_server.specs.declared.contacts.Contact.{Contact}
 use Rattle.lisp_server.specs.Registration.{router_of, pair_of, holdings}
-use Rattle.lisp_server.specs.Rows.{Sets}
+use Rattle.lisp_lookup.specs.Table.{Sets}
 use Rattle.lisp_server.specs.Nonces.{nonce_at, SetsNonce}
 use Rattle.lisp_server.specs.Contacts.{SetsContact}
 use Rattle.lisp_server.specs.Server.{ServerState}
@@ -38,6 +38,10 @@ IsFresh last store pair nonce = (base : Option ℕ) × IsBase last store pair ba
 -- no list of the store changed
 abbrev pub KeepsLists : StoreState → StoreState → Type 0
 KeepsLists before after = IsTrue before.is_honest → after.kept ≡ before.kept
+
+-- where the last nonce is known the store is untouched
+abbrev pub Unasked : Option ℕ → StoreState → StoreState → Type 0
+Unasked last before after = IfSome last (λ _. after ≡ before)
 
 -- a fault other than want of memory comes only where a device failed in between
 abbrev pub HasCause : StoreFault → StoreState → StoreState → Type 0
@@ -72,12 +76,13 @@ pub record Accepts {A : Type 0} (check : Result Passed Refused) (old new : Serve
   pub kept : IsTrue before.is_honest → kept_at after.kept (pair_of passed.message) ≡ Some passed.message.nonce ∷ []
   pub others : IsTrue before.is_honest → SameElsewhere before.kept after.kept (pair_of passed.message)
 
--- the store could not tell the pair's base
+-- the store could not tell the pair's base; where memory ran out in that it is untouched
 pub record LoadFailed (check : Result Passed Refused) (old : ServerState) (before after : StoreState) (fault : StoreFault) : Type 0 where
   pub passed : Passed
   pub checks : check ≡ Ok passed
   pub unknown : nonce_at old.nonces (pair_of passed.message) ≡ None
   pub cause : HasCause fault before after
+  pub memory : fault ≡ faults.OutOfMemory → after ≡ before
   pub same : KeepsLists before after
 
 -- the nonce isn't above the base
@@ -86,6 +91,7 @@ pub record Replays (check : Result Passed Refused) (old : ServerState) (before a
   pub checks : check ≡ Ok passed
   pub base : IsBase (nonce_at old.nonces (pair_of passed.message)) before (pair_of passed.message) (Some saved)
   pub stale : passed.message.nonce ≤ saved
+  pub unasked : Unasked (nonce_at old.nonces (pair_of passed.message)) before after
   pub same : KeepsLists before after
 
 -- the nonce was fresh, and it is open whether it is kept; not where memory ran out: then no list changed
@@ -99,10 +105,24 @@ pub record SaveFailed (check : Result Passed Refused) (old : ServerState) (befor
   pub doubt : IsTrue before.is_honest → InDoubt (kept_at before.kept (pair_of passed.message)) (kept_at after.kept (pair_of passed.message)) passed.message.nonce
   pub others : IsTrue before.is_honest → SameElsewhere before.kept after.kept (pair_of passed.message)
 
--- a message was refused: what the refusal means, and what it leaves of the store
+-- the nonce was fresh, and memory ran out before it was saved
+pub record OutOfRoom (check : Result Passed Refused) (old : ServerState) (before after : StoreState) : Type 0 where
+  pub passed : Passed
+  pub checks : check ≡ Ok passed
+  pub fresh : IsFresh (nonce_at old.nonces (pair_of passed.message)) before (pair_of passed.message) passed.message.nonce
+  pub unasked : Unasked (nonce_at old.nonces (pair_of passed.message)) before after
+  pub same : KeepsLists before after
+
+-- a message that was read was refused: what the refusal means, and what it leaves of the store
+abbrev pub RefusesRead : Result Passed Refused → ServerState → StoreState → StoreState → Refused → Type 0
+RefusesRead check old before after (StoreLoad fault) = LoadFailed check old before after fault
+RefusesRead check old before after (Replay saved) = Replays check old before after saved
+RefusesRead check old before after OutOfMemory = OutOfRoom check old before after
+RefusesRead check old before after (StoreSave fault) = SaveFailed check old before after fault
+RefusesRead check old before after refused = (check ≡ Err refused) × (after ≡ before)
+
+-- a message was refused: the same, but that memory may also have run out in reading, which leaves the
+-- store untouched
 abbrev pub Refuses : Result Passed Refused → ServerState → StoreState → StoreState → Refused → Type 0
-Refuses check old before after (StoreLoad fault) = LoadFailed check old before after fault
-Refuses check old before after (Replay saved) = Replays check old before after saved
-Refuses check old before after OutOfMemory = KeepsLists before after
-Refuses check old before after (StoreSave fault) = SaveFailed check old before after fault
-Refuses check old before after refused = (check ≡ Err refused) × (after ≡ before)
+Refuses check old before after OutOfMemory = (after ≡ before) ⊎ OutOfRoom check old before after
+Refuses check old before after refused = RefusesRead check old before after refused

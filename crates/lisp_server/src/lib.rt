@@ -8,7 +8,6 @@ mod nonces;
 mod refused;
 mod registering;
 mod registration;
-mod rows;
 mod server;
 mod stored;
 mod tables;

@@ -5,7 +5,8 @@ ghost use Rattle.std.specs.FinMap.{empty};
 ghost use Rattle.lisp_store.specs.Store.{Proceeds};
 ghost use Rattle.lisp_messages.specs.Reading.{kind_at};
 ghost use Rattle.lisp_messages.specs.declared.fault.ReadFault.{ReadFault};
-ghost use Rattle.lisp_server.specs.Rows.{Expires, IsHeld};
+ghost use Rattle.lisp_lookup.specs.Table.{Expires, IsHeld};
+ghost use Rattle.lisp_lookup.specs.Answer.{Answers};
 ghost use Rattle.lisp_server.specs.Nonces.{nonce_at};
 ghost use Rattle.lisp_server.specs.Checks.{checked};
 ghost use Rattle.lisp_server.specs.Receiving.{Accepts, Refuses};
@@ -16,9 +17,9 @@ use crate::contacts::Contacts;
 use crate::nonces::LastNonces;
 use crate::refused::Refused;
 use crate::registering::{Arrival, register};
-use crate::rows::Rows;
 use crate::tables::Tables;
 use crate::took::Took;
+use lisp_lookup::{Answer, Table};
 use lisp_messages::{Message, read_message};
 use lisp_records::{Addr, Row};
 use lisp_sites::Sites;
@@ -56,7 +57,7 @@ impl<A: Allocator + Copy> Server<A> {
             alloc,
             sites,
             tables: Tables {
-                rows: Rows::new(alloc),
+                rows: Table::new(alloc),
                 nonces: LastNonces::new(alloc),
                 contacts: Contacts::new(alloc),
             },
@@ -118,7 +119,17 @@ impl<A: Allocator + Copy> Server<A> {
     pub fn held(&self, now: u64) -> Result<Vec<Row<A>, A>, AllocError>
         ensures { IfOk result (λ rows. IsHeld self.now.rows now rows.items) }
     {
-        self.tables.rows.live(now)
+        self.tables.rows.rows(now)
+    }
+
+    /// Who answers for an address at a moment, in ms, by the rows that are held: of those whose prefix has
+    /// the address the one with the longest prefix; of several one whose router asked for proxy replies,
+    /// before one that didn't; then the one that was accepted last; then that of the greater router (RFC
+    /// 9301 section 8.3). Takes no memory.
+    pub fn answer(&self, addr: &Addr, now: u64) -> Answer<'_, A>
+        ensures { Answers self.now.rows self.now.sites addr.now now result }
+    {
+        self.tables.rows.answer(&self.sites, addr, now)
     }
 
     /// The nonce of the last message of the pair that was accepted since the start. Takes no memory.

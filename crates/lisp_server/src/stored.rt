@@ -3,7 +3,7 @@
 ghost use Rattle.std.specs.Prelude.{◌≡◌, [], ◌∷◌, Some, IsTrue, IfErr, OnOk};
 ghost use Rattle.lisp_store.specs.Kept.{kept_at, SameElsewhere};
 ghost use Rattle.lisp_store.specs.Store.{Proceeds};
-ghost use Rattle.lisp_server.specs.Receiving.{IsFresh, KeepsLists, Stops, NotKept};
+ghost use Rattle.lisp_server.specs.Receiving.{IsFresh, KeepsLists, Unasked, Stops, NotKept};
 
 use crate::refused::Refused;
 use lisp_store::{NonceStore, Pair};
@@ -18,6 +18,7 @@ pub(crate) fn check_nonce<S: NonceStore>(
 ) -> Result<(), Refused>
     ensures fresh { OnOk result (IsFresh last (S.seen store.old) pair.now nonce) }
     ensures refused { IfErr result (Stops last (S.seen store.old) (S.seen store.new) pair.now nonce) }
+    ensures unasked { Unasked last (S.seen store.old) (S.seen store.new) }
     ensures same { KeepsLists (S.seen store.old) (S.seen store.new) }
     ensures proceeds { Proceeds (S.seen store.old) (S.seen store.new) }
 {

@@ -1,14 +1,14 @@
 //! What a Map-Server learnt since its start.
 
 ghost use Rattle.std.specs.Prelude.{◌≡◌, ◌≤◌, ◌<◌, length, OnOk};
-ghost use Rattle.lisp_server.specs.Rows.{Sets};
+ghost use Rattle.lisp_lookup.specs.Table.{Sets};
 ghost use Rattle.lisp_server.specs.Nonces.{SetsNonce};
 ghost use Rattle.lisp_server.specs.Contacts.{SetsContact};
 ghost use Rattle.lisp_server.specs.Server.{SameTables, HasRoom};
 
 use crate::contacts::{Contact, Contacts};
 use crate::nonces::LastNonces;
-use crate::rows::Rows;
+use lisp_lookup::Table;
 use lisp_records::{Addr, Row};
 use lisp_store::Pair;
 use std::alloc::{AllocError, Allocator};
@@ -16,18 +16,18 @@ use std::alloc::{AllocError, Allocator};
 /// The rows that are held, the last nonces, and where each router was heard last.
 #[derive(Debug, Drop)]
 pub(crate) struct Tables<A: Allocator> {
-    pub(crate) rows: Rows<A>,
+    pub(crate) rows: Table<A>,
     pub(crate) nonces: LastNonces<A>,
     pub(crate) contacts: Contacts<A>,
 }
 
 impl<A: Allocator + Copy> Tables<A> {
-    /// Makes room for what one Map-Register with so many records brings.
-    pub(crate) fn prepare(&mut self, count: usize) -> Result<(), AllocError>
+    /// Makes room for what a Map-Register with these rows brings.
+    pub(crate) fn prepare(&mut self, rows: &[Row<A>]) -> Result<(), AllocError>
         ensures same { SameTables self.old self.new }
-        ensures room { OnOk result (HasRoom self.new count) }
+        ensures room { OnOk result (HasRoom self.new (length rows.now)) }
     {
-        self.rows.prepare(count)?;
+        self.rows.prepare(rows)?;
         self.nonces.prepare()?;
         self.contacts.prepare()?;
         Ok(())

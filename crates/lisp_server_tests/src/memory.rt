@@ -1,101 +1,115 @@
 //! Refused memory in a Map-Server: the right answer or want of memory, and nothing half done.
 
-use crate::support::{FIRST, pair_of, worked_sites, written};
+use crate::support::{FIRST, assert_worked_record, pair_of, worked_sites, written};
 use linked_list_allocator::LocalHeap;
-use lisp_samples::{fields, worked_record};
+use lisp_samples::{HEAP_LEN, MOST_BLOCKS, fill};
 use lisp_server::{Refused, Server};
 use lisp_store::{MemoryStore, NonceStore, StoreFault};
 use std::alloc::{AllocError, Global};
-use std::test::Fail;
-
-/// The bytes of the heap that a call may use a part of.
-const HEAP_LEN: usize = 4096;
-
-/// The heap's smallest block, by which its free room grows.
-const BLOCK_LEN: usize = 16;
-
-/// So many blocks are room enough for each call.
-const MOST_BLOCKS: usize = 128;
+use std::process::Abort;
 
 #[test]
-fn want_of_memory_refuses_a_whole_message(rt: HostRuntime) -> Result<(), Fail> {
-    let bytes = written(rt.alloc(), FIRST)?;
-    let pair = pair_of(FIRST);
-    let from = FIRST.router.from;
+fn want_of_memory_refuses_a_whole_message(rt: HostRuntime) {
+    let bytes = written(&rt, rt.alloc(), &FIRST);
     let (mut refused, mut unsaved, mut accepted) = (0u32, 0u32, 0u32);
     for blocks in 0..MOST_BLOCKS {
-        let heap = LocalHeap::new(rt.alloc(), HEAP_LEN)?;
-        let mut server = Server::start(&heap, worked_sites(&heap)?);
-        let mut store = MemoryStore::new(&heap);
-        let ballast = fill(rt.alloc(), &heap, blocks)?;
-        let refusal = server.receive(&mut store, from, &bytes, 0).err();
-        drop(ballast);
-        match refusal {
+        match refusal_in(&rt, rt.alloc(), &bytes, blocks) {
             None => accepted = accepted.wrapping_add(1),
             Some(Refused::OutOfMemory) => refused = refused.wrapping_add(1),
             Some(Refused::StoreSave(StoreFault::OutOfMemory)) => {
                 unsaved = unsaved.wrapping_add(1);
             }
-            Some(_) => return Err("another refusal")?,
+            Some(other) => panic!(rt; "{other:?} in {blocks} blocks"),
         }
-        if refusal.is_some() {
-            assert!(rt; server.held(0)?.is_empty(), "in {blocks} blocks");
-            assert_eq!(rt; server.last_nonce(&pair), None, "in {blocks} blocks");
-            assert_eq!(rt; store.load(&pair), Ok(None), "in {blocks} blocks");
-            assert!(rt; server.receive(&mut store, from, &bytes, 0).is_ok());
-        }
-        assert_eq!(rt; server.held(0)?.len(), 1, "in {blocks} blocks");
-        assert_eq!(rt; server.last_nonce(&pair), Some(1), "in {blocks} blocks");
-        assert_eq!(rt; store.load(&pair), Ok(Some(1)), "in {blocks} blocks");
     }
     assert!(rt; refused > 0 && unsaved > 0 && accepted > 0);
-    Ok(())
 }
 
 #[test]
-fn want_of_memory_refuses_what_is_held(rt: HostRuntime) -> Result<(), Fail> {
-    let bytes = written(rt.alloc(), FIRST)?;
-    let worked = worked_record(rt.alloc())?;
-    let heap = LocalHeap::new(rt.alloc(), HEAP_LEN)?;
-    let mut server = Server::start(&heap, worked_sites(&heap)?);
+fn want_of_memory_refuses_what_is_held(rt: HostRuntime) {
+    let bytes = written(&rt, rt.alloc(), &FIRST);
+    let heap = LocalHeap::new(rt.alloc(), HEAP_LEN).expect(&rt, "the heap");
+    let mut server = Server::start(&heap, worked_sites(&rt, &heap));
     let mut store = MemoryStore::new(&heap);
-    assert!(rt;
-        server
-            .receive(&mut store, FIRST.router.from, &bytes, 0)
-            .is_ok()
-    );
+    assert!(rt; refusal_of(&mut server, &mut store, &bytes).is_none());
     let (mut refused, mut answered) = (0u32, 0u32);
     for blocks in 0..MOST_BLOCKS {
-        let ballast = fill(rt.alloc(), &heap, blocks)?;
-        match server.held(0) {
-            Ok(rows) => {
-                assert_eq!(rt; rows.len(), 1, "in {blocks} blocks");
-                answered = answered.wrapping_add(1);
-            }
-            Err(AllocError) => refused = refused.wrapping_add(1),
+        if answers_in(&rt, rt.alloc(), &heap, &server, blocks) {
+            answered = answered.wrapping_add(1);
+        } else {
+            refused = refused.wrapping_add(1);
         }
-        drop(ballast);
-        let rows = server.held(0)?;
-        let [row] = rows.as_slice() else {
-            return Err("not one row")?;
-        };
-        assert_eq!(rt; fields(&row.mapping), fields(&worked));
+        assert_one_row(&rt, &server);
     }
     assert!(rt; refused > 0 && answered > 0);
-    Ok(())
 }
 
-/// Takes all the memory of a heap but so many blocks.
-fn fill(alloc: Global, heap: &LocalHeap, blocks: usize) -> Result<Vec<Vec<u8, &LocalHeap>>, Fail> {
-    let mut ballast = Vec::new(alloc);
-    for _ in 0..HEAP_LEN / BLOCK_LEN {
-        let Ok(block) = Vec::with_capacity(heap, BLOCK_LEN) else {
-            break;
-        };
-        ballast.push(block)?;
+/// Sends a Map-Register with so many blocks of memory, and again with all of it where it is refused.
+/// Returns why the first was refused, and stops the test where anything is half done.
+fn refusal_in(rt: &impl Abort, alloc: Global, bytes: &[u8], blocks: usize) -> Option<Refused> {
+    let heap = LocalHeap::new(alloc, HEAP_LEN).expect(rt, "the heap");
+    let mut server = Server::start(&heap, worked_sites(rt, &heap));
+    let mut store = MemoryStore::new(&heap);
+    let ballast = fill(rt, alloc, &heap, blocks);
+    let refusal = refusal_of(&mut server, &mut store, bytes);
+    drop(ballast);
+    if refusal.is_some() {
+        assert_kept(rt, &server, &mut store, None);
+        assert!(rt; refusal_of(&mut server, &mut store, bytes).is_none());
     }
-    for _ in 0..blocks {
-        ballast.pop();
+    assert_kept(rt, &server, &mut store, Some(1));
+    refusal
+}
+
+/// Why bytes from r1 are refused at moment 0.
+fn refusal_of(
+    server: &mut Server<&LocalHeap>,
+    store: &mut MemoryStore<&LocalHeap>,
+    bytes: &[u8],
+) -> Option<Refused> {
+    server.receive(store, FIRST.router.from, bytes, 0).err()
+}
+
+/// Stops the test unless this is r1's last nonce, in the store too, and its row is held if there is one.
+fn assert_kept(
+    rt: &impl Abort,
+    server: &Server<&LocalHeap>,
+    store: &mut MemoryStore<&LocalHeap>,
+    nonce: Option<u64>,
+) {
+    let rows = server.held(0).expect(rt, "the rows");
+    let pair = pair_of(&FIRST);
+    assert_eq!(rt;
+        (rows.len(), server.last_nonce(&pair), store.load(&pair)),
+        (usize::from(nonce.is_some()), nonce, Ok(nonce))
+    );
+}
+
+/// Whether the one row is told with so many blocks of memory.
+fn answers_in(
+    rt: &impl Abort,
+    alloc: Global,
+    heap: &LocalHeap,
+    server: &Server<&LocalHeap>,
+    blocks: usize,
+) -> bool {
+    let ballast = fill(rt, alloc, heap, blocks);
+    let held = server.held(0);
+    drop(ballast);
+    match held {
+        Ok(rows) => {
+            assert_eq!(rt; rows.len(), 1, "in {blocks} blocks");
+            true
+        }
+        Err(AllocError) => false,
     }
-    Ok(ballast)
+}
+
+/// Stops the test unless the row of the worked record is held, and no other.
+fn assert_one_row(rt: &impl Abort, server: &Server<&LocalHeap>) {
+    let rows = server.held(0).expect(rt, "the rows");
+    let [row] = rows.as_slice() else {
+        panic!(rt; "{} rows", rows.len())
+    };
+    assert_worked_record(rt, &row.mapping);
 }

@@ -2,16 +2,18 @@
 //! 8.2.
 
 use crate::support::{
-    Eid, FIRST, FOREIGN, NARROW, SECOND, Sent, WIDE, World, notify_bytes, router_of, with_nonce,
-    written,
+    Eid, FIRST, FOREIGN, NARROW, SECOND, Sent, WIDE, World, assert_worked_record, notify_bytes,
+    router_of, with_nonce, with_records, written,
 };
+use lisp_lookup::Answer;
 use lisp_messages::{Message, ReadFault, authentic, read_message};
-use lisp_records::Addr;
-use lisp_samples::{RECORD, SECRET, fields, worked_record};
+use lisp_records::{Addr, Row};
+use lisp_samples::{RECORD, SECRET};
 use lisp_server::Refused;
 use lisp_sites::Config;
 use lisp_store::{Fate, StoreFault, WorldStore};
-use std::test::Fail;
+use std::alloc::Global;
+use std::process::Abort;
 
 /// The worked site with a second key, of another secret.
 const TWO_KEYS: &str = r#"
@@ -49,320 +51,216 @@ const REFUSED: [(u64, u8, &[u8], bool, Eid, Refused); 9] = [
 const NOTIFY_HEAD: [u8; 16] = [0x40, 0, 0, 1, 0, 0, 0, 0, 0, 0, 0, 1, 1, 2, 0, 16];
 
 #[test]
-fn the_worked_register_is_answered(rt: HostRuntime) -> Result<(), Fail> {
-    let mut world = World::start(rt.alloc())?;
-    let reply = world.reply(&rt, FIRST)?.ok_or("no reply")?;
-    assert_eq!(rt; reply.as_slice().len(), 60);
-    assert!(rt; authentic(reply.as_slice(), SECRET));
-    let (head, _) = reply.as_slice().split_first_chunk::<16>().ok_or("no head")?;
-    assert_eq!(rt; *head, NOTIFY_HEAD);
-    let (_, record) = reply
-        .as_slice()
-        .split_last_chunk::<28>()
-        .ok_or("no record")?;
-    assert_eq!(rt; *record, RECORD);
-    Ok(())
+fn the_worked_register_is_answered(rt: HostRuntime) {
+    let mut world = World::start(&rt, rt.alloc());
+    let reply = world.reply(&rt, &FIRST).expect(&rt, "no reply");
+    assert_worked_notify(&rt, reply.as_slice());
 }
 
 #[test]
-fn the_answer_is_a_map_notify(rt: HostRuntime) -> Result<(), Fail> {
-    let mut world = World::start(rt.alloc())?;
-    let reply = world.reply(&rt, FIRST)?.ok_or("no reply")?;
-    let Message::Notify(notify) = read_message(rt.alloc(), reply.as_slice())? else {
-        return Err("no Map-Notify")?;
-    };
-    assert!(rt; !notify.ack);
-    assert_eq!(rt; notify.nonce, 1);
-    assert_eq!(rt; notify.key_id, 1);
-    assert_eq!(rt; notify.records.as_slice().len(), 1);
-    Ok(())
+fn the_answer_is_a_map_notify(rt: HostRuntime) {
+    let mut world = World::start(&rt, rt.alloc());
+    let reply = world.reply(&rt, &FIRST).expect(&rt, "no reply");
+    let message = read_message(rt.alloc(), reply.as_slice()).expect(&rt, "no message");
+    assert_notify(&rt, &message);
 }
 
 #[test]
-fn the_worked_record_is_held(rt: HostRuntime) -> Result<(), Fail> {
-    let mut world = World::start(rt.alloc())?;
-    assert_eq!(rt; world.refusal(FIRST)?, None);
-    let rows = world.server.held(0)?;
-    let [row] = rows.as_slice() else {
-        return Err("not one row")?;
-    };
-    let worked = worked_record(rt.alloc())?;
-    assert_eq!(rt; fields(&row.mapping), fields(&worked));
-    assert_eq!(rt; row.router, router_of(FIRST));
-    assert_eq!(rt; row.key, 1);
-    assert_eq!(rt; row.nonce, 1);
-    assert!(rt; row.proxy);
-    assert_eq!(rt; row.accepted, 0);
-    assert_eq!(rt; row.life, 180_000);
-    assert_eq!(rt; row.from, Addr::V4([127, 0, 0, 21]));
-    Ok(())
+fn the_worked_record_is_held(rt: HostRuntime) {
+    let mut world = World::start(&rt, rt.alloc());
+    world.accepts(&rt, &FIRST);
+    let rows = world.server.held(0).expect(&rt, "the rows");
+    assert_eq!(rt; rows.len(), 1);
+    assert_worked_row(&rt, &rows[0]);
 }
 
 #[test]
-fn a_register_without_records_is_answered(rt: HostRuntime) -> Result<(), Fail> {
-    let mut world = World::start(rt.alloc())?;
-    let bare = Sent {
-        records: &[],
-        ..FIRST
-    };
-    let reply = world.reply(&rt, bare)?.ok_or("no reply")?;
-    assert_eq!(rt; reply.as_slice().len(), 32);
-    assert!(rt; reply.as_slice().starts_with(&[0x40, 0, 0, 0]));
-    assert!(rt; world.seen(0)?.is_empty());
-    Ok(())
+fn a_register_without_records_is_answered(rt: HostRuntime) {
+    let mut world = World::start(&rt, rt.alloc());
+    let bare = with_records(1, &[]);
+    let reply = world.reply(&rt, &bare).expect(&rt, "no reply");
+    assert_bare_notify(&rt, reply.as_slice());
+    world.holds(&rt, 0, &[]);
 }
 
 #[test]
-fn a_register_without_bit_m_is_not_answered(rt: HostRuntime) -> Result<(), Fail> {
-    let mut world = World::start(rt.alloc())?;
+fn a_register_without_bit_m_is_not_answered(rt: HostRuntime) {
+    let mut world = World::start(&rt, rt.alloc());
     let quiet = Sent {
         want_notify: false,
         ..FIRST
     };
-    assert!(rt; world.reply(&rt, quiet)?.is_none());
-    assert_eq!(rt;
-        world.seen(0)?.as_slice(),
-        [(0x0a, WIDE, 1440, 1)].as_slice()
-    );
-    Ok(())
+    assert!(rt; world.reply(&rt, &quiet).is_none());
+    world.holds(&rt, 0, &[(0x0a, WIDE, 1440, 1)]);
 }
 
 #[test]
-fn a_nonce_that_does_not_rise_is_a_replay(rt: HostRuntime) -> Result<(), Fail> {
-    let mut world = World::start(rt.alloc())?;
-    assert_eq!(rt; world.refusal(FIRST)?, None);
-    assert_eq!(rt; world.refusal(FIRST)?, Some(Refused::Replay { saved: 1 }));
-
-    // The older of two messages comes last.
-    let mut world = World::start(rt.alloc())?;
-    let newer = Sent {
-        nonce: 2,
-        records: &[(WIDE, 60)],
-        ..FIRST
-    };
-    assert_eq!(rt; world.refusal(newer)?, None);
-    assert_eq!(rt; world.refusal(FIRST)?, Some(Refused::Replay { saved: 2 }));
-    assert_eq!(rt; world.seen(0)?.as_slice(), [(0x0a, WIDE, 60, 2)].as_slice());
-    Ok(())
+fn a_nonce_that_is_sent_again_is_a_replay(rt: HostRuntime) {
+    let mut world = World::start(&rt, rt.alloc());
+    world.accepts(&rt, &FIRST);
+    world.refuses(&rt, &FIRST, Refused::Replay { saved: 1 });
 }
 
 #[test]
-fn a_restart_keeps_nonces_and_no_rows(rt: HostRuntime) -> Result<(), Fail> {
-    let mut world = World::start(rt.alloc())?;
-    assert_eq!(rt; world.refusal(with_nonce(3))?, None);
+fn a_nonce_that_is_older_is_a_replay(rt: HostRuntime) {
+    let mut world = World::start(&rt, rt.alloc());
+    world.accepts(&rt, &with_records(2, &[(WIDE, 60)]));
+    world.refuses(&rt, &FIRST, Refused::Replay { saved: 2 });
+    world.holds(&rt, 0, &[(0x0a, WIDE, 60, 2)]);
+}
+
+#[test]
+fn a_restart_keeps_nonces_and_no_rows(rt: HostRuntime) {
+    let mut world = World::start(&rt, rt.alloc());
+    world.accepts(&rt, &with_nonce(3));
     let mut world = world.restart();
-    assert!(rt; world.seen(0)?.is_empty());
-    assert_eq!(rt; world.last_nonce(), None);
-    assert_eq!(rt;
-        world.refusal(with_nonce(3))?,
-        Some(Refused::Replay { saved: 3 })
-    );
-    assert_eq!(rt; world.refusal(with_nonce(4))?, None);
-    Ok(())
+    world.has_accepted_nothing(&rt);
+    world.refuses(&rt, &with_nonce(3), Refused::Replay { saved: 3 });
+    world.accepts(&rt, &with_nonce(4));
 }
 
 #[test]
-fn a_save_in_doubt_is_told_by_a_restart(rt: HostRuntime) -> Result<(), Fail> {
-    for (pick, want) in [(0, None), (1, Some(Refused::Replay { saved: 5 }))] {
-        let mut world = World::start(rt.alloc())?;
-        assert_eq!(rt; world.refusal(with_nonce(4))?, None);
-        world.store.arm(Fate::Doubt);
-        assert_eq!(rt;
-            world.refusal(with_nonce(5))?,
-            Some(Refused::StoreSave(StoreFault::Device))
-        );
-        assert_eq!(rt;
-            world.seen(0)?.as_slice(),
-            [(0x0a, WIDE, 1440, 4)].as_slice()
-        );
-        assert_eq!(rt; world.last_nonce(), Some(4));
-        world.store.arm(Fate::Done);
-        world.store.restart(pick);
-        let mut world = world.restart();
-        assert_eq!(rt; world.refusal(with_nonce(5))?, want, "{pick}");
-    }
-    Ok(())
+fn a_save_in_doubt_is_told_by_a_restart(rt: HostRuntime) {
+    let mut unsaved = restarted_in_doubt(&rt, rt.alloc(), 0);
+    unsaved.accepts(&rt, &with_nonce(5));
+    let mut saved = restarted_in_doubt(&rt, rt.alloc(), 1);
+    saved.refuses(&rt, &with_nonce(5), Refused::Replay { saved: 5 });
 }
 
 #[test]
-fn a_nonce_that_can_not_be_loaded_is_refused(rt: HostRuntime) -> Result<(), Fail> {
-    let mut world = World::start(rt.alloc())?;
+fn a_nonce_that_can_not_be_loaded_is_refused(rt: HostRuntime) {
+    let mut world = World::start(&rt, rt.alloc());
     world.store.arm(Fate::LoadFails);
-    assert_eq!(rt;
-        world.refusal(FIRST)?,
-        Some(Refused::StoreLoad(StoreFault::Device))
-    );
-    assert!(rt; world.seen(0)?.is_empty());
-    assert_eq!(rt; world.last_nonce(), None);
-    Ok(())
+    world.refuses(&rt, &FIRST, Refused::StoreLoad(StoreFault::Device));
+    world.has_accepted_nothing(&rt);
 }
 
 #[test]
-fn rows_live_by_their_ttl_or_three_minutes(rt: HostRuntime) -> Result<(), Fail> {
-    // Bit T, the TTL, and the last ms that the row is held at.
-    for (use_ttl, ttl, last) in [
-        (true, 1, Some(59_999)),
-        (true, u32::MAX, Some(179_999)),
-        (true, 0, None),
-        (false, 1440, Some(179_999)),
+fn rows_live_by_their_ttl_or_three_minutes(rt: HostRuntime) {
+    // Bit T, the TTL, and the ms that the row is held for.
+    for (use_ttl, ttl, life) in [
+        (true, 1, 60_000),
+        (true, u32::MAX, 180_000),
+        (true, 0, 0),
+        (false, 1440, 180_000),
     ] {
-        let mut world = World::start(rt.alloc())?;
-        let sent = Sent {
-            use_ttl,
-            records: &[(WIDE, ttl)],
-            ..FIRST
-        };
-        assert_eq!(rt; world.refusal(sent)?, None, "TTL {ttl}");
-        let mut dead = 0u64;
-        if let Some(last) = last {
-            assert_eq!(rt; world.seen(last)?.len(), 1, "TTL {ttl}");
-            dead = last.wrapping_add(1);
-        }
-        assert!(rt; world.seen(dead)?.is_empty(), "TTL {ttl}");
+        assert_life(&rt, rt.alloc(), use_ttl, ttl, life);
     }
-    Ok(())
 }
 
 #[test]
-fn a_dead_row_is_dropped(rt: HostRuntime) -> Result<(), Fail> {
-    let mut world = World::start(rt.alloc())?;
-    assert_eq!(rt; world.refusal(FIRST)?, None);
+fn a_dead_row_is_dropped(rt: HostRuntime) {
+    let mut world = World::start(&rt, rt.alloc());
+    world.accepts(&rt, &FIRST);
     world.server.expire(179_999);
-    assert_eq!(rt;
-        world.seen(0)?.as_slice(),
-        [(0x0a, WIDE, 1440, 1)].as_slice()
-    );
+    world.holds(&rt, 0, &[(0x0a, WIDE, 1440, 1)]);
     world.server.expire(180_000);
-    assert!(rt; world.seen(0)?.is_empty());
-    Ok(())
+    world.holds(&rt, 0, &[]);
 }
 
 #[test]
-fn a_record_that_is_not_allowed_spends_no_nonce(rt: HostRuntime) -> Result<(), Fail> {
-    let mut world = World::start(rt.alloc())?;
-    let both = Sent {
-        records: &[(WIDE, 1440), (FOREIGN, 1440)],
-        ..FIRST
-    };
-    assert_eq!(rt; world.refusal(both)?, Some(Refused::NotAllowed(1)));
-    assert!(rt; world.seen(0)?.is_empty());
-    assert_eq!(rt; world.refusal(FIRST)?, None);
-    Ok(())
+fn a_record_that_is_not_allowed_spends_no_nonce(rt: HostRuntime) {
+    let mut world = World::start(&rt, rt.alloc());
+    let both = with_records(1, &[(WIDE, 1440), (FOREIGN, 1440)]);
+    world.refuses(&rt, &both, Refused::NotAllowed(1));
+    world.holds(&rt, 0, &[]);
+    world.accepts(&rt, &FIRST);
 }
 
 #[test]
-fn the_largest_nonce_is_the_last_and_zero_is_one(rt: HostRuntime) -> Result<(), Fail> {
-    let mut world = World::start(rt.alloc())?;
-    assert_eq!(rt; world.refusal(with_nonce(u64::MAX))?, None);
+fn the_largest_nonce_is_the_last(rt: HostRuntime) {
+    let mut world = World::start(&rt, rt.alloc());
+    world.accepts(&rt, &with_nonce(u64::MAX));
     for nonce in [1, u64::MAX] {
-        assert_eq!(rt;
-            world.refusal(with_nonce(nonce))?,
-            Some(Refused::Replay { saved: u64::MAX })
-        );
+        world.refuses(&rt, &with_nonce(nonce), Refused::Replay { saved: u64::MAX });
     }
-    let mut fresh = World::start(rt.alloc())?;
-    assert_eq!(rt; fresh.refusal(with_nonce(0))?, None);
-    assert_eq!(rt; fresh.last_nonce(), Some(0));
-    Ok(())
 }
 
 #[test]
-fn each_key_of_a_router_has_its_own_last_nonce(rt: HostRuntime) -> Result<(), Fail> {
-    let config = Config::from_toml(rt.alloc(), rt.alloc(), TWO_KEYS)?;
-    let mut world = World::of(rt.alloc(), config.sites().copy(rt.alloc())?);
+fn nonce_zero_is_a_nonce(rt: HostRuntime) {
+    let mut world = World::start(&rt, rt.alloc());
+    world.accepts(&rt, &with_nonce(0));
+    world.has_last_nonce(&rt, Some(0));
+}
+
+#[test]
+fn each_key_of_a_router_has_its_own_last_nonce(rt: HostRuntime) {
+    let mut world = world_of_two_keys(&rt, rt.alloc());
     let other = Sent {
         key: 2,
         secret: b"other",
         nonce: 3,
         ..FIRST
     };
-    assert_eq!(rt; world.refusal(with_nonce(7))?, None);
-    assert_eq!(rt; world.refusal(other)?, None);
-    assert_eq!(rt; world.refusal(other)?, Some(Refused::Replay { saved: 3 }));
-    Ok(())
+    world.accepts(&rt, &with_nonce(7));
+    world.accepts(&rt, &other);
+    world.refuses(&rt, &other, Refused::Replay { saved: 3 });
 }
 
 #[test]
-fn the_first_fault_is_told_and_nothing_is_held(rt: HostRuntime) -> Result<(), Fail> {
-    let mut world = World::start(rt.alloc())?;
-    let short = Refused::Read(ReadFault::Short);
-    assert_eq!(rt; world.refusal_of_bytes(&[]), Some(short));
-    for (ack, want) in [(false, Refused::NotMine), (true, Refused::NoNotice)] {
-        let notify = notify_bytes(rt.alloc(), ack)?;
-        assert_eq!(rt; world.refusal_of_bytes(&notify), Some(want));
-    }
-    for (site, key, secret, merge, eid, want) in REFUSED {
+fn what_is_no_register_is_refused(rt: HostRuntime) {
+    let mut world = World::start(&rt, rt.alloc());
+    world.refuses_bytes(&rt, &[], Refused::Read(ReadFault::Short));
+    let notify = notify_bytes(&rt, rt.alloc(), false);
+    world.refuses_bytes(&rt, &notify, Refused::NotMine);
+    let ack = notify_bytes(&rt, rt.alloc(), true);
+    world.refuses_bytes(&rt, &ack, Refused::NoNotice);
+    world.has_accepted_nothing(&rt);
+}
+
+#[test]
+fn the_first_fault_is_told_and_nothing_is_held(rt: HostRuntime) {
+    let mut world = World::start(&rt, rt.alloc());
+    for (site, key, secret, merge, eid, want) in &REFUSED {
         let sent = Sent {
-            site,
-            key,
+            site: *site,
+            key: *key,
             secret,
-            merge,
-            records: &[(eid, 1440)],
+            merge: *merge,
+            records: &[(*eid, 1440)],
             ..FIRST
         };
-        assert_eq!(rt; world.refusal(sent)?, Some(want), "{sent:?}");
+        world.refuses(&rt, &sent, *want);
     }
-    assert!(rt; world.seen(0)?.is_empty());
-    assert_eq!(rt; world.last_nonce(), None);
-
-    // A replay of a prefix that isn't allowed.
-    let foreign = Sent {
-        records: &[(FOREIGN, 1440)],
-        ..FIRST
-    };
-    assert_eq!(rt; world.refusal(FIRST)?, None);
-    assert_eq!(rt; world.refusal(foreign)?, Some(Refused::NotAllowed(0)));
-    Ok(())
+    world.has_accepted_nothing(&rt);
 }
 
 #[test]
-fn each_length_but_the_whole_is_refused(rt: HostRuntime) -> Result<(), Fail> {
-    let mut world = World::start(rt.alloc())?;
-    let mut bytes = written(rt.alloc(), FIRST)?;
+fn a_prefix_that_is_not_allowed_is_told_before_a_replay(rt: HostRuntime) {
+    let mut world = World::start(&rt, rt.alloc());
+    world.accepts(&rt, &FIRST);
+    let foreign = with_records(1, &[(FOREIGN, 1440)]);
+    world.refuses(&rt, &foreign, Refused::NotAllowed(0));
+}
+
+#[test]
+fn each_length_but_the_whole_is_refused(rt: HostRuntime) {
+    let mut world = World::start(&rt, rt.alloc());
+    let mut bytes = written(&rt, rt.alloc(), &FIRST);
     assert_eq!(rt; bytes.len(), 84);
     for len in 0..84usize {
-        let refused = world.refusal_of_bytes(&bytes[..len]);
-        assert!(rt; matches!(&refused, Some(Refused::Read(_))), "{len} bytes");
+        world.can_not_read(&rt, &bytes[..len]);
     }
-    bytes.push(0)?;
-    assert_eq!(rt;
-        world.refusal_of_bytes(&bytes),
-        Some(Refused::Read(ReadFault::Trailing))
-    );
-    assert!(rt; world.seen(0)?.is_empty());
-    assert_eq!(rt; world.last_nonce(), None);
-    Ok(())
+    bytes.push(0).expect(&rt, "a byte more");
+    world.refuses_bytes(&rt, &bytes, Refused::Read(ReadFault::Trailing));
+    world.has_accepted_nothing(&rt);
 }
 
 #[test]
-fn a_register_sets_the_rows_of_its_prefixes_alone(rt: HostRuntime) -> Result<(), Fail> {
-    let mut world = World::start(rt.alloc())?;
-    let narrow = (0x0a, NARROW, 1440, 2);
-    assert_eq!(rt; world.refusal(FIRST)?, None);
-    for (nonce, records, wide) in [
-        (2, [(NARROW, 1440)].as_slice(), (0x0a, WIDE, 1440, 1)),
-        (3, &[(WIDE, 60)], (0x0a, WIDE, 60, 3)),
-        // Of two records for one prefix the last.
-        (4, &[(WIDE, 1), (WIDE, 2)], (0x0a, WIDE, 2, 4)),
-    ] {
-        let sent = Sent {
-            nonce,
-            records,
-            ..FIRST
-        };
-        assert_eq!(rt; world.refusal(sent)?, None, "nonce {nonce}");
-        assert_eq!(rt; world.seen(0)?.as_slice(), [wide, narrow].as_slice());
-    }
-    Ok(())
+fn a_register_sets_the_rows_of_its_prefixes_alone(rt: HostRuntime) {
+    let mut world = World::start(&rt, rt.alloc());
+    world.accepts(&rt, &FIRST);
+    world.accepts(&rt, &with_records(2, &[(NARROW, 1440)]));
+    world.holds(&rt, 0, &[(0x0a, WIDE, 1440, 1), (0x0a, NARROW, 1440, 2)]);
+    world.accepts(&rt, &with_records(3, &[(WIDE, 60)]));
+    world.holds(&rt, 0, &[(0x0a, WIDE, 60, 3), (0x0a, NARROW, 1440, 2)]);
+    // Of two records for one prefix the last.
+    world.accepts(&rt, &with_records(4, &[(WIDE, 1), (WIDE, 2)]));
+    world.holds(&rt, 0, &[(0x0a, WIDE, 2, 4), (0x0a, NARROW, 1440, 2)]);
 }
 
 #[test]
-fn rows_are_held_by_router_then_prefix(rt: HostRuntime) -> Result<(), Fail> {
-    let narrow = Sent {
-        records: &[(NARROW, 1440)],
-        ..FIRST
-    };
-    let registers = [FIRST, narrow, SECOND];
+fn rows_are_held_by_router_then_prefix(rt: HostRuntime) {
     for order in [
         [0, 1, 2],
         [0, 2, 1],
@@ -371,22 +269,29 @@ fn rows_are_held_by_router_then_prefix(rt: HostRuntime) -> Result<(), Fail> {
         [2, 0, 1],
         [2, 1, 0],
     ] {
-        let mut world = World::start(rt.alloc())?;
-        for (nonce, place) in [1, 2, 3].into_iter().zip(order) {
-            let sent: &Sent<'_> = registers.get(place).ok_or("no register")?;
-            assert_eq!(rt; world.refusal(Sent { nonce, ..*sent })?, None);
-        }
-        let seen = world.seen(0)?;
-        assert_eq!(rt; seen.len(), 3);
-        let wanted = [(0x0a, WIDE), (0x0a, NARROW), (0x0b, NARROW)];
-        for ((xtr_end, eid, _, _), want) in seen.iter().zip(wanted) {
-            assert_eq!(rt; (*xtr_end, *eid), want);
-        }
-        let rows = world.server.held(0)?;
-        let last = rows.last().ok_or("no row")?;
-        assert_eq!(rt; (last.proxy, last.from), (false, Addr::V4([127, 0, 0, 22])));
+        let world = registered_in(&rt, rt.alloc(), order);
+        world.has_places(&rt, &[(0x0a, WIDE), (0x0a, NARROW), (0x0b, NARROW)]);
     }
-    Ok(())
+}
+
+#[test]
+fn a_row_tells_what_its_router_sent(rt: HostRuntime) {
+    let mut world = World::start(&rt, rt.alloc());
+    world.accepts(&rt, &SECOND);
+    let rows = world.server.held(0).expect(&rt, "the rows");
+    assert_eq!(rt; rows.len(), 1);
+    assert_second_row(&rt, &rows[0]);
+}
+
+#[test]
+fn the_live_rows_answer(rt: HostRuntime) {
+    let mut world = World::start(&rt, rt.alloc());
+    world.accepts(&rt, &FIRST);
+    let asked = Addr::V4([10, 1, 2, 3]);
+    let reply = world.server.answer(&asked, 179_999);
+    assert!(rt; matches!(&reply, Answer::Reply(_)));
+    let none = world.server.answer(&asked, 180_000);
+    assert!(rt; matches!(&none, Answer::NotRegistered));
 }
 
 #[test]
@@ -407,4 +312,102 @@ fn refusals_have_their_numbers(rt: HostRuntime) {
     ] {
         assert_eq!(rt; refused.number(), number, "{refused:?}");
     }
+}
+
+/// Stops the test unless the bytes are the worked Map-Notify.
+fn assert_worked_notify(rt: &impl Abort, bytes: &[u8]) {
+    assert_eq!(rt; bytes.len(), 60);
+    assert!(rt; authentic(bytes, SECRET));
+    assert!(rt; bytes.starts_with(&NOTIFY_HEAD));
+    assert!(rt; bytes.ends_with(&RECORD));
+}
+
+/// Stops the test unless the bytes are a Map-Notify of no record.
+fn assert_bare_notify(rt: &impl Abort, bytes: &[u8]) {
+    assert_eq!(rt; bytes.len(), 32);
+    assert!(rt; bytes.starts_with(&[0x40, 0, 0, 0]));
+}
+
+/// Stops the test unless the message is a Map-Notify as the worked one, of one record.
+fn assert_notify(rt: &impl Abort, message: &Message) {
+    let Message::Notify(notify) = message else {
+        panic!(rt; "no Map-Notify")
+    };
+    assert_eq!(rt;
+        (
+            notify.ack,
+            notify.nonce,
+            notify.key_id,
+            notify.records.as_slice().len()
+        ),
+        (false, 1, 1, 1)
+    );
+}
+
+/// Stops the test unless the row is that of r1's Map-Register.
+fn assert_worked_row(rt: &impl Abort, row: &Row) {
+    assert_worked_record(rt, &row.mapping);
+    assert_eq!(rt;
+        (row.router, row.from),
+        (router_of(&FIRST), Addr::V4([127, 0, 0, 21]))
+    );
+    assert_eq!(rt;
+        (row.key, row.nonce, row.proxy, row.accepted, row.life),
+        (1, 1, true, 0, 180_000)
+    );
+}
+
+/// Stops the test unless the row is that of r2's Map-Register.
+fn assert_second_row(rt: &impl Abort, row: &Row) {
+    let from = Addr::V4([127, 0, 0, 22]);
+    assert_eq!(rt; (row.proxy, row.from), (false, from));
+}
+
+/// A Map-Server that was restarted after the save of nonce 5 was in doubt, by the store's pick.
+fn restarted_in_doubt(rt: &impl Abort, alloc: Global, pick: u64) -> World {
+    let mut world = World::start(rt, alloc);
+    world.accepts(rt, &with_nonce(4));
+    world.store.arm(Fate::Doubt);
+    world.refuses(rt, &with_nonce(5), Refused::StoreSave(StoreFault::Device));
+    world.holds(rt, 0, &[(0x0a, WIDE, 1440, 4)]);
+    world.has_last_nonce(rt, Some(4));
+    world.store.arm(Fate::Done);
+    world.store.restart(pick);
+    world.restart()
+}
+
+/// Stops the test unless a row that is accepted at moment 0 is held for so many ms.
+fn assert_life(rt: &impl Abort, alloc: Global, use_ttl: bool, ttl: u32, life: u64) {
+    let mut world = World::start(rt, alloc);
+    let sent = Sent {
+        use_ttl,
+        records: &[(WIDE, ttl)],
+        ..FIRST
+    };
+    world.accepts(rt, &sent);
+    if let Some(last) = life.checked_sub(1) {
+        world.holds(rt, last, &[(0x0a, WIDE, ttl, 1)]);
+    }
+    world.holds(rt, life, &[]);
+}
+
+/// A Map-Server of the worked site with a second key.
+fn world_of_two_keys(rt: &impl Abort, alloc: Global) -> World {
+    let config = Config::from_toml(alloc, alloc, TWO_KEYS).expect(rt, "no configuration");
+    let sites = config.sites().copy(alloc).expect(rt, "the sites");
+    World::of(alloc, sites)
+}
+
+/// A Map-Server that took r1's two prefixes and r2's one, 0, 1 and 2, in this order.
+fn registered_in(rt: &impl Abort, alloc: Global, order: [u8; 3]) -> World {
+    let mut world = World::start(rt, alloc);
+    for (nonce, place) in [1, 2, 3].into_iter().zip(order) {
+        let sent = match place {
+            0 => with_nonce(nonce),
+            1 => with_records(nonce, &[(NARROW, 1440)]),
+            _ => Sent { nonce, ..SECOND },
+        };
+        world.accepts(rt, &sent);
+    }
+    world
 }

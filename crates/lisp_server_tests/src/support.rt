@@ -1,14 +1,13 @@
 //! What the tests of the Map-Server share: a Map-Server and its store, and what routers send to it.
 
 use lisp_messages::{MapNotify, MapRegister, write_notify, write_register};
-use lisp_records::{Addr, Bytes, Locator, MapRecord, Records, RouterId};
-use lisp_samples::{LOCATOR, SECRET, ipv4_block, worked_record};
+use lisp_records::{Addr, Bytes, Locator, MapRecord, Prefix, Records, RouterId};
+use lisp_samples::{LOCATOR, SECRET, fields};
 use lisp_server::{Refused, Server, Took};
 use lisp_sites::Sites;
 use lisp_store::{MemoryStore, Pair, PairKind};
 use std::alloc::{Allocator, Global};
 use std::process::Abort;
-use std::test::Fail;
 
 /// An EID-Prefix: an IPv4 address and the length of its mask.
 pub(crate) type Eid = ([u8; 4], u8);
@@ -78,7 +77,7 @@ pub(crate) const SECOND: Sent<'static> = Sent {
     ..FIRST
 };
 
-/// A Map-Server and its store.
+/// A Map-Server and its store. Its methods stop the test where something else comes than what is wanted.
 #[derive(Drop)]
 pub(crate) struct World {
     alloc: Global,
@@ -88,8 +87,8 @@ pub(crate) struct World {
 
 impl World {
     /// A Map-Server of the worked site, and a store that keeps nothing.
-    pub(crate) fn start(alloc: Global) -> Result<World, Fail> {
-        Ok(World::of(alloc, worked_sites(alloc)?))
+    pub(crate) fn start(rt: &impl Abort, alloc: Global) -> World {
+        World::of(alloc, worked_sites(rt, alloc))
     }
 
     /// A Map-Server of these sites, and a store that keeps nothing.
@@ -110,28 +109,52 @@ impl World {
         }
     }
 
-    /// Why bytes from r1 are refused at moment 0.
-    pub(crate) fn refusal_of_bytes(&mut self, bytes: &[u8]) -> Option<Refused> {
+    /// Why bytes from r1 are refused at moment 0; none where they are accepted.
+    fn refusal_of_bytes(&mut self, bytes: &[u8]) -> Option<Refused> {
         self.server
             .receive(&mut self.store, FIRST.router.from, bytes, 0)
             .err()
     }
 
+    /// Sends bytes from r1 at moment 0, which are refused for this reason.
+    pub(crate) fn refuses_bytes(&mut self, rt: &impl Abort, bytes: &[u8], want: Refused) {
+        let refusal = self.refusal_of_bytes(bytes);
+        assert_eq!(rt; refusal, Some(want), "{bytes:?}");
+    }
+
+    /// Sends bytes from r1 at moment 0, which spell no message.
+    pub(crate) fn can_not_read(&mut self, rt: &impl Abort, bytes: &[u8]) {
+        let refusal = self.refusal_of_bytes(bytes);
+        assert!(rt; matches!(&refusal, Some(Refused::Read(_))), "{bytes:?}");
+    }
+
+    /// Sends a Map-Register at moment 0, which is accepted.
+    pub(crate) fn accepts(&mut self, rt: &impl Abort, sent: &Sent<'_>) {
+        let refusal = self.refusal(rt, sent);
+        assert_eq!(rt; refusal, None, "{sent:?}");
+    }
+
+    /// Sends a Map-Register at moment 0, which is refused for this reason.
+    pub(crate) fn refuses(&mut self, rt: &impl Abort, sent: &Sent<'_>, want: Refused) {
+        let refusal = self.refusal(rt, sent);
+        assert_eq!(rt; refusal, Some(want), "{sent:?}");
+    }
+
     /// Why a Map-Register is refused at moment 0; none where it is accepted.
-    pub(crate) fn refusal(&mut self, sent: Sent<'_>) -> Result<Option<Refused>, Fail> {
-        let bytes = written(self.alloc, sent)?;
-        let took = self
-            .server
-            .receive(&mut self.store, sent.router.from, &bytes, 0);
-        Ok(took.err())
+    fn refusal(&mut self, rt: &impl Abort, sent: &Sent<'_>) -> Option<Refused> {
+        let bytes = written(rt, self.alloc, sent);
+        self.server
+            .receive(&mut self.store, sent.router.from, &bytes, 0)
+            .err()
     }
 
     /// The answer to a Map-Register that is accepted at moment 0 with its router, key and nonce.
-    pub(crate) fn reply(&mut self, rt: &impl Abort, sent: Sent<'_>) -> Result<Option<Bytes>, Fail> {
-        let bytes = written(self.alloc, sent)?;
+    pub(crate) fn reply(&mut self, rt: &impl Abort, sent: &Sent<'_>) -> Option<Bytes> {
+        let bytes = written(rt, self.alloc, sent);
         let took = self
             .server
-            .receive(&mut self.store, sent.router.from, &bytes, 0)?;
+            .receive(&mut self.store, sent.router.from, &bytes, 0)
+            .expect(rt, "refused");
         let Took::Accepted {
             router,
             key,
@@ -139,44 +162,60 @@ impl World {
             reply,
         } = took
         else {
-            return Err("not accepted")?;
+            panic!(rt; "not accepted")
         };
-        assert_eq!(rt;
-            (router, key, nonce),
-            (router_of(sent), sent.key, sent.nonce)
-        );
-        Ok(reply)
+        assert_eq!(rt; router, router_of(sent));
+        assert_eq!(rt; (key, nonce), (sent.key, sent.nonce));
+        reply
+    }
+
+    /// At a moment these rows are held and no others.
+    pub(crate) fn holds(&self, rt: &impl Abort, now: u64, want: &[Seen]) {
+        let seen = self.seen(rt, now);
+        assert_eq!(rt; seen.as_slice(), want, "at {now} ms");
+    }
+
+    /// At moment 0 the rows are these, each by the last byte of its xTR-ID and its prefix.
+    pub(crate) fn has_places(&self, rt: &impl Abort, want: &[(u8, Eid)]) {
+        let mut places = Vec::new(self.alloc);
+        for (xtr_end, eid, _, _) in self.seen(rt, 0) {
+            places.push((xtr_end, eid)).expect(rt, "a place");
+        }
+        assert_eq!(rt; places.as_slice(), want);
     }
 
     /// What is held at a moment.
-    pub(crate) fn seen(&self, now: u64) -> Result<Vec<Seen>, Fail> {
-        let rows = self.server.held(now)?;
+    fn seen(&self, rt: &impl Abort, now: u64) -> Vec<Seen> {
+        let rows = self.server.held(now).expect(rt, "the rows");
         let mut seen = Vec::new(self.alloc);
         for row in &rows {
             let eid = row.mapping.eid();
             let Addr::V4(octets) = eid.addr() else {
-                return Err("no IPv4 prefix")?;
+                panic!(rt; "no IPv4 prefix")
             };
-            seen.push((
-                row.router.xtr[15],
-                (octets, eid.mask_len()),
-                row.mapping.ttl(),
-                row.nonce,
-            ))?;
+            let end = row.router.xtr[15];
+            seen.push((end, (octets, eid.mask_len()), row.mapping.ttl(), row.nonce))
+                .expect(rt, "what is seen");
         }
-        Ok(seen)
+        seen
     }
 
-    /// The last nonce of r1 under its key.
-    pub(crate) fn last_nonce(&self) -> Option<u64> {
-        self.server.last_nonce(&pair_of(FIRST))
+    /// The last nonce of r1 under its key is this one.
+    pub(crate) fn has_last_nonce(&self, rt: &impl Abort, want: Option<u64>) {
+        assert_eq!(rt; self.server.last_nonce(&pair_of(&FIRST)), want);
+    }
+
+    /// No row is held at moment 0, and r1 has no last nonce.
+    pub(crate) fn has_accepted_nothing(&self, rt: &impl Abort) {
+        self.holds(rt, 0, &[]);
+        self.has_last_nonce(rt, None);
     }
 }
 
 /// The worked site.
-pub(crate) fn worked_sites<A: Allocator + Copy>(alloc: A) -> Result<Sites<A>, Fail> {
-    let eid = ipv4_block([10, 1, 0, 0], 16)?;
-    Ok(Sites::single(alloc, 1, 1, SECRET, eid, true)?)
+pub(crate) fn worked_sites<A: Allocator + Copy>(rt: &impl Abort, alloc: A) -> Sites<A> {
+    let eid = block(rt, WIDE);
+    Sites::single(alloc, 1, 1, SECRET, eid, true).expect(rt, "the site")
 }
 
 /// What r1 sends, with another nonce.
@@ -184,8 +223,17 @@ pub(crate) fn with_nonce(nonce: u64) -> Sent<'static> {
     Sent { nonce, ..FIRST }
 }
 
+/// What r1 sends, with another nonce and other records.
+pub(crate) fn with_records(nonce: u64, records: &[(Eid, u32)]) -> Sent<'_> {
+    Sent {
+        nonce,
+        records,
+        ..FIRST
+    }
+}
+
 /// The router that sends a Map-Register.
-pub(crate) fn router_of(sent: Sent<'_>) -> RouterId {
+pub(crate) fn router_of(sent: &Sent<'_>) -> RouterId {
     let mut xtr = [0; 16];
     xtr[15] = sent.router.xtr_end;
     RouterId {
@@ -195,7 +243,7 @@ pub(crate) fn router_of(sent: Sent<'_>) -> RouterId {
 }
 
 /// What its nonce is kept for.
-pub(crate) fn pair_of(sent: Sent<'_>) -> Pair {
+pub(crate) fn pair_of(sent: &Sent<'_>) -> Pair {
     Pair {
         kind: PairKind::Received,
         router: router_of(sent),
@@ -204,14 +252,10 @@ pub(crate) fn pair_of(sent: Sent<'_>) -> Pair {
 }
 
 /// The bytes of a Map-Register, authentic under its secret.
-pub(crate) fn written(alloc: Global, sent: Sent<'_>) -> Result<Vec<u8>, Fail> {
-    let mut records = Vec::new(alloc);
-    for (eid, ttl) in sent.records {
-        records.push(record_of(alloc, sent.router, *eid, *ttl)?)?;
-    }
-    if records.len() > 255 {
-        return Err("too many records")?;
-    }
+pub(crate) fn written(rt: &impl Abort, alloc: Global, sent: &Sent<'_>) -> Vec<u8> {
+    let records = records_of(rt, alloc, sent);
+    assert!(rt; records.len() < 256);
+    let RouterId { site, xtr } = router_of(sent);
     let register = MapRegister {
         proxy: sent.router.proxy,
         sec: false,
@@ -222,31 +266,55 @@ pub(crate) fn written(alloc: Global, sent: Sent<'_>) -> Result<Vec<u8>, Fail> {
         nonce: sent.nonce,
         key_id: sent.key,
         records: Records::from_vec(records),
-        xtr: router_of(sent).xtr,
-        site: sent.site,
+        xtr,
+        site,
     };
-    Ok(write_register(alloc, &register, sent.secret)?)
+    write_register(alloc, &register, sent.secret).expect(rt, "the Map-Register")
 }
 
-/// A router's record of a prefix, with its one locator.
-fn record_of(alloc: Global, router: Router, eid: Eid, ttl: u32) -> Result<MapRecord, Fail> {
+/// The records of a Map-Register.
+fn records_of(rt: &impl Abort, alloc: Global, sent: &Sent<'_>) -> Vec<MapRecord> {
+    let mut records = Vec::new(alloc);
+    for (eid, ttl) in sent.records {
+        let record = record_of(rt, alloc, sent.router.locator, *eid, *ttl);
+        records.push(record).expect(rt, "a record");
+    }
+    records
+}
+
+/// A record of a prefix, with one locator at this address.
+fn record_of(rt: &impl Abort, alloc: Global, addr: Addr, eid: Eid, ttl: u32) -> MapRecord {
+    let mut locators = Vec::new(alloc);
+    locators
+        .push(Locator { addr, ..LOCATOR })
+        .expect(rt, "a locator");
+    MapRecord::new(ttl, 0, true, 0, block(rt, eid), locators).expect(rt, "a field is too large")
+}
+
+/// The prefix of a record.
+fn block(rt: &impl Abort, eid: Eid) -> Prefix {
     let (octets, mask_len) = eid;
-    let locator = Locator {
-        addr: router.locator,
-        ..LOCATOR
-    };
-    let locators = vec![in alloc; locator]?;
-    let eid = ipv4_block(octets, mask_len)?;
-    Ok(MapRecord::new(ttl, 0, true, 0, eid, locators).ok_or("a field is too large")?)
+    Prefix::new(Addr::V4(octets), mask_len).expect(rt, "the mask is too long")
+}
+
+/// Stops the test unless the record is the worked record.
+pub(crate) fn assert_worked_record<A: Allocator>(rt: &impl Abort, record: &MapRecord<A>) {
+    let eid = block(rt, WIDE);
+    assert_eq!(rt;
+        fields(record),
+        (1440, 0, true, 0, eid, [LOCATOR].as_slice())
+    );
 }
 
 /// The bytes of the worked Map-Notify, or of the Map-Notify-Ack like it.
-pub(crate) fn notify_bytes(alloc: Global, ack: bool) -> Result<Vec<u8>, Fail> {
+pub(crate) fn notify_bytes(rt: &impl Abort, alloc: Global, ack: bool) -> Vec<u8> {
+    let records = records_of(rt, alloc, &FIRST);
+    assert!(rt; records.len() < 256);
     let notify = MapNotify {
         ack,
         nonce: 1,
         key_id: 1,
-        records: Records::from_vec(vec![in alloc; worked_record(alloc)?]?),
+        records: Records::from_vec(records),
     };
-    Ok(write_notify(alloc, &notify, SECRET)?)
+    write_notify(alloc, &notify, SECRET).expect(rt, "the Map-Notify")
 }

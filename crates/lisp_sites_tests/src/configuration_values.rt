@@ -110,7 +110,7 @@ const BAD: [Row; 16] = [
         &[
             r#"name = """#,
             r#"name = "abcdefghijklmnopqrstuvwxyz-012345""#,
-            r#"name = "R1""#,
+            r#"name = "R""#,
             r#"name = "r_1""#,
             r#"name = "r1 ""#,
             "name = 1",

@@ -3,7 +3,17 @@
 use linked_list_allocator::LocalHeap;
 use lisp_records::RouterId;
 use lisp_store::{Fate, MemoryStore, NonceStore, Pair, PairKind, StoreFault, WorldStore};
-use std::test::Fail;
+use std::alloc::{Allocator, Global};
+use std::process::Abort;
+
+/// The bytes of the heap that a call may use a part of.
+pub const HEAP_LEN: usize = 4096;
+
+/// The heap's smallest block, by which its free room grows.
+pub const BLOCK_LEN: usize = 16;
+
+/// So many blocks are room enough for each call.
+pub const MOST_BLOCKS: usize = 24;
 
 /// A pair of site 1.
 pub const PAIR: Pair = Pair {
@@ -41,30 +51,22 @@ const OTHERS: [Pair; 4] = [
 #[test]
 fn a_saved_nonce_is_kept_for_its_pair_alone(rt: HostRuntime) {
     let mut store = MemoryStore::new(rt.alloc());
-    assert_eq!(rt; store.load(&PAIR), Ok(None));
-    assert_eq!(rt; store.save(&PAIR, 7), Ok(()));
-    assert_eq!(rt; store.save(&PAIR, 3), Ok(()));
-    assert_eq!(rt; store.load(&PAIR), Ok(Some(3)));
+    assert_load(&rt, &mut store, &PAIR, Ok(None));
+    assert_save(&rt, &mut store, 7, Ok(()));
+    assert_save(&rt, &mut store, 3, Ok(()));
+    assert_load(&rt, &mut store, &PAIR, Ok(Some(3)));
     for other in &OTHERS {
-        assert_eq!(rt; store.load(other), Ok(None), "{other:?}");
+        assert_load(&rt, &mut store, other, Ok(None));
     }
     store.restart(9);
-    assert_eq!(rt; store.load(&PAIR), Ok(Some(3)));
+    assert_load(&rt, &mut store, &PAIR, Ok(Some(3)));
 }
 
 #[test]
 fn a_save_in_doubt_may_be_kept_or_not(rt: HostRuntime) {
     // What a restart leaves, by its pick: of nothing, 5 and 6.
     for (pick, want) in [(0, None), (1, Some(5)), (2, Some(6)), (9, Some(6))] {
-        let mut store = MemoryStore::new(rt.alloc());
-        store.arm(Fate::Doubt);
-        for nonce in [5, 6, 5] {
-            assert_eq!(rt; store.save(&PAIR, nonce), Err(StoreFault::Device));
-        }
-        store.arm(Fate::Done);
-        assert_eq!(rt; store.load(&PAIR), Ok(None));
-        store.restart(pick);
-        assert_eq!(rt; store.load(&PAIR), Ok(want), "{pick}");
+        assert_left(&rt, rt.alloc(), pick, want);
     }
 }
 
@@ -72,44 +74,84 @@ fn a_save_in_doubt_may_be_kept_or_not(rt: HostRuntime) {
 fn loads_fail_until_the_store_is_armed_again(rt: HostRuntime) {
     let mut store = MemoryStore::new(rt.alloc());
     store.arm(Fate::LoadFails);
-    assert_eq!(rt; store.load(&PAIR), Err(StoreFault::Device));
-    assert_eq!(rt; store.save(&PAIR, 7), Ok(()));
-    assert_eq!(rt; store.load(&PAIR), Err(StoreFault::Device));
+    assert_load(&rt, &mut store, &PAIR, Err(StoreFault::Device));
+    assert_save(&rt, &mut store, 7, Ok(()));
+    assert_load(&rt, &mut store, &PAIR, Err(StoreFault::Device));
     store.arm(Fate::Done);
-    assert_eq!(rt; store.load(&PAIR), Ok(Some(7)));
+    assert_load(&rt, &mut store, &PAIR, Ok(Some(7)));
 }
 
 #[test]
 fn faults_have_their_numbers(rt: HostRuntime) {
-    assert_eq!(rt; StoreFault::Device.number(), 30);
-    assert_eq!(rt; StoreFault::Damaged.number(), 31);
-    assert_eq!(rt; StoreFault::OutOfMemory.number(), 32);
+    for (fault, number) in [
+        (StoreFault::Device, 30),
+        (StoreFault::Damaged, 31),
+        (StoreFault::OutOfMemory, 32),
+    ] {
+        assert_eq!(rt; fault.number(), number, "{fault}");
+    }
 }
 
 #[test]
-fn want_of_memory_changes_nothing(rt: HostRuntime) -> Result<(), Fail> {
+fn want_of_memory_changes_nothing(rt: HostRuntime) {
     for fate in [Fate::Done, Fate::Doubt] {
-        for blocks in 0..24usize {
-            let heap = LocalHeap::new(rt.alloc(), 4096)?;
-            let mut store = MemoryStore::new(&heap);
-            assert_eq!(rt; store.save(&PAIR, 7), Ok(()));
-            store.arm(fate);
-            let free = heap.free();
-            let ballast: Vec<u8, &LocalHeap> = Vec::with_capacity(
-                &heap,
-                free.saturating_sub(blocks * 16),
-            )?;
-            if store.save(&OTHERS[0], 9) == Err(StoreFault::OutOfMemory) {
-                drop(ballast);
-                store.restart(9);
-                assert_eq!(rt; store.load(&OTHERS[0]), Ok(None));
-            } else {
-                drop(ballast);
-                store.restart(9);
-                assert_eq!(rt; store.load(&OTHERS[0]), Ok(Some(9)));
-            }
-            assert_eq!(rt; store.load(&PAIR), Ok(Some(7)));
+        for blocks in 0..MOST_BLOCKS {
+            assert_all_or_nothing(&rt, rt.alloc(), fate, blocks);
         }
     }
-    Ok(())
+}
+
+/// Stops the test unless a load of the pair gives this.
+fn assert_load<A: Allocator + Copy>(
+    rt: &impl Abort,
+    store: &mut MemoryStore<A>,
+    pair: &Pair,
+    want: Result<Option<u64>, StoreFault>,
+) {
+    assert_eq!(rt; store.load(pair), want, "{pair:?}");
+}
+
+/// Stops the test unless a save of this nonce of `PAIR` gives this.
+fn assert_save<A: Allocator + Copy>(
+    rt: &impl Abort,
+    store: &mut MemoryStore<A>,
+    nonce: u64,
+    want: Result<(), StoreFault>,
+) {
+    assert_eq!(rt; store.save(&PAIR, nonce), want, "{nonce}");
+}
+
+/// Stops the test unless a restart with this pick leaves this of saves of 5, 6 and 5 in doubt.
+fn assert_left(rt: &impl Abort, alloc: Global, pick: u64, want: Option<u64>) {
+    let mut store = MemoryStore::new(alloc);
+    store.arm(Fate::Doubt);
+    for nonce in [5, 6, 5] {
+        assert_save(rt, &mut store, nonce, Err(StoreFault::Device));
+    }
+    store.arm(Fate::Done);
+    assert_load(rt, &mut store, &PAIR, Ok(None));
+    store.restart(pick);
+    assert_load(rt, &mut store, &PAIR, Ok(want));
+}
+
+/// Stops the test unless a save with so many blocks of memory is whole or refused, and the nonce of
+/// another pair stays.
+fn assert_all_or_nothing(rt: &impl Abort, alloc: Global, fate: Fate, blocks: usize) {
+    let heap = LocalHeap::new(alloc, HEAP_LEN).expect(rt, "the heap");
+    let mut store = MemoryStore::new(&heap);
+    assert_save(rt, &mut store, 7, Ok(()));
+    store.arm(fate);
+    let ballast = fill(rt, &heap, blocks);
+    let is_refused = store.save(&OTHERS[0], 9) == Err(StoreFault::OutOfMemory);
+    drop(ballast);
+    store.restart(9);
+    let kept = if is_refused { None } else { Some(9) };
+    assert_load(rt, &mut store, &OTHERS[0], Ok(kept));
+    assert_load(rt, &mut store, &PAIR, Ok(Some(7)));
+}
+
+/// Takes all the memory of a heap but so many blocks.
+pub fn fill<'a>(rt: &impl Abort, heap: &'a LocalHeap, blocks: usize) -> Vec<u8, &'a LocalHeap> {
+    let room = blocks.saturating_mul(BLOCK_LEN);
+    Vec::with_capacity(heap, heap.free().saturating_sub(room)).expect(rt, "the ballast")
 }

@@ -1,4 +1,4 @@
-use Rattle.std.proofs.Common.{◌+◌, ap, sym, ◌∙◌, arith}
+use Rattle.std.proofs.Common.{◌+◌, arith}
 use Rattle.lisp_etr.proofs.SafeLaws.{none_below}
 use Rattle.lisp_etr.proofs.etr.Etr.send.Goals as goal
 

@@ -1,0 +1,62 @@
+-- The order of rows is total, and only rows of one router and prefix tie.
+use Rattle.std.proofs.Common.{◌≡◌, ℕ, refl, ap, subst}
+use Rattle.std.specs.Cmp.{IsTotalOrder, on_total, then_total, nat_cmp_total}
+use Rattle.std.specs.Cmp.Lexicographic.{slice_cmp, nat_list_cmp_total}
+use Rattle.std.specs.Ordering.{nat_cmp, ordering_then}
+use Rattle.std.specs.declared.cmp.Ordering.{Ordering}
+use Rattle.std.specs.declared.cmp.Ordering.TheVariants.{Equal}
+use Rattle.std.proofs.lemmas.Map.Lookups.{exact_pairs, exact_unsigned, exact_bytes}
+use Rattle.lisp_records.specs.declared.address.Addr.{Addr}
+use Rattle.lisp_records.specs.declared.address.Addr.TheVariants.{V4, V6}
+use Rattle.lisp_records.specs.declared.router.RouterId.{RouterId}
+use Rattle.lisp_records.specs.Address.{Block, octets, addr_cmp, block_cmp}
+use Rattle.lisp_records.specs.Router.{router_cmp}
+
+-- IPv4 before IPv6
+abbrev family_number : Addr → ℕ
+family_number (V4 _) = 0
+family_number (V6 _) = 1
+
+abbrev by_parts : Addr → Addr → Ordering
+by_parts a b = ordering_then (nat_cmp (family_number a) (family_number b)) (slice_cmp nat_cmp (octets a) (octets b))
+
+same_order : (a b : Addr) → by_parts a b ≡ addr_cmp a b
+same_order (V4 a) (V4 b) = refl
+same_order (V4 a) (V6 b) = refl
+same_order (V6 a) (V4 b) = refl
+same_order (V6 a) (V6 b) = refl
+
+addr_total : IsTotalOrder addr_cmp
+addr_total = subst (λ (R : Addr → Addr → Ordering). IsTotalOrder R) (λ i a b. same_order a b i) (then_total (on_total family_number nat_cmp_total) (on_total octets nat_list_cmp_total))
+
+same_addr : (a b : Addr) → addr_cmp a b ≡ Equal → a ≡ b
+same_addr (V4 a) (V4 b) tie = ap V4 (exact_bytes a b tie)
+same_addr (V4 a) (V6 b) tie = absurd cc
+same_addr (V6 a) (V4 b) tie = absurd cc
+same_addr (V6 a) (V6 b) tie = ap V6 (exact_bytes a b tie)
+
+block_total : IsTotalOrder block_cmp
+block_total = then_total (on_total (λ (b : Block). b.addr) addr_total) (on_total (λ (b : Block). b.mask_len) nat_cmp_total)
+
+same_block : (a b : Block) → block_cmp a b ≡ Equal → a ≡ b
+same_block a b tie =
+    let parts = exact_pairs addr_cmp nat_cmp same_addr exact_unsigned (a.addr, a.mask_len) (b.addr, b.mask_len) tie in
+    λ i. record { addr = (parts i).0; mask_len = (parts i).1 }
+
+pub router_total : IsTotalOrder router_cmp
+router_total = then_total (on_total (λ (r : RouterId). r.site) nat_cmp_total) (on_total (λ (r : RouterId). r.xtr) nat_list_cmp_total)
+
+same_router : (a b : RouterId) → router_cmp a b ≡ Equal → a ≡ b
+same_router a b tie =
+    let parts = exact_pairs nat_cmp (slice_cmp nat_cmp) exact_unsigned exact_bytes (a.site, a.xtr) (b.site, b.xtr) tie in
+    λ i. record { site = (parts i).0; xtr = (parts i).1 }
+
+-- the order of what there is one row for
+abbrev pub key_cmp : RouterId × Block → RouterId × Block → Ordering
+key_cmp a b = ordering_then (router_cmp a.0 b.0) (block_cmp a.1 b.1)
+
+pub key_total : IsTotalOrder key_cmp
+key_total = then_total (on_total (λ (k : RouterId × Block). k.0) router_total) (on_total (λ (k : RouterId × Block). k.1) block_total)
+
+pub same_key : (a b : RouterId × Block) → key_cmp a b ≡ Equal → a ≡ b
+same_key a b tie = exact_pairs router_cmp block_cmp same_router same_block a b tie

@@ -1,0 +1,211 @@
+-- Setting, dropping and listing rows.
+use Rattle.std.proofs.Common.{◌≡◌, ◌≢◌, ◌==◌, ◌⊎◌, inl, inr, not, ℕ, zero, suc, ◌-◌, ◌<◌, Bool, true, false, cond, List, [], ◌∷◌, ◌++◌, length, slice_set, slice_index_or, Option, Some, None, refl, sym, ap, ◌∙◌, subst, true≢false, arith}
+use Rattle.std.specs.Bool.{Decides}
+use Rattle.std.specs.Option.{option_or, option_and_then}
+use Rattle.std.specs.List.{AllPairs, Contains, find, filter, position, swap}
+use Rattle.std.specs.List.Sorted.{IsPermutation, IsSortedByKey}
+use Rattle.std.specs.Ordering.{is_lt, ordering_reverse}
+use Rattle.std.specs.declared.cmp.Ordering.{Ordering}
+use Rattle.std.specs.declared.cmp.Ordering.TheVariants.{Less, Equal, Greater}
+use Rattle.std.proofs.lemmas.Bool.{cases_eq}
+use Rattle.std.proofs.lemmas.List.Edits.{Swapped, swapped_from_swap, length-swap}
+use Rattle.std.proofs.lemmas.Bool.Decides.{Decides-and, Decides-eqb, Decides-ltb}
+use Rattle.std.proofs.lemmas.List.{reverse-append, get_or-set_other, length-set}
+use Rattle.std.proofs.lemmas.Grind.{get_or-set_at}
+use Rattle.std.proofs.lemmas.List.Elements.{All-contains, All-filter, All-contains_itself, Contains-append_cases, filter_passes}
+use Rattle.std.proofs.lemmas.List.Recursion.{found_at}
+use Rattle.std.proofs.lemmas.List.Kept.{AllPairs-filter}
+use Rattle.std.proofs.lemmas.List.Quantifiers.{position-Some, all_pairs_push}
+use Rattle.std.proofs.lemmas.List.Sorted.{ranks_by, sorted_far, IsPermutation-filter_both, IsPermutation-keeps, IsPermutation-sym, Contains-permutation}
+use Rattle.lisp_records.proofs.DatabaseLaws.{block_eq-Decides}
+use Rattle.lisp_records.proofs.RouterLaws.{router_eq-Decides}
+use Rattle.lisp_records.specs.declared.router.RouterId.{RouterId}
+use Rattle.lisp_records.specs.Address.{Block}
+use Rattle.lisp_records.specs.Row.{Holding, is_alive}
+use Rattle.lisp_lookup.specs.Table.{is_row_of, row_key, row_at, last_of, OneEach, Sets, Expires, if_alive, row_cmp, IsHeld}
+use Rattle.lisp_lookup.proofs.Found.{put_set, put_push, nowhere, not_true}
+use Rattle.lisp_lookup.proofs.Orders.{key_cmp, key_total, same_key}
+
+abbrev has : RouterId × Block → Holding → Bool
+has k h = is_row_of k.0 k.1 h
+
+decides : (k : RouterId × Block) (h : Holding) → Decides (has k h) (row_key h ≡ k)
+decides k h =
+    let both = Decides-and _ _ (router_eq-Decides h.router k.0) (block_eq-Decides h.mapping.eid k.1) in
+    (λ t. (let e = both.0 t in λ i. (e.0 i, e.1 i)), λ e. both.1 (ap (λ (x : RouterId × Block). x.0) e, ap (λ (x : RouterId × Block). x.1) e))
+
+-- the row of a router and prefix was set over another
+pub sets_set : (rows : List Holding) (i : ℕ) (y : Holding) → position (is_row_of y.router y.mapping.eid) rows ≡ Some i → Sets rows (slice_set rows i y) (y ∷ [])
+unfolding row_at
+sets_set rows i y at = λ router eid. put_set row_key has decides rows i y at (router, eid)
+
+-- a row was added for a router and prefix that had none
+pub sets_push : (rows : List Holding) (y : Holding) → position (is_row_of y.router y.mapping.eid) rows ≡ None → Sets rows (rows ++ y ∷ []) (y ∷ [])
+unfolding row_at
+sets_push rows y at = λ router eid. put_push row_key has decides rows y at (router, eid)
+
+-- nothing was set
+pub sets_none : (rows : List Holding) → Sets rows rows []
+sets_none rows router eid = refl
+
+or_chain : (b : Bool) (y : Holding) (last old : Option Holding) → option_or (cond b (Some y) None) (option_or last old) ≡ option_or (cond b (Some y) last) old
+or_chain true y last old = refl
+or_chain false y last old = refl
+
+-- one row more was set
+pub sets_more : (old mid new given : List Holding) (y : Holding) → Sets old mid given → Sets mid new (y ∷ []) → Sets old new (given ++ y ∷ [])
+sets_more old mid new given y first second router eid =
+    second router eid
+    ∙ ap (λ (o : Option Holding). option_or (cond (is_row_of router eid y) (Some y) None) o) (first router eid)
+    ∙ or_chain (is_row_of router eid y) y (last_of given router eid) (row_at old router eid)
+    ∙ ap (λ (rows : List Holding). option_or (find (is_row_of router eid) rows) (row_at old router eid)) (sym (reverse-append given (y ∷ [])))
+
+-- a row that is set at the place of another with its key leaves the keys as they are
+keys_case : (rows : List Holding) (i : ℕ) (y d : Holding) → i < length rows → row_key (slice_index_or rows i d) ≡ row_key y → (k : ℕ) (b : Bool) → (k == i) ≡ b → row_key (slice_index_or (slice_set rows i y) k d) ≡ row_key (slice_index_or rows k d)
+keys_case rows i y d lt same k true e =
+    let at : k ≡ i = (Decides-eqb k i).0 e in
+    ap row_key (get_or-set_at rows i k y d at lt) ∙ sym same ∙ ap (λ (j : ℕ). row_key (slice_index_or rows j d)) (sym at)
+keys_case rows i y d lt same k false e = ap row_key (get_or-set_other rows i k y d (λ at. true≢false (sym ((Decides-eqb k i).1 at) ∙ e)))
+
+pub one_each_set : (rows : List Holding) (i : ℕ) (y : Holding) → OneEach rows → position (is_row_of y.router y.mapping.eid) rows ≡ Some i → OneEach (slice_set rows i y)
+one_each_set rows i y one at = λ a b d before lt same.
+    (let place = position-Some (is_row_of y.router y.mapping.eid) rows i d at in
+    let alike : row_key (slice_index_or rows i d) ≡ row_key y = (decides (row_key y) (slice_index_or rows i d)).0 place.1 in
+    let keys = λ (k : ℕ). keys_case rows i y d place.0 alike k (k == i) refl in
+    one a b d before (omega (arith, lt, length-set rows i y)) (sym (keys a) ∙ same ∙ keys b))
+
+-- what passes a test is found
+some_inj : (x y : Holding) → ◌≡◌ {A = Option Holding} (Some x) (Some y) → x ≡ y
+some_inj x y e = cc
+
+found_case : (p : Holding → Bool) (x : Holding) (xs : List Holding) (k : ℕ) (d : Holding) → k < length (x ∷ xs) → p (slice_index_or (x ∷ xs) k d) ≡ true → (b : Bool) → p x ≡ b → ((j : ℕ) → j < length xs → p (slice_index_or xs j d) ≡ true → find p xs ≢ None) → cond b (Some x) (find p xs) ≢ None
+found_case p x xs k d lt passes true e later none = absurd (let clash : ◌≡◌ {A = Option Holding} (Some x) None = none in cc)
+found_case p x xs zero d lt passes false e later none = absurd (true≢false (sym passes ∙ e))
+found_case p x xs (suc k) d lt passes false e later none = later k (omega (arith, lt)) passes none
+
+found : (p : Holding → Bool) (rows : List Holding) (k : ℕ) (d : Holding) → k < length rows → p (slice_index_or rows k d) ≡ true → find p rows ≢ None
+found p [] k d lt passes none = absurd (omega (arith, lt))
+found p (x ∷ xs) k d lt passes none = found_case p x xs k d lt passes (p x) refl (λ j. found p xs j d) none
+
+pub one_each_push : (rows : List Holding) (y : Holding) → OneEach rows → position (is_row_of y.router y.mapping.eid) rows ≡ None → OneEach (rows ++ y ∷ [])
+one_each_push rows y one at = all_pairs_push (λ a b. row_key a ≢ row_key b) rows y one (λ k d lt same. found (has (row_key y)) rows k d lt ((decides (row_key y) (slice_index_or rows k d)).1 same) (nowhere (has (row_key y)) rows at))
+
+-- what differs by key does so in any order
+either_way : (rows : List Holding) → OneEach rows → (i j : ℕ) (d : Holding) → i < length rows → j < length rows → row_key (slice_index_or rows i d) ≡ row_key (slice_index_or rows j d) → i ≡ j
+either_way rows one i j d within_i within_j same =
+    let not_below : i < j → ⊥ = λ less. one i j d less within_j same in
+    let not_above : j < i → ⊥ = λ less. one j i d less within_i (sym same) in
+    omega arith
+
+-- where a swap of two places took the element of a third from
+abbrev From : ℕ → ℕ → ℕ → ℕ → Type 0
+From a b place source = ((place ≡ a) × (source ≡ b)) ⊎ (((place ≡ b) × (source ≡ a)) ⊎ ((place ≢ a) × (place ≢ b) × (source ≡ place)))
+
+source_of : {X : Type 0} (f g : ℕ → X) (a b place : ℕ) → Swapped f g a b → (place ≡ a) ⊎ (place ≢ a) → (place ≡ b) ⊎ (place ≢ b) → (source : ℕ) × From a b place source × (g place ≡ f source)
+source_of f g a b place swapped (inl at) other = (b, inl (at, refl), ap g at ∙ swapped.0)
+source_of f g a b place swapped (inr off) (inl at) = (a, inr (inl (at, refl)), ap g at ∙ swapped.1)
+source_of f g a b place swapped (inr off) (inr aside) = (place, inr (inr (off, aside, refl)), swapped.2 place off aside)
+
+one_each_swap : (rows : List Holding) (a b : ℕ) → a < length rows → b < length rows → OneEach rows → OneEach (swap rows a b)
+one_each_swap rows a b within_a within_b one i j d less lt same =
+    let size = length-swap rows a b in
+    let swapped = swapped_from_swap rows (swap rows a b) a b d within_a within_b refl in
+    let x = source_of _ _ a b i swapped (cases_eq i a) (cases_eq i b) in
+    let y = source_of _ _ a b j swapped (cases_eq j a) (cases_eq j b) in
+    let alike = either_way rows one x.0 y.0 d (omega (arith, x.1, size)) (omega (arith, y.1, size)) (ap row_key (sym x.2) ∙ same ∙ ap row_key y.2) in
+    omega (arith, x.1, y.1)
+
+pub one_each_moved : (rows moved : List Holding) → IsPermutation rows moved → OneEach rows → OneEach moved
+one_each_moved rows moved permuted one = IsPermutation-keeps rows OneEach one one_each_swap moved permuted
+
+-- a row that is held is found by its router and prefix, and what is found is held
+pub found_own : (rows : List Holding) (h : Holding) → OneEach rows → Contains rows h → row_at rows h.router h.mapping.eid ≡ Some h
+unfolding row_at
+found_own rows h one (k, lt, at) =
+    let earlier : (j : ℕ) → j < k → has (row_key h) (slice_index_or rows j h) ≡ false = λ j before. not_true (has (row_key h) (slice_index_or rows j h)) (λ t. one j k h before lt ((decides (row_key h) (slice_index_or rows j h)).0 t ∙ ap row_key (sym at))) in
+    let own : has (row_key h) (slice_index_or rows k h) ≡ true = (decides (row_key h) (slice_index_or rows k h)).1 (ap row_key at) in
+    found_at (λ (rows : List Holding). find (has (row_key h)) rows) (has (row_key h)) Some None refl (λ x xs. refl) rows k h lt earlier own ∙ ap Some at
+
+holds_case : (p : Holding → Bool) (x : Holding) (xs : List Holding) (h : Holding) (b : Bool) → p x ≡ b → cond b (Some x) (find p xs) ≡ Some h → (find p xs ≡ Some h → Contains xs h × (p h ≡ true)) → Contains (x ∷ xs) h × (p h ≡ true)
+holds_case p x xs h true t e later = (let same : x ≡ h = some_inj x h e in ((0, omega arith, same), ap p (sym same) ∙ t))
+holds_case p x xs h false t e later = (let rest = later e in ((suc rest.0.0, omega (arith, rest.0.1), rest.0.2), rest.1))
+
+found_holds : (p : Holding → Bool) (rows : List Holding) (h : Holding) → find p rows ≡ Some h → Contains rows h × (p h ≡ true)
+found_holds p [] h e = absurd (let clash : ◌≡◌ {A = Option Holding} None (Some h) = e in cc)
+found_holds p (x ∷ xs) h e = holds_case p x xs h (p x) refl e (found_holds p xs h)
+
+-- a filter holds what passes
+filtered_holds : (p : Holding → Bool) (rows : List Holding) (h : Holding) → Contains (filter p rows) h → Contains rows h × (p h ≡ true)
+filtered_holds p rows h c = (All-contains (Contains rows) (filter p rows) h (All-filter p (Contains rows) rows (All-contains_itself rows)) c, All-contains (λ x. p x ≡ true) (filter p rows) h (filter_passes p rows) c)
+
+not_not : (b : Bool) → not b ≡ true → b ≡ false
+not_not true e = absurd cc
+not_not false e = refl
+
+filter_holds : (p : Holding → Bool) (rows : List Holding) (h : Holding) → Contains rows h → p h ≡ true → Contains (filter p rows) h
+filter_holds p rows h c passes = either (Contains-append_cases (filter p rows) (filter (λ x. not (p x)) rows) h (Contains-permutation rows (filter p rows ++ filter (λ x. not (p x)) rows) h (IsPermutation-filter_both p (λ x. not (p x)) (λ x. refl) rows) c))
+  where
+    either : Contains (filter p rows) h ⊎ Contains (filter (λ x. not (p x)) rows) h → Contains (filter p rows) h
+    either (inl passing) = passing
+    either (inr fails) = absurd (true≢false (sym passes ∙ not_not (p h) (All-contains (λ x. not (p x) ≡ true) (filter (λ x. not (p x)) rows) h (filter_passes (λ x. not (p x)) rows) fails)))
+
+-- the rows that are alive
+abbrev pub alive_of : List Holding → ℕ → List Holding
+alive_of rows now = filter (λ h. is_alive h now) rows
+
+pub one_each_alive : (rows : List Holding) (now : ℕ) → OneEach rows → OneEach (alive_of rows now)
+one_each_alive rows now one = AllPairs-filter (λ a b. row_key a ≢ row_key b) (λ h. is_alive h now) rows one
+
+-- a live row that is found was found before
+of_alive : (rows : List Holding) (now : ℕ) (router : RouterId) (eid : Block) (h : Holding) → OneEach rows → row_at (alive_of rows now) router eid ≡ Some h → (row_at rows router eid ≡ Some h) × (is_alive h now ≡ true)
+unfolding row_at
+of_alive rows now router eid h one e =
+    let at = found_holds (is_row_of router eid) (alive_of rows now) h e in
+    let held = filtered_holds (λ h. is_alive h now) rows h at.0 in
+    let own : row_key h ≡ (router, eid) = (decides (router, eid) h).0 at.1 in
+    (subst (λ (k : RouterId × Block). row_at rows k.0 k.1 ≡ Some h) own (found_own rows h one held.0), held.1)
+
+-- a row that was found and is alive is found again
+stays : (rows : List Holding) (now : ℕ) (router : RouterId) (eid : Block) (h : Holding) → OneEach rows → row_at rows router eid ≡ Some h → is_alive h now ≡ true → row_at (alive_of rows now) router eid ≡ Some h
+unfolding row_at
+stays rows now router eid h one e lives =
+    let at = found_holds (is_row_of router eid) rows h e in
+    let own : row_key h ≡ (router, eid) = (decides (router, eid) h).0 at.1 in
+    subst (λ (k : RouterId × Block). row_at (alive_of rows now) k.0 k.1 ≡ Some h) own (found_own (alive_of rows now) h (one_each_alive rows now one) (filter_holds (λ h. is_alive h now) rows h at.0 lives))
+
+-- of the rows that are alive, those of a router and prefix
+pub expires : (rows : List Holding) (now : ℕ) → OneEach rows → Expires rows (alive_of rows now) now
+expires rows now one router eid = old_case (row_at rows router eid) refl (row_at (alive_of rows now) router eid) refl
+  where
+    living : (h : Holding) (b : Bool) → is_alive h now ≡ b → row_at rows router eid ≡ Some h → (new : Option Holding) → row_at (alive_of rows now) router eid ≡ new → new ≡ cond b (Some h) None
+    living h true lives e new at = sym at ∙ stays rows now router eid h one e lives
+    living h false dead e None at = refl
+    living h false dead e (Some g) at = absurd (let was = of_alive rows now router eid g one at in true≢false (sym was.1 ∙ ap (λ (x : Holding). is_alive x now) (sym (some_inj h g (sym e ∙ was.0))) ∙ dead))
+
+    old_case : (old : Option Holding) → row_at rows router eid ≡ old → (new : Option Holding) → row_at (alive_of rows now) router eid ≡ new → row_at (alive_of rows now) router eid ≡ option_and_then (if_alive now) old
+    old_case None e None at = at
+    old_case None e (Some g) at = absurd (let clash : ◌≡◌ {A = Option Holding} None (Some g) = sym e ∙ (of_alive rows now router eid g one at).0 in cc)
+    old_case (Some h) e new at = at ∙ living h (is_alive h now) refl e new at
+
+-- the order of keys, where the other way round it isn't less, and the keys differ
+less_from : (o : Ordering) → is_lt (ordering_reverse o) ≡ false → o ≢ Equal → o ≡ Less
+less_from Less up differ = refl
+less_from Equal up differ = absurd (differ refl)
+less_from Greater up differ = absurd cc
+
+rises : (held : List Holding) → OneEach held → IsSortedByKey row_key key_cmp held → AllPairs (λ a b. row_cmp a b ≡ Less) held
+rises held one sorted i j d before lt =
+    let later = sorted_far (λ a b. is_lt (key_cmp (row_key a) (row_key b))) (ranks_by key_total row_key) held sorted i j d (omega (arith, before)) lt in
+    let turned = key_total.antisymm (row_key (slice_index_or held j d)) (row_key (slice_index_or held i d)) in
+    less_from (key_cmp (row_key (slice_index_or held i d)) (row_key (slice_index_or held j d))) (ap is_lt (sym turned) ∙ later) (λ tie. one i j d before lt (same_key (row_key (slice_index_or held i d)) (row_key (slice_index_or held j d)) tie))
+
+-- the live rows, sorted by router and prefix
+pub is_held : (rows held : List Holding) (now : ℕ) → OneEach rows → IsPermutation (alive_of rows now) held → IsSortedByKey row_key key_cmp held → IsHeld rows now held
+unfolding row_at
+is_held rows held now one moved sorted = record {
+  rising = rises held (one_each_moved (alive_of rows now) held moved (one_each_alive rows now one)) sorted;
+  each = λ h. (
+    λ c. (let was = filtered_holds (λ x. is_alive x now) rows h (Contains-permutation held (alive_of rows now) h (IsPermutation-sym (alive_of rows now) held moved) c) in (found_own rows h one was.0, (Decides-ltb (now - h.accepted) h.life).0 was.1)),
+    λ is. Contains-permutation (alive_of rows now) held h moved (filter_holds (λ x. is_alive x now) rows h (found_holds (has (row_key h)) rows h is.0).0 ((Decides-ltb (now - h.accepted) h.life).1 is.1)),
+  );
+}

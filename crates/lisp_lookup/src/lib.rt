@@ -1,0 +1,10 @@
+//! The rows that a Map-Server holds, one for each router and EID-Prefix, and who answers for an address
+//! by them (RFC 9301 sections 8.2 and 8.3).
+#![tactic(auto)]
+
+mod answer;
+mod best;
+mod table;
+
+pub use answer::Answer;
+pub use table::Table;

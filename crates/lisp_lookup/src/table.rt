@@ -1,0 +1,160 @@
+//! The rows that a Map-Server holds, as a plain list.
+
+ghost use Rattle.std.specs.Prelude.{◌≡◌, ◌+◌, ◌≤◌, ◌<◌, [], ◌∷◌, List, length, nat_le, slice_get, IfOk, OnOk};
+ghost use Rattle.std.specs.Option.{option_map};
+ghost use Rattle.std.specs.List.{filter, position};
+ghost use Rattle.lisp_records.specs.Row.{is_alive};
+ghost use Rattle.lisp_lookup.specs.Table.{is_row_of, OneEach, Sets, Expires, row_cmp, IsHeld};
+ghost use Rattle.lisp_lookup.specs.Answer.{Answers};
+
+use crate::answer::Answer;
+use crate::best::best;
+use lisp_records::{Addr, Prefix, RouterId, Row};
+use lisp_sites::Sites;
+use std::alloc::{AllocError, Allocator, Global};
+use std::cmp::Ordering;
+use std::marker::Model;
+
+/// Rows, one for each router and prefix, and room for more.
+#[derive(Debug, Drop)]
+pub struct Table<A: Allocator = Global> {
+    items: Vec<Row<A>, A>,
+}
+
+impl<A: Allocator> Model for Table<A> {
+    ghost use Rattle.std.specs.Prelude.{◌-◌, vec_len, vec_capacity};
+    ghost use Rattle.lisp_lookup.specs.Table.{TableState, OneEach};
+
+    ghost Value = { TableState };
+
+    ghost view = { λ r. record { rows = r.items.items; spare = vec_capacity r.items - vec_len r.items } };
+
+    ghost invariant = { λ r. OneEach r.items.items };
+}
+
+impl<A: Allocator + Copy> Table<A> {
+    /// No rows; takes no memory.
+    pub fn new(alloc: A) -> Table<A>
+        ensures { result.rows ≡ [] }
+    {
+        Table {
+            items: Vec::new(alloc),
+        }
+    }
+
+    /// Makes room for these rows.
+    pub fn prepare(&mut self, rows: &[Row<A>]) -> Result<(), AllocError>
+        ensures same { self.new.rows ≡ self.old.rows }
+        ensures room { OnOk result (length rows.now ≤ self.new.spare) }
+    {
+        self.items.reserve(rows.len())
+    }
+
+    /// Whether there is room for these rows. Takes no memory.
+    pub fn ready(&self, rows: &[Row<A>]) -> bool
+        ensures { result ≡ nat_le (length rows.now) self.now.spare }
+    {
+        rows.len() <= self.items.capacity() - self.items.len()
+    }
+
+    /// The row at a place of the list, dead or alive. Takes no memory.
+    pub fn row(&self, place: usize) -> Option<&Row<A>>
+        ensures { option_map (λ row. row.now) result ≡ slice_get self.now.rows place }
+    {
+        self.items.get(place)
+    }
+
+    /// Sets the rows, in their order; takes no memory.
+    pub fn put_all(&mut self, rows: Vec<Row<A>, A>)
+        requires { length rows.items ≤ self.old.spare }
+        ensures { Sets self.old.rows self.new.rows rows.items }
+    {
+        for row in rows {
+            self.put(row);
+        }
+    }
+
+    // Sets a row.
+    #[tactic(auto, using(crate::proofs::TableLaws::sets_set, crate::proofs::TableLaws::sets_push, crate::proofs::TableLaws::one_each_set, crate::proofs::TableLaws::one_each_push))]
+    fn put(&mut self, row: Row<A>)
+        requires { 0 < self.old.spare }
+        ensures row { Sets self.old.rows self.new.rows (row ∷ []) }
+        ensures room { self.old.spare ≤ self.new.spare + 1 }
+    {
+        match place(&self.items, &row) {
+            Some(place) => self.items[place] = row,
+            None => self.items.push_reserved(row),
+        }
+    }
+
+    /// Takes out the rows that are dead at a moment, in ms; takes no memory.
+    pub fn drop_dead(&mut self, now: u64)
+        ensures { Expires self.old.rows self.new.rows now }
+    {
+        self.items.retain(|row| row.alive(now));
+    }
+
+    /// The rows that are alive at a moment, in ms: by router, then by prefix.
+    pub fn rows(&self, now: u64) -> Result<Vec<Row<A>, A>, AllocError>
+        ensures { IfOk result (λ rows. IsHeld self.now.rows now rows.items) }
+    {
+        let mut live = live_rows(*self.items.allocator(), &self.items, now)?;
+        live.sort_unstable_by(|one, other| order(one, other));
+        Ok(live)
+    }
+
+    /// Who answers for an address at a moment, in ms: of the live rows whose prefix has it the one with the
+    /// longest prefix; of several one whose router asked for proxy replies, before one that didn't; then the
+    /// one that was accepted last; then that of the greater router. Takes no memory.
+    pub fn answer<B: Allocator>(&self, sites: &Sites<B>, addr: &Addr, now: u64) -> Answer<'_, A>
+        ensures { Answers self.now.rows sites.now addr.now now result }
+    {
+        match best(&self.items, addr, now) {
+            Some(row) if row.proxy => Answer::Reply(&row.mapping),
+            Some(row) => Answer::Forward(row.from),
+            None if sites.configured(addr) => Answer::NotRegistered,
+            None => Answer::NoSite,
+        }
+    }
+}
+
+// Copies of the rows that are alive, in memory of `alloc`.
+fn live_rows<A: Allocator + Copy>(
+    alloc: A,
+    rows: &[Row<A>],
+    now: u64,
+) -> Result<Vec<Row<A>, A>, AllocError>
+    ensures { IfOk result (λ live. live.items ≡ filter (λ h. is_alive h now) rows.now) }
+{
+    let mut live = Vec::new(alloc);
+    for row in rows {
+        if row.alive(now) {
+            live.push(row.copy(alloc)?)?;
+        }
+    }
+    Ok(live)
+}
+
+// The order of rows: by router, then by prefix.
+fn order<A: Allocator>(one: &Row<A>, other: &Row<A>) -> Ordering
+    ensures { result ≡ row_cmp one.now other.now }
+{
+    one.router
+        .cmp(&other.router)
+        .then(one.mapping.eid().cmp(&other.mapping.eid()))
+}
+
+// The place of the row of the same router and prefix.
+fn place<A: Allocator>(rows: &[Row<A>], row: &Row<A>) -> Option<usize>
+    ensures { result ≡ position (is_row_of row.now.router row.now.mapping.eid) rows.now }
+{
+    let router = row.router;
+    let eid = row.mapping.eid();
+    rows.iter().position(|row| is_row_of(&router, &eid, row))
+}
+
+fn is_row_of<A: Allocator>(router: &RouterId, eid: &Prefix, row: &Row<A>) -> bool
+    ensures { result ≡ is_row_of router.now eid.now row.now }
+{
+    row.router == *router && row.mapping.eid() == *eid
+}
