@@ -15,7 +15,7 @@ fn want_of_memory_gives_back_what_was_told(rt: HostRuntime) -> Result<(), Fail> 
         let heap = LocalHeap::new(rt.alloc(), HEAP_LEN)?;
         let mut store = MemoryStore::new(rt.alloc());
         let (config, database) = (config(&heap)?, database(rt.alloc(), 1440)?.copy(&heap)?);
-        let ballast = fill(&rt, rt.alloc(), &heap, blocks);
+        let ballast = fill(rt.alloc(), &heap, blocks)?;
         let start = Etr::start(&heap, config, database, &mut store, 0);
         drop(ballast);
         match start {
@@ -38,7 +38,7 @@ fn want_of_memory_sends_nothing(rt: HostRuntime) -> Result<(), Fail> {
         let heap = LocalHeap::new(rt.alloc(), HEAP_LEN)?;
         let mut store = MemoryStore::new(rt.alloc());
         let mut router = started(rt.alloc(), &heap, &mut store)?;
-        let ballast = fill(&rt, rt.alloc(), &heap, blocks);
+        let ballast = fill(rt.alloc(), &heap, blocks)?;
         let refusal = router.send(&mut store, 0, 0).err();
         drop(ballast);
         match refusal {
@@ -64,7 +64,7 @@ fn a_store_without_memory_sends_nothing(rt: HostRuntime) -> Result<(), Fail> {
     let mut store = MemoryStore::new(&heap);
     let router_heap = LocalHeap::new(rt.alloc(), HEAP_LEN)?;
     let mut router = started(rt.alloc(), &router_heap, &mut store)?;
-    let ballast = fill(&rt, rt.alloc(), &heap, 0);
+    let ballast = fill(rt.alloc(), &heap, 0)?;
     let refusal = router.send(&mut store, 0, 0).err();
     drop(ballast);
     assert_eq!(rt; refusal, Some(SendFault::Store(StoreFault::OutOfMemory)));
@@ -86,7 +86,7 @@ fn want_of_memory_counts_nothing(rt: HostRuntime) -> Result<(), Fail> {
         let mut router = started(rt.alloc(), &heap, &mut store)?;
         let _sent = router.send(&mut store, 0, 0)?;
         for (bytes, acked) in [(&notice, None), (&counts, Some((1, 1)))] {
-            let ballast = fill(&rt, rt.alloc(), &heap, blocks);
+            let ballast = fill(rt.alloc(), &heap, blocks)?;
             let refusal = router.receive(SERVERS[0], bytes, 0).err();
             drop(ballast);
             match refusal {

@@ -17,7 +17,7 @@ fn want_of_memory_leaves_the_rows(rt: HostRuntime) -> Result<(), Fail> {
         let row = first(rt.alloc(), 7)?.copy(&heap)?;
         let mut rows = Vec::new(&heap);
         rows.push(row)?;
-        let ballast = fill(&rt, rt.alloc(), &heap, blocks);
+        let ballast = fill(rt.alloc(), &heap, blocks)?;
         let refused = table.prepare(&rows).is_err();
         drop(ballast);
         if refused {
@@ -29,7 +29,7 @@ fn want_of_memory_leaves_the_rows(rt: HostRuntime) -> Result<(), Fail> {
             return Err("no room")?;
         }
         table.put_all(rows);
-        let ballast = fill(&rt, rt.alloc(), &heap, blocks);
+        let ballast = fill(rt.alloc(), &heap, blocks)?;
         match table.rows(0) {
             Ok(held) => listed = listed.wrapping_add(u32::from(held.len() == 1)),
             Err(_) => unlisted = unlisted.wrapping_add(1),

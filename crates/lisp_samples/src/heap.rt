@@ -1,8 +1,7 @@
 //! A small heap, of which a test leaves a call so much or so little memory.
 
 use linked_list_allocator::LocalHeap;
-use std::alloc::Global;
-use std::process::Abort;
+use std::alloc::{AllocError, Global};
 
 /// The bytes of the heap.
 pub const HEAP_LEN: usize = 4096;
@@ -14,21 +13,20 @@ pub const MOST_BLOCKS: usize = 128;
 const BLOCK_LEN: usize = 16;
 
 /// Takes all the memory of a heap but so many blocks.
-pub fn fill<'a>(
-    rt: &impl Abort,
+pub fn fill(
     alloc: Global,
-    heap: &'a LocalHeap,
+    heap: &LocalHeap,
     blocks: usize,
-) -> Vec<Vec<u8, &'a LocalHeap>> {
+) -> Result<Vec<Vec<u8, &LocalHeap>>, AllocError> {
     let mut ballast = Vec::new(alloc);
     for _ in 0..HEAP_LEN / BLOCK_LEN {
         let Ok(block) = Vec::with_capacity(heap, BLOCK_LEN) else {
             break;
         };
-        ballast.push(block).expect(rt, "the ballast");
+        ballast.push(block)?;
     }
     for _ in 0..blocks {
         ballast.pop();
     }
-    ballast
+    Ok(ballast)
 }

@@ -50,7 +50,7 @@ fn refusal_in(rt: &impl Abort, alloc: Global, bytes: &[u8], blocks: usize) -> Op
     let heap = LocalHeap::new(alloc, HEAP_LEN).expect(rt, "the heap");
     let mut server = Server::start(&heap, worked_sites(rt, &heap));
     let mut store = MemoryStore::new(&heap);
-    let ballast = fill(rt, alloc, &heap, blocks);
+    let ballast = fill(alloc, &heap, blocks).expect(rt, "the ballast");
     let refusal = refusal_of(&mut server, &mut store, bytes);
     drop(ballast);
     if refusal.is_some() {
@@ -93,7 +93,7 @@ fn answers_in(
     server: &Server<&LocalHeap>,
     blocks: usize,
 ) -> bool {
-    let ballast = fill(rt, alloc, heap, blocks);
+    let ballast = fill(alloc, heap, blocks).expect(rt, "the ballast");
     let held = server.held(0);
     drop(ballast);
     match held {
