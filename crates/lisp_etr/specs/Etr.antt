@@ -14,6 +14,6 @@ pub record EtrState : Type 0 where
   pub safe : ℕ
   pub rounds : List Round
 
--- a router that starts at a moment above a last nonce
+-- a router that starts at a moment, with its last nonce
 abbrev pub etr_started : Settings → List Mapping → ℕ → ℕ → EtrState
 etr_started config database last now = record { config = config; database = database; last = last; safe = 0; rounds = replicate (length config.servers) (started now) }

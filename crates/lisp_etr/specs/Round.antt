@@ -11,7 +11,7 @@ started now = record { due = now; sends = 0; renewal = 0; latest = 0; acked = No
 abbrev pub begun : ℕ → Round → Round
 begun now r = record r { due = now; sends = 0 }
 
--- a Map-Register went out; six sends stand for more too
+-- a Map-Register went out; from six on, sends stays six
 abbrev pub sent : ℕ → ℕ → Round → Round
 sent nonce now r = record r { due = now + gap r.sends; sends = min (r.sends + 1) 6; renewal = now + minute; latest = nonce }
 

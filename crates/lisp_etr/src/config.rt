@@ -16,9 +16,9 @@ pub struct EtrConfig<A: Allocator = Global> {
     pub me: RouterId,
     /// The key of its site that it registers under.
     pub key_id: u8,
-    /// The secret of that key.
+    /// The pre-shared secret of that key.
     pub secret: Bytes<A>,
-    /// The Map-Servers that it registers with.
+    /// The Map-Servers that it registers with; their numbers are their places, from 0 on.
     pub servers: Servers<A>,
     /// P: the Map-Servers are to answer Map-Requests for it.
     pub proxy: bool,

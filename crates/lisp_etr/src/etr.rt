@@ -92,7 +92,7 @@ impl<A: Allocator + Copy> Etr<A> {
         }
     }
 
-    /// What it was told, and what it registers; the rest is gone. Takes no memory.
+    /// Its configuration and its present database; rounds and nonces in memory are gone. Takes no memory.
     pub fn stop(self) -> (EtrConfig<A>, Database<A>)
         ensures config { result.0 ≡ self.config }
         ensures database { result.1 ≡ self.database }
@@ -108,18 +108,20 @@ impl<A: Allocator + Copy> Etr<A> {
         begin_all(&mut self.rounds, now);
     }
 
-    /// The least number of a Map-Server that is due at a moment, in ms. Takes no memory.
+    /// The least number, from 0 on, of a Map-Server that is due at a moment, in ms; `None` where none is. Takes
+    /// no memory.
     pub fn due(&self, now: u64) -> Option<usize>
         ensures { result ≡ position (λ round. nat_le round.due now) self.now.rounds }
     {
         self.rounds.iter().position(|round| round.due <= now)
     }
 
-    /// A Map-Register to a Map-Server, by its number, at a moment, in ms: of the present database, under
-    /// the nonce after the last, which is saved before (RFC 9301 sections 5.6 and 8.2).
+    /// A Map-Register to a Map-Server, by its number, at a moment, in ms, of at most 2^62: of the present
+    /// database, under the nonce after the last, which is saved before (RFC 9301 sections 5.6 and 8.2).
     ///
     /// It refuses in this order: `NoServer`, `NonceSpent` (the last nonce is 2^63 - 1 or more),
-    /// `OutOfMemory`, `Store`. A refusal changes nothing here.
+    /// `OutOfMemory`, `Store`. A refusal changes nothing here; at `Store(Device)` it is open whether the store
+    /// keeps the nonce.
     pub fn send<S: NonceStore>(
         &mut self,
         store: &mut S,
@@ -164,13 +166,15 @@ impl<A: Allocator + Copy> Etr<A> {
         Ok(datagram)
     }
 
-    /// Takes a message that came from an address; it counts from the moment of the send that it
-    /// acknowledges, not from `now` (RFC 9301 section 5.7).
+    /// Takes a message that came from an address at a moment, in ms, which isn't used: a new round counts from
+    /// the send that is acknowledged. It answers `Counted`, or `Notice` with the Map-Notify-Ack to send (RFC
+    /// 9301 sections 5.7 and 8.2).
     ///
     /// It refuses in this order: `Read` (the bytes spell no message), `NotMine` (no Map-Notify, or from
     /// no Map-Server of this router), `WrongKey`, `BadAuth`, `Stale` (the nonce is below 2^63 and isn't
-    /// that of the last Map-Register to that Map-Server). `OutOfMemory` may come in place of any of
-    /// them, in reading or in building the answer to a notice. A refusal changes nothing.
+    /// that of the last Map-Register to that Map-Server). `OutOfMemory` may come in place of any answer but
+    /// a fault of the first 32 bytes, in reading or in building the answer to a notice. A refusal changes
+    /// nothing.
     #[tactic(auto, unfolding(crate::specs::Hearing::seen_in))]
     pub fn receive(&mut self, from: Addr, bytes: &[u8], _now: u64) -> Result<Seen<A>, NotifyFault>
         ensures answer { Gives (λ seen. seen) result (seen_at self.old from bytes.now) }
@@ -221,7 +225,8 @@ impl<A: Allocator + Copy> Etr<A> {
     }
 
     /// The Key ID and the nonce of the last Map-Register to a Map-Server, by its number, that was
-    /// acknowledged since the start. Takes no memory.
+    /// acknowledged since the start; `None` where none was, or where there is no such Map-Server. Takes no
+    /// memory.
     pub fn acked(&self, server: usize) -> Option<(u8, u64)>
         ensures { result ≡ option_and_then (λ round. round.acked) (slice_get self.now.rounds server) }
     {

@@ -15,7 +15,7 @@ use lisp_records::Addr;
 use std::alloc::{AllocError, Allocator};
 
 /// The Map-Notify that bytes from an address spell and the number of the Map-Server there, or the
-/// first check that they fail.
+/// first check that they fail: `Read`, `NotMine`, `WrongKey`, `BadAuth`; `OutOfMemory` in reading.
 #[tactic(auto, unfolding(crate::specs::Hearing::heard))]
 pub(crate) fn hear<A: Allocator + Copy>(
     alloc: A,

@@ -1,6 +1,6 @@
 //! The site router (ETR, RFC 9301 section 8.2): it registers its database with each of its Map-Servers,
-//! under nonces that it saves before it sends them, again and again until it is acknowledged, and then
-//! once a minute.
+//! under nonces that it saves before it sends them, again and again until it is acknowledged, and anew a
+//! minute after the send that was.
 #![tactic(auto)]
 
 mod config;

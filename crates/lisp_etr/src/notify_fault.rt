@@ -8,7 +8,8 @@ use lisp_messages::ReadFault;
 use std::alloc::AllocError;
 use thiserror::Error;
 
-/// The first check that a message fails at a router, in this order (RFC 9301 section 5.7).
+/// The first check that a message fails at a router, in this order (RFC 9301 section 5.7); `OutOfMemory`
+/// may come in place of any from the records on.
 #[derive(Clone, Copy, Debug, PartialEq, Eq, Error)]
 pub enum NotifyFault {
     /// The bytes spell no message.

@@ -17,7 +17,7 @@ pub(crate) struct Round {
     pub(crate) due: u64,
     /// The sends of this round; six stands for more too.
     pub(crate) sends: u8,
-    /// When the next round is due once the last send is acknowledged.
+    /// When the next round is due once the last send is acknowledged; 0 before the first send.
     pub(crate) renewal: u64,
     /// The nonce of the last send; 0 where there was none.
     pub(crate) latest: u64,
@@ -47,7 +47,7 @@ impl Round {
         self.sends = 0;
     }
 
-    /// A Map-Register goes out.
+    /// A Map-Register goes out under a nonce, at a moment, in ms, of at most 2^62.
     pub(crate) fn send(&mut self, nonce: u64, now: u64)
         requires { now ≤ max_moment }
         ensures { self.new ≡ sent nonce now self.old }

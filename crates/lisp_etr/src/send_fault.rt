@@ -14,7 +14,7 @@ pub enum SendFault {
     /// No Map-Server has that number.
     #[error("there is no such Map-Server")]
     NoServer,
-    /// The last nonce is 2^63 - 1: the router needs a new key.
+    /// The last nonce is 2^63 - 1 or more: the router needs a new key.
     #[error("the nonces are spent")]
     NonceSpent,
     /// No memory to build the Map-Register.

@@ -9,7 +9,7 @@ use lisp_store::StoreFault;
 use std::alloc::{Allocator, Global};
 use thiserror::Error;
 
-/// What keeps a router from starting.
+/// What keeps a router from starting; `OutOfMemory` comes first.
 #[derive(Clone, Copy, Debug, PartialEq, Eq, Error)]
 pub enum StartFault {
     /// The store can't tell the last nonce.
@@ -35,7 +35,10 @@ impl StartFault {
 /// A router that didn't start: why, and what it was given.
 #[derive(Debug, Drop)]
 pub struct StartRefused<A: Allocator = Global> {
+    /// Why it didn't start.
     pub fault: StartFault,
+    /// The configuration that was given.
     pub config: EtrConfig<A>,
+    /// The database that was given.
     pub database: Database<A>,
 }

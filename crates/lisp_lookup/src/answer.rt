@@ -8,10 +8,11 @@ use std::alloc::{Allocator, Global};
 pub enum Answer<'a, A: Allocator = Global> {
     /// A negative Map-Reply, Natively-Forward, for 15 minutes: no site has the address.
     NoSite,
-    /// A negative Map-Reply, Natively-Forward, for 1 minute: no router has registered it.
+    /// A negative Map-Reply, Natively-Forward, for 1 minute: a site has the address, but no live row does.
     NotRegistered,
     /// The Map-Server replies with this record.
     Reply(&'a MapRecord<A>),
-    /// The Map-Request is forwarded to the router that registered last, which replies itself.
+    /// The Map-Request is forwarded to this address, the source of the best row's Map-Register: its router
+    /// replies itself.
     Forward(Addr),
 }

@@ -8,7 +8,8 @@ use lisp_records::{Addr, Row};
 use std::alloc::Allocator;
 use std::cmp::Ordering;
 
-/// Of the rows that are alive at a moment, in ms, and whose prefix has the address, the one that answers.
+/// Of the rows that are alive at a moment, in ms, and whose prefix has the address, the one that answers;
+/// `None` where none does.
 pub(crate) fn best<'a, A: Allocator>(
     rows: &'a [Row<A>],
     addr: &Addr,

@@ -42,7 +42,7 @@ impl<A: Allocator + Copy> Table<A> {
         }
     }
 
-    /// Makes room for these rows.
+    /// Makes room for these rows; no row changes, also where memory is refused.
     pub fn prepare(&mut self, rows: &[Row<A>]) -> Result<(), AllocError>
         ensures same { self.new.rows ≡ self.old.rows }
         ensures room { OnOk result (length rows.now ≤ self.new.spare) }
@@ -64,7 +64,8 @@ impl<A: Allocator + Copy> Table<A> {
         self.items.get(place)
     }
 
-    /// Sets the rows, in their order; takes no memory.
+    /// Sets the rows, for which there is room (`prepare`), in their order: of several for one router and
+    /// prefix the last stays. Takes no memory.
     pub fn put_all(&mut self, rows: Vec<Row<A>, A>)
         requires { length rows.items ≤ self.old.spare }
         ensures { Sets self.old.rows self.new.rows rows.items }
@@ -94,7 +95,7 @@ impl<A: Allocator + Copy> Table<A> {
         self.items.retain(|row| row.alive(now));
     }
 
-    /// The rows that are alive at a moment, in ms: by router, then by prefix.
+    /// Copies of the rows that are alive at a moment, in ms: by router, then by prefix.
     pub fn rows(&self, now: u64) -> Result<Vec<Row<A>, A>, AllocError>
         ensures { IfOk result (λ rows. IsHeld self.now.rows now rows.items) }
     {
@@ -105,7 +106,7 @@ impl<A: Allocator + Copy> Table<A> {
 
     /// Who answers for an address at a moment, in ms: of the live rows whose prefix has it the one with the
     /// longest prefix; of several one whose router asked for proxy replies, before one that didn't; then the
-    /// one that was accepted last; then that of the greater router. Takes no memory.
+    /// one that was accepted last; then that of the greater router, by Site-ID, then xTR-ID. Takes no memory.
     pub fn answer<B: Allocator>(&self, sites: &Sites<B>, addr: &Addr, now: u64) -> Answer<'_, A>
         ensures { Answers self.now.rows sites.now addr.now now result }
     {

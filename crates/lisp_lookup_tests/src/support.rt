@@ -51,7 +51,7 @@ fn row(alloc: Global, xtr_end: u8, octets: [u8; 4], mask_len: u8, ttl: u32) -> R
     })
 }
 
-/// Sets a row, which is one that there is room for then.
+/// Makes room for a row, and sets it.
 pub(crate) fn put(alloc: Global, table: &mut Table, row: Row) -> Result<(), Fail> {
     let rows = vec![in alloc; row]?;
     table.prepare(&rows)?;

@@ -45,7 +45,7 @@ pub enum Refused {
     /// No memory to read the message, to hold its records or to build the Map-Notify.
     #[error("out of memory")]
     OutOfMemory,
-    /// The nonce can't be saved: it is open whether it was.
+    /// The nonce can't be saved: at `Device` it is open whether it was.
     #[error("the nonce can't be saved: {0}")]
     StoreSave(StoreFault),
     /// A Map-Notify-Ack for which no notice stands.

@@ -124,8 +124,8 @@ impl<A: Allocator + Copy> Server<A> {
 
     /// Who answers for an address at a moment, in ms, by the rows that are held: of those whose prefix has
     /// the address the one with the longest prefix; of several one whose router asked for proxy replies,
-    /// before one that didn't; then the one that was accepted last; then that of the greater router (RFC
-    /// 9301 section 8.3). Takes no memory.
+    /// before one that didn't; then the one that was accepted last; then that of the greater router, by
+    /// Site-ID, then xTR-ID (RFC 9301 section 8.3). Takes no memory.
     pub fn answer(&self, addr: &Addr, now: u64) -> Answer<'_, A>
         ensures { Answers self.now.rows self.now.sites addr.now now result }
     {
