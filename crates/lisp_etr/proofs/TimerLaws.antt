@@ -4,7 +4,8 @@ use Rattle.std.proofs.Math.Nat.{min-eq_left, min-eq_right, le-min, pow-suc}
 use Rattle.std.proofs.Math.Pow.{pow_mono, suc_ones}
 use Rattle.std.proofs.lemmas.Bool.{cases_lt, ne_eqb}
 use Rattle.lisp_etr.specs.declared.round.Round.{Round}
-use Rattle.lisp_etr.specs.Timers.{second, minute, gap, due_after, IsPrompt, IsAfter, PromptSends}
+use Rattle.lisp_records.specs.Moment.{second, minute}
+use Rattle.lisp_etr.specs.Timers.{gap, due_after, IsPrompt, IsAfter, PromptSends}
 use Rattle.lisp_etr.specs.Round.{counted, Keeps, KeepsTime}
 
 -- from the seventh send on a minute

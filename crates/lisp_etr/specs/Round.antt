@@ -1,7 +1,8 @@
 -- How a router stands with one of its Map-Servers, and what changes that (RFC 9301 section 8.2).
 use Rattle.std.specs.Prelude.{◌≡◌, ℕ, ◌+◌, ◌==◌, min, List, [], ◌∷◌, length, Some, None, if◌then◌else◌}
 use Rattle.lisp_etr.specs.declared.round.Round.{Round}
-use Rattle.lisp_etr.specs.Timers.{minute, gap, due_after}
+use Rattle.lisp_records.specs.Moment.{minute}
+use Rattle.lisp_etr.specs.Timers.{gap, due_after}
 
 -- the router starts
 abbrev pub started : ℕ → Round

@@ -1,15 +1,6 @@
 -- Timers: when a router's Map-Registers to one Map-Server are due, in ms (RFC 9301 section 8.2).
 use Rattle.std.specs.Prelude.{◌≡◌, ℕ, ◌+◌, ◌*◌, ◌-◌, ◌^◌, ◌≤◌, min, List, [], ◌∷◌, length}
-
--- the largest moment
-abbrev pub max_moment : ℕ
-max_moment = 2 ^ 62
-
-abbrev pub second : ℕ
-second = 1000
-
-abbrev pub minute : ℕ
-minute = 60 * second
+use Rattle.lisp_records.specs.Moment.{second, minute}
 
 -- after a send that follows k others of its round: the gap doubles from a second up to a minute
 abbrev pub gap : ℕ → ℕ

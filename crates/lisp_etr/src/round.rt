@@ -1,7 +1,8 @@
 //! A router's rounds of Map-Registers to one of its Map-Servers (RFC 9301 section 8.2).
 
 ghost use Rattle.std.specs.Prelude.{◌≡◌, ◌≤◌, ℕ, map};
-ghost use Rattle.lisp_etr.specs.Timers.{gap, max_moment};
+ghost use Rattle.lisp_records.specs.Moment.{max_moment};
+ghost use Rattle.lisp_etr.specs.Timers.{gap};
 ghost use Rattle.lisp_etr.specs.Round.{started, begun, sent, counted};
 
 /// A minute, in ms.

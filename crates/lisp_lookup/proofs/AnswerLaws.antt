@@ -43,7 +43,7 @@ module _ {K : Type 0} {R : K → K → Ordering} (total : IsTotalOrder R) where
   turned : (x y : K) → is_lt (R y x) ≡ false → R x y ≢ Greater
   turned x y = turned_case x y (R y x) refl
 
-less : (o : Ordering) → is_lt o ≡ true → o ≡ Less
+pub less : (o : Ordering) → is_lt o ≡ true → o ≡ Less
 less Less is = refl
 less Equal is = absurd cc
 less Greater is = absurd cc

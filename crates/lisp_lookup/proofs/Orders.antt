@@ -35,10 +35,10 @@ same_addr (V4 a) (V6 b) tie = absurd cc
 same_addr (V6 a) (V4 b) tie = absurd cc
 same_addr (V6 a) (V6 b) tie = ap V6 (exact_bytes a b tie)
 
-block_total : IsTotalOrder block_cmp
+pub block_total : IsTotalOrder block_cmp
 block_total = then_total (on_total (λ (b : Block). b.addr) addr_total) (on_total (λ (b : Block). b.mask_len) nat_cmp_total)
 
-same_block : (a b : Block) → block_cmp a b ≡ Equal → a ≡ b
+pub same_block : (a b : Block) → block_cmp a b ≡ Equal → a ≡ b
 same_block a b tie =
     let parts = exact_pairs addr_cmp nat_cmp same_addr exact_unsigned (a.addr, a.mask_len) (b.addr, b.mask_len) tie in
     λ i. record { addr = (parts i).0; mask_len = (parts i).1 }

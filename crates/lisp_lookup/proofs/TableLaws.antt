@@ -29,20 +29,20 @@ use Rattle.lisp_lookup.proofs.Orders.{key_cmp, key_total, same_key}
 abbrev has : RouterId × Block → Holding → Bool
 has k h = is_row_of k.0 k.1 h
 
-decides : (k : RouterId × Block) (h : Holding) → Decides (has k h) (row_key h ≡ k)
-decides k h =
+pub has_key : (k : RouterId × Block) (h : Holding) → Decides (has k h) (row_key h ≡ k)
+has_key k h =
     let both = Decides-and _ _ (router_eq-Decides h.router k.0) (block_eq-Decides h.mapping.eid k.1) in
     (λ t. (let e = both.0 t in λ i. (e.0 i, e.1 i)), λ e. both.1 (ap (λ (x : RouterId × Block). x.0) e, ap (λ (x : RouterId × Block). x.1) e))
 
 -- the row of a router and prefix was set over another
 pub sets_set : (rows : List Holding) (i : ℕ) (y : Holding) → position (is_row_of y.router y.mapping.eid) rows ≡ Some i → Sets rows (slice_set rows i y) (y ∷ [])
 unfolding row_at
-sets_set rows i y at = λ router eid. put_set row_key has decides rows i y at (router, eid)
+sets_set rows i y at = λ router eid. put_set row_key has has_key rows i y at (router, eid)
 
 -- a row was added for a router and prefix that had none
 pub sets_push : (rows : List Holding) (y : Holding) → position (is_row_of y.router y.mapping.eid) rows ≡ None → Sets rows (rows ++ y ∷ []) (y ∷ [])
 unfolding row_at
-sets_push rows y at = λ router eid. put_push row_key has decides rows y at (router, eid)
+sets_push rows y at = λ router eid. put_push row_key has has_key rows y at (router, eid)
 
 -- nothing was set
 pub sets_none : (rows : List Holding) → Sets rows rows []
@@ -70,12 +70,12 @@ keys_case rows i y d lt same k false e = ap row_key (get_or-set_other rows i k y
 pub one_each_set : (rows : List Holding) (i : ℕ) (y : Holding) → OneEach rows → position (is_row_of y.router y.mapping.eid) rows ≡ Some i → OneEach (slice_set rows i y)
 one_each_set rows i y one at = λ a b d before lt same.
     (let place = position-Some (is_row_of y.router y.mapping.eid) rows i d at in
-    let alike : row_key (slice_index_or rows i d) ≡ row_key y = (decides (row_key y) (slice_index_or rows i d)).0 place.1 in
+    let alike : row_key (slice_index_or rows i d) ≡ row_key y = (has_key (row_key y) (slice_index_or rows i d)).0 place.1 in
     let keys = λ (k : ℕ). keys_case rows i y d place.0 alike k (k == i) refl in
     one a b d before (omega (arith, lt, length-set rows i y)) (sym (keys a) ∙ same ∙ keys b))
 
 -- what passes a test is found
-some_inj : (x y : Holding) → ◌≡◌ {A = Option Holding} (Some x) (Some y) → x ≡ y
+pub some_inj : {X : Type 0} (x y : X) → ◌≡◌ {A = Option X} (Some x) (Some y) → x ≡ y
 some_inj x y e = cc
 
 found_case : (p : Holding → Bool) (x : Holding) (xs : List Holding) (k : ℕ) (d : Holding) → k < length (x ∷ xs) → p (slice_index_or (x ∷ xs) k d) ≡ true → (b : Bool) → p x ≡ b → ((j : ℕ) → j < length xs → p (slice_index_or xs j d) ≡ true → find p xs ≢ None) → cond b (Some x) (find p xs) ≢ None
@@ -83,19 +83,12 @@ found_case p x xs k d lt passes true e later none = absurd (let clash : ◌≡�
 found_case p x xs zero d lt passes false e later none = absurd (true≢false (sym passes ∙ e))
 found_case p x xs (suc k) d lt passes false e later none = later k (omega (arith, lt)) passes none
 
-found : (p : Holding → Bool) (rows : List Holding) (k : ℕ) (d : Holding) → k < length rows → p (slice_index_or rows k d) ≡ true → find p rows ≢ None
+pub found : (p : Holding → Bool) (rows : List Holding) (k : ℕ) (d : Holding) → k < length rows → p (slice_index_or rows k d) ≡ true → find p rows ≢ None
 found p [] k d lt passes none = absurd (omega (arith, lt))
 found p (x ∷ xs) k d lt passes none = found_case p x xs k d lt passes (p x) refl (λ j. found p xs j d) none
 
 pub one_each_push : (rows : List Holding) (y : Holding) → OneEach rows → position (is_row_of y.router y.mapping.eid) rows ≡ None → OneEach (rows ++ y ∷ [])
-one_each_push rows y one at = all_pairs_push (λ a b. row_key a ≢ row_key b) rows y one (λ k d lt same. found (has (row_key y)) rows k d lt ((decides (row_key y) (slice_index_or rows k d)).1 same) (nowhere (has (row_key y)) rows at))
-
--- what differs by key does so in any order
-either_way : (rows : List Holding) → OneEach rows → (i j : ℕ) (d : Holding) → i < length rows → j < length rows → row_key (slice_index_or rows i d) ≡ row_key (slice_index_or rows j d) → i ≡ j
-either_way rows one i j d within_i within_j same =
-    let not_below : i < j → ⊥ = λ less. one i j d less within_j same in
-    let not_above : j < i → ⊥ = λ less. one j i d less within_i (sym same) in
-    omega arith
+one_each_push rows y one at = all_pairs_push (λ a b. row_key a ≢ row_key b) rows y one (λ k d lt same. found (has (row_key y)) rows k d lt ((has_key (row_key y) (slice_index_or rows k d)).1 same) (nowhere (has (row_key y)) rows at))
 
 -- where a swap of two places took the element of a third from
 abbrev From : ℕ → ℕ → ℕ → ℕ → Type 0
@@ -106,36 +99,47 @@ source_of f g a b place swapped (inl at) other = (b, inl (at, refl), ap g at ∙
 source_of f g a b place swapped (inr off) (inl at) = (a, inr (inl (at, refl)), ap g at ∙ swapped.1)
 source_of f g a b place swapped (inr off) (inr aside) = (place, inr (inr (off, aside, refl)), swapped.2 place off aside)
 
-one_each_swap : (rows : List Holding) (a b : ℕ) → a < length rows → b < length rows → OneEach rows → OneEach (swap rows a b)
-one_each_swap rows a b within_a within_b one i j d less lt same =
-    let size = length-swap rows a b in
-    let swapped = swapped_from_swap rows (swap rows a b) a b d within_a within_b refl in
-    let x = source_of _ _ a b i swapped (cases_eq i a) (cases_eq i b) in
-    let y = source_of _ _ a b j swapped (cases_eq j a) (cases_eq j b) in
-    let alike = either_way rows one x.0 y.0 d (omega (arith, x.1, size)) (omega (arith, y.1, size)) (ap row_key (sym x.2) ∙ same ∙ ap row_key y.2) in
-    omega (arith, x.1, y.1)
+-- what differs by key does so in any order
+module _ {X K : Type 0} (key : X → K) where
+  abbrev Differ : List X → Type 0
+  Differ xs = AllPairs (λ a b. key a ≢ key b) xs
 
-pub one_each_moved : (rows moved : List Holding) → IsPermutation rows moved → OneEach rows → OneEach moved
-one_each_moved rows moved permuted one = IsPermutation-keeps rows OneEach one one_each_swap moved permuted
+  either_way : (xs : List X) → Differ xs → (i j : ℕ) (d : X) → i < length xs → j < length xs → key (slice_index_or xs i d) ≡ key (slice_index_or xs j d) → i ≡ j
+  either_way xs one i j d within_i within_j same =
+      let not_below : i < j → ⊥ = λ less. one i j d less within_j same in
+      let not_above : j < i → ⊥ = λ less. one j i d less within_i (sym same) in
+      omega arith
+
+  differ_swap : (xs : List X) (a b : ℕ) → a < length xs → b < length xs → Differ xs → Differ (swap xs a b)
+  differ_swap xs a b within_a within_b one i j d less lt same =
+      let size = length-swap xs a b in
+      let swapped = swapped_from_swap xs (swap xs a b) a b d within_a within_b refl in
+      let x = source_of _ _ a b i swapped (cases_eq i a) (cases_eq i b) in
+      let y = source_of _ _ a b j swapped (cases_eq j a) (cases_eq j b) in
+      let alike = either_way xs one x.0 y.0 d (omega (arith, x.1, size)) (omega (arith, y.1, size)) (ap key (sym x.2) ∙ same ∙ ap key y.2) in
+      omega (arith, x.1, y.1)
+
+  pub differ_moved : (xs moved : List X) → IsPermutation xs moved → Differ xs → Differ moved
+  differ_moved xs moved permuted one = IsPermutation-keeps xs Differ one differ_swap moved permuted
 
 -- a row that is held is found by its router and prefix, and what is found is held
 pub found_own : (rows : List Holding) (h : Holding) → OneEach rows → Contains rows h → row_at rows h.router h.mapping.eid ≡ Some h
 unfolding row_at
 found_own rows h one (k, lt, at) =
-    let earlier : (j : ℕ) → j < k → has (row_key h) (slice_index_or rows j h) ≡ false = λ j before. not_true (has (row_key h) (slice_index_or rows j h)) (λ t. one j k h before lt ((decides (row_key h) (slice_index_or rows j h)).0 t ∙ ap row_key (sym at))) in
-    let own : has (row_key h) (slice_index_or rows k h) ≡ true = (decides (row_key h) (slice_index_or rows k h)).1 (ap row_key at) in
+    let earlier : (j : ℕ) → j < k → has (row_key h) (slice_index_or rows j h) ≡ false = λ j before. not_true (has (row_key h) (slice_index_or rows j h)) (λ t. one j k h before lt ((has_key (row_key h) (slice_index_or rows j h)).0 t ∙ ap row_key (sym at))) in
+    let own : has (row_key h) (slice_index_or rows k h) ≡ true = (has_key (row_key h) (slice_index_or rows k h)).1 (ap row_key at) in
     found_at (λ (rows : List Holding). find (has (row_key h)) rows) (has (row_key h)) Some None refl (λ x xs. refl) rows k h lt earlier own ∙ ap Some at
 
-holds_case : (p : Holding → Bool) (x : Holding) (xs : List Holding) (h : Holding) (b : Bool) → p x ≡ b → cond b (Some x) (find p xs) ≡ Some h → (find p xs ≡ Some h → Contains xs h × (p h ≡ true)) → Contains (x ∷ xs) h × (p h ≡ true)
+holds_case : {X : Type 0} (p : X → Bool) (x : X) (xs : List X) (h : X) (b : Bool) → p x ≡ b → cond b (Some x) (find p xs) ≡ Some h → (find p xs ≡ Some h → Contains xs h × (p h ≡ true)) → Contains (x ∷ xs) h × (p h ≡ true)
 holds_case p x xs h true t e later = (let same : x ≡ h = some_inj x h e in ((0, omega arith, same), ap p (sym same) ∙ t))
 holds_case p x xs h false t e later = (let rest = later e in ((suc rest.0.0, omega (arith, rest.0.1), rest.0.2), rest.1))
 
-found_holds : (p : Holding → Bool) (rows : List Holding) (h : Holding) → find p rows ≡ Some h → Contains rows h × (p h ≡ true)
-found_holds p [] h e = absurd (let clash : ◌≡◌ {A = Option Holding} None (Some h) = e in cc)
+pub found_holds : {X : Type 0} (p : X → Bool) (rows : List X) (h : X) → find p rows ≡ Some h → Contains rows h × (p h ≡ true)
+found_holds {X = X} p [] h e = absurd (let clash : ◌≡◌ {A = Option X} None (Some h) = e in cc)
 found_holds p (x ∷ xs) h e = holds_case p x xs h (p x) refl e (found_holds p xs h)
 
 -- a filter holds what passes
-filtered_holds : (p : Holding → Bool) (rows : List Holding) (h : Holding) → Contains (filter p rows) h → Contains rows h × (p h ≡ true)
+pub filtered_holds : (p : Holding → Bool) (rows : List Holding) (h : Holding) → Contains (filter p rows) h → Contains rows h × (p h ≡ true)
 filtered_holds p rows h c = (All-contains (Contains rows) (filter p rows) h (All-filter p (Contains rows) rows (All-contains_itself rows)) c, All-contains (λ x. p x ≡ true) (filter p rows) h (filter_passes p rows) c)
 
 not_not : (b : Bool) → not b ≡ true → b ≡ false
@@ -162,7 +166,7 @@ unfolding row_at
 of_alive rows now router eid h one e =
     let at = found_holds (is_row_of router eid) (alive_of rows now) h e in
     let held = filtered_holds (λ h. is_alive h now) rows h at.0 in
-    let own : row_key h ≡ (router, eid) = (decides (router, eid) h).0 at.1 in
+    let own : row_key h ≡ (router, eid) = (has_key (router, eid) h).0 at.1 in
     (subst (λ (k : RouterId × Block). row_at rows k.0 k.1 ≡ Some h) own (found_own rows h one held.0), held.1)
 
 -- a row that was found and is alive is found again
@@ -170,7 +174,7 @@ stays : (rows : List Holding) (now : ℕ) (router : RouterId) (eid : Block) (h :
 unfolding row_at
 stays rows now router eid h one e lives =
     let at = found_holds (is_row_of router eid) rows h e in
-    let own : row_key h ≡ (router, eid) = (decides (router, eid) h).0 at.1 in
+    let own : row_key h ≡ (router, eid) = (has_key (router, eid) h).0 at.1 in
     subst (λ (k : RouterId × Block). row_at (alive_of rows now) k.0 k.1 ≡ Some h) own (found_own (alive_of rows now) h (one_each_alive rows now one) (filter_holds (λ h. is_alive h now) rows h at.0 lives))
 
 -- of the rows that are alive, those of a router and prefix
@@ -188,7 +192,7 @@ expires rows now one router eid = old_case (row_at rows router eid) refl (row_at
     old_case (Some h) e new at = at ∙ living h (is_alive h now) refl e new at
 
 -- the order of keys, where the other way round it isn't less, and the keys differ
-less_from : (o : Ordering) → is_lt (ordering_reverse o) ≡ false → o ≢ Equal → o ≡ Less
+pub less_from : (o : Ordering) → is_lt (ordering_reverse o) ≡ false → o ≢ Equal → o ≡ Less
 less_from Less up differ = refl
 less_from Equal up differ = absurd (differ refl)
 less_from Greater up differ = absurd cc
@@ -203,7 +207,7 @@ rises held one sorted i j d before lt =
 pub is_held : (rows held : List Holding) (now : ℕ) → OneEach rows → IsPermutation (alive_of rows now) held → IsSortedByKey row_key key_cmp held → IsHeld rows now held
 unfolding row_at
 is_held rows held now one moved sorted = record {
-  rising = rises held (one_each_moved (alive_of rows now) held moved (one_each_alive rows now one)) sorted;
+  rising = rises held (differ_moved row_key (alive_of rows now) held moved (one_each_alive rows now one)) sorted;
   each = λ h. (
     λ c. (let was = filtered_holds (λ x. is_alive x now) rows h (Contains-permutation held (alive_of rows now) h (IsPermutation-sym (alive_of rows now) held moved) c) in (found_own rows h one was.0, (Decides-ltb (now - h.accepted) h.life).0 was.1)),
     λ is. Contains-permutation (alive_of rows now) held h moved (filter_holds (λ x. is_alive x now) rows h (found_holds (has (row_key h)) rows h is.0).0 ((Decides-ltb (now - h.accepted) h.life).1 is.1)),

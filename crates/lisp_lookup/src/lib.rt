@@ -4,6 +4,7 @@
 
 mod answer;
 mod best;
+mod live;
 mod table;
 
 pub use answer::Answer;

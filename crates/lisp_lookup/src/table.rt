@@ -1,15 +1,19 @@
 //! The rows that a Map-Server holds, as a plain list.
 
-ghost use Rattle.std.specs.Prelude.{◌≡◌, ◌+◌, ◌≤◌, ◌<◌, [], ◌∷◌, List, length, nat_le, slice_get, IfOk, OnOk};
+ghost use Rattle.std.specs.Prelude.{◌≡◌, ◌+◌, ◌≤◌, ◌<◌, [], ◌∷◌, List, length, nat_le, slice_get, Ok, Err, IfOk, IfErr, OnOk};
 ghost use Rattle.std.specs.Option.{option_map};
 ghost use Rattle.std.specs.List.{filter, position};
+ghost use Rattle.lisp_records.specs.Address.{block_cmp};
 ghost use Rattle.lisp_records.specs.Row.{is_alive};
 ghost use Rattle.lisp_lookup.specs.Table.{is_row_of, OneEach, Sets, Expires, row_cmp, IsHeld};
 ghost use Rattle.lisp_lookup.specs.Answer.{Answers};
+ghost use Rattle.lisp_lookup.specs.Records.{live_of, ByPrefix};
+ghost use Rattle.lisp_records.specs.Database.{database_of};
 
 use crate::answer::Answer;
 use crate::best::best;
-use lisp_records::{Addr, Prefix, RouterId, Row};
+use crate::live::{copy_live, count_live};
+use lisp_records::{Addr, DatabaseFault, MapRecord, Prefix, RouterId, Row};
 use lisp_sites::Sites;
 use std::alloc::{AllocError, Allocator, Global};
 use std::cmp::Ordering;
@@ -104,11 +108,35 @@ impl<A: Allocator + Copy> Table<A> {
         Ok(live)
     }
 
+    /// How many records of a router are alive at a moment, in ms; `TooLarge` where they are too many, or too
+    /// long, for a Database. Takes no memory.
+    pub fn count_live(&self, router: &RouterId, now: u64) -> Result<usize, DatabaseFault>
+        ensures fits { IfOk result (λ count. database_of (live_of self.now.rows router.now now) ≡ Ok (live_of self.now.rows router.now now)) }
+        ensures count { IfOk result (λ count. count ≡ length (live_of self.now.rows router.now now)) }
+        ensures refused { IfErr result (λ fault. database_of (live_of self.now.rows router.now now) ≡ Err fault) }
+    {
+        count_live(&self.items, router, now)
+    }
+
+    /// Copies of the records of a router that are alive at a moment, in ms, by prefix.
+    pub fn live_records(
+        &self,
+        router: &RouterId,
+        now: u64,
+    ) -> Result<Vec<MapRecord<A>, A>, AllocError>
+        ensures { IfOk result (λ records. ByPrefix (live_of self.now.rows router.now now) records.items) }
+    {
+        let mut records = copy_live(*self.items.allocator(), &self.items, router, now)?;
+        records.sort_unstable_by(|one, other| eid_order(one, other));
+        Ok(records)
+    }
+
     /// Who answers for an address at a moment, in ms: of the live rows whose prefix has it the one with the
     /// longest prefix; of several one whose router asked for proxy replies, before one that didn't; then the
     /// one that was accepted last; then that of the greater router, by Site-ID, then xTR-ID. Takes no memory.
     pub fn answer<B: Allocator>(&self, sites: &Sites<B>, addr: &Addr, now: u64) -> Answer<'_, A>
-        ensures { Answers self.now.rows sites.now addr.now now result }
+        ensures answers { Answers self.now.rows sites.now addr.now now result }
+        ensures one_each { OneEach self.now.rows }
     {
         match best(&self.items, addr, now) {
             Some(row) if row.proxy => Answer::Reply(&row.mapping),
@@ -143,6 +171,13 @@ fn order<A: Allocator>(one: &Row<A>, other: &Row<A>) -> Ordering
     one.router
         .cmp(&other.router)
         .then(one.mapping.eid().cmp(&other.mapping.eid()))
+}
+
+// The order of records: by prefix.
+fn eid_order<A: Allocator>(one: &MapRecord<A>, other: &MapRecord<A>) -> Ordering
+    ensures { result ≡ block_cmp one.now.eid other.now.eid }
+{
+    one.eid().cmp(&other.eid())
 }
 
 // The place of the row of the same router and prefix.

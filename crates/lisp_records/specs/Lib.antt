@@ -1,4 +1,5 @@
 pub mod Fault
+pub mod Moment
 pub mod Address
 pub mod Record
 pub mod Spelling

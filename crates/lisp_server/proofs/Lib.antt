@@ -1,3 +1,6 @@
 pub mod NonceLaws
 pub mod ContactLaws
+pub mod NoticeLaws
+pub mod KnownLaws
+pub mod AnnouncingLaws
 pub mod ReceivingLaws

@@ -2,8 +2,8 @@
 use Rattle.std.proofs.Common.{◌≡◌, ◌≤◌, ℕ, Bool, true, false, List, [], ◌∷◌, Option, Some, None, Result, Ok, Err, ok_or, IsTrue, not, refl, sym, ap, ◌∙◌, subst, inl, inr, arith}
 use Rattle.lisp_records.specs.declared.address.Addr.{Addr}
 use Rattle.lisp_records.specs.Row.{Holding}
-use Rattle.lisp_messages.specs.Message.{Registration, Registers, Notification, Notifies}
-use Rattle.lisp_messages.specs.Reading.{message_at, Fails}
+use Rattle.lisp_messages.specs.Message.{Registration, Registers, Notification, Notifies, Said}
+use Rattle.lisp_messages.specs.Reading.{Fails}
 use Rattle.lisp_messages.specs.declared.fault.ReadFault.{ReadFault}
 use Rattle.lisp_messages.specs.declared.fault.ReadFault.TheVariants as reads
 use Rattle.lisp_messages.specs.Authentic.{is_authentic}
@@ -16,15 +16,17 @@ use Rattle.lisp_server.specs.declared.refused.Refused.{Refused}
 use Rattle.lisp_server.specs.declared.refused.Refused.TheVariants as refusals
 use Rattle.lisp_server.specs.declared.contacts.Contact.{Contact}
 use Rattle.lisp_server.specs.declared.tables.Tables.{Tables}
-use Rattle.lisp_server.specs.declared.took.Took.TheVariants.{Accepted}
-use Rattle.lisp_server.specs.Refused.{refused_of_notify, refused_of_read}
+use Rattle.lisp_server.specs.declared.took.Took.{Took}
+use Rattle.lisp_server.specs.declared.took.Took.TheVariants.{Accepted, NoticeDone}
+use Rattle.lisp_server.specs.Refused.{refused_of_read}
 use Rattle.lisp_server.specs.Registration.{router_of, pair_of, holdings}
 use Rattle.lisp_lookup.specs.Table.{Sets}
 use Rattle.lisp_server.specs.Nonces.{Nonces, nonce_at, SetsNonce}
 use Rattle.lisp_server.specs.Contacts.{SetsContact}
+use Rattle.lisp_server.specs.Notices.{Standing, without}
 use Rattle.lisp_server.specs.Server.{ServerState, SameTables, state_of}
-use Rattle.lisp_server.specs.Checks.{Passed, secret_under, register_checked, checked, read_checked, reply_of, ◌>>=◌, check, refused_at, first_not_allowed}
-use Rattle.lisp_server.specs.Receiving.{IsFresh, KeepsLists, Unasked, HasCause, Stops, NotKept, Accepts, OutOfRoom, RefusesRead, Refuses, SaveFailed}
+use Rattle.lisp_server.specs.Checks.{Passed, secret_under, register_checked, notice_ended, reply_of, ◌>>=◌, check, refused_at, first_not_allowed}
+use Rattle.lisp_server.specs.Receiving.{IsFresh, KeepsLists, Unasked, HasCause, Stops, NotKept, Accepts, Takes, OutOfRoom, RefusesRegister, RefusesRead, Refuses, SaveFailed}
 
 abbrev register_passed : Registration → List ℕ → Result Passed Refused
 register_passed m secret = Ok (record { message = m; secret = secret })
@@ -54,6 +56,7 @@ pub record Saved {A : Type 0} (sites : List SiteEntry) (bytes : List ℕ) (m : R
   pub sets : Sets mid.rows.rows new.rows.rows rows
   pub nonces : SetsNonce mid.nonces.nonces new.nonces.nonces pair nonce
   pub contacts : SetsContact mid.contacts.contacts new.contacts.contacts (record { router = pair.router; key = pair.key; from = from })
+  pub notices : new.notices.notices ≡ mid.notices.notices
   pub done : IsTrue between.is_honest → kept_at after.kept pair ≡ Some nonce ∷ []
   pub others : IsTrue between.is_honest → SameElsewhere between.kept after.kept pair
 
@@ -67,6 +70,7 @@ module _ {A : Type 0} {sites : List SiteEntry} {bytes : List ℕ} {m : Registrat
     rows = subst (λ (was : List Holding). Sets was new.rows.rows (holdings m from now)) s.same.rows (subst (λ (given : List Holding). Sets mid.rows.rows new.rows.rows given) s.brings s.sets);
     nonces = subst (λ (was : Nonces). SetsNonce was new.nonces.nonces (pair_of m) m.nonce) s.same.nonces s.nonces;
     contacts = subst (λ (was : List Contact). SetsContact was new.contacts.contacts (record { router = router_of m; key = m.key_id; from = from })) s.same.contacts s.contacts;
+    notices = s.notices ∙ s.same.notices;
     sites = refl;
     kept = λ honest. s.done (subst (λ (b : Bool). IsTrue b) (sym s.honest) honest);
     others = λ honest. subst (λ (was : Kept). SameElsewhere was after.kept (pair_of m)) (s.loaded honest) (s.others (subst (λ (b : Bool). IsTrue b) (sym s.honest) honest));
@@ -102,7 +106,7 @@ module _ {A : Type 0} {sites : List SiteEntry} {bytes : List ℕ} {m : Registrat
     others = λ honest. subst (λ (was : Kept). SameElsewhere was after.kept (pair_of m)) (s.loaded honest) (s.others (subst (λ (b : Bool). IsTrue b) (sym s.went.honest) honest));
   }
 
-  unsaved_own : (why : Refused) → Unsaved sites bytes m old before between after why (pair_of m) m.nonce → RefusesRead (register_checked sites bytes m) (state_of sites old) before after why
+  unsaved_own : (why : Refused) → Unsaved sites bytes m old before between after why (pair_of m) m.nonce → RefusesRegister (register_checked sites bytes m) (state_of sites old) before after why
   unsaved_own (refusals.StoreSave fault) s = save_failed fault s
   unsaved_own (refusals.Read _) s = absurd s.not_kept
   unsaved_own refusals.NotMine s = absurd s.not_kept
@@ -116,8 +120,8 @@ module _ {A : Type 0} {sites : List SiteEntry} {bytes : List ℕ} {m : Registrat
   unsaved_own refusals.OutOfMemory s = absurd s.not_kept
   unsaved_own refusals.NoNotice s = absurd s.not_kept
 
-  pub save_fails : (why : Refused) (pair : Pair) (nonce : ℕ) → pair ≡ pair_of m → nonce ≡ m.nonce → Unsaved sites bytes m old before between after why pair nonce → RefusesRead (register_checked sites bytes m) (state_of sites old) before after why
-  save_fails why pair nonce p n = subst (λ (x : Pair × ℕ). Unsaved sites bytes m old before between after why x.0 x.1 → RefusesRead (register_checked sites bytes m) (state_of sites old) before after why) (λ i. (sym p i, sym n i)) (unsaved_own why)
+  pub save_fails : (why : Refused) (pair : Pair) (nonce : ℕ) → pair ≡ pair_of m → nonce ≡ m.nonce → Unsaved sites bytes m old before between after why pair nonce → RefusesRegister (register_checked sites bytes m) (state_of sites old) before after why
+  save_fails why pair nonce p n = subst (λ (x : Pair × ℕ). Unsaved sites bytes m old before between after why x.0 x.1 → RefusesRegister (register_checked sites bytes m) (state_of sites old) before after why) (λ i. (sym p i, sym n i)) (unsaved_own why)
 
 -- the refusals that the checks of a Map-Register give
 abbrev IsCheck : Refused → Type 0
@@ -160,7 +164,7 @@ only_of : {X : Type 0} (r : Result X Refused) (e : Refused) → OnlyChecks r →
 unfolding OnlyChecks
 only_of r e only is = subst (λ (x : Result _ Refused). OnlyChecks x) is only
 
-refuses_check : (e : Refused) (c : Result Passed Refused) (old : ServerState) (before : StoreState) → IsCheck e → c ≡ Err e → RefusesRead c old before before e
+refuses_check : (e : Refused) (c : Result Passed Refused) (old : ServerState) (before : StoreState) → IsCheck e → c ≡ Err e → RefusesRegister c old before before e
 refuses_check refusals.UnknownSite c old before is at = (at, refl)
 refuses_check refusals.UnknownKey c old before is at = (at, refl)
 refuses_check refusals.BadAuth c old before is at = (at, refl)
@@ -175,17 +179,17 @@ refuses_check (refusals.StoreSave _) c old before is at = absurd is
 refuses_check refusals.NoNotice c old before is at = absurd is
 
 -- a Map-Register fails a check
-pub check_fails : (sites : List SiteEntry) (bytes : List ℕ) (m : Registration) (e : Refused) (old : ServerState) (before : StoreState) → secret_under sites bytes m ≡ Err e → RefusesRead (register_checked sites bytes m) old before before e
+pub check_fails : (sites : List SiteEntry) (bytes : List ℕ) (m : Registration) (e : Refused) (old : ServerState) (before : StoreState) → secret_under sites bytes m ≡ Err e → RefusesRegister (register_checked sites bytes m) old before before e
 check_fails sites bytes m e old before at = refuses_check e (register_checked sites bytes m) old before (only_of (secret_under sites bytes m) e (secret_only sites bytes m) at) (ap (λ r. r >>= λ (secret : List ℕ). register_passed m secret) at)
 
 -- the nonce isn't let through
-pub stops : (sites : List SiteEntry) (bytes : List ℕ) (m : Registration) (secret : List ℕ) (old : ServerState) (before after : StoreState) (pair : Pair) (nonce : ℕ) (e : Refused) → pair ≡ pair_of m → nonce ≡ m.nonce → secret_under sites bytes m ≡ Ok secret → KeepsLists before after → Unasked (nonce_at old.nonces pair) before after → Stops (nonce_at old.nonces pair) before after pair nonce e → RefusesRead (register_checked sites bytes m) old before after e
-stops sites bytes m secret old before after pair nonce e p n checks same = subst (λ (x : Pair × ℕ). Unasked (nonce_at old.nonces x.0) before after → Stops (nonce_at old.nonces x.0) before after x.0 x.1 e → RefusesRead (register_checked sites bytes m) old before after e) (λ i. (sym p i, sym n i)) (own e)
+pub stops : (sites : List SiteEntry) (bytes : List ℕ) (m : Registration) (secret : List ℕ) (old : ServerState) (before after : StoreState) (pair : Pair) (nonce : ℕ) (e : Refused) → pair ≡ pair_of m → nonce ≡ m.nonce → secret_under sites bytes m ≡ Ok secret → KeepsLists before after → Unasked (nonce_at old.nonces pair) before after → Stops (nonce_at old.nonces pair) before after pair nonce e → RefusesRegister (register_checked sites bytes m) old before after e
+stops sites bytes m secret old before after pair nonce e p n checks same = subst (λ (x : Pair × ℕ). Unasked (nonce_at old.nonces x.0) before after → Stops (nonce_at old.nonces x.0) before after x.0 x.1 e → RefusesRegister (register_checked sites bytes m) old before after e) (λ i. (sym p i, sym n i)) (own e)
   where
     passes : register_checked sites bytes m ≡ register_passed m secret
     passes = ap (λ r. r >>= λ (s : List ℕ). register_passed m s) checks
 
-    own : (e : Refused) → Unasked (nonce_at old.nonces (pair_of m)) before after → Stops (nonce_at old.nonces (pair_of m)) before after (pair_of m) m.nonce e → RefusesRead (register_checked sites bytes m) old before after e
+    own : (e : Refused) → Unasked (nonce_at old.nonces (pair_of m)) before after → Stops (nonce_at old.nonces (pair_of m)) before after (pair_of m) m.nonce e → RefusesRegister (register_checked sites bytes m) old before after e
     own (refusals.StoreLoad fault) unasked (unknown, cause, unchanged) = record { passed = record { message = m; secret = secret }; checks = passes; unknown = unknown; cause = cause; memory = unchanged; same = same }
     own (refusals.Replay saved) unasked (base, stale) = record { passed = record { message = m; secret = secret }; checks = passes; base = base; stale = stale; unasked = unasked; same = same }
     own (refusals.Read _) unasked never = absurd never
@@ -210,42 +214,56 @@ no_room sites bytes m secret old before after pair nonce p n checks fresh unaske
 }
 
 -- the refusal of a message that was read
-pub refuses_read : (c : Result Passed Refused) (old : ServerState) (before after : StoreState) (why : Refused) → RefusesRead c old before after why → Refuses c old before after why
-refuses_read c old before after refusals.OutOfMemory r = inr r
-refuses_read c old before after refusals.UnknownSite r = r
-refuses_read c old before after refusals.UnknownKey r = r
-refuses_read c old before after refusals.BadAuth r = r
-refuses_read c old before after refusals.MergeAsked r = r
-refuses_read c old before after (refusals.NotAllowed _) r = r
-refuses_read c old before after (refusals.Read _) r = r
-refuses_read c old before after refusals.NotMine r = r
-refuses_read c old before after (refusals.StoreLoad _) r = r
-refuses_read c old before after (refusals.Replay _) r = r
-refuses_read c old before after (refusals.StoreSave _) r = r
-refuses_read c old before after refusals.NoNotice r = r
+refuses_read : (said : Result Said ReadFault) (from : Addr) (bytes : List ℕ) (old : ServerState) (before after : StoreState) (why : Refused) → RefusesRead said from bytes old before after why → Refuses said from bytes old before after why
+refuses_read said from bytes old before after refusals.OutOfMemory r = inr r
+refuses_read said from bytes old before after refusals.UnknownSite r = r
+refuses_read said from bytes old before after refusals.UnknownKey r = r
+refuses_read said from bytes old before after refusals.BadAuth r = r
+refuses_read said from bytes old before after refusals.MergeAsked r = r
+refuses_read said from bytes old before after (refusals.NotAllowed _) r = r
+refuses_read said from bytes old before after (refusals.Read _) r = r
+refuses_read said from bytes old before after refusals.NotMine r = r
+refuses_read said from bytes old before after (refusals.StoreLoad _) r = r
+refuses_read said from bytes old before after (refusals.Replay _) r = r
+refuses_read said from bytes old before after (refusals.StoreSave _) r = r
+refuses_read said from bytes old before after refusals.NoNotice r = r
+
+-- a Map-Register that was taken
+pub takes_register : {A : Type 0} (said : Result Said ReadFault) (m : Registration) (from : Addr) (bytes : List ℕ) (old new : ServerState) (before after : StoreState) (now : ℕ) (took : Took A) → said ≡ Ok (Registers m) → Accepts (register_checked old.sites bytes m) old new before after from now took → Takes said from bytes old new before after now took
+takes_register {A = A} said m from bytes old new before after now took at a = subst (λ (s : Result Said ReadFault). Takes s from bytes old new before after now took) (sym at) (by took a)
+  where
+    by : (took : Took A) → Accepts (register_checked old.sites bytes m) old new before after from now took → Takes (Ok (Registers m)) from bytes old new before after now took
+    by (Accepted router key nonce reply) a = a
+    by (NoticeDone router nonce) a = absurd (let clash = a.answer in cc)
+
+-- a Map-Notify-Ack that was taken
+pub takes_notify : {A : Type 0} (said : Result Said ReadFault) (m : Notification) (from : Addr) (bytes : List ℕ) (old : ServerState) (left : List Standing) (before : StoreState) (now : ℕ) (took : Took A) → said ≡ Ok (Notifies m)
+    → (n : Standing) × (notice_ended old.sites old.notices from bytes m ≡ Ok n) × (took ≡ NoticeDone n.router n.nonce) × (left ≡ without n.router old.notices)
+    → Takes said from bytes old (record old { notices = left }) before before now took
+takes_notify {A = A} said m from bytes old left before now took at (n, checks, is, ended) = subst (λ (x : Result Said ReadFault × Took A). Takes x.0 from bytes old (record old { notices = left }) before before now x.1) (λ i. (sym at i, sym is i)) (record {
+  notice = n;
+  checks = checks;
+  its = refl;
+  under = refl;
+  ended = λ i. record old { notices = ended i };
+  store = refl;
+})
+
+-- what a Map-Register was refused for
+pub refuses_register : (said : Result Said ReadFault) (m : Registration) (from : Addr) (bytes : List ℕ) (old : ServerState) (before after : StoreState) (why : Refused) → said ≡ Ok (Registers m) → RefusesRegister (register_checked old.sites bytes m) old before after why → Refuses said from bytes old before after why
+refuses_register said m from bytes old before after why at r = subst (λ (s : Result Said ReadFault). Refuses s from bytes old before after why) (sym at) (refuses_read (Ok (Registers m)) from bytes old before after why r)
+
+-- what a Map-Notify or Map-Notify-Ack was refused for
+pub refuses_notify : (said : Result Said ReadFault) (m : Notification) (from : Addr) (bytes : List ℕ) (old : ServerState) (before : StoreState) (why : Refused) → said ≡ Ok (Notifies m) → notice_ended old.sites old.notices from bytes m ≡ Err why → Refuses said from bytes old before before why
+refuses_notify said m from bytes old before why at e = subst (λ (s : Result Said ReadFault). Refuses s from bytes old before before why) (sym at) (refuses_read (Ok (Notifies m)) from bytes old before before why (e, refl))
 
 -- bytes that can't be read
-pub read_fails : (sites : List SiteEntry) (bytes : List ℕ) (fault : ReadFault) (old : ServerState) (before : StoreState) → Fails fault (message_at bytes) → Refuses (checked sites bytes) old before before (refused_of_read fault)
-unfolding checked
-read_fails sites bytes reads.OutOfMemory old before at = inl refl
-read_fails sites bytes reads.Short old before at = (ap (read_checked sites bytes) at, refl)
-read_fails sites bytes reads.Kind old before at = (ap (read_checked sites bytes) at, refl)
-read_fails sites bytes reads.Algorithm old before at = (ap (read_checked sites bytes) at, refl)
-read_fails sites bytes reads.AuthLength old before at = (ap (read_checked sites bytes) at, refl)
-read_fails sites bytes reads.NoIds old before at = (ap (read_checked sites bytes) at, refl)
-read_fails sites bytes reads.Trailing old before at = (ap (read_checked sites bytes) at, refl)
-read_fails sites bytes (reads.Record _ _) old before at = (ap (read_checked sites bytes) at, refl)
-
--- a Map-Register that was read
-pub registers : (sites : List SiteEntry) (bytes : List ℕ) (m : Registration) → message_at bytes ≡ Ok (Registers m) → checked sites bytes ≡ register_checked sites bytes m
-unfolding checked
-registers sites bytes m at = ap (read_checked sites bytes) at
-
--- a Map-Notify or a Map-Notify-Ack that was read
-pub notify_fails : (sites : List SiteEntry) (bytes : List ℕ) (m : Notification) (old : ServerState) (before : StoreState) → message_at bytes ≡ Ok (Notifies m) → Refuses (checked sites bytes) old before before (refused_of_notify m.ack)
-unfolding checked
-notify_fails sites bytes m old before at = by_ack m.ack (ap (read_checked sites bytes) at)
-  where
-    by_ack : (ack : Bool) → {c : Result Passed Refused} → c ≡ Err (refused_of_notify ack) → Refuses c old before before (refused_of_notify ack)
-    by_ack true e = (e, refl)
-    by_ack false e = (e, refl)
+pub read_fails : (fault : ReadFault) (said : Result Said ReadFault) (from : Addr) (bytes : List ℕ) (old : ServerState) (before : StoreState) → Fails fault said → Refuses said from bytes old before before (refused_of_read fault)
+read_fails reads.OutOfMemory said from bytes old before at = inl refl
+read_fails reads.Short said from bytes old before at = subst (λ (s : Result Said ReadFault). Refuses s from bytes old before before (refusals.Read reads.Short)) (sym at) (refl, refl)
+read_fails reads.Kind said from bytes old before at = subst (λ (s : Result Said ReadFault). Refuses s from bytes old before before (refusals.Read reads.Kind)) (sym at) (refl, refl)
+read_fails reads.Algorithm said from bytes old before at = subst (λ (s : Result Said ReadFault). Refuses s from bytes old before before (refusals.Read reads.Algorithm)) (sym at) (refl, refl)
+read_fails reads.AuthLength said from bytes old before at = subst (λ (s : Result Said ReadFault). Refuses s from bytes old before before (refusals.Read reads.AuthLength)) (sym at) (refl, refl)
+read_fails reads.NoIds said from bytes old before at = subst (λ (s : Result Said ReadFault). Refuses s from bytes old before before (refusals.Read reads.NoIds)) (sym at) (refl, refl)
+read_fails reads.Trailing said from bytes old before at = subst (λ (s : Result Said ReadFault). Refuses s from bytes old before before (refusals.Read reads.Trailing)) (sym at) (refl, refl)
+read_fails (reads.Record i fault) said from bytes old before at = subst (λ (s : Result Said ReadFault). Refuses s from bytes old before before (refusals.Read (reads.Record i fault))) (sym at) (refl, refl)

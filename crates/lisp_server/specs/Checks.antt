@@ -1,15 +1,16 @@
 -- What a Map-Server checks of bytes before it looks at a nonce (RFC 9301 section 8.2).
 use Rattle.std.specs.Prelude.{◌≡◌, ℕ, Bool, false, not, List, Option, Some, None, Result, Ok, Err, position, ok_or, if◌then◌else◌}
+use Rattle.std.specs.List.{find}
 use Rattle.lisp_records.specs.Record.{Mapping}
-use Rattle.lisp_messages.specs.Message.{Registration, Notification, Registers, Notifies, Said}
-use Rattle.lisp_messages.specs.declared.fault.ReadFault.{ReadFault}
+use Rattle.lisp_messages.specs.Message.{Registration, Notification}
+use Rattle.lisp_records.specs.declared.address.Addr.{Addr}
 use Rattle.lisp_messages.specs.Authentic.{is_authentic, signed}
 use Rattle.lisp_messages.specs.Written.{written_notify}
-use Rattle.lisp_messages.specs.Reading.{message_at}
 use Rattle.lisp_sites.specs.Site.{SiteEntry, is_allowed, site_of, secret_of}
 use Rattle.lisp_server.specs.declared.refused.Refused.{Refused}
-use Rattle.lisp_server.specs.declared.refused.Refused.TheVariants.{Read, UnknownSite, UnknownKey, BadAuth, MergeAsked, NotAllowed}
-use Rattle.lisp_server.specs.Refused.{refused_of_notify}
+use Rattle.lisp_server.specs.declared.refused.Refused.TheVariants.{UnknownSite, UnknownKey, BadAuth, MergeAsked, NotAllowed, NoNotice, NotMine}
+use Rattle.lisp_server.specs.Contacts.{secret_at}
+use Rattle.lisp_server.specs.Notices.{Standing, awaits}
 
 infixl 10 ◌>>=◌
 abbrev pub ◌>>=◌ : {A B : Type 0} → Result A Refused → (A → Result B Refused) → Result B Refused
@@ -45,18 +46,22 @@ pub record Passed : Type 0 where
 abbrev pub register_checked : List SiteEntry → List ℕ → Registration → Result Passed Refused
 register_checked sites bytes m = secret_under sites bytes m >>= λ secret. Ok (record { message = m; secret = secret })
 
--- only a Map-Register can pass: a Map-Notify is for routers, and no notice stands
-abbrev pub said_checked : List SiteEntry → List ℕ → Said → Result Passed Refused
-said_checked sites bytes (Registers m) = register_checked sites bytes m
-said_checked sites bytes (Notifies m) = Err (refused_of_notify m.ack)
+abbrev pub signed_by : Option (List ℕ) → List ℕ → Bool
+signed_by None bytes = false
+signed_by (Some secret) bytes = is_authentic bytes secret
 
-abbrev pub read_checked : List SiteEntry → List ℕ → Result Said ReadFault → Result Passed Refused
-read_checked sites bytes (Ok said) = said_checked sites bytes said
-read_checked sites bytes (Err fault) = Err (Read fault)
+-- the bytes are authentic under the secret of the notice's site and key
+abbrev pub answers_under : List SiteEntry → List ℕ → Standing → Bool
+answers_under sites bytes n = signed_by (secret_at sites n.router.site n.key) bytes
 
--- the Map-Register that bytes spell, where it passes all checks; or the first check that fails
-unfoldable pub checked : List SiteEntry → List ℕ → Result Passed Refused
-checked sites bytes = read_checked sites bytes (message_at bytes)
+-- the notice that a Map-Notify-Ack from an address ends, or the first check that it fails; a Map-Notify
+-- is for routers
+unfoldable pub notice_ended : List SiteEntry → List Standing → Addr → List ℕ → Notification → Result Standing Refused
+notice_ended sites notices from bytes m = do
+  _ ← check m.ack NotMine
+  notice ← ok_or (find (awaits from m.key_id m.nonce) notices) NoNotice
+  _ ← check (answers_under sites bytes notice) BadAuth
+  Ok notice
 
 -- the Map-Notify of a Map-Register has its nonce, Key ID and records (RFC 9301 section 5.7)
 abbrev pub notification_of : Registration → Notification

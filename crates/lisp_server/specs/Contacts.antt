@@ -1,8 +1,13 @@
 -- Where each router was heard last: the source address and the key of its last accepted Map-Register.
 use Rattle.std.specs.Prelude.{◌≡◌, ◌≢◌, ℕ, List, Bool, Option, Some}
 use Rattle.std.specs.List.{find}
+use Rattle.std.specs.Option.{option_and_then}
 use Rattle.lisp_records.specs.declared.router.RouterId.{RouterId}
+use Rattle.lisp_records.specs.Address.{Block}
 use Rattle.lisp_records.specs.Router.{router_eq}
+use Rattle.lisp_records.specs.Row.{Holding}
+use Rattle.lisp_sites.specs.Site.{SiteEntry, site_of, secret_of}
+use Rattle.lisp_lookup.specs.Table.{row_at}
 use Rattle.lisp_server.specs.declared.contacts.Contact.{Contact}
 
 abbrev pub is_contact_of : RouterId → Contact → Bool
@@ -15,6 +20,21 @@ contact_at contacts router = find (is_contact_of router) contacts
 pub record SetsContact (old new : List Contact) (c : Contact) : Type 0 where
   pub here : contact_at new c.router ≡ Some c
   pub others : (other : RouterId) → other ≢ c.router → contact_at new other ≡ contact_at old other
+
+-- the secret of a key of a site
+abbrev pub secret_at : List SiteEntry → ℕ → ℕ → Option (List ℕ)
+secret_at sites site key = option_and_then (λ s. secret_of s key) (site_of sites site)
+
+-- the router was heard, under a key that its site has a secret for
+pub record IsHeard (sites : List SiteEntry) (contacts : List Contact) (router : RouterId) : Type 0 where
+  pub contact : Contact
+  pub heard : contact_at contacts router ≡ Some contact
+  pub secret : List ℕ
+  pub signs : secret_at sites router.site contact.key ≡ Some secret
+
+-- the router of each row was heard
+abbrev pub Knows : List SiteEntry → List Holding → List Contact → Type 0
+Knows sites rows contacts = (router : RouterId) (eid : Block) (h : Holding) → row_at rows router eid ≡ Some h → IsHeard sites contacts router
 
 -- the contacts, and how many more there is room for
 pub record ContactTable : Type 0 where

@@ -3,6 +3,9 @@ pub mod Took
 pub mod Registration
 pub mod Nonces
 pub mod Contacts
+pub mod Notices
+pub mod NoticeFault
 pub mod Server
 pub mod Checks
 pub mod Receiving
+pub mod Announcing

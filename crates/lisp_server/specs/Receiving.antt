@@ -1,24 +1,27 @@
 -- What a Map-Server makes of a message (RFC 9301 sections 5.6 and 8.2).
-use Rattle.std.specs.Prelude.{◌≡◌, ◌≢◌, ◌<◌, ◌≤◌, ◌⊎◌, ℕ, [], ◌∷◌, Option, Some, None, Result, Ok, Err, IfSome, IsTrue}
+use Rattle.std.specs.Prelude.{◌≡◌, ◌≢◌, ◌<◌, ◌≤◌, ◌⊎◌, ℕ, List, [], ◌∷◌, Option, Some, None, Result, Ok, Err, IfSome, IsTrue}
 use Rattle.std.specs.List.{Contains}
 use Rattle.lisp_records.specs.declared.address.Addr.{Addr}
-use Rattle.lisp_messages.specs.Message.{Registration}
+use Rattle.lisp_records.specs.declared.router.RouterId.{RouterId}
+use Rattle.lisp_messages.specs.Message.{Registration, Registers, Notifies, Said}
+use Rattle.lisp_messages.specs.declared.fault.ReadFault.{ReadFault}
 use Rattle.lisp_store.specs.declared.pair.Pair.{Pair}
 use Rattle.lisp_store.specs.declared.fault.StoreFault.{StoreFault}
 use Rattle.lisp_store.specs.declared.fault.StoreFault.TheVariants as faults
 use Rattle.lisp_store.specs.Kept.{kept_at, SameElsewhere, InDoubt}
 use Rattle.lisp_store.specs.Store.{StoreState, Rose}
 use Rattle.lisp_server.specs.declared.refused.Refused.{Refused}
-use Rattle.lisp_server.specs.declared.refused.Refused.TheVariants.{StoreLoad, Replay, OutOfMemory, StoreSave}
+use Rattle.lisp_server.specs.declared.refused.Refused.TheVariants.{Read, StoreLoad, Replay, OutOfMemory, StoreSave}
 use Rattle.lisp_server.specs.declared.took.Took.{Took}
-use Rattle.lisp_server.specs.declared.took.Took.TheVariants.{Accepted}
+use Rattle.lisp_server.specs.declared.took.Took.TheVariants.{Accepted, NoticeDone}
 use Rattle.lisp_server.specs.declared.contacts.Contact.{Contact}
 use Rattle.lisp_server.specs.Registration.{router_of, pair_of, holdings}
 use Rattle.lisp_lookup.specs.Table.{Sets}
 use Rattle.lisp_server.specs.Nonces.{nonce_at, SetsNonce}
 use Rattle.lisp_server.specs.Contacts.{SetsContact}
+use Rattle.lisp_server.specs.Notices.{Standing, without}
 use Rattle.lisp_server.specs.Server.{ServerState}
-use Rattle.lisp_server.specs.Checks.{Passed, reply_of}
+use Rattle.lisp_server.specs.Checks.{Passed, register_checked, notice_ended, reply_of}
 
 -- the number that a nonce has to be above: the pair's last since the start, or where there is none
 -- a value that the store may answer
@@ -47,15 +50,22 @@ Unasked last before after = IfSome last (λ _. after ≡ before)
 abbrev pub HasCause : StoreFault → StoreState → StoreState → Type 0
 HasCause fault before after = fault ≢ faults.OutOfMemory → Rose before after
 
+-- the pair's base can't be told, or memory ran out in that
+abbrev pub Unknown : Option ℕ → StoreState → StoreState → StoreFault → Type 0
+Unknown last before after fault = (last ≡ None) × HasCause fault before after × (fault ≡ faults.OutOfMemory → after ≡ before)
+
 -- why a nonce is not let through: its base can't be told, or is not below it
 abbrev pub Stops : Option ℕ → StoreState → StoreState → Pair → ℕ → Refused → Type 0
-Stops last before after pair nonce (StoreLoad fault) = (last ≡ None) × HasCause fault before after × (fault ≡ faults.OutOfMemory → after ≡ before)
+Stops last before after pair nonce (StoreLoad fault) = Unknown last before after fault
 Stops last before after pair nonce (Replay saved) = IsBase last before pair (Some saved) × (nonce ≤ saved)
 Stops last before after pair nonce _ = ⊥
 
--- why a nonce isn't saved, and what may be kept of it
+-- a nonce isn't saved, and what may be kept of it
+abbrev pub Unsaved : StoreState → StoreState → Pair → ℕ → StoreFault → Type 0
+Unsaved before after pair nonce fault = HasCause fault before after × (fault ≢ faults.Damaged) × (IsTrue before.is_honest → InDoubt (kept_at before.kept pair) (kept_at after.kept pair) nonce) × (fault ≡ faults.OutOfMemory → after ≡ before)
+
 abbrev pub NotKept : StoreState → StoreState → Pair → ℕ → Refused → Type 0
-NotKept before after pair nonce (StoreSave fault) = HasCause fault before after × (fault ≢ faults.Damaged) × (IsTrue before.is_honest → InDoubt (kept_at before.kept pair) (kept_at after.kept pair) nonce) × (fault ≡ faults.OutOfMemory → after ≡ before)
+NotKept before after pair nonce (StoreSave fault) = Unsaved before after pair nonce fault
 NotKept before after pair nonce _ = ⊥
 
 -- where a router was heard last
@@ -72,9 +82,25 @@ pub record Accepts {A : Type 0} (check : Result Passed Refused) (old new : Serve
   pub rows : Sets old.rows new.rows (holdings passed.message from now)
   pub nonces : SetsNonce old.nonces new.nonces (pair_of passed.message) passed.message.nonce
   pub contacts : SetsContact old.contacts new.contacts (contact_of passed.message from)
+  pub notices : new.notices ≡ old.notices
   pub sites : new.sites ≡ old.sites
   pub kept : IsTrue before.is_honest → kept_at after.kept (pair_of passed.message) ≡ Some passed.message.nonce ∷ []
   pub others : IsTrue before.is_honest → SameElsewhere before.kept after.kept (pair_of passed.message)
+
+-- a Map-Notify-Ack ended a notice, and changed nothing else
+pub record Ends (check : Result Standing Refused) (old new : ServerState) (before after : StoreState) (router : RouterId) (nonce : ℕ) : Type 0 where
+  pub notice : Standing
+  pub checks : check ≡ Ok notice
+  pub its : router ≡ notice.router
+  pub under : nonce ≡ notice.nonce
+  pub ended : new ≡ record old { notices = without notice.router old.notices }
+  pub store : after ≡ before
+
+-- the message that bytes from an address spell was taken
+abbrev pub Takes : {A : Type 0} → Result Said ReadFault → Addr → List ℕ → ServerState → ServerState → StoreState → StoreState → ℕ → Took A → Type 0
+Takes {A = A} (Ok (Registers m)) from bytes old new before after now (Accepted router key nonce reply) = Accepts {A = A} (register_checked old.sites bytes m) old new before after from now (Accepted router key nonce reply)
+Takes (Ok (Notifies m)) from bytes old new before after now (NoticeDone router nonce) = Ends (notice_ended old.sites old.notices from bytes m) old new before after router nonce
+Takes _ from bytes old new before after now _ = ⊥
 
 -- the store could not tell the pair's base; where memory ran out in that it is untouched
 pub record LoadFailed (check : Result Passed Refused) (old : ServerState) (before after : StoreState) (fault : StoreFault) : Type 0 where
@@ -113,16 +139,22 @@ pub record OutOfRoom (check : Result Passed Refused) (old : ServerState) (before
   pub unasked : Unasked (nonce_at old.nonces (pair_of passed.message)) before after
   pub same : KeepsLists before after
 
--- a message that was read was refused: what the refusal means, and what it leaves of the store
-abbrev pub RefusesRead : Result Passed Refused → ServerState → StoreState → StoreState → Refused → Type 0
-RefusesRead check old before after (StoreLoad fault) = LoadFailed check old before after fault
-RefusesRead check old before after (Replay saved) = Replays check old before after saved
-RefusesRead check old before after OutOfMemory = OutOfRoom check old before after
-RefusesRead check old before after (StoreSave fault) = SaveFailed check old before after fault
-RefusesRead check old before after refused = (check ≡ Err refused) × (after ≡ before)
+-- a Map-Register was refused: what the refusal means, and what it leaves of the store
+abbrev pub RefusesRegister : Result Passed Refused → ServerState → StoreState → StoreState → Refused → Type 0
+RefusesRegister check old before after (StoreLoad fault) = LoadFailed check old before after fault
+RefusesRegister check old before after (Replay saved) = Replays check old before after saved
+RefusesRegister check old before after OutOfMemory = OutOfRoom check old before after
+RefusesRegister check old before after (StoreSave fault) = SaveFailed check old before after fault
+RefusesRegister check old before after refused = (check ≡ Err refused) × (after ≡ before)
 
--- a message was refused: the same, but that memory may also have run out in reading, which leaves the
--- store untouched
-abbrev pub Refuses : Result Passed Refused → ServerState → StoreState → StoreState → Refused → Type 0
-Refuses check old before after OutOfMemory = (after ≡ before) ⊎ OutOfRoom check old before after
-Refuses check old before after refused = RefusesRead check old before after refused
+-- what was read was refused
+abbrev pub RefusesRead : Result Said ReadFault → Addr → List ℕ → ServerState → StoreState → StoreState → Refused → Type 0
+RefusesRead (Ok (Registers m)) from bytes old before after why = RefusesRegister (register_checked old.sites bytes m) old before after why
+RefusesRead (Ok (Notifies m)) from bytes old before after why = (notice_ended old.sites old.notices from bytes m ≡ Err why) × (after ≡ before)
+RefusesRead (Err fault) from bytes old before after why = (why ≡ Read fault) × (after ≡ before)
+
+-- the message that bytes from an address spell was refused: as what was read, but that memory may also
+-- have run out in reading, which leaves the store untouched
+abbrev pub Refuses : Result Said ReadFault → Addr → List ℕ → ServerState → StoreState → StoreState → Refused → Type 0
+Refuses said from bytes old before after OutOfMemory = (after ≡ before) ⊎ RefusesRead said from bytes old before after OutOfMemory
+Refuses said from bytes old before after why = RefusesRead said from bytes old before after why

@@ -1,5 +1,5 @@
 -- Why a Map-Server refuses a message: the numbers.
-use Rattle.std.specs.Prelude.{ℕ, Bool, if◌then◌else◌}
+use Rattle.std.specs.Prelude.{ℕ}
 use Rattle.lisp_messages.specs.declared.fault.ReadFault.{ReadFault}
 use Rattle.lisp_messages.specs.declared.fault.ReadFault.TheVariants as reads
 use Rattle.lisp_server.specs.declared.refused.Refused.{Refused}
@@ -18,10 +18,6 @@ refused_number OutOfMemory = 58
 refused_number (StoreSave _) = 59
 refused_number NoNotice = 60
 refused_number NotMine = 61
-
--- the refusal of a Map-Notify-Ack, for which no notice stands, and of a Map-Notify, which is for routers
-abbrev pub refused_of_notify : Bool → Refused
-refused_of_notify ack = if ack then NoNotice else NotMine
 
 -- the refusal of a message that can't be read; want of memory says nothing of the message
 abbrev pub refused_of_read : ReadFault → Refused

@@ -5,26 +5,34 @@ use Rattle.lisp_sites.specs.Site.{SiteEntry}
 use Rattle.lisp_server.specs.declared.contacts.Contact.{Contact}
 use Rattle.lisp_server.specs.declared.tables.Tables.{Tables}
 use Rattle.lisp_server.specs.Nonces.{Nonces}
+use Rattle.lisp_server.specs.Notices.{Standing}
 
--- its sites; the rows that it holds, dead ones too; the last nonce of each pair, and where each router
--- was heard last, both since the start
+-- its sites; the rows that it holds, dead ones too; the last nonce of each pair, where each router was
+-- heard last, and the notices that stand, all since the start
 pub record ServerState : Type 0 where
   pub sites : List SiteEntry
   pub rows : List Holding
   pub nonces : Nonces
   pub contacts : List Contact
+  pub notices : List Standing
 
 abbrev pub state_of : {A : Type 0} → List SiteEntry → Tables A → ServerState
-state_of sites t = record { sites = sites; rows = t.rows.rows; nonces = t.nonces.nonces; contacts = t.contacts.contacts }
+state_of sites t = record { sites = sites; rows = t.rows.rows; nonces = t.nonces.nonces; contacts = t.contacts.contacts; notices = t.notices.notices }
 
 -- only the room changed
 pub record SameTables {A : Type 0} (old new : Tables A) : Type 0 where
   pub rows : new.rows.rows ≡ old.rows.rows
   pub nonces : new.nonces.nonces ≡ old.nonces.nonces
   pub contacts : new.contacts.contacts ≡ old.contacts.contacts
+  pub notices : new.notices.notices ≡ old.notices.notices
 
 -- there is room for what one Map-Register with so many records brings
 pub record HasRoom {A : Type 0} (t : Tables A) (count : ℕ) : Type 0 where
   pub rows : count ≤ t.rows.spare
   pub nonces : 0 < t.nonces.spare
   pub contacts : 0 < t.contacts.spare
+
+-- there is room for one more notice
+pub record HasNoticeRoom {A : Type 0} (t : Tables A) : Type 0 where
+  pub nonces : 0 < t.nonces.spare
+  pub notices : 0 < t.notices.spare

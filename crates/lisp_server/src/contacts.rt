@@ -2,7 +2,7 @@
 
 ghost use Rattle.std.specs.Prelude.{◌≡◌, ◌<◌, [], OnOk};
 ghost use Rattle.std.specs.List.{position};
-ghost use Rattle.lisp_server.specs.Contacts.{is_contact_of, SetsContact};
+ghost use Rattle.lisp_server.specs.Contacts.{is_contact_of, contact_at, SetsContact};
 
 use lisp_records::{Addr, RouterId};
 use std::alloc::{AllocError, Allocator};
@@ -39,6 +39,14 @@ impl<A: Allocator> Contacts<A> {
         Contacts {
             items: Vec::new(alloc),
         }
+    }
+
+    /// The contact of a router, where it was heard.
+    #[tactic(auto, using(crate::proofs::ContactLaws::contact_nowhere, crate::proofs::ContactLaws::contact_found))]
+    pub(crate) fn get(&self, router: &RouterId) -> Option<Contact>
+        ensures { result ≡ contact_at self.now.contacts router.now }
+    {
+        Some(self.items[place(&self.items, *router)?])
     }
 
     /// Makes room for one more contact.

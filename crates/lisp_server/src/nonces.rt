@@ -7,9 +7,20 @@ ghost use Rattle.std.specs.Ordering.{eq_by_cmp};
 ghost use Rattle.lisp_store.specs.Pair.{pair_cmp};
 ghost use Rattle.lisp_server.specs.Nonces.{nonce_at, SetsNonce, is_of, nonces_of};
 
-use lisp_store::Pair;
+use lisp_records::RouterId;
+use lisp_store::{Pair, PairKind};
 use std::alloc::{AllocError, Allocator};
 use std::marker::Model;
+
+/// What the nonces of all notices are kept for.
+pub(crate) const NOTICES: Pair = Pair {
+    kind: PairKind::Notice,
+    router: RouterId {
+        site: 0,
+        xtr: [0; 16],
+    },
+    key: 0,
+};
 
 /// The last nonce of a pair.
 #[derive(Clone, Copy, Debug, PartialEq, Eq)]

@@ -1,7 +1,7 @@
 //! Why a Map-Server refuses a message.
 
 ghost use Rattle.std.specs.Prelude.{◌≡◌};
-ghost use Rattle.lisp_server.specs.Refused.{refused_number, refused_of_notify, refused_of_read};
+ghost use Rattle.lisp_server.specs.Refused.{refused_number, refused_of_read};
 ghost use Rattle.lisp_server.specs.declared.refused.Refused.TheVariants.{OutOfMemory};
 
 use lisp_messages::ReadFault;
@@ -73,17 +73,6 @@ impl Refused {
             Refused::StoreSave(_) => 59,
             Refused::NoNotice => 60,
             Refused::NotMine => 61,
-        }
-    }
-
-    /// The refusal of a Map-Notify, or of a Map-Notify-Ack.
-    pub(crate) const fn of_notify(ack: bool) -> Refused
-        ensures { result ≡ refused_of_notify ack }
-    {
-        if ack {
-            Refused::NoNotice
-        } else {
-            Refused::NotMine
         }
     }
 

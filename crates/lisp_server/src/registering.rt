@@ -3,7 +3,7 @@
 ghost use Rattle.std.specs.Prelude.{◌≡◌, IfOk, IfErr, OnErr};
 ghost use Rattle.lisp_store.specs.Store.{Proceeds};
 ghost use Rattle.lisp_server.specs.Checks.{register_checked};
-ghost use Rattle.lisp_server.specs.Receiving.{Accepts, RefusesRead};
+ghost use Rattle.lisp_server.specs.Receiving.{Accepts, RefusesRegister};
 ghost use Rattle.lisp_server.specs.Server.{SameTables, state_of};
 
 use crate::checks::secret_under;
@@ -37,7 +37,7 @@ pub(crate) fn register<S: NonceStore, A: Allocator + Copy>(
     register: MapRegister<A>,
 ) -> Result<Took<A>, Refused>
     ensures accepted { IfOk result (λ took. Accepts (register_checked sites.now arrival.entry.bytes.now register) (state_of sites.now tables.old) (state_of sites.now tables.new) (S.seen store.old) (S.seen store.new) arrival.entry.from arrival.entry.now took) }
-    ensures refused { IfErr result (λ why. RefusesRead (register_checked sites.now arrival.entry.bytes.now register) (state_of sites.now tables.old) (S.seen store.old) (S.seen store.new) why) }
+    ensures refused { IfErr result (λ why. RefusesRegister (register_checked sites.now arrival.entry.bytes.now register) (state_of sites.now tables.old) (S.seen store.old) (S.seen store.new) why) }
     ensures err { OnErr result (SameTables tables.old tables.new) }
     ensures proceeds { Proceeds (S.seen store.old) (S.seen store.new) }
 {

@@ -1,12 +1,37 @@
-//! The nonce of a Map-Register and the store that keeps it.
+//! Nonces, and the store that keeps the last ones.
 
-ghost use Rattle.std.specs.Prelude.{◌≡◌, [], ◌∷◌, Some, IsTrue, IfErr, OnOk};
+ghost use Rattle.std.specs.Prelude.{◌≡◌, [], ◌∷◌, Some, IsTrue, IfOk, IfErr, OnOk};
 ghost use Rattle.lisp_store.specs.Kept.{kept_at, SameElsewhere};
 ghost use Rattle.lisp_store.specs.Store.{Proceeds};
-ghost use Rattle.lisp_server.specs.Receiving.{IsFresh, KeepsLists, Unasked, Stops, NotKept};
+ghost use Rattle.lisp_server.specs.Announcing.{Follows, FollowsNone, NoticeNotKept};
+ghost use Rattle.lisp_server.specs.Notices.{notice_pair};
+ghost use Rattle.lisp_server.specs.Receiving.{IsBase, IsFresh, KeepsLists, Unasked, Unknown, Stops, NotKept};
 
+use crate::nonces::NOTICES;
+use crate::notice_fault::NoticeFault;
 use crate::refused::Refused;
-use lisp_store::{NonceStore, Pair};
+use lisp_store::{NonceStore, Pair, StoreFault};
+
+/// The first nonce of notices; those below are the routers' own.
+const FIRST_NOTICE: u64 = 0x8000_0000_0000_0000;
+
+/// The last nonce of a pair: the one in memory, else what the store tells.
+fn last_nonce<S: NonceStore>(
+    store: &mut S,
+    pair: &Pair,
+    last: Option<u64>,
+) -> Result<Option<u64>, StoreFault>
+    ensures base { IfOk result (λ base. IsBase last (S.seen store.old) pair.now base) }
+    ensures refused { IfErr result (λ fault. Unknown last (S.seen store.old) (S.seen store.new) fault) }
+    ensures unasked { Unasked last (S.seen store.old) (S.seen store.new) }
+    ensures same { KeepsLists (S.seen store.old) (S.seen store.new) }
+    ensures proceeds { Proceeds (S.seen store.old) (S.seen store.new) }
+{
+    match last {
+        Some(_) => Ok(last),
+        None => store.load(pair),
+    }
+}
 
 /// Whether the nonce is above the last one of its pair, which is in memory or else in the store;
 /// `StoreLoad`, `Replay`.
@@ -22,11 +47,7 @@ pub(crate) fn check_nonce<S: NonceStore>(
     ensures same { KeepsLists (S.seen store.old) (S.seen store.new) }
     ensures proceeds { Proceeds (S.seen store.old) (S.seen store.new) }
 {
-    let base = match last {
-        Some(_) => last,
-        None => store.load(pair).map_err(Refused::StoreLoad)?,
-    };
-    match base {
+    match last_nonce(store, pair, last).map_err(Refused::StoreLoad)? {
         Some(saved) if nonce <= saved => Err(Refused::Replay { saved }),
         _ => Ok(()),
     }
@@ -44,4 +65,33 @@ pub(crate) fn save_nonce<S: NonceStore>(
     ensures proceeds { Proceeds (S.seen store.old) (S.seen store.new) }
 {
     store.save(pair, nonce).map_err(Refused::StoreSave)
+}
+
+/// The nonce of the next notice, by the last one, which is in memory or else in the store; `StoreLoad`,
+/// `NonceSpent`.
+pub(crate) fn next_nonce<S: NonceStore>(
+    store: &mut S,
+    last: Option<u64>,
+) -> Result<u64, NoticeFault>
+    ensures next { IfOk result (λ nonce. Follows last (S.seen store.old) nonce) }
+    ensures refused { IfErr result (λ fault. FollowsNone last (S.seen store.old) (S.seen store.new) fault) }
+    ensures unasked { Unasked last (S.seen store.old) (S.seen store.new) }
+    ensures same { KeepsLists (S.seen store.old) (S.seen store.new) }
+    ensures proceeds { Proceeds (S.seen store.old) (S.seen store.new) }
+{
+    let last = last_nonce(store, &NOTICES, last).map_err(NoticeFault::StoreLoad)?;
+    match last.unwrap_or(0).checked_add(1) {
+        Some(nonce) => Ok(nonce.max(FIRST_NOTICE)),
+        None => Err(NoticeFault::NonceSpent),
+    }
+}
+
+/// Saves the nonce of a notice; `StoreSave`.
+pub(crate) fn save_notice<S: NonceStore>(store: &mut S, nonce: u64) -> Result<(), NoticeFault>
+    ensures done { IsTrue (S.seen store.old).is_honest → OnOk result (kept_at (S.seen store.new).kept notice_pair ≡ Some nonce ∷ []) }
+    ensures others { IsTrue (S.seen store.old).is_honest → SameElsewhere (S.seen store.old).kept (S.seen store.new).kept notice_pair }
+    ensures refused { IfErr result (NoticeNotKept (S.seen store.old) (S.seen store.new) nonce) }
+    ensures proceeds { Proceeds (S.seen store.old) (S.seen store.new) }
+{
+    store.save(&NOTICES, nonce).map_err(NoticeFault::StoreSave)
 }

@@ -4,21 +4,25 @@ ghost use Rattle.std.specs.Prelude.{◌≡◌, ◌≤◌, ◌<◌, length, OnOk}
 ghost use Rattle.lisp_lookup.specs.Table.{Sets};
 ghost use Rattle.lisp_server.specs.Nonces.{SetsNonce};
 ghost use Rattle.lisp_server.specs.Contacts.{SetsContact};
-ghost use Rattle.lisp_server.specs.Server.{SameTables, HasRoom};
+ghost use Rattle.lisp_server.specs.Notices.{announced, notice_pair};
+ghost use Rattle.lisp_server.specs.Server.{SameTables, HasRoom, HasNoticeRoom};
 
 use crate::contacts::{Contact, Contacts};
-use crate::nonces::LastNonces;
+use crate::nonces::{LastNonces, NOTICES};
+use crate::notice::Notice;
+use crate::notices::Notices;
 use lisp_lookup::Table;
 use lisp_records::{Addr, Row};
 use lisp_store::Pair;
 use std::alloc::{AllocError, Allocator};
 
-/// The rows that are held, the last nonces, and where each router was heard last.
+/// The rows that are held, the last nonces, where each router was heard last, and the notices that stand.
 #[derive(Debug, Drop)]
 pub(crate) struct Tables<A: Allocator> {
     pub(crate) rows: Table<A>,
     pub(crate) nonces: LastNonces<A>,
     pub(crate) contacts: Contacts<A>,
+    pub(crate) notices: Notices<A>,
 }
 
 impl<A: Allocator + Copy> Tables<A> {
@@ -39,6 +43,7 @@ impl<A: Allocator + Copy> Tables<A> {
         ensures rows { Sets self.old.rows.rows self.new.rows.rows rows.items }
         ensures nonces { SetsNonce self.old.nonces.nonces self.new.nonces.nonces pair nonce }
         ensures contacts { SetsContact self.old.contacts.contacts self.new.contacts.contacts (record { router = pair.router; key = pair.key; from = from }) }
+        ensures notices { self.new.notices.notices ≡ self.old.notices.notices }
     {
         self.rows.put_all(rows);
         self.nonces.set(pair, nonce);
@@ -47,5 +52,27 @@ impl<A: Allocator + Copy> Tables<A> {
             key: pair.key,
             from,
         });
+    }
+
+    /// Makes room for a notice.
+    pub(crate) fn prepare_notice(&mut self) -> Result<(), AllocError>
+        ensures same { SameTables self.old self.new }
+        ensures room { OnOk result (HasNoticeRoom self.new) }
+    {
+        self.nonces.prepare()?;
+        self.notices.prepare()?;
+        Ok(())
+    }
+
+    /// Keeps a notice that was sent; takes no memory.
+    pub(crate) fn announce(&mut self, notice: Notice<A>)
+        requires { HasNoticeRoom self.old }
+        ensures rows { self.new.rows.rows ≡ self.old.rows.rows }
+        ensures nonces { SetsNonce self.old.nonces.nonces self.new.nonces.nonces notice_pair notice.nonce }
+        ensures contacts { self.new.contacts.contacts ≡ self.old.contacts.contacts }
+        ensures notices { self.new.notices.notices ≡ announced notice self.old.notices.notices }
+    {
+        self.nonces.set(NOTICES, notice.nonce);
+        self.notices.announce(notice);
     }
 }

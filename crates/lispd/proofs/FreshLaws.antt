@@ -1,8 +1,8 @@
 -- What a fresh server over an empty store makes of a message: no nonce stands in its way.
-use Rattle.std.proofs.Common.{◌≡◌, ◌⊎◌, inl, inr, ℕ, zero, suc, List, [], ◌∷◌, Option, Some, None, Result, Ok, Err, refl, sym, ap, ◌∙◌, subst, arith}
+use Rattle.std.proofs.Common.{◌≡◌, ◌⊎◌, inl, inr, ℕ, zero, suc, Bool, true, false, cond, ok_or, List, [], ◌∷◌, Option, Some, None, Result, Ok, Err, refl, sym, ap, ◌∙◌, subst, arith}
 use Rattle.std.specs.FinMap.{empty, get-empty}
 use Rattle.std.specs.Option.{unwrap_or}
-use Rattle.std.specs.List.{Contains}
+use Rattle.std.specs.List.{Contains, find}
 use Rattle.lisp_records.specs.declared.address.Addr.{Addr}
 use Rattle.lisp_sites.specs.Site.{SiteEntry}
 use Rattle.lisp_store.specs.declared.fault.StoreFault.{StoreFault}
@@ -13,19 +13,23 @@ use Rattle.lisp_store.specs.Pair.{pair_cmp}
 use Rattle.lisp_store.specs.Kept.{kept_at}
 use Rattle.lisp_store.specs.Memory.{memory_state}
 use Rattle.lisp_store.specs.Store.{StoreState, Rose, Proceeds}
-use Rattle.lisp_server.specs.Checks.{Passed}
+use Rattle.lisp_messages.specs.Message.{Said, Registers, Notifies, Notification}
+use Rattle.lisp_messages.specs.declared.fault.ReadFault.{ReadFault}
+use Rattle.lisp_server.specs.Checks.{Passed, register_checked, notice_ended, answers_under, check, ◌>>=◌}
+use Rattle.lisp_server.specs.Notices.{Standing, awaits}
 use Rattle.lisp_server.specs.Nonces.{nonce_at}
-use Rattle.lisp_server.specs.Receiving.{IsBase, Accepts, Refuses, HasCause}
+use Rattle.lisp_server.specs.Receiving.{IsBase, Takes, RefusesRegister, RefusesRead, Refuses, HasCause}
 use Rattle.lisp_server.specs.Registration.{pair_of}
 use Rattle.lisp_server.specs.Server.{ServerState}
 use Rattle.lisp_server.specs.Took.{reply_in}
 use Rattle.lisp_server.specs.declared.took.Took.{Took}
+use Rattle.lisp_server.specs.declared.took.Took.TheVariants.{Accepted, NoticeDone}
 use Rattle.lisp_server.specs.declared.refused.Refused.{Refused}
 use Rattle.lisp_server.specs.declared.refused.Refused.TheVariants as refusals
-use Rattle.lispd.specs.Answer.{answer_to, IsWant}
+use Rattle.lispd.specs.Answer.{answer_to, read_answer, IsWant}
 
 abbrev fresh_server : List SiteEntry → ServerState
-fresh_server sites = record { sites = sites; rows = []; nonces = empty; contacts = [] }
+fresh_server sites = record { sites = sites; rows = []; nonces = empty; contacts = []; notices = [] }
 
 abbrev fresh_store : StoreState
 fresh_store = memory_state (record { kept = empty; faults = 0; fate = Done })
@@ -58,19 +62,54 @@ no_base pair saved base =
     only_none saved (zero, lt, at) = (let clash : ◌≡◌ {A = Option ℕ} None (Some saved) = at in absurd cc)
     only_none saved (suc k, lt, at) = omega (arith, lt)
 
-pub accepted : {A : Type 0} (sites : List SiteEntry) (c : Result Passed Refused) (new : ServerState) (after : StoreState) (from : Addr) (took : Took A) → Accepts c (fresh_server sites) new fresh_store after from 0 took → answer_to c ≡ Ok (reply_in took)
-accepted sites c new after from took a = ap answer_to a.checks ∙ ap (λ t. Ok (reply_in t)) (sym a.answer)
+-- no notice stands that an acknowledgement could end
+none_ended : (sites : List SiteEntry) (from : Addr) (bytes : List ℕ) (m : Notification) → notice_ended sites [] from bytes m ≡ Err (cond m.ack refusals.NoNotice refusals.NotMine)
+unfolding notice_ended
+none_ended sites from bytes m = by m.ack
+  where
+    by : (ack : Bool) → (check ack refusals.NotMine >>= λ _. ok_or (find (awaits from m.key_id m.nonce) []) refusals.NoNotice >>= λ n. check (answers_under sites bytes n) refusals.BadAuth >>= λ _. Ok n) ≡ Err (cond ack refusals.NoNotice refusals.NotMine)
+    by true = refl
+    by false = refl
 
-pub refused : (sites : List SiteEntry) (c : Result Passed Refused) (after : StoreState) (why : Refused) → Proceeds fresh_store after → Refuses c (fresh_server sites) fresh_store after why → IsWant why ⊎ (answer_to c ≡ Err why)
-refused sites c after (refusals.StoreLoad fault) went r = inl (only_memory after fault went r.cause)
-refused sites c after (refusals.StoreSave fault) went r = inl (only_memory after fault went r.cause)
-refused sites c after refusals.OutOfMemory went r = inl tt
-refused sites c after (refusals.Replay saved) went r = absurd (no_base (pair_of r.passed.message) saved r.base)
-refused sites c after (refusals.Read _) went r = inr (ap answer_to r.0)
-refused sites c after refusals.NotMine went r = inr (ap answer_to r.0)
-refused sites c after refusals.UnknownSite went r = inr (ap answer_to r.0)
-refused sites c after refusals.UnknownKey went r = inr (ap answer_to r.0)
-refused sites c after refusals.BadAuth went r = inr (ap answer_to r.0)
-refused sites c after refusals.MergeAsked went r = inr (ap answer_to r.0)
-refused sites c after (refusals.NotAllowed _) went r = inr (ap answer_to r.0)
-refused sites c after refusals.NoNotice went r = inr (ap answer_to r.0)
+pub taken : {A : Type 0} (sites : List SiteEntry) (said : Result Said ReadFault) (from : Addr) (bytes : List ℕ) (new : ServerState) (after : StoreState) (took : Took A) → Takes said from bytes (fresh_server sites) new fresh_store after 0 took → read_answer sites bytes said ≡ Ok (reply_in took)
+taken sites (Ok (Registers m)) from bytes new after (Accepted router key nonce reply) a = ap answer_to a.checks ∙ ap (λ t. Ok (reply_in t)) (sym a.answer)
+taken sites (Ok (Registers m)) from bytes new after (NoticeDone router nonce) never = absurd never
+taken sites (Ok (Notifies m)) from bytes new after (Accepted router key nonce reply) never = absurd never
+taken sites (Ok (Notifies m)) from bytes new after (NoticeDone router nonce) e = absurd (let clash : ◌≡◌ {A = Result Standing Refused} (Err (cond m.ack refusals.NoNotice refusals.NotMine)) (Ok e.notice) = sym (none_ended sites from bytes m) ∙ e.checks in cc)
+taken sites (Err fault) from bytes new after took never = absurd never
+
+register_refused : (sites : List SiteEntry) (c : Result Passed Refused) (after : StoreState) (why : Refused) → Proceeds fresh_store after → RefusesRegister c (fresh_server sites) fresh_store after why → IsWant why ⊎ (answer_to c ≡ Err why)
+register_refused sites c after (refusals.StoreLoad fault) went r = inl (only_memory after fault went r.cause)
+register_refused sites c after (refusals.StoreSave fault) went r = inl (only_memory after fault went r.cause)
+register_refused sites c after refusals.OutOfMemory went r = inl tt
+register_refused sites c after (refusals.Replay saved) went r = absurd (no_base (pair_of r.passed.message) saved r.base)
+register_refused sites c after (refusals.Read _) went r = inr (ap answer_to r.0)
+register_refused sites c after refusals.NotMine went r = inr (ap answer_to r.0)
+register_refused sites c after refusals.UnknownSite went r = inr (ap answer_to r.0)
+register_refused sites c after refusals.UnknownKey went r = inr (ap answer_to r.0)
+register_refused sites c after refusals.BadAuth went r = inr (ap answer_to r.0)
+register_refused sites c after refusals.MergeAsked went r = inr (ap answer_to r.0)
+register_refused sites c after (refusals.NotAllowed _) went r = inr (ap answer_to r.0)
+register_refused sites c after refusals.NoNotice went r = inr (ap answer_to r.0)
+
+err_same : (one other : Refused) → ◌≡◌ {A = Result Standing Refused} (Err one) (Err other) → one ≡ other
+err_same one other e = cc
+
+read_refused : (sites : List SiteEntry) (said : Result Said ReadFault) (from : Addr) (bytes : List ℕ) (after : StoreState) (why : Refused) → Proceeds fresh_store after → RefusesRead said from bytes (fresh_server sites) fresh_store after why → IsWant why ⊎ (read_answer sites bytes said ≡ Err why)
+read_refused sites (Ok (Registers m)) from bytes after why went r = register_refused sites (register_checked sites bytes m) after why went r
+read_refused sites (Ok (Notifies m)) from bytes after why went r = inr (ap Err (err_same (cond m.ack refusals.NoNotice refusals.NotMine) why (sym (none_ended sites from bytes m) ∙ r.0)))
+read_refused sites (Err fault) from bytes after why went r = inr (ap Err (sym r.0))
+
+pub refused : (sites : List SiteEntry) (said : Result Said ReadFault) (from : Addr) (bytes : List ℕ) (after : StoreState) (why : Refused) → Proceeds fresh_store after → Refuses said from bytes (fresh_server sites) fresh_store after why → IsWant why ⊎ (read_answer sites bytes said ≡ Err why)
+refused sites said from bytes after refusals.OutOfMemory went r = inl tt
+refused sites said from bytes after (refusals.StoreLoad x) went r = read_refused sites said from bytes after (refusals.StoreLoad x) went r
+refused sites said from bytes after (refusals.StoreSave x) went r = read_refused sites said from bytes after (refusals.StoreSave x) went r
+refused sites said from bytes after (refusals.Replay x) went r = read_refused sites said from bytes after (refusals.Replay x) went r
+refused sites said from bytes after (refusals.Read x) went r = read_refused sites said from bytes after (refusals.Read x) went r
+refused sites said from bytes after refusals.NotMine went r = read_refused sites said from bytes after refusals.NotMine went r
+refused sites said from bytes after refusals.UnknownSite went r = read_refused sites said from bytes after refusals.UnknownSite went r
+refused sites said from bytes after refusals.UnknownKey went r = read_refused sites said from bytes after refusals.UnknownKey went r
+refused sites said from bytes after refusals.BadAuth went r = read_refused sites said from bytes after refusals.BadAuth went r
+refused sites said from bytes after refusals.MergeAsked went r = read_refused sites said from bytes after refusals.MergeAsked went r
+refused sites said from bytes after (refusals.NotAllowed x) went r = read_refused sites said from bytes after (refusals.NotAllowed x) went r
+refused sites said from bytes after refusals.NoNotice went r = read_refused sites said from bytes after refusals.NoNotice went r

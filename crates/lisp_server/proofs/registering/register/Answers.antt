@@ -50,6 +50,7 @@ returns-clause-accepted g c = accepts {new = c.accept.new.self} {between = g.S.N
   sets = c.accept.ensures.rows;
   nonces = c.accept.ensures.nonces;
   contacts = c.accept.ensures.contacts;
+  notices = c.accept.ensures.notices;
   done = c.in_ok-save_nonce.ensures.done;
   others = c.save_nonce.ensures.others;
 })

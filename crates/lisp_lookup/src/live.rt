@@ -1,0 +1,59 @@
+//! The records of one router that are alive.
+
+ghost use Rattle.std.specs.Prelude.{◌≡◌, IfOk, IfErr, length};
+ghost use Rattle.lisp_records.specs.Database.{database_of};
+ghost use Rattle.lisp_lookup.specs.Table.{OneEach};
+ghost use Rattle.lisp_lookup.specs.Records.{is_live_of, live_of};
+
+use lisp_records::{DatabaseFault, MAX_RECORDS, MAX_SIZE, MapRecord, RouterId, Row};
+use std::alloc::{AllocError, Allocator};
+
+/// How many records of a router are alive at a moment, in ms; `TooLarge` where they are no Database.
+pub(crate) fn count_live<A: Allocator>(
+    rows: &[Row<A>],
+    router: &RouterId,
+    now: u64,
+) -> Result<usize, DatabaseFault>
+    requires { OneEach rows.now }
+    ensures fits { IfOk result (λ count. database_of (live_of rows.now router.now now) ≡ Ok (live_of rows.now router.now now)) }
+    ensures count { IfOk result (λ count. count ≡ length (live_of rows.now router.now now)) }
+    ensures refused { IfErr result (λ fault. database_of (live_of rows.now router.now now) ≡ Err fault) }
+{
+    let mut count = 0;
+    let mut size = 0;
+    for row in rows {
+        if is_live_of(row, router, now) {
+            count += 1;
+            size += row.mapping.written_len();
+        }
+        if count > MAX_RECORDS || size > MAX_SIZE {
+            return Err(DatabaseFault::TooLarge);
+        }
+    }
+    Ok(count)
+}
+
+/// Copies of the records of a router that are alive at a moment, in ms, in memory of `alloc`.
+pub(crate) fn copy_live<A: Allocator + Copy>(
+    alloc: A,
+    rows: &[Row<A>],
+    router: &RouterId,
+    now: u64,
+) -> Result<Vec<MapRecord<A>, A>, AllocError>
+    ensures { IfOk result (λ records. records.items ≡ live_of rows.now router.now now) }
+{
+    let mut records = Vec::new(alloc);
+    for row in rows {
+        if is_live_of(row, router, now) {
+            records.push(row.mapping.copy(alloc)?)?;
+        }
+    }
+    Ok(records)
+}
+
+// Whether a row is one of a router, and alive.
+fn is_live_of<A: Allocator>(row: &Row<A>, router: &RouterId, now: u64) -> bool
+    ensures { result ≡ is_live_of router.now now row.now }
+{
+    row.router == *router && row.alive(now)
+}

@@ -1,0 +1,114 @@
+-- The router of each row was heard: what keeps that so.
+use Rattle.std.proofs.Common.{◌≡◌, ℕ, Bool, true, false, true≢false, cond, not, List, [], ◌∷◌, ◌++◌, map, reverse, Option, Some, None, Result, Ok, Err, ok_or, refl, sym, ap, ◌∙◌, subst}
+use Rattle.std.specs.List.{find}
+use Rattle.std.proofs.lemmas.List.{map-append, reverse-append}
+use Rattle.std.specs.Option.{option_or, option_and_then}
+use Rattle.std.specs.Result.{IfOk, OnErr}
+use Rattle.lisp_records.proofs.RouterLaws.{router_eq-Decides}
+use Rattle.lisp_records.specs.declared.address.Addr.{Addr}
+use Rattle.lisp_records.specs.declared.router.RouterId.{RouterId}
+use Rattle.lisp_records.specs.Address.{Block}
+use Rattle.lisp_records.specs.Record.{Mapping}
+use Rattle.lisp_records.specs.Router.{router_eq}
+use Rattle.lisp_records.specs.Row.{Holding}
+use Rattle.lisp_messages.specs.Message.{Registration}
+use Rattle.lisp_messages.specs.Authentic.{is_authentic}
+use Rattle.lisp_sites.specs.Site.{SiteEntry, site_of, secret_of}
+use Rattle.lisp_store.specs.Store.{StoreState}
+use Rattle.lisp_lookup.specs.Table.{is_row_of, row_at, last_of, Sets, Expires, if_alive}
+use Rattle.lisp_lookup.proofs.TableLaws.{found_holds, has_key, some_inj}
+use Rattle.lisp_server.specs.declared.contacts.Contact.{Contact}
+use Rattle.lisp_server.specs.declared.refused.Refused.{Refused}
+use Rattle.lisp_server.specs.declared.refused.Refused.TheVariants as refusals
+use Rattle.lisp_server.specs.declared.registration.Origin.{Origin}
+use Rattle.lisp_server.specs.declared.tables.Tables.{Tables}
+use Rattle.lisp_server.specs.declared.took.Took.{Took}
+use Rattle.lisp_server.specs.Checks.{Passed, secret_under, register_checked, check, refused_at, first_not_allowed, ◌>>=◌}
+use Rattle.lisp_server.specs.Contacts.{SetsContact, secret_at, IsHeard, Knows}
+use Rattle.lisp_server.specs.Receiving.{Accepts, contact_of}
+use Rattle.lisp_server.specs.Registration.{router_of, origin_of, holding, holdings}
+use Rattle.lisp_server.specs.Server.{SameTables, state_of}
+
+-- no row, no router
+pub none_known : (sites : List SiteEntry) (rows : List Holding) (contacts : List Contact) → rows ≡ [] → Knows sites rows contacts
+unfolding row_at
+none_known sites rows contacts none router eid h at = absurd (let clash : ◌≡◌ {A = Option Holding} None (Some h) = sym (ap (find (is_row_of router eid)) none) ∙ at in cc)
+
+-- rows that die
+pub known_expires : (sites : List SiteEntry) (old new : List Holding) (contacts : List Contact) (now : ℕ) → Expires old new now → Knows sites old contacts → Knows sites new contacts
+known_expires sites old new contacts now expires known router eid h at = by (row_at old router eid) refl (sym (expires router eid) ∙ at)
+  where
+    by : (o : Option Holding) → row_at old router eid ≡ o → option_and_then (if_alive now) o ≡ Some h → IsHeard sites contacts router
+    by None was at = absurd (let clash : ◌≡◌ {A = Option Holding} None (Some h) = at in cc)
+    by (Some g) was at = known router eid g was
+
+-- a Map-Register that passed the checks has a secret
+signs : (sites : List SiteEntry) (bytes : List ℕ) (m : Registration) (passed : Passed) → register_checked sites bytes m ≡ Ok passed → (passed.message ≡ m) × (secret_at sites m.site m.key_id ≡ Some passed.secret)
+unfolding secret_under
+signs sites bytes m passed e = by_site (site_of sites m.site) e
+  where
+    last : (a b : Bool) (o : Option ℕ) (secret s : List ℕ) → (check a refusals.BadAuth >>= λ _. check b refusals.MergeAsked >>= λ _. refused_at o secret) ≡ Ok s → s ≡ secret
+    last true true None secret s e = (let same : ◌≡◌ {A = Result (List ℕ) Refused} (Ok secret) (Ok s) = e in cc)
+    last true true (Some place) secret s e = absurd (let clash : ◌≡◌ {A = Result (List ℕ) Refused} (Err (refusals.NotAllowed place)) (Ok s) = e in cc)
+    last true false o secret s e = absurd (let clash : ◌≡◌ {A = Result (List ℕ) Refused} (Err refusals.MergeAsked) (Ok s) = e in cc)
+    last false b o secret s e = absurd (let clash : ◌≡◌ {A = Result (List ℕ) Refused} (Err refusals.BadAuth) (Ok s) = e in cc)
+
+    by_last : (x : List ℕ) (r : Result (List ℕ) Refused) → ((s : List ℕ) → r ≡ Ok s → s ≡ x) → (r >>= λ secret. Ok (record { message = m; secret = secret })) ≡ Ok passed → (passed.message ≡ m) × (◌≡◌ {A = Option (List ℕ)} (Some x) (Some passed.secret))
+    by_last x (Ok s) own e = (let same : ◌≡◌ {A = Result Passed Refused} (Ok (record { message = m; secret = s })) (Ok passed) = e in let is : record { message = m; secret = s } ≡ passed = cc in (ap (λ (p : Passed). p.message) (sym is), ap Some (sym (own s refl) ∙ ap (λ (p : Passed). p.secret) is)))
+    by_last x (Err why) own e = absurd (let clash : ◌≡◌ {A = Result Passed Refused} (Err why) (Ok passed) = e in cc)
+
+    by_secret : (site : SiteEntry) (o : Option (List ℕ)) → ((ok_or o refusals.UnknownKey >>= λ secret. check (is_authentic bytes secret) refusals.BadAuth >>= λ _. check (not m.merge) refusals.MergeAsked >>= λ _. refused_at (first_not_allowed site m.records) secret) >>= λ secret. Ok (record { message = m; secret = secret })) ≡ Ok passed → (passed.message ≡ m) × (o ≡ Some passed.secret)
+    by_secret site None e = absurd (let clash : ◌≡◌ {A = Result Passed Refused} (Err refusals.UnknownKey) (Ok passed) = e in cc)
+    by_secret site (Some x) e = by_last x (check (is_authentic bytes x) refusals.BadAuth >>= λ _. check (not m.merge) refusals.MergeAsked >>= λ _. refused_at (first_not_allowed site m.records) x) (λ s. last (is_authentic bytes x) (not m.merge) (first_not_allowed site m.records) x s) e
+
+    by_site : (o : Option SiteEntry) → ((ok_or o refusals.UnknownSite >>= λ site. ok_or (secret_of site m.key_id) refusals.UnknownKey >>= λ secret. check (is_authentic bytes secret) refusals.BadAuth >>= λ _. check (not m.merge) refusals.MergeAsked >>= λ _. refused_at (first_not_allowed site m.records) secret) >>= λ secret. Ok (record { message = m; secret = secret })) ≡ Ok passed → (passed.message ≡ m) × (option_and_then (λ s. secret_of s m.key_id) o ≡ Some passed.secret)
+    by_site None e = absurd (let clash : ◌≡◌ {A = Result Passed Refused} (Err refusals.UnknownSite) (Ok passed) = e in cc)
+    by_site (Some site) e = by_secret site (secret_of site m.key_id) e
+
+-- what is made of each is made of each in any order
+turned : {X Y : Type 0} (f : X → Y) (xs : List X) → map f (reverse xs) ≡ reverse (map f xs)
+turned f [] = refl
+turned f (x ∷ xs) = ap (map f) (reverse-append (x ∷ []) xs) ∙ map-append f (reverse xs) (x ∷ []) ∙ ap (λ l. l ++ f x ∷ []) (turned f xs) ∙ sym (reverse-append (f x ∷ []) (map f xs))
+
+-- the rows of a Map-Register are its router's
+its_router : (o : Origin) (ms : List Mapping) (p : Holding → Bool) (g : Holding) → find p (map (holding o) ms) ≡ Some g → g.router ≡ o.router
+its_router o [] p g e = absurd (let clash : ◌≡◌ {A = Option Holding} None (Some g) = e in cc)
+its_router o (m ∷ ms) p g e = by (p (holding o m)) (its_router o ms p g) e
+  where
+    by : (b : Bool) → (find p (map (holding o) ms) ≡ Some g → g.router ≡ o.router) → cond b (Some (holding o m)) (find p (map (holding o) ms)) ≡ Some g → g.router ≡ o.router
+    by true rest e = ap (λ (h : Holding). h.router) (sym (some_inj (holding o m) g e))
+    by false rest e = rest e
+
+module _ (sites : List SiteEntry) (m : Registration) (from : Addr) (now : ℕ) (old new : List Contact) (secret : List ℕ) (signed : secret_at sites m.site m.key_id ≡ Some secret) (sets : SetsContact old new (contact_of m from)) where
+  here : (q : RouterId) → q ≡ router_of m → IsHeard sites new q
+  here q its = subst (λ (r : RouterId). IsHeard sites new r) (sym its) (record { contact = contact_of m from; heard = sets.here; secret = secret; signs = signed })
+
+  still : (q : RouterId) → IsHeard sites old q → IsHeard sites new q
+  still q heard = by (router_eq q (router_of m)) refl
+    where
+      by : (b : Bool) → router_eq q (router_of m) ≡ b → IsHeard sites new q
+      by true same = here q ((router_eq-Decides q (router_of m)).0 same)
+      by false other = record {
+        contact = heard.contact;
+        heard = sets.others q (λ same. true≢false (sym ((router_eq-Decides q (router_of m)).1 same) ∙ other)) ∙ heard.heard;
+        secret = heard.secret;
+        signs = heard.signs;
+      }
+
+  pub known_sets : (rows rows' : List Holding) → Sets rows rows' (holdings m from now) → Knows sites rows old → Knows sites rows' new
+  known_sets rows rows' set known router eid h at = by (last_of (holdings m from now) router eid) refl (sym (set router eid) ∙ at)
+    where
+      own : (g : Holding) → last_of (holdings m from now) router eid ≡ Some g → g.router ≡ router
+      own g was = ap (λ (k : RouterId × Block). k.0) ((has_key (router, eid) g).0 (found_holds (is_row_of router eid) (reverse (holdings m from now)) g was).1)
+
+      by : (o : Option Holding) → last_of (holdings m from now) router eid ≡ o → option_or o (row_at rows router eid) ≡ Some h → IsHeard sites new router
+      by None was at = still router (known router eid h at)
+      by (Some g) was at = here router (sym (own g was) ∙ its_router (origin_of m from now) (reverse m.records) (is_row_of router eid) g (ap (find (is_row_of router eid)) (turned (holding (origin_of m from now)) m.records) ∙ was))
+
+-- what an accepted Map-Register, or a refused message, leaves
+pub known_after : {A : Type 0} (sites : List SiteEntry) (bytes : List ℕ) (m : Registration) (old new : Tables A) (before after : StoreState) (from : Addr) (now : ℕ) (r : Result (Took A) Refused) → IfOk r (λ took. Accepts (register_checked sites bytes m) (state_of sites old) (state_of sites new) before after from now took) → OnErr r (SameTables old new) → Knows sites old.rows.rows old.contacts.contacts → Knows sites new.rows.rows new.contacts.contacts
+known_after sites bytes m old new before after from now (Ok took) a same known = accepted (signs sites bytes m a.passed a.checks)
+  where
+    accepted : (a.passed.message ≡ m) × (secret_at sites m.site m.key_id ≡ Some a.passed.secret) → Knows sites new.rows.rows new.contacts.contacts
+    accepted (is, signed) = known_sets sites m from now old.contacts.contacts new.contacts.contacts a.passed.secret signed (subst (λ (n : Registration). SetsContact old.contacts.contacts new.contacts.contacts (contact_of n from)) is a.contacts) old.rows.rows new.rows.rows (subst (λ (n : Registration). Sets old.rows.rows new.rows.rows (holdings n from now)) is a.rows) known
+known_after sites bytes m old new before after from now (Err why) a same known = subst (λ (x : List Holding × List Contact). Knows sites x.0 x.1) (λ i. (sym same.rows i, sym same.contacts i)) known
