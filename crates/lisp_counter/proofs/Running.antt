@@ -1,13 +1,15 @@
 -- The numbers handed out so far, and what no later one can repeat.
-use Rattle.std.proofs.Common.{ℕ, ◌<◌, List, [], ◌++◌, Option, Some, None, arith}
-use Rattle.std.specs.List.{All}
+use Rattle.std.proofs.Common.{◌≡◌, ℕ, ◌+◌, ◌<◌, ◌≤◌, List, [], ◌++◌, Option, Some, None, true, IfSome, length, get_or, take, arith}
+use Rattle.std.specs.List.{All, filter}
 use Rattle.std.specs.Option.{option_to_list}
-use Rattle.std.proofs.lemmas.List.{append-nil}
+use Rattle.std.proofs.lemmas.List.{append-nil, length-append}
 use Rattle.std.proofs.lemmas.List.Elements.{All-nil, All-push, All-weaker}
+use Rattle.std.proofs.lemmas.List.Filters.{length-filter_more}
 use Rattle.std.proofs.lemmas.List.Quantifiers.{all_pairs_push}
 use Rattle.lisp_store.specs.declared.pair.Pair.{Pair}
 use Rattle.lisp_store.specs.Kept.{Kept, NoneBelow}
-use Rattle.lisp_counter.specs.Counter.{CounterState, Rises, Floor, Steps}
+use Rattle.lisp_counter.specs.Counter.{CounterState, asks, Rises, Floor, Steps}
+use Rattle.lisp_counter.specs.declared.schedule.Event.{Event}
 
 -- the numbers rise; each is a floor from here on, and so is what was below all at the opening
 pub record Running (pair : Pair) (opening : List (Option ℕ)) (numbers : List ℕ) (kept : Kept) (counter : Option CounterState) : Type 0 where
@@ -41,3 +43,9 @@ hands_out pair opening numbers old new was is so_far (Some m) steps = record {
   above = λ n none. All-push (λ k. n < k) numbers m (so_far.above n none) (steps n (so_far.floor n none)).above;
   floor = λ n none. (steps n (so_far.floor n none)).floor;
 }
+
+-- an event that hands out a number, or none, and asks for one where it does
+pub asked_more : (events : List Event) (i : ℕ) (d : Event) (numbers : List ℕ) → i < length events → length numbers ≤ length (filter asks (take i events))
+    → (number : Option ℕ) → IfSome number (λ _. asks (get_or events i d) ≡ true) → length (numbers ++ option_to_list number) ≤ length (filter asks (take (i + 1) events))
+asked_more events i d numbers within few None asked = rw (append-nil, length-filter_more asks events i d within) (omega (arith, few))
+asked_more events i d numbers within few (Some m) asked = rw (length-append, length-filter_more asks events i d within, asked) (omega (arith, few))

@@ -1,13 +1,21 @@
 -- A counter over a store, and what it means that numbers rise.
-use Rattle.std.specs.Prelude.{◌≡◌, ℕ, ◌<◌, ◌≤◌, List, Option, IfSome}
+use Rattle.std.specs.Prelude.{◌≡◌, ℕ, ◌<◌, ◌≤◌, List, Option, IfSome, Bool, true, false}
 use Rattle.std.specs.List.{AllPairs}
 use Rattle.lisp_store.specs.declared.pair.Pair.{Pair}
 use Rattle.lisp_store.specs.Kept.{Kept, kept_at, NoneBelow}
+use Rattle.lisp_counter.specs.declared.schedule.Event.{Event}
+use Rattle.lisp_counter.specs.declared.schedule.Event.TheVariants.{Next, NextInDoubt, Restart}
 
 -- a counter: what its numbers are for, and the last of them
 pub record CounterState : Type 0 where
   pub pair : Pair
   pub last : ℕ
+
+-- an event asks for a number, unless it is a restart
+abbrev pub asks : Event → Bool
+asks Next = true
+asks NextInDoubt = true
+asks (Restart pick) = false
 
 -- each number is above all before it
 abbrev pub Rises : List ℕ → Type 0

@@ -1,9 +1,10 @@
 //! What can happen to a counter and its store, and the numbers that are handed out meanwhile.
 
-ghost use Rattle.std.specs.Prelude.{◌≡◌, ◌<◌, ◌≤◌, ◌+◌, ◌++◌, [], ◌∷◌, ℕ, IsTrue, IfOk, OnErr, IfSome, All, vec_len, vec_capacity};
+ghost use Rattle.std.specs.Prelude.{◌≡◌, ◌<◌, ◌≤◌, ◌+◌, ◌++◌, [], ◌∷◌, ℕ, IsTrue, IfOk, OnErr, IfSome, All, length, true, vec_len, vec_capacity};
+ghost use Rattle.std.specs.List.{filter};
 ghost use Rattle.std.specs.Option.{option_to_list};
 ghost use Rattle.lisp_store.specs.Kept.{kept_at, NoneBelow};
-ghost use Rattle.lisp_counter.specs.Counter.{Floor, Steps, Rises};
+ghost use Rattle.lisp_counter.specs.Counter.{asks, Floor, Steps, Rises};
 
 use crate::counter::Counter;
 use lisp_store::{Fate, Pair, WorldStore};
@@ -35,6 +36,9 @@ pub fn run<S: WorldStore, A: Allocator>(
     ensures kept { IsTrue (S.seen store.old).is_honest → IfOk result (λ numbers. All (λ m. NoneBelow m (kept_at (S.seen store.new).kept pair)) numbers.items) }
     ensures honest { (S.seen store.new).is_honest ≡ (S.seen store.old).is_honest }
     ensures refused { OnErr result (S.seen store.new ≡ S.seen store.old) }
+
+    // No more of them than are asked for.
+    ensures asked { IfOk result (λ numbers. length numbers.items ≤ length (filter asks events.now)) }
 {
     let mut numbers = Vec::with_capacity(alloc, events.len())?;
     let mut counter = start(pair, store);
@@ -51,6 +55,7 @@ fn step<S: WorldStore>(
     counter: &mut Option<Counter>,
     event: Event,
 ) -> Option<u64>
+    ensures asked { IfSome result (λ _. asks event ≡ true) }
     ensures honest { (S.seen store.new).is_honest ≡ (S.seen store.old).is_honest }
     ensures steps { IsTrue (S.seen store.old).is_honest → (n : ℕ) → Floor pair n (S.seen store.old).kept counter.old → Steps pair n (S.seen store.new).kept counter.new result }
 {

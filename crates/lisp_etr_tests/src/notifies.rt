@@ -1,129 +1,82 @@
 //! Tests of what the router makes of messages: the worked rows of RFC 9301 sections 5.7 and 8.2.
 
-use crate::support::{SERVERS, acknowledgement, notify_bytes, start};
+use crate::support::{NOTICE, SERVERS, World, notify_bytes};
 use lisp_etr::{NotifyFault, Seen, SendFault, StartFault};
 use lisp_messages::{ReadFault, authentic};
 use lisp_records::Addr;
 use lisp_samples::{RECORD, SECRET};
-use lisp_store::{MemoryStore, StoreFault};
-use std::test::Fail;
+use lisp_store::StoreFault;
+use std::process::Abort;
 
 /// An address of no Map-Server.
 const STRANGER: Addr = Addr::V4([127, 0, 0, 99]);
 
-/// The first nonce of a Map-Server's own.
-const NOTICE: u64 = 9_223_372_036_854_775_808;
+/// The first 16 bytes of the Map-Notify-Ack that answers the notice.
+const ACK_HEAD: [u8; 16] = [0x50, 0, 0, 1, 0x80, 0, 0, 0, 0, 0, 0, 0, 1, 2, 0, 16];
+
+/// Messages of nonce 1 by whether they are a Map-Notify-Ack, their Key ID and secret, and their refusals.
+const REFUSED: [(bool, u8, &[u8], NotifyFault); 4] = [
+    (true, 1, SECRET, NotifyFault::NotMine),
+    (false, 2, SECRET, NotifyFault::WrongKey),
+    (false, 2, b"secreT", NotifyFault::WrongKey),
+    (false, 1, b"secreT", NotifyFault::BadAuth),
+];
 
 #[test]
-fn the_last_send_is_counted(rt: HostRuntime) -> Result<(), Fail> {
-    let mut store = MemoryStore::new(rt.alloc());
-    let mut router = start(rt.alloc(), &mut store)?;
-    let _first = router.send(&mut store, 0, 0)?;
-    let _second = router.send(&mut store, 0, 1_000)?;
-    let older = acknowledgement(rt.alloc(), 1)?;
-    let newer = acknowledgement(rt.alloc(), 2)?;
-    let seen = router.receive(SERVERS[0], &newer, 1_200)?;
-    assert!(rt;
-        matches!(
-            &seen,
-            Seen::Counted {
-                server: 0,
-                nonce: 2
-            }
-        )
-    );
-    assert_eq!(rt; router.acked(0), Some((1, 2)));
-    assert_eq!(rt; router.acked(1), None);
-    let refused = router.receive(SERVERS[0], &older, 1_300).err();
-    assert_eq!(rt; refused, Some(NotifyFault::Stale { latest: 2 }));
-    Ok(())
+fn the_last_send_is_counted(rt: HostRuntime) {
+    let mut world = World::start(&rt, rt.alloc());
+    world.sends(&rt, 0, 0);
+    world.sends(&rt, 0, 1_000);
+    world.counts(&rt, 2, 1_200);
+    world.has_acked(&rt, 0, Some((1, 2)));
+    world.has_acked(&rt, 1, None);
+    world.refuses(&rt, SERVERS[0], 1, 1_300, NotifyFault::Stale { latest: 2 });
 }
 
 #[test]
-fn a_minute_after_the_send_that_was_counted_the_next_is_due(rt: HostRuntime) -> Result<(), Fail> {
-    let mut store = MemoryStore::new(rt.alloc());
-    let mut router = start(rt.alloc(), &mut store)?;
-    let _other = router.send(&mut store, 1, 100_000)?;
-    let _sent = router.send(&mut store, 0, 500)?;
-    let bytes = acknowledgement(rt.alloc(), 2)?;
-    for moment in [900, 70_000] {
-        let seen = router.receive(SERVERS[0], &bytes, moment)?;
-        assert!(rt;
-            matches!(
-                &seen,
-                Seen::Counted {
-                    server: 0,
-                    nonce: 2
-                }
-            )
-        );
-        assert_eq!(rt; router.due(60_499), None);
-        assert_eq!(rt; router.due(60_500), Some(0));
+fn a_minute_after_the_send_that_was_counted_the_next_is_due(rt: HostRuntime) {
+    let mut world = World::start(&rt, rt.alloc());
+    world.sends(&rt, 1, 100_000);
+    world.sends(&rt, 0, 500);
+    world.counts(&rt, 2, 900);
+    world.is_due(&rt, 60_499, None);
+    world.is_due(&rt, 60_500, Some(0));
+    world.counts(&rt, 2, 70_000);
+    world.is_due(&rt, 60_499, None);
+    world.is_due(&rt, 60_500, Some(0));
+}
+
+#[test]
+fn a_nonce_counts_from_its_own_server_alone(rt: HostRuntime) {
+    let mut world = World::start(&rt, rt.alloc());
+    world.sends(&rt, 0, 0);
+    world.refuses(&rt, SERVERS[1], 1, 0, NotifyFault::Stale { latest: 0 });
+    world.refuses(&rt, STRANGER, 1, 0, NotifyFault::NotMine);
+    world.refuses(&rt, SERVERS[1], 0, 0, NotifyFault::Stale { latest: 0 });
+    world.has_acked(&rt, 0, None);
+    world.has_acked(&rt, 1, None);
+}
+
+#[test]
+fn the_first_fault_is_told(rt: HostRuntime) {
+    let mut world = World::start(&rt, rt.alloc());
+    world.sends(&rt, 0, 0);
+    world.refuses_bytes(&rt, STRANGER, &[], NotifyFault::Read(ReadFault::Short));
+    for (ack, key, secret, want) in REFUSED {
+        let bytes = notify_bytes(&rt, rt.alloc(), ack, 1, key, secret);
+        world.refuses_bytes(&rt, SERVERS[0], &bytes, want);
     }
-    Ok(())
+    world.has_acked(&rt, 0, None);
+    world.has_acked(&rt, 1, None);
 }
 
 #[test]
-fn a_nonce_counts_from_its_own_server_alone(rt: HostRuntime) -> Result<(), Fail> {
-    let mut store = MemoryStore::new(rt.alloc());
-    let mut router = start(rt.alloc(), &mut store)?;
-    let _sent = router.send(&mut store, 0, 0)?;
-    let bytes = acknowledgement(rt.alloc(), 1)?;
-    for (from, want) in [
-        (SERVERS[1], NotifyFault::Stale { latest: 0 }),
-        (STRANGER, NotifyFault::NotMine),
-    ] {
-        assert_eq!(rt; router.receive(from, &bytes, 0).err(), Some(want));
-    }
-    let zero = acknowledgement(rt.alloc(), 0)?;
-    let refused = router.receive(SERVERS[1], &zero, 0).err();
-    assert_eq!(rt; refused, Some(NotifyFault::Stale { latest: 0 }));
-    assert_eq!(rt; (router.acked(0), router.acked(1)), (None, None));
-    Ok(())
-}
-
-#[test]
-fn the_first_fault_is_told(rt: HostRuntime) -> Result<(), Fail> {
-    let mut store = MemoryStore::new(rt.alloc());
-    let mut router = start(rt.alloc(), &mut store)?;
-    let _sent = router.send(&mut store, 0, 0)?;
-    let short = router.receive(STRANGER, &[], 0).err();
-    assert_eq!(rt; short, Some(NotifyFault::Read(ReadFault::Short)));
-    for (ack, key, secret, want) in [
-        (true, 1, SECRET, NotifyFault::NotMine),
-        (false, 2, SECRET, NotifyFault::WrongKey),
-        (false, 2, b"secreT".as_slice(), NotifyFault::WrongKey),
-        (false, 1, b"secreT", NotifyFault::BadAuth),
-    ] {
-        let bytes = notify_bytes(rt.alloc(), ack, 1, key, secret)?;
-        assert_eq!(rt; router.receive(SERVERS[0], &bytes, 0).err(), Some(want));
-    }
-    assert_eq!(rt; router.acked(0), None);
-    Ok(())
-}
-
-#[test]
-fn a_notice_is_answered(rt: HostRuntime) -> Result<(), Fail> {
-    let mut store = MemoryStore::new(rt.alloc());
-    let mut router = start(rt.alloc(), &mut store)?;
-    let bytes = acknowledgement(rt.alloc(), NOTICE)?;
-    let Seen::Notice {
-        server,
-        nonce,
-        records,
-        answer,
-    } = router.receive(SERVERS[1], &bytes, 0)?
-    else {
-        return Err("no notice")?;
-    };
-    assert_eq!(rt; (server, nonce, records.as_slice().len()), (1, NOTICE, 1));
-    let answer = answer.as_slice();
-    assert_eq!(rt; answer.len(), 60);
-    assert!(rt; answer.starts_with(&[0x50, 0, 0, 1, 0x80, 0, 0, 0, 0, 0, 0, 0, 1, 2, 0, 16]));
-    assert!(rt; answer.ends_with(&RECORD));
-    assert!(rt; authentic(answer, SECRET));
-    assert_eq!(rt; router.acked(1), None);
-    Ok(())
+fn a_notice_is_answered(rt: HostRuntime) {
+    let mut world = World::start(&rt, rt.alloc());
+    let seen = world.notice(&rt);
+    assert_answered(&rt, &seen);
+    world.has_acked(&rt, 0, None);
+    world.has_acked(&rt, 1, None);
 }
 
 #[test]
@@ -141,4 +94,27 @@ fn faults_have_their_numbers(rt: HostRuntime) {
     assert_eq!(rt; NotifyFault::Stale { latest: 0 }.number(), 47);
     assert_eq!(rt; SendFault::OutOfMemory.number(), 48);
     assert_eq!(rt; NotifyFault::OutOfMemory.number(), 48);
+}
+
+/// Stops the test unless the notice of the second Map-Server is seen, and answered.
+fn assert_answered(rt: &impl Abort, seen: &Seen) {
+    let Seen::Notice {
+        server,
+        nonce,
+        records,
+        answer,
+    } = seen
+    else {
+        panic!(rt; "no notice")
+    };
+    assert_eq!(rt; (*server, *nonce, records.as_slice().len()), (1, NOTICE, 1));
+    assert_ack(rt, answer.as_slice());
+}
+
+/// Stops the test unless the bytes are the Map-Notify-Ack that answers the notice.
+fn assert_ack(rt: &impl Abort, bytes: &[u8]) {
+    assert_eq!(rt; bytes.len(), 60);
+    assert!(rt; bytes.starts_with(&ACK_HEAD));
+    assert!(rt; bytes.ends_with(&RECORD));
+    assert!(rt; authentic(bytes, SECRET));
 }

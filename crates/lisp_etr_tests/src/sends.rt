@@ -1,12 +1,13 @@
 //! Tests of what the router sends, and when: the worked rows of RFC 9301 sections 5.6 and 8.2.
 
-use crate::support::{PAIR, SERVERS, config, database, start};
-use lisp_etr::{Etr, SendFault, StartFault};
-use lisp_messages::{Message, authentic, read_message};
+use crate::support::{PAIR, SERVERS, World, assert_ttl, config, database};
+use lisp_etr::{Etr, EtrConfig, SendFault, StartFault, StartRefused};
+use lisp_messages::authentic;
 use lisp_records::Database;
 use lisp_samples::{RECORD, SECRET};
 use lisp_store::{Fate, MemoryStore, NonceStore, StoreFault, WorldStore};
-use std::test::Fail;
+use std::alloc::Global;
+use std::process::Abort;
 
 /// The first 16 bytes of the worked Map-Register: P, I and M set, one record, nonce 1.
 const REGISTER_HEAD: [u8; 16] = [0x3a, 0, 1, 1, 0, 0, 0, 0, 0, 0, 0, 1, 1, 2, 0, 16];
@@ -17,141 +18,132 @@ const IDS: [u8; 24] = [
 ];
 
 #[test]
-fn the_worked_register_is_sent(rt: HostRuntime) -> Result<(), Fail> {
-    let mut store = MemoryStore::new(rt.alloc());
-    let mut router = start(rt.alloc(), &mut store)?;
-    let bytes = router.send(&mut store, 0, 0)?;
-    assert_eq!(rt; bytes.len(), 84);
-    assert!(rt; authentic(&bytes, SECRET));
-    assert!(rt; bytes.starts_with(&REGISTER_HEAD));
-    let (head, _) = bytes.as_slice().split_at_checked(60).ok_or("no record")?;
-    assert!(rt; head.ends_with(&RECORD));
-    assert!(rt; bytes.ends_with(&IDS));
-    assert_eq!(rt; store.load(&PAIR), Ok(Some(1)));
-    Ok(())
+fn the_worked_register_is_sent(rt: HostRuntime) {
+    let mut world = World::start(&rt, rt.alloc());
+    let bytes = world.sent(&rt, 0, 0);
+    assert_worked_register(&rt, &bytes);
+    world.has_saved(&rt, 1);
 }
 
 #[test]
-fn an_empty_database_is_sent(rt: HostRuntime) -> Result<(), Fail> {
-    let mut store = MemoryStore::new(rt.alloc());
-    let mut router = start(rt.alloc(), &mut store)?;
-    router.change(Database::new(Vec::new(rt.alloc()))?, 0);
-    let bytes = router.send(&mut store, 0, 0)?;
+fn an_empty_database_is_sent(rt: HostRuntime) {
+    let mut world = World::start(&rt, rt.alloc());
+    let empty = Database::new(Vec::new(rt.alloc())).expect(&rt, "no database");
+    world.router.change(empty, 0);
+    let bytes = world.sent(&rt, 0, 0);
     assert_eq!(rt; bytes.len(), 56);
     assert!(rt; bytes.starts_with(&[0x3a, 0, 1, 0]));
-    Ok(())
 }
 
 #[test]
-fn the_present_database_is_sent(rt: HostRuntime) -> Result<(), Fail> {
-    let mut store = MemoryStore::new(rt.alloc());
-    let mut router = start(rt.alloc(), &mut store)?;
-    let _first = router.send(&mut store, 0, 0)?;
-    router.change(database(rt.alloc(), 60)?, 0);
-    let again = router.send(&mut store, 0, 0)?;
-    let Message::Register(register) = read_message(rt.alloc(), &again)? else {
-        return Err("no Map-Register")?;
-    };
-    assert_eq!(rt; register.nonce, 2);
-    let record = register.records.as_slice().first().ok_or("no record")?;
-    assert_eq!(rt; record.ttl(), 60);
-    Ok(())
+fn the_present_database_is_sent(rt: HostRuntime) {
+    let mut world = World::start(&rt, rt.alloc());
+    world.sends(&rt, 0, 0);
+    world.changes(&rt, 60, 0);
+    world.registers(&rt, 2, 60);
 }
 
 #[test]
-fn sends_when_due_are_farther_and_farther_apart(rt: HostRuntime) -> Result<(), Fail> {
-    let mut store = MemoryStore::new(rt.alloc());
-    let mut router = start(rt.alloc(), &mut store)?;
+fn sends_when_due_are_farther_and_farther_apart(rt: HostRuntime) {
+    let mut world = World::start(&rt, rt.alloc());
     for seconds in [0u64, 1, 3, 7, 15, 31, 63, 123, 183] {
         let moment = seconds.wrapping_mul(1000);
-        if moment > 0 {
-            assert_eq!(rt; router.due(moment.wrapping_sub(1)), None, "{seconds} s");
+        if let Some(before) = moment.checked_sub(1) {
+            world.is_due(&rt, before, None);
         }
-        assert_eq!(rt; router.due(moment), Some(0), "{seconds} s");
-        let _sent = router.send(&mut store, 0, moment)?;
-        let _other = router.send(&mut store, 1, moment)?;
+        world.is_due(&rt, moment, Some(0));
+        world.sends(&rt, 0, moment);
+        world.sends(&rt, 1, moment);
     }
-    Ok(())
 }
 
 #[test]
-fn a_send_that_is_not_due_counts_too(rt: HostRuntime) -> Result<(), Fail> {
-    let mut store = MemoryStore::new(rt.alloc());
-    let mut router = start(rt.alloc(), &mut store)?;
-    let _first = router.send(&mut store, 0, 500)?;
-    let _second = router.send(&mut store, 1, 500)?;
-    assert_eq!(rt; router.due(1_499), None);
-    assert_eq!(rt; router.due(1_500), Some(0));
-    assert_eq!(rt; store.load(&PAIR), Ok(Some(2)));
+fn a_send_that_is_not_due_counts_too(rt: HostRuntime) {
+    let mut world = World::start(&rt, rt.alloc());
+    world.sends(&rt, 0, 500);
+    world.sends(&rt, 1, 500);
+    world.is_due(&rt, 1_499, None);
+    world.is_due(&rt, 1_500, Some(0));
+    world.has_saved(&rt, 2);
 
     // After a change each Map-Server is due at once.
-    router.change(database(rt.alloc(), 7)?, 600);
-    assert_eq!(rt; router.due(599), None);
-    assert_eq!(rt; router.due(600), Some(0));
-    let _third = router.send(&mut store, 0, 600)?;
-    assert_eq!(rt; router.due(600), Some(1));
-    Ok(())
+    world.changes(&rt, 7, 600);
+    world.is_due(&rt, 599, None);
+    world.is_due(&rt, 600, Some(0));
+    world.sends(&rt, 0, 600);
+    world.is_due(&rt, 600, Some(1));
 }
 
 #[test]
-fn a_save_in_doubt_is_told_by_a_restart(rt: HostRuntime) -> Result<(), Fail> {
+fn a_save_in_doubt_is_told_by_a_restart(rt: HostRuntime) {
     for (pick, next) in [(0, 2), (1, 3)] {
-        let mut store = MemoryStore::new(rt.alloc());
-        let mut router = start(rt.alloc(), &mut store)?;
-        let _sent = router.send(&mut store, 0, 0)?;
-        store.arm(Fate::Doubt);
-        let refused = router.send(&mut store, 0, 0).err();
-        assert_eq!(rt; refused, Some(SendFault::Store(StoreFault::Device)));
-        assert_eq!(rt; router.due(999), Some(1));
-        store.arm(Fate::Done);
-        store.restart(pick);
-        let mut router = start(rt.alloc(), &mut store)?;
-        let _again = router.send(&mut store, 0, 0)?;
-        assert_eq!(rt; store.load(&PAIR), Ok(Some(next)), "{pick}");
+        let mut world = restarted_in_doubt(&rt, rt.alloc(), pick);
+        world.sends(&rt, 0, 0);
+        world.has_saved(&rt, next);
     }
-    Ok(())
 }
 
 #[test]
-fn the_last_nonce_is_the_last(rt: HostRuntime) -> Result<(), Fail> {
+fn the_last_nonce_is_the_last(rt: HostRuntime) {
     let mut store = MemoryStore::new(rt.alloc());
-    store.save(&PAIR, 9_223_372_036_854_775_806)?;
-    let mut router = start(rt.alloc(), &mut store)?;
-    let bytes = router.send(&mut store, 1, 0)?;
-    let Message::Register(register) = read_message(rt.alloc(), &bytes)? else {
-        return Err("no Map-Register")?;
-    };
-    assert_eq!(rt; register.nonce, 9_223_372_036_854_775_807);
-    for (server, want) in [(0, SendFault::NonceSpent), (2, SendFault::NoServer)] {
-        assert_eq!(rt; router.send(&mut store, server, 0).err(), Some(want));
-    }
-    Ok(())
+    assert!(rt; store.save(&PAIR, 9_223_372_036_854_775_806).is_ok());
+    let mut world = World::over(&rt, rt.alloc(), store);
+    world.registers(&rt, 9_223_372_036_854_775_807, 1440);
+    world.refuses_to_send(&rt, 0, SendFault::NonceSpent);
+    world.refuses_to_send(&rt, 2, SendFault::NoServer);
 }
 
 #[test]
-fn a_router_that_can_not_load_does_not_start(rt: HostRuntime) -> Result<(), Fail> {
+fn a_router_that_can_not_load_does_not_start(rt: HostRuntime) {
     let mut store = MemoryStore::new(rt.alloc());
     store.arm(Fate::LoadFails);
-    let config = config(rt.alloc())?;
-    let database = database(rt.alloc(), 1440)?;
-    let Err(refused) = Etr::start(rt.alloc(), config, database, &mut store, 0) else {
-        return Err("started")?;
-    };
+    let (config, database) = (config(&rt, rt.alloc()), database(&rt, rt.alloc(), 1440));
+    match Etr::start(rt.alloc(), config, database, &mut store, 0) {
+        Ok(_) => panic!(rt; "started"),
+        Err(refused) => assert_given_back(&rt, &refused),
+    }
+}
+
+#[test]
+fn a_stop_gives_back_what_was_told(rt: HostRuntime) {
+    let mut world = World::start(&rt, rt.alloc());
+    world.changes(&rt, 60, 0);
+    assert_ttl(&rt, world.router.database().records(), 60);
+    let (config, database) = world.router.stop();
+    assert_servers(&rt, &config);
+    assert_ttl(&rt, database.records(), 60);
+}
+
+/// Stops the test unless the bytes are the worked Map-Register.
+fn assert_worked_register(rt: &impl Abort, bytes: &[u8]) {
+    assert_eq!(rt; bytes.len(), 84);
+    assert!(rt; authentic(bytes, SECRET));
+    assert!(rt; bytes.starts_with(&REGISTER_HEAD));
+    let (front, _) = bytes.split_at_checked(60).expect(rt, "no record");
+    assert!(rt; front.ends_with(&RECORD));
+    assert!(rt; bytes.ends_with(&IDS));
+}
+
+/// The worked router, restarted after the save of nonce 2 was in doubt, by the store's pick.
+fn restarted_in_doubt(rt: &impl Abort, alloc: Global, pick: u64) -> World {
+    let mut world = World::start(rt, alloc);
+    world.sends(rt, 0, 0);
+    world.store.arm(Fate::Doubt);
+    world.refuses_to_send(rt, 0, SendFault::Store(StoreFault::Device));
+    world.is_due(rt, 999, Some(1));
+    world.store.arm(Fate::Done);
+    world.store.restart(pick);
+    world.restart(rt)
+}
+
+/// Stops the test unless the router couldn't load, and what it was told is given back.
+fn assert_given_back(rt: &impl Abort, refused: &StartRefused) {
     assert_eq!(rt; refused.fault, StartFault::Store(StoreFault::Device));
     assert_eq!(rt; refused.config.secret.as_slice(), SECRET);
     assert_eq!(rt; refused.database.records().len(), 1);
-    Ok(())
 }
 
-#[test]
-fn a_stop_gives_back_what_was_told(rt: HostRuntime) -> Result<(), Fail> {
-    let mut store = MemoryStore::new(rt.alloc());
-    let mut router = start(rt.alloc(), &mut store)?;
-    router.change(database(rt.alloc(), 60)?, 0);
-    assert_eq!(rt; router.database().records().len(), 1);
-    let (config, database) = router.stop();
+/// Stops the test unless the Map-Servers are those of the worked router.
+fn assert_servers(rt: &impl Abort, config: &EtrConfig) {
     assert_eq!(rt; config.servers.as_slice(), SERVERS.as_slice());
-    let record = database.records().first().ok_or("no record")?;
-    assert_eq!(rt; record.ttl(), 60);
-    Ok(())
 }

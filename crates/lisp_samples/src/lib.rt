@@ -6,7 +6,7 @@ mod heap;
 
 pub use heap::{HEAP_LEN, MOST_BLOCKS, fill};
 use lisp_records::{Addr, Locator, MapRecord, Prefix};
-use std::alloc::{Allocator, Global};
+use std::alloc::Allocator;
 use std::test::Fail;
 
 /// The worked record, as it is written.
@@ -51,19 +51,7 @@ pub fn fields<A: Allocator>(record: &MapRecord<A>) -> Fields<'_> {
     )
 }
 
-/// The block of the addresses that begin as this one does.
-pub fn block(addr: Addr, mask_len: u8) -> Result<Prefix, Fail> {
-    Ok(Prefix::new(addr, mask_len).ok_or("the mask is too long")?)
-}
-
 /// A block of IPv4 addresses.
 pub fn ipv4_block(octets: [u8; 4], mask_len: u8) -> Result<Prefix, Fail> {
-    block(Addr::V4(octets), mask_len)
-}
-
-/// The worked record, built.
-pub fn worked_record(alloc: Global) -> Result<MapRecord, Fail> {
-    let eid = ipv4_block([10, 1, 0, 0], 16)?;
-    let locators = vec![in alloc; LOCATOR]?;
-    Ok(MapRecord::new(1440, 0, true, 0, eid, locators).ok_or("a field is too large")?)
+    Ok(Prefix::new(Addr::V4(octets), mask_len).ok_or("the mask is too long")?)
 }

@@ -4,6 +4,14 @@
 #[cfg(test)]
 mod memory;
 #[cfg(test)]
+mod notice_faults;
+#[cfg(test)]
+mod notice_memory;
+#[cfg(test)]
+mod notice_support;
+#[cfg(test)]
+mod notices;
+#[cfg(test)]
 mod servers;
 #[cfg(test)]
 mod support;

@@ -2,36 +2,17 @@
 //! 8.2.
 
 use crate::support::{
-    Eid, FIRST, FOREIGN, NARROW, SECOND, Sent, WIDE, World, assert_worked_record, notify_bytes,
-    router_of, with_nonce, with_records, written,
+    Eid, FIRST, FOREIGN, NARROW, SECOND, Sent, TWO_KEYS, WIDE, WRONG, World, assert_worked_record,
+    notify_bytes, router_of, under_second_key, with_nonce, with_records, written,
 };
 use lisp_lookup::Answer;
 use lisp_messages::{Message, ReadFault, authentic, read_message};
 use lisp_records::{Addr, Row};
 use lisp_samples::{RECORD, SECRET};
 use lisp_server::Refused;
-use lisp_sites::Config;
 use lisp_store::{Fate, StoreFault, WorldStore};
 use std::alloc::Global;
 use std::process::Abort;
-
-/// The worked site with a second key, of another secret.
-const TWO_KEYS: &str = r#"
-[[site]]
-id = "0000000000000001"
-[[site.key]]
-id = 1
-secret = "736563726574"
-[[site.key]]
-id = 2
-secret = "6f74686572"
-[[site.prefix]]
-eid = "10.1.0.0/16"
-more_specifics = true
-"#;
-
-/// A secret that is not the site's.
-const WRONG: &[u8] = b"secreT";
 
 /// Messages of nonce 1 by their Site-ID, Key ID, secret, bit a and prefix, and their refusals: first with
 /// one fault, then with two, of which the earlier is told.
@@ -185,13 +166,8 @@ fn nonce_zero_is_a_nonce(rt: HostRuntime) {
 
 #[test]
 fn each_key_of_a_router_has_its_own_last_nonce(rt: HostRuntime) {
-    let mut world = world_of_two_keys(&rt, rt.alloc());
-    let other = Sent {
-        key: 2,
-        secret: b"other",
-        nonce: 3,
-        ..FIRST
-    };
+    let mut world = World::configured(&rt, rt.alloc(), TWO_KEYS);
+    let other = under_second_key(with_nonce(3));
     world.accepts(&rt, &with_nonce(7));
     world.accepts(&rt, &other);
     world.refuses(&rt, &other, Refused::Replay { saved: 3 });
@@ -389,13 +365,6 @@ fn assert_life(rt: &impl Abort, alloc: Global, use_ttl: bool, ttl: u32, life: u6
         world.holds(rt, last, &[(0x0a, WIDE, ttl, 1)]);
     }
     world.holds(rt, life, &[]);
-}
-
-/// A Map-Server of the worked site with a second key.
-fn world_of_two_keys(rt: &impl Abort, alloc: Global) -> World {
-    let config = Config::from_toml(alloc, alloc, TWO_KEYS).expect(rt, "no configuration");
-    let sites = config.sites().copy(alloc).expect(rt, "the sites");
-    World::of(alloc, sites)
 }
 
 /// A Map-Server that took r1's two prefixes and r2's one, 0, 1 and 2, in this order.

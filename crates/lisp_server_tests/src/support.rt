@@ -4,7 +4,7 @@ use lisp_messages::{MapNotify, MapRegister, write_notify, write_register};
 use lisp_records::{Addr, Bytes, Locator, MapRecord, Prefix, Records, RouterId};
 use lisp_samples::{LOCATOR, SECRET, fields};
 use lisp_server::{Refused, Server, Took};
-use lisp_sites::Sites;
+use lisp_sites::{Config, Sites};
 use lisp_store::{MemoryStore, Pair, PairKind};
 use std::alloc::{Allocator, Global};
 use std::process::Abort;
@@ -23,6 +23,24 @@ pub(crate) const NARROW: Eid = ([10, 1, 2, 0], 24);
 
 /// A prefix that the site may not register.
 pub(crate) const FOREIGN: Eid = ([10, 2, 0, 0], 16);
+
+/// The worked site with a second key, of another secret.
+pub(crate) const TWO_KEYS: &str = r#"
+[[site]]
+id = "0000000000000001"
+[[site.key]]
+id = 1
+secret = "736563726574"
+[[site.key]]
+id = 2
+secret = "6f74686572"
+[[site.prefix]]
+eid = "10.1.0.0/16"
+more_specifics = true
+"#;
+
+/// A secret that is not the site's.
+pub(crate) const WRONG: &[u8] = b"secreT";
 
 /// A router of the site.
 #[derive(Clone, Copy, Debug)]
@@ -80,7 +98,7 @@ pub(crate) const SECOND: Sent<'static> = Sent {
 /// A Map-Server and its store. Its methods stop the test where something else comes than what is wanted.
 #[derive(Drop)]
 pub(crate) struct World {
-    alloc: Global,
+    pub(crate) alloc: Global,
     pub(crate) server: Server,
     pub(crate) store: MemoryStore,
 }
@@ -98,6 +116,12 @@ impl World {
             server: Server::start(alloc, sites),
             store: MemoryStore::new(alloc),
         }
+    }
+
+    /// A Map-Server that is configured so, and a store that keeps nothing.
+    pub(crate) fn configured(rt: &impl Abort, alloc: Global, toml: &str) -> World {
+        let config = Config::from_toml(alloc, alloc, toml).expect(rt, "no configuration");
+        World::of(alloc, config.sites().copy(alloc).expect(rt, "the sites"))
     }
 
     /// The same sites and the same store.
@@ -232,6 +256,38 @@ pub(crate) fn with_records(nonce: u64, records: &[(Eid, u32)]) -> Sent<'_> {
     }
 }
 
+/// The first so many prefixes of 24 bits in the site's, each with a TTL.
+pub(crate) fn numbered_records(rt: &impl Abort, alloc: Global, count: u32) -> Vec<(Eid, u32)> {
+    let mut records = Vec::new(alloc);
+    for (_, third) in (0..count).zip(0..=u8::MAX) {
+        records
+            .push((([10, 1, third, 0], 24), 1440))
+            .expect(rt, "a record");
+    }
+    records
+}
+
+/// The same Map-Register with another nonce, from another address: 127.0.0.`end`.
+pub(crate) fn from_elsewhere<'a>(sent: &Sent<'a>, nonce: u64, end: u8) -> Sent<'a> {
+    Sent {
+        router: Router {
+            from: Addr::V4([127, 0, 0, end]),
+            ..sent.router
+        },
+        nonce,
+        ..*sent
+    }
+}
+
+/// The same Map-Register under the second key of the site that has two.
+pub(crate) fn under_second_key(sent: Sent<'_>) -> Sent<'_> {
+    Sent {
+        key: 2,
+        secret: b"other",
+        ..sent
+    }
+}
+
 /// The router that sends a Map-Register.
 pub(crate) fn router_of(sent: &Sent<'_>) -> RouterId {
     let mut xtr = [0; 16];
@@ -273,7 +329,7 @@ pub(crate) fn written(rt: &impl Abort, alloc: Global, sent: &Sent<'_>) -> Vec<u8
 }
 
 /// The records of a Map-Register.
-fn records_of(rt: &impl Abort, alloc: Global, sent: &Sent<'_>) -> Vec<MapRecord> {
+pub(crate) fn records_of(rt: &impl Abort, alloc: Global, sent: &Sent<'_>) -> Vec<MapRecord> {
     let mut records = Vec::new(alloc);
     for (eid, ttl) in sent.records {
         let record = record_of(rt, alloc, sent.router.locator, *eid, *ttl);
@@ -292,7 +348,7 @@ fn record_of(rt: &impl Abort, alloc: Global, addr: Addr, eid: Eid, ttl: u32) -> 
 }
 
 /// The prefix of a record.
-fn block(rt: &impl Abort, eid: Eid) -> Prefix {
+pub(crate) fn block(rt: &impl Abort, eid: Eid) -> Prefix {
     let (octets, mask_len) = eid;
     Prefix::new(Addr::V4(octets), mask_len).expect(rt, "the mask is too long")
 }

@@ -1,12 +1,11 @@
 //! What a configuration says: its sites, Map-Servers and routers.
 
-use crate::configuration_faults::{edited_fault, fault_of};
-use lisp_records::{Addr, Locator, RouterId};
-use lisp_samples::{LOCATOR, SECRET, fields, ipv4_block};
-use lisp_sites::{Config, RouterEntry, SitePrefix, Sites};
-use std::alloc::Allocator;
+use crate::configuration_faults::{assert_edited, assert_fault};
+use lisp_records::{Addr, Locator, MapRecord, Prefix, RouterId};
+use lisp_samples::{LOCATOR, SECRET, fields};
+use lisp_sites::{Config, RouterEntry, ServerEntry, Site, SitePrefix, Sites};
+use std::alloc::{Allocator, Global};
 use std::process::Abort;
-use std::test::Fail;
 
 /// The worked configuration.
 pub const CONFIGURATION: &str =
@@ -59,26 +58,43 @@ struct Row<'a> {
     locator: [u8; 4],
 }
 
+/// The routers of it.
+const ROUTERS: [Row<'static>; 2] = [
+    Row {
+        name: "r1",
+        address: [127, 0, 0, 21],
+        last: 0x0a,
+        servers: &[0, 1],
+        proxy: true,
+        eid: ([10, 1, 0, 0], 16),
+        locator: [192, 0, 2, 1],
+    },
+    Row {
+        name: "r2",
+        address: [127, 0, 0, 22],
+        last: 0x0b,
+        servers: &[0],
+        proxy: false,
+        eid: ([10, 1, 2, 0], 24),
+        locator: [192, 0, 2, 2],
+    },
+];
+
 #[test]
-fn the_worked_configuration_has_its_values(rt: HostRuntime) -> Result<(), Fail> {
-    let config = Config::from_toml(rt.alloc(), rt.alloc(), CONFIGURATION)?;
-    assert_worked_config(&rt, &config)
+fn the_worked_configuration_has_its_values(rt: HostRuntime) {
+    assert_worked_config(&rt, &config_of(&rt, rt.alloc(), CONFIGURATION));
 }
 
 #[test]
-fn an_empty_text_says_nothing(rt: HostRuntime) -> Result<(), Fail> {
+fn an_empty_text_says_nothing(rt: HostRuntime) {
     for text in [
         "",
         "\n",
         "# A comment alone.",
         "site = []\nserver = []\nrouter = []",
     ] {
-        let config = Config::from_toml(rt.alloc(), rt.alloc(), text)?;
-        assert_eq!(rt; config.sites().as_slice().len(), 0, "{text:?}");
-        assert_eq!(rt; config.servers().len(), 0, "{text:?}");
-        assert_eq!(rt; config.routers().len(), 0, "{text:?}");
+        assert_empty(&rt, rt.alloc(), text);
     }
-    Ok(())
 }
 
 /// Two sites, one with two keys; one router, all else left out, and digits in both letter cases.
@@ -105,27 +121,22 @@ secret = "Ff00"
 eid = "10.1.255.255/16"
 "#;
 
+/// The xTR-ID of its router.
+const SPARSE_XTR: [u8; 16] = [
+    0xab, 0xcd, 0xef, 0xab, 0xcd, 0xef, 0xab, 0xcd, 0xef, 0xab, 0xcd, 0xef, 0xab, 0xcd, 0xef, 0xfe,
+];
+
 #[test]
-fn what_is_left_out_is_none_or_false(rt: HostRuntime) -> Result<(), Fail> {
-    let config = Config::from_toml(rt.alloc(), rt.alloc(), SPARSE)?;
-    let [empty, site] = config.sites().as_slice() else {
-        return Err("not two sites")?;
-    };
-    assert_eq!(rt;
-        (empty.id(), empty.prefixes().len()),
-        (0xabcd_efab_cdef_0123, 0)
-    );
-    assert_eq!(rt; empty.secret(0), None);
-    assert_eq!(rt; (site.id(), site.secret(1)), (255, None));
-    assert_eq!(rt; site.secret(0), Some([0x0a].as_slice()));
-    assert_eq!(rt; site.secret(255), Some([0xff, 0].as_slice()));
-    let prefix = SitePrefix {
-        eid: ipv4_block([10, 1, 0, 0], 16)?,
-        more_specifics: false,
-    };
-    assert_eq!(rt; site.prefixes(), [prefix].as_slice());
+fn sites_that_are_left_out_are_none(rt: HostRuntime) {
+    let config = config_of(&rt, rt.alloc(), SPARSE);
+    assert_sparse_sites(&rt, config.sites());
     assert_eq!(rt; config.servers().len(), 0);
-    assert_sparse_router(&rt, config.routers())
+}
+
+#[test]
+fn what_is_left_out_of_a_router_is_none_or_false(rt: HostRuntime) {
+    let config = config_of(&rt, rt.alloc(), SPARSE);
+    assert_sparse_router(&rt, config.routers());
 }
 
 /// Edits after which the worked configuration is still one.
@@ -166,76 +177,96 @@ const GOOD: [(&str, &str); 18] = [
 ];
 
 #[test]
-fn what_means_nothing_or_has_a_default_is_no_fault(rt: HostRuntime) -> Result<(), Fail> {
-    assert_eq!(rt; fault_of(&rt, CONFIGURATION), None);
+fn what_means_nothing_or_has_a_default_is_no_fault(rt: HostRuntime) {
+    assert_fault(&rt, rt.alloc(), CONFIGURATION, None);
     for (old, new) in GOOD {
-        assert_eq!(rt; edited_fault(&rt, &[(old, new)])?, None, "{new}");
+        assert_edited(&rt, rt.alloc(), &[(old, new)], None);
     }
-    Ok(())
+}
+
+/// The configuration that a text is.
+pub fn config_of(rt: &impl Abort, alloc: Global, text: &str) -> Config {
+    Config::from_toml(alloc, alloc, text).expect(rt, "no configuration")
+}
+
+/// A block of IPv4 addresses.
+pub fn ipv4_block(rt: &impl Abort, octets: [u8; 4], mask_len: u8) -> Prefix {
+    Prefix::new(Addr::V4(octets), mask_len).expect(rt, "the mask is too long")
+}
+
+/// Stops the test unless the text is a configuration of nothing.
+fn assert_empty(rt: &impl Abort, alloc: Global, text: &str) {
+    let config = config_of(rt, alloc, text);
+    let sites = config.sites().as_slice().len();
+    let (servers, routers) = (config.servers().len(), config.routers().len());
+    assert_eq!(rt; (sites, servers, routers), (0, 0, 0), "{text:?}");
 }
 
 /// Stops the test unless the configuration is the worked one.
-pub fn assert_worked_config<A: Allocator>(rt: &impl Abort, config: &Config<A>) -> Result<(), Fail> {
-    assert_worked_sites(rt, config.sites())?;
-    assert_eq!(rt; config.servers().len(), 2);
-    for ((name, octets), server) in [("s1", [127, 0, 0, 11]), ("s2", [127, 0, 0, 12])]
-        .into_iter()
-        .zip(config.servers())
-    {
-        assert_eq!(rt;
-            (server.name.as_str(), server.address),
-            (name, Addr::V4(octets))
-        );
-    }
-    let [first, second] = config.routers() else {
-        return Err("not two routers")?;
+pub fn assert_worked_config<A: Allocator>(rt: &impl Abort, config: &Config<A>) {
+    assert_worked_sites(rt, config.sites());
+    assert_worked_servers(rt, config.servers());
+    assert_worked_routers(rt, config.routers());
+}
+
+/// Stops the test unless the Map-Servers are those of the worked configuration.
+fn assert_worked_servers<A: Allocator>(rt: &impl Abort, servers: &[ServerEntry<A>]) {
+    let [first, second] = servers else {
+        panic!(rt; "{} Map-Servers", servers.len())
     };
-    let row = Row {
-        name: "r1",
-        address: [127, 0, 0, 21],
-        last: 0x0a,
-        servers: &[0, 1],
-        proxy: true,
-        eid: ([10, 1, 0, 0], 16),
-        locator: [192, 0, 2, 1],
+    assert_server(rt, first, "s1", [127, 0, 0, 11]);
+    assert_server(rt, second, "s2", [127, 0, 0, 12]);
+}
+
+/// Stops the test unless the Map-Server has this name and this address.
+fn assert_server<A: Allocator>(
+    rt: &impl Abort,
+    server: &ServerEntry<A>,
+    name: &str,
+    octets: [u8; 4],
+) {
+    assert_eq!(rt; server.name.as_str(), name);
+    assert_eq!(rt; server.address, Addr::V4(octets));
+}
+
+/// Stops the test unless the routers are those of the worked configuration.
+fn assert_worked_routers<A: Allocator>(rt: &impl Abort, routers: &[RouterEntry<A>]) {
+    let [first, second] = routers else {
+        panic!(rt; "{} routers", routers.len())
     };
-    assert_router(rt, first, row)?;
-    let row = Row {
-        name: "r2",
-        address: [127, 0, 0, 22],
-        last: 0x0b,
-        servers: &[0],
-        proxy: false,
-        eid: ([10, 1, 2, 0], 24),
-        locator: [192, 0, 2, 2],
-    };
-    assert_router(rt, second, row)
+    assert_router(rt, first, &ROUTERS[0]);
+    assert_router(rt, second, &ROUTERS[1]);
 }
 
 /// Stops the test unless the sites are those of the worked configuration.
-pub fn assert_worked_sites<A: Allocator>(rt: &impl Abort, sites: &Sites<A>) -> Result<(), Fail> {
+pub fn assert_worked_sites<A: Allocator>(rt: &impl Abort, sites: &Sites<A>) {
     let [site] = sites.as_slice() else {
-        return Err("not one site")?;
+        panic!(rt; "{} sites", sites.as_slice().len())
     };
     assert_eq!(rt; site.id(), 1);
+    assert_worked_keys(rt, site);
+    assert_prefix(rt, site, true);
+}
+
+/// Stops the test unless the site has the worked key and no other.
+fn assert_worked_keys<A: Allocator>(rt: &impl Abort, site: &Site<A>) {
     for key_id in 0..=255 {
         let wanted = if key_id == 1 { Some(SECRET) } else { None };
         assert_eq!(rt; site.secret(key_id), wanted, "key {key_id}");
     }
+}
+
+/// Stops the test unless the site has the worked prefix alone, with more-specifics or without.
+fn assert_prefix<A: Allocator>(rt: &impl Abort, site: &Site<A>, more_specifics: bool) {
     let prefix = SitePrefix {
-        eid: ipv4_block([10, 1, 0, 0], 16)?,
-        more_specifics: true,
+        eid: ipv4_block(rt, [10, 1, 0, 0], 16),
+        more_specifics,
     };
     assert_eq!(rt; site.prefixes(), [prefix].as_slice());
-    Ok(())
 }
 
 /// Stops the test unless the router is that of the row.
-fn assert_router<A: Allocator>(
-    rt: &impl Abort,
-    router: &RouterEntry<A>,
-    row: Row<'_>,
-) -> Result<(), Fail> {
+fn assert_router<A: Allocator>(rt: &impl Abort, router: &RouterEntry<A>, row: &Row<'_>) {
     let mut xtr = [0; 16];
     xtr[15] = row.last;
     assert_eq!(rt; router.name.as_str(), row.name);
@@ -243,11 +274,16 @@ fn assert_router<A: Allocator>(
     assert_eq!(rt; (router.me, router.key_id), (RouterId { site: 1, xtr }, 1));
     assert_eq!(rt; router.servers.as_slice(), row.servers);
     assert_eq!(rt; (router.proxy, router.use_ttl), (row.proxy, false));
-    let [record] = router.database.records() else {
-        return Err("not one record")?;
+    assert_records(rt, router.database.records(), row);
+}
+
+/// Stops the test unless the one record is that of the row.
+fn assert_records<A: Allocator>(rt: &impl Abort, records: &[MapRecord<A>], row: &Row<'_>) {
+    let [record] = records else {
+        panic!(rt; "{} records", records.len())
     };
     let (octets, mask_len) = row.eid;
-    let eid = ipv4_block(octets, mask_len)?;
+    let eid = ipv4_block(rt, octets, mask_len);
     let locator = Locator {
         addr: Addr::V4(row.locator),
         ..LOCATOR
@@ -256,30 +292,40 @@ fn assert_router<A: Allocator>(
         fields(record),
         (1440, 0, true, 0, eid, [locator].as_slice())
     );
-    Ok(())
+}
+
+/// Stops the test unless these are the sites of `SPARSE`.
+fn assert_sparse_sites(rt: &impl Abort, sites: &Sites) {
+    let [empty, site] = sites.as_slice() else {
+        panic!(rt; "{} sites", sites.as_slice().len())
+    };
+    assert_eq!(rt;
+        (empty.id(), empty.prefixes().len()),
+        (0xabcd_efab_cdef_0123, 0)
+    );
+    assert_eq!(rt; empty.secret(0), None);
+    assert_eq!(rt; (site.id(), site.secret(1)), (255, None));
+    assert_eq!(rt; site.secret(0), Some([0x0a].as_slice()));
+    assert_eq!(rt; site.secret(255), Some([0xff, 0].as_slice()));
+    assert_prefix(rt, site, false);
 }
 
 /// Stops the test unless these are the one router of `SPARSE`.
-fn assert_sparse_router(rt: &impl Abort, routers: &[RouterEntry]) -> Result<(), Fail> {
+fn assert_sparse_router(rt: &impl Abort, routers: &[RouterEntry]) {
     let [router] = routers else {
-        return Err("not one router")?;
+        panic!(rt; "{} routers", routers.len())
     };
-    let mut xtr = [0; 16];
-    for (place, byte) in xtr.iter_mut().enumerate() {
-        *byte = [0xab, 0xcd, 0xef][place % 3];
-    }
-    xtr[15] = 0xfe;
+    let me = RouterId {
+        site: 255,
+        xtr: SPARSE_XTR,
+    };
     assert_eq!(rt; router.name.as_str(), "abcdefghijklmnopqrstuvwxyz-01234");
     assert_eq!(rt;
         router.address,
         Addr::V6([0x20, 0x01, 0x0d, 0xb8, 0, 0, 0, 0, 0, 0, 0, 0, 0, 0, 0, 1])
     );
-    assert_eq!(rt;
-        (router.me, router.key_id),
-        (RouterId { site: 255, xtr }, 255)
-    );
+    assert_eq!(rt; (router.me, router.key_id), (me, 255));
     assert_eq!(rt; router.servers.as_slice().len(), 0);
     assert_eq!(rt; (router.proxy, router.use_ttl), (false, true));
     assert_eq!(rt; router.database.records().len(), 0);
-    Ok(())
 }

@@ -2,8 +2,8 @@
 
 use crate::configuration::CONFIGURATION;
 use lisp_sites::{Config, ConfigFault, Field};
+use std::alloc::Global;
 use std::process::Abort;
-use std::test::Fail;
 
 /// An entry's text in the worked configuration, what stands in its place, and the field at fault.
 pub type Row = (&'static str, &'static str, Field);
@@ -48,17 +48,22 @@ const REPEATED: [Row; 11] = [
 ];
 
 #[test]
-fn repeated_entries_are_told(rt: HostRuntime) -> Result<(), Fail> {
+fn repeated_entries_are_told(rt: HostRuntime) {
     for (old, new, field) in REPEATED {
         let want = Some(ConfigFault::Repeated(field));
-        assert_eq!(rt; edited_fault(&rt, &[(old, new)])?, want, "{new:?}");
+        assert_edited(&rt, rt.alloc(), &[(old, new)], want);
     }
+}
+
+#[test]
+fn digits_in_both_letter_cases_are_alike(rt: HostRuntime) {
     let letters = "[[site]]\nid = \"00000000000000aa\"\n[[site]]\nid = \"00000000000000AA\"";
-    assert_eq!(rt;
-        fault_of(&rt, letters),
-        Some(ConfigFault::Repeated(Field::SiteId))
+    assert_fault(
+        &rt,
+        rt.alloc(),
+        letters,
+        Some(ConfigFault::Repeated(Field::SiteId)),
     );
-    Ok(())
 }
 
 /// Whole texts and their faults.
@@ -108,11 +113,10 @@ const TEXTS: [(&str, Option<ConfigFault>); 22] = [
 ];
 
 #[test]
-fn the_arrays_are_arrays_of_tables(rt: HostRuntime) -> Result<(), Fail> {
+fn the_arrays_are_arrays_of_tables(rt: HostRuntime) {
     for (text, want) in TEXTS {
-        assert_eq!(rt; fault_of(&rt, text), want, "{text:?}");
+        assert_fault(&rt, rt.alloc(), text, want);
     }
-    Ok(())
 }
 
 /// Lines after a site's Site-ID, and the array at fault.
@@ -129,13 +133,13 @@ const ARRAYS: [(&str, Field); 9] = [
 ];
 
 #[test]
-fn keys_and_prefixes_are_arrays_of_tables(rt: HostRuntime) -> Result<(), Fail> {
+fn keys_and_prefixes_are_arrays_of_tables(rt: HostRuntime) {
     for (line, field) in ARRAYS {
-        let text = format!(in rt.alloc(); "[[site]]\nid = \"0000000000000001\"\n{line}\n")?;
-        let want = Some(ConfigFault::BadValue(field));
-        assert_eq!(rt; fault_of(&rt, text.as_str()), want, "{line}");
+        let text = format!(in rt.alloc(); "[[site]]\nid = \"0000000000000001\"\n{line}\n").expect(
+            &rt, "the text",
+        );
+        assert_fault(&rt, rt.alloc(), &text, Some(ConfigFault::BadValue(field)));
     }
-    Ok(())
 }
 
 /// The fields in their order, and their names.
@@ -163,53 +167,64 @@ const NAMES: [(Field, &str); 21] = [
     (Field::RouterRecords, "router.records"),
 ];
 
+/// The faults, their numbers, and their texts.
+const FAULTS: [(ConfigFault, u16, &str); 5] = [
+    (ConfigFault::Toml, 20, "the text is no TOML"),
+    (
+        ConfigFault::Missing(Field::SiteKeySecret),
+        21,
+        "site.key.secret is missing",
+    ),
+    (
+        ConfigFault::BadValue(Field::SiteKeySecret),
+        22,
+        "site.key.secret has a bad value",
+    ),
+    (
+        ConfigFault::Repeated(Field::SiteKeySecret),
+        23,
+        "site.key.secret is repeated",
+    ),
+    (ConfigFault::OutOfMemory, 24, "out of memory"),
+];
+
 #[test]
-fn fields_and_faults_have_their_texts(rt: HostRuntime) -> Result<(), Fail> {
+fn fields_have_their_texts(rt: HostRuntime) {
     for (field, name) in NAMES {
         assert_eq!(rt; field.name(), name);
-        assert_eq!(rt; format!(in rt.alloc(); "{field}")?.as_str(), name);
+        let text = format!(in rt.alloc(); "{field}").expect(&rt, "the text");
+        assert_eq!(rt; text.as_str(), name);
     }
-    let field = Field::SiteKeySecret;
-    for (fault, number, wanted) in [
-        (ConfigFault::Toml, 20, "the text is no TOML"),
-        (
-            ConfigFault::Missing(field),
-            21,
-            "site.key.secret is missing",
-        ),
-        (
-            ConfigFault::BadValue(field),
-            22,
-            "site.key.secret has a bad value",
-        ),
-        (
-            ConfigFault::Repeated(field),
-            23,
-            "site.key.secret is repeated",
-        ),
-        (ConfigFault::OutOfMemory, 24, "out of memory"),
-    ] {
+}
+
+#[test]
+fn faults_have_their_texts(rt: HostRuntime) {
+    for (fault, number, wanted) in FAULTS {
         assert_eq!(rt; fault.number(), number, "{fault}");
-        assert_eq!(rt; format!(in rt.alloc(); "{fault}")?.as_str(), wanted);
+        let text = format!(in rt.alloc(); "{fault}").expect(&rt, "the text");
+        assert_eq!(rt; text.as_str(), wanted);
     }
-    Ok(())
 }
 
-/// What is wrong with a text; `None` where it is a configuration.
-pub fn fault_of(rt: &impl AllocGlobal, text: &str) -> Option<ConfigFault> {
-    Config::from_toml(rt.alloc(), rt.alloc(), text).err()
+/// Stops the test unless this is what is wrong with a text; `None` where it is a configuration.
+pub fn assert_fault(rt: &impl Abort, alloc: Global, text: &str, want: Option<ConfigFault>) {
+    let fault = Config::from_toml(alloc, alloc, text).err();
+    assert_eq!(rt; fault, want, "{text:?}");
 }
 
-/// What is wrong with the worked configuration after these edits. Each gives a text, which has to
-/// be there, and what stands in the place of its first occurrence.
-pub fn edited_fault(
-    rt: &(impl Abort + AllocGlobal),
+/// Stops the test unless this is what is wrong with the worked configuration after these edits. Each
+/// gives a text, which has to be there, and what stands in the place of its first occurrence.
+pub fn assert_edited(
+    rt: &impl Abort,
+    alloc: Global,
     edits: &[(&str, &str)],
-) -> Result<Option<ConfigFault>, Fail> {
-    let mut text = String::from_str(rt.alloc(), CONFIGURATION)?;
+    want: Option<ConfigFault>,
+) {
+    let mut text = String::from_str(alloc, CONFIGURATION).expect(rt, "the text");
     for (old, new) in edits {
         assert!(rt; text.contains(*old), "{old:?}");
-        text = text.replacen(rt.alloc(), *old, new, 1)?;
+        text = text.replacen(alloc, *old, new, 1).expect(rt, "the text");
     }
-    Ok(fault_of(rt, text.as_str()))
+    let fault = Config::from_toml(alloc, alloc, &text).err();
+    assert_eq!(rt; fault, want, "{edits:?}");
 }

@@ -1,9 +1,7 @@
 //! Texts with two faults: the first is told, by the order of entries and fields.
 
-use crate::configuration_faults::{Row, edited_fault};
+use crate::configuration_faults::{Row, assert_edited};
 use lisp_sites::{ConfigFault, Field};
-use std::process::Abort;
-use std::test::Fail;
 
 /// Lines without which a field is missing, in the order of the fields.
 const NEEDED: [(&str, Field); 12] = [
@@ -84,32 +82,39 @@ const ORDERED: [Row; 19] = [
 ];
 
 #[test]
-fn absent_fields_without_a_default_are_missing(rt: HostRuntime) -> Result<(), Fail> {
-    for (i, (old, field)) in NEEDED.iter().enumerate() {
+fn absent_fields_without_a_default_are_missing(rt: HostRuntime) {
+    for (old, field) in &NEEDED {
         let want = Some(ConfigFault::Missing(*field));
-        assert_eq!(rt; edited_fault(&rt, &[(*old, "")])?, want);
-        for (later, _) in NEEDED.iter().skip(i + 1) {
-            assert_eq!(rt;
-                edited_fault(&rt, &[(*old, ""), (*later, "")])?,
-                want,
-                "{later:?}"
-            );
-        }
+        assert_edited(&rt, rt.alloc(), &[(*old, "")], want);
     }
-    Ok(())
 }
 
 #[test]
-fn the_first_of_two_bad_values_is_told(rt: HostRuntime) -> Result<(), Fail> {
-    for (i, (old, new, field)) in ORDERED.iter().enumerate() {
-        let want = Some(ConfigFault::BadValue(*field));
-        assert_eq!(rt; edited_fault(&rt, &[(*old, *new)])?, want, "{new:?}");
-        for (later, bad, _) in ORDERED.iter().skip(i + 1) {
-            let edits = [(*later, *bad), (*old, *new)];
-            assert_eq!(rt; edited_fault(&rt, &edits)?, want, "{new:?}, {bad:?}");
+fn the_first_of_two_absent_fields_is_missing(rt: HostRuntime) {
+    for (i, (old, field)) in NEEDED.iter().enumerate() {
+        for (later, _) in NEEDED.iter().skip(i + 1) {
+            let want = Some(ConfigFault::Missing(*field));
+            assert_edited(&rt, rt.alloc(), &[(*old, ""), (*later, "")], want);
         }
     }
-    Ok(())
+}
+
+#[test]
+fn each_bad_value_is_told(rt: HostRuntime) {
+    for (old, new, field) in &ORDERED {
+        let want = Some(ConfigFault::BadValue(*field));
+        assert_edited(&rt, rt.alloc(), &[(*old, *new)], want);
+    }
+}
+
+#[test]
+fn the_first_of_two_bad_values_is_told(rt: HostRuntime) {
+    for (i, (old, new, field)) in ORDERED.iter().enumerate() {
+        for (later, bad, _) in ORDERED.iter().skip(i + 1) {
+            let want = Some(ConfigFault::BadValue(*field));
+            assert_edited(&rt, rt.alloc(), &[(*later, *bad), (*old, *new)], want);
+        }
+    }
 }
 
 /// Two edits, of which the first is told: it stands in an earlier entry or field.
@@ -171,9 +176,8 @@ const BOTH: [([(&str, &str); 2], ConfigFault); 8] = [
 ];
 
 #[test]
-fn the_first_fault_is_told(rt: HostRuntime) -> Result<(), Fail> {
+fn the_first_fault_is_told(rt: HostRuntime) {
     for (edits, fault) in BOTH {
-        assert_eq!(rt; edited_fault(&rt, &edits)?, Some(fault), "{edits:?}");
+        assert_edited(&rt, rt.alloc(), &edits, Some(fault));
     }
-    Ok(())
 }

@@ -1,9 +1,9 @@
 //! Bad values of each field of a configuration.
 
-use crate::configuration_faults::edited_fault;
+use crate::configuration_faults::assert_edited;
 use lisp_sites::{ConfigFault, Field};
+use std::alloc::Global;
 use std::process::Abort;
-use std::test::Fail;
 
 /// A field's line in the worked configuration, and bad lines in its place.
 type Row = (Field, &'static str, &'static [&'static str]);
@@ -214,42 +214,44 @@ const BAD: [Row; 16] = [
 ];
 
 #[test]
-fn bad_values_are_told(rt: HostRuntime) -> Result<(), Fail> {
+fn bad_values_are_told(rt: HostRuntime) {
     for (field, old, bad) in BAD {
         for new in bad {
             let want = Some(ConfigFault::BadValue(field));
-            assert_eq!(rt; edited_fault(&rt, &[(old, *new)])?, want, "{new}");
+            assert_edited(&rt, rt.alloc(), &[(old, *new)], want);
         }
     }
-    Ok(())
 }
 
 #[test]
-fn secrets_have_at_most_256_bytes(rt: HostRuntime) -> Result<(), Fail> {
+fn secrets_have_at_most_256_bytes(rt: HostRuntime) {
     for (count, want) in [
         (1, None),
         (256, None),
         (257, Some(ConfigFault::BadValue(Field::SiteKeySecret))),
     ] {
-        let digits = "0f".repeat(rt.alloc(), count)?;
-        let edit = ("736563726574", digits.as_str());
-        assert_eq!(rt; edited_fault(&rt, &[edit])?, want, "{count} bytes");
+        let digits = "0f".repeat(rt.alloc(), count).expect(&rt, "the digits");
+        assert_edited(&rt, rt.alloc(), &[("736563726574", &digits)], want);
     }
-    Ok(())
 }
 
 #[test]
-fn routers_have_at_most_255_records(rt: HostRuntime) -> Result<(), Fail> {
+fn routers_have_at_most_255_records(rt: HostRuntime) {
     for (count, want) in [
         (255, None),
         (256, Some(ConfigFault::BadValue(Field::RouterRecords))),
     ] {
-        let mut records = String::new(rt.alloc());
-        for number in 0..count {
-            write!(&mut records, "\"10.1.{number}.0/24=1\", ")?;
-        }
+        let records = records(&rt, rt.alloc(), count);
         let edit = ("\"10.1.0.0/16=1440+192.0.2.1\"", records.as_str());
-        assert_eq!(rt; edited_fault(&rt, &[edit])?, want, "{count} records");
+        assert_edited(&rt, rt.alloc(), &[edit], want);
     }
-    Ok(())
+}
+
+/// The texts of so many records.
+fn records(rt: &impl Abort, alloc: Global, count: u16) -> String {
+    let mut records = String::new(alloc);
+    for number in 0..count {
+        write!(&mut records, "\"10.1.{number}.0/24=1\", ").expect(rt, "the records");
+    }
+    records
 }

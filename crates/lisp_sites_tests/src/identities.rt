@@ -1,7 +1,6 @@
 //! Texts of Site-IDs, xTR-IDs and secrets.
 
 use lisp_sites::{secret_from_text, site_id_from_text, xtr_from_text};
-use std::test::Fail;
 
 /// Texts, and the Site-IDs that they spell.
 const SITE_IDS: [(&str, Option<u64>); 7] = [
@@ -40,12 +39,11 @@ fn identities_are_digits_of_one_length(rt: HostRuntime) {
 }
 
 #[test]
-fn secrets_are_digits_of_whole_bytes(rt: HostRuntime) -> Result<(), Fail> {
+fn secrets_are_digits_of_whole_bytes(rt: HostRuntime) {
     for (text, bytes) in &SECRETS {
-        match secret_from_text(rt.alloc(), text)? {
+        match secret_from_text(rt.alloc(), text).expect(&rt, "the secret") {
             Some(secret) => assert_eq!(rt; Some(secret.as_slice()), *bytes, "{text:?}"),
             None => assert!(rt; bytes.is_none(), "{text:?}"),
         }
     }
-    Ok(())
 }

@@ -1,12 +1,12 @@
 //! Texts of records, and what is written of addresses, prefixes and records.
 
+use crate::configuration::ipv4_block;
 use linked_list_allocator::LocalHeap;
 use lisp_records::{Addr, Locator, MapRecord, Prefix};
-use lisp_samples::{LOCATOR, fields, ipv4_block, worked_record};
+use lisp_samples::{LOCATOR, fields};
 use lisp_sites::{addr_to_text, prefix_to_text, record_from_text, record_to_text};
-use std::alloc::Allocator;
+use std::alloc::{Allocator, Global};
 use std::process::Abort;
-use std::test::Fail;
 
 /// 2001:db8::1.
 const IPV6: Addr = Addr::V6([0x20, 0x01, 0x0d, 0xb8, 0, 0, 0, 0, 0, 0, 0, 0, 0, 0, 0, 1]);
@@ -88,34 +88,30 @@ const NO_RECORDS: [&str; 29] = [
 ];
 
 #[test]
-fn texts_of_records_are_read(rt: HostRuntime) -> Result<(), Fail> {
-    let eid = ipv4_block([10, 1, 0, 0], 16)?;
+fn texts_of_records_are_read(rt: HostRuntime) {
     for (text, ttl, locators) in &RECORDS {
-        let record = record_from_text(rt.alloc(), text)?.ok_or("no record")?;
-        let wanted = (*ttl, 0, true, 0, eid, *locators);
-        assert_eq!(rt; fields(&record), wanted, "{text:?}");
+        let record = record_of(&rt, rt.alloc(), text);
+        assert_record(&rt, &record, *ttl, locators);
     }
-    for text in NO_RECORDS {
-        assert!(rt; record_from_text(rt.alloc(), text)?.is_none(), "{text:?}");
-    }
-    Ok(())
 }
 
 #[test]
-fn a_record_has_at_most_255_locators(rt: HostRuntime) -> Result<(), Fail> {
-    let mut text = String::new(rt.alloc());
-    text.push_str("10.1.0.0/16=1440")?;
+fn other_texts_are_no_records(rt: HostRuntime) {
+    for text in NO_RECORDS {
+        assert_no_record(&rt, rt.alloc(), text);
+    }
+}
+
+#[test]
+fn a_record_has_at_most_255_locators(rt: HostRuntime) {
+    let mut text = String::from_str(rt.alloc(), "10.1.0.0/16=1440").expect(&rt, "the text");
     for _ in 0..255 {
-        text.push_str("+192.0.2.1")?;
+        text.push_str("+192.0.2.1").expect(&rt, "the text");
     }
-    let record = record_from_text(rt.alloc(), &text)?.ok_or("no record")?;
-    assert_eq!(rt; record.locators().len(), 255);
-    for locator in record.locators() {
-        assert_eq!(rt; *locator, LOCATOR);
-    }
-    text.push_str("+192.0.2.1")?;
-    assert!(rt; record_from_text(rt.alloc(), &text)?.is_none());
-    Ok(())
+    let record = record_of(&rt, rt.alloc(), &text);
+    assert_many_locators(&rt, record.locators());
+    text.push_str("+192.0.2.1").expect(&rt, "the text");
+    assert_no_record(&rt, rt.alloc(), &text);
 }
 
 /// Texts of records, and what is written of what they are read as.
@@ -136,31 +132,28 @@ const WRITTEN: [(&str, &str); 6] = [
 ];
 
 #[test]
-fn records_are_written_with_all_their_numbers(rt: HostRuntime) -> Result<(), Fail> {
+fn records_are_written_with_all_their_numbers(rt: HostRuntime) {
     for (text, wanted) in WRITTEN {
-        let record = record_from_text(rt.alloc(), text)?.ok_or("no record")?;
-        let written = record_to_text(rt.alloc(), &record)?;
-        assert_eq!(rt; written.as_str(), wanted, "{text:?}");
+        let record = record_of(&rt, rt.alloc(), text);
+        assert_written(&rt, rt.alloc(), &record, wanted);
     }
-    Ok(())
 }
 
 #[test]
-fn act_version_and_flags_are_not_written(rt: HostRuntime) -> Result<(), Fail> {
+fn act_version_and_flags_are_not_written(rt: HostRuntime) {
     let hidden = Locator {
         local: false,
         probe: true,
         reachable: false,
         ..LOCATOR
     };
-    let eid = ipv4_block([10, 1, 0, 0], 16)?;
-    let locators = vec![in rt.alloc(); hidden]?;
-    let record = MapRecord::new(1440, 7, false, 4095, eid, locators).ok_or("no record")?;
-    let written = record_to_text(rt.alloc(), &record)?;
-    assert_eq!(rt; written.as_str(), "10.1.0.0/16=1440+192.0.2.1/1/100/255/0");
-    let shown = record_from_text(rt.alloc(), &written)?.ok_or("no record")?;
-    assert_eq!(rt; fields(&shown), fields(&worked_record(rt.alloc())?));
-    Ok(())
+    let eid = ipv4_block(&rt, [10, 1, 0, 0], 16);
+    let locators = Vec::from_slice(rt.alloc(), &[hidden]).expect(&rt, "the locator");
+    let record = MapRecord::new(1440, 7, false, 4095, eid, locators).expect(&rt, "no record");
+    let wanted = "10.1.0.0/16=1440+192.0.2.1/1/100/255/0";
+    assert_written(&rt, rt.alloc(), &record, wanted);
+    let shown = record_of(&rt, rt.alloc(), wanted);
+    assert_record(&rt, &shown, 1440, &[LOCATOR]);
 }
 
 /// Addresses, and what is written of them.
@@ -175,21 +168,20 @@ const ADDRESSES: [(Addr, &str); 4] = [
 ];
 
 #[test]
-fn addresses_and_prefixes_have_one_written_form(rt: HostRuntime) -> Result<(), Fail> {
+fn addresses_have_one_written_form(rt: HostRuntime) {
     for (addr, wanted) in ADDRESSES {
-        assert_eq!(rt; addr_to_text(rt.alloc(), &addr)?.as_str(), wanted);
+        let text = addr_to_text(rt.alloc(), &addr).expect(&rt, "the text");
+        assert_eq!(rt; text.as_str(), wanted);
     }
-    let prefix = ipv4_block([10, 1, 255, 9], 16)?;
-    assert_eq!(rt;
-        prefix_to_text(rt.alloc(), &prefix)?.as_str(),
-        "10.1.0.0/16"
-    );
-    let prefix = Prefix::new(IPV6, 128).ok_or("the mask is too long")?;
-    assert_eq!(rt;
-        prefix_to_text(rt.alloc(), &prefix)?.as_str(),
-        "2001:0db8:0000:0000:0000:0000:0000:0001/128"
-    );
-    Ok(())
+}
+
+#[test]
+fn prefixes_have_one_written_form(rt: HostRuntime) {
+    let prefix = ipv4_block(&rt, [10, 1, 255, 9], 16);
+    assert_prefix(&rt, rt.alloc(), &prefix, "10.1.0.0/16");
+    let prefix = Prefix::new(IPV6, 128).expect(&rt, "the mask is too long");
+    let wanted = "2001:0db8:0000:0000:0000:0000:0000:0001/128";
+    assert_prefix(&rt, rt.alloc(), &prefix, wanted);
 }
 
 /// The bytes of the heap that the calls may use a part of.
@@ -202,55 +194,104 @@ const BLOCK_LEN: usize = 16;
 const MOST_BLOCKS: usize = 64;
 
 #[test]
-fn want_of_memory_is_told(rt: HostRuntime) -> Result<(), Fail> {
+fn want_of_memory_is_told(rt: HostRuntime) {
     for is_reading in [true, false] {
-        let heap = LocalHeap::new(rt.alloc(), HEAP_LEN)?;
-        let mut answered = false;
-        for blocks in 0..MOST_BLOCKS {
-            let ballast: Vec<u8, &LocalHeap> = Vec::with_capacity(
-                &heap,
-                HEAP_LEN - blocks * BLOCK_LEN,
-            )?;
-            let answers = if is_reading {
-                reads_both(&rt, &heap)?
-            } else {
-                writes_both(&rt, &heap)?
-            };
-            drop(ballast);
-            assert_eq!(rt; heap.used(), 0, "{is_reading} in {blocks} blocks");
-            assert!(rt; blocks > 0 || !answers, "{is_reading} in no memory");
-            assert!(rt; answers || !answered, "{is_reading} in {blocks} blocks");
-            answered = answers;
-        }
-        assert!(rt; answered, "{is_reading}");
+        assert_memory(&rt, rt.alloc(), is_reading);
     }
-    Ok(())
+}
+
+/// The record that a text spells.
+fn record_of(rt: &impl Abort, alloc: Global, text: &str) -> MapRecord {
+    let record = record_from_text(alloc, text).expect(rt, "out of memory");
+    record.expect(rt, "no record")
+}
+
+/// Stops the test unless the record is one of 10.1.0.0/16 with this TTL and these locators.
+fn assert_record(rt: &impl Abort, record: &MapRecord, ttl: u32, locators: &[Locator]) {
+    let eid = ipv4_block(rt, [10, 1, 0, 0], 16);
+    assert_eq!(rt; fields(record), (ttl, 0, true, 0, eid, locators));
+}
+
+/// Stops the test unless the text spells no record.
+fn assert_no_record(rt: &impl Abort, alloc: Global, text: &str) {
+    let record = record_from_text(alloc, text).expect(rt, "out of memory");
+    assert!(rt; record.is_none(), "{text:?}");
+}
+
+/// Stops the test unless these are 255 worked locators.
+fn assert_many_locators(rt: &impl Abort, locators: &[Locator]) {
+    assert_eq!(rt; locators.len(), 255);
+    for locator in locators {
+        assert_eq!(rt; *locator, LOCATOR);
+    }
+}
+
+/// Stops the test unless this is written of the record.
+fn assert_written(rt: &impl Abort, alloc: Global, record: &MapRecord, wanted: &str) {
+    let written = record_to_text(alloc, record).expect(rt, "the text");
+    assert_eq!(rt; written.as_str(), wanted);
+}
+
+/// Stops the test unless this is written of the prefix.
+fn assert_prefix(rt: &impl Abort, alloc: Global, prefix: &Prefix, wanted: &str) {
+    let text = prefix_to_text(alloc, prefix).expect(rt, "the text");
+    assert_eq!(rt; text.as_str(), wanted);
+}
+
+/// Stops the test unless `BOTH` is read, or written, from some room on, and below it memory is out.
+fn assert_memory(rt: &impl Abort, alloc: Global, is_reading: bool) {
+    let heap = LocalHeap::new(alloc, HEAP_LEN).expect(rt, "the heap");
+    let mut answered = false;
+    for blocks in 0..MOST_BLOCKS {
+        let answers = answers_in(rt, alloc, &heap, is_reading, blocks);
+        assert!(rt; blocks > 0 || !answers, "{is_reading} in no memory");
+        assert!(rt; answers || !answered, "{is_reading} in {blocks} blocks");
+        answered = answers;
+    }
+    assert!(rt; answered, "{is_reading}");
+}
+
+/// Whether `BOTH` is read, or written, in so many blocks of memory, of which none stays in use.
+fn answers_in(
+    rt: &impl Abort,
+    alloc: Global,
+    heap: &LocalHeap,
+    is_reading: bool,
+    blocks: usize,
+) -> bool {
+    let taken = HEAP_LEN.saturating_sub(blocks.saturating_mul(BLOCK_LEN));
+    let ballast: Vec<u8, &LocalHeap> = Vec::with_capacity(heap, taken).expect(rt, "the ballast");
+    let answers = if is_reading {
+        reads_both(rt, heap)
+    } else {
+        writes_both(rt, alloc, heap)
+    };
+    drop(ballast);
+    assert_eq!(rt; heap.used(), 0, "{is_reading} in {blocks} blocks");
+    answers
 }
 
 /// Whether the record is read from its text in the memory of `alloc`.
-fn reads_both<A: Allocator + Copy>(rt: &impl Abort, alloc: A) -> Result<bool, Fail> {
+fn reads_both<A: Allocator + Copy>(rt: &impl Abort, alloc: A) -> bool {
     let Ok(read) = record_from_text(alloc, BOTH) else {
-        return Ok(false);
+        return false;
     };
-    let record = read.ok_or("no record")?;
-    let eid = ipv4_block([10, 1, 0, 0], 16)?;
+    let record = read.expect(rt, "no record");
+    let eid = ipv4_block(rt, [10, 1, 0, 0], 16);
     let locators = [LOCATOR, IPV6_LOCATOR];
     assert_eq!(rt;
         fields(&record),
         (1440, 0, true, 0, eid, locators.as_slice())
     );
-    Ok(true)
+    true
 }
 
 /// Whether its text is written in the memory of `alloc`.
-fn writes_both<A: Allocator + Copy>(
-    rt: &(impl Abort + AllocGlobal),
-    alloc: A,
-) -> Result<bool, Fail> {
-    let record = record_from_text(rt.alloc(), BOTH)?.ok_or("no record")?;
+fn writes_both<A: Allocator + Copy>(rt: &impl Abort, ample: Global, alloc: A) -> bool {
+    let record = record_of(rt, ample, BOTH);
     let Ok(written) = record_to_text(alloc, &record) else {
-        return Ok(false);
+        return false;
     };
     assert_eq!(rt; written.as_str(), BOTH_WRITTEN);
-    Ok(true)
+    true
 }

@@ -1,8 +1,9 @@
 //! Tests of the counter over the store in memory: what it hands out, and refused memory.
 
-use crate::stores::{HEAP_LEN, MOST_BLOCKS, PAIR, fill};
+use crate::stores::PAIR;
 use linked_list_allocator::LocalHeap;
 use lisp_counter::{Counter, CounterFault, Event, run};
+use lisp_samples::{HEAP_LEN, MOST_BLOCKS, fill};
 use lisp_store::{Fate, MemoryStore, NonceStore, StoreFault, WorldStore};
 use std::alloc::{Allocator, Global};
 use std::process::Abort;
@@ -108,7 +109,7 @@ fn hands_out_in(rt: &impl Abort, alloc: Global, blocks: usize) -> bool {
     let mut store = MemoryStore::new(&heap);
     let mut counter = Counter::start(PAIR, &mut store).expect(rt, "the counter");
     assert_next(rt, &mut counter, &mut store, Ok(1));
-    let ballast = fill(rt, &heap, blocks);
+    let ballast = fill(alloc, &heap, blocks).expect(rt, "the ballast");
     let next = counter.next(&mut store);
     drop(ballast);
     let refused = Err(CounterFault::Store(StoreFault::OutOfMemory));
@@ -122,7 +123,7 @@ fn hands_out_in(rt: &impl Abort, alloc: Global, blocks: usize) -> bool {
 fn runs_in(rt: &impl Abort, alloc: Global, blocks: usize) -> bool {
     let heap = LocalHeap::new(alloc, HEAP_LEN).expect(rt, "the heap");
     let mut store = MemoryStore::new(alloc);
-    let ballast = fill(rt, &heap, blocks);
+    let ballast = fill(alloc, &heap, blocks).expect(rt, "the ballast");
     let is_run = run(&heap, PAIR, &mut store, &[Event::Next; 9]).is_ok();
     let want = if is_run { Some(9) } else { None };
     assert_eq!(rt; store.load(&PAIR), Ok(want), "in {blocks} blocks");

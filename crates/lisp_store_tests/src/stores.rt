@@ -2,18 +2,10 @@
 
 use linked_list_allocator::LocalHeap;
 use lisp_records::RouterId;
+use lisp_samples::{HEAP_LEN, MOST_BLOCKS, fill};
 use lisp_store::{Fate, MemoryStore, NonceStore, Pair, PairKind, StoreFault, WorldStore};
 use std::alloc::{Allocator, Global};
 use std::process::Abort;
-
-/// The bytes of the heap that a call may use a part of.
-pub const HEAP_LEN: usize = 4096;
-
-/// The heap's smallest block, by which its free room grows.
-pub const BLOCK_LEN: usize = 16;
-
-/// So many blocks are room enough for each call.
-pub const MOST_BLOCKS: usize = 24;
 
 /// A pair of site 1.
 pub const PAIR: Pair = Pair {
@@ -141,17 +133,11 @@ fn assert_all_or_nothing(rt: &impl Abort, alloc: Global, fate: Fate, blocks: usi
     let mut store = MemoryStore::new(&heap);
     assert_save(rt, &mut store, 7, Ok(()));
     store.arm(fate);
-    let ballast = fill(rt, &heap, blocks);
+    let ballast = fill(alloc, &heap, blocks).expect(rt, "the ballast");
     let is_refused = store.save(&OTHERS[0], 9) == Err(StoreFault::OutOfMemory);
     drop(ballast);
     store.restart(9);
     let kept = if is_refused { None } else { Some(9) };
     assert_load(rt, &mut store, &OTHERS[0], Ok(kept));
     assert_load(rt, &mut store, &PAIR, Ok(Some(7)));
-}
-
-/// Takes all the memory of a heap but so many blocks.
-pub fn fill<'a>(rt: &impl Abort, heap: &'a LocalHeap, blocks: usize) -> Vec<u8, &'a LocalHeap> {
-    let room = blocks.saturating_mul(BLOCK_LEN);
-    Vec::with_capacity(heap, heap.free().saturating_sub(room)).expect(rt, "the ballast")
 }

@@ -5,9 +5,9 @@ use crate::support::{MAP_NOTIFY, MAP_REGISTER, NOTIFY_LINE, REGISTER_DIGITS, TAG
 use lisp_hmac::TAG_LEN;
 use lisp_samples::RECORD;
 use lispd::{AnswerFault, AnswerSetup, answer};
+use std::alloc::Global;
 use std::io::{self, ErrorKind, Read, Write};
 use std::process::Abort;
-use std::test::Fail;
 
 /// What becomes of the tag of a changed message.
 #[derive(Clone, Copy, Debug, PartialEq, Eq)]
@@ -127,193 +127,166 @@ const LEFT: [(&[u8], &[u8]); 5] = [
 /// The most bytes of a line, its line feed among them.
 const MOST_BYTES: usize = 1_048_576;
 
-#[test]
-fn the_worked_register_is_answered(rt: HostRuntime) -> Result<(), Fail> {
-    let alloc = rt.alloc();
-    assert_eq!(rt; hex(alloc, &MAP_REGISTER)?.as_str(), REGISTER_DIGITS);
-    let notify = hex(alloc, &MAP_NOTIFY)?;
-    assert_eq!(rt; NOTIFY_LINE.strip_suffix("\n"), Some(notify.as_str()));
+/// Lengths to which the worked Map-Register and a byte behind it are cut, and the lines that answer.
+const LENGTHS: [(usize, &str); 8] = [
+    (0, "refused 50 read 1\n"),
+    (31, "refused 50 read 1\n"),
+    (32, "refused 50 read 15 record 0 fault 1\n"),
+    (59, "refused 50 read 15 record 0 fault 1\n"),
+    (60, "refused 50 read 1\n"),
+    (83, "refused 50 read 1\n"),
+    (84, NOTIFY_LINE),
+    (85, "refused 50 read 14\n"),
+];
 
-    let setup = AnswerSetup::defaults(alloc)?;
-    let mut upper = String::from_str(alloc, REGISTER_DIGITS)?;
+/// Bytes that no digit spells, what ends them, and the fault.
+const LONG: [(usize, &str, Option<AnswerFault>); 5] = [
+    (MOST_BYTES - 1, "\n", None),
+    (MOST_BYTES - 1, "\nmore", None),
+    (MOST_BYTES, "", None),
+    (MOST_BYTES, "\n", Some(AnswerFault::TooLong)),
+    (MOST_BYTES + 1, "", Some(AnswerFault::TooLong)),
+];
+
+/// How many bytes are read before an error, the error, and the fault.
+const STUMBLES: [(usize, ErrorKind, Option<AnswerFault>); 6] = [
+    (0, ErrorKind::Other, Some(AnswerFault::Read)),
+    (1, ErrorKind::Other, Some(AnswerFault::Read)),
+    // Behind the last byte.
+    (168, ErrorKind::Other, Some(AnswerFault::Read)),
+    (0, ErrorKind::Interrupted, None),
+    (1, ErrorKind::Interrupted, None),
+    (168, ErrorKind::Interrupted, None),
+];
+
+#[test]
+fn the_worked_register_is_answered(rt: HostRuntime) {
+    let mut upper = String::from_str(rt.alloc(), REGISTER_DIGITS).expect(&rt, "the digits");
     upper.make_ascii_uppercase();
-    assert_answer(&rt, &setup, upper.as_bytes(), NOTIFY_LINE, "upper case")
+    assert_answer(&rt, rt.alloc(), upper.as_bytes(), NOTIFY_LINE);
 }
 
 #[test]
-fn the_line_ends_with_a_line_feed_or_the_input(rt: HostRuntime) -> Result<(), Fail> {
-    let setup = AnswerSetup::defaults(rt.alloc())?;
+fn the_worked_digits_are_those_of_the_messages(rt: HostRuntime) {
+    let register = hex(&rt, rt.alloc(), &MAP_REGISTER);
+    assert_eq!(rt; register.as_str(), REGISTER_DIGITS);
+    let notify = hex(&rt, rt.alloc(), &MAP_NOTIFY);
+    assert_eq!(rt; NOTIFY_LINE.strip_suffix("\n"), Some(notify.as_str()));
+}
+
+#[test]
+fn the_line_ends_with_a_line_feed_or_the_input(rt: HostRuntime) {
     for (front, back, want) in ENDS {
-        let line = format!(in rt.alloc(); "{front}{REGISTER_DIGITS}{back}")?;
-        assert_answer(&rt, &setup, line.as_bytes(), want, "the worked digits")?;
+        let line = format!(in rt.alloc(); "{front}{REGISTER_DIGITS}{back}").expect(&rt, "the line");
+        assert_answer(&rt, rt.alloc(), line.as_bytes(), want);
     }
-    Ok(())
 }
 
 #[test]
-fn each_check_has_its_answer(rt: HostRuntime) -> Result<(), Fail> {
-    let setup = AnswerSetup::defaults(rt.alloc())?;
-    assert_rows(&rt, &setup, &MAP_REGISTER, &ROWS)?;
-    assert_rows(&rt, &setup, &MAP_NOTIFY, &NOTIFY_ROWS)
+fn each_check_has_its_answer(rt: HostRuntime) {
+    let setup = defaults(&rt, rt.alloc());
+    for row in &ROWS {
+        assert_row(&rt, rt.alloc(), &setup, &MAP_REGISTER, row);
+    }
 }
 
 #[test]
-fn more_specifics_are_answered_where_they_are_allowed(rt: HostRuntime) -> Result<(), Fail> {
-    let mut setup = AnswerSetup::defaults(rt.alloc())?;
+fn what_is_no_register_is_refused(rt: HostRuntime) {
+    let setup = defaults(&rt, rt.alloc());
+    for row in &NOTIFY_ROWS {
+        assert_row(&rt, rt.alloc(), &setup, &MAP_NOTIFY, row);
+    }
+}
+
+#[test]
+fn more_specifics_are_answered_where_they_are_allowed(rt: HostRuntime) {
+    let mut setup = defaults(&rt, rt.alloc());
     setup.more_specifics = true;
-    assert_rows(&rt, &setup, &MAP_REGISTER, &MORE_SPECIFIC_ROWS)
+    for row in &MORE_SPECIFIC_ROWS {
+        assert_row(&rt, rt.alloc(), &setup, &MAP_REGISTER, row);
+    }
 }
 
 #[test]
-fn the_first_record_that_is_not_allowed_is_told(rt: HostRuntime) -> Result<(), Fail> {
-    let setup = AnswerSetup::defaults(rt.alloc())?;
-    // 32 bytes before the records; the worked record twice; and the IDs.
-    let mut both = [0; 112];
-    both[..60].copy_from_slice(&MAP_REGISTER[..60]);
-    both[60..88].copy_from_slice(&RECORD);
-    both[88..].copy_from_slice(&MAP_REGISTER[60..]);
-    both[COUNT_AT] = 2;
+fn the_first_record_that_is_not_allowed_is_told(rt: HostRuntime) {
     for (first, second, want) in [
         (1, 2, "refused 55 record 1\n"),
         (2, 1, "refused 55 record 0\n"),
         (2, 2, "refused 55 record 0\n"),
     ] {
-        both[EID_AT] = first;
-        both[EID_AT + RECORD.len()] = second;
-        sign(&rt, &mut both);
-        let line = hex(rt.alloc(), &both)?;
-        assert_answer(&rt, &setup, line.as_bytes(), want, "two records")?;
+        let both = both_records(&rt, first, second);
+        assert_bytes(&rt, rt.alloc(), &both, want);
     }
-    Ok(())
 }
 
 #[test]
-fn bytes_of_the_wrong_length_are_refused(rt: HostRuntime) -> Result<(), Fail> {
-    let setup = AnswerSetup::defaults(rt.alloc())?;
+fn bytes_of_the_wrong_length_are_refused(rt: HostRuntime) {
     let mut longer = [0; 85];
     longer[..84].copy_from_slice(&MAP_REGISTER);
-    for (len, want) in [
-        (0, "refused 50 read 1\n"),
-        (31, "refused 50 read 1\n"),
-        (32, "refused 50 read 15 record 0 fault 1\n"),
-        (59, "refused 50 read 15 record 0 fault 1\n"),
-        (60, "refused 50 read 1\n"),
-        (83, "refused 50 read 1\n"),
-        (84, NOTIFY_LINE),
-        (85, "refused 50 read 14\n"),
-    ] {
-        let bytes = longer.get(..len).ok_or("too long")?;
-        let line = hex(rt.alloc(), bytes)?;
-        assert_answer(&rt, &setup, line.as_bytes(), want, "cut")?;
+    for (len, want) in LENGTHS {
+        let bytes = longer.get(..len).expect(&rt, "too long");
+        assert_bytes(&rt, rt.alloc(), bytes, want);
     }
-    Ok(())
 }
 
 #[test]
-fn lines_that_spell_no_message_are_refused(rt: HostRuntime) -> Result<(), Fail> {
-    let setup = AnswerSetup::defaults(rt.alloc())?;
+fn lines_that_spell_no_message_are_refused(rt: HostRuntime) {
     for (line, want) in LINES {
-        assert_answer(&rt, &setup, line, want, "line")?;
+        assert_answer(&rt, rt.alloc(), line, want);
     }
-    Ok(())
 }
 
 #[test]
-fn what_stands_behind_the_line_is_left(rt: HostRuntime) -> Result<(), Fail> {
-    let setup = AnswerSetup::defaults(rt.alloc())?;
+fn what_stands_behind_the_line_is_left(rt: HostRuntime) {
+    let setup = defaults(&rt, rt.alloc());
     for (input, left) in LEFT {
         let mut reader = input;
         let mut writer = Vec::new(rt.alloc());
-        answer(rt.alloc(), &setup, &mut reader, &mut writer)?;
+        answer(rt.alloc(), &setup, &mut reader, &mut writer).expect(&rt, "no answer");
         assert_eq!(rt; reader, left, "{input:?}");
     }
-    Ok(())
 }
 
 #[test]
-fn a_line_has_at_most_1_048_576_bytes(rt: HostRuntime) -> Result<(), Fail> {
-    let setup = AnswerSetup::defaults(rt.alloc())?;
-    for (digits, end, fault) in [
-        (MOST_BYTES - 1, "\n", None),
-        (MOST_BYTES - 1, "\nmore", None),
-        (MOST_BYTES, "", None),
-        (MOST_BYTES, "\n", Some(AnswerFault::TooLong)),
-        (MOST_BYTES + 1, "", Some(AnswerFault::TooLong)),
-    ] {
-        let mut line = vec![in rt.alloc(); b'z'; digits]?;
-        line.extend_from_slice(end.as_bytes())?;
-        let mut reader: &[u8] = &line;
-        let mut writer = Vec::new(rt.alloc());
-        let refused = answer(rt.alloc(), &setup, &mut reader, &mut writer).err();
-        assert_eq!(rt; refused, fault, "{digits} bytes and {end:?}");
-        let want: &[u8] = if fault.is_none() {
-            b"refused 94\n"
-        } else {
-            b""
-        };
-        assert_eq!(rt; writer.as_slice(), want, "{digits} bytes and {end:?}");
+fn a_line_has_at_most_1_048_576_bytes(rt: HostRuntime) {
+    let setup = defaults(&rt, rt.alloc());
+    for (digits, end, fault) in LONG {
+        assert_long(&rt, rt.alloc(), &setup, (digits, end), fault);
     }
-    Ok(())
 }
 
 #[test]
-fn a_failed_read_is_a_fault_unless_it_was_interrupted(rt: HostRuntime) -> Result<(), Fail> {
-    let setup = AnswerSetup::defaults(rt.alloc())?;
-    for (before, error, fault) in [
-        (0, ErrorKind::Other, Some(AnswerFault::Read)),
-        (1, ErrorKind::Other, Some(AnswerFault::Read)),
-        // Behind the last byte.
-        (168, ErrorKind::Other, Some(AnswerFault::Read)),
-        (0, ErrorKind::Interrupted, None),
-        (1, ErrorKind::Interrupted, None),
-        (168, ErrorKind::Interrupted, None),
-    ] {
+fn a_failed_read_is_a_fault_unless_it_was_interrupted(rt: HostRuntime) {
+    let setup = defaults(&rt, rt.alloc());
+    for (before, error, fault) in STUMBLES {
         let mut reader = Stumbling {
             bytes: REGISTER_DIGITS.as_bytes(),
             before: Some(before),
             error,
         };
-        let mut writer = Vec::new(rt.alloc());
-        let refused = answer(rt.alloc(), &setup, &mut reader, &mut writer).err();
-        assert_eq!(rt; refused, fault, "{error:?} after {before} bytes");
-        let want: &[u8] = if fault.is_none() {
-            NOTIFY_LINE.as_bytes()
-        } else {
-            b""
-        };
-        assert_eq!(rt; writer.as_slice(), want, "{error:?} after {before} bytes");
+        let want = if fault.is_none() { NOTIFY_LINE } else { "" };
+        assert_end(&rt, rt.alloc(), &setup, &mut reader, fault, want);
     }
-    Ok(())
 }
 
 #[test]
-fn a_reader_that_is_always_interrupted_is_a_fault(rt: HostRuntime) -> Result<(), Fail> {
-    let setup = AnswerSetup::defaults(rt.alloc())?;
-    let mut writer = Vec::new(rt.alloc());
-    let refused = answer(rt.alloc(), &setup, &mut NeverReady, &mut writer).err();
-    assert_eq!(rt; refused, Some(AnswerFault::Read));
-    assert!(rt; writer.is_empty());
-    Ok(())
+fn a_reader_that_is_always_interrupted_is_a_fault(rt: HostRuntime) {
+    let setup = defaults(&rt, rt.alloc());
+    let fault = Some(AnswerFault::Read);
+    assert_end(&rt, rt.alloc(), &setup, &mut NeverReady, fault, "");
 }
 
 #[test]
-fn a_failed_write_is_a_fault(rt: HostRuntime) -> Result<(), Fail> {
-    let setup = AnswerSetup::defaults(rt.alloc())?;
+fn a_failed_write_is_a_fault(rt: HostRuntime) {
+    let setup = defaults(&rt, rt.alloc());
     for (room, fault) in [
         (0, Some(AnswerFault::Write)),
         (5, Some(AnswerFault::Write)),
         (120, Some(AnswerFault::Write)),
         (121, None),
     ] {
-        let mut reader = REGISTER_DIGITS.as_bytes();
-        let taken = Vec::new(rt.alloc());
-        let mut writer = Narrow { taken, room };
-        let refused = answer(rt.alloc(), &setup, &mut reader, &mut writer).err();
-        assert_eq!(rt; refused, fault, "room for {room} bytes");
-        let written = NOTIFY_LINE.as_bytes().get(..room);
-        assert_eq!(rt; Some(writer.taken.as_slice()), written);
+        assert_written(&rt, rt.alloc(), &setup, room, fault);
     }
-    Ok(())
 }
 
 #[test]
@@ -328,58 +301,121 @@ fn faults_have_their_numbers(rt: HostRuntime) {
     }
 }
 
-/// Stops the test unless each row's line answers what the row makes of the message.
-fn assert_rows(
-    rt: &(impl Abort + AllocGlobal),
-    setup: &AnswerSetup,
-    message: &[u8],
-    rows: &[Row],
-) -> Result<(), Fail> {
-    for (changes, tag, want) in rows {
-        let mut changed = Vec::from_slice(rt.alloc(), message)?;
-        change(rt, &mut changed, changes, *tag)?;
-        let line = hex(rt.alloc(), &changed)?;
-        let name = format!(in rt.alloc(); "{changes:?}, tag {tag:?}")?;
-        assert_answer(rt, setup, line.as_bytes(), want, &name)?;
-    }
-    Ok(())
+/// The setup of a line without options.
+fn defaults(rt: &impl Abort, alloc: Global) -> AnswerSetup {
+    AnswerSetup::defaults(alloc).expect(rt, "no setup")
 }
 
-/// Changes bytes of the message, and then its tag.
-fn change(
-    rt: &impl Abort,
-    message: &mut [u8],
-    changes: &[(usize, u8)],
-    tag: Tag,
-) -> Result<(), Fail> {
-    for (at, value) in changes {
-        *message.get_mut(*at).ok_or("no such byte")? = *value;
+/// Stops the test unless the row's line answers what the row makes of the message.
+fn assert_row(rt: &impl Abort, alloc: Global, setup: &AnswerSetup, message: &[u8], row: &Row) {
+    let (changes, tag, want) = row;
+    let mut changed = Vec::from_slice(alloc, message).expect(rt, "the message");
+    for (at, value) in *changes {
+        *changed.get_mut(*at).expect(rt, "no such byte") = *value;
     }
+    tag_anew(rt, &mut changed, *tag);
+    let line = hex(rt, alloc, &changed);
+    let text = answer_to(rt, alloc, setup, line.as_bytes());
+    assert_eq!(rt;
+        text.as_slice(),
+        want.as_bytes(),
+        "{changes:?}, tag {tag:?}"
+    );
+}
+
+/// Changes the tag of a message.
+fn tag_anew(rt: &impl Abort, message: &mut [u8], tag: Tag) {
     match tag {
         Tag::Kept => {}
         Tag::Zeros => message
             .get_mut(TAG_AT..TAG_AT + TAG_LEN)
-            .ok_or("no tag")?
+            .expect(rt, "no tag")
             .fill(0),
         Tag::Anew => sign(rt, message),
     }
-    Ok(())
+}
+
+/// The worked Map-Register with two records, by the second byte of their prefixes.
+fn both_records(rt: &impl Abort, first: u8, second: u8) -> [u8; 112] {
+    // 32 bytes before the records; the worked record twice; and the IDs.
+    let mut both = [0; 112];
+    both[..60].copy_from_slice(&MAP_REGISTER[..60]);
+    both[60..88].copy_from_slice(&RECORD);
+    both[88..].copy_from_slice(&MAP_REGISTER[60..]);
+    both[COUNT_AT] = 2;
+    both[EID_AT] = first;
+    both[EID_AT + RECORD.len()] = second;
+    sign(rt, &mut both);
+    both
+}
+
+/// Stops the test unless the line of these bytes has this answer.
+fn assert_bytes(rt: &impl Abort, alloc: Global, bytes: &[u8], want: &str) {
+    let line = hex(rt, alloc, bytes);
+    assert_answer(rt, alloc, line.as_bytes(), want);
 }
 
 /// Stops the test unless the line has this answer.
-fn assert_answer(
-    rt: &(impl Abort + AllocGlobal),
-    setup: &AnswerSetup,
-    line: &[u8],
-    want: &str,
-    name: &str,
-) -> Result<(), Fail> {
+fn assert_answer(rt: &impl Abort, alloc: Global, line: &[u8], want: &str) {
+    let setup = defaults(rt, alloc);
+    let text = answer_to(rt, alloc, &setup, line);
+    assert_eq!(rt; text.as_slice(), want.as_bytes(), "{line:?}");
+}
+
+/// The answer to a line.
+fn answer_to(rt: &impl Abort, alloc: Global, setup: &AnswerSetup, line: &[u8]) -> Vec<u8> {
     let mut reader = line;
-    let mut writer = Vec::new(rt.alloc());
-    answer(rt.alloc(), setup, &mut reader, &mut writer)?;
-    let text = std::str::from_utf8(&writer)?;
-    assert_eq!(rt; text, want, "{name}, {} bytes: {line:?}", line.len());
-    Ok(())
+    let mut writer = Vec::new(alloc);
+    answer(alloc, setup, &mut reader, &mut writer).expect(rt, "no answer");
+    writer
+}
+
+/// Stops the test unless a line of so many bytes, with this behind them, has this fault, or is refused.
+fn assert_long(
+    rt: &impl Abort,
+    alloc: Global,
+    setup: &AnswerSetup,
+    (digits, end): (usize, &str),
+    fault: Option<AnswerFault>,
+) {
+    let mut line = vec![in alloc; b'z'; digits].expect(rt, "the line");
+    line.extend_from_slice(end.as_bytes())
+        .expect(rt, "the line");
+    let mut reader: &[u8] = &line;
+    let want = if fault.is_none() { "refused 94\n" } else { "" };
+    assert_end(rt, alloc, setup, &mut reader, fault, want);
+}
+
+/// Stops the test unless what the reader gives has this fault, or none, and this answer.
+fn assert_end<R: Read>(
+    rt: &impl Abort,
+    alloc: Global,
+    setup: &AnswerSetup,
+    reader: &mut R,
+    fault: Option<AnswerFault>,
+    want: &str,
+) {
+    let mut writer = Vec::new(alloc);
+    let refused = answer(alloc, setup, reader, &mut writer).err();
+    assert_eq!(rt; refused, fault);
+    assert_eq!(rt; writer.as_slice(), want.as_bytes());
+}
+
+/// Stops the test unless a writer with room for so many bytes takes so many, with this fault, or none.
+fn assert_written(
+    rt: &impl Abort,
+    alloc: Global,
+    setup: &AnswerSetup,
+    room: usize,
+    fault: Option<AnswerFault>,
+) {
+    let mut reader = REGISTER_DIGITS.as_bytes();
+    let taken = Vec::new(alloc);
+    let mut writer = Narrow { taken, room };
+    let refused = answer(alloc, setup, &mut reader, &mut writer).err();
+    assert_eq!(rt; refused, fault, "room for {room} bytes");
+    let written = NOTIFY_LINE.as_bytes().get(..room);
+    assert_eq!(rt; Some(writer.taken.as_slice()), written);
 }
 
 /// Gives one byte a read, and once an error.

@@ -1,12 +1,12 @@
 //! The words of the program, and the setup that its options ask for.
 
-use crate::support::{MAP_REGISTER, REGISTER_DIGITS, hex};
+use crate::support::{MAP_REGISTER, REGISTER_DIGITS, TAG_AT, hex, ipv4_block};
+use clap::Error;
 use clap::error::ErrorKind;
-use lisp_samples::ipv4_block;
+use lisp_hmac::TAG_LEN;
 use lispd::{AnswerSetup, SetupFault, answer, command, setup};
 use std::alloc::Global;
 use std::process::Abort;
-use std::test::Fail;
 
 /// What a setup holds.
 #[derive(Clone, Copy)]
@@ -172,27 +172,22 @@ const ASKING: [(&[&str], ErrorKind); 4] = [
 ];
 
 #[test]
-fn options_give_their_setup(rt: HostRuntime) -> Result<(), Fail> {
+fn options_give_their_setup(rt: HostRuntime) {
     for (options, wanted) in &SETUPS {
-        let words = words(rt.alloc(), &[], options)?;
-        let setup = setup_of(rt.alloc(), &words)??;
-        assert_setup(&rt, &setup, wanted, options)?;
+        assert_setup(&rt, rt.alloc(), options, wanted);
     }
-    Ok(())
 }
 
 #[test]
-fn values_out_of_their_form_are_refused(rt: HostRuntime) -> Result<(), Fail> {
+fn values_out_of_their_form_are_refused(rt: HostRuntime) {
     for options in BAD_OPTIONS {
-        let words = words(rt.alloc(), &["answer"], options)?;
-        let refused = setup_of(rt.alloc(), &words)?.err();
+        let refused = setup_of(&rt, rt.alloc(), &["answer"], options).err();
         assert_eq!(rt; refused, Some(SetupFault::BadOption), "{options:?}");
     }
-    Ok(())
 }
 
 #[test]
-fn a_secret_has_1_to_256_bytes(rt: HostRuntime) -> Result<(), Fail> {
+fn a_secret_has_1_to_256_bytes(rt: HostRuntime) {
     for (count, is_good) in [
         (1, true),
         (255, true),
@@ -200,63 +195,36 @@ fn a_secret_has_1_to_256_bytes(rt: HostRuntime) -> Result<(), Fail> {
         (257, false),
         (300, false),
     ] {
-        let bytes = vec![in rt.alloc(); 0xa5; count]?;
-        let digits = hex(rt.alloc(), &bytes)?;
-        let words = words(rt.alloc(), &["answer"], &["--secret", &digits])?;
-        match setup_of(rt.alloc(), &words)? {
-            Ok(setup) => {
-                assert!(rt; is_good, "{count} bytes");
-                assert_eq!(rt; setup.secret.as_slice(), bytes.as_slice());
-            }
-            Err(fault) => {
-                assert!(rt; !is_good, "{count} bytes");
-                assert_eq!(rt; fault, SetupFault::BadOption);
-            }
-        }
+        assert_secret(&rt, rt.alloc(), count, is_good);
     }
-    Ok(())
 }
 
 #[test]
-fn words_of_no_option_are_told_on_standard_error(rt: HostRuntime) -> Result<(), Fail> {
+fn words_of_no_option_are_told_on_standard_error(rt: HostRuntime) {
     for options in BAD_WORDS {
-        let words = words(rt.alloc(), &[], options)?;
-        let Err(error) = command(rt.alloc())?.try_get_matches_from(words.as_slice()) else {
-            return Err("words were taken")?;
-        };
+        let error = error_of(&rt, rt.alloc(), options);
         assert!(rt; error.use_stderr(), "{options:?}");
         assert_ne!(rt; error.kind(), ErrorKind::OutOfMemory, "{options:?}");
     }
-    Ok(())
 }
 
 #[test]
-fn what_is_asked_for_is_told_on_standard_output(rt: HostRuntime) -> Result<(), Fail> {
+fn what_is_asked_for_is_told_on_standard_output(rt: HostRuntime) {
     for (options, kind) in ASKING {
-        let words = words(rt.alloc(), &[], options)?;
-        let Err(error) = command(rt.alloc())?.try_get_matches_from(words.as_slice()) else {
-            return Err("words were taken")?;
-        };
+        let error = error_of(&rt, rt.alloc(), options);
         assert!(rt; !error.use_stderr(), "{options:?}");
         assert_eq!(rt; error.kind(), kind, "{options:?}");
     }
-    Ok(())
 }
 
 #[test]
-fn the_setup_is_what_answers(rt: HostRuntime) -> Result<(), Fail> {
-    let words = words(rt.alloc(), &["answer"], &["--key", "2"])?;
-    let setup = setup_of(rt.alloc(), &words)??;
+fn the_setup_is_what_answers(rt: HostRuntime) {
+    let setup = setup_of(&rt, rt.alloc(), &["answer"], &["--key", "2"]).expect(&rt, "no setup");
+    assert_unknown_key(&rt, rt.alloc(), &setup, REGISTER_DIGITS);
     let mut untagged = MAP_REGISTER;
-    untagged[16..32].fill(0);
-    let untagged = hex(rt.alloc(), &untagged)?;
-    for digits in [REGISTER_DIGITS, &untagged] {
-        let mut reader = digits.as_bytes();
-        let mut writer = Vec::new(rt.alloc());
-        answer(rt.alloc(), &setup, &mut reader, &mut writer)?;
-        assert_eq!(rt; writer.as_slice(), b"refused 52\n".as_slice());
-    }
-    Ok(())
+    untagged[TAG_AT..TAG_AT + TAG_LEN].fill(0);
+    let untagged = hex(&rt, rt.alloc(), &untagged);
+    assert_unknown_key(&rt, rt.alloc(), &setup, &untagged);
 }
 
 #[test]
@@ -266,34 +234,79 @@ fn faults_have_their_numbers(rt: HostRuntime) {
     }
 }
 
-/// Stops the test unless the setup is the one that is wanted.
-fn assert_setup(
-    rt: &impl Abort,
-    setup: &AnswerSetup,
-    wanted: &Wanted,
-    options: &[&str],
-) -> Result<(), Fail> {
+/// Stops the test unless the words give the setup that is wanted.
+fn assert_setup(rt: &impl Abort, alloc: Global, options: &[&str], wanted: &Wanted) {
+    let setup = setup_of(rt, alloc, &[], options).expect(rt, "no setup");
     let (octets, mask_len) = wanted.prefix;
-    assert_eq!(rt; setup.prefix, ipv4_block(octets, mask_len)?, "{options:?}");
+    let prefix = ipv4_block(rt, octets, mask_len);
+    assert_eq!(rt; setup.prefix, prefix, "{options:?}");
     assert_eq!(rt; setup.secret.as_slice(), wanted.secret, "{options:?}");
     assert_eq!(rt;
         (setup.site, setup.key, setup.more_specifics),
         (wanted.site, wanted.key, wanted.more_specifics),
         "{options:?}"
     );
-    Ok(())
+}
+
+/// Stops the test unless a secret of so many bytes is taken, or refused.
+fn assert_secret(rt: &impl Abort, alloc: Global, count: usize, is_good: bool) {
+    let bytes = vec![in alloc; 0xa5; count].expect(rt, "the secret");
+    let digits = hex(rt, alloc, &bytes);
+    match setup_of(rt, alloc, &["answer"], &["--secret", &digits]) {
+        Ok(setup) => {
+            assert!(rt; is_good, "{count} bytes");
+            assert_eq!(rt; setup.secret.as_slice(), bytes.as_slice());
+        }
+        Err(fault) => {
+            assert!(rt; !is_good, "{count} bytes");
+            assert_eq!(rt; fault, SetupFault::BadOption);
+        }
+    }
+}
+
+/// Stops the test unless a line of these digits is refused for its key.
+fn assert_unknown_key(rt: &impl Abort, alloc: Global, setup: &AnswerSetup, digits: &str) {
+    let mut reader = digits.as_bytes();
+    let mut writer = Vec::new(alloc);
+    answer(alloc, setup, &mut reader, &mut writer).expect(rt, "no answer");
+    assert_eq!(rt; writer.as_slice(), b"refused 52\n".as_slice());
 }
 
 /// `lispd`, and these words behind it.
-fn words<'a>(alloc: Global, front: &[&'a str], options: &[&'a str]) -> Result<Vec<&'a str>, Fail> {
-    let mut words = vec![in alloc; "lispd"]?;
-    words.extend_from_slice(front)?;
-    words.extend_from_slice(options)?;
-    Ok(words)
+fn words<'a>(
+    rt: &impl Abort,
+    alloc: Global,
+    front: &[&'a str],
+    options: &[&'a str],
+) -> Vec<&'a str> {
+    let mut words = Vec::new(alloc);
+    words.push("lispd").expect(rt, "a word");
+    words.extend_from_slice(front).expect(rt, "the words");
+    words.extend_from_slice(options).expect(rt, "the words");
+    words
 }
 
-/// The setup that the words ask for.
-fn setup_of(alloc: Global, words: &[&str]) -> Result<Result<AnswerSetup, SetupFault>, Fail> {
-    let matches = command(alloc)?.try_get_matches_from(words)?;
-    Ok(setup(alloc, matches.subcommand_matches("answer")))
+/// The setup that the words behind `lispd` ask for.
+fn setup_of(
+    rt: &impl Abort,
+    alloc: Global,
+    front: &[&str],
+    options: &[&str],
+) -> Result<AnswerSetup, SetupFault> {
+    let words = words(rt, alloc, front, options);
+    let command = command(alloc).expect(rt, "no command");
+    let matches = command
+        .try_get_matches_from(words.as_slice())
+        .expect(rt, "no matches");
+    setup(alloc, matches.subcommand_matches("answer"))
+}
+
+/// What `clap` tells of words behind `lispd`.
+fn error_of(rt: &impl Abort, alloc: Global, options: &[&str]) -> Error {
+    let words = words(rt, alloc, &[], options);
+    let command = command(alloc).expect(rt, "no command");
+    match command.try_get_matches_from(words.as_slice()) {
+        Ok(_) => panic!(rt; "words were taken"),
+        Err(error) => error,
+    }
 }

@@ -1,11 +1,13 @@
 //! Records, prefixes and locators, against rows worked by hand from RFC 9301 section 5.4.
 
+use crate::support::{assert_worked_record, block, ipv4_block, worked_record};
 use lisp_records::{
     Addr, Bytes, Family, Locator, MapRecord, Prefix, RecordFault, Records, read_record,
     write_record,
 };
-use lisp_samples::{LOCATOR, RECORD, block, fields, ipv4_block, worked_record};
-use std::test::Fail;
+use lisp_samples::{LOCATOR, RECORD, fields};
+use std::alloc::Global;
+use std::process::Abort;
 
 /// A record with no locator and with bits past its mask.
 const PLAIN: [u8; 16] = [
@@ -60,8 +62,62 @@ const MANY_LOCATORS: [Locator; 2] = [
     },
 ];
 
+/// AFIs and masks of a record, and the faults that they are.
+const FAMILIES: [(u16, u8, RecordFault); 6] = [
+    (1, 33, RecordFault::Mask),
+    (2, 128, RecordFault::Short),
+    (2, 129, RecordFault::Mask),
+    (3, 16, RecordFault::Afi),
+    (3, 129, RecordFault::Afi),
+    (0x0101, 16, RecordFault::Afi),
+];
+
+/// 2001:db8::.
+const DOCUMENTATION: Addr = Addr::V6([0x20, 0x01, 0x0d, 0xb8, 0, 0, 0, 0, 0, 0, 0, 0, 0, 0, 0, 0]);
+
+/// The address of IPv6 that begins with the octets of 10.1.0.0.
+const ALIKE: Addr = Addr::V6([10, 1, 0, 0, 0, 0, 0, 0, 0, 0, 0, 0, 0, 0, 0, 0]);
+
+/// An address and the length of a mask.
+type Eid = (Addr, u8);
+
+/// 10.1.0.0/16.
+const ONE: Eid = (Addr::V4([10, 1, 0, 0]), 16);
+
+/// 0.0.0.0/0.
+const ALL: Eid = (Addr::V4([0; 4]), 0);
+
+/// Prefixes, and whether the first covers the second.
+const COVERS: [(Eid, Eid, bool); 8] = [
+    (ONE, ONE, true),
+    (ONE, (Addr::V4([10, 1, 2, 0]), 24), true),
+    (ONE, (Addr::V4([10, 0, 0, 0]), 8), false),
+    (ONE, (Addr::V4([10, 2, 0, 0]), 16), false),
+    (ONE, (ALIKE, 16), false),
+    (ALL, (Addr::V4([255; 4]), 32), true),
+    (ALL, (ALIKE, 16), false),
+    // The same first address, but more of them.
+    (
+        (Addr::V4([10, 0, 0, 0]), 16),
+        (Addr::V4([10, 0, 0, 0]), 8),
+        false,
+    ),
+];
+
+/// Prefixes in their order.
+const ORDERED: [Eid; 8] = [
+    ALL,
+    (Addr::V4([10, 0, 0, 0]), 8),
+    (Addr::V4([10, 0, 0, 0]), 16),
+    (Addr::V4([11, 0, 0, 0]), 8),
+    (Addr::V4([255; 4]), 32),
+    (Addr::V6([0; 16]), 0),
+    (Addr::V6([0; 16]), 128),
+    (Addr::V6([1; 16]), 128),
+];
+
 #[test]
-fn bits_past_the_mask_are_cleared(rt: HostRuntime) -> Result<(), Fail> {
+fn bits_past_the_mask_are_cleared(rt: HostRuntime) {
     for (mask_len, octets) in [
         (0, [0, 0, 0, 0]),
         (9, [10, 0, 0, 0]),
@@ -69,33 +125,14 @@ fn bits_past_the_mask_are_cleared(rt: HostRuntime) -> Result<(), Fail> {
         (31, [10, 1, 2, 2]),
         (32, [10, 1, 2, 3]),
     ] {
-        let mut bytes = PLAIN;
-        bytes[MASK_AT] = mask_len;
-        let (record, next) = read_record(rt.alloc(), &bytes, 0)?;
-        assert_eq!(rt;
-            (record.eid().addr(), record.eid().mask_len()),
-            (Addr::V4(octets), mask_len)
-        );
-        assert_eq!(rt; next, 16);
+        assert_cleared(&rt, rt.alloc(), mask_len, octets);
     }
-    Ok(())
 }
 
 #[test]
-fn the_family_settles_mask_and_length(rt: HostRuntime) -> Result<(), Fail> {
-    for (afi, mask_len, fault) in [
-        (1u16, 33, RecordFault::Mask),
-        (2, 128, RecordFault::Short),
-        (2, 129, RecordFault::Mask),
-        (3, 16, RecordFault::Afi),
-        (3, 129, RecordFault::Afi),
-        (0x0101, 16, RecordFault::Afi),
-    ] {
-        let mut bytes = PLAIN;
-        bytes[AFI_AT..AFI_AT + 2].copy_from_slice(&afi.to_be_bytes());
-        bytes[MASK_AT] = mask_len;
-        let refused = read_record(rt.alloc(), &bytes, 0).err();
-        assert_eq!(rt; refused, Some(fault), "AFI {afi}, mask {mask_len}");
+fn the_family_settles_mask_and_length(rt: HostRuntime) {
+    for (afi, mask_len, fault) in FAMILIES {
+        assert_family_fault(&rt, rt.alloc(), afi, mask_len, fault);
     }
     let mut bytes = [0xff; 28];
     bytes[..16].copy_from_slice(&PLAIN);
@@ -103,86 +140,64 @@ fn the_family_settles_mask_and_length(rt: HostRuntime) -> Result<(), Fail> {
     bytes[MASK_AT] = 128;
     let mut octets = [0xff; 16];
     octets[..4].copy_from_slice(&[10, 1, 2, 3]);
-    let (record, next) = read_record(rt.alloc(), &bytes, 0)?;
-    assert_eq!(rt; (record.eid().addr(), next), (Addr::V6(octets), 28));
-    Ok(())
+    let record = record_of(&rt, rt.alloc(), &bytes);
+    assert_eq!(rt; record.eid().addr(), Addr::V6(octets));
 }
 
 #[test]
-fn each_field_is_read_and_written_in_its_place(rt: HostRuntime) -> Result<(), Fail> {
-    let mut octets = [0; 16];
-    octets[..4].copy_from_slice(&[0x20, 0x01, 0x0d, 0xb8]);
-    let eid = block(Addr::V6(octets), 32)?;
-    let (record, next) = read_record(rt.alloc(), &MANY_FIELDS, 0)?;
-    assert_eq!(rt;
-        fields(&record),
-        (0x0102_0304, 5, false, 0xabc, eid, MANY_LOCATORS.as_slice())
-    );
-    assert_eq!(rt; (next, record.written_len()), (64, 64));
+fn each_field_is_read_and_written_in_its_place(rt: HostRuntime) {
+    let record = record_of(&rt, rt.alloc(), &MANY_FIELDS);
+    assert_many_fields(&rt, &record);
     let mut out = Vec::new(rt.alloc());
-    write_record(&record, &mut out)?;
+    write_record(&record, &mut out).expect(&rt, "the record");
     assert_eq!(rt; out.as_slice(), MANY_FIELDS.as_slice());
-    Ok(())
 }
 
 #[test]
-fn the_worked_record_is_read_copied_and_written(rt: HostRuntime) -> Result<(), Fail> {
-    let worked = worked_record(rt.alloc())?;
-    let (record, next) = read_record(rt.alloc(), &RECORD, 0)?;
-    assert_eq!(rt; fields(&record), fields(&worked));
-    assert_eq!(rt; next, 28);
-    assert_eq!(rt; fields(&record.copy(rt.alloc())?), fields(&worked));
-
+fn the_worked_record_is_read_copied_and_written(rt: HostRuntime) {
+    let record = record_of(&rt, rt.alloc(), &RECORD);
+    assert_worked_record(&rt, &record);
+    assert_worked_record(&rt, &worked_record(&rt, rt.alloc()));
+    assert_copy(&rt, rt.alloc(), &record);
     assert_eq!(rt; record.written_len(), 28);
-    let mut out = Vec::from_slice(rt.alloc(), b"before")?;
-    write_record(&record, &mut out)?;
-    let text: &[u8] = &out;
-    assert_eq!(rt; text.strip_prefix(b"before"), Some(RECORD.as_slice()));
+    let mut out = Vec::from_slice(rt.alloc(), b"before").expect(&rt, "room");
+    write_record(&record, &mut out).expect(&rt, "the record");
+    assert_behind(&rt, &out);
 
     // In the midst of other bytes, too.
-    out.extend_from_slice(b"behind")?;
-    let (record, next) = read_record(rt.alloc(), &out, 6)?;
-    assert_eq!(rt; fields(&record), fields(&worked));
-    assert_eq!(rt; next, 6 + 28);
-    Ok(())
+    out.extend_from_slice(b"behind").expect(&rt, "room");
+    assert_in_midst(&rt, rt.alloc(), &out);
 }
 
 #[test]
-fn reserved_bits_are_ignored_and_cuts_are_short(rt: HostRuntime) -> Result<(), Fail> {
-    let worked = worked_record(rt.alloc())?;
+fn reserved_bits_are_ignored_and_cuts_are_short(rt: HostRuntime) {
     let mut bytes = RECORD;
     // The rest of ACT and A, a byte, the rest of the Map-Version; in the locator, the rest of L, p
     // and R.
     for (at, reserved) in [(6, 0x0f), (7, 0xff), (8, 0xf0), (20, 0xff), (21, 0xf8)] {
         bytes[at] |= reserved;
     }
-    let (record, next) = read_record(rt.alloc(), &bytes, 0)?;
-    assert_eq!(rt; fields(&record), fields(&worked));
-    assert_eq!(rt; next, 28);
+    assert_worked_record(&rt, &record_of(&rt, rt.alloc(), &bytes));
     for len in 0..RECORD.len() {
         let refused = read_record(rt.alloc(), &RECORD[..len], 0).err();
         assert_eq!(rt; refused, Some(RecordFault::Short), "{len} bytes");
     }
-    Ok(())
 }
 
 #[test]
-fn fields_out_of_range_are_refused(rt: HostRuntime) -> Result<(), Fail> {
-    let eid = ipv4_block([10, 1, 0, 0], 16)?;
+fn fields_out_of_range_are_refused(rt: HostRuntime) {
     for (act, version, count, is_some) in [
         (7, 4095, 255, true),
         (8, 0, 0, false),
         (0, 4096, 0, false),
         (0, 0, 256, false),
     ] {
-        let locators = vec![in rt.alloc(); LOCATOR; count]?;
-        let record = MapRecord::new(0, act, false, version, eid, locators);
-        assert_eq!(rt;
-            record.is_some(),
-            is_some,
-            "act {act}, version {version}, {count} locators"
-        );
+        assert_in_range(&rt, rt.alloc(), (act, version, count), is_some);
     }
+}
+
+#[test]
+fn masks_out_of_range_are_refused(rt: HostRuntime) {
     let (ipv4, ipv6) = (Addr::V4([10, 1, 2, 3]), Addr::V6([0; 16]));
     for (addr, mask_len, is_some) in [
         (ipv4, 32, true),
@@ -197,73 +212,37 @@ fn fields_out_of_range_are_refused(rt: HostRuntime) -> Result<(), Fail> {
             "{addr:?}/{mask_len}"
         );
     }
-    Ok(())
 }
 
 #[test]
-fn a_prefix_covers_what_lies_inside_it(rt: HostRuntime) -> Result<(), Fail> {
-    let one = ipv4_block([10, 1, 0, 0], 16)?;
-    let all = ipv4_block([0, 0, 0, 0], 0)?;
-    let ipv6 = block(
-        Addr::V6([10, 1, 0, 0, 0, 0, 0, 0, 0, 0, 0, 0, 0, 0, 0, 0]),
-        16,
-    )?;
-    for (outer, inner, is_inside) in [
-        (one, one, true),
-        (one, ipv4_block([10, 1, 2, 0], 24)?, true),
-        (one, ipv4_block([10, 0, 0, 0], 8)?, false),
-        (one, ipv4_block([10, 2, 0, 0], 16)?, false),
-        (one, ipv6, false),
-        (all, ipv4_block([255, 255, 255, 255], 32)?, true),
-        (all, ipv6, false),
-        // The same first address, but more of them.
-        (
-            ipv4_block([10, 0, 0, 0], 16)?,
-            ipv4_block([10, 0, 0, 0], 8)?,
-            false,
-        ),
-    ] {
+fn a_prefix_covers_what_lies_inside_it(rt: HostRuntime) {
+    for (outer, inner, is_inside) in COVERS {
+        let (outer, inner) = (block(&rt, outer.0, outer.1), block(&rt, inner.0, inner.1));
         assert_eq!(rt; outer.covers(&inner), is_inside, "{outer:?} and {inner:?}");
     }
-    Ok(())
 }
 
 #[test]
-fn prefixes_are_ordered(rt: HostRuntime) -> Result<(), Fail> {
-    let ordered = [
-        ipv4_block([0, 0, 0, 0], 0)?,
-        ipv4_block([10, 0, 0, 0], 8)?,
-        ipv4_block([10, 0, 0, 0], 16)?,
-        ipv4_block([11, 0, 0, 0], 8)?,
-        ipv4_block([255, 255, 255, 255], 32)?,
-        block(Addr::V6([0; 16]), 0)?,
-        block(Addr::V6([0; 16]), 128)?,
-        block(Addr::V6([1; 16]), 128)?,
-    ];
-    for (i, one) in ordered.iter().enumerate() {
-        for (j, other) in ordered.iter().enumerate() {
-            assert_eq!(rt; one.cmp(other), i.cmp(&j), "{one:?} and {other:?}");
+fn prefixes_are_ordered(rt: HostRuntime) {
+    for (i, one) in ORDERED.into_iter().enumerate() {
+        for (j, other) in ORDERED.into_iter().enumerate() {
+            let (one, other) = (block(&rt, one.0, one.1), block(&rt, other.0, other.1));
+            assert_eq!(rt; one.cmp(&other), i.cmp(&j), "{one:?} and {other:?}");
         }
     }
-    Ok(())
 }
 
 #[test]
-fn families_and_faults_have_their_numbers(rt: HostRuntime) -> Result<(), Fail> {
+fn families_have_their_numbers(rt: HostRuntime) {
     let (ipv4, ipv6) = (Addr::V4([10, 1, 2, 3]), Addr::V6([7; 16]));
     assert_eq!(rt; ipv4.octets(), [10, 1, 2, 3].as_slice());
     assert_eq!(rt; ipv6.octets(), [7; 16].as_slice());
-    for (addr, want, afi, width, max_mask_len) in [
-        (ipv4, Family::Ipv4, 1, 4, 32),
-        (ipv6, Family::Ipv6, 2, 16, 128),
-    ] {
-        let family = addr.family();
-        assert_eq!(rt; family, want);
-        assert_eq!(rt;
-            (family.afi(), family.width(), family.max_mask_len()),
-            (afi, width, max_mask_len)
-        );
-    }
+    assert_family(&rt, ipv4, Family::Ipv4, (1, 4, 32));
+    assert_family(&rt, ipv6, Family::Ipv6, (2, 16, 128));
+}
+
+#[test]
+fn faults_have_their_numbers(rt: HostRuntime) {
     for (fault, number) in [
         (RecordFault::Short, 1),
         (RecordFault::Afi, 2),
@@ -272,20 +251,109 @@ fn families_and_faults_have_their_numbers(rt: HostRuntime) -> Result<(), Fail> {
     ] {
         assert_eq!(rt; fault.number(), number, "{fault}");
     }
-    Ok(())
 }
 
 #[test]
-fn lists_give_back_what_they_were_made_of(rt: HostRuntime) -> Result<(), Fail> {
-    let bytes = Bytes::from_vec(Vec::from_slice(rt.alloc(), b"kept")?);
+fn bytes_give_back_what_they_were_made_of(rt: HostRuntime) {
+    let bytes = Bytes::from_vec(Vec::from_slice(rt.alloc(), b"kept").expect(&rt, "the bytes"));
     assert_eq!(rt; bytes.as_slice(), b"kept".as_slice());
     assert_eq!(rt; bytes.into_vec().as_slice(), b"kept".as_slice());
+}
 
-    let worked = worked_record(rt.alloc())?;
-    let (plain, _) = read_record(rt.alloc(), &PLAIN, 0)?;
+#[test]
+fn records_give_back_what_they_were_made_of(rt: HostRuntime) {
+    let plain = record_of(&rt, rt.alloc(), &PLAIN);
+    let worked = worked_record(&rt, rt.alloc());
     let ttls = [plain.ttl(), worked.ttl()];
-    let records = Records::from_vec(vec![in rt.alloc(); plain, worked]?);
-    assert!(rt; records.as_slice().iter().map(MapRecord::ttl).eq(ttls));
-    assert!(rt; records.into_vec().iter().map(MapRecord::ttl).eq(ttls));
-    Ok(())
+    let mut records = Vec::new(rt.alloc());
+    records.push(plain).expect(&rt, "a record");
+    records.push(worked).expect(&rt, "a record");
+    let records = Records::from_vec(records);
+    assert_ttls(&rt, records.as_slice(), ttls);
+    assert_ttls(&rt, &records.into_vec(), ttls);
+}
+
+/// The record that these bytes are, and no byte more.
+fn record_of(rt: &impl Abort, alloc: Global, bytes: &[u8]) -> MapRecord {
+    let (record, next) = read_record(alloc, bytes, 0).expect(rt, "no record");
+    assert_eq!(rt; next, bytes.len());
+    record
+}
+
+/// Stops the test unless this is the prefix under a mask of so many bits.
+fn assert_cleared(rt: &impl Abort, alloc: Global, mask_len: u8, octets: [u8; 4]) {
+    let mut bytes = PLAIN;
+    bytes[MASK_AT] = mask_len;
+    let eid = record_of(rt, alloc, &bytes).eid();
+    assert_eq!(rt; (eid.addr(), eid.mask_len()), (Addr::V4(octets), mask_len));
+}
+
+/// Stops the test unless the record of this AFI and mask has this fault.
+fn assert_family_fault(rt: &impl Abort, alloc: Global, afi: u16, mask_len: u8, fault: RecordFault) {
+    let mut bytes = PLAIN;
+    bytes[AFI_AT..AFI_AT + 2].copy_from_slice(&afi.to_be_bytes());
+    bytes[MASK_AT] = mask_len;
+    let refused = read_record(alloc, &bytes, 0).err();
+    assert_eq!(rt; refused, Some(fault), "AFI {afi}, mask {mask_len}");
+}
+
+/// Stops the test unless the record is that of `MANY_FIELDS`.
+fn assert_many_fields(rt: &impl Abort, record: &MapRecord) {
+    let eid = block(rt, DOCUMENTATION, 32);
+    assert_eq!(rt;
+        fields(record),
+        (0x0102_0304, 5, false, 0xabc, eid, MANY_LOCATORS.as_slice())
+    );
+    assert_eq!(rt; record.written_len(), 64);
+}
+
+/// Stops the test unless the record's copy is the worked record.
+fn assert_copy(rt: &impl Abort, alloc: Global, record: &MapRecord) {
+    let copy = record.copy(alloc).expect(rt, "the copy");
+    assert_worked_record(rt, &copy);
+}
+
+/// Stops the test unless the worked record stands behind what was there before.
+fn assert_behind(rt: &impl Abort, bytes: &[u8]) {
+    assert_eq!(rt; bytes.strip_prefix(b"before"), Some(RECORD.as_slice()));
+}
+
+/// Stops the test unless the worked record stands at place 6.
+fn assert_in_midst(rt: &impl Abort, alloc: Global, bytes: &[u8]) {
+    assert!(rt; bytes.len() >= 6);
+    let (record, next) = read_record(alloc, bytes, 6).expect(rt, "no record");
+    assert_worked_record(rt, &record);
+    assert_eq!(rt; next, 6 + 28);
+}
+
+/// Stops the test unless the ACT, the Map-Version and so many locators make a record, or make none.
+fn assert_in_range(
+    rt: &impl Abort,
+    alloc: Global,
+    (act, version, count): (u8, u16, usize),
+    is_some: bool,
+) {
+    let eid = ipv4_block(rt, [10, 1, 0, 0], 16);
+    let locators = vec![in alloc; LOCATOR; count].expect(rt, "the locators");
+    let record = MapRecord::new(0, act, false, version, eid, locators);
+    assert_eq!(rt;
+        record.is_some(),
+        is_some,
+        "act {act}, version {version}, {count} locators"
+    );
+}
+
+/// Stops the test unless the address has this family, and the family this AFI, width and longest mask.
+fn assert_family(rt: &impl Abort, addr: Addr, want: Family, numbers: (u16, u8, u8)) {
+    let family = addr.family();
+    assert_eq!(rt; family, want);
+    assert_eq!(rt;
+        (family.afi(), family.width(), family.max_mask_len()),
+        numbers
+    );
+}
+
+/// Stops the test unless these are the TTLs of the records.
+fn assert_ttls(rt: &impl Abort, records: &[MapRecord], ttls: [u32; 2]) {
+    assert!(rt; records.iter().map(MapRecord::ttl).eq(ttls));
 }

@@ -1,13 +1,13 @@
 //! What the tests share: the worked record and messages, and what reading them must give. The
 //! tags of the messages come from Python's `hmac`.
 
+use linked_list_allocator::LocalHeap;
 use lisp_hmac::{TAG_LEN, tag128};
-use lisp_messages::{MapNotify, MapRegister, Message};
-use lisp_records::{MapRecord, Records};
-use lisp_samples::{LOCATOR, RECORD, SECRET, fields, ipv4_block, worked_record};
+use lisp_messages::{MapNotify, MapRegister, Message, read_message};
+use lisp_records::{Addr, MapRecord, Prefix, Records};
+use lisp_samples::{LOCATOR, SECRET, fields};
 use std::alloc::{Allocator, Global};
 use std::process::Abort;
-use std::test::Fail;
 
 /// The worked Map-Register.
 pub const MAP_REGISTER: [u8; 84] = [
@@ -53,11 +53,50 @@ pub const XTR: [u8; 16] = [0, 0, 0, 0, 0, 0, 0, 0, 0, 0, 0, 0, 0, 0, 0, 10];
 /// Where the Authentication Data stands in a message.
 pub const TAG_AT: usize = 16;
 
+/// A heap's smallest block, by which its free room grows.
+const BLOCK_LEN: usize = 16;
+
+/// Takes all the memory of a heap but so many blocks.
+pub fn ballast<'h>(rt: &impl Abort, heap: &'h LocalHeap, blocks: usize) -> Vec<u8, &'h LocalHeap> {
+    let room = blocks.saturating_mul(BLOCK_LEN);
+    let taken = heap.free().saturating_sub(room);
+    let ballast = Vec::with_capacity(heap, taken).expect(rt, "the ballast");
+    assert_eq!(rt; heap.free(), room);
+    ballast
+}
+
+/// The block of the addresses that begin as this one does.
+pub fn block(rt: &impl Abort, addr: Addr, mask_len: u8) -> Prefix {
+    Prefix::new(addr, mask_len).expect(rt, "the mask is too long")
+}
+
+/// A block of IPv4 addresses.
+pub fn ipv4_block(rt: &impl Abort, octets: [u8; 4], mask_len: u8) -> Prefix {
+    block(rt, Addr::V4(octets), mask_len)
+}
+
+/// The worked record, built.
+pub fn worked_record(rt: &impl Abort, alloc: Global) -> MapRecord {
+    let eid = ipv4_block(rt, [10, 1, 0, 0], 16);
+    let locators = Vec::from_slice(alloc, &[LOCATOR]).expect(rt, "the locator");
+    MapRecord::new(1440, 0, true, 0, eid, locators).expect(rt, "a field is too large")
+}
+
+/// The worked record alone, built.
+fn worked_records(rt: &impl Abort, alloc: Global) -> Vec<MapRecord> {
+    let mut records = Vec::new(alloc);
+    records
+        .push(worked_record(rt, alloc))
+        .expect(rt, "the record");
+    records
+}
+
 /// The worked Map-Register with these flags, P, S, E, T, a and M, built.
-pub fn worked_register(alloc: Global, flags: [bool; 6]) -> Result<MapRegister, Fail> {
+pub fn worked_register(rt: &impl Abort, alloc: Global, flags: [bool; 6]) -> MapRegister {
     let [proxy, sec, eid_notify, use_ttl, merge, want_notify] = flags;
-    let records = vec![in alloc; worked_record(alloc)?]?;
-    Ok(MapRegister {
+    let records = worked_records(rt, alloc);
+    assert!(rt; records.len() < 256);
+    MapRegister {
         proxy,
         sec,
         eid_notify,
@@ -69,61 +108,63 @@ pub fn worked_register(alloc: Global, flags: [bool; 6]) -> Result<MapRegister, F
         records: Records::from_vec(records),
         xtr: XTR,
         site: 1,
-    })
+    }
 }
 
 /// The worked Map-Notify, or the Map-Notify-Ack that answers it, built.
-pub fn worked_notify(alloc: Global, ack: bool) -> Result<MapNotify, Fail> {
-    let records = vec![in alloc; worked_record(alloc)?]?;
-    Ok(MapNotify {
+pub fn worked_notify(rt: &impl Abort, alloc: Global, ack: bool) -> MapNotify {
+    let records = worked_records(rt, alloc);
+    assert!(rt; records.len() < 256);
+    MapNotify {
         ack,
         nonce: 1,
         key_id: 1,
         records: Records::from_vec(records),
-    })
+    }
+}
+
+/// Stops the test unless the record is the worked record.
+pub fn assert_worked_record<A: Allocator>(rt: &impl Abort, record: &MapRecord<A>) {
+    let eid = ipv4_block(rt, [10, 1, 0, 0], 16);
+    assert_eq!(rt;
+        fields(record),
+        (1440, 0, true, 0, eid, [LOCATOR].as_slice())
+    );
 }
 
 /// Stops the test unless the records are the worked record alone.
-pub fn assert_worked_records<A: Allocator>(
-    rt: &impl Abort,
-    records: &Records<A>,
-) -> Result<(), Fail> {
-    let eid = ipv4_block([10, 1, 0, 0], 16)?;
-    assert_eq!(rt; records.as_slice().len(), 1);
-    for record in records.as_slice() {
-        assert_eq!(rt;
-            fields(record),
-            (1440, 0, true, 0, eid, [LOCATOR].as_slice())
-        );
-    }
-    Ok(())
+fn assert_worked_records<A: Allocator>(rt: &impl Abort, records: &Records<A>) {
+    let [record] = records.as_slice() else {
+        panic!(rt; "{} records", records.as_slice().len())
+    };
+    assert_worked_record(rt, record);
 }
 
-/// Stops the test unless the message is the worked Map-Register.
-pub fn assert_worked_register<A: Allocator>(
-    rt: &impl Abort,
-    message: &Message<A>,
-) -> Result<(), Fail> {
-    assert_register(rt, message, FLAGS)
+/// Stops the test unless the bytes are read as the worked Map-Register.
+pub fn assert_reads_register(rt: &impl Abort, alloc: Global, bytes: &[u8]) {
+    let message = read_message(alloc, bytes).expect(rt, "no message");
+    assert_register(rt, &message, FLAGS);
+}
+
+/// Stops the test unless the bytes are read as the worked Map-Notify, or the Map-Notify-Ack like it.
+pub fn assert_reads_notify(rt: &impl Abort, alloc: Global, bytes: &[u8], ack: bool) {
+    let message = read_message(alloc, bytes).expect(rt, "no message");
+    assert_notify(rt, &message, ack);
 }
 
 /// Stops the test unless the message is the worked Map-Register with these flags.
-pub fn assert_register<A: Allocator>(
-    rt: &impl Abort,
-    message: &Message<A>,
-    want: [bool; 6],
-) -> Result<(), Fail> {
+pub fn assert_register<A: Allocator>(rt: &impl Abort, message: &Message<A>, want: [bool; 6]) {
     let Message::Register(register) = message else {
-        return Err("no Map-Register")?;
+        panic!(rt; "no Map-Register")
     };
     assert_eq!(rt; flags(register), want);
     assert_eq!(rt; (register.nonce, register.key_id, register.site), (1, 1, 1));
     assert_eq!(rt; register.xtr, XTR);
-    assert_worked_records(rt, &register.records)
+    assert_worked_records(rt, &register.records);
 }
 
 /// P, S, E, T, a and M of a Map-Register.
-pub fn flags<A: Allocator>(register: &MapRegister<A>) -> [bool; 6] {
+fn flags<A: Allocator>(register: &MapRegister<A>) -> [bool; 6] {
     [
         register.proxy,
         register.sec,
@@ -135,16 +176,12 @@ pub fn flags<A: Allocator>(register: &MapRegister<A>) -> [bool; 6] {
 }
 
 /// Stops the test unless the message is the worked Map-Notify, or the Map-Notify-Ack like it.
-pub fn assert_worked_notify<A: Allocator>(
-    rt: &impl Abort,
-    message: &Message<A>,
-    ack: bool,
-) -> Result<(), Fail> {
+pub fn assert_notify<A: Allocator>(rt: &impl Abort, message: &Message<A>, ack: bool) {
     let Message::Notify(notify) = message else {
-        return Err("no Map-Notify")?;
+        panic!(rt; "no Map-Notify")
     };
     assert_eq!(rt; (notify.ack, notify.nonce, notify.key_id), (ack, 1, 1));
-    assert_worked_records(rt, &notify.records)
+    assert_worked_records(rt, &notify.records);
 }
 
 /// Puts into a message the tag that makes it authentic.
@@ -155,10 +192,10 @@ pub fn sign(rt: &impl Abort, message: &mut [u8]) {
 }
 
 /// The bytes as digits.
-pub fn hex(alloc: Global, bytes: &[u8]) -> Result<String, Fail> {
+pub fn hex(rt: &impl Abort, alloc: Global, bytes: &[u8]) -> String {
     let mut digits = String::new(alloc);
     for byte in bytes {
-        write!(&mut digits, "{byte:02x}")?;
+        write!(&mut digits, "{byte:02x}").expect(rt, "the digits");
     }
-    Ok(digits)
+    digits
 }

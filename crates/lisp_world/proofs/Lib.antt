@@ -1,0 +1,15 @@
+pub mod KeptLemmas
+pub mod TurnLemmas
+pub mod ItemLemmas
+pub mod Samples
+pub mod Steps
+pub mod LegalRows
+pub mod NearMisses
+pub mod Locality
+pub mod ListLemmas
+pub mod Meanings
+pub mod Rising
+pub mod RisingSteps
+pub mod RisingLaws
+pub mod MustLemmas
+pub mod MustLaws

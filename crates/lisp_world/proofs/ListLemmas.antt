@@ -1,0 +1,18 @@
+-- What a list with one more element in front has.
+use Rattle.std.proofs.Common.{◌≡◌, zero, suc, List, [], ◌∷◌, refl, sym, inl, inr, arith}
+use Rattle.std.specs.Prelude.{◌⊎◌}
+use Rattle.std.specs.List.{Contains}
+
+module _ {X : Type 0} where
+  pub at_head : (x : X) (xs : List X) → Contains (x ∷ xs) x
+  at_head x xs = (0, omega arith, refl)
+
+  pub in_tail : (x : X) (xs : List X) (v : X) → Contains xs v → Contains (x ∷ xs) v
+  in_tail x xs v (k, lt, is) = (suc k, omega arith, is)
+
+  pub head_or_tail : (x : X) (xs : List X) (v : X) → Contains (x ∷ xs) v → (v ≡ x) ⊎ Contains xs v
+  head_or_tail x xs v (zero, lt, is) = inl (sym is)
+  head_or_tail x xs v (suc k, lt, is) = inr (k, omega arith, is)
+
+  pub in_none : (v : X) → Contains [] v → ⊥
+  in_none v (k, lt, is) = absurd (omega arith)

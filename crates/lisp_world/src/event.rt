@@ -1,0 +1,70 @@
+//! What happens in a network.
+
+use lisp_records::{Addr, Bytes, Database};
+use lisp_store::Fate;
+use std::alloc::{Allocator, Global};
+
+/// One event: one call of one node. Nodes are named by their numbers: servers, then routers, in the
+/// order of the configuration.
+#[derive(Debug, Drop)]
+pub enum Event<A: Allocator = Global> {
+    /// A router is given another database.
+    Change {
+        /// The router.
+        router: usize,
+        /// What it registers from now on.
+        db: Database<A>,
+    },
+    /// A router sends a Map-Register to a Map-Server.
+    Send {
+        /// The router.
+        router: usize,
+        /// The Map-Server.
+        server: usize,
+        /// What becomes of the store's calls.
+        fate: Fate,
+    },
+    /// A datagram that was sent arrives, perhaps not for the first time.
+    Deliver {
+        /// Its number.
+        k: usize,
+        /// What becomes of the store's calls.
+        fate: Fate,
+    },
+    /// Bytes from outside arrive at a node.
+    Junk {
+        /// The node.
+        to: usize,
+        /// The source that they tell.
+        from: Addr,
+        /// The bytes.
+        bytes: Bytes<A>,
+    },
+    /// Time passes, in ms, and every Map-Server drops its dead rows.
+    Tick(u64),
+    /// A node stops and starts again.
+    Restart {
+        /// The node.
+        node: usize,
+        /// Which of the values that its store may still answer are left.
+        pick: u64,
+        /// What a router registers from now on, where that is another database.
+        db: Option<Database<A>>,
+    },
+    /// A Map-Server tells a router unasked what it holds of it.
+    Notice {
+        /// The Map-Server.
+        server: usize,
+        /// The router.
+        router: usize,
+        /// What becomes of the store's calls.
+        fate: Fate,
+    },
+    /// A Map-Server sends a notice again.
+    Resend {
+        /// The Map-Server.
+        server: usize,
+        /// The router.
+        router: usize,
+    },
+}
