@@ -1,8 +1,10 @@
 -- Legal traces of the small network: what each meaning makes of them.
-use Rattle.std.proofs.Common.{◌≡◌, ℕ, true, List, [], ◌∷◌, Option, Some, None, refl, sym, ap, subst, inl, inr, arith}
+use Rattle.std.proofs.Common.{Ok, ◌≡◌, ℕ, true, List, [], ◌∷◌, Option, Some, None, refl, sym, ap, subst, inl, inr, arith}
 use Rattle.std.specs.Prelude.{◌^◌, ◌+◌}
 use Rattle.std.specs.List.{Contains}
 use Rattle.std.specs.Prelude.{Result, Err}
+use Rattle.lisp_records.specs.Database.{database_of, repeats as repeats_in}
+use Rattle.lisp_records.specs.Written.{written}
 use Rattle.lisp_records.specs.declared.address.Addr.TheVariants.{V4}
 use Rattle.lisp_records.specs.Address.{masked}
 use Rattle.lisp_messages.specs.declared.fault.ReadFault.{ReadFault}
@@ -25,13 +27,16 @@ use Rattle.lisp_etr.specs.declared.send_fault.SendFault.TheVariants as send_faul
 use Rattle.lisp_etr.specs.declared.notify_fault.NotifyFault.TheVariants as notify_faults
 use Rattle.lisp_world.specs.declared.event.Event.TheVariants as events
 use Rattle.lisp_world.specs.declared.refusal.Refusal.TheVariants as refusals
+use Rattle.lisp_world.specs.declared.line.Line.TheVariants as lines
+use Rattle.lisp_etr.specs.declared.start_fault.StartFault.TheVariants as start_faults
+use Rattle.lisp_store.specs.declared.fault.StoreFault.TheVariants as stores
 use Rattle.lisp_world.specs.Trace.{Step, clock}
 use Rattle.lisp_world.specs.Held.{held}
 use Rattle.lisp_world.specs.Bag.{since, thrown}
 use Rattle.lisp_world.specs.Legal.{LegalTrace, turn_of}
-use Rattle.lisp_world.proofs.KeptLemmas.{empty_full, insert_full, set_full}
+use Rattle.lisp_world.proofs.KeptLemmas.{empty_full, insert_full, set_full, stays}
 use Rattle.lisp_world.proofs.TurnLemmas.{fresh_value, set_value, doubted_old, doubted_new, doubted_end, other_value}
-use Rattle.lisp_world.proofs.Samples.{opening, site, one, wide, strange, mapping, sent_by, got_from, local_at, sends, takes, replays, counts, changes, ticks, restarts, doubts_send, doubts_take, fails_load, restarts_to, tells, repeats, notices, ends, refuses}
+use Rattle.lisp_world.proofs.Samples.{opening, site, one, wide, strange, mapping, sent_by, got_from, local_at, sends, takes, replays, counts, changes, ticks, restarts, doubts_send, doubts_take, fails_load, restarts_to, tells, repeats, notices, ends, refuses, failed, step, at}
 use Rattle.lisp_world.proofs.Steps.{sends_legal, takes_legal, replays_legal, counts_legal, changes_legal, ticks_legal, wide_record, doubts_send_legal, doubts_take_legal, fails_load_legal, refuses_record, restarts_legal, restarts_to_legal, tells_legal, repeats_legal, notices_legal, ends_legal, told, heard_of, hears, answered}
 
 pub kinds_differ : notice_pair ≡ got_from one → ⊥
@@ -70,11 +75,15 @@ two_sent = sends (changes one_sent short ∷ one_sent) 0 2 1 ∷ changes one_sen
 abbrev pub newer_taken : List Step
 newer_taken = takes two_sent 1 0 2 2 ∷ two_sent
 
+short_database : database_of short ≡ Ok short
+unfolding written repeats_in
+short_database = refl
+
 two_sent_legal : LegalTrace opening two_sent
 two_sent_legal = (
   sends_legal (changes one_sent short ∷ one_sent) 0 2 1 (Some 1) refl refl refl refl refl (omega arith) (wide_record 60 (omega arith)) refl,
   (
-    changes_legal one_sent short refl,
+    changes_legal one_sent short short_database refl,
     one_sent_legal,
   ),
 )
@@ -298,8 +307,12 @@ foreign_fits = (
   ),
 )
 
+foreign_database : database_of foreign ≡ Ok foreign
+unfolding written repeats_in masked
+foreign_database = refl
+
 pub foreign_sent_legal : LegalTrace opening foreign_sent
-foreign_sent_legal = (sends_legal (changes [] foreign ∷ []) 0 1 0 None refl refl refl (fresh_value (sent_by one)) refl (omega arith) foreign_fits refl, (changes_legal [] foreign refl, tt))
+foreign_sent_legal = (sends_legal (changes [] foreign ∷ []) 0 1 0 None refl refl refl (fresh_value (sent_by one)) refl (omega arith) foreign_fits refl, (changes_legal [] foreign foreign_database refl, tt))
 
 pub foreign_refused : LegalTrace opening (refuses foreign_sent (events.Deliver 0 fates.Done) 0 (refusals.Receive (refuseds.NotAllowed 1)) ∷ foreign_sent)
 foreign_refused = (refuses_record foreign_sent 0 0 1 1 _ _ refl refl refl refl refl strange_refused, foreign_sent_legal)
@@ -340,3 +353,22 @@ nobody_has_it = (λ h has. absurd (empty_has h has), refl)
 a_site_has_it : IsAnswer {A = Unit {0}} opening [] 0 (V4 (10 ∷ 1 ∷ 2 ∷ 3 ∷ [])) NotRegistered
 unfolding masked
 a_site_has_it = (λ h has. absurd (empty_has h has), refl)
+
+-- a router doesn't start: it is down, and says so, until it does
+abbrev pub not_started : List Step
+not_started = step (events.Restart 2 0 None) (lines.Refused 2 (refusals.Start (start_faults.Store stores.Device))) 2 (failed (at one_sent 2)) ∷ one_sent
+
+pub not_started_legal : LegalTrace opening not_started
+not_started_legal = (record { faults = omega arith; row = record { names = refl; acts = refl; kind = refl; fits = tt; narrows = stays (at one_sent 2).kept (set_full _ _ _ empty_full); cause = λ other. inl (omega arith) } }, one_sent_legal)
+
+abbrev is_down : Step
+is_down = step (events.Change 2 []) (lines.Down 2) 2 (at not_started 2)
+
+pub down_and_up : LegalTrace opening (sends (restarts (is_down ∷ not_started) 2 ∷ is_down ∷ not_started) 0 2 1 ∷ restarts (is_down ∷ not_started) 2 ∷ is_down ∷ not_started)
+down_and_up = (
+  sends_legal (restarts (is_down ∷ not_started) 2 ∷ is_down ∷ not_started) 0 2 1 (Some 1) refl refl refl (set_value _ _ _) refl (omega arith) (wide_record 1440 (omega arith)) refl,
+  (
+    restarts_legal (is_down ∷ not_started) 2 (inr refl) (set_full _ _ _ empty_full),
+    (record { faults = omega arith; row = record { acts = record { kind = refl; acts = refl; state = refl }; names = refl; same = refl } }, not_started_legal),
+  ),
+)

@@ -1,4 +1,14 @@
 -- What the meanings make of traces of the small network.
+use Rattle.std.specs.Prelude.{◌≢◌, ◌⊎◌}
+use Rattle.std.proofs.Common.{Bor, subst, sym}
+use Rattle.std.specs.List.{Contains}
+use Rattle.std.specs.declared.cmp.Ordering.TheVariants.{Equal, Greater}
+use Rattle.lisp_records.specs.declared.address.Addr.TheVariants.{V4}
+use Rattle.lisp_records.specs.Address.{masked}
+use Rattle.lisp_lookup.specs.declared.answer.Answer.TheVariants.{Reply}
+use Rattle.lisp_lookup.specs.Answer.{IsBest, rank_cmp}
+use Rattle.lisp_world.specs.Answer.{IsAnswer}
+use Rattle.lisp_world.proofs.ListLemmas.{head_or_tail, in_none}
 use Rattle.std.proofs.Common.{◌≡◌, ℕ, ◌<◌, true, false, List, [], ◌∷◌, Some, None, refl, inl, inr, true≢false, arith}
 use Rattle.lisp_records.specs.Record.{Mapping}
 use Rattle.lisp_records.specs.Row.{Holding}
@@ -115,3 +125,25 @@ overheard = (inl (record { item = register_item opening [] 2 0 1; sent = at_head
 
 noise : Clean opening (step (events.Junk 0 (local_at 21) []) (lines.Down 0) 0 (at [] 0) ∷ [])
 noise = (inr (inl (reads.Short, short_message)), tt)
+
+-- the router asked for proxy replies: the server replies with its record
+the_row : (h : Holding) → Contains (rows (since opening one_taken 0) 0) h → h ≡ row_of (mapping wide 1440) 1 0
+the_row h has = at (head_or_tail (row_of (mapping wide 1440) 1 0) [] h has)
+  where
+    at : (h ≡ row_of (mapping wide 1440) 1 0) ⊎ Contains [] h → h ≡ row_of (mapping wide 1440) 1 0
+    at (inl e) = e
+    at (inr no_more) = absurd (in_none h no_more)
+
+equal_is_not_greater : Equal ≢ Greater
+equal_is_not_greater e = absurd cc
+
+replies : IsBest (rows (since opening one_taken 0) 0) (V4 (10 ∷ 1 ∷ 2 ∷ 3 ∷ [])) 0 (row_of (mapping wide 1440) 1 0)
+unfolding masked
+replies = record {
+  held = at_head (row_of (mapping wide 1440) 1 0) [];
+  may = refl;
+  most = λ other has may. subst (λ (h : Holding). rank_cmp h (row_of (mapping wide 1440) 1 0) ≢ Greater) (sym (the_row other has)) equal_is_not_greater;
+}
+
+answers_by_proxy : (record_of : Bor Mapping) → record_of.now ≡ mapping wide 1440 → IsAnswer {A = Unit {0}} opening one_taken 0 (V4 (10 ∷ 1 ∷ 2 ∷ 3 ∷ [])) (Reply record_of)
+answers_by_proxy record_of is = (row_of (mapping wide 1440) 1 0, replies, refl, is)

@@ -1,4 +1,10 @@
 -- What meets its conditions is sent, accepted or done.
+use Rattle.lisp_etr.specs.declared.notify_fault.NotifyFault.{NotifyFault}
+use Rattle.lisp_etr.specs.declared.notify_fault.NotifyFault.TheVariants as notifies
+use Rattle.lisp_etr.specs.Hearing.{Heard, first_notice, is_latest}
+use Rattle.lisp_world.specs.Counted.{heard, latest}
+use Rattle.lisp_world.specs.Hearing.{Hears, RefusesNotify}
+use Rattle.lisp_world.specs.Must.{is_counted, is_noticed}
 use Rattle.std.proofs.Common.{◌≡◌, ℕ, ◌+◌, ◌-◌, ◌<◌, ◌≤◌, Bool, true, false, List, length, Option, Some, None, Ok, Err, refl, sym, ap, subst, inl, inr, ◌∙◌, true≢false, arith}
 use Rattle.std.specs.Prelude.{◌⊎◌, ◌^◌, nat_lt, nat_le, slice_get, Result}
 use Rattle.std.specs.List.{Contains}
@@ -147,10 +153,75 @@ module _ (t : Turn) (kind : is_server t.opening.config t.node ≡ true) (a : Arr
       none_clash : ◌≡◌ {A = Option Arrival} None (Some a) → ⊥
       none_clash e = absurd cc
 
+-- a Map-Notify that a router hears
+module _ (t : Turn) (kind : is_router t.opening.config t.node ≡ true) (up : is_up t.past t.node ≡ true) (a : Arrival) (h : Heard) (hears : Hears t a h) where
+  same_heard : (x : Heard) → Hears t a x → x ≡ h
+  same_heard x is = let both : ◌≡◌ {A = Result Heard NotifyFault} (Ok x) (Ok h) = sym is ∙ hears in cc
+
+  no_fault : (fault : NotifyFault) → heard t.opening.config t.node a ≡ Err fault → ⊥
+  no_fault fault is = clash (sym is ∙ hears)
+    where
+      clash : ◌≡◌ {A = Result Heard NotifyFault} (Err fault) (Ok h) → ⊥
+      clash e = absurd cc
+
+  no_server : (server : ℕ) → is_server t.opening.config server ≡ true → t.node ≡ server → ⊥
+  no_server server is acts = apart t.opening.config t.node (ap (is_server t.opening.config) acts ∙ is) kind
+
+  module _ (low : h.message.nonce < first_notice) (last : is_latest h.message.nonce (latest t.past t.node h.server) ≡ true) where
+    no_stale : (x : Heard) → x ≡ h → (l : ℕ) → l ≡ latest t.past t.node x.server → is_latest x.message.nonce l ≡ false → ⊥
+    no_stale x same l is other = absurd (true≢false (sym last ∙ sym (ap (λ (y : Heard). is_latest y.message.nonce (latest t.past t.node y.server)) same) ∙ ap (is_latest x.message.nonce) (sym is) ∙ other))
+
+    count_refused : (node : ℕ) (why : NotifyFault) → RefusesNotify t a why → IsExcused t (lines.Refused node (refusals.Notify why))
+    count_refused node (notifies.Stale l) row = absurd (no_stale row.0.what (same_heard row.0.what row.0.hears) l row.0.latest row.0.other)
+    count_refused node notifies.OutOfMemory row = λ other. absurd (other refl)
+    count_refused node why row = absurd (no_fault _ row.0)
+
+    count_arrives : (line : Line) → Arrives t a line → (is_counted line ≡ true) ⊎ IsExcused t line
+    count_arrives (lines.Accepted server router key nonce datagram) row = absurd (no_server server row.acts.kind row.acts.acts)
+    count_arrives (lines.Done server router nonce) row = absurd (no_server server row.acts.kind row.acts.acts)
+    count_arrives (lines.Counted router server key nonce) row = inl refl
+    count_arrives (lines.Noticed router server nonce datagram) row = let number = row.number ∙ ap (λ (y : Heard). y.message.nonce) (same_heard row.what row.hears) in let high = row.high in absurd (omega (arith, number, high, low))
+    count_arrives (lines.Down router) row = absurd (true≢false (sym up ∙ ap (is_up t.past) row.acts.acts ∙ row.acts.state))
+    count_arrives (lines.Refused node (refusals.Receive why)) row = absurd (no_server node row.0.kind row.0.acts)
+    count_arrives (lines.Refused node (refusals.Notify why)) row = inr (count_refused node why row.1)
+    count_arrives _ row = absurd row
+
+  module _ (high : first_notice ≤ h.message.nonce) where
+    notice_refused : (node : ℕ) (why : NotifyFault) → RefusesNotify t a why → IsExcused t (lines.Refused node (refusals.Notify why))
+    notice_refused node (notifies.Stale l) row = let number = ap (λ (y : Heard). y.message.nonce) (same_heard row.0.what row.0.hears) in let low = row.0.low in absurd (omega (arith, number, low, high))
+    notice_refused node notifies.OutOfMemory row = λ other. absurd (other refl)
+    notice_refused node why row = absurd (no_fault _ row.0)
+
+    notice_arrives : (line : Line) → Arrives t a line → (is_noticed line ≡ true) ⊎ IsExcused t line
+    notice_arrives (lines.Accepted server router key nonce datagram) row = absurd (no_server server row.acts.kind row.acts.acts)
+    notice_arrives (lines.Done server router nonce) row = absurd (no_server server row.acts.kind row.acts.acts)
+    notice_arrives (lines.Counted router server key nonce) row = let number = row.number ∙ ap (λ (y : Heard). y.message.nonce) (same_heard row.what row.hears) in let low = row.low in absurd (omega (arith, number, low, high))
+    notice_arrives (lines.Noticed router server nonce datagram) row = inl refl
+    notice_arrives (lines.Down router) row = absurd (true≢false (sym up ∙ ap (is_up t.past) row.acts.acts ∙ row.acts.state))
+    notice_arrives (lines.Refused node (refusals.Receive why)) row = absurd (no_server node row.0.kind row.0.acts)
+    notice_arrives (lines.Refused node (refusals.Notify why)) row = inr (notice_refused node why row.1)
+    notice_arrives _ row = absurd row
+
+-- what arrives at a router is heard by its row
+module _ (t : Turn) (kind : is_router t.opening.config t.node ≡ true) (a : Arrival) where
+  arrived_there : (e : Happening) (line : Line) → arrival_in (bag t.opening t.past) e ≡ Some a → Row t e line → Arrives t a line
+  arrived_there (events.Deliver k fate) (lines.Nowhere datagram) is row = absurd (true≢false (sym kind ∙ row.idle.router))
+  arrived_there (events.Deliver k fate) line is row = subst (λ (x : Arrival). Arrives t x line) (same row.item row.sent) row.arrives
+    where
+      same : (i : Item) → slice_get (bag t.opening t.past) k ≡ Some i → arrival_of i ≡ a
+      same i sent = let both : Some (arrival_of i) ≡ Some a = sym (ap (option_map arrival_of) sent) ∙ is in cc
+  arrived_there (events.Junk to from bytes) line is row = subst (λ (x : Arrival). Arrives t x line) (let both : Some (thrown from bytes) ≡ Some a = is in cc) row.arrives
+  arrived_there _ line is row = absurd (clash is)
+    where
+      clash : ◌≡◌ {A = Option Arrival} None (Some a) → ⊥
+      clash e = absurd cc
+
 -- legal steps do what they must
 pub must : (o : Opening) (T : List Step) (s : Step) → LegalTrace o T → Legal o T s → Must o T s
 must o T s legal l = record {
   send = must_send (turn_of o T s) (reached o T legal s.actor) s.event s.line l.row;
   accept = λ a m is kind admits above. accept_arrives (turn_of o T s) kind a m admits above s.line (arrived (turn_of o T s) kind a s.event s.line is l.row);
   done = λ a m n is kind read ack waits tag. end_arrives (turn_of o T s) kind a m n read ack waits tag s.line (arrived (turn_of o T s) kind a s.event s.line is l.row);
+  counted = λ a h is kind up hears low last. count_arrives (turn_of o T s) kind up a h hears low last s.line (arrived_there (turn_of o T s) kind a s.event s.line is l.row);
+  noticed = λ a h is kind up hears high. notice_arrives (turn_of o T s) kind up a h hears high s.line (arrived_there (turn_of o T s) kind a s.event s.line is l.row);
 }

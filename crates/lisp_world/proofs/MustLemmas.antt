@@ -76,13 +76,13 @@ module _ (t : Turn) (was : is_up t.past t.node ≡ true → Reached (values t (p
 
   hears_later : (a : Arrival) (why : NotifyFault) → RefusesNotify t a why → Later
   hears_later a (notifies.Stale latest) row = quiet row.1
-  hears_later a notifies.OutOfMemory row = quiet row
+  hears_later a notifies.OutOfMemory row = quiet row.1
   hears_later a _ row = quiet row.1
 
   message_later : (a : Arrival) (why : Refused) → RefusesMessage t a why → Later
   message_later a (refuseds.StoreLoad fault) row = quiet row.fails.same
   message_later a (refuseds.Replay saved) row = quiet row.same
-  message_later a refuseds.OutOfMemory row = quiet row
+  message_later a refuseds.OutOfMemory row = quiet row.1
   message_later a (refuseds.StoreSave fault) row = stays (row.fails.others (pair_at t.opening t.node) (not_received _ refl))
   message_later a _ row = quiet row.1
 

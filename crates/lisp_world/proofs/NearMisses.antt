@@ -24,9 +24,9 @@ use Rattle.lisp_world.specs.Receiving.{IsFresh}
 use Rattle.lisp_world.specs.Legal.{Legal, turn_of}
 use Rattle.lisp_world.proofs.KeptLemmas.{kept_at-empty, only_value, set_here, set_others}
 use Rattle.lisp_world.proofs.ItemLemmas.{item_authentic, is_not_allowed}
-use Rattle.lisp_world.proofs.Samples.{opening, network, site, secret, local_at, one, wide, mapping, registers, sent_by, got_from, at, step, keeps, blank, sends, takes, replays, counts, ticks, tells, refuses}
+use Rattle.lisp_world.proofs.Samples.{opening, network, site, secret, local_at, one, wide, mapping, registers, sent_by, got_from, at, step, keeps, blank, sends, takes, replays, counts, ticks, tells, refuses, changes}
 use Rattle.lisp_world.proofs.Steps.{told, heard_of, hears}
-use Rattle.lisp_world.proofs.LegalRows.{one_sent, one_taken, restarted, foreign, foreign_sent, strange_refused, sent_twice, registered_again, told_and_gone, kinds_differ}
+use Rattle.lisp_world.proofs.LegalRows.{one_sent, one_taken, restarted, foreign, foreign_sent, strange_refused, sent_twice, registered_again, told_and_gone, kinds_differ, not_started}
 
 -- the one value that was set, and none before
 only_set : (kept : Kept) (base v : Option ℕ) → Contains (kept_at (insert kept (got_from one) (v ∷ [])) (got_from one)) base → base ≡ v
@@ -160,3 +160,7 @@ notices_begin_again l =
 -- the clock goes its own way
 wrong_clock : Legal opening [] (ticks [] 1000 2000) → ⊥
 wrong_clock l = let is : ◌≡◌ {A = ℕ} 2000 1000 = l.row.clock in absurd (omega (arith, is))
+
+-- a router that is down takes a database
+changed_while_down : Legal opening not_started (changes not_started []) → ⊥
+changed_while_down l = let clash : false ≡ true = l.row.acts.state in absurd cc

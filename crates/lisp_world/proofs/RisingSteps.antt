@@ -25,7 +25,7 @@ use Rattle.lisp_world.specs.declared.line.Line.TheVariants as lines
 use Rattle.lisp_world.specs.declared.refusal.Refusal.TheVariants as refusals
 use Rattle.lisp_world.specs.Trace.{Happening, Shown, clock}
 use Rattle.lisp_world.specs.Held.{Acceptance, last_of}
-use Rattle.lisp_world.specs.Bag.{Arrival, arrival_of, arrival_in, thrown, register_read, taken, bag, since, since_after}
+use Rattle.lisp_world.specs.Bag.{Arrival, arrival_of, arrival_in, thrown, as_register, taken, bag, since, since_after}
 use Rattle.lisp_world.specs.Accepted.{accepted_after, nonces_of, tried_after}
 use Rattle.lisp_world.specs.Turn.{Turn, values, values_after, Same, SameOthers, IsBase}
 use Rattle.lisp_world.specs.Sending.{RefusesToSend}
@@ -52,7 +52,7 @@ differs_at q p e same = true≢false (sym (pair_itself q) ∙ ap (λ (x : Pair).
 
 -- what is taken is the message that is read
 pub taken_one : (a : Arrival) (now : ℕ) (m : Registration) → a.read ≡ Ok (Registers m) → taken (Some a) now ≡ record { message = m; from = a.from; moment = now } ∷ []
-taken_one a now m read = ap (λ r. option_to_list (option_map (λ x. record { message = x; from = a.from; moment = now }) (register_read r))) read
+taken_one a now m read = ap (λ r. option_to_list (option_map (λ x. record { message = x; from = a.from; moment = now }) (as_register r))) read
 
 module _ (t : Turn) (q : Pair) (kind : q.kind ≡ kinds.Received) (acc : List Acceptance) (old : List ℕ) (safe : Safe q acc (since t.opening t.past t.node) old (values t q)) where
   before : List Acceptance
@@ -79,7 +79,7 @@ module _ (t : Turn) (q : Pair) (kind : q.kind ≡ kinds.Received) (acc : List Ac
 
   hears_safe : (a : Arrival) (why : NotifyFault) → RefusesNotify t a why → Safe q acc (since t.opening t.past t.node) old (values_after t q)
   hears_safe a (notifies.Stale latest) row = quiet row.1
-  hears_safe a notifies.OutOfMemory row = quiet row
+  hears_safe a notifies.OutOfMemory row = quiet row.1
   hears_safe a _ row = quiet row.1
 
   tells_safe : (router : ℕ) (why : NoticeFault) → RefusesNotice t router why → Safe q acc (since t.opening t.past t.node) old (values_after t q)
@@ -131,7 +131,7 @@ module _ (t : Turn) (q : Pair) (kind : q.kind ≡ kinds.Received) (acc : List Ac
   message_safe : (a : Arrival) (now node : ℕ) (why : Refused) → t.node ≡ node → RefusesMessage t a why → After (taken (Some a) now) (lines.Refused node (refusals.Receive why))
   message_safe a now node (refuseds.StoreLoad fault) is row = quiet row.fails.same
   message_safe a now node (refuseds.Replay saved) is row = quiet row.same
-  message_safe a now node refuseds.OutOfMemory is row = quiet row
+  message_safe a now node refuseds.OutOfMemory is row = quiet row.1
   message_safe a now node (refuseds.StoreSave fault) is row = tried_line node (taken (Some a) now) is (subst (λ (new : List Acceptance). Safe q acc (since t.opening t.past t.node) (nonces_of q new ++ old) (values_after t q)) (sym (taken_one a now row.message row.admits.read))
       (doubts_safe a row.message row.admits.read row.fresh now row.fails.here row.fails.others (eq_by_cmp pair_cmp q (pair_of row.message)) refl))
   message_safe a now node _ is row = quiet row.1

@@ -145,8 +145,8 @@ counts_legal T k server nonce from records up sent is low last = record {
   };
 }
 
-pub changes_legal : (T : List Step) (db : List Mapping) → is_up T 2 ≡ true → Legal opening T (changes T db)
-changes_legal T db up = record { faults = omega arith; row = record { acts = record { kind = refl; acts = refl; state = up }; names = refl; count = refl; same = refl } }
+pub changes_legal : (T : List Step) (db : List Mapping) → database_of db ≡ Ok db → is_up T 2 ≡ true → Legal opening T (changes T db)
+changes_legal T db fits up = record { faults = omega arith; row = record { acts = record { kind = refl; acts = refl; state = up }; names = refl; fits = fits; count = refl; same = refl } }
 
 pub ticks_legal : (T : List Step) (ms now : ℕ) → now ≡ clock T + ms → now ≤ max_moment → Legal opening T (ticks T ms now)
 ticks_legal T ms now is low = record { faults = omega arith; row = record { names = refl; clock = is; bound = low; idle = record { server = refl; router = refl; same = refl } } }
@@ -220,12 +220,12 @@ refuses_record T k server nonce place i db sent there kind says key bad = record
 }
 
 pub restarts_legal : (T : List Step) (node : ℕ) → ((is_server network node ≡ true) ⊎ (is_router network node ≡ true)) → IsFull (at T node).kept → Legal opening T (restarts T node)
-restarts_legal T node (inl server) full = record { faults = omega arith; row = record { names = refl; acts = refl; kind = inl (server, refl); narrows = stays (at T node).kept full } }
-restarts_legal T node (inr router) full = record { faults = omega arith; row = record { names = refl; acts = refl; kind = inr router; narrows = stays (at T node).kept full } }
+restarts_legal T node (inl server) full = record { faults = omega arith; row = record { names = refl; acts = refl; kind = inl (server, refl); fits = tt; narrows = stays (at T node).kept full } }
+restarts_legal T node (inr router) full = record { faults = omega arith; row = record { names = refl; acts = refl; kind = inr router; fits = tt; narrows = stays (at T node).kept full } }
 
 pub restarts_to_legal : (T : List Step) (node : ℕ) (pair : Pair) (v : Option ℕ) → ((is_server network node ≡ true) ⊎ (is_router network node ≡ true)) → Contains (kept_at (at T node).kept pair) v → IsFull (at T node).kept → Legal opening T (restarts_to T node pair v)
-restarts_to_legal T node pair v (inl server) has full = record { faults = omega arith; row = record { names = refl; acts = refl; kind = inl (server, refl); narrows = narrows (at T node).kept pair v has full } }
-restarts_to_legal T node pair v (inr router) has full = record { faults = omega arith; row = record { names = refl; acts = refl; kind = inr router; narrows = narrows (at T node).kept pair v has full } }
+restarts_to_legal T node pair v (inl server) has full = record { faults = omega arith; row = record { names = refl; acts = refl; kind = inl (server, refl); fits = tt; narrows = narrows (at T node).kept pair v has full } }
+restarts_to_legal T node pair v (inr router) has full = record { faults = omega arith; row = record { names = refl; acts = refl; kind = inr router; fits = tt; narrows = narrows (at T node).kept pair v has full } }
 
 -- the record of the first router, told
 wide_fits : database_of (mapping wide 1440 ∷ []) ≡ Ok (mapping wide 1440 ∷ [])

@@ -1,5 +1,5 @@
 -- Bag: the datagrams that the nodes sent. Nothing leaves it, so that each may arrive late, again, or never.
-use Rattle.std.specs.Prelude.{ℕ, ◌==◌, List, [], ◌∷◌, ◌++◌, slice_get, map, Option, Some, None, Result, Ok, if◌then◌else◌, false}
+use Rattle.std.specs.Prelude.{ℕ, ◌==◌, List, [], ◌∷◌, ◌++◌, slice_get, map, Option, Some, None, Result, Ok, Err, if◌then◌else◌, false, ◌≢◌}
 use Rattle.std.specs.Option.{option_map, option_and_then, option_to_list}
 use Rattle.lisp_records.specs.declared.address.Addr.{Addr}
 use Rattle.lisp_sites.specs.Configuration.{Configuration}
@@ -7,7 +7,7 @@ use Rattle.lisp_messages.specs.declared.fault.ReadFault.{ReadFault}
 use Rattle.lisp_messages.specs.Message.{Said, Registration, Notification, Registers, Notifies}
 use Rattle.lisp_messages.specs.Authentic.{signed}
 use Rattle.lisp_messages.specs.Written.{written}
-use Rattle.lisp_messages.specs.Reading.{message_at}
+use Rattle.lisp_messages.specs.Reading.{kind_at, message_at}
 use Rattle.lisp_etr.specs.Hearing.{ack_of}
 use Rattle.lisp_etr.specs.Sending.{registration_of}
 use Rattle.lisp_server.specs.Checks.{notification_of}
@@ -48,18 +48,22 @@ arrival_in bag (events.Deliver k _) = option_map arrival_of (slice_get bag k)
 arrival_in bag (events.Junk _ from bytes) = Some (thrown from bytes)
 arrival_in bag _ = None
 
--- the Map-Register, and the Map-Notify or Map-Notify-Ack, that was read
-abbrev pub register_read : Result Said ReadFault → Option Registration
-register_read (Ok (Registers m)) = Some m
-register_read _ = None
+-- its first bytes are those of a message: before they are read nothing takes memory
+abbrev pub HasHead : Arrival → Type 0
+HasHead a = (fault : ReadFault) → kind_at a.bytes ≢ Err fault
 
-abbrev pub notify_read : Result Said ReadFault → Option Notification
-notify_read (Ok (Notifies m)) = Some m
-notify_read _ = None
+-- the Map-Register, and the Map-Notify or Map-Notify-Ack, that was read
+abbrev pub as_register : Result Said ReadFault → Option Registration
+as_register (Ok (Registers m)) = Some m
+as_register _ = None
+
+abbrev pub as_notify : Result Said ReadFault → Option Notification
+as_notify (Ok (Notifies m)) = Some m
+as_notify _ = None
 
 -- what a server accepts in an arrival at a moment
 abbrev pub taken : Option Arrival → ℕ → List Acceptance
-taken a now = option_to_list (option_and_then (λ b. option_map (λ m. record { message = m; from = b.from; moment = now }) (register_read b.read)) a)
+taken a now = option_to_list (option_and_then (λ b. option_map (λ m. record { message = m; from = b.from; moment = now }) (as_register b.read)) a)
 
 -- the item of a Map-Register
 abbrev pub register_item : Opening → List Step → ℕ → ℕ → ℕ → Item
@@ -107,7 +111,7 @@ pub record Past : Type 0 where
 abbrev pub posted : Opening → List Step → Past → Option Arrival → Line → List Item
 posted o T p a (lines.Sent router server _ nonce _) = register_item o T router server nonce ∷ []
 posted o T p a (lines.Accepted server _ _ _ (Some _)) = map (reply_item o.config server) (taken a (clock T))
-posted o T p (Some a) (lines.Noticed router _ _ _) = option_to_list (option_map (ack_item o.config router a) (notify_read a.read))
+posted o T p (Some a) (lines.Noticed router _ _ _) = option_to_list (option_map (ack_item o.config router a) (as_notify a.read))
 posted o T p a (lines.Notice server router key nonce _) = option_to_list (option_map (notice_item o T (p.since server) server router key nonce) (heard_last (router_at o.config router).me (p.since server)))
 posted o T p a (lines.Resent server router _) = option_to_list (option_and_then (λ n. slice_get p.bag n.datagram) (notice_to o T server router))
 posted o T p a _ = []

@@ -1,10 +1,10 @@
--- No change between two entries of a router: it was given no database in between.
+-- No change between two entries of a router: no event in between names a database for it.
 use Rattle.std.specs.Prelude.{◌≡◌, ℕ, ◌<◌, ◌==◌, Bool, false, List, reverse, slice_get, Some}
 use Rattle.lisp_world.specs.declared.event.Event.TheVariants as events
 use Rattle.lisp_world.specs.Trace.{Happening, Step}
 use Rattle.lisp_world.specs.History.{Entry}
 
--- the event gives the router a database
+-- the event names a database for the router
 abbrev pub gives : Happening → ℕ → Bool
 gives (events.Change router _) r = router == r
 gives (events.Restart node _ (Some _)) r = node == r

@@ -4,7 +4,7 @@ use Rattle.lisp_etr.specs.declared.notify_fault.NotifyFault.{NotifyFault}
 use Rattle.lisp_etr.specs.declared.notify_fault.NotifyFault.TheVariants.{Stale, OutOfMemory}
 use Rattle.lisp_etr.specs.Hearing.{Heard, first_notice, is_latest}
 use Rattle.lisp_world.specs.Trace.{router_at}
-use Rattle.lisp_world.specs.Bag.{Arrival, bag}
+use Rattle.lisp_world.specs.Bag.{HasHead, Arrival, bag}
 use Rattle.lisp_world.specs.Counted.{heard, latest}
 use Rattle.lisp_world.specs.Turn.{Turn, IsRouters, Same}
 
@@ -46,5 +46,5 @@ pub record IsStale (t : Turn) (a : Arrival) (last : ℕ) : Type 0 where
 -- the first reason that applies; want of memory may come in place of it
 abbrev pub RefusesNotify : Turn → Arrival → NotifyFault → Type 0
 RefusesNotify t a (Stale last) = IsStale t a last × Same t
-RefusesNotify t a OutOfMemory = Same t
+RefusesNotify t a OutOfMemory = HasHead a × Same t
 RefusesNotify t a fault = (heard t.opening.config t.node a ≡ Err fault) × Same t

@@ -1,5 +1,6 @@
 -- Legal step: what may come of an event after a trace. One row for each line; anything else is illegal.
-use Rattle.std.specs.Prelude.{◌≡◌, ◌≤◌, ◌⊎◌, ℕ, ◌+◌, true, false, List, [], ◌∷◌, slice_get, Option, Some, None}
+use Rattle.std.specs.Prelude.{◌≡◌, ◌≤◌, ◌⊎◌, ℕ, ◌+◌, true, false, List, [], ◌∷◌, slice_get, Option, Some, None, Ok}
+use Rattle.lisp_records.specs.Database.{database_of}
 use Rattle.lisp_records.specs.Moment.{max_moment}
 use Rattle.lisp_records.specs.Record.{Mapping}
 use Rattle.lisp_etr.specs.declared.start_fault.StartFault.{StartFault}
@@ -53,18 +54,24 @@ pub record IsThrown (t : Turn) (to : ℕ) (a : Arrival) (line : Line) : Type 0 w
   pub acts : t.node ≡ to
   pub arrives : Arrives t a line
 
--- time passes; the clock stays below its end
+-- time passes; the clock goes to its end at most
 pub record IsTicked (t : Turn) (ms passed now : ℕ) : Type 0 where
   pub names : passed ≡ ms
   pub clock : now ≡ clock t.past + ms
   pub bound : now ≤ max_moment
   pub idle : IsNobodys t
 
+-- what a router is given is a database
+abbrev pub Fits : Option (List Mapping) → Type 0
+Fits None = Unit {0}
+Fits (Some db) = database_of db ≡ Ok db
+
 -- a node starts again: a server without a database, or a router
 pub record IsRestarted (t : Turn) (node : ℕ) (db : Option (List Mapping)) (named : ℕ) : Type 0 where
   pub names : named ≡ node
   pub acts : t.node ≡ node
   pub kind : ((is_server t.opening.config node ≡ true) × (db ≡ None)) ⊎ (is_router t.opening.config node ≡ true)
+  pub fits : Fits db
   pub narrows : Restarts t
 
 -- a router doesn't start
@@ -72,10 +79,11 @@ abbrev pub StartCause : Turn → StartFault → Type 0
 StartCause t (Store fault) = HasCause t fault
 StartCause t OutOfMemory = Unit {0}
 
-pub record IsNotStarted (t : Turn) (node named : ℕ) (fault : StartFault) : Type 0 where
+pub record IsNotStarted (t : Turn) (node : ℕ) (db : Option (List Mapping)) (named : ℕ) (fault : StartFault) : Type 0 where
   pub names : named ≡ node
   pub acts : t.node ≡ node
   pub kind : is_router t.opening.config node ≡ true
+  pub fits : Fits db
   pub narrows : Restarts t
   pub cause : StartCause t fault
 
@@ -91,7 +99,7 @@ Row t (events.Deliver k _) line = IsDelivered t k line
 Row t (events.Junk to from bytes) line = IsThrown t to (thrown from bytes) line
 Row t (events.Tick ms) (lines.Ticked passed now) = IsTicked t ms passed now
 Row t (events.Restart node _ db) (lines.Restarted named) = IsRestarted t node db named
-Row t (events.Restart node _ db) (lines.Refused named (refusals.Start fault)) = IsNotStarted t node named fault
+Row t (events.Restart node _ db) (lines.Refused named (refusals.Start fault)) = IsNotStarted t node db named fault
 Row t (events.Notice server router _) (lines.Notice s r key nonce datagram) = (s ≡ server) × (r ≡ router) × IsNotice t server router key nonce datagram
 Row t (events.Notice server router _) (lines.Refused named (refusals.Notice why)) = (named ≡ server) × IsServers t server × (is_router t.opening.config router ≡ true) × RefusesNotice t router why
 Row t (events.Resend server router) (lines.Resent s r datagram) = (s ≡ server) × (r ≡ router) × IsResent t server router datagram

@@ -1,5 +1,10 @@
--- The must side of legal steps: what meets its conditions is sent, accepted or done, save where memory or a
--- store's device failed.
+-- The must side of legal steps: what meets its conditions is sent, accepted, counted, answered or done, save where
+-- memory or a store's device failed.
+use Rattle.std.specs.Prelude.{◌≤◌}
+use Rattle.lisp_etr.specs.declared.notify_fault.NotifyFault.TheVariants as notifies
+use Rattle.lisp_etr.specs.Hearing.{Heard, first_notice, is_latest}
+use Rattle.lisp_world.specs.Counted.{latest}
+use Rattle.lisp_world.specs.Hearing.{Hears}
 use Rattle.std.specs.Prelude.{◌≡◌, ◌⊎◌, ℕ, ◌-◌, ◌^◌, ◌<◌, Bool, true, false, List, Option, Some, None, Ok}
 use Rattle.std.specs.List.{Contains}
 use Rattle.lisp_store.specs.declared.fault.StoreFault.{StoreFault}
@@ -7,18 +12,15 @@ use Rattle.lisp_store.specs.declared.fault.StoreFault.TheVariants as stores
 use Rattle.lisp_store.specs.declared.fate.Fate.{Fate}
 use Rattle.lisp_store.specs.Kept.{number}
 use Rattle.lisp_messages.specs.Message.{Registration, Notification, Notifies}
-use Rattle.lisp_etr.specs.declared.start_fault.StartFault.TheVariants as starts
 use Rattle.lisp_etr.specs.declared.send_fault.SendFault.TheVariants as sends
-use Rattle.lisp_etr.specs.declared.notify_fault.NotifyFault.TheVariants as notifies
 use Rattle.lisp_server.specs.declared.refused.Refused.TheVariants as refuseds
-use Rattle.lisp_server.specs.declared.notice_fault.NoticeFault.TheVariants as announcements
 use Rattle.lisp_server.specs.Registration.{pair_of}
 use Rattle.lisp_world.specs.declared.event.Event.TheVariants as events
 use Rattle.lisp_world.specs.declared.line.Line.{Line}
 use Rattle.lisp_world.specs.declared.line.Line.TheVariants as lines
 use Rattle.lisp_world.specs.declared.refusal.Refusal.{Refusal}
 use Rattle.lisp_world.specs.declared.refusal.Refusal.TheVariants as refusals
-use Rattle.lisp_world.specs.Trace.{Happening, Step, Opening, is_server, is_listed, is_up}
+use Rattle.lisp_world.specs.Trace.{Happening, Step, Opening, is_server, is_listed, is_up, is_router}
 use Rattle.lisp_world.specs.Timers.{Notice}
 use Rattle.lisp_world.specs.Bag.{Arrival, arrival_in, bag}
 use Rattle.lisp_world.specs.Turn.{Turn, HasCause, IsBelow, values}
@@ -26,19 +28,14 @@ use Rattle.lisp_world.specs.Sending.{pair_at}
 use Rattle.lisp_world.specs.Receiving.{Admits, last_in, awaiting, answers}
 use Rattle.lisp_world.specs.Legal.{turn_of}
 
--- a refusal for want of memory, or for a store
+-- a router's or server's refusal for want of memory, or for its store
 abbrev pub cause_of : Refusal → Option StoreFault
 cause_of (refusals.Send sends.OutOfMemory) = Some stores.OutOfMemory
 cause_of (refusals.Send (sends.Store fault)) = Some fault
 cause_of (refusals.Notify notifies.OutOfMemory) = Some stores.OutOfMemory
-cause_of (refusals.Receive (refuseds.StoreLoad fault)) = Some fault
 cause_of (refusals.Receive refuseds.OutOfMemory) = Some stores.OutOfMemory
+cause_of (refusals.Receive (refuseds.StoreLoad fault)) = Some fault
 cause_of (refusals.Receive (refuseds.StoreSave fault)) = Some fault
-cause_of (refusals.Notice (announcements.StoreLoad fault)) = Some fault
-cause_of (refusals.Notice announcements.OutOfMemory) = Some stores.OutOfMemory
-cause_of (refusals.Notice (announcements.StoreSave fault)) = Some fault
-cause_of (refusals.Start (starts.Store fault)) = Some fault
-cause_of (refusals.Start starts.OutOfMemory) = Some stores.OutOfMemory
 cause_of _ = None
 
 abbrev pub Has : Turn → Option StoreFault → Type 0
@@ -66,7 +63,7 @@ abbrev pub IsAbove : Option ℕ → List (Option ℕ) → ℕ → Type 0
 IsAbove (Some last) kept nonce = last < nonce
 IsAbove None kept nonce = (v : Option ℕ) → Contains kept v → IsBelow v nonce
 
--- a router that is up sends to a server of its list, where no value that is kept is the last nonce
+-- a router that is up sends to a server of its list, where every value that is kept is below 2^63 - 1
 abbrev pub MustSend : Turn → Happening → Line → Type 0
 MustSend t event line = (router server : ℕ) (fate : Fate) → event ≡ events.Send router server fate → is_up t.past router ≡ true → is_listed t.opening.config router server ≡ true
     → ((v : Option ℕ) → Contains (values t (pair_at t.opening router)) v → number v < 2 ^ 63 - 1) → (is_sent line ≡ true) ⊎ IsExcused t line
@@ -81,7 +78,26 @@ abbrev pub MustEnd : Turn → Happening → Line → Type 0
 MustEnd t event line = (a : Arrival) (m : Notification) (n : Notice) → arrival_in (bag t.opening t.past) event ≡ Some a → is_server t.opening.config t.node ≡ true
     → a.read ≡ Ok (Notifies m) → m.ack ≡ true → awaiting t a.from m ≡ Some n → answers t a n ≡ true → (is_done line ≡ true) ⊎ IsExcused t line
 
+abbrev pub is_counted : Line → Bool
+is_counted (lines.Counted _ _ _ _) = true
+is_counted _ = false
+
+abbrev pub is_noticed : Line → Bool
+is_noticed (lines.Noticed _ _ _ _) = true
+is_noticed _ = false
+
+-- a router that is up counts a Map-Notify for its last Map-Register to that server, and answers a notice
+abbrev pub MustCount : Turn → Happening → Line → Type 0
+MustCount t event line = (a : Arrival) (h : Heard) → arrival_in (bag t.opening t.past) event ≡ Some a → is_router t.opening.config t.node ≡ true → is_up t.past t.node ≡ true → Hears t a h
+    → h.message.nonce < first_notice → is_latest h.message.nonce (latest t.past t.node h.server) ≡ true → (is_counted line ≡ true) ⊎ IsExcused t line
+
+abbrev pub MustNotice : Turn → Happening → Line → Type 0
+MustNotice t event line = (a : Arrival) (h : Heard) → arrival_in (bag t.opening t.past) event ≡ Some a → is_router t.opening.config t.node ≡ true → is_up t.past t.node ≡ true → Hears t a h
+    → first_notice ≤ h.message.nonce → (is_noticed line ≡ true) ⊎ IsExcused t line
+
 pub record Must (o : Opening) (T : List Step) (s : Step) : Type 0 where
   pub send : MustSend (turn_of o T s) s.event s.line
   pub accept : MustAccept (turn_of o T s) s.event s.line
   pub done : MustEnd (turn_of o T s) s.event s.line
+  pub counted : MustCount (turn_of o T s) s.event s.line
+  pub noticed : MustNotice (turn_of o T s) s.event s.line

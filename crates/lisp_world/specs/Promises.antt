@@ -1,6 +1,8 @@
--- What every legal trace promises, and what a clean one promises too.
-use Rattle.std.specs.Prelude.{◌≡◌, ◌≢◌, ℕ, ◌<◌, Bool, true, false, List, [], ◌∷◌, ◌++◌, Some}
+-- What every legal trace promises; and what a clean one of a network promises too: of nodes with distinct
+-- addresses, and routers with distinct identities that list servers.
+use Rattle.std.specs.Prelude.{◌≡◌, ◌≢◌, ℕ, ◌<◌, Bool, true, false, List, [], ◌∷◌, ◌++◌, Some, ◌==◌, if◌then◌else◌}
 use Rattle.std.specs.List.{Contains}
+use Rattle.lisp_world.specs.declared.line.Line.{Line}
 use Rattle.lisp_records.specs.Address.{Block}
 use Rattle.lisp_records.specs.Row.{Holding}
 use Rattle.lisp_records.specs.declared.router.RouterId.{RouterId}
@@ -30,7 +32,7 @@ Falls (n ∷ ns) = ((m : ℕ) → Contains ns m → m < n) × Falls ns
 abbrev pub NoncesRise : Opening → List Step → Type 0
 NoncesRise o T = (server : ℕ) (pair : Pair) → Falls (nonces_of pair (accepted o T server))
 
--- a replay is told with a number that the server tried before
+-- a replay is told with a number that the server tried before, or that its store kept at the opening
 abbrev pub ReplaysAreTried : Opening → List Step → Step → Type 0
 ReplaysAreTried o T s = (server saved : ℕ) → s.line ≡ lines.Refused server (Receive (Replay saved)) → (a : Acceptance) → Contains (arriving o T s) a → Contains (tried o T server (pair_of a.message)) saved
 
@@ -84,6 +86,11 @@ pub record IsRowOf (c : Configuration) (h : Holding) (e : Entry) : Type 0 where
   pub key : h.key ≡ e.key
   pub nonce : h.nonce ≡ e.nonce
 
+-- what is held for a prefix is the record that an entry's database has for it
+abbrev pub HeldWasSent : Opening → List Step → Type 0
+HeldWasSent o T = (server : ℕ) (router : RouterId) (eid : Block) (h : Holding) → held (since o T server) router eid (clock T) ≡ Some h
+    → (e : Entry) × Contains (history o T) e × (e.server ≡ server) × IsRowOf o.config h e × Contains e.database h.mapping
+
 -- servers that hold a prefix of a router from entries with no change between hold equal records
 abbrev pub HeldAgree : Opening → List Step → Type 0
 HeldAgree o T = (one other : ℕ) (router : RouterId) (eid : Block) (g h : Holding) (d e : Entry)
@@ -109,3 +116,16 @@ CountedWasAccepted o T = (router server key nonce : ℕ) → Contains (acknowled
 abbrev pub DoneWasNoticed : Opening → List Step → Step → Type 0
 DoneWasNoticed o T s = (server nonce : ℕ) (router : RouterId) → s.line ≡ lines.Done server router nonce
     → (before : Step) × (node datagram : ℕ) × Contains T before × (before.line ≡ lines.Noticed node server nonce datagram) × ((router_at o.config node).me ≡ router)
+
+-- the nonces of a server's notices, the last one first
+abbrev pub notice_nonces_after : Line → ℕ → List ℕ → List ℕ
+notice_nonces_after (lines.Notice server _ _ nonce _) k old = if server == k then nonce ∷ old else old
+notice_nonces_after _ k old = old
+
+abbrev pub notice_nonces : List Step → ℕ → List ℕ
+notice_nonces [] server = []
+notice_nonces (s ∷ T) server = notice_nonces_after s.line server (notice_nonces T server)
+
+-- they rise, over its restarts too
+abbrev pub NoticeNoncesRise : List Step → Type 0
+NoticeNoncesRise T = (server : ℕ) → Falls (notice_nonces T server)

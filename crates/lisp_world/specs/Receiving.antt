@@ -16,7 +16,7 @@ use Rattle.lisp_server.specs.Checks.{secret_under}
 use Rattle.lisp_world.specs.Trace.{secret_at, router_at}
 use Rattle.lisp_world.specs.Held.{last_of}
 use Rattle.lisp_world.specs.Timers.{Notice, notices}
-use Rattle.lisp_world.specs.Bag.{Item, Arrival, bag, since}
+use Rattle.lisp_world.specs.Bag.{HasHead, Item, Arrival, bag, since}
 use Rattle.lisp_world.specs.Turn.{Turn, IsServers, values, values_after, Same, SameOthers, LoadFails, SaveFails, IsBase, IsBelow}
 
 -- the last nonce of a pair since the server's start
@@ -115,10 +115,10 @@ pub record NotSaved (t : Turn) (a : Arrival) (fault : StoreFault) : Type 0 where
   pub fails : SaveFails t (pair_of message) message.nonce fault
 
 -- the first reason that applies: the checks; the base; the nonce; memory, which may run out in reading
--- too; the store
+-- too, and then comes first; the store
 abbrev pub RefusesMessage : Turn → Arrival → Refused → Type 0
 RefusesMessage t a (StoreLoad fault) = NotLoaded t a fault
 RefusesMessage t a (Replay saved) = Replays t a saved
-RefusesMessage t a OutOfMemory = Same t
+RefusesMessage t a OutOfMemory = HasHead a × Same t
 RefusesMessage t a (StoreSave fault) = NotSaved t a fault
 RefusesMessage t a why = FailsCheck t a a.read why × Same t

@@ -1,5 +1,6 @@
 -- Legal steps of a router that changes its database or sends (RFC 9301 sections 5.6 and 8.2).
-use Rattle.std.specs.Prelude.{◌≡◌, ◌<◌, ◌≤◌, ℕ, ◌+◌, ◌-◌, ◌^◌, ◌==◌, true, false, List, [], ◌∷◌, length, Option, Some, None, if◌then◌else◌}
+use Rattle.std.specs.Prelude.{◌≡◌, ◌<◌, ◌≤◌, ℕ, ◌+◌, ◌-◌, ◌^◌, ◌==◌, true, false, List, [], ◌∷◌, length, Option, Some, None, if◌then◌else◌, Ok}
+use Rattle.lisp_records.specs.Database.{database_of}
 use Rattle.lisp_records.specs.Record.{Mapping}
 use Rattle.lisp_store.specs.declared.pair.Pair.{Pair}
 use Rattle.lisp_store.specs.declared.fault.StoreFault.{StoreFault}
@@ -46,6 +47,7 @@ CountsFrom o T router base = IsBase (last_sent T router) (start_values o T route
 pub record IsChanged (t : Turn) (router : ℕ) (db : List Mapping) (named records : ℕ) : Type 0 where
   pub acts : IsRouters t router true
   pub names : named ≡ router
+  pub fits : database_of db ≡ Ok db
   pub count : records ≡ length db
   pub same : Same t
 
@@ -67,7 +69,7 @@ pub record IsSent (t : Turn) (router server key nonce datagram : ℕ) : Type 0 w
 abbrev pub IsSpent : Turn → ℕ → Type 0
 IsSpent t router = (base : Option ℕ) × CountsFrom t.opening t.past router base × (2 ^ 63 - 1 ≤ number base)
 
--- the next nonce can't be saved
+-- a nonce above the last one can't be saved
 pub record NotSaved (t : Turn) (router : ℕ) (fault : StoreFault) : Type 0 where
   pub base : Option ℕ
   pub counts : CountsFrom t.opening t.past router base

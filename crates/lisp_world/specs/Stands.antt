@@ -23,7 +23,7 @@ use Rattle.lisp_server.specs.Nonces.{nonce_at}
 use Rattle.lisp_server.specs.Contacts.{contact_at}
 use Rattle.lisp_server.specs.Receiving.{contact_of}
 use Rattle.lisp_server.specs.Notices.{Standing, notice_pair}
-use Rattle.lisp_world.specs.Trace.{Shown, Step, Opening, addresses, router_at, settings_of, shown, clock, is_up, database}
+use Rattle.lisp_world.specs.Trace.{Shown, Step, Opening, is_server, is_router, addresses, router_at, settings_of, shown, clock, is_up, database}
 use Rattle.lisp_world.specs.Held.{last_of, heard_last, held}
 use Rattle.lisp_world.specs.Timers.{round, Notice, notices, last_notice}
 use Rattle.lisp_world.specs.Bag.{Item, bytes_of, bag, since}
@@ -58,10 +58,11 @@ pub record WorldState : Type 0 where
   pub servers : List ServerNode
   pub routers : List RouterNode
 
--- no two nodes have one address, and no two routers one identity
-pub record AreDistinct (c : Configuration) : Type 0 where
+-- no two nodes have one address, and no two routers one identity; each router's list names servers
+pub record IsNetwork (c : Configuration) : Type 0 where
   pub addresses : AllPairs (λ a b. a ≢ b) (addresses c)
   pub routers : AllPairs (λ a b. a.me ≢ b.me) c.routers
+  pub servers : (router k : ℕ) → is_router c router ≡ true → Contains (router_at c router).servers k → is_server c k ≡ true
 
 -- an honest store shows what the trace says
 pub record Shows (store : StoreState) (s : Shown) : Type 0 where
@@ -72,7 +73,7 @@ pub record Shows (store : StoreState) (s : Shown) : Type 0 where
 -- configuration, steps and stores
 pub record StandsInSteps (w : WorldState) (o : Opening) (T : List Step) : Type 0 where
   pub config : w.config ≡ o.config
-  pub distinct : AreDistinct o.config
+  pub network : IsNetwork o.config
   pub legal : LegalTrace o T
   pub servers : length w.servers ≡ length o.config.servers
   pub routers : length w.routers ≡ length o.config.routers
@@ -105,6 +106,7 @@ pub record StandsForEtr (o : Opening) (T : List Step) (router : ℕ) (e : EtrSta
   pub database : e.database ≡ database o T router
   pub last : (base : Option ℕ) × CountsFrom o T router base × (e.last ≡ number base)
   pub safe : NoneBelow e.safe (kept_at (shown o T router).kept (pair_at o router))
+  pub count : length e.rounds ≡ length (router_at o.config router).servers
   pub rounds : (i server : ℕ) (r : Round) → slice_get (router_at o.config router).servers i ≡ Some server → slice_get e.rounds i ≡ Some r → StandsForRound T router server r
 
 -- a router
@@ -132,6 +134,7 @@ pub record StandsForServer (o : Opening) (T : List Step) (server : ℕ) (n : Ser
   pub nonces : (pair : Pair) → pair ≢ notice_pair → nonce_at n.core.nonces pair ≡ last_of pair (since o T server)
   pub notice_nonce : nonce_at n.core.nonces notice_pair ≡ last_notice T server
   pub contacts : (router : RouterId) (eid : Block) (h : Holding) → held (since o T server) router eid (clock T) ≡ Some h → contact_at n.core.contacts router ≡ option_map (λ a. contact_of a.message a.from) (heard_last router (since o T server))
+  pub one_each : AllPairs (λ a b. a.router ≢ b.router) n.core.notices
   pub each : (kept : Standing) → Contains n.core.notices kept → (notice : Notice) × Contains (notices o T server) notice × IsStanding o T notice kept
   pub all : (notice : Notice) → Contains (notices o T server) notice → (kept : Standing) × Contains n.core.notices kept × IsStanding o T notice kept
 

@@ -47,7 +47,8 @@ Rose t = (t.before.faults < t.after.faults) ⊎ (t.after.faults ≡ 2 ^ 64 - 1)
 abbrev pub HasCause : Turn → StoreFault → Type 0
 HasCause t fault = fault ≢ faults.OutOfMemory → Rose t
 
--- what was saved, if anything was, is for that pair; and from now on no value of it is below the number
+-- what was saved, if anything was, is one value for that pair, which it alone keeps then; and from now on no
+-- value of it is below the number
 pub record Saves (t : Turn) (pair : Pair) (floor : ℕ) : Type 0 where
   pub here : (values_after t pair ≡ values t pair) ⊎ ((n : ℕ) × (values_after t pair ≡ Some n ∷ []))
   pub none_below : NoneBelow floor (values_after t pair)
