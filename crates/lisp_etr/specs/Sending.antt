@@ -1,5 +1,5 @@
 -- What a router sends, and what its store keeps then (RFC 9301 sections 5.6 and 8.2).
-use Rattle.std.specs.Prelude.{◌≡◌, ℕ, ◌+◌, ◌-◌, ◌<◌, ◌^◌, List, Option, true, false, slice_set, slice_index_or}
+use Rattle.std.specs.Prelude.{◌≡◌, ℕ, ◌+◌, ◌-◌, ◌<◌, ◌^◌, ◌⊎◌, List, [], ◌∷◌, Option, Some, true, false, slice_set, slice_index_or}
 use Rattle.lisp_records.specs.Record.{Mapping}
 use Rattle.lisp_messages.specs.Message.{Registration}
 use Rattle.lisp_messages.specs.Authentic.{signed}
@@ -39,6 +39,10 @@ pub record Sends (old new : EtrState) (server now : ℕ) : Type 0 where
   pub database : new.database ≡ old.database
   pub last : new.last ≡ old.last + 1
   pub rounds : new.rounds ≡ slice_set old.rounds server (sent (old.last + 1) now (slice_index_or old.rounds server (started 0)))
+
+-- what a send leaves of the pair: its values as they were, or one alone
+abbrev pub Settles : List (Option ℕ) → List (Option ℕ) → Type 0
+Settles old new = (new ≡ old) ⊎ ((n : ℕ) × (new ≡ Some n ∷ []))
 
 -- what a refused send leaves of the pair: its values as they were, or with a number above the last one
 abbrev pub LeavesPair : List (Option ℕ) → List (Option ℕ) → ℕ → Type 0

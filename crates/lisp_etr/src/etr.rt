@@ -5,6 +5,7 @@ ghost use Rattle.std.specs.Option.{option_and_then};
 ghost use Rattle.lisp_store.specs.Kept.{kept_at, IsKept, NoneBelow, SameElsewhere};
 ghost use Rattle.lisp_store.specs.Store.{Rose, Proceeds};
 ghost use Rattle.lisp_store.specs.declared.fault.StoreFault.{StoreFault};
+ghost use Rattle.lisp_messages.specs.Message.{IsRegistration};
 ghost use Rattle.lisp_messages.specs.Reading.{kind_at};
 ghost use Rattle.lisp_messages.specs.declared.fault.ReadFault.{ReadFault};
 ghost use Rattle.lisp_etr.specs.Config.{Settings, sent_pair};
@@ -12,7 +13,7 @@ ghost use Rattle.lisp_records.specs.Moment.{max_moment};
 ghost use Rattle.lisp_etr.specs.Round.{started, begun};
 ghost use Rattle.lisp_etr.specs.Faults.{fault_of_read};
 ghost use Rattle.lisp_etr.specs.Etr.{etr_started};
-ghost use Rattle.lisp_etr.specs.Sending.{last_nonce, datagram_of, Sends, LeavesPair};
+ghost use Rattle.lisp_etr.specs.Sending.{last_nonce, registration_of, datagram_of, Sends, Settles, LeavesPair};
 ghost use Rattle.lisp_etr.specs.Hearing.{Gives, notice_in, counted_in, seen_at, after};
 ghost use Rattle.lisp_etr.specs.declared.start_fault.StartFault.{StartFault};
 ghost use Rattle.lisp_etr.specs.declared.send_fault.SendFault.{SendFault};
@@ -130,6 +131,7 @@ impl<A: Allocator + Copy> Etr<A> {
     ) -> Result<Vec<u8, A>, SendFault>
         requires { now ≤ max_moment }
         ensures datagram { IfOk result (λ bytes. bytes.items ≡ datagram_of self.old.config self.old.database (self.old.last + 1)) }
+        ensures known { OnOk result (IsRegistration (registration_of self.old.config self.old.database (self.old.last + 1))) }
         ensures sends { OnOk result (Sends self.old self.new server now) }
 
         // The refusals, in their order.
@@ -140,6 +142,7 @@ impl<A: Allocator + Copy> Etr<A> {
         // No lower nonce comes back from the store: not after a send, nor after one that failed.
         ensures safe { OnOk result (self.old.last + 1 ≤ self.new.safe) }
         ensures keeps_safe { IsTrue (S.seen store.old).is_honest → NoneBelow self.old.safe (kept_at (S.seen store.old).kept (sent_pair self.old.config)) → NoneBelow self.new.safe (kept_at (S.seen store.new).kept (sent_pair self.old.config)) }
+        ensures settles { IsTrue (S.seen store.old).is_honest → OnOk result (Settles (kept_at (S.seen store.old).kept (sent_pair self.old.config)) (kept_at (S.seen store.new).kept (sent_pair self.old.config))) }
         ensures leaves { IsTrue (S.seen store.old).is_honest → OnErr result (LeavesPair (kept_at (S.seen store.old).kept (sent_pair self.old.config)) (kept_at (S.seen store.new).kept (sent_pair self.old.config)) self.old.last) }
         ensures others { IsTrue (S.seen store.old).is_honest → SameElsewhere (S.seen store.old).kept (S.seen store.new).kept (sent_pair self.old.config) }
 

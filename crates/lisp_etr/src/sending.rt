@@ -1,7 +1,8 @@
 //! The Map-Registers of a router.
 
-ghost use Rattle.std.specs.Prelude.{◌≡◌, IfOk};
-ghost use Rattle.lisp_etr.specs.Sending.{datagram_of};
+ghost use Rattle.std.specs.Prelude.{◌≡◌, IfOk, OnOk};
+ghost use Rattle.lisp_messages.specs.Message.{IsRegistration};
+ghost use Rattle.lisp_etr.specs.Sending.{datagram_of, registration_of};
 
 use crate::config::EtrConfig;
 use lisp_messages::{MapRegister, write_register};
@@ -18,7 +19,8 @@ pub(crate) fn datagram<A: Allocator + Copy>(
     database: &Database<A>,
     nonce: u64,
 ) -> Result<Vec<u8, A>, AllocError>
-    ensures { IfOk result (λ bytes. bytes.items ≡ datagram_of config.now database.now nonce) }
+    ensures written { IfOk result (λ bytes. bytes.items ≡ datagram_of config.now database.now nonce) }
+    ensures known { OnOk result (IsRegistration (registration_of config.now database.now nonce)) }
 {
     let register = MapRegister {
         proxy: config.proxy,

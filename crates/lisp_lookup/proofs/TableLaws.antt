@@ -146,7 +146,7 @@ not_not : (b : Bool) → not b ≡ true → b ≡ false
 not_not true e = absurd cc
 not_not false e = refl
 
-filter_holds : (p : Holding → Bool) (rows : List Holding) (h : Holding) → Contains rows h → p h ≡ true → Contains (filter p rows) h
+pub filter_holds : (p : Holding → Bool) (rows : List Holding) (h : Holding) → Contains rows h → p h ≡ true → Contains (filter p rows) h
 filter_holds p rows h c passes = either (Contains-append_cases (filter p rows) (filter (λ x. not (p x)) rows) h (Contains-permutation rows (filter p rows ++ filter (λ x. not (p x)) rows) h (IsPermutation-filter_both p (λ x. not (p x)) (λ x. refl) rows) c))
   where
     either : Contains (filter p rows) h ⊎ Contains (filter (λ x. not (p x)) rows) h → Contains (filter p rows) h

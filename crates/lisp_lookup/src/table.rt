@@ -114,6 +114,7 @@ impl<A: Allocator + Copy> Table<A> {
         ensures fits { IfOk result (λ count. database_of (live_of self.now.rows router.now now) ≡ Ok (live_of self.now.rows router.now now)) }
         ensures count { IfOk result (λ count. count ≡ length (live_of self.now.rows router.now now)) }
         ensures refused { IfErr result (λ fault. database_of (live_of self.now.rows router.now now) ≡ Err fault) }
+        ensures one_each { OneEach self.now.rows }
     {
         count_live(&self.items, router, now)
     }

@@ -77,6 +77,7 @@ pub fn write_notify<A: Allocator, B: Allocator>(
     ensures written { IfOk result (λ v. v.items ≡ signed secret.now (written_notify message.now)) }
     ensures authentic { IfOk result (λ v. IsAuthentic v.items secret.now) }
     ensures spells { IfOk result (λ v. Spells v.items (Notifies message.now)) }
+    ensures known { OnOk result (IsNotification message.now) }
 {
     let mut out = Vec::new(alloc);
     put_notify(&mut out, message)?;

@@ -94,6 +94,7 @@ pub fn write_register<A: Allocator, B: Allocator>(
     ensures written { IfOk result (λ v. v.items ≡ signed secret.now (written_register message.now)) }
     ensures authentic { IfOk result (λ v. IsAuthentic v.items secret.now) }
     ensures spells { IfOk result (λ v. Spells v.items (Registers message.now)) }
+    ensures known { OnOk result (IsRegistration message.now) }
 {
     let mut out = Vec::new(alloc);
     put_register(&mut out, message)?;

@@ -66,7 +66,7 @@ signs sites bytes m passed e = by_site (site_of sites m.site) e
     by_site (Some site) e = by_secret site (secret_of site m.key_id) e
 
 -- what is made of each is made of each in any order
-turned : {X Y : Type 0} (f : X → Y) (xs : List X) → map f (reverse xs) ≡ reverse (map f xs)
+pub turned : {X Y : Type 0} (f : X → Y) (xs : List X) → map f (reverse xs) ≡ reverse (map f xs)
 turned f [] = refl
 turned f (x ∷ xs) = ap (map f) (reverse-append (x ∷ []) xs) ∙ map-append f (reverse xs) (x ∷ []) ∙ ap (λ l. l ++ f x ∷ []) (turned f xs) ∙ sym (reverse-append (f x ∷ []) (map f xs))
 

@@ -61,7 +61,7 @@ abbrev pub notice_of : ℕ → ℕ → List Mapping → Notification
 notice_of key nonce records = record { ack = false; nonce = nonce; key_id = key; records = records }
 
 -- a notice was sent: of the router's live records, by prefix, under the key and to the address that it
--- was heard under last, with the next nonce, which alone is kept for notices from now on; it stands
+-- was heard under last, with the next nonce, which an honest store keeps alone for notices from now on; it stands
 pub record Announces (old new : ServerState) (before after : StoreState) (router : RouterId) (now : ℕ) (to : Addr) (bytes : List ℕ) : Type 0 where
   pub registered : IsRegistered old router now
   pub last : Option ℕ

@@ -1,5 +1,5 @@
--- Notices: what a Map-Server tells a router unasked, by Map-Notifies that it repeats until they are
--- acknowledged (RFC 9301 sections 5.7 and 8.2).
+-- Notices: what a Map-Server tells a router unasked, by a Map-Notify that it repeats, up to six times, until
+-- it is acknowledged (RFC 9301 sections 5.7 and 8.2).
 use Rattle.std.specs.Prelude.{◌≡◌, ◌≢◌, ℕ, ◌+◌, ◌*◌, ◌^◌, max, nat_le, ◌==◌, Bool, true, false, not, ◌&&◌, List, [], ◌∷◌, ◌++◌, length, replicate, slice_get, slice_set, position, Option, Some, None, if◌then◌else◌}
 use Rattle.std.specs.Ordering.{is_lt}
 use Rattle.std.specs.List.{Contains, filter}

@@ -72,8 +72,8 @@ NotKept before after pair nonce _ = ⊥
 abbrev pub contact_of : Registration → Addr → Contact
 contact_of m from = record { router = router_of m; key = m.key_id; from = from }
 
--- a Map-Register was accepted: it passed all checks with a fresh nonce, which alone is kept for its
--- pair from now on; its records were set, and no others; the answer is its own
+-- a Map-Register was accepted: it passed all checks with a fresh nonce, which an honest store keeps
+-- alone for its pair from now on; its records were set, and no others; the answer is its own
 pub record Accepts {A : Type 0} (check : Result Passed Refused) (old new : ServerState) (before after : StoreState) (from : Addr) (now : ℕ) (took : Took A) : Type 0 where
   pub passed : Passed
   pub checks : check ≡ Ok passed

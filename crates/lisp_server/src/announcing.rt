@@ -3,6 +3,7 @@
 ghost use Rattle.std.specs.Prelude.{◌≡◌, ◌≤◌, List, None, length, IfOk, IfErr, IfSome, OnErr};
 ghost use Rattle.lisp_records.specs.Moment.{max_moment};
 ghost use Rattle.lisp_store.specs.Store.{Proceeds};
+ghost use Rattle.lisp_lookup.specs.Table.{OneEach};
 ghost use Rattle.lisp_lookup.specs.Records.{live_of, ByPrefix};
 ghost use Rattle.lisp_messages.specs.Authentic.{signed};
 ghost use Rattle.lisp_messages.specs.Written.{written_notify};
@@ -42,6 +43,7 @@ pub(crate) fn announce<S: NonceStore, A: Allocator + Copy>(
     ensures err { OnErr result (SameTables tables.old tables.new) }
     ensures rows { tables.new.rows.rows ≡ tables.old.rows.rows }
     ensures contacts { tables.new.contacts.contacts ≡ tables.old.contacts.contacts }
+    ensures one_each { OneEach tables.old.rows.rows }
     ensures proceeds { Proceeds (S.seen store.old) (S.seen store.new) }
 {
     let recipient = recipient_of(sites, tables, router, now)?;
@@ -109,6 +111,7 @@ fn recipient_of<'s, A: Allocator + Copy>(
     requires { Knows sites.now tables.now.rows.rows tables.now.contacts.contacts }
     ensures registered { IfOk result (λ to. (r : IsRegistered (state_of sites.now tables.now) router.now now) × (to.contact ≡ r.heard.contact) × (to.secret.now ≡ r.heard.secret)) }
     ensures refused { IfErr result (λ fault. Unregistered (live_of tables.now.rows.rows router.now now) fault) }
+    ensures one_each { OneEach tables.now.rows.rows }
 {
     let Ok(count) = tables.rows.count_live(router, now) else {
         return Err(NoticeFault::TooLarge);

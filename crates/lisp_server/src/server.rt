@@ -150,6 +150,7 @@ impl<A: Allocator + Copy> Server<A> {
         ensures refused { IfErr result (λ fault. RefusesNotice self.old (S.seen store.old) (S.seen store.new) router.now now fault) }
         ensures err { OnErr result (self.new ≡ self.old) }
         ensures proceeds { Proceeds (S.seen store.old) (S.seen store.new) }
+        ensures one_each { OneEach self.old.rows }
     {
         announce(
             self.alloc,

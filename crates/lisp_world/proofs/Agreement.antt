@@ -3,7 +3,6 @@ use Rattle.std.proofs.Common.{◌≡◌, ℕ, Bool, true, false, cond, List, [],
 use Rattle.std.specs.Prelude.{◌⊎◌, ◌&&◌, if◌then◌else◌, reverse}
 use Rattle.std.specs.List.{Contains, find}
 use Rattle.std.specs.Option.{option_and_then}
-use Rattle.std.proofs.lemmas.List.{map-append, reverse-append}
 use Rattle.lisp_records.specs.declared.router.RouterId.{RouterId}
 use Rattle.lisp_records.specs.Address.{Block, block_eq}
 use Rattle.lisp_records.specs.Record.{Mapping}
@@ -11,6 +10,7 @@ use Rattle.lisp_records.specs.Router.{router_eq}
 use Rattle.lisp_records.specs.Row.{Holding, is_alive}
 use Rattle.lisp_lookup.specs.Table.{is_row_of, if_alive}
 use Rattle.lisp_server.specs.Registration.{router_of, origin_of, holding, holdings}
+use Rattle.lisp_server.proofs.KnownLaws.{turned}
 use Rattle.lisp_world.specs.Held.{Acceptance, named, held}
 use Rattle.lisp_world.proofs.ListLemmas.{at_head, in_tail}
 
@@ -24,10 +24,6 @@ module _ {X : Type 0} (p : X → Bool) where
   find_either (x ∷ xs) ys g e = either_case x g xs ys (p x) (find p (xs ++ ys)) (find p xs) e (find_either xs ys g)
 
 module _ {X Y : Type 0} (f : X → Y) where
-  map_reverse : (xs : List X) → reverse (map f xs) ≡ map f (reverse xs)
-  map_reverse [] = refl
-  map_reverse (x ∷ xs) = reverse-append (f x ∷ []) (map f xs) ∙ ap (λ (ys : List Y). ys ++ f x ∷ []) (map_reverse xs) ∙ sym (map-append f (reverse xs) (x ∷ [])) ∙ ap (map f) (sym (reverse-append (x ∷ []) xs))
-
   record FromFind (p : Y → Bool) (xs : List X) (g : Y) : Type 0 where
     value : X
     found : find (λ x. p (f x)) xs ≡ Some value
@@ -61,7 +57,7 @@ found_in (a ∷ since) router eid g e = at (find_either (is_row_of router eid) (
   where
     at : (find (is_row_of router eid) (reverse (holdings a.message a.from a.moment)) ≡ Some g) ⊎ (find (is_row_of router eid) (named since) ≡ Some g) → (find (is_row_of router eid) (named since) ≡ Some g → Found since router eid g) → Found (a ∷ since) router eid g
     at (inl here) later =
-        let one = find_map (holding (origin_of a.message a.from a.moment)) (is_row_of router eid) (reverse a.message.records) g (ap (find (is_row_of router eid)) (sym (map_reverse (holding (origin_of a.message a.from a.moment)) a.message.records)) ∙ here) in
+        let one = find_map (holding (origin_of a.message a.from a.moment)) (is_row_of router eid) (reverse a.message.records) g (ap (find (is_row_of router eid)) (turned (holding (origin_of a.message a.from a.moment)) a.message.records) ∙ here) in
         record { acceptance = a; taken = at_head a since; mapping = one.value; last = one.found; is = one.is }
     at (inr there) later = let f = later there in record { acceptance = f.acceptance; taken = in_tail a since f.acceptance f.taken; mapping = f.mapping; last = f.last; is = f.is }
 

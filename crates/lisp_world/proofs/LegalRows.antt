@@ -1,5 +1,5 @@
 -- Legal traces of the small network: what each meaning makes of them.
-use Rattle.std.proofs.Common.{Ok, ◌≡◌, ℕ, true, List, [], ◌∷◌, Option, Some, None, refl, sym, ap, subst, inl, inr, arith}
+use Rattle.std.proofs.Common.{Ok, ◌≡◌, ◌≢◌, ◌⊎◌, ◌∙◌, Bor, ℕ, zero, suc, true, false, List, [], ◌∷◌, Option, Some, None, refl, sym, ap, subst, inl, inr, arith}
 use Rattle.std.specs.Prelude.{◌^◌, ◌+◌}
 use Rattle.std.specs.List.{Contains}
 use Rattle.std.specs.Prelude.{Result, Err}
@@ -11,7 +11,9 @@ use Rattle.lisp_messages.specs.declared.fault.ReadFault.{ReadFault}
 use Rattle.lisp_messages.specs.declared.fault.ReadFault.TheVariants as reads
 use Rattle.lisp_messages.specs.Message.{Said, AreRecords}
 use Rattle.lisp_messages.specs.Reading.{message_at, kind_at}
-use Rattle.lisp_lookup.specs.declared.answer.Answer.TheVariants.{NoSite, NotRegistered}
+use Rattle.std.specs.declared.cmp.Ordering.TheVariants.{Less, Equal, Greater}
+use Rattle.lisp_lookup.specs.Answer.{may_answer, rank_cmp}
+use Rattle.lisp_lookup.specs.declared.answer.Answer.TheVariants.{NoSite, NotRegistered, Reply, Forward}
 use Rattle.lisp_server.specs.declared.notice_fault.NoticeFault.TheVariants as notice_faults
 use Rattle.lisp_server.specs.Checks.{first_not_allowed}
 use Rattle.lisp_world.specs.Answer.{IsAnswer}
@@ -31,12 +33,12 @@ use Rattle.lisp_world.specs.declared.line.Line.TheVariants as lines
 use Rattle.lisp_etr.specs.declared.start_fault.StartFault.TheVariants as start_faults
 use Rattle.lisp_store.specs.declared.fault.StoreFault.TheVariants as stores
 use Rattle.lisp_world.specs.Trace.{Step, clock}
-use Rattle.lisp_world.specs.Held.{held}
+use Rattle.lisp_world.specs.Held.{held, rows}
 use Rattle.lisp_world.specs.Bag.{since, thrown}
 use Rattle.lisp_world.specs.Legal.{LegalTrace, turn_of}
 use Rattle.lisp_world.proofs.KeptLemmas.{empty_full, insert_full, set_full, stays}
 use Rattle.lisp_world.proofs.TurnLemmas.{fresh_value, set_value, doubted_old, doubted_new, doubted_end, other_value}
-use Rattle.lisp_world.proofs.Samples.{opening, site, one, wide, strange, mapping, sent_by, got_from, local_at, sends, takes, replays, counts, changes, ticks, restarts, doubts_send, doubts_take, fails_load, restarts_to, tells, repeats, notices, ends, refuses, failed, step, at}
+use Rattle.lisp_world.proofs.Samples.{opening, site, one, two, wide, narrow, strange, keeps, mapping, sent_by, got_from, local_at, sends, takes, replays, counts, changes, ticks, restarts, doubts_send, doubts_take, fails_load, restarts_to, tells, repeats, notices, ends, refuses, failed, step, at}
 use Rattle.lisp_world.proofs.Steps.{sends_legal, takes_legal, replays_legal, counts_legal, changes_legal, ticks_legal, wide_record, doubts_send_legal, doubts_take_legal, fails_load_legal, refuses_record, restarts_legal, restarts_to_legal, tells_legal, repeats_legal, notices_legal, ends_legal, told, heard_of, hears, answered}
 
 pub kinds_differ : notice_pair ≡ got_from one → ⊥
@@ -342,7 +344,7 @@ registered_again_legal = (
 pub notices_go_on : LegalTrace opening (tells registered_again (2 ^ 63 + 1) 5 ∷ registered_again)
 notices_go_on = (tells_legal registered_again (2 ^ 63 + 1) 5 _ (Some (2 ^ 63)) refl refl refl (other_value _ (got_from one) notice_pair _ (Some (2 ^ 63)) (λ e. absurd (kinds_differ e)) (set_value _ _ _)) refl (omega arith) refl, registered_again_legal)
 
--- who answers: nobody has the address; a site has it; the router asked for proxy replies; it didn't
+-- who answers: no site has the address; a site has it, and nobody registered it
 empty_has : (h : Holding) → Contains [] h → ⊥
 empty_has h (k, lt, is) = absurd (omega arith)
 
@@ -353,6 +355,42 @@ nobody_has_it = (λ h has. absurd (empty_has h has), refl)
 a_site_has_it : IsAnswer {A = Unit {0}} opening [] 0 (V4 (10 ∷ 1 ∷ 2 ∷ 3 ∷ [])) NotRegistered
 unfolding masked
 a_site_has_it = (λ h has. absurd (empty_has h has), refl)
+
+-- the second router registers a longer prefix, and asks for no proxy replies
+abbrev both_heard : List Step
+both_heard = step (events.Deliver 2 fates.Done) (lines.Accepted 0 two 1 1 (Some 3)) 0 (keeps (at one_taken 0) (got_from two) 1) ∷ step (events.Send 3 0 fates.Done) (lines.Sent 3 0 1 1 2) 3 (keeps (at one_taken 3) (sent_by two) 1) ∷ one_taken
+
+abbrev row_of_one : Holding
+row_of_one = record { router = one; key = 1; nonce = 1; mapping = mapping wide 1440; accepted = 0; life = 180000; proxy = true; from = local_at 21 }
+
+abbrev row_of_two : Holding
+row_of_two = record { router = two; key = 1; nonce = 1; mapping = mapping narrow 1440; accepted = 0; life = 180000; proxy = false; from = local_at 22 }
+
+two_rows : rows (since opening both_heard 0) 0 ≡ row_of_one ∷ row_of_two ∷ []
+two_rows = refl
+
+among : (x : Holding) → Contains (row_of_one ∷ row_of_two ∷ []) x → (x ≡ row_of_one) ⊎ (x ≡ row_of_two)
+among x (zero, lt, is) = inl (sym is)
+among x (suc zero, lt, is) = inr (sym is)
+among x (suc (suc k), lt, is) = absurd (omega (arith, lt))
+
+-- its own router answers for an address of the longer prefix; for another one the server does, with the
+-- first router's record
+its_router_answers : IsAnswer {A = Unit {0}} opening both_heard 0 (V4 (10 ∷ 1 ∷ 2 ∷ 3 ∷ [])) (Forward (local_at 22))
+unfolding masked
+its_router_answers = (row_of_two, record { held = (1, omega arith, refl); may = refl; most = λ x has may. by (among x has) }, refl, refl)
+  where
+    by : {x : Holding} → (x ≡ row_of_one) ⊎ (x ≡ row_of_two) → rank_cmp x row_of_two ≢ Greater
+    by (inl is) = subst (λ (h : Holding). rank_cmp h row_of_two ≢ Greater) (sym is) (λ e. let clash : Less ≡ Greater = e in absurd cc)
+    by (inr is) = subst (λ (h : Holding). rank_cmp h row_of_two ≢ Greater) (sym is) (λ e. let clash : Equal ≡ Greater = e in absurd cc)
+
+the_server_answers : (answer : Bor Mapping) → answer.now ≡ mapping wide 1440 → IsAnswer {A = Unit {0}} opening both_heard 0 (V4 (10 ∷ 1 ∷ 3 ∷ 4 ∷ [])) (Reply answer)
+unfolding masked
+the_server_answers answer is = (row_of_one, record { held = (0, omega arith, refl); may = refl; most = λ x has may. by (among x has) may }, refl, is)
+  where
+    by : {x : Holding} → (x ≡ row_of_one) ⊎ (x ≡ row_of_two) → may_answer (V4 (10 ∷ 1 ∷ 3 ∷ 4 ∷ [])) 0 x ≡ true → rank_cmp x row_of_one ≢ Greater
+    by (inl is) may = subst (λ (h : Holding). rank_cmp h row_of_one ≢ Greater) (sym is) (λ e. let clash : Equal ≡ Greater = e in absurd cc)
+    by (inr is) may = absurd (let clash : false ≡ true = ap (may_answer (V4 (10 ∷ 1 ∷ 3 ∷ 4 ∷ [])) 0) (sym is) ∙ may in cc)
 
 -- a router doesn't start: it is down, and says so, until it does
 abbrev pub not_started : List Step

@@ -32,3 +32,4 @@ pub mod DoneLaws
 pub mod HeldLaws
 pub mod NoticeRising
 pub mod CleanLaws
+pub mod RowLaws

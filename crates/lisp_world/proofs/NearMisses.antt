@@ -10,6 +10,7 @@ use Rattle.lisp_etr.specs.Hearing.{Heard}
 use Rattle.lisp_etr.specs.declared.send_fault.SendFault.TheVariants as send_faults
 use Rattle.lisp_server.specs.declared.refused.Refused.{Refused}
 use Rattle.lisp_etr.specs.declared.notify_fault.NotifyFault.{NotifyFault}
+use Rattle.lisp_server.specs.Receiving.{IsBelow}
 use Rattle.lisp_world.specs.Counted.{heard}
 use Rattle.lisp_server.specs.Checks.{secret_under}
 use Rattle.lisp_server.specs.Notices.{notice_pair, nonce_after}
@@ -19,7 +20,7 @@ use Rattle.lisp_world.specs.declared.line.Line.TheVariants as lines
 use Rattle.lisp_world.specs.declared.refusal.Refusal.TheVariants as refusals
 use Rattle.lisp_world.specs.Trace.{Step, Shown, node_at}
 use Rattle.lisp_world.specs.Bag.{Item, bytes_of, arrival_of, bag}
-use Rattle.lisp_world.specs.Turn.{Turn, values_after, IsBelow}
+use Rattle.lisp_world.specs.Turn.{Turn, values_after}
 use Rattle.lisp_world.specs.Receiving.{IsFresh}
 use Rattle.lisp_world.specs.Legal.{Legal, turn_of}
 use Rattle.lisp_world.proofs.KeptLemmas.{kept_at-empty, only_value, set_here, set_others}

@@ -12,6 +12,7 @@ use Rattle.lisp_records.specs.Database.{database_of, repeats as repeats_in}
 use Rattle.lisp_records.specs.Written.{written}
 use Rattle.lisp_server.specs.declared.refused.Refused.TheVariants as refuseds
 use Rattle.lisp_server.specs.Notices.{notice_pair, nonce_after}
+use Rattle.lisp_server.specs.Receiving.{IsBelow}
 use Rattle.lisp_world.specs.declared.event.Event.TheVariants as events
 use Rattle.lisp_world.specs.declared.refusal.Refusal.TheVariants as refusals
 use Rattle.lisp_messages.specs.Message.{Said, IsRegistration, AreRecords, Registers, Notifies}
@@ -25,7 +26,7 @@ use Rattle.lisp_world.specs.Held.{Acceptance, last_of, heard_last, records_of}
 use Rattle.lisp_world.specs.Timers.{Notice, notice_to, is_due, last_notice}
 use Rattle.lisp_world.specs.Bag.{Item, bytes_of, arrival_of, bag, since}
 use Rattle.lisp_world.specs.Counted.{heard, server_from, latest}
-use Rattle.lisp_world.specs.Turn.{IsBase, IsBelow}
+use Rattle.lisp_world.specs.Turn.{IsBase}
 use Rattle.lisp_world.specs.Sending.{CountsFrom}
 use Rattle.lisp_world.specs.Receiving.{FailsCheck, awaiting}
 use Rattle.lisp_world.specs.Legal.{Legal, turn_of}

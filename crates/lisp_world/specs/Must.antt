@@ -1,19 +1,17 @@
 -- The must side of legal steps: what meets its conditions is sent, accepted, counted, answered or done, save where
 -- memory or a store's device failed.
-use Rattle.std.specs.Prelude.{◌≤◌}
-use Rattle.lisp_etr.specs.declared.notify_fault.NotifyFault.TheVariants as notifies
-use Rattle.lisp_etr.specs.Hearing.{Heard, first_notice, is_latest}
-use Rattle.lisp_world.specs.Counted.{latest}
-use Rattle.lisp_world.specs.Hearing.{Hears}
-use Rattle.std.specs.Prelude.{◌≡◌, ◌⊎◌, ℕ, ◌-◌, ◌^◌, ◌<◌, Bool, true, false, List, Option, Some, None, Ok}
+use Rattle.std.specs.Prelude.{◌≡◌, ◌⊎◌, ℕ, ◌-◌, ◌^◌, ◌<◌, ◌≤◌, Bool, true, false, List, Option, Some, None, Ok}
 use Rattle.std.specs.List.{Contains}
 use Rattle.lisp_store.specs.declared.fault.StoreFault.{StoreFault}
 use Rattle.lisp_store.specs.declared.fault.StoreFault.TheVariants as stores
 use Rattle.lisp_store.specs.declared.fate.Fate.{Fate}
 use Rattle.lisp_store.specs.Kept.{number}
 use Rattle.lisp_messages.specs.Message.{Registration, Notification, Notifies}
+use Rattle.lisp_etr.specs.Hearing.{Heard, first_notice, is_latest}
+use Rattle.lisp_etr.specs.declared.notify_fault.NotifyFault.TheVariants as notifies
 use Rattle.lisp_etr.specs.declared.send_fault.SendFault.TheVariants as sends
 use Rattle.lisp_server.specs.declared.refused.Refused.TheVariants as refuseds
+use Rattle.lisp_server.specs.Receiving.{IsBelow}
 use Rattle.lisp_server.specs.Registration.{pair_of}
 use Rattle.lisp_world.specs.declared.event.Event.TheVariants as events
 use Rattle.lisp_world.specs.declared.line.Line.{Line}
@@ -23,7 +21,9 @@ use Rattle.lisp_world.specs.declared.refusal.Refusal.TheVariants as refusals
 use Rattle.lisp_world.specs.Trace.{Happening, Step, Opening, is_server, is_listed, is_up, is_router}
 use Rattle.lisp_world.specs.Timers.{Notice}
 use Rattle.lisp_world.specs.Bag.{Arrival, arrival_in, bag}
-use Rattle.lisp_world.specs.Turn.{Turn, HasCause, IsBelow, values}
+use Rattle.lisp_world.specs.Counted.{latest}
+use Rattle.lisp_world.specs.Hearing.{Hears}
+use Rattle.lisp_world.specs.Turn.{Turn, HasCause, values}
 use Rattle.lisp_world.specs.Sending.{pair_at}
 use Rattle.lisp_world.specs.Receiving.{Admits, last_in, awaiting, answers}
 use Rattle.lisp_world.specs.Legal.{turn_of}

@@ -11,13 +11,14 @@ use Rattle.lisp_messages.specs.Message.{Said, Registration, Notification, Regist
 use Rattle.lisp_messages.specs.Authentic.{is_authentic}
 use Rattle.lisp_server.specs.declared.refused.Refused.{Refused}
 use Rattle.lisp_server.specs.declared.refused.Refused.TheVariants.{Read, NotMine, BadAuth, StoreLoad, Replay, OutOfMemory, StoreSave, NoNotice}
+use Rattle.lisp_server.specs.Receiving.{IsBelow}
 use Rattle.lisp_server.specs.Registration.{router_of, pair_of}
 use Rattle.lisp_server.specs.Checks.{secret_under}
 use Rattle.lisp_world.specs.Trace.{secret_at, router_at}
 use Rattle.lisp_world.specs.Held.{last_of}
 use Rattle.lisp_world.specs.Timers.{Notice, notices}
 use Rattle.lisp_world.specs.Bag.{HasHead, Item, Arrival, bag, since}
-use Rattle.lisp_world.specs.Turn.{Turn, IsServers, values, values_after, Same, SameOthers, LoadFails, SaveFails, IsBase, IsBelow}
+use Rattle.lisp_world.specs.Turn.{Turn, IsServers, values, values_after, Same, SameOthers, LoadFails, SaveFails, IsBase}
 
 -- the last nonce of a pair since the server's start
 abbrev pub last_in : Turn → Pair → Option ℕ

@@ -3,15 +3,16 @@
 use Rattle.std.specs.Prelude.{ℕ, ◌+◌, ◌-◌, ◌==◌, ◌&&◌, nat_le, nat_lt, Bool, true, false, List, [], ◌∷◌, ◌++◌, length, map, position, slice_index_or, Option, Some, if◌then◌else◌}
 use Rattle.std.specs.FinMap.{empty}
 use Rattle.std.specs.List.{list_any}
-use Rattle.std.specs.Option.{option_and_then, unwrap_or}
+use Rattle.std.specs.Option.{unwrap_or}
 use Rattle.lisp_records.specs.declared.address.Addr.{Addr}
 use Rattle.lisp_records.specs.declared.address.Addr.TheVariants.{V4}
 use Rattle.lisp_records.specs.Address.{addr_eq}
 use Rattle.lisp_records.specs.Record.{Mapping}
-use Rattle.lisp_sites.specs.Site.{SiteEntry, site_of, secret_of}
+use Rattle.lisp_sites.specs.Site.{SiteEntry}
 use Rattle.lisp_sites.specs.Configuration.{Configuration, Router}
 use Rattle.lisp_store.specs.Kept.{Kept}
 use Rattle.lisp_etr.specs.Config.{Settings}
+use Rattle.lisp_server.specs.Contacts.{secret_at as known_secret}
 use Rattle.lisp_world.specs.declared.event.Event.{Event}
 use Rattle.lisp_world.specs.declared.event.Event.TheVariants as events
 use Rattle.lisp_world.specs.declared.line.Line.{Line}
@@ -71,7 +72,7 @@ router_at c node = slice_index_or c.routers (node - length c.servers) (record { 
 
 -- the secret of a key of a site
 abbrev pub secret_at : List SiteEntry → ℕ → ℕ → List ℕ
-secret_at sites site key = unwrap_or (option_and_then (λ s. secret_of s key) (site_of sites site)) []
+secret_at sites site key = unwrap_or (known_secret sites site key) []
 
 -- what a router is told
 abbrev pub settings_of : Configuration → Router → Settings

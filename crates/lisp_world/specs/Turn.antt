@@ -1,10 +1,11 @@
 -- A turn: one node acts, and what that may leave of its store.
-use Rattle.std.specs.Prelude.{◌≡◌, ◌≢◌, ◌⊎◌, ℕ, ◌-◌, ◌^◌, ◌<◌, Bool, true, false, List, [], ◌∷◌, Option, Some, None}
+use Rattle.std.specs.Prelude.{◌≡◌, ◌≢◌, ◌⊎◌, ℕ, ◌-◌, ◌^◌, ◌<◌, Bool, true, false, List, Option, Some, None}
 use Rattle.std.specs.List.{Contains}
 use Rattle.lisp_store.specs.declared.pair.Pair.{Pair}
 use Rattle.lisp_store.specs.declared.fault.StoreFault.{StoreFault}
 use Rattle.lisp_store.specs.declared.fault.StoreFault.TheVariants as faults
 use Rattle.lisp_store.specs.Kept.{kept_at, NoneBelow, SameElsewhere, InDoubt, Narrows}
+use Rattle.lisp_etr.specs.Sending.{Settles}
 use Rattle.lisp_world.specs.Trace.{Shown, Step, Opening, is_server, is_router, is_up}
 
 -- what went before; which node acts; what its store shows before and after
@@ -50,7 +51,7 @@ HasCause t fault = fault ≢ faults.OutOfMemory → Rose t
 -- what was saved, if anything was, is one value for that pair, which it alone keeps then; and from now on no
 -- value of it is below the number
 pub record Saves (t : Turn) (pair : Pair) (floor : ℕ) : Type 0 where
-  pub here : (values_after t pair ≡ values t pair) ⊎ ((n : ℕ) × (values_after t pair ≡ Some n ∷ []))
+  pub here : Settles (values t pair) (values_after t pair)
   pub none_below : NoneBelow floor (values_after t pair)
   pub others : SameOthers t pair
 
@@ -78,11 +79,7 @@ pub record IsNobodys (t : Turn) : Type 0 where
   pub same : t.after ≡ t.before
 
 -- the number that a nonce counts from, or has to be above: the last one, or where there is none a value
--- that is kept. 'Nothing' is below each nonce
+-- that is kept
 abbrev pub IsBase : Option ℕ → List (Option ℕ) → Option ℕ → Type 0
 IsBase (Some last) kept base = base ≡ Some last
 IsBase None kept base = Contains kept base
-
-abbrev pub IsBelow : Option ℕ → ℕ → Type 0
-IsBelow None nonce = Unit {0}
-IsBelow (Some base) nonce = base < nonce

@@ -1,7 +1,9 @@
 //! What holds of legal traces: each function's contract is a law, and its body is empty.
 
-ghost use Rattle.std.specs.Prelude.{List, ◌∷◌};
+ghost use Rattle.std.specs.Prelude.{ℕ, List, ◌∷◌};
+ghost use Rattle.lisp_lookup.specs.Table.{IsHeld};
 ghost use Rattle.lisp_world.specs.Trace.{Opening, Step};
+ghost use Rattle.lisp_world.specs.Held.{Acceptance, named, rows};
 ghost use Rattle.lisp_world.specs.Legal.{Legal, LegalTrace};
 ghost use Rattle.lisp_world.specs.Must.{Must};
 ghost use Rattle.lisp_world.specs.Clean.{Clean};
@@ -38,6 +40,12 @@ pub fn others_stay()
 #[tactic(auto, using(crate::proofs::MustLaws::must))]
 pub fn must_be_done()
     ensures { (o : Opening) (T : List Step) (s : Step) → LegalTrace o T → Legal o T s → Must o T s }
+{}
+
+/// What is held at a moment is listed by router, then prefix: exactly the live records, each once (RFC 9301 section
+/// 8.2).
+pub fn rows_are_held()
+    ensures { (since : List Acceptance) (now : ℕ) → IsHeld (named since) now (rows since now) }
 {}
 
 /// Over a clean trace each accepted message is that of exactly one entry: it was sent to that Map-Server, from
