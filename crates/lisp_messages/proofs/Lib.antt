@@ -1,5 +1,6 @@
 pub mod AuthenticLaws
 pub mod Fields
+pub mod FitLaws
 pub mod Loop
 pub mod MessageLaws
 pub mod ReadLemmas

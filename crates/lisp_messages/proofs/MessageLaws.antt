@@ -7,7 +7,8 @@ use Rattle.std.proofs.lemmas.List.{take-append-drop, length-take-le, length-drop
 use Rattle.std.proofs.lemmas.Nat.{from_be_bytes-to_be_bytes_8}
 use Rattle.lisp_records.specs.Record.{Mapping, bit}
 use Rattle.lisp_records.specs.Reading.{is_set, number_at}
-use Rattle.lisp_records.proofs.Fields.{IsBytes, IsBytes-behind, two_bytes, bit-eqb, eqb-bit}
+use Rattle.lisp_records.specs.Spelling.{IsBytes}
+use Rattle.lisp_records.proofs.Fields.{IsBytes-behind, two_bytes, bit-eqb, eqb-bit}
 use Rattle.lisp_messages.specs.declared.kind.Kind.{Kind}
 use Rattle.lisp_messages.specs.declared.kind.Kind.TheVariants as kinds
 use Rattle.lisp_messages.specs.declared.fault.ReadFault.{ReadFault}

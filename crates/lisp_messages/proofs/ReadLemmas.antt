@@ -1,7 +1,7 @@
 -- What is known of an answer of `read_message`.
 use Rattle.std.proofs.Common.{◌≡◌, ℕ, List, Result, Ok, Err, sym, ◌∙◌}
 use Rattle.std.specs.Prelude.{IfOk}
-use Rattle.lisp_records.proofs.Fields.{IsBytes}
+use Rattle.lisp_records.specs.Spelling.{IsBytes}
 use Rattle.lisp_messages.specs.declared.fault.ReadFault.{ReadFault}
 use Rattle.lisp_messages.specs.declared.fault.ReadFault.TheVariants as faults
 use Rattle.lisp_messages.specs.declared.message.Message.{Message}

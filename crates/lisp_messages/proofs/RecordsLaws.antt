@@ -4,10 +4,10 @@ use Rattle.std.proofs.Common.{◌≡◌, ℕ, zero, suc, List, [], ◌∷◌, �
 use Rattle.std.specs.List.{AllByRecursion}
 use Rattle.lisp_records.specs.declared.fault.RecordFault.{RecordFault}
 use Rattle.lisp_records.specs.Record.{Mapping, IsMapping}
-use Rattle.lisp_records.specs.Spelling.{Spells as SpellsRecord}
+use Rattle.lisp_records.specs.Spelling.{IsBytes, Spells as SpellsRecord}
 use Rattle.lisp_records.specs.Written.{written}
 use Rattle.lisp_records.specs.Reading.{record_at}
-use Rattle.lisp_records.proofs.Fields.{IsBytes, Takes, IsBytes-rest}
+use Rattle.lisp_records.proofs.Fields.{Takes, IsBytes-rest}
 use Rattle.lisp_records.proofs.RecordLaws.{record_takes, record_again, written_spells}
 use Rattle.lisp_messages.specs.Spelling.{SpellsRecords}
 use Rattle.lisp_messages.specs.Written.{written_records}

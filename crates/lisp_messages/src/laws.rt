@@ -1,6 +1,7 @@
 //! What holds of the format itself: each function's contract is a law, and its body is empty.
 
 ghost use Rattle.std.specs.Prelude.{◌≡◌, ℕ, List, length, Ok};
+ghost use Rattle.lisp_records.specs.Spelling.{IsBytes};
 ghost use Rattle.lisp_messages.specs.Message.{Said, IsSaid};
 ghost use Rattle.lisp_messages.specs.Spelling.{Spells};
 ghost use Rattle.lisp_messages.specs.Written.{written};
@@ -10,6 +11,11 @@ ghost use Rattle.lisp_messages.specs.Reading.{message_at};
 #[tactic(auto, using(crate::proofs::MessageLaws::one_message))]
 pub fn one_message()
     ensures { (bytes : List ℕ) (x y : Said) → Spells bytes x → Spells bytes y → x ≡ y }
+{}
+
+/// What bytes spell fits the format.
+pub fn spelt_messages_fit()
+    ensures { (bytes : List ℕ) (x : Said) → IsBytes bytes → Spells bytes x → IsSaid x }
 {}
 
 /// The written spelling of a message is one of its spellings, whatever its Authentication Data.

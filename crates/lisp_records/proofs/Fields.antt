@@ -1,6 +1,6 @@
 -- The fields of a record, each way: what a step of reading took stands in the bytes, and what is
 -- written there is read again.
-use Rattle.std.proofs.Common.{◌≡◌, ℕ, zero, suc, ◌+◌, ◌*◌, ◌<◌, ◌≤◌, Bool, true, false, cond, eqb, ltb, List, [], ◌∷◌, ◌++◌, length, get_or, take, drop, Result, Ok, Err, refl, sym, ap, subst, ◌∙◌, arith}
+use Rattle.std.proofs.Common.{◌≡◌, ℕ, zero, suc, ◌+◌, ◌*◌, ◌<◌, ◌≤◌, Bool, true, false, cond, eqb, ltb, List, [], ◌∷◌, ◌++◌, length, take, drop, Result, Ok, Err, refl, sym, ap, subst, ◌∙◌, arith}
 use Rattle.std.specs.Int.{w16, from_be_bytes, to_be_bytes}
 use Rattle.std.proofs.lemmas.Bool.{ltb-false, le-ltb, eqb-true}
 use Rattle.std.proofs.lemmas.List.{take_at, drop_at, take-append-drop, length-append, length-take, get_or-append-add, get_or-drop}
@@ -13,11 +13,8 @@ use Rattle.lisp_records.specs.declared.fault.RecordFault.{RecordFault}
 use Rattle.lisp_records.specs.declared.fault.RecordFault.TheVariants.{Short, Afi, Mask}
 use Rattle.lisp_records.specs.Address.{afi, width, family, octets, IsWhole}
 use Rattle.lisp_records.specs.Record.{bit}
+use Rattle.lisp_records.specs.Spelling.{IsBytes}
 use Rattle.lisp_records.specs.Reading.{◌>>=◌, after, family_of, address_of, address_at, mask_of}
-
--- each item is a byte
-abbrev pub IsBytes : List ℕ → Type 0
-IsBytes bytes = (i : ℕ) → get_or bytes i 0 < 256
 
 -- what a reader took from the front: a text of a kind, and the rest
 pub record Takes (Kind : List ℕ → Type 0) (bytes rest : List ℕ) : Type 0 where

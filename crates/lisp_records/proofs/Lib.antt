@@ -2,6 +2,7 @@ pub mod AddressLemmas
 pub mod DatabaseLaws
 pub mod DatabaseLemmas
 pub mod Fields
+pub mod FitLaws
 pub mod Grown
 pub mod LocatorLaws
 pub mod Loop

@@ -7,9 +7,9 @@ use Rattle.lisp_records.specs.declared.address.Addr.TheVariants.{V4, V6}
 use Rattle.lisp_records.specs.declared.address.Family.{Family}
 use Rattle.lisp_records.specs.declared.locator.Locator.{Locator}
 use Rattle.lisp_records.specs.Address.{afi, family, octets, IsWhole}
-use Rattle.lisp_records.specs.Spelling.{SpellsLocator, SpellsLocators}
+use Rattle.lisp_records.specs.Spelling.{IsBytes, SpellsLocator, SpellsLocators}
 use Rattle.lisp_records.specs.Reading.{◌>>=◌, after, number_at, family_of, address_at, is_set, locator_of, locator_at, locators_at}
-use Rattle.lisp_records.proofs.Fields.{IsBytes, Takes, IsBytes-rest, bind_ok, done, ok_is, two_bytes, bit-eqb, eqb-bit, after_takes, after_again, family_takes, address_takes, address_again}
+use Rattle.lisp_records.proofs.Fields.{Takes, IsBytes-rest, bind_ok, done, ok_is, two_bytes, bit-eqb, eqb-bit, after_takes, after_again, family_takes, address_takes, address_again}
 
 -- eight bytes with a family's number in the last two, and an address of it, spell a locator
 locator_made : (bytes : List ℕ) (a : Addr) (rest : List ℕ) → IsBytes bytes → 8 ≤ length bytes → number_at bytes 6 ≡ afi (family a) → drop 8 bytes ≡ octets a ++ rest → IsWhole a → Takes (λ text. SpellsLocator text (locator_of bytes a)) bytes rest

@@ -4,9 +4,9 @@ use Rattle.std.specs.Prelude.{IfOk, slice_range}
 use Rattle.std.proofs.lemmas.List.{take_at, drop_at, drop-drop, length-append, length-drop, get_or-drop}
 use Rattle.lisp_records.specs.declared.fault.RecordFault.{RecordFault}
 use Rattle.lisp_records.specs.Record.{Mapping}
-use Rattle.lisp_records.specs.Spelling.{Spells}
+use Rattle.lisp_records.specs.Spelling.{IsBytes, Spells}
 use Rattle.lisp_records.specs.Reading.{Gives, record_at}
-use Rattle.lisp_records.proofs.Fields.{IsBytes, done, ok_is}
+use Rattle.lisp_records.proofs.Fields.{done, ok_is}
 use Rattle.lisp_records.proofs.Loop.{Fails-passed}
 use Rattle.lisp_records.proofs.RecordLaws.{record_takes, record_again}
 

@@ -11,11 +11,11 @@ use Rattle.lisp_records.specs.declared.locator.Locator.{Locator}
 use Rattle.lisp_records.specs.declared.fault.RecordFault.{RecordFault}
 use Rattle.lisp_records.specs.Address.{afi, width, family, octets, IsWhole, max_len, cleared}
 use Rattle.lisp_records.specs.Record.{Mapping, IsMapping, bit}
-use Rattle.lisp_records.specs.Spelling.{SpellsLocator, SpellsLocators, SpellsEid, Spells}
+use Rattle.lisp_records.specs.Spelling.{IsBytes, SpellsLocator, SpellsLocators, SpellsEid, Spells}
 use Rattle.lisp_records.specs.Written.{written_locator, written_locators, written}
 use Rattle.lisp_records.specs.Reading.{◌>>=◌, after, number_at, family_of, address_at, is_set, locators_at, mask_of, mapping_of, record_at}
 use Rattle.lisp_records.proofs.AddressLemmas.{family-cleared, IsBlock-cleared}
-use Rattle.lisp_records.proofs.Fields.{IsBytes, Takes, IsBytes-behind, bind_ok, done, ok_is, two_bytes, bit-eqb, eqb-bit, bit_below, after_takes, after_again, family_takes, mask_takes, mask_again, address_takes, address_again}
+use Rattle.lisp_records.proofs.Fields.{Takes, IsBytes-behind, bind_ok, done, ok_is, two_bytes, bit-eqb, eqb-bit, bit_below, after_takes, after_again, family_takes, mask_takes, mask_again, address_takes, address_again}
 use Rattle.lisp_records.proofs.LocatorLaws.{locators_take, locators_again}
 
 -- an address under a mask that fits it spells the block

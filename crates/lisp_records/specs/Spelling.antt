@@ -1,11 +1,15 @@
 -- Which bytes spell a record: an equation for the whole list, then one for each field. Bits that
 -- stand in no equation are free, as the reserved ones are, and the EID's bits past its mask.
-use Rattle.std.specs.Prelude.{◌≡◌, ℕ, ◌+◌, ◌*◌, ◌/◌, ◌%◌, ◌^◌, ◌<◌, List, [], ◌∷◌, ◌++◌, length}
+use Rattle.std.specs.Prelude.{◌≡◌, ℕ, ◌+◌, ◌*◌, ◌/◌, ◌%◌, ◌^◌, ◌<◌, List, [], ◌∷◌, ◌++◌, length, slice_index_or}
 use Rattle.std.specs.Int.{w16, w32, to_be_bytes}
 use Rattle.lisp_records.specs.declared.address.Addr.{Addr}
 use Rattle.lisp_records.specs.declared.locator.Locator.{Locator}
 use Rattle.lisp_records.specs.Address.{afi, family, octets, IsWhole, cleared, Block, IsBlock}
 use Rattle.lisp_records.specs.Record.{Mapping, bit}
+
+-- each item is a byte
+abbrev pub IsBytes : List ℕ → Type 0
+IsBytes bytes = (i : ℕ) → slice_index_or bytes i 0 < 256
 
 -- a locator (RFC 9301 section 5.4): priorities and weights, the flags L, p and R, the address
 pub record SpellsLocator (bytes : List ℕ) (l : Locator) : Type 0 where

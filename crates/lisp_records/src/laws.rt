@@ -6,7 +6,7 @@ ghost use Rattle.lisp_records.specs.Address.{Block, Covers, Holds, block_cmp};
 ghost use Rattle.lisp_records.specs.Router.{router_cmp};
 ghost use Rattle.lisp_records.specs.Database.{repeats};
 ghost use Rattle.lisp_records.specs.Record.{Mapping, IsMapping};
-ghost use Rattle.lisp_records.specs.Spelling.{Spells};
+ghost use Rattle.lisp_records.specs.Spelling.{IsBytes, Spells};
 ghost use Rattle.lisp_records.specs.Written.{written};
 ghost use Rattle.lisp_records.specs.Reading.{record_at};
 ghost use Rattle.lisp_records.specs.declared.address.Addr.{Addr};
@@ -23,6 +23,11 @@ pub fn one_record()
 /// No spelling of a record begins another.
 pub fn no_proper_prefix()
     ensures { (bytes more : List ℕ) (m n : Mapping) → Spells bytes m → Spells (bytes ++ more) n → more ≡ [] }
+{}
+
+/// What bytes spell fits the format.
+pub fn spelt_records_fit()
+    ensures { (bytes : List ℕ) (m : Mapping) → IsBytes bytes → Spells bytes m → IsMapping m }
 {}
 
 /// The written spelling of a record is one of its spellings.

@@ -1,3 +1,4 @@
 pub mod Allowed
 pub mod Each
 pub mod Fields
+pub mod PlaceLaws

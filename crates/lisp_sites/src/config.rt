@@ -3,6 +3,7 @@
 ghost use Rattle.std.specs.Prelude.{◌≡◌};
 ghost use Rattle.toml.specs.Parse.{parse_document};
 ghost use Rattle.toml.specs.View.{view};
+ghost use Rattle.lisp_sites.specs.Configuration.{NamesServers};
 ghost use Rattle.lisp_sites.specs.Table.{Gives, document_of, configuration_of, config_of};
 
 use crate::fault::ConfigFault;
@@ -23,11 +24,13 @@ pub struct Config<A: Allocator = Global> {
 }
 
 impl<A: Allocator> Model for Config<A> {
-    ghost use Rattle.lisp_sites.specs.Configuration.{Configuration};
+    ghost use Rattle.lisp_sites.specs.Configuration.{Configuration, NamesServers};
 
     ghost Value = { Configuration };
 
     ghost view = { λ c. record { sites = c.sites; servers = c.servers.items; routers = c.routers.items } };
+
+    ghost invariant = { λ c. NamesServers (record { sites = c.sites; servers = c.servers.items; routers = c.routers.items }) };
 }
 
 impl<A: Allocator> Config<A> {
@@ -45,9 +48,10 @@ impl<A: Allocator> Config<A> {
         &self.servers
     }
 
-    /// The site routers, in the order of the file.
+    /// The site routers, in the order of the file; each names Map-Servers by their places there.
     pub fn routers(&self) -> &[RouterEntry<A>]
-        ensures { result.now ≡ self.now.routers }
+        ensures routers { result.now ≡ self.now.routers }
+        ensures named { NamesServers self.now }
     {
         &self.routers
     }
@@ -78,7 +82,7 @@ fn read_document(heap: Global, text: &str) -> Result<Value, ConfigFault>
     }
 }
 
-#[tactic(auto, unfolding(crate::specs::Table::configuration_of))]
+#[tactic(auto, unfolding(crate::specs::Table::configuration_of), using(crate::proofs::PlaceLaws::routers_name_servers))]
 fn read_configuration<A: Allocator + Copy>(
     alloc: A,
     document: &Value,

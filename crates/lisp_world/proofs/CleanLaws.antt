@@ -13,7 +13,6 @@ use Rattle.lisp_world.proofs.OriginLaws as origins
 use Rattle.lisp_world.proofs.AgreementLaws as agreement
 use Rattle.lisp_world.proofs.HeldLaws as holdings
 use Rattle.lisp_world.proofs.CountedLaws as counts
-use Rattle.lisp_world.proofs.DoneLaws.{lists_servers}
 use Rattle.lisp_world.proofs.DoneLaws as ends
 
 item_reads_back : ReadsBack
@@ -33,4 +32,4 @@ pub counted_was_accepted : (o : Opening) (T : List Step) → IsNetwork o.config 
 counted_was_accepted o T distinct legal clean = counts.counted_was_accepted o distinct.addresses item_reads_back T legal clean
 
 pub done_was_noticed : (o : Opening) (T : List Step) (s : Step) → IsNetwork o.config → LegalTrace o (s ∷ T) → Clean o (s ∷ T) → DoneWasNoticed o T s
-done_was_noticed o T s distinct legal clean = ends.done_was_noticed o T distinct.addresses (lists_servers o.config distinct.addresses distinct.servers) item_reads_back s legal clean
+done_was_noticed o T s distinct legal clean = ends.done_was_noticed o T distinct.addresses distinct.servers item_reads_back s legal clean

@@ -1,13 +1,12 @@
 -- Over a clean trace a notice that is done was noticed before, where a router's list names servers.
-use Rattle.std.proofs.Common.{◌≡◌, ℕ, zero, suc, ◌<◌, ◌≤◌, true, List, [], ◌∷◌, length, map, Some, refl, sym, ap, subst, inl, inr, ◌∙◌, arith}
-use Rattle.std.specs.Prelude.{◌≢◌, ◌⊎◌, ◌==◌, ◌&&◌, if◌then◌else◌, slice_get, slice_index_or}
-use Rattle.std.specs.List.{AllPairs, Contains, flat_map}
-use Rattle.std.proofs.lemmas.Bool.{and_parts, cases_lt}
+use Rattle.std.proofs.Common.{◌≡◌, ℕ, zero, suc, ◌+◌, ◌-◌, ◌<◌, true, List, [], ◌∷◌, length, map, Some, sym, ap, subst, ◌∙◌, arith}
+use Rattle.std.specs.Prelude.{◌≢◌, ◌==◌, ◌&&◌, nat_le, nat_lt, if◌then◌else◌, slice_get, slice_index_or}
+use Rattle.std.specs.List.{AllByRecursion, AllPairs, Contains, flat_map}
+use Rattle.std.proofs.lemmas.Bool.{and_parts, leb-true, ltb-true, lt-ltb}
 use Rattle.std.proofs.lemmas.Bool.Decides.{Decides-eqb}
 use Rattle.lisp_records.specs.declared.address.Addr.{Addr}
-use Rattle.lisp_records.specs.declared.address.Addr.TheVariants.{V4}
 use Rattle.lisp_records.specs.declared.router.RouterId.{RouterId}
-use Rattle.lisp_sites.specs.Configuration.{Configuration}
+use Rattle.lisp_sites.specs.Configuration.{Configuration, HasServers, NamesServers}
 use Rattle.lisp_messages.specs.Message.{Notification}
 use Rattle.lisp_world.specs.declared.line.Line.{Line}
 use Rattle.lisp_world.specs.declared.line.Line.TheVariants as lines
@@ -20,32 +19,28 @@ use Rattle.lisp_world.specs.Legal.{Row, LegalTrace, turn_of}
 use Rattle.lisp_world.specs.Promises.{DoneWasNoticed}
 use Rattle.lisp_world.proofs.AcknowledgementOrigins.{IsAnswer, all_answers}
 use Rattle.lisp_world.proofs.ArrivalLemmas.{comes}
-use Rattle.lisp_world.proofs.CleanLemmas.{addr_same, in_find, one_node, server_in, server_of}
+use Rattle.lisp_world.proofs.CleanLemmas.{addr_same, in_find, server_of}
 use Rattle.lisp_world.proofs.HearingLemmas.{find_true, router_of}
 use Rattle.lisp_world.proofs.NoticeOrigins.{WentOut, site_secrets, all_went_out}
 use Rattle.lisp_world.proofs.Origins.{ReadsBack, all_from}
 use Rattle.lisp_world.proofs.ReplyOrigins.{all_known}
 
--- a node of a router's list with the address of a server is that server
-abbrev pub NamesServers : Configuration → Type 0
-NamesServers c = (router k server : ℕ) → is_router c router ≡ true → Contains (router_at c router).servers k → is_server c server ≡ true → address_at c k ≡ address_at c server → k ≡ server
+-- each router's list names servers
+module _ {X : Type 0} (P : X → Type 0) where
+  each_at : (xs : List X) (i : ℕ) (d : X) → AllByRecursion P xs → i < length xs → P (slice_index_or xs i d)
+  each_at [] i d all lt = absurd (omega (arith, lt))
+  each_at (x ∷ xs) zero d all lt = all.0
+  each_at (x ∷ xs) (suc i) d all lt = each_at xs i d all.1 (omega (arith, lt))
 
--- so it is where each node of a list is a server
-pub lists_servers : (c : Configuration) → AllPairs (λ a b. a ≢ b) (addresses c) → ((router k : ℕ) → is_router c router ≡ true → Contains (router_at c router).servers k → is_server c k ≡ true) → NamesServers c
-lists_servers c distinct each router k server its listed kind same = server_of c distinct server k same kind (each router k its listed)
+  each_of : (xs : List X) (x : X) → AllByRecursion P xs → Contains xs x → P x
+  each_of xs x all (i, lt, is) = subst P is (each_at xs i x all lt)
 
--- and where no server has the address of no node
-past_end : (xs : List Addr) (k : ℕ) (d : Addr) → length xs ≤ k → slice_index_or xs k d ≡ d
-past_end [] k d le = refl
-past_end (x ∷ xs) zero d le = absurd (omega (arith, le))
-past_end (x ∷ xs) (suc k) d le = past_end xs k d (omega (arith, le))
-
-pub has_addresses : (c : Configuration) → AllPairs (λ a b. a ≢ b) (addresses c) → ((server : ℕ) → is_server c server ≡ true → address_at c server ≢ V4 []) → NamesServers c
-has_addresses c distinct each router k server its listed kind same = at (cases_lt k (length (addresses c)))
-  where
-    at : (k < length (addresses c)) ⊎ (length (addresses c) ≤ k) → k ≡ server
-    at (inl low) = one_node c distinct k server low (server_in c server kind) same
-    at (inr high) = absurd (each server kind (sym same ∙ past_end (addresses c) k (V4 []) high))
+lists_server : (c : Configuration) → NamesServers c → (router k : ℕ) → is_router c router ≡ true → Contains (router_at c router).servers k → is_server c k ≡ true
+lists_server c names router k its listed =
+    let within = and_parts (nat_le (length c.servers) router) (nat_lt router (length c.servers + length c.routers)) its in
+    let low = leb-true (length c.servers) router within.0 in
+    let high = ltb-true router (length c.servers + length c.routers) within.1 in
+    lt-ltb k (length c.servers) (each_of (λ place. place < length c.servers) (router_at c router).servers k (each_at (HasServers c.servers) c.routers (router - length c.servers) _ names (omega (arith, low, high))) listed)
 
 -- a notice waits for what it awaits
 pub record IsAwaited (o : Opening) (T : List Step) (from : Addr) (m : Notification) (x : Notice) : Type 0 where
@@ -77,7 +72,7 @@ module _ (o : Opening) (distinct : AllPairs (λ a b. a ≢ b) (addresses o.confi
       let went : w.item.to ≡ from = a.to w.item w.place in
       let same : address_at o.config ans.node ≡ address_at o.config w.router = sym ans.from ∙ source ∙ sym went ∙ w.to in
       let who : ans.node ≡ w.router = router_of o.config distinct ans.node w.router ans.kind w.kind same in
-      let whom : ans.server ≡ server = names ans.node ans.server server ans.kind ans.listed kind (sym ans.to ∙ target) in
+      let whom : ans.server ≡ server = server_of o.config distinct server ans.server (sym ans.to ∙ target) kind (lists_server o.config names ans.node ans.server ans.kind ans.listed) in
       let told : x.nonce ≡ m.nonce = a.nonce in
       let nonces : what.nonce ≡ nonce = sym read ∙ sym told ∙ sym number in
       record {

@@ -11,7 +11,7 @@ use Rattle.lisp_records.specs.Row.{Holding}
 use Rattle.lisp_store.specs.declared.pair.Pair.{Pair}
 use Rattle.lisp_store.specs.Kept.{kept_at, number, NoneBelow}
 use Rattle.lisp_store.specs.Store.{StoreState}
-use Rattle.lisp_sites.specs.Configuration.{Configuration}
+use Rattle.lisp_sites.specs.Configuration.{Configuration, NamesServers}
 use Rattle.lisp_messages.specs.Message.{IsSaid}
 use Rattle.lisp_lookup.specs.Table.{row_at, if_alive}
 use Rattle.lisp_etr.specs.Config.{Settings}
@@ -23,7 +23,7 @@ use Rattle.lisp_server.specs.Nonces.{nonce_at}
 use Rattle.lisp_server.specs.Contacts.{contact_at}
 use Rattle.lisp_server.specs.Receiving.{contact_of}
 use Rattle.lisp_server.specs.Notices.{Standing, notice_pair}
-use Rattle.lisp_world.specs.Trace.{Shown, Step, Opening, is_server, is_router, addresses, router_at, settings_of, shown, clock, is_up, database}
+use Rattle.lisp_world.specs.Trace.{Shown, Step, Opening, addresses, router_at, settings_of, shown, clock, is_up, database}
 use Rattle.lisp_world.specs.Held.{last_of, heard_last, held}
 use Rattle.lisp_world.specs.Timers.{round, Notice, notices, last_notice}
 use Rattle.lisp_world.specs.Bag.{Item, bytes_of, bag, since}
@@ -62,7 +62,7 @@ pub record WorldState : Type 0 where
 pub record IsNetwork (c : Configuration) : Type 0 where
   pub addresses : AllPairs (λ a b. a ≢ b) (addresses c)
   pub routers : AllPairs (λ a b. a.me ≢ b.me) c.routers
-  pub servers : (router k : ℕ) → is_router c router ≡ true → Contains (router_at c router).servers k → is_server c k ≡ true
+  pub servers : NamesServers c
 
 -- an honest store shows what the trace says
 pub record Shows (store : StoreState) (s : Shown) : Type 0 where

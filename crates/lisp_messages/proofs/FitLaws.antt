@@ -1,0 +1,35 @@
+-- What bytes spell fits the format.
+use Rattle.std.proofs.Common.{◌<◌, ℕ, zero, suc, List, [], ◌∷◌, ◌++◌, length, refl, subst, arith}
+use Rattle.std.specs.Int.{w64, to_be_bytes}
+use Rattle.std.specs.List.{AllByRecursion}
+use Rattle.lisp_records.specs.Record.{Mapping, IsMapping}
+use Rattle.lisp_records.specs.Spelling.{IsBytes}
+use Rattle.lisp_records.proofs.Fields.{IsBytes-rest}
+use Rattle.lisp_records.proofs.FitLaws.{record_fits}
+use Rattle.lisp_messages.specs.Message.{Said, Registers, Notifies, IsSaid, AreRecords}
+use Rattle.lisp_messages.specs.Spelling.{SpellsRecords, common, Spells}
+
+-- what stands before something in bytes is bytes
+IsBytes-first : (first others : List ℕ) → IsBytes (first ++ others) → IsBytes first
+IsBytes-first [] others fits i = omega arith
+IsBytes-first (b ∷ first) others fits zero = fits 0
+IsBytes-first (b ∷ first) others fits (suc i) = IsBytes-first first others (λ j. fits (suc j)) i
+
+records_fit : (bytes : List ℕ) (rs : List Mapping) → IsBytes bytes → SpellsRecords bytes rs → AllByRecursion IsMapping rs
+records_fit bytes [] fits s = tt
+records_fit bytes (r ∷ rs) fits (first, others, parts, one, rest) = (record_fits first r (IsBytes-first first others (subst IsBytes parts fits)) one, records_fit others rs (IsBytes-rest bytes first others parts fits) rest)
+
+-- records behind the head of a message
+counted : (head records : List ℕ) (rs : List Mapping) → IsBytes (head ++ records) → length rs < 256 → SpellsRecords records rs → AreRecords rs
+counted head records rs fits few s = (few, records_fit records rs (IsBytes-rest (head ++ records) head records refl fits) s)
+
+pub said_fits : (bytes : List ℕ) (x : Said) → IsBytes bytes → Spells bytes x → IsSaid x
+said_fits bytes (Registers m) fits s =
+    let head = s.kind ∷ s.reserved ∷ s.flags ∷ common (length m.records) m.nonce m.key_id s.auth in
+    let whole = subst IsBytes s.parts fits in
+    let front = IsBytes-first (head ++ s.records) m.xtr (IsBytes-first (head ++ s.records ++ m.xtr) (to_be_bytes w64 m.site) whole) in
+    record { nonce = s.nonce; records = counted head s.records m.records front (whole 3) s.each; xtr = s.xtr; site = s.site }
+said_fits bytes (Notifies m) fits s =
+    let head = s.kind ∷ s.reserved ∷ s.flags ∷ common (length m.records) m.nonce m.key_id s.auth in
+    let whole = subst IsBytes s.parts fits in
+    record { nonce = s.nonce; records = counted head s.records m.records (IsBytes-first (head ++ s.records) s.tail whole) (whole 3) s.each }
