@@ -1,29 +1,28 @@
-# make run     answers a sample Map-Register with the program, which is built where needed
-# make test    the gate: proves everything from nothing, runs the tests and the samples
-# make bench   measures the codec, the tag, the reading of configurations and registrations
-# make clean   removes what was built
-.PHONY: run test check-samples bench clean
+# make run      answers a sample Map-Register, proved or not: one to two minutes on a fresh machine
+# make lispd    proves the program and builds it as out/lispd
+# make test     the gate: proves everything from nothing, tries the wrong bodies, runs the tests and the samples
+# make mutants  tries further wrong bodies; NAME=lisp_server those of one crate
+# make bench    measures the codec, the tag, the reading of configurations and registrations
+# make clean    removes what was built
+.PHONY: run lispd test mutants bench clean
 
-SOURCES = crates.txt $(shell find crates -name '*.rt' -o -name '*.antt')
+run:
+	@tools/run
 
-run: out/lispd
-	out/lispd answer < examples/map-register.hex
+lispd:
+	@tools/build
 
+# One processor for each crate: several for one crate would take half as much processor time again.
 test:
-	rt ci
-	@$(MAKE) --no-print-directory --silent check-samples
+	RT_JOBS=$$(nproc) rt ci
+	@examples/check.sh crates/lispd_main/out/lispd_main
 
-# Prints nothing where all is well.
-check-samples: out/lispd
-	examples/check.sh
+mutants:
+	@tools/mutants $(NAME)
 
 bench:
-	@cd crates/lisp_bench && rt run -- 200000 2> /dev/null
-
-out/lispd: $(SOURCES)
 	@mkdir -p out
-	@cd crates/lispd_main && rt run < /dev/null > ../../out/build.log 2>&1 || { cat ../../out/build.log; exit 1; }
-	@cp crates/lispd_main/out/lispd_main out/lispd
+	@cd crates/lisp_bench && rt run -- 200000 2> ../../out/bench.log || { cat ../../out/bench.log >&2; exit 1; }
 
 clean:
 	rm -rf out crates/*/out

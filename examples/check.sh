@@ -1,38 +1,96 @@
 #!/bin/sh
-# Runs the program over the samples, and over words and files that it has to refuse: what it prints
-# on standard output, what on standard error, and its status.
-cd "$(dirname "$0")" || exit 1
+# check.sh [PROGRAM]
+# Runs the program (out/lispd, where none is named) over the cases of answers.txt, and over files that can't be
+# read or written. Prints each run that differs from what is wanted, and ends with 1 where one does.
+case ${1-} in
+    '') program=../out/lispd ;;
+    /*) program=$1 ;;
+    *) program=$PWD/$1 ;;
+esac
+cd "$(dirname "$0")" && mkdir -p ../out || exit 1
+runs=0
 failed=0
 
-# expect STATUS STDOUT STDERR WORD..., with standard input as it is given
-expect() {
-    status=$1 out=$2 err=$3
-    shift 3
-    got_out=$(../out/lispd "$@" 2> ../out/stderr)
-    got_status=$?
-    got_err=$(cat ../out/stderr)
-    if [ "$got_status|$got_out|$got_err" != "$status|$out|$err" ]; then
-        echo "lispd $*: status $got_status, '$got_out', '$got_err'; expected $status, '$out', '$err'"
-        failed=1
-    fi
+# differs NAME WANTED: reports that the last run was another than is wanted.
+differs() {
+    echo "$1: status $status, '$(cat ../out/stdout)', '$(cat ../out/stderr)'; wanted $2"
+    failed=1
 }
 
-expect 0 "$(cat map-notify.hex)" '' answer < map-register.hex
-expect 0 'refused 53' '' answer < wrong-tag.hex
-expect 0 'refused 50 read 15 record 0 fault 1' '' answer < cut-short.hex
-expect 0 'refused 61' '' answer < map-notify.hex
-expect 0 'refused 52' '' answer --key 2 < map-register.hex
-expect 0 'refused 50 read 1' '' answer < /dev/null
-expect 0 'refused 94' '' answer < README.md
-expect 1 '' 'lispd: fault 87' answer < .
-head -c 1048577 /dev/zero | tr '\0' 0 > ../out/long
-expect 1 '' 'lispd: fault 89' answer < ../out/long
-expect 2 '' 'lispd: fault 98' answer --key 256 < map-register.hex
-expect 0 'lispd 0.1.0' '' --version
+# holds FILE TEXT: whether the file is this line, nothing where TEXT is empty, any text where it is *, and the
+# same as FILE where it is @FILE.
+holds() {
+    case $2 in
+        '') [ ! -s "$1" ] ;;
+        '*') [ -s "$1" ] ;;
+        @*) cmp -s "${2#@}" "$1" ;;
+        *) printf '%s\n' "$2" | cmp -s - "$1" ;;
+    esac
+}
 
-../out/lispd answer < map-register.hex > /dev/full 2> ../out/stderr
-[ "$?|$(cat ../out/stderr)" = '1|lispd: fault 88' ] || { echo 'a full output is no fault 88'; failed=1; }
-../out/lispd answer --unknown < map-register.hex > ../out/stdout 2> ../out/stderr
-[ $? = 2 ] && [ ! -s ../out/stdout ] && [ -s ../out/stderr ] || { echo 'an unknown option is no status 2'; failed=1; }
+# expect NAME STATUS OUTPUT ERROR WORD...: runs the program with these words, and standard input as it is given.
+expect() {
+    name=$1 wanted_status=$2 wanted_output=$3 wanted_error=$4
+    shift 4
+    "$program" "$@" > ../out/stdout 2> ../out/stderr
+    status=$?
+    runs=$((runs + 1))
+    [ $status = "$wanted_status" ] && holds ../out/stdout "$wanted_output" &&
+        holds ../out/stderr "$wanted_error" ||
+        differs "$name" "$wanted_status, '$wanted_output', '$wanted_error'"
+}
+
+# Runs the case that was read, and forgets it.
+run_case() {
+    [ -n "$title" ] || return 0
+    case $input in
+        @*) from=${input#@} ;;
+        *)
+            from=../out/stdin
+            printf '%b' "$input" > $from
+            ;;
+    esac
+    eval "set -- $words"
+    expect "$title" "$code" "$output" "$error" "$@" < "$from" || failed=1
+    title='' words='' input='' code=0 output='' error=''
+}
+
+title='' words='' input='' code=0 output='' error=''
+while IFS= read -r line || [ -n "$line" ]; do
+    value=${line#*: }
+    case $line in
+        '#'*) ;;
+        '') run_case ;;
+        'case: '*) title=$value ;;
+        'words: '*) words=$words$value ;;
+        'input: '*) input=$input$value ;;
+        'status: '*) code=$value ;;
+        'output: '*) output=$output$value ;;
+        'error: '*) error=$error$value ;;
+        *)
+            echo "answers.txt: '$line' begins with no key"
+            failed=1
+            ;;
+    esac
+done < answers.txt
+run_case
+[ $runs -gt 0 ] || failed=1
+
+expect 'a directory as input' 1 '' 'lispd: fault 87' < .
+head -c 1048577 /dev/zero | tr '\0' 0 > ../out/long
+expect 'a line of 1,048,577 bytes' 1 '' 'lispd: fault 89' < ../out/long
+
+# fills WORD...: runs the program with these words and an output that is full.
+fills() {
+    : > ../out/stdout
+    "$program" "$@" < map-register.hex > /dev/full 2> ../out/stderr
+    status=$?
+    [ $status = 1 ] && holds ../out/stderr 'lispd: fault 88' ||
+        differs "a full output, words '$*'" "1, '', 'lispd: fault 88'"
+}
+
+fills
+fills --help
+fills --version
 
 exit $failed

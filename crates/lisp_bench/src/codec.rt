@@ -1,8 +1,9 @@
 //! The codec and the tag, on the 84 byte Map-Register.
 
-use crate::tell;
+use crate::timing::Timing;
 use anyhow::{Result, anyhow};
 use lisp_messages::{MapNotify, Message, authentic, read_message, write_notify};
+use std::alloc::Global;
 use std::rt::Clock;
 use std::time::Instant;
 
@@ -18,39 +19,41 @@ static SECRET: [u8; 6] = *b"secret";
 
 /// Prints how long a call takes, of so many.
 pub(crate) fn measure<R: Print + Clock + AllocGlobal>(rt: &R, count: u32) -> Result<()> {
-    let start = Instant::now(rt)?;
-    let mut right = 0u64;
-    for _ in 0..count {
-        if read_message(rt.alloc(), &REGISTER).is_ok() {
-            right = right.wrapping_add(1);
-        }
-    }
-    tell(rt, "read_message", start, count)?;
+    let alloc = rt.alloc();
+    let notify = worked_notify(alloc)?;
+    time(rt, "read_message", count, || {
+        read_message(alloc, &REGISTER).is_ok()
+    })?;
+    time(rt, "authentic", count, || authentic(&REGISTER, &SECRET))?;
+    time(rt, "write_notify", count, || {
+        write_notify(alloc, &notify, &SECRET).is_ok()
+    })
+}
 
-    let start = Instant::now(rt)?;
-    for _ in 0..count {
-        if authentic(&REGISTER, &SECRET) {
-            right = right.wrapping_add(1);
-        }
-    }
-    tell(rt, "authentic", start, count)?;
-
-    let Ok(Message::Register(register)) = read_message(rt.alloc(), &REGISTER) else {
+// The Map-Notify that answers the Map-Register.
+fn worked_notify(alloc: Global) -> Result<MapNotify> {
+    let Ok(Message::Register(register)) = read_message(alloc, &REGISTER) else {
         return Err(anyhow!("the sample is no Map-Register"));
     };
-    let notify = MapNotify {
+    Ok(MapNotify {
         ack: false,
         nonce: register.nonce,
         key_id: register.key_id,
         records: register.records,
-    };
+    })
+}
+
+// Prints how long a call takes, of so many; an error if one is false.
+fn time<R: Print + Clock, F: Fn() -> bool>(rt: &R, name: &str, count: u32, call: F) -> Result<()>
+    requires { F.IsAlwaysCallable call }
+{
     let start = Instant::now(rt)?;
     for _ in 0..count {
-        if write_notify(rt.alloc(), &notify, &SECRET).is_ok() {
-            right = right.wrapping_add(1);
+        if !call() {
+            return Err(anyhow!("a call gave no answer"));
         }
     }
-    tell(rt, "write_notify", start, count)?;
-    println!(rt; "{right} calls gave their answer")?;
-    Ok(())
+    let mut timing = Timing::NONE;
+    timing.add(rt, start, count)?;
+    timing.print(rt, name)
 }

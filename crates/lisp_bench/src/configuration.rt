@@ -1,6 +1,6 @@
-//! Reading configurations: large ones, and long texts that are none.
+//! Reading configurations: large ones, and long texts that aren't valid TOML.
 
-use crate::tell;
+use crate::timing::{MOST_ROUNDS, Timing};
 use anyhow::{Result, anyhow};
 use lisp_sites::{Config, ConfigFault};
 use std::alloc::{AllocError, Global};
@@ -10,7 +10,7 @@ use std::time::Instant;
 /// The bytes of a long text.
 const LONG: usize = 1_048_576;
 
-/// Long texts that are no TOML: their names, how they begin, and the letter that follows.
+/// Long texts that are not valid TOML: their names, how they begin, and the letter that follows.
 const NO_TOML: [(&str, &str, char); 3] = [
     ("a key of 1 MiB", "", 'a'),
     ("an open string of 1 MiB", "a = \"", 'a'),
@@ -20,43 +20,51 @@ const NO_TOML: [(&str, &str, char); 3] = [
 /// How many sites, and as many routers, the measured networks have.
 const NETWORKS: [u32; 3] = [250, 500, 1_000];
 
-/// Prints how long texts are read that are no TOML, and for each network how long one of its entries
-/// takes.
+/// Prints how long it takes to refuse texts that are not valid TOML, and to read each network.
 pub(crate) fn measure<R: Print + Clock + AllocGlobal>(rt: &R) -> Result<()> {
     for (name, front, letter) in NO_TOML {
-        refuse(rt, name, &repeated(rt.alloc(), front, letter)?)?;
+        let text = repeated(rt.alloc(), front, letter)?;
+        time(rt, name, &text, false)?;
     }
     for size in NETWORKS {
-        read(rt, size)?;
+        let text = network(rt.alloc(), size)?;
+        println!(rt; "{size} sites and as many routers")?;
+        time(rt, "from_toml", &text, true)?;
     }
     Ok(())
 }
 
-fn refuse<R: Print + Clock + AllocGlobal>(rt: &R, name: &str, text: &str) -> Result<()> {
-    let start = Instant::now(rt)?;
-    match Config::from_toml(rt.alloc(), rt.alloc(), text) {
-        Err(ConfigFault::Toml) => tell(rt, name, start, 1),
-        _ => Err(anyhow!("the text was not refused as no TOML")),
-    }
-}
-
-fn read<R: Print + Clock + AllocGlobal>(rt: &R, size: u32) -> Result<()> {
-    let text = network(rt.alloc(), size)?;
-    let start = Instant::now(rt)?;
-    match Config::from_toml(rt.alloc(), rt.alloc(), &text) {
-        Ok(config) => {
-            println!(rt;
-                "{} sites and {} routers, each",
-                config.sites().as_slice().len(),
-                config.routers().len()
-            )?;
-            tell(rt, "from_toml", start, size)
+// Prints how long it takes to read a text, which is a configuration or not valid TOML.
+fn time<R: Print + Clock + AllocGlobal>(
+    rt: &R,
+    name: &str,
+    text: &str,
+    is_good: bool,
+) -> Result<()> {
+    let mut timing = Timing::NONE;
+    for _ in 0..MOST_ROUNDS {
+        if timing.is_enough() {
+            break;
         }
-        Err(fault) => Err(anyhow!("the network was refused: {fault}")),
+        let start = Instant::now(rt)?;
+        if is_configuration(rt.alloc(), text) != Some(is_good) {
+            return Err(anyhow!("the text has another answer"));
+        }
+        timing.add(rt, start, 1)?;
+    }
+    timing.print(rt, name)
+}
+
+// Whether a text is a configuration; none where it is TOML, but not one.
+fn is_configuration(alloc: Global, text: &str) -> Option<bool> {
+    match Config::from_toml(alloc, alloc, text) {
+        Ok(_) => Some(true),
+        Err(ConfigFault::Toml) => Some(false),
+        Err(_) => None,
     }
 }
 
-// The front, and behind it the letter again and again.
+// The front, and after it the letter again and again.
 fn repeated(alloc: Global, front: &str, letter: char) -> Result<String, AllocError> {
     let mut text = String::from_str(alloc, front)?;
     for _ in 0..LONG {

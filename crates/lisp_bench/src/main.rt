@@ -5,11 +5,11 @@
 mod codec;
 mod configuration;
 mod registration;
+mod timing;
 
 use anyhow::Result;
 use std::env;
 use std::rt::{Clock, Env};
-use std::time::Instant;
 
 fn main(rt: HostRuntime) -> Result<()> {
     run(&rt)
@@ -27,17 +27,5 @@ fn run<R: Env + Print + Clock + AllocGlobal>(rt: &R) -> Result<()> {
         configuration::measure(rt)?;
         registration::measure(rt)?;
     }
-    Ok(())
-}
-
-/// Prints the nanoseconds that each of `count` calls or entries took since `start`.
-pub(crate) fn tell<R: Print + Clock + AllocGlobal>(
-    rt: &R,
-    name: &str,
-    start: Instant,
-    count: u32,
-) -> Result<()> {
-    let nanos = start.elapsed(rt)?.as_nanos() / u128::from(count.max(1));
-    println!(rt; "{name} {nanos} ns")?;
     Ok(())
 }

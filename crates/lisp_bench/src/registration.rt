@@ -1,6 +1,6 @@
 //! Registrations at a Map-Server whose store lies in memory.
 
-use crate::tell;
+use crate::timing::{MOST_ROUNDS, Timing};
 use anyhow::{Result, anyhow};
 use lisp_messages::{MapRegister, write_register};
 use lisp_records::{Addr, MapRecord, Prefix, Records};
@@ -20,8 +20,8 @@ const RECORDS: [u32; 3] = [1, 10, 255];
 /// How many rows one Map-Register brings at most, until the server holds enough.
 const BLOCK: u32 = 250;
 
-/// How many Map-Registers are measured.
-const MEASURED: u32 = 10;
+/// How many Map-Registers are timed in a round.
+const ROUND: u32 = 10;
 
 const SECRET: &[u8] = b"secret";
 
@@ -52,17 +52,7 @@ impl Network {
     // A Map-Register, with the next nonce, of so many host prefixes from one on.
     fn datagram(&mut self, alloc: Global, first: u32, count: u32) -> Result<Vec<u8>> {
         self.nonce = self.nonce.wrapping_add(1);
-        let mut records = Vec::new(alloc);
-        for place in 0..count.min(255) {
-            let [_, a, b, c] = first.wrapping_add(place).to_be_bytes();
-            let Some(eid) = Prefix::new(Addr::V4([10, a, b, c]), 32) else {
-                return Err(anyhow!("a host is no prefix"));
-            };
-            let Some(record) = MapRecord::new(1440, 0, true, 0, eid, Vec::new(alloc)) else {
-                return Err(anyhow!("the fields are no record"));
-            };
-            records.push(record)?;
-        }
+        let records = host_records(alloc, first, count)?;
         if records.len() > 255 {
             return Err(anyhow!("there are too many records"));
         }
@@ -82,6 +72,15 @@ impl Network {
         Ok(write_register(alloc, &register, SECRET)?)
     }
 
+    // The Map-Registers of a round.
+    fn datagrams(&mut self, alloc: Global, first: u32, count: u32) -> Result<Vec<Vec<u8>>> {
+        let mut datagrams = Vec::new(alloc);
+        for _ in 0..ROUND {
+            datagrams.push(self.datagram(alloc, first, count)?)?;
+        }
+        Ok(datagrams)
+    }
+
     // Registers so many host prefixes from one on.
     fn register(&mut self, alloc: Global, first: u32, count: u32) -> Result<()> {
         let datagram = self.datagram(alloc, first, count)?;
@@ -96,30 +95,66 @@ impl Network {
     }
 }
 
+// Records of so many host prefixes from one on.
+fn host_records(alloc: Global, first: u32, count: u32) -> Result<Vec<MapRecord>> {
+    let mut records = Vec::new(alloc);
+    for place in 0..count.min(255) {
+        records.push(host_record(alloc, first.wrapping_add(place))?)?;
+    }
+    Ok(records)
+}
+
+// A record of the host with a number in 10.0.0.0/8.
+fn host_record(alloc: Global, number: u32) -> Result<MapRecord> {
+    let [_, a, b, c] = number.to_be_bytes();
+    let Some(eid) = Prefix::new(Addr::V4([10, a, b, c]), 32) else {
+        return Err(anyhow!("a host is no prefix"));
+    };
+    MapRecord::new(1440, 0, true, 0, eid, Vec::new(alloc)).ok_or(anyhow!(
+        "the fields are no record"
+    ))
+}
+
 /// Prints how long a registration takes, by the rows that are held and the records that it has.
 pub(crate) fn measure<R: Print + Clock + AllocGlobal>(rt: &R) -> Result<()> {
     for held in HELD {
-        let mut network = Network::new(rt.alloc())?;
-        for block in 0..held.div_ceil(BLOCK) {
-            let first = block.saturating_mul(BLOCK);
-            network.register(rt.alloc(), first, held.saturating_sub(first).min(BLOCK))?;
-        }
+        let mut network = filled(rt.alloc(), held)?;
         for records in RECORDS {
-            println!(rt; "{held} rows held, {records} records, each Map-Register")?;
-            let mut datagrams = Vec::new(rt.alloc());
-            for _ in 0..MEASURED {
-                datagrams.push(network.datagram(
-                    rt.alloc(),
-                    held.saturating_sub(records),
-                    records,
-                )?)?;
-            }
-            let start = Instant::now(rt)?;
-            for datagram in &datagrams {
-                network.take(datagram)?;
-            }
-            tell(rt, "receive", start, MEASURED)?;
+            println!(rt; "{held} rows held, {records} records")?;
+            time(rt, &mut network, held.saturating_sub(records), records)?;
         }
     }
     Ok(())
+}
+
+// A network whose server holds so many rows.
+fn filled(alloc: Global, held: u32) -> Result<Network> {
+    let mut network = Network::new(alloc)?;
+    for block in 0..held.div_ceil(BLOCK) {
+        let first = block.saturating_mul(BLOCK);
+        network.register(alloc, first, held.saturating_sub(first).min(BLOCK))?;
+    }
+    Ok(network)
+}
+
+// Prints how long a registration of so many records takes.
+fn time<R: Print + Clock + AllocGlobal>(
+    rt: &R,
+    network: &mut Network,
+    first: u32,
+    records: u32,
+) -> Result<()> {
+    let mut timing = Timing::NONE;
+    for _ in 0..MOST_ROUNDS {
+        if timing.is_enough() {
+            break;
+        }
+        let datagrams = network.datagrams(rt.alloc(), first, records)?;
+        let start = Instant::now(rt)?;
+        for datagram in &datagrams {
+            network.take(datagram)?;
+        }
+        timing.add(rt, start, ROUND)?;
+    }
+    timing.print(rt, "receive")
 }

@@ -6,6 +6,10 @@ mod memory;
 #[cfg(test)]
 mod notifies;
 #[cfg(test)]
+mod router;
+#[cfg(test)]
 mod sends;
 #[cfg(test)]
-mod support;
+mod starts;
+#[cfg(test)]
+mod worked;

@@ -1,149 +1,140 @@
 //! Tests of what the router sends, and when: the worked rows of RFC 9301 sections 5.6 and 8.2.
 
-use crate::support::{PAIR, SERVERS, World, assert_ttl, config, database};
-use lisp_etr::{Etr, EtrConfig, SendFault, StartFault, StartRefused};
-use lisp_messages::authentic;
-use lisp_records::Database;
-use lisp_samples::{RECORD, SECRET};
-use lisp_store::{Fate, MemoryStore, NonceStore, StoreFault, WorldStore};
-use std::alloc::Global;
-use std::process::Abort;
+use crate::router::{Datagram, Row, Step, run_all};
+use lisp_etr::SendFault;
+use lisp_samples::RECORD;
+use lisp_store::{Fate, StoreFault};
 
-/// The first 16 bytes of the worked Map-Register: P, I and M set, one record, nonce 1.
-const REGISTER_HEAD: [u8; 16] = [0x3a, 0, 1, 1, 0, 0, 0, 0, 0, 0, 0, 1, 1, 2, 0, 16];
-
-/// Its last 24 bytes: xTR-ID and Site-ID.
+/// xTR-ID and Site-ID.
 const IDS: [u8; 24] = [
     0, 0, 0, 0, 0, 0, 0, 0, 0, 0, 0, 0, 0, 0, 0, 0x0a, 0, 0, 0, 0, 0, 0, 0, 1,
 ];
 
-#[test]
-fn the_worked_register_is_sent(rt: HostRuntime) {
-    let mut world = World::start(&rt, rt.alloc());
-    let bytes = world.sent(&rt, 0, 0);
-    assert_worked_register(&rt, &bytes);
-    world.has_saved(&rt, 1);
-}
+/// The worked Map-Register: P, I and M set, one record, nonce 1.
+const WORKED: Datagram = Datagram {
+    len: 84,
+    head: [0x3a, 0, 1, 1, 0, 0, 0, 0, 0, 0, 0, 1, 1, 2, 0, 16],
+    records: &RECORD,
+    end: &IDS,
+};
+
+/// The Map-Register of an empty database.
+const EMPTY: Datagram = Datagram {
+    len: 56,
+    head: [0x3a, 0, 1, 0, 0, 0, 0, 0, 0, 0, 0, 1, 1, 2, 0, 16],
+    records: &[],
+    end: &IDS,
+};
+
+/// The second Map-Register, with a TTL of an hour.
+const CHANGED: Datagram = Datagram {
+    len: 84,
+    head: [0x3a, 0, 1, 1, 0, 0, 0, 0, 0, 0, 0, 2, 1, 2, 0, 16],
+    records: &[0, 0, 0, 60],
+    end: &IDS,
+};
+
+const REGISTERS: [Step; 2] = [Step::Registers(&WORKED), Step::StoreKeeps(1)];
+
+const REGISTERS_NOTHING: [Step; 2] = [Step::Changes { ttl: None, at: 0 }, Step::Registers(&EMPTY)];
+
+const CHANGES: [Step; 3] = [
+    Step::Sends { to: 0, at: 0 },
+    Step::Changes {
+        ttl: Some(60),
+        at: 0,
+    },
+    Step::Registers(&CHANGED),
+];
+
+/// The gaps double up to a minute.
+const SENDS_WHEN_DUE: [Step; 8] = [
+    Step::SendsWhenDue { at: 0 },
+    Step::SendsWhenDue { at: 1_000 },
+    Step::SendsWhenDue { at: 3_000 },
+    Step::SendsWhenDue { at: 7_000 },
+    Step::SendsWhenDue { at: 15_000 },
+    Step::SendsWhenDue { at: 31_000 },
+    Step::SendsWhenDue { at: 63_000 },
+    Step::SendsWhenDue { at: 123_000 },
+];
+
+/// The first send of a round that begins at 1 s is made before.
+const SENDS_EARLY: [Step; 3] = [
+    Step::Changes {
+        ttl: Some(7),
+        at: 1_000,
+    },
+    Step::Sends { to: 0, at: 500 },
+    Step::IsDue { to: 0, at: 1_500 },
+];
+
+const BEGINS_ANEW: [Step; 6] = [
+    Step::Sends { to: 0, at: 500 },
+    Step::Sends { to: 1, at: 500 },
+    Step::Changes {
+        ttl: Some(7),
+        at: 600,
+    },
+    Step::IsDue { to: 0, at: 600 },
+    Step::Sends { to: 0, at: 600 },
+    Step::IsDue { to: 1, at: 600 },
+];
+
+const SPENDS_ITS_NONCES: [Step; 6] = [
+    Step::StoreSaves(9_223_372_036_854_775_806),
+    Step::Restarts { pick: 0 },
+    Step::Sends { to: 0, at: 0 },
+    Step::Restarts { pick: 0 },
+    Step::RefusesToSend {
+        to: 0,
+        why: SendFault::NonceSpent,
+    },
+    Step::RefusesToSend {
+        to: 2,
+        why: SendFault::NoServer,
+    },
+];
+
+const LOSES_A_SAVE: [Step; 7] = [
+    Step::Sends { to: 0, at: 0 },
+    Step::StoreIsArmed(Fate::Doubt),
+    Step::RefusesToSend {
+        to: 0,
+        why: SendFault::Store(StoreFault::Device),
+    },
+    Step::StoreIsArmed(Fate::Done),
+    Step::Restarts { pick: 0 },
+    Step::Sends { to: 0, at: 0 },
+    Step::StoreKeeps(2),
+];
+
+const KEEPS_A_SAVE: [Step; 7] = [
+    Step::Sends { to: 0, at: 0 },
+    Step::StoreIsArmed(Fate::Doubt),
+    Step::RefusesToSend {
+        to: 0,
+        why: SendFault::Store(StoreFault::Device),
+    },
+    Step::StoreIsArmed(Fate::Done),
+    Step::Restarts { pick: 1 },
+    Step::Sends { to: 0, at: 0 },
+    Step::StoreKeeps(3),
+];
+
+const ROWS: [Row; 9] = [
+    ("the worked Map-Register is sent", &REGISTERS),
+    ("an empty database is sent", &REGISTERS_NOTHING),
+    ("the present database is sent", &CHANGES),
+    ("sends are due farther and farther apart", &SENDS_WHEN_DUE),
+    ("a send that is not due counts too", &SENDS_EARLY),
+    ("after a change each server is due", &BEGINS_ANEW),
+    ("the last nonce is the last", &SPENDS_ITS_NONCES),
+    ("a save in doubt is lost", &LOSES_A_SAVE),
+    ("a save in doubt is kept", &KEEPS_A_SAVE),
+];
 
 #[test]
-fn an_empty_database_is_sent(rt: HostRuntime) {
-    let mut world = World::start(&rt, rt.alloc());
-    let empty = Database::new(Vec::new(rt.alloc())).expect(&rt, "no database");
-    world.router.change(empty, 0);
-    let bytes = world.sent(&rt, 0, 0);
-    assert_eq!(rt; bytes.len(), 56);
-    assert!(rt; bytes.starts_with(&[0x3a, 0, 1, 0]));
-}
-
-#[test]
-fn the_present_database_is_sent(rt: HostRuntime) {
-    let mut world = World::start(&rt, rt.alloc());
-    world.sends(&rt, 0, 0);
-    world.changes(&rt, 60, 0);
-    world.registers(&rt, 2, 60);
-}
-
-#[test]
-fn sends_when_due_are_farther_and_farther_apart(rt: HostRuntime) {
-    let mut world = World::start(&rt, rt.alloc());
-    for seconds in [0u64, 1, 3, 7, 15, 31, 63, 123, 183] {
-        let moment = seconds.wrapping_mul(1000);
-        if let Some(before) = moment.checked_sub(1) {
-            world.is_due(&rt, before, None);
-        }
-        world.is_due(&rt, moment, Some(0));
-        world.sends(&rt, 0, moment);
-        world.sends(&rt, 1, moment);
-    }
-}
-
-#[test]
-fn a_send_that_is_not_due_counts_too(rt: HostRuntime) {
-    let mut world = World::start(&rt, rt.alloc());
-    world.sends(&rt, 0, 500);
-    world.sends(&rt, 1, 500);
-    world.is_due(&rt, 1_499, None);
-    world.is_due(&rt, 1_500, Some(0));
-    world.has_saved(&rt, 2);
-
-    // After a change each Map-Server is due at once.
-    world.changes(&rt, 7, 600);
-    world.is_due(&rt, 599, None);
-    world.is_due(&rt, 600, Some(0));
-    world.sends(&rt, 0, 600);
-    world.is_due(&rt, 600, Some(1));
-}
-
-#[test]
-fn a_save_in_doubt_is_told_by_a_restart(rt: HostRuntime) {
-    for (pick, next) in [(0, 2), (1, 3)] {
-        let mut world = restarted_in_doubt(&rt, rt.alloc(), pick);
-        world.sends(&rt, 0, 0);
-        world.has_saved(&rt, next);
-    }
-}
-
-#[test]
-fn the_last_nonce_is_the_last(rt: HostRuntime) {
-    let mut store = MemoryStore::new(rt.alloc());
-    assert!(rt; store.save(&PAIR, 9_223_372_036_854_775_806).is_ok());
-    let mut world = World::over(&rt, rt.alloc(), store);
-    world.registers(&rt, 9_223_372_036_854_775_807, 1440);
-    world.refuses_to_send(&rt, 0, SendFault::NonceSpent);
-    world.refuses_to_send(&rt, 2, SendFault::NoServer);
-}
-
-#[test]
-fn a_router_that_can_not_load_does_not_start(rt: HostRuntime) {
-    let mut store = MemoryStore::new(rt.alloc());
-    store.arm(Fate::LoadFails);
-    let (config, database) = (config(&rt, rt.alloc()), database(&rt, rt.alloc(), 1440));
-    match Etr::start(rt.alloc(), config, database, &mut store, 0) {
-        Ok(_) => panic!(rt; "started"),
-        Err(refused) => assert_given_back(&rt, &refused),
-    }
-}
-
-#[test]
-fn a_stop_gives_back_what_was_told(rt: HostRuntime) {
-    let mut world = World::start(&rt, rt.alloc());
-    world.changes(&rt, 60, 0);
-    assert_ttl(&rt, world.router.database().records(), 60);
-    let (config, database) = world.router.stop();
-    assert_servers(&rt, &config);
-    assert_ttl(&rt, database.records(), 60);
-}
-
-/// Stops the test unless the bytes are the worked Map-Register.
-fn assert_worked_register(rt: &impl Abort, bytes: &[u8]) {
-    assert_eq!(rt; bytes.len(), 84);
-    assert!(rt; authentic(bytes, SECRET));
-    assert!(rt; bytes.starts_with(&REGISTER_HEAD));
-    let (front, _) = bytes.split_at_checked(60).expect(rt, "no record");
-    assert!(rt; front.ends_with(&RECORD));
-    assert!(rt; bytes.ends_with(&IDS));
-}
-
-/// The worked router, restarted after the save of nonce 2 was in doubt, by the store's pick.
-fn restarted_in_doubt(rt: &impl Abort, alloc: Global, pick: u64) -> World {
-    let mut world = World::start(rt, alloc);
-    world.sends(rt, 0, 0);
-    world.store.arm(Fate::Doubt);
-    world.refuses_to_send(rt, 0, SendFault::Store(StoreFault::Device));
-    world.is_due(rt, 999, Some(1));
-    world.store.arm(Fate::Done);
-    world.store.restart(pick);
-    world.restart(rt)
-}
-
-/// Stops the test unless the router couldn't load, and what it was told is given back.
-fn assert_given_back(rt: &impl Abort, refused: &StartRefused) {
-    assert_eq!(rt; refused.fault, StartFault::Store(StoreFault::Device));
-    assert_eq!(rt; refused.config.secret.as_slice(), SECRET);
-    assert_eq!(rt; refused.database.records().len(), 1);
-}
-
-/// Stops the test unless the Map-Servers are those of the worked router.
-fn assert_servers(rt: &impl Abort, config: &EtrConfig) {
-    assert_eq!(rt; config.servers.as_slice(), SERVERS.as_slice());
+fn what_is_sent_and_when(rt: HostRuntime) {
+    run_all(&rt, rt.alloc(), &ROWS);
 }

@@ -4,10 +4,9 @@
 
 mod heap;
 
-pub use heap::{HEAP_LEN, MOST_BLOCKS, fill};
+pub use heap::{HEAP_LEN, MOST_BLOCKS, fill, is_refused_then_answers};
 use lisp_records::{Addr, Locator, MapRecord, Prefix};
 use std::alloc::Allocator;
-use std::test::Fail;
 
 /// The worked record, as it is written.
 pub const RECORD: [u8; 28] = [
@@ -49,9 +48,4 @@ pub fn fields<A: Allocator>(record: &MapRecord<A>) -> Fields<'_> {
         record.eid(),
         record.locators(),
     )
-}
-
-/// A block of IPv4 addresses.
-pub fn ipv4_block(octets: [u8; 4], mask_len: u8) -> Result<Prefix, Fail> {
-    Ok(Prefix::new(Addr::V4(octets), mask_len).ok_or("the mask is too long")?)
 }

@@ -1,17 +1,20 @@
-//! Tests of the Map-Server over the store in memory. This crate has no function of its own.
+//! Tests of the Map-Server over the store in memory, and of its table of rows. This crate has no function
+//! of its own.
 #![tactic(auto)]
 
 #[cfg(test)]
-mod memory;
+mod lookups;
 #[cfg(test)]
-mod notice_faults;
-#[cfg(test)]
-mod notice_memory;
-#[cfg(test)]
-mod notice_support;
+mod map_server;
 #[cfg(test)]
 mod notices;
 #[cfg(test)]
-mod servers;
+mod refused_memory;
 #[cfg(test)]
-mod support;
+mod registrations;
+#[cfg(test)]
+mod sent;
+#[cfg(test)]
+mod step;
+#[cfg(test)]
+mod table_memory;

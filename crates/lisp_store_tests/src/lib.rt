@@ -1,7 +1,5 @@
-//! Tests of stores of nonces, and of the counter over them. This crate has no function of its own.
+//! Tests of the store of nonces in memory. This crate has no function of its own.
 #![tactic(auto)]
 
-#[cfg(test)]
-mod counters;
 #[cfg(test)]
 mod stores;

@@ -2,18 +2,21 @@
 
 use linked_list_allocator::LocalHeap;
 use lisp_records::RouterId;
-use lisp_samples::{HEAP_LEN, MOST_BLOCKS, fill};
+use lisp_samples::{HEAP_LEN, fill, is_refused_then_answers};
 use lisp_store::{Fate, MemoryStore, NonceStore, Pair, PairKind, StoreFault, WorldStore};
-use std::alloc::{Allocator, Global};
+use std::alloc::Global;
 use std::process::Abort;
 
-/// A pair of site 1.
-pub const PAIR: Pair = Pair {
+/// A router of site 1.
+const ROUTER: RouterId = RouterId {
+    site: 1,
+    xtr: [0; 16],
+};
+
+/// What nonces are saved for.
+const PAIR: Pair = Pair {
     kind: PairKind::Sent,
-    router: RouterId {
-        site: 1,
-        xtr: [0; 16],
-    },
+    router: ROUTER,
     key: 1,
 };
 
@@ -24,120 +27,137 @@ const OTHERS: [Pair; 4] = [
         ..PAIR
     },
     Pair {
-        router: RouterId {
-            site: 2,
-            xtr: [0; 16],
-        },
+        router: RouterId { site: 2, ..ROUTER },
         ..PAIR
     },
     Pair {
         router: RouterId {
-            site: 1,
             xtr: [1; 16],
+            ..ROUTER
         },
         ..PAIR
     },
     Pair { key: 2, ..PAIR },
 ];
 
+/// One call of the store, with what comes of it.
+#[derive(Clone, Copy)]
+enum Step {
+    /// This is kept for `PAIR`, as a load answers it.
+    Loads(Option<u64>),
+    /// A load for `PAIR` fails as `Device`.
+    FailsToLoad,
+    /// Nothing is kept for the other pairs.
+    LoadsNothingElse,
+    /// A nonce is saved for `PAIR`.
+    Saves(u64),
+    /// A save for `PAIR` fails as `Device`.
+    FailsToSave(u64),
+    IsArmed(Fate),
+    /// It crashes, by this pick.
+    Restarts(u64),
+}
+
+const KEEPS: [Step; 7] = [
+    Step::Loads(None),
+    Step::Saves(7),
+    Step::Saves(3),
+    Step::Loads(Some(3)),
+    Step::LoadsNothingElse,
+    Step::Restarts(9),
+    Step::Loads(Some(3)),
+];
+
+const FAILS_TO_LOAD: [Step; 6] = [
+    Step::IsArmed(Fate::LoadFails),
+    Step::FailsToLoad,
+    Step::Saves(7),
+    Step::FailsToLoad,
+    Step::IsArmed(Fate::Done),
+    Step::Loads(Some(7)),
+];
+
 #[test]
 fn a_saved_nonce_is_kept_for_its_pair_alone(rt: HostRuntime) {
-    let mut store = MemoryStore::new(rt.alloc());
-    assert_load(&rt, &mut store, &PAIR, Ok(None));
-    assert_save(&rt, &mut store, 7, Ok(()));
-    assert_save(&rt, &mut store, 3, Ok(()));
-    assert_load(&rt, &mut store, &PAIR, Ok(Some(3)));
-    for other in &OTHERS {
-        assert_load(&rt, &mut store, other, Ok(None));
-    }
-    store.restart(9);
-    assert_load(&rt, &mut store, &PAIR, Ok(Some(3)));
+    run(&rt, rt.alloc(), &KEEPS);
+}
+
+#[test]
+fn loads_fail_until_the_store_is_armed_again(rt: HostRuntime) {
+    run(&rt, rt.alloc(), &FAILS_TO_LOAD);
 }
 
 #[test]
 fn a_save_in_doubt_may_be_kept_or_not(rt: HostRuntime) {
     // What a restart leaves, by its pick: of nothing, 5 and 6.
-    for (pick, want) in [(0, None), (1, Some(5)), (2, Some(6)), (9, Some(6))] {
-        assert_left(&rt, rt.alloc(), pick, want);
+    for (pick, left) in [(0, None), (1, Some(5)), (2, Some(6)), (9, Some(6))] {
+        let steps = [
+            Step::IsArmed(Fate::Doubt),
+            Step::FailsToSave(5),
+            Step::FailsToSave(6),
+            Step::FailsToSave(5),
+            Step::IsArmed(Fate::Done),
+            Step::Loads(None),
+            Step::Restarts(pick),
+            Step::Loads(left),
+        ];
+        run(&rt, rt.alloc(), &steps);
     }
 }
 
 #[test]
-fn loads_fail_until_the_store_is_armed_again(rt: HostRuntime) {
-    let mut store = MemoryStore::new(rt.alloc());
-    store.arm(Fate::LoadFails);
-    assert_load(&rt, &mut store, &PAIR, Err(StoreFault::Device));
-    assert_save(&rt, &mut store, 7, Ok(()));
-    assert_load(&rt, &mut store, &PAIR, Err(StoreFault::Device));
-    store.arm(Fate::Done);
-    assert_load(&rt, &mut store, &PAIR, Ok(Some(7)));
-}
-
-#[test]
-fn faults_have_their_numbers(rt: HostRuntime) {
-    for (fault, number) in [
-        (StoreFault::Device, 30),
-        (StoreFault::Damaged, 31),
-        (StoreFault::OutOfMemory, 32),
-    ] {
-        assert_eq!(rt; fault.number(), number, "{fault}");
-    }
-}
-
-#[test]
-fn want_of_memory_changes_nothing(rt: HostRuntime) {
+fn a_save_is_refused_memory(rt: HostRuntime) {
+    let alloc = rt.alloc();
     for fate in [Fate::Done, Fate::Doubt] {
-        for blocks in 0..MOST_BLOCKS {
-            assert_all_or_nothing(&rt, rt.alloc(), fate, blocks);
+        assert!(rt; is_refused_then_answers(|blocks| saves_in(&rt, alloc, fate, blocks)));
+    }
+}
+
+/// Runs a store that keeps nothing by these steps.
+fn run(rt: &impl Abort, alloc: Global, steps: &[Step]) {
+    let mut store = MemoryStore::new(alloc);
+    for (place, step) in steps.iter().enumerate() {
+        assert!(rt; does(&mut store, step), "step {place}");
+    }
+}
+
+/// Whether this comes of a step.
+fn does(store: &mut MemoryStore, step: &Step) -> bool {
+    match *step {
+        Step::Loads(kept) => store.load(&PAIR) == Ok(kept),
+        Step::FailsToLoad => store.load(&PAIR) == Err(StoreFault::Device),
+        Step::LoadsNothingElse => loads_nothing_else(store),
+        Step::Saves(nonce) => store.save(&PAIR, nonce).is_ok(),
+        Step::FailsToSave(nonce) => store.save(&PAIR, nonce) == Err(StoreFault::Device),
+        Step::IsArmed(fate) => is_armed(store, fate),
+        Step::Restarts(pick) => restarts(store, pick),
+    }
+}
+
+fn loads_nothing_else(store: &mut MemoryStore) -> bool {
+    for pair in &OTHERS {
+        if store.load(pair) != Ok(None) {
+            return false;
         }
     }
+    true
 }
 
-/// Stops the test unless a load of the pair gives this.
-fn assert_load<A: Allocator + Copy>(
-    rt: &impl Abort,
-    store: &mut MemoryStore<A>,
-    pair: &Pair,
-    want: Result<Option<u64>, StoreFault>,
-) {
-    assert_eq!(rt; store.load(pair), want, "{pair:?}");
+fn is_armed(store: &mut MemoryStore, fate: Fate) -> bool {
+    store.arm(fate);
+    true
 }
 
-/// Stops the test unless a save of this nonce of `PAIR` gives this.
-fn assert_save<A: Allocator + Copy>(
-    rt: &impl Abort,
-    store: &mut MemoryStore<A>,
-    nonce: u64,
-    want: Result<(), StoreFault>,
-) {
-    assert_eq!(rt; store.save(&PAIR, nonce), want, "{nonce}");
-}
-
-/// Stops the test unless a restart with this pick leaves this of saves of 5, 6 and 5 in doubt.
-fn assert_left(rt: &impl Abort, alloc: Global, pick: u64, want: Option<u64>) {
-    let mut store = MemoryStore::new(alloc);
-    store.arm(Fate::Doubt);
-    for nonce in [5, 6, 5] {
-        assert_save(rt, &mut store, nonce, Err(StoreFault::Device));
-    }
-    store.arm(Fate::Done);
-    assert_load(rt, &mut store, &PAIR, Ok(None));
+fn restarts(store: &mut MemoryStore, pick: u64) -> bool {
     store.restart(pick);
-    assert_load(rt, &mut store, &PAIR, Ok(want));
+    true
 }
 
-/// Stops the test unless a save with so many blocks of memory is whole or refused, and the nonce of
-/// another pair stays.
-fn assert_all_or_nothing(rt: &impl Abort, alloc: Global, fate: Fate, blocks: usize) {
+/// Whether a save by this fate answers with so many blocks of memory.
+fn saves_in(rt: &impl Abort, alloc: Global, fate: Fate, blocks: usize) -> bool {
     let heap = LocalHeap::new(alloc, HEAP_LEN).expect(rt, "the heap");
     let mut store = MemoryStore::new(&heap);
-    assert_save(rt, &mut store, 7, Ok(()));
     store.arm(fate);
-    let ballast = fill(alloc, &heap, blocks).expect(rt, "the ballast");
-    let is_refused = store.save(&OTHERS[0], 9) == Err(StoreFault::OutOfMemory);
-    drop(ballast);
-    store.restart(9);
-    let kept = if is_refused { None } else { Some(9) };
-    assert_load(rt, &mut store, &OTHERS[0], Ok(kept));
-    assert_load(rt, &mut store, &PAIR, Ok(Some(7)));
+    let _ballast = fill(alloc, &heap, blocks).expect(rt, "the ballast");
+    store.save(&PAIR, 9) != Err(StoreFault::OutOfMemory)
 }

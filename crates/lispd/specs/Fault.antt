@@ -1,9 +1,12 @@
--- The numbers of the faults of `answer` and `setup`.
+-- The numbers of the program's faults, and its exit statuses: 1 where files, streams or memory failed, 2 for the
+-- words of the command line.
 use Rattle.std.specs.Prelude.{ℕ}
 use Rattle.lispd.specs.declared.fault.AnswerFault.{AnswerFault}
 use Rattle.lispd.specs.declared.fault.AnswerFault.TheVariants.{Read, Write, TooLong, OutOfMemory}
 use Rattle.lispd.specs.declared.fault.SetupFault.{SetupFault}
 use Rattle.lispd.specs.declared.fault.SetupFault.TheVariants as setup_faults
+use Rattle.lispd.specs.declared.fault.ProgramFault.{ProgramFault}
+use Rattle.lispd.specs.declared.fault.ProgramFault.TheVariants.{Words, Setup, Answer}
 
 abbrev pub fault_number : AnswerFault → ℕ
 fault_number Read = 87
@@ -12,5 +15,19 @@ fault_number TooLong = 89
 fault_number OutOfMemory = 97
 
 abbrev pub setup_fault_number : SetupFault → ℕ
-setup_fault_number setup_faults.BadOption = 98
+setup_fault_number (setup_faults.BadOption _) = 98
 setup_fault_number setup_faults.OutOfMemory = 97
+
+abbrev pub setup_fault_status : SetupFault → ℕ
+setup_fault_status (setup_faults.BadOption _) = 2
+setup_fault_status setup_faults.OutOfMemory = 1
+
+abbrev pub program_fault_number : ProgramFault → ℕ
+program_fault_number Words = 98
+program_fault_number (Setup fault) = setup_fault_number fault
+program_fault_number (Answer fault) = fault_number fault
+
+abbrev pub program_fault_status : ProgramFault → ℕ
+program_fault_status Words = 2
+program_fault_status (Setup fault) = setup_fault_status fault
+program_fault_status (Answer _) = 1

@@ -1,5 +1,6 @@
 //! The words of the program.
 
+use crate::option::AnswerOption;
 use clap::{Arg, ArgAction, Command};
 use std::alloc::{AllocError, Global};
 
@@ -22,34 +23,27 @@ pub fn command<'a>(alloc: Global) -> Result<Command<'a>, AllocError> {
 }
 
 fn answer_command<'a>(alloc: Global) -> Result<Command<'a>, AllocError> {
-    let site = option(alloc, "site", "H").help(
-        "The Site-ID, 16 hexadecimal digits [default: 0000000000000001]",
-    );
-    let key = option(alloc, "key", "N").help("The Key ID, 0 to 255 [default: 1]");
-    let secret = option(alloc, "secret", "H").help(
-        "The secret of the key, 1 to 256 bytes in hexadecimal digits [default: 736563726574]",
-    );
-    let prefix = option(alloc, "prefix", "P").help(
-        "The prefix that routers may register [default: 10.1.0.0/16]",
-    );
+    let (site, key) = (AnswerOption::Site, AnswerOption::Key);
+    let (secret, prefix) = (AnswerOption::Secret, AnswerOption::Prefix);
     let more_specifics = Arg::new(alloc, "more-specifics")
         .long("more-specifics")
         .action(ArgAction::SetTrue)
-        .help("Allow prefixes inside the site's prefix too");
+        .help("Allow EID-Prefixes inside that prefix too (more-specifics)");
     Command::new(alloc, "answer")
         .about(ANSWER_ABOUT)
         .after_help(ANSWER_EXAMPLE)
-        .arg(site)?
-        .arg(key)?
-        .arg(secret)?
-        .arg(prefix)?
+        .arg(option(alloc, site.name(), "H", site.form()))?
+        .arg(option(alloc, key.name(), "N", key.form()))?
+        .arg(option(alloc, secret.name(), "H", secret.form()))?
+        .arg(option(alloc, prefix.name(), "P", prefix.form()))?
         .arg(more_specifics)
 }
 
-// An option with a value, under its long name.
-fn option<'a>(alloc: Global, name: &'a str, value: &'a str) -> Arg<'a> {
+// An option, with the letter that stands for its value.
+fn option<'a>(alloc: Global, name: &'a str, letter: &'a str, form: &'a str) -> Arg<'a> {
     Arg::new(alloc, name)
         .long(name)
-        .value_name(value)
+        .value_name(letter)
         .action(ArgAction::Set)
+        .help(form)
 }

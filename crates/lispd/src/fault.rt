@@ -1,9 +1,11 @@
-//! Why `answer` gave no answer, and `setup` no setup.
+//! Why `answer` gave no answer, `setup` no setup, and what ends the program: each with its number and its
+//! exit status, 1 where files, streams or memory fail and 2 for the words of the command line.
 
 ghost use Rattle.std.specs.Prelude.{◌≡◌};
-ghost use Rattle.lispd.specs.Fault.{fault_number, setup_fault_number};
+ghost use Rattle.lispd.specs.Fault.{fault_number, setup_fault_number, setup_fault_status, program_fault_number, program_fault_status};
 ghost use Rattle.lispd.specs.declared.fault.AnswerFault.TheVariants.{OutOfMemory};
 
+use crate::option::AnswerOption;
 use std::alloc::{AllocError, AllocFailed};
 use thiserror::Error;
 
@@ -11,16 +13,16 @@ use thiserror::Error;
 #[derive(Clone, Copy, Debug, PartialEq, Eq, Error)]
 pub enum AnswerFault {
     /// The input could not be read, or took too many reads.
-    #[error("the input can't be read")]
+    #[error("standard input can't be read")]
     Read,
     /// The answer could not be written; how much of it went out is open.
-    #[error("the answer can't be written")]
+    #[error("standard output can't be written")]
     Write,
     /// The line has more than 1,048,576 bytes.
-    #[error("the line is too long")]
+    #[error("the line on standard input has more than 1,048,576 bytes")]
     TooLong,
     /// No memory for the line or for the text of the answer.
-    #[error("out of memory")]
+    #[error("out of memory: free some and try again")]
     OutOfMemory,
 }
 
@@ -35,6 +37,13 @@ impl AnswerFault {
             AnswerFault::TooLong => 89,
             AnswerFault::OutOfMemory => 97,
         }
+    }
+
+    /// The exit status: 1, as streams or memory failed.
+    pub const fn status(&self) -> u8
+        ensures { result ≡ 1 }
+    {
+        1
     }
 }
 
@@ -57,11 +66,11 @@ impl<T: Drop> From<AllocFailed<T>> for AnswerFault {
 /// What kept `setup` from giving a setup.
 #[derive(Clone, Copy, Debug, PartialEq, Eq, Error)]
 pub enum SetupFault {
-    /// An option whose value is out of its form.
-    #[error("an option is out of its form")]
-    BadOption,
+    /// An option's value has another form than the option takes.
+    #[error("{0}")]
+    BadOption(AnswerOption),
     /// No memory for the setup.
-    #[error("out of memory")]
+    #[error("out of memory: free some and try again")]
     OutOfMemory,
 }
 
@@ -71,8 +80,18 @@ impl SetupFault {
         ensures { result ≡ setup_fault_number self.now }
     {
         match self {
-            SetupFault::BadOption => 98,
+            SetupFault::BadOption(_) => 98,
             SetupFault::OutOfMemory => 97,
+        }
+    }
+
+    /// The exit status: `BadOption` 2, `OutOfMemory` 1.
+    pub const fn status(&self) -> u8
+        ensures { result ≡ setup_fault_status self.now }
+    {
+        match self {
+            SetupFault::BadOption(_) => 2,
+            SetupFault::OutOfMemory => 1,
         }
     }
 }
@@ -84,5 +103,43 @@ impl From<AllocError> for SetupFault {
 
     fn from(_error: AllocError) -> SetupFault {
         SetupFault::OutOfMemory
+    }
+}
+
+/// What ends the program.
+#[derive(Clone, Copy, Debug, PartialEq, Eq, Error)]
+pub enum ProgramFault {
+    /// A word of the command line is not UTF-8.
+    #[error("a word of the command line is not UTF-8")]
+    Words,
+    /// The options give no setup.
+    #[error(transparent)]
+    Setup(#[from] SetupFault),
+    /// The line was not answered.
+    #[error(transparent)]
+    Answer(#[from] AnswerFault),
+}
+
+impl ProgramFault {
+    /// The number that operators see: `Words` 98, or that of the fault inside.
+    pub const fn number(&self) -> u16
+        ensures { result ≡ program_fault_number self.now }
+    {
+        match self {
+            ProgramFault::Words => 98,
+            ProgramFault::Setup(fault) => fault.number(),
+            ProgramFault::Answer(fault) => fault.number(),
+        }
+    }
+
+    /// The exit status: `Words` 2, or that of the fault inside.
+    pub const fn status(&self) -> u8
+        ensures { result ≡ program_fault_status self.now }
+    {
+        match self {
+            ProgramFault::Words => 2,
+            ProgramFault::Setup(fault) => fault.status(),
+            ProgramFault::Answer(fault) => fault.status(),
+        }
     }
 }

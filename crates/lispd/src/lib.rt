@@ -8,12 +8,14 @@ mod fault;
 mod fresh;
 mod input;
 mod line;
+mod option;
 mod options;
 mod site;
 mod words;
 
 pub use answering::answer;
 pub use command_line::command;
-pub use fault::{AnswerFault, SetupFault};
+pub use fault::{AnswerFault, ProgramFault, SetupFault};
+pub use option::AnswerOption;
 pub use options::setup;
 pub use site::AnswerSetup;

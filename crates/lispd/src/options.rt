@@ -1,13 +1,15 @@
 //! The options of `answer`.
 
-ghost use Rattle.std.specs.Prelude.{◌≡◌, codes};
+ghost use Rattle.std.specs.Prelude.{◌≡◌};
 ghost use Rattle.std.specs.Option.{option_map};
 ghost use Rattle.lisp_texts.specs.Reading.{prefix_of};
 ghost use Rattle.lispd.specs.Setup.{default_setup};
 ghost use Rattle.lisp_texts.specs.Form.{site_id_of, secret_text_of};
-ghost use Rattle.lispd.specs.Options.{Gives, option_text, or_default, key_of, flag_of, setup_of};
+ghost use Rattle.lispd.specs.Options.{Gives, option_name, option_text, or_default, key_of, flag_of, setup_of};
+ghost use Rattle.lispd.specs.declared.option.AnswerOption.TheVariants as answer_options;
 
 use crate::fault::SetupFault;
+use crate::option::AnswerOption;
 use crate::site::{AnswerSetup, DEFAULT_KEY, DEFAULT_SECRET, DEFAULT_SITE, default_prefix};
 use clap::ArgMatches;
 use lisp_records::{Bytes, Prefix};
@@ -17,7 +19,8 @@ use std::alloc::Allocator;
 /// The setup that the options ask for, in memory of `alloc`: `--site` 16 hexadecimal digits, `--key`
 /// a decimal number 0 to 255, `--secret` hexadecimal text of 1 to 256 bytes, `--prefix` a prefix as
 /// [`lisp_sites::prefix_from_text`] reads it, `--more-specifics`. What is absent, and `None`, are the
-/// defaults. `BadOption` where a value is out of its form.
+/// defaults. `BadOption` names the first of these options whose value has another form; `OutOfMemory`
+/// where there is no memory for the secret.
 #[tactic(auto, unfolding(crate::specs::Options::setup_of))]
 pub fn setup<A: Allocator>(
     alloc: A,
@@ -54,46 +57,46 @@ fn is_given(matches: Option<&ArgMatches<'_>>, id: &str) -> bool
 }
 
 fn site(matches: Option<&ArgMatches<'_>>) -> Result<u64, SetupFault>
-    ensures { Gives (λ n. n) result (or_default default_setup.site site_id_of (option_text matches.entry (codes "site"))) }
+    ensures { Gives (λ n. n) result (or_default answer_options.Site default_setup.site site_id_of (option_text matches.entry (option_name answer_options.Site))) }
 {
-    let Some(digits) = text(matches, "site") else {
+    let Some(digits) = text(matches, AnswerOption::Site.name()) else {
         return Ok(DEFAULT_SITE);
     };
-    site_id_from_text(digits).ok_or(SetupFault::BadOption)
+    site_id_from_text(digits).ok_or(SetupFault::BadOption(AnswerOption::Site))
 }
 
 fn key(matches: Option<&ArgMatches<'_>>) -> Result<u8, SetupFault>
-    ensures { Gives (λ n. n) result (or_default default_setup.key key_of (option_text matches.entry (codes "key"))) }
+    ensures { Gives (λ n. n) result (or_default answer_options.Key default_setup.key key_of (option_text matches.entry (option_name answer_options.Key))) }
 {
-    let Some(digits) = text(matches, "key") else {
+    let Some(digits) = text(matches, AnswerOption::Key.name()) else {
         return Ok(DEFAULT_KEY);
     };
     match number_from_text(digits) {
         Some(number) if number < 256 => Ok(number as u8),
-        _ => Err(SetupFault::BadOption),
+        _ => Err(SetupFault::BadOption(AnswerOption::Key)),
     }
 }
 
 fn secret<A: Allocator>(alloc: A, matches: Option<&ArgMatches<'_>>) -> Result<Bytes<A>, SetupFault>
-    ensures { Gives (λ b. b) result (or_default default_setup.secret secret_text_of (option_text matches.entry (codes "secret"))) }
+    ensures { Gives (λ b. b) result (or_default answer_options.Secret default_setup.secret secret_text_of (option_text matches.entry (option_name answer_options.Secret))) }
 {
-    let Some(digits) = text(matches, "secret") else {
+    let Some(digits) = text(matches, AnswerOption::Secret.name()) else {
         return Ok(Bytes::from_vec(Vec::from_slice(alloc, DEFAULT_SECRET)?));
     };
     match secret_from_text(alloc, digits)? {
         Some(secret) => Ok(secret),
-        None => Err(SetupFault::BadOption),
+        None => Err(SetupFault::BadOption(AnswerOption::Secret)),
     }
 }
 
 fn prefix(matches: Option<&ArgMatches<'_>>) -> Result<Prefix, SetupFault>
-    ensures { Gives (λ p. p) result (or_default default_setup.prefix prefix_of (option_text matches.entry (codes "prefix"))) }
+    ensures { Gives (λ p. p) result (or_default answer_options.Prefix default_setup.prefix prefix_of (option_text matches.entry (option_name answer_options.Prefix))) }
 {
-    let Some(words) = text(matches, "prefix") else {
+    let Some(words) = text(matches, AnswerOption::Prefix.name()) else {
         return Ok(default_prefix());
     };
     match prefix_from_text(words) {
         Some(prefix) => Ok(prefix),
-        None => Err(SetupFault::BadOption),
+        None => Err(SetupFault::BadOption(AnswerOption::Prefix)),
     }
 }

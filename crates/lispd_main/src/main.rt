@@ -1,79 +1,83 @@
-//! The program `lispd`: reads its words, runs the subcommand, and tells a fault on standard error.
+//! The program `lispd`: reads its words, runs the subcommand, and reports a fault on standard error.
 #![tactic(auto)]
 
 use clap::error::ErrorKind as WordsErrorKind;
-use lispd::{SetupFault, answer, command, setup};
-use std::io::{self, ErrorKind};
+use lispd::{AnswerFault, ProgramFault, SetupFault, answer, command, setup};
+use std::io::{self, ErrorKind, IsTerminal};
 use std::process::ExitCode;
 use std::rt::Env;
 
-/// The exit status of a fault of reading, writing or memory.
-const FAILED: u8 = 1;
+/// Out of memory before a subcommand runs.
+const OUT_OF_MEMORY: ProgramFault = ProgramFault::Setup(SetupFault::OutOfMemory);
 
-/// The exit status of a fault of the words.
+/// The exit status for words that `clap` refuses.
 const MISUSED: u8 = 2;
 
-/// The number of want of memory.
-const OUT_OF_MEMORY: u16 = 97;
-
-/// The number of words that can't be read.
-const BAD_WORDS: u16 = 98;
-
 fn main(rt: HostRuntime) -> ExitCode {
-    run(&rt)
+    let is_terminal = rt.stderr().is_terminal();
+    match run(&rt) {
+        Ok(status) => status,
+        Err(fault) => {
+            report(&rt, &fault, is_terminal);
+            ExitCode::from(fault.status())
+        }
+    }
 }
 
-// Collects the words.
-fn run<R: Print + Eprint + Input + Env + AllocGlobal>(rt: &R) -> ExitCode {
+// Collects the words, and runs what they ask for.
+fn run<R: Print + Eprint + Input + Env + AllocGlobal>(rt: &R) -> Result<ExitCode, ProgramFault> {
     let words = match std::env::args(rt) {
         Ok(words) => words,
-        Err(error) if error.kind() == ErrorKind::OutOfMemory => {
-            return failed(rt, OUT_OF_MEMORY, FAILED);
-        }
-        Err(_) => return failed(rt, BAD_WORDS, MISUSED),
+        Err(error) if error.kind() == ErrorKind::OutOfMemory => return Err(OUT_OF_MEMORY),
+        Err(_) => return Err(ProgramFault::Words),
     };
     let words: Result<Vec<String>, _> = words.collect(rt.alloc());
     match words {
         Ok(words) => run_words(rt, words.as_slice()),
-        Err(_) => failed(rt, OUT_OF_MEMORY, FAILED),
+        Err(_) => Err(OUT_OF_MEMORY),
     }
 }
 
-// Reads the words and runs the subcommand.
-fn run_words<R: Print + Eprint + Input + AllocGlobal>(rt: &R, words: &[String]) -> ExitCode {
+fn run_words<R: Print + Eprint + Input + AllocGlobal>(
+    rt: &R,
+    words: &[String],
+) -> Result<ExitCode, ProgramFault> {
     let Ok(command) = command(rt.alloc()) else {
-        return failed(rt, OUT_OF_MEMORY, FAILED);
+        return Err(OUT_OF_MEMORY);
     };
     match command.try_get_matches_from(words) {
-        Ok(matches) => run_answer(rt, matches.subcommand_matches("answer")),
-        Err(error) => {
-            if error.kind() == WordsErrorKind::OutOfMemory {
-                return failed(rt, OUT_OF_MEMORY, FAILED);
-            }
-            let _ = error.print(rt);
-            ExitCode::from(if error.use_stderr() { MISUSED } else { 0 })
+        Ok(matches) => {
+            let setup = setup(rt.alloc(), matches.subcommand_matches("answer"))?;
+            answer(rt.alloc(), &setup, &mut rt.reader(), &mut io::writer(rt))?;
+            Ok(ExitCode::SUCCESS)
         }
+        Err(error) => print_words_error(rt, &error),
     }
 }
 
-// Answers the line on standard input.
-fn run_answer<R: Print + Eprint + Input + AllocGlobal>(
+// Prints the help or the version that was asked for, or why `clap` refuses the words.
+fn print_words_error<R: Print + Eprint>(
     rt: &R,
-    options: Option<&clap::ArgMatches<'_>>,
-) -> ExitCode {
-    let setup = match setup(rt.alloc(), options) {
-        Ok(setup) => setup,
-        Err(SetupFault::BadOption) => return failed(rt, SetupFault::BadOption.number(), MISUSED),
-        Err(fault) => return failed(rt, fault.number(), FAILED),
-    };
-    match answer(rt.alloc(), &setup, &mut rt.reader(), &mut io::writer(rt)) {
-        Ok(()) => ExitCode::SUCCESS,
-        Err(fault) => failed(rt, fault.number(), FAILED),
+    error: &clap::Error,
+) -> Result<ExitCode, ProgramFault> {
+    if error.kind() == WordsErrorKind::OutOfMemory {
+        return Err(OUT_OF_MEMORY);
+    }
+    let printed = error.print(rt);
+    if error.use_stderr() {
+        Ok(ExitCode::from(MISUSED))
+    } else if printed.is_ok() {
+        Ok(ExitCode::SUCCESS)
+    } else {
+        Err(ProgramFault::Answer(AnswerFault::Write))
     }
 }
 
-// Tells the fault, and ends with the status.
-fn failed<R: Eprint + AllocGlobal>(rt: &R, number: u16, status: u8) -> ExitCode {
+// Prints the fault's number; to a terminal also what is wrong, in words.
+fn report<R: Eprint + AllocGlobal>(rt: &R, fault: &ProgramFault, is_terminal: bool) {
+    let number = fault.number();
     let _ = eprintln!(rt; "lispd: fault {number}");
-    ExitCode::from(status)
+    if is_terminal {
+        let _ = eprintln!(rt; "lispd: {fault}");
+    }
 }

@@ -1,0 +1,222 @@
+//! The worked router and its store, run by tables of steps.
+
+use crate::worked::{FIRST, NOTICE, PAIR, SECOND, database, map_notify, start};
+use lisp_etr::{Etr, NotifyFault, Seen, SendFault};
+use lisp_messages::authentic;
+use lisp_records::Addr;
+use lisp_samples::SECRET;
+use lisp_store::{Fate, MemoryStore, NonceStore, WorldStore};
+use std::alloc::Global;
+use std::process::Abort;
+
+/// The last time, in ms, that a router may send at.
+const LAST_TIME: u64 = 4_611_686_018_427_387_904;
+
+/// The bytes before a message's records: its head, and the Authentication Data.
+const FRONT_LEN: usize = 32;
+
+/// One call of the router or of its store, with what comes of it. `to` is the number of a Map-Server, and
+/// `at` a time in ms.
+#[derive(Clone, Copy)]
+pub(crate) enum Step {
+    /// From now on the router registers the worked record with this TTL, or nothing.
+    Changes {
+        ttl: Option<u32>,
+        at: u64,
+    },
+    /// It sends a Map-Register.
+    Sends {
+        to: usize,
+        at: u64,
+    },
+    /// A Map-Register to its first Map-Server is due from now on, not before, and is sent.
+    SendsWhenDue {
+        at: u64,
+    },
+    /// At 0 ms it sends this Map-Register to its first Map-Server.
+    Registers(&'static Datagram),
+    /// At 0 ms it does not send, for this reason.
+    RefusesToSend {
+        to: usize,
+        why: SendFault,
+    },
+    /// A Map-Register to this Map-Server is due from now on, and not before.
+    IsDue {
+        to: usize,
+        at: u64,
+    },
+    /// Its first Map-Server acknowledges a nonce, which is counted.
+    Counts {
+        nonce: u64,
+        at: u64,
+    },
+    /// A nonce from an address is refused, and nothing is counted.
+    Refuses {
+        from: Addr,
+        nonce: u64,
+        why: NotifyFault,
+    },
+    /// It answers a notice of its second Map-Server with this Map-Notify-Ack.
+    AnswersNotice(&'static Datagram),
+    /// The store does this from now on.
+    StoreIsArmed(Fate),
+    /// The store is given this nonce.
+    StoreSaves(u64),
+    /// The store keeps this nonce.
+    StoreKeeps(u64),
+    /// The store crashes, by its pick, and the worked router starts over it at 0 ms.
+    Restarts {
+        pick: u64,
+    },
+}
+
+/// What a datagram is, which is also authentic under the worked secret.
+pub(crate) struct Datagram {
+    pub(crate) len: usize,
+    /// The bytes before its Authentication Data.
+    pub(crate) head: [u8; 16],
+    /// How its records begin.
+    pub(crate) records: &'static [u8],
+    pub(crate) end: &'static [u8],
+}
+
+impl Datagram {
+    fn is_spelt_by(&self, bytes: &[u8]) -> bool {
+        let Some((front, rest)) = bytes.split_at_checked(FRONT_LEN) else {
+            return false;
+        };
+        bytes.len() == self.len
+            && front.starts_with(&self.head)
+            && rest.starts_with(self.records)
+            && rest.ends_with(self.end)
+            && authentic(bytes, SECRET)
+    }
+}
+
+/// What is told by steps, and the steps.
+pub(crate) type Row = (&'static str, &'static [Step]);
+
+/// Runs by the steps of each row the worked router, started at 0 ms over a store that keeps nothing.
+pub(crate) fn run_all(rt: &impl Abort, alloc: Global, rows: &[Row]) {
+    for (name, steps) in rows {
+        run(rt, alloc, name, steps);
+    }
+}
+
+fn run(rt: &impl Abort, alloc: Global, name: &str, steps: &[Step]) {
+    let mut router = Router::start(rt, alloc);
+    for (place, step) in steps.iter().enumerate() {
+        assert_so(rt, router.does(rt, step), name, place);
+    }
+}
+
+fn assert_so(rt: &impl Abort, is_so: bool, name: &str, place: usize) {
+    assert!(rt; is_so, "{name}: step {place}");
+}
+
+/// The worked router and its store.
+#[derive(Drop)]
+struct Router {
+    alloc: Global,
+    etr: Etr,
+    store: MemoryStore,
+}
+
+impl Router {
+    fn start(rt: &impl Abort, alloc: Global) -> Router {
+        let mut store = MemoryStore::new(alloc);
+        let etr = start(rt, alloc, &mut store);
+        Router { alloc, etr, store }
+    }
+
+    /// Whether this comes of a step.
+    fn does(&mut self, rt: &impl Abort, step: &Step) -> bool {
+        match *step {
+            Step::Changes { ttl, at } => self.changes(rt, ttl, at),
+            Step::Sends { to, at } => self.send(to, at).is_ok(),
+            Step::SendsWhenDue { at } => self.sends_when_due(at),
+            Step::Registers(datagram) => self.registers(datagram),
+            Step::RefusesToSend { to, why } => self.send(to, 0).err() == Some(why),
+            Step::IsDue { to, at } => self.is_due(to, at),
+            Step::Counts { nonce, at } => self.counts(rt, nonce, at),
+            Step::Refuses { from, nonce, why } => self.refuses(rt, from, nonce, why),
+            Step::AnswersNotice(datagram) => self.answers_notice(rt, datagram),
+            Step::StoreIsArmed(fate) => self.store_is_armed(fate),
+            Step::StoreSaves(nonce) => self.store.save(&PAIR, nonce).is_ok(),
+            Step::StoreKeeps(nonce) => self.store.load(&PAIR) == Ok(Some(nonce)),
+            Step::Restarts { pick } => self.restarts(rt, pick),
+        }
+    }
+
+    fn changes(&mut self, rt: &impl Abort, ttl: Option<u32>, at: u64) -> bool {
+        self.etr.change(database(rt, self.alloc, ttl), at);
+        true
+    }
+
+    fn send(&mut self, to: usize, at: u64) -> Result<Vec<u8>, SendFault> {
+        self.etr.send(&mut self.store, to, at.min(LAST_TIME))
+    }
+
+    fn sends_when_due(&mut self, at: u64) -> bool {
+        self.is_due(0, at) && self.send(0, at).is_ok()
+    }
+
+    fn registers(&mut self, datagram: &Datagram) -> bool {
+        match self.send(0, 0) {
+            Ok(bytes) => datagram.is_spelt_by(&bytes),
+            Err(_) => false,
+        }
+    }
+
+    fn is_due(&self, to: usize, at: u64) -> bool {
+        let is_due_before = match at.checked_sub(1) {
+            Some(before) => self.etr.due(before) == Some(to),
+            None => false,
+        };
+        self.etr.due(at) == Some(to) && !is_due_before
+    }
+
+    fn counts(&mut self, rt: &impl Abort, nonce: u64, at: u64) -> bool {
+        self.hears(rt, FIRST, nonce, at).is_ok() && self.acked()[0] == Some((1, nonce))
+    }
+
+    fn refuses(&mut self, rt: &impl Abort, from: Addr, nonce: u64, why: NotifyFault) -> bool {
+        let acked = self.acked();
+        self.hears(rt, from, nonce, 0).err() == Some(why) && self.acked() == acked
+    }
+
+    fn answers_notice(&mut self, rt: &impl Abort, datagram: &Datagram) -> bool {
+        match self.hears(rt, SECOND, NOTICE, 0) {
+            Ok(Seen::Notice { answer, .. }) => datagram.is_spelt_by(answer.as_slice()),
+            _ => false,
+        }
+    }
+
+    /// The Key ID and the nonce that each Map-Server acknowledged last.
+    fn acked(&self) -> [Option<(u8, u64)>; 2] {
+        [self.etr.acked(0), self.etr.acked(1)]
+    }
+
+    /// Takes a Map-Notify with this nonce.
+    fn hears(
+        &mut self,
+        rt: &impl Abort,
+        from: Addr,
+        nonce: u64,
+        at: u64,
+    ) -> Result<Seen, NotifyFault> {
+        let bytes = map_notify(rt, self.alloc, nonce);
+        self.etr.receive(from, &bytes, at)
+    }
+
+    fn store_is_armed(&mut self, fate: Fate) -> bool {
+        self.store.arm(fate);
+        true
+    }
+
+    fn restarts(&mut self, rt: &impl Abort, pick: u64) -> bool {
+        self.store.restart(pick);
+        self.etr = start(rt, self.alloc, &mut self.store);
+        true
+    }
+}

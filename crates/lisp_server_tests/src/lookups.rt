@@ -1,0 +1,132 @@
+//! Tests of who answers for an address: the worked rows of RFC 9301 section 8.3.
+
+use crate::map_server::{Who, sites, who_answers};
+use crate::sent::{Eid, WIDE, record, router};
+use lisp_lookup::Table;
+use lisp_records::{Addr, Row};
+use lisp_sites::Sites;
+use std::alloc::{Allocator, Global};
+use std::process::Abort;
+
+/// A row that is held from time 0 on.
+#[derive(Clone, Copy)]
+pub(crate) struct Registered {
+    /// The last byte of the xTR-ID and of the address of its router.
+    router: u8,
+    eid: Eid,
+    ttl: u32,
+    proxy: bool,
+}
+
+/// r1 asks for proxy replies.
+pub(crate) const FIRST_ROW: Registered = Registered {
+    router: 0x0a,
+    eid: WIDE,
+    ttl: 1440,
+    proxy: true,
+};
+
+/// r2 asks for none.
+const SECOND_ROW: Registered = Registered {
+    router: 0x0b,
+    eid: WIDE,
+    ttl: 5,
+    proxy: false,
+};
+
+const SECOND_NARROW_ROW: Registered = Registered {
+    eid: ([10, 1, 2, 0], 24),
+    ..SECOND_ROW
+};
+
+const FIRST_ROW_WITHOUT_PROXY: Registered = Registered {
+    proxy: false,
+    ..FIRST_ROW
+};
+
+/// Where r2 sends from.
+const FROM_SECOND: Addr = Addr::V4([127, 0, 0, 0x0b]);
+
+/// The rows of a table, an address, and who answers for it.
+type Lookup<'a> = (&'a [Registered], [u8; 4], Who);
+
+const LOOKUPS: [Lookup<'static>; 7] = [
+    (&[], [11, 0, 0, 1], Who::NoSite),
+    (&[], [10, 1, 2, 3], Who::NotRegistered),
+    (&[FIRST_ROW], [10, 1, 2, 3], Who::Reply(1440)),
+    // A longer prefix answers though its router asks for no proxy replies; of two alike it does not.
+    (
+        &[FIRST_ROW, SECOND_NARROW_ROW],
+        [10, 1, 2, 3],
+        Who::Forward(FROM_SECOND),
+    ),
+    (&[FIRST_ROW, SECOND_ROW], [10, 1, 3, 1], Who::Reply(1440)),
+    // Of two rows of one time the one of the greater router answers.
+    (
+        &[FIRST_ROW_WITHOUT_PROXY, SECOND_ROW],
+        [10, 1, 3, 1],
+        Who::Forward(FROM_SECOND),
+    ),
+    (
+        &[SECOND_ROW, FIRST_ROW_WITHOUT_PROXY],
+        [10, 1, 3, 1],
+        Who::Forward(FROM_SECOND),
+    ),
+];
+
+#[test]
+fn the_best_row_answers(rt: HostRuntime) {
+    assert_answers(&rt, rt.alloc(), &LOOKUPS);
+}
+
+fn assert_answers(rt: &impl Abort, alloc: Global, lookups: &[Lookup<'_>]) {
+    let sites = sites(rt, alloc);
+    for (place, lookup) in lookups.iter().enumerate() {
+        assert!(rt; answers(rt, alloc, &sites, lookup), "lookup {place}");
+    }
+}
+
+fn answers(rt: &impl Abort, alloc: Global, sites: &Sites, lookup: &Lookup<'_>) -> bool {
+    let (rows, asked, want) = lookup;
+    let table = table_of(rt, alloc, rows);
+    who_answers(&table.answer(sites, &Addr::V4(*asked), 0)) == *want
+}
+
+/// A table of these rows.
+pub(crate) fn table_of<A: Allocator + Copy>(
+    rt: &impl Abort,
+    alloc: A,
+    registered: &[Registered],
+) -> Table<A> {
+    let rows = rows_of(rt, alloc, registered);
+    let mut table = Table::new(alloc);
+    table.prepare(&rows).expect(rt, "no room");
+    table.put_all(rows);
+    table
+}
+
+/// The rows, accepted at time 0, alive for three minutes.
+pub(crate) fn rows_of<A: Allocator + Copy>(
+    rt: &impl Abort,
+    alloc: A,
+    registered: &[Registered],
+) -> Vec<Row<A>, A> {
+    let mut rows = Vec::new(alloc);
+    for one in registered {
+        rows.push(row_of(rt, alloc, one)).expect(rt, "a row");
+    }
+    rows
+}
+
+fn row_of<A: Allocator>(rt: &impl Abort, alloc: A, registered: &Registered) -> Row<A> {
+    Row {
+        router: router(1, registered.router),
+        key: 1,
+        nonce: 1,
+        mapping: record(rt, alloc, registered.eid, registered.ttl),
+        accepted: 0,
+        life: 180_000,
+        proxy: registered.proxy,
+        from: Addr::V4([127, 0, 0, registered.router]),
+    }
+}

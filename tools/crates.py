@@ -1,0 +1,95 @@
+"""Runs of the kit over the crates of crates.txt, side by side."""
+import os
+import shutil
+import subprocess
+import sys
+import tempfile
+import time
+from concurrent.futures import FIRST_COMPLETED, ThreadPoolExecutor, wait
+from contextlib import contextmanager
+
+TOP = os.path.dirname(os.path.dirname(os.path.abspath(__file__)))
+PROGRAM = "lispd_main"
+LOG = "out/build.log"
+
+
+def read_crates():
+    """Each crate of crates.txt with its line there, and with those of its libraries that are the repository's."""
+    with open(f"{TOP}/crates.txt", encoding="utf-8") as file:
+        lines = {it.split(":")[0]: it for it in file if ":" in it and not it.startswith("#")}
+    return lines, {crate: [it for it in line.split()[1:] if it in lines] for crate, line in lines.items()}
+
+
+LINES, BELOW = read_crates()
+
+
+def with_libraries(crates):
+    """These crates and all that they stand on, lowest first."""
+    found = []
+    for crate in crates:
+        found += with_libraries(BELOW[crate]) + [crate]
+    return list(dict.fromkeys(found))
+
+
+def link(file, to):
+    """Links the file there, or copies it where a link can't be."""
+    try:
+        os.link(file, to)
+    except OSError:
+        shutil.copy2(file, to)
+
+
+@contextmanager
+def room(crate):
+    """A checkout of the crate and all that it stands on alone, since two runs of the kit in one checkout wait for each
+    other."""
+    with tempfile.TemporaryDirectory(prefix=f"{crate}-") as top:
+        os.mkdir(f"{top}/.git")
+        shutil.copy(f"{TOP}/HANDLES", top)
+        crates = with_libraries([crate])
+        with open(f"{top}/crates.txt", "w", encoding="utf-8") as file:
+            file.writelines(LINES[it] for it in crates)
+        for it in crates:
+            unneeded = ["must-fail"] if it == crate else ["must-fail", "incremental"]
+            shutil.copytree(f"{TOP}/crates/{it}", f"{top}/crates/{it}", copy_function=link,
+                            ignore=shutil.ignore_patterns(*unneeded))
+        yield top
+
+
+def run_kit(words, folder):
+    """Runs rt with these words; its status and what it printed."""
+    ran = subprocess.run(["rt", *words], cwd=folder, stdin=subprocess.DEVNULL, stdout=subprocess.PIPE,
+                         stderr=subprocess.STDOUT, text=True, check=False)
+    return ran.returncode, ran.stdout
+
+
+def prove(crate):
+    """Proves and builds the crate, over libraries that are built; whether it is proved, and what the kit printed."""
+    with room(crate) as top:
+        folder, kept = f"{top}/crates/{crate}", f"{TOP}/crates/{crate}/out"
+        status, printed = run_kit(["run" if crate == PROGRAM else "lib"], folder)
+        if status == 0:
+            shutil.rmtree(kept, ignore_errors=True)
+            shutil.move(f"{folder}/out", kept)
+    return status == 0, printed
+
+
+def build(crates):
+    """Proves and builds these crates, each once those below it are, and prints a line for each. What the kit prints goes
+    to the log. Ends the program at the first that is not proved."""
+    start, done, left, running = time.monotonic(), set(), list(crates), {}
+    print(f"proving {len(crates)} crates; what the kit prints goes to {LOG}", flush=True)
+    os.makedirs(f"{TOP}/out", exist_ok=True)
+    with open(f"{TOP}/{LOG}", "w", encoding="utf-8") as log, ThreadPoolExecutor(os.cpu_count()) as pool:
+        while left or running:
+            for crate in [it for it in left if done.issuperset(BELOW[it])]:
+                left.remove(crate)
+                running[pool.submit(prove, crate)] = crate
+            for ended in wait(running, return_when=FIRST_COMPLETED).done:
+                crate, (is_proved, printed) = running.pop(ended), ended.result()
+                log.write(f"== {crate}\n{printed}")
+                log.flush()
+                if not is_proved:
+                    sys.exit(f"{crate} is not proved: see {LOG}")
+                done.add(crate)
+                print(f"{len(done)} of {len(crates)}: {crate}, {time.monotonic() - start:.0f} s", flush=True)
