@@ -1,4 +1,4 @@
--- What a router is told (RFC 9301 section 8.2).
+-- The configuration of a router (RFC 9301 section 8.2).
 use Rattle.std.specs.Prelude.{ℕ, Bool, List}
 use Rattle.lisp_records.specs.declared.address.Addr.{Addr}
 use Rattle.lisp_records.specs.declared.router.RouterId.{RouterId}

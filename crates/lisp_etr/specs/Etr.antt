@@ -5,7 +5,7 @@ use Rattle.lisp_etr.specs.Config.{Settings}
 use Rattle.lisp_etr.specs.declared.round.Round.{Round}
 use Rattle.lisp_etr.specs.Round.{started}
 
--- what it was told; what it registers; its last nonce; what the last save that was done has saved, 0
+-- its configuration; what it registers; its last nonce; what the last save that was done has saved, 0
 -- before; and how it stands with each of its Map-Servers
 pub record EtrState : Type 0 where
   pub config : Settings
@@ -14,6 +14,6 @@ pub record EtrState : Type 0 where
   pub safe : ℕ
   pub rounds : List Round
 
--- a router that starts at a moment, with its last nonce
+-- a router that starts at a time, with its last nonce
 abbrev pub etr_started : Settings → List Mapping → ℕ → ℕ → EtrState
 etr_started config database last now = record { config = config; database = database; last = last; safe = 0; rounds = replicate (length config.servers) (started now) }

@@ -27,7 +27,7 @@ notify_fault_number notifies.BadAuth = 46
 notify_fault_number (notifies.Stale _) = 47
 notify_fault_number notifies.OutOfMemory = 48
 
--- the refusal of a message that can't be read; want of memory says nothing of the message
+-- the refusal of a message that can't be read; out of memory says nothing of the message
 abbrev pub fault_of_read : ReadFault → NotifyFault
 fault_of_read reads.OutOfMemory = notifies.OutOfMemory
 fault_of_read fault = notifies.Read fault

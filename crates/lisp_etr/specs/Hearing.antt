@@ -21,7 +21,7 @@ abbrev pub ◌>>=◌ : {A B : Type 0} → Result A NotifyFault → (A → Result
 (Ok x) >>= f = f x
 (Err e) >>= f = Err e
 
--- a result, seen by view, is what is expected, save for want of memory, which may come in place of it
+-- a result, seen by view, is what is expected, except that out of memory may come in its place
 abbrev pub Gives : {X Y : Type 0} → (X → Y) → Result X NotifyFault → Result Y NotifyFault → Type 0
 Gives view (Ok x) expected = expected ≡ Ok (view x)
 Gives view (Err OutOfMemory) expected = Unit {0}

@@ -27,7 +27,7 @@ abbrev pub IsRenewal : ℕ → List ℕ → Type 0
 IsRenewal renewal [] = Unit {0}
 IsRenewal renewal (last ∷ before) = renewal ≡ last + minute
 
--- the timer is that of a round with this beginning and the sends at these moments, the last one first
+-- the timer is that of a round with this beginning and the sends at these times, the last one first
 pub record Keeps (r : Round) (begin : ℕ) (moments : List ℕ) : Type 0 where
   pub due : r.due ≡ due_after begin moments
   pub sends : r.sends ≡ min (length moments) 6

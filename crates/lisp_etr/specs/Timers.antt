@@ -6,7 +6,7 @@ use Rattle.lisp_records.specs.Moment.{second, minute}
 abbrev pub gap : ℕ → ℕ
 gap k = min (2 ^ k * second) minute
 
--- when the next send of a round is due, by the moments of its sends, the last one first: at its
+-- when the next send of a round is due, by the times of its sends, the last one first: at its
 -- beginning the first, and a gap after the last each other
 unfoldable pub due_after : ℕ → List ℕ → ℕ
 due_after begin [] = begin

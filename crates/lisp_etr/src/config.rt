@@ -1,4 +1,4 @@
-//! What a router is told.
+//! The configuration of a router.
 
 ghost use Rattle.std.specs.Prelude.{◌≡◌};
 ghost use Rattle.lisp_etr.specs.Config.{sent_pair};
@@ -9,7 +9,7 @@ use lisp_store::{Pair, PairKind};
 use std::alloc::{Allocator, Global};
 use std::marker::Model;
 
-/// What a router is told before it starts.
+/// The configuration of a router, given before it starts.
 #[derive(Debug, Drop)]
 pub struct EtrConfig<A: Allocator = Global> {
     /// Its site and xTR-ID.

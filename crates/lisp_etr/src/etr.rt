@@ -25,11 +25,11 @@ use crate::notify_fault::NotifyFault;
 use crate::round::{Round, begin_all};
 use crate::seen::Seen;
 use crate::send_fault::SendFault;
-use crate::sending::{LAST_NONCE, datagram};
+use crate::sending::datagram;
 use crate::start_fault::{StartFault, StartRefused};
 use lisp_messages::MapNotify;
 use lisp_records::{Addr, Bytes, Database};
-use lisp_store::NonceStore;
+use lisp_store::{FIRST_NOTICE_NONCE, LAST_ROUTER_NONCE, NonceStore};
 use std::alloc::{Allocator, Global};
 use std::marker::Model;
 
@@ -57,7 +57,7 @@ impl<A: Allocator> Model for Etr<A> {
 }
 
 impl<A: Allocator + Copy> Etr<A> {
-    /// A router that starts at a moment, in ms: its last nonce is the one that the store keeps, 0 where
+    /// A router that starts at a time, in ms: its last nonce is the one that the store keeps, 0 where
     /// it keeps none, and all its Map-Servers are due. What it makes lies in memory of `alloc`. It
     /// refuses in this order, and gives back what it was given: `OutOfMemory`, `Store`.
     pub fn start<S: NonceStore>(
@@ -101,7 +101,7 @@ impl<A: Allocator + Copy> Etr<A> {
         (self.config, self.database)
     }
 
-    /// Registers this database from a moment on, in ms: all its Map-Servers are due. Takes no memory.
+    /// Registers this database from a time on, in ms: all its Map-Servers are due. Takes no memory.
     pub fn change(&mut self, database: Database<A>, now: u64)
         ensures { self.new ≡ record self.old { database = database; rounds = map (begun now) self.old.rounds } }
     {
@@ -109,7 +109,7 @@ impl<A: Allocator + Copy> Etr<A> {
         begin_all(&mut self.rounds, now);
     }
 
-    /// The least number, from 0 on, of a Map-Server that is due at a moment, in ms; `None` where none is. Takes
+    /// The least number, from 0 on, of a Map-Server that is due at a time, in ms; `None` where none is. Takes
     /// no memory.
     pub fn due(&self, now: u64) -> Option<usize>
         ensures { result ≡ position (λ round. nat_le round.due now) self.now.rounds }
@@ -117,7 +117,7 @@ impl<A: Allocator + Copy> Etr<A> {
         self.rounds.iter().position(|round| round.due <= now)
     }
 
-    /// A Map-Register to a Map-Server, by its number, at a moment, in ms, of at most 2^62: of the present
+    /// A Map-Register to a Map-Server, by its number, at a time, in ms, of at most 2^62: of the present
     /// database, under the nonce after the last, which is saved before (RFC 9301 sections 5.6 and 8.2).
     ///
     /// It refuses in this order: `NoServer`, `NonceSpent` (the last nonce is 2^63 - 1 or more),
@@ -155,7 +155,7 @@ impl<A: Allocator + Copy> Etr<A> {
         if server >= self.rounds.len() {
             return Err(SendFault::NoServer);
         }
-        if self.last >= LAST_NONCE {
+        if self.last >= LAST_ROUTER_NONCE {
             return Err(SendFault::NonceSpent);
         }
         let nonce = self.last + 1;
@@ -169,7 +169,7 @@ impl<A: Allocator + Copy> Etr<A> {
         Ok(datagram)
     }
 
-    /// Takes a message that came from an address at a moment, in ms, which isn't used: a new round counts from
+    /// Takes a message that came from an address at a time, in ms, which isn't used: a new round counts from
     /// the send that is acknowledged. It answers `Counted`, or `Notice` with the Map-Notify-Ack to send (RFC
     /// 9301 sections 5.7 and 8.2).
     ///
@@ -187,7 +187,7 @@ impl<A: Allocator + Copy> Etr<A> {
         ensures early { (fault : ReadFault) → kind_at bytes.now ≡ Err fault → result ≡ Err (fault_of_read fault) }
     {
         let (server, notify) = hear(self.alloc, &self.config, from, bytes)?;
-        if notify.nonce > LAST_NONCE {
+        if notify.nonce >= FIRST_NOTICE_NONCE {
             return self.notice(server, notify);
         }
         self.count(server, notify.nonce)

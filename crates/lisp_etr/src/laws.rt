@@ -9,7 +9,7 @@ pub fn prompt_sends()
     ensures { PromptSends }
 {}
 
-/// What a router keeps of a round is when it is due, by the moments of the round's sends.
+/// What a router keeps of a round is when it is due, by the times of the round's sends.
 pub fn rounds_keep_time()
     ensures { KeepsTime }
 {}

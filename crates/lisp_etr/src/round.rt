@@ -11,7 +11,7 @@ const MINUTE: u64 = 60_000;
 /// From so many sends on a round's gaps are the same.
 const MOST_SENDS: u8 = 6;
 
-/// How a router stands with one of its Map-Servers. Moments are in ms.
+/// How a router stands with one of its Map-Servers. Times are in ms.
 #[derive(Clone, Copy, Debug, Drop)]
 pub(crate) struct Round {
     /// When the next Map-Register is due.
@@ -27,7 +27,7 @@ pub(crate) struct Round {
 }
 
 impl Round {
-    /// A router that starts at a moment, and hasn't sent.
+    /// A router that starts at this time, and hasn't sent.
     pub(crate) const fn start(now: u64) -> Round
         ensures { result ≡ started now }
     {
@@ -48,7 +48,7 @@ impl Round {
         self.sends = 0;
     }
 
-    /// A Map-Register goes out under a nonce, at a moment, in ms, of at most 2^62.
+    /// A Map-Register goes out under a nonce, at a time, in ms, of at most 2^62.
     pub(crate) fn send(&mut self, nonce: u64, now: u64)
         requires { now ≤ max_moment }
         ensures { self.new ≡ sent nonce now self.old }

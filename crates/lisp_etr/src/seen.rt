@@ -13,7 +13,7 @@ pub enum Seen<A: Allocator = Global> {
         /// The nonce of that Map-Register.
         nonce: u64,
     },
-    /// A Map-Server tells unasked what it holds.
+    /// A Map-Server reports unasked what it holds.
     Notice {
         /// The number of the Map-Server.
         server: usize,

@@ -9,9 +9,6 @@ use lisp_messages::{MapRegister, write_register};
 use lisp_records::Database;
 use std::alloc::{AllocError, Allocator};
 
-/// The last nonce of a router; those from 2^63 on are a Map-Server's own.
-pub(crate) const LAST_NONCE: u64 = 0x7fff_ffff_ffff_ffff;
-
 /// The bytes of the Map-Register of a database under a nonce (RFC 9301 section 5.6).
 pub(crate) fn datagram<A: Allocator + Copy>(
     alloc: A,

@@ -12,7 +12,7 @@ use thiserror::Error;
 /// What keeps a router from starting; `OutOfMemory` comes first.
 #[derive(Clone, Copy, Debug, PartialEq, Eq, Error)]
 pub enum StartFault {
-    /// The store can't tell the last nonce.
+    /// The store can't report the last nonce.
     #[error("the last nonce can't be loaded: {0}")]
     Store(StoreFault),
     /// No memory; the store wasn't asked.

@@ -41,7 +41,7 @@ IsBestOf rows addr now (Some h) = IsBest rows addr now h
 IsBestOf rows addr now None = NoneAnswers rows addr now
 
 -- the best row replies where its router asked for proxy replies, and else the request goes to the source
--- of its Map-Register; where none may answer, it is told whether a site has the address
+-- of its Map-Register; if none may answer, whether a site has the address
 abbrev pub Answers : {A : Type 0} → List Holding → List SiteEntry → Addr → ℕ → Answer A → Type 0
 Answers rows sites addr now (Reply record_of) = (h : Holding) × IsBest rows addr now h × (h.proxy ≡ true) × (record_of.now ≡ h.mapping)
 Answers rows sites addr now (Forward to) = (h : Holding) × IsBest rows addr now h × (h.proxy ≡ false) × (to ≡ h.from)

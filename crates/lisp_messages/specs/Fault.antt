@@ -15,7 +15,7 @@ fault_number NoIds = 13
 fault_number Trailing = 14
 fault_number (Record _ _) = 15
 
--- a record's fault, with its place among the records; want of memory has none
+-- a record's fault, with its place among the records; out of memory has none
 abbrev pub fault_at : ℕ → RecordFault → ReadFault
 fault_at i records.OutOfMemory = OutOfMemory
 fault_at i f = Record i f

@@ -15,7 +15,7 @@ abbrev pub ◌>>=◌ : {A B : Type 0} → Result A ReadFault → (A → Result B
 (Ok x) >>= f = f x
 (Err e) >>= f = Err e
 
--- a fault is the one that reading meets, save for want of memory, which may come at any time
+-- a fault is the one that reading meets, except that out of memory may come at any time
 abbrev pub Fails : {Y : Type 0} → ReadFault → Result Y ReadFault → Type 0
 Fails faults.OutOfMemory read = Unit {0}
 Fails faults.Short read = read ≡ Err faults.Short
@@ -89,14 +89,14 @@ registration_of bytes records xtr site = record {
 abbrev pub notification_of : Bool → List ℕ → List Mapping → Notification
 notification_of ack bytes records = record { ack = ack; nonce = nonce_of bytes; key_id = slice_index bytes 12; records = records }
 
--- what stands behind the records of a Map-Register
+-- what stands after the records of a Map-Register
 unfoldable pub register_at : List ℕ → List Mapping → List ℕ → Result Said ReadFault
 register_at bytes records tail = do
   _ ← require faults.NoIds (is_set (slice_index bytes 0) 2)
   ids ← ids_at tail
   Ok (Registers (registration_of bytes records ids.0 ids.1))
 
--- what stands behind the records of the other two: nothing, or 24 bytes that are ignored
+-- what stands after the records of the other two: nothing, or 24 bytes that are ignored
 unfoldable pub notify_at : Bool → List ℕ → List Mapping → List ℕ → Result Said ReadFault
 notify_at ack bytes records tail = do
   _ ← require faults.Trailing (length tail == 0 || length tail == 24)

@@ -17,7 +17,7 @@ SpellsRecords bytes (r ∷ rs) = (first : List ℕ) × (others : List ℕ) × (b
 abbrev pub common : ℕ → ℕ → ℕ → List ℕ → List ℕ
 common count nonce key_id auth = count ∷ to_be_bytes w64 nonce ++ key_id ∷ 2 ∷ to_be_bytes w16 16 ++ auth
 
--- a Map-Register: type 3, bit I set, and behind the records xTR-ID and Site-ID
+-- a Map-Register: type 3, bit I set, and after the records xTR-ID and Site-ID
 pub record SpellsRegister (bytes : List ℕ) (m : Registration) : Type 0 where
   pub kind : ℕ
   pub reserved : ℕ
@@ -44,7 +44,7 @@ abbrev pub notify_type : Bool → ℕ
 notify_type false = 4
 notify_type true = 5
 
--- a Map-Notify or Map-Notify-Ack: behind the records nothing, or any 24 bytes
+-- a Map-Notify or Map-Notify-Ack: after the records nothing, or any 24 bytes
 pub record SpellsNotify (bytes : List ℕ) (m : Notification) : Type 0 where
   pub kind : ℕ
   pub reserved : ℕ

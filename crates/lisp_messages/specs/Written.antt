@@ -1,5 +1,5 @@
 -- The written spelling of a message, as a function of its Authentication Data: each other free bit
--- is 0, and nothing stands behind the records of a Map-Notify.
+-- is 0, and nothing stands after the records of a Map-Notify.
 use Rattle.std.specs.Prelude.{ℕ, ◌+◌, ◌*◌, List, ◌∷◌, ◌++◌, length}
 use Rattle.std.specs.List.{flat_map}
 use Rattle.std.specs.Int.{w64, to_be_bytes}

@@ -29,7 +29,7 @@ pub enum ReadFault {
     /// A Map-Register with bit I clear: it has no xTR-ID and Site-ID.
     #[error("the Map-Register has no xTR-ID and Site-ID")]
     NoIds,
-    /// Bytes behind the end of the message.
+    /// Bytes after the end of the message.
     #[error("bytes stand behind the message")]
     Trailing,
     /// The first record that can't be read, by its place from 0 on, and what is wrong with it;

@@ -17,7 +17,7 @@ use std::alloc::{AllocError, Allocator, Global};
 use std::marker::Model;
 
 /// A Map-Notify, type 4, or a Map-Notify-Ack, type 5 (RFC 9301 section 5.7), with at most 255
-/// records. Its bytes are those of a Map-Register, without flags and with nothing behind the
+/// records. Its bytes are those of a Map-Register, without flags and with nothing after the
 /// records; 24 bytes there are ignored.
 #[derive(Debug, Drop)]
 pub struct MapNotify<A: Allocator = Global> {
@@ -43,7 +43,7 @@ impl<A: Allocator> Model for MapNotify<A> {
 }
 
 /// The Map-Notify, or Map-Notify-Ack, of these bytes and records; `Trailing` where neither nothing
-/// nor 24 bytes stand behind the records.
+/// nor 24 bytes stand after the records.
 #[tactic(auto, unfolding(crate::specs::Reading::notify_at))]
 pub(crate) fn read_notify<A: Allocator>(
     ack: bool,
@@ -67,7 +67,7 @@ pub(crate) fn read_notify<A: Allocator>(
 }
 
 /// The written spelling of a Map-Notify or Map-Notify-Ack, authentic under the secret: all reserved
-/// bits 0, and nothing behind the records. It lies in memory of `alloc`; want of memory is the only
+/// bits 0, and nothing after the records. It lies in memory of `alloc`; out of memory is the only
 /// refusal.
 pub fn write_notify<A: Allocator, B: Allocator>(
     alloc: A,

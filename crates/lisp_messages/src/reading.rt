@@ -25,7 +25,7 @@ pub(crate) const HEAD_LEN: usize = 32;
 /// bits are ignored. The faults come in this order: `Short` (no 16 bytes), `Kind` (type other than
 /// 3, 4 and 5), `Algorithm` (other than 2), `AuthLength` (other than 16), `Short` (no 32 bytes),
 /// `Record` for the first record that can't be read; then for a Map-Register `NoIds` (bit I is
-/// clear), `Short` or `Trailing` (other than 24 bytes behind the records), for the other two
+/// clear), `Short` or `Trailing` (other than 24 bytes after the records), for the other two
 /// `Trailing` (other than 0 or 24 bytes there, which are ignored). `OutOfMemory` may come in place
 /// of any answer past the first record.
 pub fn read_message<A: Allocator + Copy>(alloc: A, bytes: &[u8]) -> Result<Message<A>, ReadFault>
@@ -82,7 +82,7 @@ fn read_kind(bytes: &[u8]) -> Result<Kind, ReadFault>
     Ok(kind)
 }
 
-// The records behind the first 32 bytes, and the bytes after them.
+// The records after the first 32 bytes, and the bytes after them.
 fn read_records<A: Allocator + Copy>(
     alloc: A,
     bytes: &[u8],

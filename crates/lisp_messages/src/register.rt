@@ -2,7 +2,6 @@
 
 ghost use Rattle.std.specs.Prelude.{◌≡◌, ◌^◌, ◌<◌, ◌≤◌, [], ◌∷◌, ◌++◌, length, replicate, IfOk, OnOk};
 ghost use Rattle.std.specs.Int.{w64, to_be_bytes};
-ghost use Rattle.lisp_records.specs.Reading.{is_set};
 ghost use Rattle.lisp_messages.specs.Message.{Registers, IsRegistration};
 ghost use Rattle.lisp_messages.specs.Spelling.{Spells};
 ghost use Rattle.lisp_messages.specs.Authentic.{IsAuthentic, signed};
@@ -14,18 +13,18 @@ use crate::fault::ReadFault;
 use crate::kind::Kind;
 use crate::reading::read_nonce;
 use crate::writing::{common_head, put_records};
-use lisp_records::{MapRecord, Records};
+use lisp_records::{MapRecord, Records, is_set};
 use std::alloc::{AllocError, Allocator, Global};
 use std::marker::Model;
 
-// The bits of the first byte.
+// The flags in the first byte.
 const PROXY: u8 = 0x08;
 
 const SEC: u8 = 0x04;
 
 const IDS: u8 = 0x02;
 
-// The bits of the third byte.
+// The flags in the third byte.
 const EID_NOTIFY: u8 = 0x10;
 
 const USE_TTL: u8 = 0x08;
@@ -85,7 +84,7 @@ impl<A: Allocator> Model for MapRegister<A> {
 }
 
 /// The written spelling of a Map-Register, authentic under the secret: bit I set, all reserved bits
-/// 0. It lies in memory of `alloc`; want of memory is the only refusal.
+/// 0. It lies in memory of `alloc`; out of memory is the only refusal.
 pub fn write_register<A: Allocator, B: Allocator>(
     alloc: A,
     message: &MapRegister<B>,
@@ -165,7 +164,7 @@ fn put_ids<A: Allocator>(out: &mut Vec<u8, A>, xtr: [u8; 16], site: u64) -> Resu
     Ok(())
 }
 
-/// The Map-Register of these bytes and records, by what stands behind the records: `NoIds`, then
+/// The Map-Register of these bytes and records, by what stands after the records: `NoIds`, then
 /// `Short` or `Trailing`.
 #[tactic(auto, unfolding(crate::specs::Reading::register_at))]
 pub(crate) fn read_register<A: Allocator>(
@@ -194,13 +193,6 @@ pub(crate) fn read_register<A: Allocator>(
         xtr,
         site,
     })
-}
-
-fn is_set(flags: u8, bit: u8) -> bool
-    requires { 0 < bit }
-    ensures { result ≡ is_set flags bit }
-{
-    flags / bit % 2 == 1
 }
 
 // xTR-ID and Site-ID, which end the message.

@@ -1,4 +1,4 @@
--- Moments, in ms. A caller gives none that is later than the latest.
+-- Times, in ms. A caller gives none that is later than the latest.
 use Rattle.std.specs.Prelude.{ℕ, ◌*◌, ◌^◌}
 
 abbrev pub max_moment : ℕ

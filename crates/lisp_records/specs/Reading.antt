@@ -16,7 +16,7 @@ abbrev pub ◌>>=◌ : {A B : Type 0} → Result A RecordFault → (A → Result
 (Ok x) >>= f = f x
 (Err e) >>= f = Err e
 
--- a fault is the one that reading meets, save for want of memory, which may come at any time
+-- a fault is the one that reading meets, except that out of memory may come at any time
 abbrev pub Fails : {Y : Type 0} → RecordFault → Result Y RecordFault → Type 0
 Fails OutOfMemory read = Unit {0}
 Fails Short read = read ≡ Err Short

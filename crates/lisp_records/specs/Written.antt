@@ -7,7 +7,7 @@ use Rattle.lisp_records.specs.declared.locator.Locator.{Locator}
 use Rattle.lisp_records.specs.Address.{afi, family, octets}
 use Rattle.lisp_records.specs.Record.{Mapping, bit}
 
--- an address behind its AFI
+-- an AFI, and its address
 abbrev pub written_address : Addr → List ℕ
 written_address a = to_be_bytes w16 (afi (family a)) ++ octets a
 

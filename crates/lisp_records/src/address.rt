@@ -79,7 +79,8 @@ impl Addr {
 
     /// The bytes of the address: 4 or 16, in network order.
     pub fn octets(&self) -> &[u8]
-        ensures { result.now ≡ octets self.now }
+        ensures octets { result.now ≡ octets self.now }
+        ensures whole { IsWhole self.now }
     {
         match self {
             Addr::V4(bytes) => bytes,
@@ -89,7 +90,8 @@ impl Addr {
 
     /// The address with all but its first `mask_len` bits cleared.
     pub(crate) fn cleared(self, mask_len: u8) -> Addr
-        ensures { result ≡ cleared self mask_len }
+        ensures cleared { result ≡ cleared self mask_len }
+        ensures whole { IsWhole result }
     {
         match self {
             Addr::V4(mut bytes) => {
@@ -102,15 +104,6 @@ impl Addr {
             }
         }
     }
-
-    // The type's own promise, for callers' proofs: an address has its family's bytes.
-    pub(crate) fn whole(self)
-        ensures { IsWhole self }
-    {
-        match self {
-            Addr::V4(_) | Addr::V6(_) => {}
-        }
-    }
 }
 
 /// The address of a family at the front of the bytes, and the bytes after it; `Short` where they
@@ -119,6 +112,7 @@ impl Addr {
 pub(crate) fn read_address(expected: Family, bytes: &[u8]) -> Result<(Addr, &[u8]), RecordFault>
     ensures read { Reads (λ x. (x.0, x.1.now)) result (address_at expected bytes.now) }
     ensures family { IfOk result (λ x. family x.0 ≡ expected) }
+    ensures whole { IfOk result (λ x. IsWhole x.0) }
 {
     match expected {
         Family::Ipv4 => {
@@ -157,7 +151,7 @@ fn first_bits(byte: u8, count: u8) -> u8
     ((u16::from(byte) >> dropped) << dropped) as u8
 }
 
-/// Appends an address behind its AFI. Want of memory may leave a part of it.
+/// Appends an AFI and its address. Out of memory, it may leave a part of them.
 #[tactic(auto, using(crate::proofs::Grown::steps))]
 pub(crate) fn put_address<A: Allocator>(out: &mut Vec<u8, A>, addr: &Addr) -> Result<(), AllocError>
     ensures ok { OnOk result (out.new.items ≡ out.old.items ++ written_address addr.now) }

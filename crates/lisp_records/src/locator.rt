@@ -1,6 +1,7 @@
 //! Locators: where the addresses of a prefix are reached.
 
-ghost use Rattle.std.specs.Prelude.{◌≡◌, ◌+◌, ◌*◌, ◌++◌, ◌∷◌, [], ◌<◌, ◌≤◌, length, OnOk, OnErr};
+ghost use Rattle.std.specs.Prelude.{◌≡◌, ◌+◌, ◌*◌, ◌++◌, ◌∷◌, [], ◌<◌, ◌≤◌, length, IfOk, OnOk, OnErr};
+ghost use Rattle.lisp_records.specs.Address.{IsWhole};
 ghost use Rattle.lisp_records.specs.Grown.{Grew};
 ghost use Rattle.lisp_records.specs.Record.{bit};
 ghost use Rattle.lisp_records.specs.Written.{written_address, written_locator};
@@ -8,7 +9,15 @@ ghost use Rattle.lisp_records.specs.Reading.{Reads, family_of, locator_at, locat
 
 use crate::address::{Addr, Family, put_address, read_address};
 use crate::fault::RecordFault;
+use crate::flags::is_set;
 use std::alloc::{AllocError, Allocator};
+
+// The flags, byte 5.
+const LOCAL: u8 = 0x04;
+
+const PROBE: u8 = 0x02;
+
+const REACHABLE: u8 = 0x01;
 
 /// One locator of a record (RFC 9301 section 5.4):
 ///
@@ -44,8 +53,7 @@ impl Locator {
         ensures len { result ≡ length (written_locator self.now) }
         ensures small { result ≤ 24 }
     {
-        self.addr.whole();
-        8 + self.addr.family().width() as usize
+        8 + self.addr.octets().len()
     }
 }
 
@@ -53,7 +61,8 @@ impl Locator {
 /// `Short` (no 8 bytes), `Afi`, `Short` (no whole address).
 #[tactic(auto, unfolding(crate::specs::Reading::locator_at))]
 pub(crate) fn read_locator(bytes: &[u8]) -> Result<(Locator, &[u8]), RecordFault>
-    ensures { Reads (λ x. (x.0, x.1.now)) result (locator_at bytes.now) }
+    ensures read { Reads (λ x. (x.0, x.1.now)) result (locator_at bytes.now) }
+    ensures whole { IfOk result (λ x. IsWhole x.0.addr) }
 {
     let [
         priority,
@@ -76,15 +85,15 @@ pub(crate) fn read_locator(bytes: &[u8]) -> Result<(Locator, &[u8]), RecordFault
         weight: *weight,
         m_priority: *m_priority,
         m_weight: *m_weight,
-        local: *flags / 4 % 2 == 1,
-        probe: *flags / 2 % 2 == 1,
-        reachable: *flags % 2 == 1,
+        local: is_set(*flags, LOCAL),
+        probe: is_set(*flags, PROBE),
+        reachable: is_set(*flags, REACHABLE),
         addr,
     };
     Ok((locator, rest))
 }
 
-/// Appends the written spelling of a locator. Want of memory may leave a part of it.
+/// Appends the written spelling of a locator. Out of memory, it may leave a part of it.
 #[tactic(auto, using(crate::proofs::Grown::steps))]
 pub(crate) fn put_locator<A: Allocator>(
     out: &mut Vec<u8, A>,
@@ -93,9 +102,9 @@ pub(crate) fn put_locator<A: Allocator>(
     ensures ok { OnOk result (out.new.items ≡ out.old.items ++ written_locator locator.now) }
     ensures err { OnErr result (Grew out.old.items out.new.items) }
 {
-    let flags = u8::from(locator.local) * 4
-        + u8::from(locator.probe) * 2
-        + u8::from(locator.reachable);
+    let flags = u8::from(locator.local) * LOCAL
+        + u8::from(locator.probe) * PROBE
+        + u8::from(locator.reachable) * REACHABLE;
     out.extend_from_slice(&[
         locator.priority,
         locator.weight,

@@ -15,13 +15,14 @@ pub struct Prefix {
 }
 
 impl Model for Prefix {
-    ghost use Rattle.lisp_records.specs.Address.{Block, IsBlock};
+    ghost use Rattle.std.specs.Prelude.{◌≡◌};
+    ghost use Rattle.lisp_records.specs.Address.{Block, IsBlock, IsWhole};
 
     ghost Value = { Block };
 
     ghost view = { λ p. record { addr = p.addr; mask_len = p.mask_len } };
 
-    ghost invariant = { λ p. IsBlock (record { addr = p.addr; mask_len = p.mask_len }) };
+    ghost invariant = { λ p. IsWhole p.addr × IsBlock (record { addr = p.addr; mask_len = p.mask_len }) };
 
     ghost inverse = { λ b. record { addr = b.addr; mask_len = b.mask_len } };
 }
@@ -56,7 +57,6 @@ impl Prefix {
         ensures whole { IsWhole self.now.addr }
         ensures block { IsBlock self.now }
     {
-        self.addr.whole();
         self.addr
     }
 

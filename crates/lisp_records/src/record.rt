@@ -11,6 +11,7 @@ ghost use Rattle.lisp_records.specs.declared.fault.RecordFault.{RecordFault};
 
 use crate::address::{Addr, Family, put_address, read_address};
 use crate::fault::RecordFault;
+use crate::flags::is_set;
 use crate::locator::{Locator, put_locator, read_locator};
 use crate::prefix::Prefix;
 use std::alloc::{AllocError, Allocator, Global};
@@ -18,6 +19,11 @@ use std::marker::Model;
 
 /// The most locators of one record: their count is one byte.
 pub const MAX_LOCATORS: usize = 255;
+
+// The flags, byte 6: the lowest bit of ACT, and A.
+const ACT: u8 = 0x20;
+
+const AUTHORITATIVE: u8 = 0x10;
 
 /// One mapping record (RFC 9301 section 5.4):
 ///
@@ -38,14 +44,15 @@ pub struct MapRecord<A: Allocator = Global> {
 }
 
 impl<A: Allocator> Model for MapRecord<A> {
-    ghost use Rattle.std.specs.Prelude.{◌<◌, length};
+    ghost use Rattle.std.specs.Prelude.{◌^◌, ◌<◌, length, All};
+    ghost use Rattle.lisp_records.specs.Address.{IsWhole};
     ghost use Rattle.lisp_records.specs.Record.{Mapping};
 
     ghost Value = { Mapping };
 
     ghost view = { λ r. record { ttl = r.ttl; act = r.act; authoritative = r.authoritative; version = r.version; eid = r.eid; locators = r.locators.items } };
 
-    ghost invariant = { λ r. (r.act < 8) × (r.version < 4096) × (length r.locators.items < 256) };
+    ghost invariant = { λ r. (r.ttl < 2 ^ 32) × (r.act < 8) × (r.version < 4096) × (length r.locators.items < 256) × All (λ l. IsWhole l.addr) r.locators.items };
 }
 
 impl<A: Allocator> MapRecord<A> {
@@ -68,6 +75,7 @@ impl<A: Allocator> MapRecord<A> {
         if act > 7 || version > 4095 || locators.len() > MAX_LOCATORS {
             return None;
         }
+        each_whole(&locators);
         Some(MapRecord {
             ttl,
             act,
@@ -115,6 +123,16 @@ impl<A: Allocator> MapRecord<A> {
         self.eid
     }
 
+    // The first address of the EID-Prefix.
+    fn eid_addr(&self) -> Addr
+        ensures addr { result ≡ self.now.eid.addr }
+
+        // What the types promise of every record.
+        ensures known { IsMapping self.now }
+    {
+        self.eid.addr()
+    }
+
     /// The locators, in the record's order; at most 255.
     pub fn locators(&self) -> &[Locator]
         ensures value { result.now ≡ self.now.locators }
@@ -149,22 +167,14 @@ impl<A: Allocator> MapRecord<A> {
         }
         len
     }
-
-    // What the types promise of every record, for the proof of what is written.
-    fn known(&self)
-        ensures { IsMapping self.now }
-    {
-        let _ttl = self.ttl;
-        self.eid.addr().whole();
-        known_locators(&self.locators);
-    }
 }
 
-fn known_locators(locators: &[Locator])
+// Each address has its family's bytes: the types promise it, but a proof learns it only by this walk.
+fn each_whole(locators: &[Locator])
     ensures { All (λ l. IsWhole l.addr) locators.now }
 {
     for locator in locators {
-        locator.addr.whole();
+        let _ = locator.addr.octets();
     }
 }
 
@@ -242,8 +252,8 @@ fn read_front<A: Allocator>(alloc: A, bytes: &[u8]) -> Result<(MapRecord<A>, &[u
     let (locators, rest) = read_locators(alloc, *count, rest)?;
     let record = MapRecord {
         ttl: u32::from_be_bytes([*ttl_0, *ttl_1, *ttl_2, *ttl_3]),
-        act: *flags >> 5,
-        authoritative: *flags / 16 % 2 == 1,
+        act: *flags / ACT,
+        authoritative: is_set(*flags, AUTHORITATIVE),
         version: u16::from_be_bytes([*version_high & 0x0f, *version_low]),
         eid: Prefix::masked(addr, *mask_len),
         locators,
@@ -270,6 +280,7 @@ fn read_locators<A: Allocator>(
 ) -> Result<(Vec<Locator, A>, &[u8]), RecordFault>
     ensures locators { Gives (λ x. (x.0.items, x.1.now)) result (locators_at count bytes.now) }
     ensures count { IfOk result (λ x. length x.0.items ≡ count) }
+    ensures whole { IfOk result (λ x. All (λ l. IsWhole l.addr) x.0.items) }
 {
     let mut locators = Vec::new(alloc);
     let mut rest = bytes;
@@ -281,7 +292,7 @@ fn read_locators<A: Allocator>(
     Ok((locators, rest))
 }
 
-/// Appends the written spelling of a record: all reserved bits 0. Want of memory leaves `out` as
+/// Appends the written spelling of a record: all reserved bits 0. Out of memory, it leaves `out` as
 /// it was.
 #[tactic(auto, using(crate::proofs::Grown::steps))]
 pub fn write_record<A: Allocator, B: Allocator>(
@@ -294,7 +305,6 @@ pub fn write_record<A: Allocator, B: Allocator>(
     // Every record of the program has a spelling, so that what is written is read again.
     ensures known { IsMapping entry.now }
 {
-    entry.known();
     let start = out.len();
     if let Err(full) = put_record(out, entry) {
         out.truncate(start);
@@ -303,7 +313,7 @@ pub fn write_record<A: Allocator, B: Allocator>(
     Ok(())
 }
 
-// As `write_record`, but want of memory may leave a part of the record.
+// As `write_record`, but out of memory it may leave a part of the record.
 #[tactic(auto, using(crate::proofs::Grown::steps))]
 fn put_record<A: Allocator, B: Allocator>(
     out: &mut Vec<u8, B>,
@@ -311,9 +321,11 @@ fn put_record<A: Allocator, B: Allocator>(
 ) -> Result<(), AllocError>
     ensures ok { OnOk result (out.new.items ≡ out.old.items ++ written entry.now) }
     ensures err { OnErr result (Grew out.old.items out.new.items) }
+    ensures known { IsMapping entry.now }
 {
+    let eid = entry.eid_addr();
     put_head(out, entry)?;
-    put_address(out, &entry.eid().addr())?;
+    put_address(out, &eid)?;
     put_locators(out, entry.locators())?;
     Ok(())
 }
@@ -339,7 +351,7 @@ fn counts_and_flags<A: Allocator>(entry: &MapRecord<A>) -> [u8; 6]
     [
         entry.locators().len() as u8,
         entry.eid().mask_len(),
-        entry.act() << 5 | u8::from(entry.authoritative()) << 4,
+        entry.act() * ACT + u8::from(entry.authoritative()) * AUTHORITATIVE,
         0,
         version_high,
         version_low,

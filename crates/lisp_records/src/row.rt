@@ -9,6 +9,9 @@ use crate::router::RouterId;
 use std::alloc::{AllocError, Allocator, Global};
 use std::marker::Model;
 
+/// The last time that a caller gives, in ms: times are at most 2^62 ms.
+pub const MAX_MOMENT: u64 = 1 << 62;
+
 /// What a Map-Server holds for a router and an EID-Prefix: the record that the router registered
 /// (RFC 9301 section 8.2).
 #[derive(Debug, Drop)]
@@ -21,7 +24,7 @@ pub struct Row<A: Allocator = Global> {
     pub nonce: u64,
     /// The record.
     pub mapping: MapRecord<A>,
-    /// The moment that the Map-Register was accepted at, in ms.
+    /// When the Map-Register was accepted, in ms.
     pub accepted: u64,
     /// How long the record lives from then on, in ms.
     pub life: u64,
@@ -40,8 +43,8 @@ impl<A: Allocator> Model for Row<A> {
 }
 
 impl<A: Allocator> Row<A> {
-    /// Whether the record lives at a moment, in ms: its age is below its life. Before the moment that
-    /// it was accepted at its age is 0.
+    /// Whether the record lives at a time, in ms: its age is below its life. Before the time at which
+    /// it was accepted, its age is 0.
     pub fn alive(&self, now: u64) -> bool
         ensures alive { IsTrue result ↔ IsAlive self.now now }
         ensures test { result ≡ is_alive self.now now }

@@ -20,13 +20,13 @@ use Rattle.lisp_lookup.proofs.TableLaws.{found_holds, has_key, some_inj}
 use Rattle.lisp_server.specs.declared.contacts.Contact.{Contact}
 use Rattle.lisp_server.specs.declared.refused.Refused.{Refused}
 use Rattle.lisp_server.specs.declared.refused.Refused.TheVariants as refusals
-use Rattle.lisp_server.specs.declared.registration.Origin.{Origin}
+use Rattle.lisp_server.specs.declared.accepted_rows.Origin.{Origin}
 use Rattle.lisp_server.specs.declared.tables.Tables.{Tables}
 use Rattle.lisp_server.specs.declared.took.Took.{Took}
 use Rattle.lisp_server.specs.Checks.{Passed, secret_under, register_checked, check, refused_at, first_not_allowed, ◌>>=◌}
 use Rattle.lisp_server.specs.Contacts.{SetsContact, secret_at, IsHeard, Knows}
 use Rattle.lisp_server.specs.Receiving.{Accepts, contact_of}
-use Rattle.lisp_server.specs.Registration.{router_of, origin_of, holding, holdings}
+use Rattle.lisp_server.specs.AcceptedRows.{router_of, origin_of, holding, holdings}
 use Rattle.lisp_server.specs.Server.{SameTables, state_of}
 
 -- no row, no router

@@ -2,5 +2,5 @@ pub mod NonceLaws
 pub mod ContactLaws
 pub mod NoticeLaws
 pub mod KnownLaws
-pub mod AnnouncingLaws
+pub mod SendNoticeLaws
 pub mod ReceivingLaws

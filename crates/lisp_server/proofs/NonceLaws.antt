@@ -10,8 +10,8 @@ use Rattle.std.specs.Cmp.{Equal-is}
 use Rattle.lisp_store.proofs.Pairs.{pair_total, same_pair}
 use Rattle.lisp_store.specs.declared.pair.Pair.{Pair}
 use Rattle.lisp_store.specs.Pair.{pair_cmp}
-use Rattle.lisp_server.specs.declared.nonces.LastNonce.{LastNonce}
-use Rattle.lisp_server.specs.Nonces.{nonce_at, nonces_of, is_of, SetsNonce}
+use Rattle.lisp_server.specs.declared.last_nonces.LastNonce.{LastNonce}
+use Rattle.lisp_server.specs.LastNonces.{nonce_at, nonces_of, is_of, SetsNonce}
 use Rattle.lisp_lookup.proofs.Found.{nowhere, at_place, put_set, put_push, has_own, has_no_other}
 
 find_in_map : (q : Pair) (es : List LastNonce) → map_find pair_cmp q (map (λ e. (e.pair, e.nonce)) es) ≡ option_map (λ e. e.nonce) (find (is_of q) es)

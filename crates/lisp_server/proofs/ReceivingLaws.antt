@@ -19,9 +19,9 @@ use Rattle.lisp_server.specs.declared.tables.Tables.{Tables}
 use Rattle.lisp_server.specs.declared.took.Took.{Took}
 use Rattle.lisp_server.specs.declared.took.Took.TheVariants.{Accepted, NoticeDone}
 use Rattle.lisp_server.specs.Refused.{refused_of_read}
-use Rattle.lisp_server.specs.Registration.{router_of, pair_of, holdings}
+use Rattle.lisp_server.specs.AcceptedRows.{router_of, pair_of, holdings}
 use Rattle.lisp_lookup.specs.Table.{Sets}
-use Rattle.lisp_server.specs.Nonces.{Nonces, nonce_at, SetsNonce}
+use Rattle.lisp_server.specs.LastNonces.{Nonces, nonce_at, SetsNonce}
 use Rattle.lisp_server.specs.Contacts.{SetsContact}
 use Rattle.lisp_server.specs.Notices.{Standing, without}
 use Rattle.lisp_server.specs.Server.{ServerState, SameTables, state_of}

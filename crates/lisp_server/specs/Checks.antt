@@ -50,7 +50,7 @@ abbrev pub signed_by : Option (List ℕ) → List ℕ → Bool
 signed_by None bytes = false
 signed_by (Some secret) bytes = is_authentic bytes secret
 
--- the bytes are authentic under the secret of the notice's site and key
+-- the bytes are authentic under the secret of the site and key of an unsolicited Map-Notify (notice)
 abbrev pub answers_under : List SiteEntry → List ℕ → Standing → Bool
 answers_under sites bytes n = signed_by (secret_at sites n.router.site n.key) bytes
 

@@ -1,11 +1,11 @@
 pub mod Refused
 pub mod Took
-pub mod Registration
-pub mod Nonces
+pub mod AcceptedRows
+pub mod LastNonces
 pub mod Contacts
 pub mod Notices
 pub mod NoticeFault
 pub mod Server
 pub mod Checks
 pub mod Receiving
-pub mod Announcing
+pub mod SendNotice

@@ -1,4 +1,4 @@
--- Why a Map-Server doesn't send a notice: the numbers.
+-- Why a Map-Server doesn't send an unsolicited Map-Notify (notice): the numbers.
 use Rattle.std.specs.Prelude.{ℕ}
 use Rattle.lisp_server.specs.declared.notice_fault.NoticeFault.{NoticeFault}
 use Rattle.lisp_server.specs.declared.notice_fault.NoticeFault.TheVariants.{NotRegistered, TooLarge, StoreLoad, NonceSpent, OutOfMemory, StoreSave, NotDue}

@@ -1,5 +1,5 @@
--- Notices: what a Map-Server tells a router unasked, by a Map-Notify that it repeats, up to six times, until
--- it is acknowledged (RFC 9301 sections 5.7 and 8.2).
+-- Notices: the unsolicited Map-Notifies of a Map-Server, each of which it sends again, up to six times, until it
+-- is acknowledged (RFC 9301 sections 5.7 and 8.2).
 use Rattle.std.specs.Prelude.{◌≡◌, ◌≢◌, ℕ, ◌+◌, ◌*◌, ◌^◌, max, nat_le, ◌==◌, Bool, true, false, not, ◌&&◌, List, [], ◌∷◌, ◌++◌, length, replicate, slice_get, slice_set, position, Option, Some, None, if◌then◌else◌}
 use Rattle.std.specs.Ordering.{is_lt}
 use Rattle.std.specs.List.{Contains, filter}
@@ -28,12 +28,12 @@ nonce_after last = max (2 ^ 63) (number last + 1)
 abbrev pub gaps : List ℕ
 gaps = 3 * second ∷ 3 * second ∷ 3 * second ∷ 6 * second ∷ 12 * second ∷ 24 * second ∷ []
 
--- when a notice is due, by the moments of its sendings, the last one first; after the seventh never
+-- when a notice is due, by the times at which it was sent, the last one first; after the seventh never
 unfoldable pub due_after : List ℕ → Option ℕ
 due_after [] = None
 due_after (last ∷ before) = option_map (λ gap. last + gap) (slice_get gaps (length before))
 
--- it was sent first at that moment, and then each time when it was due
+-- it was sent first at that time, and then again each time when it was due
 unfoldable pub IsPrompt : ℕ → List ℕ → Type 0
 IsPrompt first [] = ⊥
 IsPrompt first (last ∷ []) = last ≡ first
@@ -74,7 +74,7 @@ is_due now n = has_come now (due_at n)
 abbrev pub resent : ℕ → Standing → Standing
 resent now n = record n { resends = n.resends + 1; last = now }
 
--- what is kept of a notice is that it was sent at these moments, the last one first
+-- what is kept of a notice is that it was sent at these times, the last one first
 pub record Keeps (n : Standing) (last : ℕ) (before : List ℕ) : Type 0 where
   pub last_is : n.last ≡ last
   pub times : n.resends ≡ length before

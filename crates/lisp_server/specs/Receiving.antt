@@ -15,9 +15,9 @@ use Rattle.lisp_server.specs.declared.refused.Refused.TheVariants.{Read, StoreLo
 use Rattle.lisp_server.specs.declared.took.Took.{Took}
 use Rattle.lisp_server.specs.declared.took.Took.TheVariants.{Accepted, NoticeDone}
 use Rattle.lisp_server.specs.declared.contacts.Contact.{Contact}
-use Rattle.lisp_server.specs.Registration.{router_of, pair_of, holdings}
+use Rattle.lisp_server.specs.AcceptedRows.{router_of, pair_of, holdings}
 use Rattle.lisp_lookup.specs.Table.{Sets}
-use Rattle.lisp_server.specs.Nonces.{nonce_at, SetsNonce}
+use Rattle.lisp_server.specs.LastNonces.{nonce_at, SetsNonce}
 use Rattle.lisp_server.specs.Contacts.{SetsContact}
 use Rattle.lisp_server.specs.Notices.{Standing, without}
 use Rattle.lisp_server.specs.Server.{ServerState}
@@ -46,15 +46,15 @@ KeepsLists before after = IsTrue before.is_honest → after.kept ≡ before.kept
 abbrev pub Unasked : Option ℕ → StoreState → StoreState → Type 0
 Unasked last before after = IfSome last (λ _. after ≡ before)
 
--- a fault other than want of memory comes only where a device failed in between
+-- a fault other than out of memory comes only where a device failed in between
 abbrev pub HasCause : StoreFault → StoreState → StoreState → Type 0
 HasCause fault before after = fault ≢ faults.OutOfMemory → Rose before after
 
--- the pair's base can't be told, or memory ran out in that
+-- the pair's base is not in memory, and can't be loaded: a device failed, or memory ran out, which changes nothing
 abbrev pub Unknown : Option ℕ → StoreState → StoreState → StoreFault → Type 0
 Unknown last before after fault = (last ≡ None) × HasCause fault before after × (fault ≡ faults.OutOfMemory → after ≡ before)
 
--- why a nonce is not let through: its base can't be told, or is not below it
+-- why a nonce is not let through: its base can't be loaded, or is not below it
 abbrev pub Stops : Option ℕ → StoreState → StoreState → Pair → ℕ → Refused → Type 0
 Stops last before after pair nonce (StoreLoad fault) = Unknown last before after fault
 Stops last before after pair nonce (Replay saved) = IsBase last before pair (Some saved) × (nonce ≤ saved)
@@ -87,7 +87,7 @@ pub record Accepts {A : Type 0} (check : Result Passed Refused) (old new : Serve
   pub kept : IsTrue before.is_honest → kept_at after.kept (pair_of passed.message) ≡ Some passed.message.nonce ∷ []
   pub others : IsTrue before.is_honest → SameElsewhere before.kept after.kept (pair_of passed.message)
 
--- a Map-Notify-Ack ended a notice, and changed nothing else
+-- a Map-Notify-Ack ended an unsolicited Map-Notify (notice), and changed nothing else
 pub record Ends (check : Result Standing Refused) (old new : ServerState) (before after : StoreState) (router : RouterId) (nonce : ℕ) : Type 0 where
   pub notice : Standing
   pub checks : check ≡ Ok notice
@@ -102,7 +102,7 @@ Takes {A = A} (Ok (Registers m)) from bytes old new before after now (Accepted r
 Takes (Ok (Notifies m)) from bytes old new before after now (NoticeDone router nonce) = Ends (notice_ended old.sites old.notices from bytes m) old new before after router nonce
 Takes _ from bytes old new before after now _ = ⊥
 
--- the store could not tell the pair's base; where memory ran out in that it is untouched
+-- the pair's base can't be loaded from the store, which is unchanged if memory ran out in that
 pub record LoadFailed (check : Result Passed Refused) (old : ServerState) (before after : StoreState) (fault : StoreFault) : Type 0 where
   pub passed : Passed
   pub checks : check ≡ Ok passed

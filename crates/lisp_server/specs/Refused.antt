@@ -19,7 +19,7 @@ refused_number (StoreSave _) = 59
 refused_number NoNotice = 60
 refused_number NotMine = 61
 
--- the refusal of a message that can't be read; want of memory says nothing of the message
+-- the refusal of a message that can't be read; out of memory says nothing of the message
 abbrev pub refused_of_read : ReadFault → Refused
 refused_of_read reads.OutOfMemory = OutOfMemory
 refused_of_read fault = Read fault

@@ -4,11 +4,11 @@ use Rattle.lisp_records.specs.Row.{Holding}
 use Rattle.lisp_sites.specs.Site.{SiteEntry}
 use Rattle.lisp_server.specs.declared.contacts.Contact.{Contact}
 use Rattle.lisp_server.specs.declared.tables.Tables.{Tables}
-use Rattle.lisp_server.specs.Nonces.{Nonces}
+use Rattle.lisp_server.specs.LastNonces.{Nonces}
 use Rattle.lisp_server.specs.Notices.{Standing}
 
 -- its sites; the rows that it holds, dead ones too; the last nonce of each pair, where each router was
--- heard last, and the notices that stand, all since the start
+-- heard last, and the unsolicited Map-Notifies (notices) that stand, all since the start
 pub record ServerState : Type 0 where
   pub sites : List SiteEntry
   pub rows : List Holding

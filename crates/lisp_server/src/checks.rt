@@ -1,7 +1,9 @@
-//! What is checked of a Map-Register before its nonce is looked at.
+//! What is checked of a message before any nonce is looked at, and the secrets that it is checked under.
 
 ghost use Rattle.std.specs.Prelude.{◌≡◌};
+ghost use Rattle.std.specs.Option.{option_map};
 ghost use Rattle.lisp_server.specs.Checks.{Reads, first_not_allowed, secret_under};
+ghost use Rattle.lisp_server.specs.Contacts.{secret_at};
 
 use crate::refused::Refused;
 use lisp_messages::{MapRegister, authentic};
@@ -9,7 +11,7 @@ use lisp_records::MapRecord;
 use lisp_sites::{Site, Sites};
 use std::alloc::Allocator;
 
-/// The secret that a Map-Register stands under, or the first check that it fails: `UnknownSite`,
+/// The secret that a Map-Register is authentic under, or the first check that it fails: `UnknownSite`,
 /// `UnknownKey`, `BadAuth`, `MergeAsked`, `NotAllowed`.
 #[tactic(auto, unfolding(crate::specs::Checks::secret_under))]
 pub(crate) fn secret_under<'s, A: Allocator, B: Allocator>(
@@ -43,4 +45,11 @@ fn first_not_allowed<A: Allocator, B: Allocator>(
     records
         .iter()
         .position(|record| !site.allows(&record.eid()))
+}
+
+/// The secret of a key of a site.
+pub(crate) fn secret_at<A: Allocator>(sites: &Sites<A>, site: u64, key: u8) -> Option<&[u8]>
+    ensures { option_map (λ s. s.now) result ≡ secret_at sites.now site key }
+{
+    sites.site(site)?.secret(key)
 }

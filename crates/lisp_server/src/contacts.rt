@@ -32,7 +32,7 @@ impl<A: Allocator> Model for Contacts<A> {
 }
 
 impl<A: Allocator> Contacts<A> {
-    /// No contacts; takes no memory.
+    /// No contacts. Takes no memory.
     pub(crate) fn new(alloc: A) -> Contacts<A>
         ensures { result.contacts ≡ [] }
     {
@@ -41,7 +41,7 @@ impl<A: Allocator> Contacts<A> {
         }
     }
 
-    /// The contact of a router, where it was heard.
+    /// The contact of a router; `None` where it wasn't heard.
     #[tactic(auto, using(crate::proofs::ContactLaws::contact_nowhere, crate::proofs::ContactLaws::contact_found))]
     pub(crate) fn get(&self, router: &RouterId) -> Option<Contact>
         ensures { result ≡ contact_at self.now.contacts router.now }
@@ -57,7 +57,7 @@ impl<A: Allocator> Contacts<A> {
         self.items.reserve(1)
     }
 
-    /// Sets the contact of its router; takes no memory.
+    /// Sets the contact of its router. Takes no memory.
     #[tactic(auto, using(crate::proofs::ContactLaws::contact_set, crate::proofs::ContactLaws::contact_pushed))]
     pub(crate) fn set(&mut self, contact: Contact)
         requires { 0 < self.old.spare }

@@ -1,22 +1,24 @@
-//! The Map-Server (RFC 9301 section 8.2): it takes Map-Registers, refuses in order those that it may not
-//! accept, holds the records of the others for as long as they live, and answers with Map-Notifies.
+//! The Map-Server (RFC 9301 section 8.2): it receives Map-Registers, refuses in order those that it may
+//! not accept, holds the records of the others for as long as they live, and answers with Map-Notifies.
+//! It also sends unsolicited Map-Notifies (notices), each again until it is acknowledged, up to seven times.
 #![tactic(auto)]
 
-mod acknowledging;
-mod announcing;
+mod accepted_rows;
+mod arrival;
 mod checks;
 mod contacts;
+mod last_nonces;
 pub mod laws;
-mod nonces;
-mod notice;
 mod notice_fault;
-mod notices;
+mod receive_ack;
+mod receive_register;
 mod refused;
-mod registering;
-mod registration;
-mod secrets;
+mod reply;
+mod saved_nonces;
+mod send_notice;
 mod server;
-mod stored;
+mod standing_notice;
+mod standing_notices;
 mod tables;
 mod took;
 

@@ -1,4 +1,4 @@
-//! Why a Map-Server doesn't send a notice.
+//! Why a Map-Server doesn't send an unsolicited Map-Notify (notice).
 
 ghost use Rattle.std.specs.Prelude.{◌≡◌};
 ghost use Rattle.lisp_server.specs.NoticeFault.{notice_fault_number};
@@ -8,8 +8,8 @@ use lisp_store::StoreFault;
 use std::alloc::{AllocError, AllocFailed};
 use thiserror::Error;
 
-/// The first thing that keeps a Map-Server from sending a notice, in this order; `NotDue` comes alone
-/// before `OutOfMemory`.
+/// The first thing that keeps a Map-Server from sending a notice, in this order; where one is sent again,
+/// `NotDue`, then `OutOfMemory`.
 #[derive(Clone, Copy, Debug, PartialEq, Eq, Error)]
 pub enum NoticeFault {
     /// No record of the router is alive.
@@ -18,19 +18,19 @@ pub enum NoticeFault {
     /// The router's records are too many, or too long, for one message.
     #[error("the router's records are too many, or too long, for one message")]
     TooLarge,
-    /// The store can't tell the last nonce of the notices.
+    /// The last nonce of the notices can't be loaded from the store.
     #[error("the last nonce of the notices can't be loaded: {0}")]
     StoreLoad(StoreFault),
     /// The last nonce of the notices is 2^64 - 1: the Map-Server can send no more of them.
     #[error("the nonces of the notices are spent")]
     NonceSpent,
-    /// No memory to build the Map-Notify or to keep it.
+    /// Out of memory to build the Map-Notify, to keep it or to copy it.
     #[error("out of memory")]
     OutOfMemory,
     /// The nonce can't be saved: at `Device` it is open whether it was.
     #[error("the nonce can't be saved: {0}")]
     StoreSave(StoreFault),
-    /// No notice of the router is due.
+    /// No notice to the router is due.
     #[error("no notice is due")]
     NotDue,
 }

@@ -15,7 +15,7 @@ pub enum Refused {
     /// The bytes spell no message.
     #[error("the message can't be read: {0}")]
     Read(ReadFault),
-    /// A Map-Notify, which is for routers.
+    /// A Map-Notify: those are for routers.
     #[error("a Map-Notify is for a router")]
     NotMine,
     /// A Site-ID that isn't configured.
@@ -24,7 +24,8 @@ pub enum Refused {
     /// A Key ID that the site has no secret for.
     #[error("the key is unknown")]
     UnknownKey,
-    /// Authentication Data that isn't the tag under the secret.
+    /// Authentication Data that isn't the tag of the message under that secret; for a Map-Notify-Ack, under the
+    /// secret of the unsolicited Map-Notify (notice) that it is for.
     #[error("the Authentication Data is wrong")]
     BadAuth,
     /// Bit a: merging isn't served.
@@ -33,7 +34,7 @@ pub enum Refused {
     /// The place, from 0 on, of the first record whose prefix the site may not register.
     #[error("record {0} is not allowed")]
     NotAllowed(usize),
-    /// The store can't tell the last nonce of the router under that key.
+    /// The last nonce of the router under that key can't be loaded from the store.
     #[error("the last nonce can't be loaded: {0}")]
     StoreLoad(StoreFault),
     /// The nonce isn't above the last one of the router under that key.
@@ -42,13 +43,13 @@ pub enum Refused {
         /// That last nonce.
         saved: u64,
     },
-    /// No memory to read the message, to hold its records or to build the Map-Notify.
+    /// Out of memory to read the message, to hold its records or to build the Map-Notify.
     #[error("out of memory")]
     OutOfMemory,
     /// The nonce can't be saved: at `Device` it is open whether it was.
     #[error("the nonce can't be saved: {0}")]
     StoreSave(StoreFault),
-    /// A Map-Notify-Ack for which no notice stands.
+    /// A Map-Notify-Ack that no notice waits for: none that went to its source address has its key and nonce.
     #[error("no notice stands")]
     NoNotice,
 }

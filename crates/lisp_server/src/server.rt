@@ -1,6 +1,6 @@
 //! The Map-Server.
 
-ghost use Rattle.std.specs.Prelude.{◌≡◌, ◌≢◌, ◌≤◌, [], ◌∷◌, Some, Ok, Err, IfOk, IfErr, OnOk, OnErr, IsTrue};
+ghost use Rattle.std.specs.Prelude.{◌≡◌, ◌≤◌, [], Err, IfOk, IfErr, OnErr};
 ghost use Rattle.std.specs.FinMap.{empty};
 ghost use Rattle.lisp_store.specs.Store.{Proceeds};
 ghost use Rattle.lisp_messages.specs.Reading.{kind_at, message_at};
@@ -8,21 +8,22 @@ ghost use Rattle.lisp_messages.specs.declared.fault.ReadFault.{ReadFault};
 ghost use Rattle.lisp_lookup.specs.Table.{OneEach, Expires, IsHeld};
 ghost use Rattle.lisp_lookup.specs.Answer.{Answers};
 ghost use Rattle.lisp_records.specs.Moment.{max_moment};
-ghost use Rattle.lisp_server.specs.Announcing.{Announces, RefusesNotice};
-ghost use Rattle.lisp_server.specs.Nonces.{nonce_at};
+ghost use Rattle.lisp_server.specs.SendNotice.{Announces, RefusesNotice};
+ghost use Rattle.lisp_server.specs.LastNonces.{nonce_at};
 ghost use Rattle.lisp_server.specs.Notices.{IsDueRouter, Resends, RefusesResend};
 ghost use Rattle.lisp_server.specs.Receiving.{Takes, Refuses};
 ghost use Rattle.lisp_server.specs.Refused.{refused_of_read};
 ghost use Rattle.lisp_server.specs.declared.refused.Refused.{Refused};
 
-use crate::acknowledging::acknowledge;
-use crate::announcing::announce;
+use crate::arrival::Arrival;
 use crate::contacts::Contacts;
-use crate::nonces::LastNonces;
+use crate::last_nonces::LastNonces;
 use crate::notice_fault::NoticeFault;
-use crate::notices::Notices;
+use crate::receive_ack::receive_ack;
+use crate::receive_register::receive_register;
 use crate::refused::Refused;
-use crate::registering::{Arrival, register};
+use crate::send_notice::send_notice;
+use crate::standing_notices::StandingNotices;
 use crate::tables::Tables;
 use crate::took::Took;
 use lisp_lookup::{Answer, Table};
@@ -33,7 +34,8 @@ use lisp_store::{NonceStore, Pair};
 use std::alloc::{AllocError, Allocator, Global};
 use std::marker::Model;
 
-/// A Map-Server: its sites, and what it learnt of their routers since its start.
+/// A Map-Server: its sites, what it learnt of their routers since its start, and the unsolicited Map-Notifies
+/// (notices) that it sent them and that are not yet acknowledged.
 #[derive(Debug, Drop)]
 pub struct Server<A: Allocator = Global> {
     alloc: A,
@@ -43,7 +45,7 @@ pub struct Server<A: Allocator = Global> {
 
 impl<A: Allocator> Model for Server<A> {
     ghost use Rattle.std.specs.Coded.{codes};
-    ghost use Rattle.lisp_server.specs.Nonces.{nonces_code};
+    ghost use Rattle.lisp_server.specs.LastNonces.{nonces_code};
     ghost use Rattle.lisp_server.specs.Contacts.{Knows};
     ghost use Rattle.lisp_server.specs.Server.{ServerState, state_of};
 
@@ -57,8 +59,8 @@ impl<A: Allocator> Model for Server<A> {
 }
 
 impl<A: Allocator + Copy> Server<A> {
-    /// A Map-Server of these sites that holds nothing; what it learns lies in memory of `alloc`. Takes
-    /// no memory.
+    /// A Map-Server of these sites that holds nothing; what it learns lies in memory of `alloc`. Takes no
+    /// memory.
     pub fn start(alloc: A, sites: Sites<A>) -> Server<A>
         ensures { result ≡ record { sites = sites; rows = []; nonces = empty; contacts = []; notices = [] } }
     {
@@ -69,28 +71,33 @@ impl<A: Allocator + Copy> Server<A> {
                 rows: Table::new(alloc),
                 nonces: LastNonces::new(alloc),
                 contacts: Contacts::new(alloc),
-                notices: Notices::new(alloc),
+                notices: StandingNotices::new(alloc),
             },
         }
     }
 
-    /// Its sites again; rows and nonces in memory are gone. Takes no memory.
+    /// Its sites again; rows, nonces and notices in memory are gone. Takes no memory.
     pub fn stop(self) -> Sites<A>
         ensures { result ≡ self.sites }
     {
         self.sites
     }
 
-    /// Takes a message that came from an address at a moment, in ms.
+    /// Receives a message that came from an address at a time, in ms. It refuses bytes that are no message
+    /// (`Read`) and a Map-Notify (`NotMine`). A refusal changes nothing here.
     ///
-    /// It refuses in this order: `Read` (the bytes spell no message); `NotMine` (a Map-Notify) and
-    /// `NoNotice` (a Map-Notify-Ack); for a Map-Register `UnknownSite`, `UnknownKey`, `BadAuth`,
-    /// `MergeAsked`, `NotAllowed` (the first record whose prefix its site doesn't allow), `StoreLoad`
-    /// (only where the last nonce isn't in memory), `Replay` (the nonce isn't above the last one),
-    /// `OutOfMemory` (also in reading) and `StoreSave`. A refusal changes nothing here.
+    /// A Map-Register is refused in this order: `UnknownSite`, `UnknownKey`, `BadAuth`, `MergeAsked`,
+    /// `NotAllowed` (the first record whose prefix its site doesn't allow), `StoreLoad` (only where the last
+    /// nonce isn't in memory), `Replay` (the nonce isn't above the last one), `OutOfMemory`, `StoreSave`. An
+    /// accepted one sets the row of each prefix that it names, of several records for one prefix the last,
+    /// and no other row; its nonce was saved before (RFC 9301 sections 5.6 and 8.2).
     ///
-    /// An accepted Map-Register sets the row of each prefix that it names, of several records for one
-    /// prefix the last, and no other row; its nonce was saved before (RFC 9301 sections 5.6 and 8.2).
+    /// A Map-Notify-Ack is refused in this order: `NoNotice` (no notice that went to this address and stands has
+    /// its key and nonce), `BadAuth` (it isn't authentic under the secret of the notice's site and key). Else it
+    /// ends the notice, which is not sent again, and the answer is `NoticeDone` (RFC 9301 section 5.7). The
+    /// store isn't used.
+    ///
+    /// In reading, `OutOfMemory` may come in place of any answer but a fault of the bytes before the records.
     pub fn receive<S: NonceStore>(
         &mut self,
         store: &mut S,
@@ -104,7 +111,6 @@ impl<A: Allocator + Copy> Server<A> {
         // Refused: why, and what is left of the store.
         ensures refused { IfErr result (λ why. Refuses (message_at bytes.now) from bytes.now self.old (S.seen store.old) (S.seen store.new) why) }
 
-        // A refusal changes nothing here.
         ensures err { OnErr result (self.new ≡ self.old) }
         ensures proceeds { Proceeds (S.seen store.old) (S.seen store.new) }
 
@@ -112,7 +118,7 @@ impl<A: Allocator + Copy> Server<A> {
         ensures early { (fault : ReadFault) → kind_at bytes.now ≡ Err fault → result ≡ Err (refused_of_read fault) }
     {
         match read_message(self.alloc, bytes) {
-            Ok(Message::Register(message)) => register(
+            Ok(Message::Register(message)) => receive_register(
                 self.alloc,
                 &self.sites,
                 &mut self.tables,
@@ -120,7 +126,7 @@ impl<A: Allocator + Copy> Server<A> {
                 Arrival { from, bytes, now },
                 message,
             ),
-            Ok(Message::Notify(notify)) => acknowledge(
+            Ok(Message::Notify(notify)) => receive_ack(
                 &self.sites,
                 &mut self.tables.notices,
                 Arrival { from, bytes, now },
@@ -130,15 +136,16 @@ impl<A: Allocator + Copy> Server<A> {
         }
     }
 
-    /// Tells a router unasked what is held of it: a Map-Notify of its live records, by prefix, under the key
-    /// and to the source address of its last accepted Map-Register, at a moment, in ms, of at most 2^62. Its
+    /// Sends a router a notice of what is held of it, at a time, in ms, of at most 2^62: a Map-Notify of its
+    /// live records, by prefix, under the key and to the source address of its last accepted Map-Register. Its
     /// nonce is the greater of 2^63 and one more than the last one of the notices, and is saved before. The
     /// notice stands, in place of an earlier one to that router, until it is acknowledged (RFC 9301 sections
-    /// 5.7 and 8.2). It gives the address and the datagram.
+    /// 5.7 and 8.2). The answer is the address and the datagram.
     ///
-    /// It refuses in this order: `NotRegistered` (no record of the router is alive), `TooLarge` (they make no
-    /// Database), `StoreLoad` (only where the last nonce isn't in memory), `NonceSpent` (it is 2^64 - 1),
-    /// `OutOfMemory`, `StoreSave`; the first two take no memory. A refusal changes nothing here.
+    /// It refuses in this order: `NotRegistered` (no record of the router is alive), `TooLarge` (they are more
+    /// than 255, or have more than 16,384 bytes), `StoreLoad` (only where the last nonce isn't in memory),
+    /// `NonceSpent` (it is 2^64 - 1), `OutOfMemory`, `StoreSave`; the first two take no memory. A refusal
+    /// changes nothing here.
     pub fn notify<S: NonceStore>(
         &mut self,
         store: &mut S,
@@ -152,7 +159,7 @@ impl<A: Allocator + Copy> Server<A> {
         ensures proceeds { Proceeds (S.seen store.old) (S.seen store.new) }
         ensures one_each { OneEach self.old.rows }
     {
-        announce(
+        send_notice(
             self.alloc,
             &self.sites,
             &mut self.tables,
@@ -162,16 +169,16 @@ impl<A: Allocator + Copy> Server<A> {
         )
     }
 
-    /// The least router with a notice that is due at a moment, in ms: a notice is due 3, 3, 3, 6, 12 and 24 s
-    /// after its last sending, then never. Takes no memory.
+    /// The least router, by Site-ID, then xTR-ID, to which a notice is due at a time, in ms: a notice is due 3,
+    /// 3, 3, 6, 12 and 24 s after it was last sent, then never. Takes no memory.
     pub fn due_notices(&self, now: u64) -> Option<RouterId>
         ensures { IsDueRouter self.now.notices now result }
     {
         self.tables.notices.due(now)
     }
 
-    /// Sends the notice of a router again that is due at a moment, in ms, of at most 2^62: the same bytes to
-    /// the same address. It refuses in this order: `NotDue`, `OutOfMemory`. A refusal changes nothing.
+    /// Sends the notice to a router again that is due at a time, in ms, of at most 2^62: the same bytes to the
+    /// same address. It refuses in this order: `NotDue`, `OutOfMemory`. A refusal changes nothing.
     pub fn resend(&mut self, router: &RouterId, now: u64) -> Result<(Addr, Vec<u8, A>), NoticeFault>
         requires { now ≤ max_moment }
         ensures resends { IfOk result (λ x. Resends self.old.notices self.new.notices router.now now x.0 x.1.items) }
@@ -182,14 +189,14 @@ impl<A: Allocator + Copy> Server<A> {
         self.tables.notices.resend(self.alloc, router, now)
     }
 
-    /// The rows that are alive at a moment, in ms: by router, then by prefix.
+    /// Copies of the rows that are alive at a time, in ms: by router, then by prefix.
     pub fn held(&self, now: u64) -> Result<Vec<Row<A>, A>, AllocError>
         ensures { IfOk result (λ rows. IsHeld self.now.rows now rows.items) }
     {
         self.tables.rows.rows(now)
     }
 
-    /// Who answers for an address at a moment, in ms, by the rows that are held: of those whose prefix has
+    /// Who answers for an address at a time, in ms, by the rows that are held: of those whose prefix has
     /// the address the one with the longest prefix; of several one whose router asked for proxy replies,
     /// before one that didn't; then the one that was accepted last; then that of the greater router, by
     /// Site-ID, then xTR-ID (RFC 9301 section 8.3). Takes no memory.
@@ -200,14 +207,16 @@ impl<A: Allocator + Copy> Server<A> {
         self.tables.rows.answer(&self.sites, addr, now)
     }
 
-    /// The nonce of the last message of the pair that was accepted since the start. Takes no memory.
+    /// The last nonce of a pair since the start, `None` where there is none: of the last Map-Register that was
+    /// accepted from its router under its key; of the last notice to any router under the pair of all notices,
+    /// which has `PairKind::Notice`, Site-ID 0, xTR-ID 0 and Key ID 0. Takes no memory.
     pub fn last_nonce(&self, pair: &Pair) -> Option<u64>
         ensures { result ≡ nonce_at self.now.nonces pair.now }
     {
         self.tables.nonces.get(pair)
     }
 
-    /// Drops the rows that are dead at a moment, in ms. Takes no memory.
+    /// Drops the rows that are dead at a time, in ms. Takes no memory.
     pub fn expire(&mut self, now: u64)
         ensures rows { Expires self.old.rows self.new.rows now }
         ensures rest { self.new ≡ record self.old { rows = self.new.rows } }

@@ -1,32 +1,33 @@
-//! What a Map-Server learnt since its start.
+//! What a Map-Server keeps in memory, all of it since its start.
 
-ghost use Rattle.std.specs.Prelude.{◌≡◌, ◌≤◌, ◌<◌, length, OnOk};
+ghost use Rattle.std.specs.Prelude.{◌≡◌, length, OnOk};
 ghost use Rattle.lisp_lookup.specs.Table.{Sets};
-ghost use Rattle.lisp_server.specs.Nonces.{SetsNonce};
+ghost use Rattle.lisp_server.specs.LastNonces.{SetsNonce};
 ghost use Rattle.lisp_server.specs.Contacts.{SetsContact};
 ghost use Rattle.lisp_server.specs.Notices.{announced, notice_pair};
 ghost use Rattle.lisp_server.specs.Server.{SameTables, HasRoom, HasNoticeRoom};
 
 use crate::contacts::{Contact, Contacts};
-use crate::nonces::{LastNonces, NOTICES};
-use crate::notice::Notice;
-use crate::notices::Notices;
+use crate::last_nonces::{LastNonces, NOTICES};
+use crate::standing_notice::StandingNotice;
+use crate::standing_notices::StandingNotices;
 use lisp_lookup::Table;
 use lisp_records::{Addr, Row};
 use lisp_store::Pair;
 use std::alloc::{AllocError, Allocator};
 
-/// The rows that are held, the last nonces, where each router was heard last, and the notices that stand.
+/// The rows that are held, the last nonces, where each router was heard last, and the unsolicited
+/// Map-Notifies (notices) that stand.
 #[derive(Debug, Drop)]
 pub(crate) struct Tables<A: Allocator> {
     pub(crate) rows: Table<A>,
     pub(crate) nonces: LastNonces<A>,
     pub(crate) contacts: Contacts<A>,
-    pub(crate) notices: Notices<A>,
+    pub(crate) notices: StandingNotices<A>,
 }
 
 impl<A: Allocator + Copy> Tables<A> {
-    /// Makes room for what a Map-Register with these rows brings.
+    /// Makes room for what a Map-Register that sets these rows leaves here.
     pub(crate) fn prepare(&mut self, rows: &[Row<A>]) -> Result<(), AllocError>
         ensures same { SameTables self.old self.new }
         ensures room { OnOk result (HasRoom self.new (length rows.now)) }
@@ -37,7 +38,7 @@ impl<A: Allocator + Copy> Tables<A> {
         Ok(())
     }
 
-    /// Keeps what an accepted Map-Register brings; takes no memory.
+    /// Keeps what an accepted Map-Register leaves here. Takes no memory.
     pub(crate) fn accept(&mut self, rows: Vec<Row<A>, A>, pair: Pair, nonce: u64, from: Addr)
         requires { HasRoom self.old (length rows.items) }
         ensures rows { Sets self.old.rows.rows self.new.rows.rows rows.items }
@@ -54,7 +55,7 @@ impl<A: Allocator + Copy> Tables<A> {
         });
     }
 
-    /// Makes room for a notice.
+    /// Makes room for one more notice and its nonce.
     pub(crate) fn prepare_notice(&mut self) -> Result<(), AllocError>
         ensures same { SameTables self.old self.new }
         ensures room { OnOk result (HasNoticeRoom self.new) }
@@ -64,8 +65,8 @@ impl<A: Allocator + Copy> Tables<A> {
         Ok(())
     }
 
-    /// Keeps a notice that was sent; takes no memory.
-    pub(crate) fn announce(&mut self, notice: Notice<A>)
+    /// Keeps a notice and its nonce. Takes no memory.
+    pub(crate) fn keep_notice(&mut self, notice: StandingNotice<A>)
         requires { HasNoticeRoom self.old }
         ensures rows { self.new.rows.rows ≡ self.old.rows.rows }
         ensures nonces { SetsNonce self.old.nonces.nonces self.new.nonces.nonces notice_pair notice.nonce }
@@ -73,6 +74,6 @@ impl<A: Allocator + Copy> Tables<A> {
         ensures notices { self.new.notices.notices ≡ announced notice self.old.notices.notices }
     {
         self.nonces.set(NOTICES, notice.nonce);
-        self.notices.announce(notice);
+        self.notices.keep(notice);
     }
 }

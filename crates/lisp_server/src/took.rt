@@ -1,4 +1,4 @@
-//! What a Map-Server took.
+//! What a Map-Server made of a message that it didn't refuse.
 
 ghost use Rattle.std.specs.Prelude.{◌≡◌};
 ghost use Rattle.lisp_server.specs.Took.{reply_in};
@@ -6,7 +6,7 @@ ghost use Rattle.lisp_server.specs.Took.{reply_in};
 use lisp_records::{Bytes, RouterId};
 use std::alloc::{Allocator, Global};
 
-/// A message that a Map-Server took.
+/// A message that a Map-Server received and didn't refuse.
 #[derive(Debug, Drop)]
 pub enum Took<A: Allocator = Global> {
     /// A Map-Register was accepted.
@@ -20,9 +20,9 @@ pub enum Took<A: Allocator = Global> {
         /// The Map-Notify for its source, where bit M asks for one (RFC 9301 section 5.7).
         reply: Option<Bytes<A>>,
     },
-    /// A Map-Notify-Ack ended a notice.
+    /// A Map-Notify-Ack ended an unsolicited Map-Notify (notice).
     NoticeDone {
-        /// The router that the notice was for.
+        /// The router that the notice was sent to.
         router: RouterId,
         /// The nonce of the notice.
         nonce: u64,
@@ -30,7 +30,7 @@ pub enum Took<A: Allocator = Global> {
 }
 
 impl<A: Allocator> Took<A> {
-    /// The Map-Notify that answers the message, where there is one; takes no memory.
+    /// The Map-Notify that answers the message, where there is one. Takes no memory.
     pub fn into_reply(self) -> Option<Bytes<A>>
         ensures { result ≡ reply_in self }
     {

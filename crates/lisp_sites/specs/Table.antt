@@ -272,7 +272,7 @@ configuration_of d = do
   routers ← routers_of sites servers d
   Ok (record { sites = sites; servers = servers; routers = routers })
 
--- a text that was read as a table, or is no TOML
+-- a text that was read as a table, or is not valid TOML
 abbrev pub document_of : Option Members → Result Data ConfigFault
 document_of None = Err Toml
 document_of (Some ms) = Ok (table ms)
@@ -281,7 +281,7 @@ document_of (Some ms) = Ok (table ms)
 abbrev pub config_of : Option Members → Result Configuration ConfigFault
 config_of read = document_of read >>= configuration_of
 
--- what a function answers, seen by view, is what the table gives; want of memory may come at any time
+-- what a function answers, seen by view, is what the table gives; out of memory may come at any time
 abbrev pub Fails : {Y : Type 0} → ConfigFault → Result Y ConfigFault → Type 0
 Fails Toml read = read ≡ Err Toml
 Fails (Missing name) read = read ≡ Err (Missing name)

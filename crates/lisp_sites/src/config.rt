@@ -59,7 +59,7 @@ impl<A: Allocator> Config<A> {
 
 impl<A: Allocator + Copy> Config<A> {
     /// Reads a configuration file, TOML, into memory of `alloc`; `heap` serves the reading of TOML
-    /// alone. The first fault found is the answer: `Toml` where the text is no TOML; then sites,
+    /// alone. The first fault found is the answer: `Toml` if the text is not valid TOML; then sites,
     /// Map-Servers and routers, each entry field by field in the order of [`Field`](crate::Field):
     /// `Missing` for an absent field without a default, `BadValue` for a value of another type or
     /// form, out of its range, or naming what isn't there, `Repeated` where no two may be alike.

@@ -12,8 +12,8 @@ use thiserror::Error;
 /// its fields in the order of [`Field`].
 #[derive(Clone, Copy, Debug, PartialEq, Eq, Error)]
 pub enum ConfigFault {
-    /// The text is no TOML.
-    #[error("the text is no TOML")]
+    /// The text is not valid TOML.
+    #[error("the text is not valid TOML")]
     Toml,
     /// A field without a default is absent.
     #[error("{0} is missing")]

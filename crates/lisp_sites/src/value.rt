@@ -120,7 +120,7 @@ pub(crate) fn byte(entry: &Value, key: &str, name: Field) -> Result<u8, ConfigFa
     }
 }
 
-/// A truth value, false where it is absent.
+/// A boolean, false if it is absent.
 pub(crate) fn flag(entry: &Value, key: &str, name: Field) -> Result<bool, ConfigFault>
     ensures { result ≡ field (optional name key.now as_bool false) (view entry.now) }
 {

@@ -1,8 +1,9 @@
 -- What a restart leaves of each pair's values.
-use Rattle.std.proofs.Common.{◌≡◌, ℕ, zero, suc, ◌-◌, ◌<◌, Bool, true, false, cond, List, [], ◌∷◌, ◌++◌, drop, take, map, min, length, slice_index_or, Option, None, refl, sym, ap, ◌∙◌, subst, arith}
+use Rattle.std.proofs.Common.{◌≡◌, ℕ, zero, suc, ◌+◌, ◌-◌, ◌<◌, Bool, true, false, cond, List, [], ◌∷◌, ◌++◌, drop, take, map, min, length, get_or, set, slice_index_or, Option, None, refl, sym, ap, ◌∙◌, subst, arith}
 use Rattle.std.specs.List.{All, Contains}
-use Rattle.std.proofs.lemmas.List.{get_or_default, length-map}
-use Rattle.std.proofs.Math.Seq.{take-append_seam}
+use Rattle.std.proofs.lemmas.List.{append_assoc, drop-drop, drop-set-lt, drop_more, get_or-drop, get_or_default, length-map}
+use Rattle.std.proofs.lemmas.List.Elements.{All-more}
+use Rattle.std.proofs.Math.Seq.{take-append_seam, take-suc-set}
 use Rattle.lisp_store.specs.declared.pair.Pair.{Pair}
 use Rattle.lisp_store.specs.Kept.{Narrows, kept_at}
 use Rattle.lisp_store.specs.Entries.{EntryOf, HasValues, is_of, picked, narrowed, answers_of, kept_of}
@@ -56,3 +57,23 @@ pub rewritten : (pick n : ℕ) (es : List EntryOf) → n ≡ length es → take 
 rewritten pick n es whole =
     let same : n ≡ length (map (narrowed pick) es) = whole ∙ sym (length-map es (narrowed pick)) in
     ap (λ (k : ℕ). take k (map (narrowed pick) es ++ drop (length (map (narrowed pick) es)) es)) same ∙ take-append_seam (map (narrowed pick) es) (drop (length (map (narrowed pick) es)) es)
+
+-- one turn of that loop: the entry that it has reached is as it was, and is narrowed
+as_it_was : (i : ℕ) (now old : List EntryOf) (x : EntryOf) → drop i now ≡ drop i old → get_or now i x ≡ get_or old i x
+as_it_was i now old x others =
+    let at : (es : List EntryOf) → get_or (drop i es) 0 x ≡ get_or es i x = λ es. get_or-drop i es 0 x ∙ ap (λ (k : ℕ). get_or es k x) (omega arith) in
+    sym (at now) ∙ ap (λ (es : List EntryOf). get_or es 0 x) others ∙ at old
+
+pub one_more : (i : ℕ) (now old : List EntryOf) (x : EntryOf) → i < length old → drop i now ≡ drop i old
+    → All HasValues (take i old) → HasValues (get_or now i x) → All HasValues (take (i + 1) old)
+one_more i now old x lt others some has = All-more HasValues old i x lt some (subst HasValues (as_it_was i now old x others) has)
+
+pub others_stay : (i : ℕ) (now old : List EntryOf) (y : EntryOf) → drop i now ≡ drop i old → drop (i + 1) (set now i y) ≡ drop (i + 1) old
+others_stay i now old y others = drop-set-lt (i + 1) now i y (omega arith) ∙ sym (drop-drop 1 i now) ∙ ap (λ (es : List EntryOf). drop 1 es) others ∙ drop-drop 1 i old
+
+pub narrowed_more : (pick i : ℕ) (now : List EntryOf) (x y : EntryOf) → i < length now → y ≡ narrowed pick (get_or now i x)
+    → take (i + 1) (set now i y) ++ map (narrowed pick) (drop (i + 1) (set now i y)) ≡ take i now ++ map (narrowed pick) (drop i now)
+narrowed_more pick i now x y lt same =
+    let next : i + 1 ≡ suc i = omega arith in
+    let done : take (i + 1) (set now i y) ≡ take i now ++ narrowed pick (get_or now i x) ∷ [] = rw (next, same) (take-suc-set now i _ lt) in
+    rw (done, drop-set-lt (i + 1) now i y (omega arith), drop_more now i x lt) (append_assoc (take i now) _ _)

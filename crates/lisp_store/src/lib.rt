@@ -1,16 +1,18 @@
-//! Where routers and Map-Servers keep their nonces: what a store owes, whatever it is made of, and a
-//! store in memory for worlds and tests.
+//! Where routers and Map-Servers keep their nonces: what every store promises, and a store in memory for
+//! worlds and tests.
 #![tactic(auto)]
 
 mod fate;
 mod fault;
 pub mod laws;
 mod memory;
+mod nonce;
 mod pair;
 mod store;
 
 pub use fate::Fate;
 pub use fault::StoreFault;
 pub use memory::MemoryStore;
+pub use nonce::{FIRST_NOTICE_NONCE, LAST_ROUTER_NONCE};
 pub use pair::{Pair, PairKind};
 pub use store::{NonceStore, WorldStore};

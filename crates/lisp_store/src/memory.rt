@@ -7,8 +7,6 @@ ghost use Rattle.lisp_store.specs.Kept.{kept_at, SameElsewhere, InDoubt, Narrows
 ghost use Rattle.lisp_store.specs.Store.{StoreState, Rose, Proceeds};
 ghost use Rattle.lisp_store.specs.Memory.{Memory, memory_state, option_eq, has_value, with_value, saved, loaded, after_load, save_answer, faults_after_save};
 ghost use Rattle.lisp_store.specs.Entries.{kept_of, answers_of, is_of, picked, narrowed, HasValues};
-ghost use Rattle.std.specs.Ordering.{eq_by_cmp};
-ghost use Rattle.lisp_store.specs.Pair.{pair_cmp};
 ghost use Rattle.lisp_store.specs.declared.fault.StoreFault.{StoreFault};
 ghost use Rattle.lisp_store.specs.declared.fate.Fate.{Fate};
 ghost use Rattle.lisp_store.specs.declared.pair.Pair.{Pair};
@@ -46,6 +44,7 @@ impl<A: Allocator> Entry<A> {
     fn narrow(&mut self, pick: u64)
         ensures pair { self.new.pair ≡ self.old.pair }
         ensures values { self.new.values ≡ picked self.old.values pick ∷ [] }
+        ensures some { HasValues self.old }
     {
         let last = self.values.len() - 1;
         let place = if pick < last as u64 {
@@ -108,11 +107,11 @@ impl<A: Allocator + Copy> NonceStore for MemoryStore<A> {
     /// The first of the values that may be kept; `Device` where it is armed with `LoadFails`. Takes no
     /// memory.
     fn load(&mut self, pair: &Pair) -> Result<Option<u64>, StoreFault>
-        // Exactly: the first of the list.
+        // The answer, exactly.
         ensures answer { result ≡ loaded self.old.fate (kept_at self.old.kept pair.now) }
         ensures after { self.new ≡ after_load self.old }
 
-        // What every store owes.
+        // What every store promises.
         ensures member { IfOk result (λ v. Contains (kept_at self.old.kept pair.now) v) }
         ensures same { self.new.kept ≡ self.old.kept }
         ensures cause { IfErr result (λ f. f ≢ StoreFault.OutOfMemory → Rose (memory_state self.old) (memory_state self.new)) }
@@ -126,8 +125,8 @@ impl<A: Allocator + Copy> NonceStore for MemoryStore<A> {
         Ok(first(values_of(&self.entries, pair)))
     }
 
-    /// Keeps the nonce alone; where it is armed with `Doubt` it keeps it behind what may be kept, once,
-    /// and answers `Device`.
+    /// Keeps the nonce alone; where it is armed with `Doubt` it keeps it after what may be kept, once, and
+    /// answers `Device`.
     fn save(&mut self, pair: &Pair, nonce: u64) -> Result<(), StoreFault>
         // Exactly, where there is memory for it.
         ensures answer { result ≢ Err StoreFault.OutOfMemory → result ≡ save_answer self.old.fate }
@@ -135,7 +134,7 @@ impl<A: Allocator + Copy> NonceStore for MemoryStore<A> {
         ensures faults { result ≢ Err StoreFault.OutOfMemory → self.new.faults ≡ faults_after_save self.old }
         ensures fate { self.new.fate ≡ self.old.fate }
 
-        // What every store owes.
+        // What every store promises.
         ensures done { OnOk result (kept_at self.new.kept pair.now ≡ Some nonce ∷ []) }
         ensures doubt { OnErr result (InDoubt (kept_at self.old.kept pair.now) (kept_at self.new.kept pair.now) nonce) }
         ensures others { SameElsewhere self.old.kept self.new.kept pair.now }
@@ -160,7 +159,7 @@ impl<A: Allocator + Copy> WorldStore for MemoryStore<A> {
         // Exactly.
         ensures armed { self.new ≡ record self.old { fate = fate } }
 
-        // What every store owes.
+        // What every store promises.
         ensures kept { (memory_state self.new).kept ≡ (memory_state self.old).kept }
         ensures count { (memory_state self.new).faults ≡ (memory_state self.old).faults }
         ensures honest { (memory_state self.new).is_honest ≡ (memory_state self.old).is_honest }
@@ -178,7 +177,7 @@ impl<A: Allocator + Copy> WorldStore for MemoryStore<A> {
         ensures faults { self.new.faults ≡ self.old.faults }
         ensures fate { self.new.fate ≡ self.old.fate }
 
-        // What every store owes.
+        // What every store promises.
         ensures narrows { (q : Pair) → Narrows (kept_at self.old.kept q) (kept_at self.new.kept q) }
         ensures proceeds { Proceeds (memory_state self.old) (memory_state self.new) }
     {
@@ -195,13 +194,6 @@ fn first(values: &[Option<u64>]) -> Option<u64>
     values[0]
 }
 
-// Whether two pairs are the same.
-fn is_same(one: &Pair, other: &Pair) -> bool
-    ensures { result ≡ eq_by_cmp pair_cmp one.now other.now }
-{
-    one.cmp(other).is_eq()
-}
-
 // The values that may be kept for a pair.
 fn values_of<'a, A: Allocator>(entries: &'a [Entry<A>], pair: &Pair) -> &'a [Option<u64>]
     ensures values { result.now ≡ kept_at (kept_of entries.now) pair.now }
@@ -216,7 +208,7 @@ fn answers<'a, A: Allocator>(entries: &'a [Entry<A>], pair: &Pair) -> &'a [Optio
     ensures values { result.now ≡ answers_of entries.now pair.now }
     ensures some { 0 < length result.now }
 {
-    match entries.iter().find(|entry| is_same(pair, &entry.pair)) {
+    match entries.iter().find(|entry| pair.is_same(&entry.pair)) {
         Some(entry) => entry.values(),
         None => &NOTHING,
     }
@@ -226,7 +218,7 @@ fn answers<'a, A: Allocator>(entries: &'a [Entry<A>], pair: &Pair) -> &'a [Optio
 fn place<A: Allocator>(entries: &[Entry<A>], pair: &Pair) -> Option<usize>
     ensures { result ≡ position (is_of pair.now) entries.now }
 {
-    entries.iter().position(|entry| is_same(pair, &entry.pair))
+    entries.iter().position(|entry| pair.is_same(&entry.pair))
 }
 
 // The values that a save leaves.
@@ -303,17 +295,7 @@ fn narrow<A: Allocator>(entries: &mut [Entry<A>], pick: u64)
     ensures narrowed { entries.new ≡ map (narrowed pick) entries.old }
     ensures some { All HasValues entries.old }
 {
-    known(entries);
     for entry in entries.iter_mut() {
         entry.narrow(pick);
-    }
-}
-
-// The entries' own promise, for proofs: each has a value.
-fn known<A: Allocator>(entries: &[Entry<A>])
-    ensures { All HasValues entries.now }
-{
-    for entry in entries {
-        let _ = entry.values();
     }
 }

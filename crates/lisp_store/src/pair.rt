@@ -1,5 +1,9 @@
 //! What nonces are kept for.
 
+ghost use Rattle.std.specs.Prelude.{◌≡◌};
+ghost use Rattle.std.specs.Ordering.{eq_by_cmp};
+ghost use Rattle.lisp_store.specs.Pair.{pair_cmp};
+
 use lisp_records::RouterId;
 
 /// Which nonces: those that a router sent, those that a server received, those of a server's notices.
@@ -19,4 +23,13 @@ pub struct Pair {
     pub router: RouterId,
     /// The Key ID that they were authenticated under.
     pub key: u8,
+}
+
+impl Pair {
+    /// Whether the two are the same pair.
+    pub fn is_same(&self, other: &Pair) -> bool
+        ensures { result ≡ eq_by_cmp pair_cmp self.now other.now }
+    {
+        self.cmp(other).is_eq()
+    }
 }

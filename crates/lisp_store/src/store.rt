@@ -1,4 +1,4 @@
-//! What a store of nonces owes to routers and servers.
+//! What a store of nonces promises to routers and servers.
 
 ghost use Rattle.std.specs.Prelude.{◌≡◌, ◌≢◌, [], ◌∷◌, Some, Err, IsTrue, IfOk, IfErr, OnOk, OnErr, IsErrOf};
 ghost use Rattle.std.specs.List.{Contains};

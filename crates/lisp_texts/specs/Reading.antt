@@ -17,7 +17,7 @@ abbrev pub ◌>>=◌ : {A B : Type 0} → Option A → (A → Option B) → Opti
 (Some x) >>= f = f x
 None >>= f = None
 
--- the parts before and behind the first mark
+-- the parts before and after the first mark
 unfoldable pub cut : ℕ → List ℕ → Option (List ℕ × List ℕ)
 cut mark text = option_map (λ i. (take i text, drop (i + 1) text)) (position (λ b. b == mark) text)
 

@@ -53,7 +53,7 @@ pub record IsPrefixText (text : List ℕ) (b : Block) : Type 0 where
 abbrev pub IsByteText : List ℕ → ℕ → Type 0
 IsByteText text n = (number_of text ≡ Some n) × (n < 256)
 
--- numbers below 256, each behind a slash (47)
+-- numbers below 256, each after a slash (47)
 pub record IsNumbersText (text numbers : List ℕ) : Type 0 where
   pub pieces : List (List ℕ)
   pub parts : text ≡ flat_map (λ piece. 47 ∷ piece) pieces
@@ -76,7 +76,7 @@ pub record IsLocatorText (text : List ℕ) (l : Locator) : Type 0 where
   pub numbers : IsNumbersText behind (numbers_of_locator l) ⊎ (behind ≡ []) × (numbers_of_locator l ≡ 1 ∷ 100 ∷ 255 ∷ 0 ∷ [])
   pub flags : l ≡ shown_locator l
 
--- a prefix, `=`, the TTL, and the locators, each behind a plus sign (43)
+-- a prefix, `=`, the TTL, and the locators, each after a plus sign (43)
 pub record IsRecordText (text : List ℕ) (m : Mapping) : Type 0 where
   pub prefix : List ℕ
   pub ttl : List ℕ

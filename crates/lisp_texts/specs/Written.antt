@@ -27,14 +27,14 @@ addr_text (V6 octets) = join_with_byte 58 (groups_text octets)
 abbrev pub prefix_text : Block → List ℕ
 prefix_text b = addr_text b.addr ++ codes "/" ++ decimal b.mask_len
 
--- the four numbers of a locator, each behind a slash (47)
+-- the four numbers of a locator, each after a slash (47)
 abbrev pub numbers_text : Locator → List ℕ
 numbers_text l = flat_map (λ n. 47 ∷ decimal n) (numbers_of_locator l)
 
 abbrev pub locator_text : Locator → List ℕ
 locator_text l = addr_text l.addr ++ numbers_text l
 
--- a prefix, `=`, the TTL, and the locators, each behind a plus sign (43)
+-- a prefix, `=`, the TTL, and the locators, each after a plus sign (43)
 abbrev pub record_text : Mapping → List ℕ
 record_text m = prefix_text m.eid ++ codes "=" ++ decimal m.ttl ++ flat_map (λ l. 43 ∷ locator_text l) m.locators
 

@@ -55,7 +55,8 @@ pub fn record_to_text<A: Allocator, B: Allocator>(
     Ok(text)
 }
 
-// What the types promise of every record.
+// What the types promise of every record. It is called for the proof alone, which learns of a locator's
+// bytes only where the locator is read: so there is a walk over them.
 fn known_record<A: Allocator>(entry: &MapRecord<A>)
     ensures { HasText entry.now }
 {
@@ -180,7 +181,7 @@ fn byte(text: &str) -> Option<u8>
     u8::try_from(number_from_text(text)?).ok()
 }
 
-// The parts before and behind the first mark.
+// The parts before and after the first mark.
 #[tactic(auto, unfolding(crate::specs::Reading::cut))]
 fn parted(text: &str, mark: char) -> Option<(&str, &str)>
     requires { mark < 128 }
@@ -189,7 +190,7 @@ fn parted(text: &str, mark: char) -> Option<(&str, &str)>
     text.split_once(mark)
 }
 
-// Appends the texts of locators, each behind a plus sign. Want of memory may leave a part of them.
+// Appends the texts of locators, each after a plus sign. Out of memory, it may leave a part of them.
 #[tactic(auto, using(crate::proofs::Appends::steps))]
 fn put_locators<A: Allocator>(text: &mut String<A>, locators: &[Locator]) -> Result<(), AllocError>
     ensures { OnOk result (string_bytes text.new ≡ string_bytes text.old ++ flat_map (λ l. 43 ∷ locator_text l) locators.now) }
@@ -201,7 +202,7 @@ fn put_locators<A: Allocator>(text: &mut String<A>, locators: &[Locator]) -> Res
     Ok(())
 }
 
-// Appends the text of a locator. Want of memory may leave a part of it.
+// Appends the text of a locator. Out of memory, it may leave a part of it.
 #[tactic(auto, using(crate::proofs::Appends::steps))]
 fn put_locator<A: Allocator>(text: &mut String<A>, locator: &Locator) -> Result<(), AllocError>
     ensures { OnOk result (string_bytes text.new ≡ string_bytes text.old ++ locator_text locator.now) }
@@ -211,7 +212,7 @@ fn put_locator<A: Allocator>(text: &mut String<A>, locator: &Locator) -> Result<
     Ok(())
 }
 
-// Appends the numbers of a locator, each behind a slash.
+// Appends the numbers of a locator, each after a slash.
 fn put_numbers<A: Allocator>(text: &mut String<A>, locator: &Locator) -> Result<(), AllocError>
     ensures { OnOk result (string_bytes text.new ≡ string_bytes text.old ++ numbers_text locator.now) }
 {

@@ -67,7 +67,8 @@ pub fn prefix_to_text<A: Allocator>(alloc: A, prefix: &Prefix) -> Result<String<
     Ok(text)
 }
 
-/// What the types promise of every address, for the proof of what is read again.
+/// What the type promises of every address. It is called for the proof alone, which learns of the bytes
+/// by the `match`.
 pub(crate) fn known_addr(addr: Addr)
     ensures { HasOctets addr }
 {
@@ -77,7 +78,7 @@ pub(crate) fn known_addr(addr: Addr)
     }
 }
 
-// What the type promises of every byte of a list.
+// What the type promises of every byte of a list, for the proof alone.
 #[tactic(auto, using(crate::proofs::Known::bytes_small))]
 fn known_bytes(bytes: &[u8])
     ensures { AllByRecursion (λ n. n < 256) bytes.now }
@@ -171,7 +172,7 @@ fn hex_digit(digit: u8) -> Option<u8>
     }
 }
 
-// The parts before and behind the first mark.
+// The parts before and after the first mark.
 #[tactic(auto, using(std::proofs::lemmas::List::take_rest), unfolding(crate::specs::Reading::cut))]
 fn cut(text: &[u8], mark: u8) -> Option<(&[u8], &[u8])>
     ensures { option_map (λ p. (p.0.now, p.1.now)) result ≡ cut mark text.now }
@@ -187,7 +188,7 @@ fn place_of(text: &[u8], mark: u8) -> Option<usize>
     text.iter().position(|byte| *byte == mark)
 }
 
-/// Appends the text of a prefix. Want of memory may leave a part of it.
+/// Appends the text of a prefix. Out of memory, it may leave a part of it.
 #[tactic(auto, using(crate::proofs::Appends::steps))]
 pub(crate) fn put_prefix<A: Allocator>(
     text: &mut String<A>,
@@ -201,7 +202,7 @@ pub(crate) fn put_prefix<A: Allocator>(
     Ok(())
 }
 
-/// Appends the text of an address. Want of memory may leave a part of it.
+/// Appends the text of an address. Out of memory, it may leave a part of it.
 pub(crate) fn put_addr<A: Allocator>(text: &mut String<A>, addr: Addr) -> Result<(), AllocError>
     ensures { OnOk result (string_bytes text.new ≡ string_bytes text.old ++ addr_text addr) }
 {

@@ -1,6 +1,7 @@
 -- Over a clean trace a notice that is done was noticed before, where a router's list names servers.
-use Rattle.std.proofs.Common.{◌≡◌, ℕ, zero, suc, ◌+◌, ◌-◌, ◌<◌, true, List, [], ◌∷◌, length, map, Some, sym, ap, subst, ◌∙◌, arith}
+use Rattle.std.proofs.Common.{◌≡◌, ℕ, zero, suc, ◌+◌, ◌-◌, ◌<◌, true, List, [], ◌∷◌, length, map, Option, Some, None, sym, ap, subst, ◌∙◌, arith, true≢false}
 use Rattle.std.specs.Prelude.{◌≢◌, ◌==◌, ◌&&◌, nat_le, nat_lt, if◌then◌else◌, slice_get, slice_index_or}
+use Rattle.std.specs.Option.{unwrap_or}
 use Rattle.std.specs.List.{AllByRecursion, AllPairs, Contains, flat_map}
 use Rattle.std.proofs.lemmas.Bool.{and_parts, leb-true, ltb-true, lt-ltb}
 use Rattle.std.proofs.lemmas.Bool.Decides.{Decides-eqb}
@@ -8,6 +9,9 @@ use Rattle.lisp_records.specs.declared.address.Addr.{Addr}
 use Rattle.lisp_records.specs.declared.router.RouterId.{RouterId}
 use Rattle.lisp_sites.specs.Configuration.{Configuration, HasServers, NamesServers}
 use Rattle.lisp_messages.specs.Message.{Notification}
+use Rattle.lisp_messages.specs.Authentic.{is_authentic}
+use Rattle.lisp_server.specs.Checks.{signed_by}
+use Rattle.lisp_server.specs.Contacts.{secret_at as known_secret}
 use Rattle.lisp_world.specs.declared.line.Line.{Line}
 use Rattle.lisp_world.specs.declared.line.Line.TheVariants as lines
 use Rattle.lisp_world.specs.Trace.{Happening, Step, Opening, Shown, addresses, address_at, is_server, is_router, router_at, settings_of}
@@ -24,6 +28,11 @@ use Rattle.lisp_world.proofs.HearingLemmas.{find_true, router_of}
 use Rattle.lisp_world.proofs.NoticeOrigins.{WentOut, site_secrets, all_went_out}
 use Rattle.lisp_world.proofs.Origins.{ReadsBack, all_from}
 use Rattle.lisp_world.proofs.ReplyOrigins.{all_known}
+
+-- what is authentic under a key that a site may not have is authentic under that key's secret
+signed_under : (secret : Option (List ℕ)) (bytes : List ℕ) → signed_by secret bytes ≡ true → is_authentic bytes (unwrap_or secret []) ≡ true
+signed_under None bytes e = absurd (true≢false (sym e))
+signed_under (Some secret) bytes e = e
 
 -- each router's list names servers
 module _ {X : Type 0} (P : X → Type 0) where
@@ -94,7 +103,7 @@ module _ (o : Opening) (distinct : AllPairs (λ a b. a ≢ b) (addresses o.confi
       let w = all_went_out o distinct reads T legal clean actor x (in_find (awaits t c.arrival.from c.row.message) (notices o T actor) x c.row.stands) in
       let a = awaited o T c.arrival.from c.row.message x (find_true (awaits t c.arrival.from c.row.message) (notices o T actor) x c.row.stands) in
       let acts : actor ≡ server = c.row.acts.acts in
-      let origin = c.origin c.row.message c.row.read _ (holds_secret actor (ap (is_server o.config) acts ∙ c.row.acts.kind) _ w.known) c.row.authentic in
+      let origin = c.origin c.row.message c.row.read _ (holds_secret actor (ap (is_server o.config) acts ∙ c.row.acts.kind) _ w.known) (signed_under (known_secret o.config.sites (router_at o.config x.router).me.site x.key) c.arrival.bytes c.row.authentic) in
       let ans = all_answers o distinct reads T legal clean origin.item origin.sent origin.what origin.says (◌∙◌ {a = origin.what.ack} {b = c.row.message.ack} {c = true} (sym origin.head.ack) c.row.ack) in
       ended c.arrival.from c.row.message origin.what x origin.item server nonce router ans w a origin.source (subst (λ (k : ℕ). origin.item.to ≡ address_at o.config k) acts origin.target) c.row.acts.kind origin.head.nonce c.row.number c.row.who
 

@@ -226,7 +226,7 @@ foreign = mapping wide 1440 ∷ mapping strange 1440 ∷ []
 abbrev pub first_told : List Step
 first_told = tells one_taken (2 ^ 63) 2 ∷ one_taken
 
-abbrev waited : List Step
+abbrev pub waited : List Step
 waited = ticks first_told 3000 3000 ∷ first_told
 
 abbrev told_again : List Step
@@ -260,6 +260,22 @@ notice_ends = (ends_legal was_noticed 4 (2 ^ 63) _ _ refl refl refl refl refl, w
 -- the answer arrives again
 pub notice_ended : LegalTrace opening (refuses ended (events.Deliver 4 fates.Done) 0 (refusals.Receive refuseds.NoNotice) ∷ ended)
 notice_ended = (record { faults = omega arith; row = record { item = answered (2 ^ 63) (mapping wide 1440 ∷ []); sent = refl; there = refl; arrives = (record { kind = refl; acts = refl }, (refl, refl)) } }, notice_ends)
+
+-- a newer notice to the router takes the place of the older one, whose acknowledgement then ends nothing
+abbrev pub told_anew : List Step
+told_anew = tells first_told (2 ^ 63 + 1) 3 ∷ first_told
+
+abbrev older_noticed : List Step
+older_noticed = notices told_anew 2 (2 ^ 63) 4 ∷ told_anew
+
+pub older_notice_ended : LegalTrace opening (refuses older_noticed (events.Deliver 4 fates.Done) 0 (refusals.Receive refuseds.NoNotice) ∷ older_noticed)
+older_notice_ended = (
+  record { faults = omega arith; row = record { item = answered (2 ^ 63) (mapping wide 1440 ∷ []); sent = refl; there = refl; arrives = (record { kind = refl; acts = refl }, (refl, refl)) } },
+  (
+    notices_legal told_anew 2 (2 ^ 63) 4 _ refl refl (omega arith) refl,
+    (tells_legal first_told (2 ^ 63 + 1) 3 _ (Some (2 ^ 63)) refl refl refl refl refl (omega arith) refl, first_told_legal),
+  ),
+)
 
 -- a Map-Notify for an older Map-Register
 abbrev pub sent_twice : List Step
@@ -357,7 +373,7 @@ unfolding masked
 a_site_has_it = (λ h has. absurd (empty_has h has), refl)
 
 -- the second router registers a longer prefix, and asks for no proxy replies
-abbrev both_heard : List Step
+abbrev pub both_heard : List Step
 both_heard = step (events.Deliver 2 fates.Done) (lines.Accepted 0 two 1 1 (Some 3)) 0 (keeps (at one_taken 0) (got_from two) 1) ∷ step (events.Send 3 0 fates.Done) (lines.Sent 3 0 1 1 2) 3 (keeps (at one_taken 3) (sent_by two) 1) ∷ one_taken
 
 abbrev row_of_one : Holding

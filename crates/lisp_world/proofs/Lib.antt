@@ -11,6 +11,7 @@ pub mod Meanings
 pub mod Rising
 pub mod RisingSteps
 pub mod RisingLaws
+pub mod OwnValues
 pub mod MustLemmas
 pub mod MustLaws
 pub mod Sound

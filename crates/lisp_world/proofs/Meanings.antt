@@ -1,5 +1,5 @@
 -- What the meanings make of traces of the small network.
-use Rattle.std.specs.Prelude.{◌≢◌, ◌⊎◌}
+use Rattle.std.specs.Prelude.{◌≢◌, ◌⊎◌, ◌^◌, ◌+◌, slice_get}
 use Rattle.std.proofs.Common.{Bor, subst, sym}
 use Rattle.std.specs.List.{Contains}
 use Rattle.std.specs.declared.cmp.Ordering.TheVariants.{Equal, Greater}
@@ -21,13 +21,14 @@ use Rattle.lisp_world.specs.Trace.{Step}
 use Rattle.lisp_world.specs.History.{Entry, history}
 use Rattle.lisp_world.specs.Held.{held, rows}
 use Rattle.lisp_world.specs.Timers.{due, notices as standing, notice_to, is_due}
-use Rattle.lisp_world.specs.Bag.{register_item, bytes_of, since}
+use Rattle.lisp_world.specs.Bag.{register_item, bytes_of, since, bag}
 use Rattle.lisp_world.specs.Counted.{acknowledged, acked}
 use Rattle.lisp_world.specs.Change.{NoChange}
 use Rattle.lisp_world.specs.Clean.{Clean}
 use Rattle.lisp_world.proofs.ListLemmas.{at_head}
-use Rattle.lisp_world.proofs.Samples.{opening, one, wide, narrow, mapping, local_at, step, at, sends, takes, changes, ticks, restarts}
-use Rattle.lisp_world.proofs.LegalRows.{one_sent, one_taken, one_counted, both_sent, both_taken, first_told, short, two_sent, newer_taken, short_message}
+use Rattle.lisp_world.proofs.Samples.{opening, one, wide, narrow, mapping, local_at, step, at, sends, takes, counts, changes, ticks, restarts, tells}
+use Rattle.lisp_world.proofs.LegalRows.{one_sent, one_taken, one_counted, both_sent, both_taken, both_heard, first_told, told_anew, short, two_sent, newer_taken, short_message}
+use Rattle.lisp_world.proofs.Steps.{told}
 
 -- a row of the first router
 abbrev row_of : Mapping → ℕ → ℕ → Holding
@@ -85,6 +86,13 @@ due_counted : due one_counted 2 0 ≡ 60000
 unfolding due_after
 due_counted = refl
 
+abbrev late_taken : List Step
+late_taken = takes (ticks one_sent 500 500 ∷ one_sent) 0 0 1 1 ∷ ticks one_sent 500 500 ∷ one_sent
+
+due_counted_late : due (counts late_taken 1 0 1 ∷ late_taken) 2 0 ≡ 60000
+unfolding due_after
+due_counted_late = refl
+
 due_changed : due (changes (ticks one_counted 5 5 ∷ one_counted) short ∷ ticks one_counted 5 5 ∷ one_counted) 2 0 ≡ 5
 unfolding due_after
 due_changed = refl
@@ -101,6 +109,14 @@ not_due = refl
 now_due : is_due (notice_to opening first_told 0 2) 3000 ≡ true
 unfolding notice_due_after
 now_due = refl
+
+-- it carries the records of its own router, and of no other
+notice_of_one : slice_get (bag opening (tells both_heard (2 ^ 63) 4 ∷ both_heard)) 4 ≡ Some (told (local_at 11) (local_at 21) (2 ^ 63) (mapping wide 1440 ∷ []))
+notice_of_one = refl
+
+-- a newer one stands in its place
+newer_stands : standing opening told_anew 0 ≡ record { router = 2; key = 1; nonce = 2 ^ 63 + 1; datagram = 3; moments = 0 ∷ [] } ∷ []
+newer_stands = refl
 
 -- a restart ends it
 ended_by_restart : standing opening (restarts first_told 0 ∷ first_told) 0 ≡ []

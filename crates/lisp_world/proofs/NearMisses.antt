@@ -1,6 +1,6 @@
 -- Steps that are illegal: near misses of the legal traces.
-use Rattle.std.proofs.Common.{◌≡◌, ℕ, true, false, List, [], ◌∷◌, length, Option, Some, None, Ok, refl, sym, ap, subst, ◌∙◌, arith}
-use Rattle.std.specs.Prelude.{◌^◌, ◌+◌, ◌<◌, ◌≤◌, slice_get, if◌then◌else◌, Result, Err}
+use Rattle.std.proofs.Common.{◌≡◌, ℕ, true, false, List, [], ◌∷◌, length, Option, Some, None, Ok, refl, sym, ap, subst, inl, inr, ◌∙◌, arith}
+use Rattle.std.specs.Prelude.{◌^◌, ◌+◌, ◌-◌, ◌<◌, ◌≤◌, ◌⊎◌, slice_get, if◌then◌else◌, Result, Err}
 use Rattle.std.specs.FinMap.{insert}
 use Rattle.std.specs.List.{Contains}
 use Rattle.lisp_store.specs.declared.fate.Fate.TheVariants as fates
@@ -13,8 +13,14 @@ use Rattle.lisp_etr.specs.declared.notify_fault.NotifyFault.{NotifyFault}
 use Rattle.lisp_server.specs.Receiving.{IsBelow}
 use Rattle.lisp_world.specs.Counted.{heard}
 use Rattle.lisp_server.specs.Checks.{secret_under}
-use Rattle.lisp_server.specs.Notices.{notice_pair, nonce_after}
-use Rattle.lisp_server.specs.Registration.{pair_of}
+use Rattle.lisp_server.specs.Notices.{notice_pair, nonce_after, due_after}
+use Rattle.lisp_server.specs.declared.notice_fault.NoticeFault.TheVariants as notice_faults
+use Rattle.lisp_server.specs.declared.refused.Refused.TheVariants as refuseds
+use Rattle.lisp_etr.specs.declared.start_fault.StartFault.TheVariants as start_faults
+use Rattle.lisp_store.specs.declared.fault.StoreFault.TheVariants as stores
+use Rattle.lisp_messages.specs.declared.fault.ReadFault.TheVariants as reads
+use Rattle.lisp_messages.specs.Reading.{kind_at}
+use Rattle.lisp_server.specs.AcceptedRows.{pair_of}
 use Rattle.lisp_world.specs.declared.event.Event.TheVariants as events
 use Rattle.lisp_world.specs.declared.line.Line.TheVariants as lines
 use Rattle.lisp_world.specs.declared.refusal.Refusal.TheVariants as refusals
@@ -27,7 +33,7 @@ use Rattle.lisp_world.proofs.KeptLemmas.{kept_at-empty, only_value, set_here, se
 use Rattle.lisp_world.proofs.ItemLemmas.{item_authentic, is_not_allowed}
 use Rattle.lisp_world.proofs.Samples.{opening, network, site, secret, local_at, one, wide, mapping, registers, sent_by, got_from, at, step, keeps, blank, sends, takes, replays, counts, ticks, tells, refuses, changes}
 use Rattle.lisp_world.proofs.Steps.{told, heard_of, hears}
-use Rattle.lisp_world.proofs.LegalRows.{one_sent, one_taken, restarted, foreign, foreign_sent, strange_refused, sent_twice, registered_again, told_and_gone, kinds_differ, not_started}
+use Rattle.lisp_world.proofs.LegalRows.{one_sent, one_taken, restarted, foreign, foreign_sent, strange_refused, sent_twice, waited, registered_again, told_and_gone, kinds_differ, not_started}
 
 -- the one value that was set, and none before
 only_set : (kept : Kept) (base v : Option ℕ) → Contains (kept_at (insert kept (got_from one) (v ∷ [])) (got_from one)) base → base ≡ v
@@ -165,3 +171,30 @@ wrong_clock l = let is : ◌≡◌ {A = ℕ} 2000 1000 = l.row.clock in absurd (
 -- a router that is down takes a database
 changed_while_down : Legal opening not_started (changes not_started []) → ⊥
 changed_while_down l = let clash : false ≡ true = l.row.acts.state in absurd cc
+
+-- a router's start fails by its store, though the device didn't fail
+not_started_unfailed : Legal opening one_sent (step (events.Restart 2 0 None) (lines.Refused 2 (refusals.Start (start_faults.Store stores.Device))) 2 (at one_sent 2)) → ⊥
+not_started_unfailed l = never (l.row.cause (λ e. let clash : stores.Device ≡ stores.OutOfMemory = e in absurd cc))
+  where
+    never : (0 < 0) ⊎ (◌≡◌ {A = ℕ} 0 (2 ^ 64 - 1)) → ⊥
+    never (inl less) = absurd (omega (arith, less))
+    never (inr same) = absurd (omega (arith, same))
+
+-- a notice that is due isn't sent again
+due_not_resent : Legal opening waited (refuses waited (events.Resend 0 2) 0 (refusals.Notice notice_faults.NotDue)) → ⊥
+unfolding due_after
+due_not_resent l = let clash : true ≡ false = l.row.3.0 in absurd cc
+
+-- the nonces of notices are spent before the last one
+notices_not_spent : Legal opening one_taken (refuses one_taken (events.Notice 0 2 fates.Done) 0 (refusals.Notice notice_faults.NonceSpent)) → ⊥
+notices_not_spent l =
+    let spent = l.row.3 in
+    let kept = set_others blank.kept (got_from one) (Some 1 ∷ []) notice_pair (λ e. absurd (kinds_differ e)) ∙ kept_at-empty notice_pair in
+    let base : spent.1 ≡ None = only_value None spent.1 (subst (λ (vs : List (Option ℕ)). Contains vs spent.1) kept spent.2) in
+    let high : 2 ^ 64 - 1 ≤ number None = subst (λ (b : Option ℕ). 2 ^ 64 - 1 ≤ number b) base spent.3 in
+    absurd (omega (arith, high))
+
+-- memory runs out for bytes whose head can't be read
+no_memory_for_no_head : Legal opening [] (refuses [] (events.Junk 0 (local_at 21) []) 0 (refusals.Receive refuseds.OutOfMemory)) → ⊥
+unfolding kind_at
+no_memory_for_no_head l = l.row.arrives.1.0 reads.Short refl

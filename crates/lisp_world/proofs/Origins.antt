@@ -56,6 +56,8 @@ module _ (o : Opening) (T : List Step) where
           let item : register_item o T r s nonce ≡ j = sym same in
           let said : Registers (registration_of (settings_of o.config (router_at o.config r)) (database o T r) nonce) ≡ Registers m = ap (λ (x : Item). x.message) item ∙ says in
           let message : registration_of (settings_of o.config (router_at o.config r)) (database o T r) nonce ≡ m = cc in
+          let under : key ≡ (router_at o.config r).key_id = row.2.under ∙ ap (λ (n : ℕ). (router_at o.config n).key_id) (sym row.0) in
+          let keyed : registration_of (record (settings_of o.config (router_at o.config r)) { key_id = key }) (database o T r) nonce ≡ m = ap (λ (k : ℕ). registration_of (record (settings_of o.config (router_at o.config r)) { key_id = k }) (database o T r) nonce) under ∙ message in
           let fits : IsRegistration (registration_of (settings_of o.config (router_at o.config r)) (database o T r) nonce) = subst (λ (n : ℕ). IsRegistration (registration_of (settings_of o.config (router_at o.config n)) (database o T n) nonce)) (sym row.0) row.2.message in
           record {
             entry = record { router = r; key = key; nonce = nonce; server = s; database = database o T r; position = length T };
@@ -63,7 +65,7 @@ module _ (o : Opening) (T : List Step) where
             from = ap (λ (x : Item). x.from) same;
             to = ap (λ (x : Item). x.to) same;
             kind = ap (is_server o.config) row.1 ∙ row.2.kind;
-            message = sym message;
+            message = sym keyed;
             fits = subst IsRegistration message fits;
           }
 

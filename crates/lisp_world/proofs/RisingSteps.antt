@@ -18,7 +18,7 @@ use Rattle.lisp_server.specs.declared.refused.Refused.TheVariants as refuseds
 use Rattle.lisp_server.specs.declared.notice_fault.NoticeFault.{NoticeFault}
 use Rattle.lisp_server.specs.declared.notice_fault.NoticeFault.TheVariants as announcements
 use Rattle.lisp_server.specs.Notices.{notice_pair}
-use Rattle.lisp_server.specs.Registration.{pair_of}
+use Rattle.lisp_server.specs.AcceptedRows.{pair_of}
 use Rattle.lisp_world.specs.declared.event.Event.TheVariants as events
 use Rattle.lisp_world.specs.declared.line.Line.{Line}
 use Rattle.lisp_world.specs.declared.line.Line.TheVariants as lines

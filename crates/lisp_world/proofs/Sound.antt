@@ -4,121 +4,52 @@ use Rattle.std.specs.Prelude.{◌≢◌, ◌⊎◌, ◌==◌, if◌then◌else�
 use Rattle.std.specs.List.{Contains}
 use Rattle.std.proofs.lemmas.List.Elements.{Contains-append_cases}
 use Rattle.std.proofs.lemmas.Bool.Decides.{Decides-eqb}
-use Rattle.lisp_store.specs.declared.pair.Pair.{Pair}
-use Rattle.lisp_store.specs.declared.pair.PairKind.TheVariants as kinds
-use Rattle.lisp_store.specs.Kept.{Kept, kept_at, number, InDoubt}
-use Rattle.lisp_etr.specs.declared.send_fault.SendFault.{SendFault}
-use Rattle.lisp_etr.specs.declared.send_fault.SendFault.TheVariants as sends
-use Rattle.lisp_etr.specs.declared.notify_fault.NotifyFault.{NotifyFault}
-use Rattle.lisp_etr.specs.declared.notify_fault.NotifyFault.TheVariants as notifies
-use Rattle.lisp_server.specs.declared.refused.Refused.{Refused}
-use Rattle.lisp_server.specs.declared.refused.Refused.TheVariants as refuseds
-use Rattle.lisp_server.specs.declared.notice_fault.NoticeFault.{NoticeFault}
-use Rattle.lisp_server.specs.declared.notice_fault.NoticeFault.TheVariants as announcements
-use Rattle.lisp_server.specs.Notices.{notice_pair}
-use Rattle.lisp_world.specs.declared.event.Event.TheVariants as events
+use Rattle.lisp_store.specs.Kept.{kept_at, number, InDoubt}
 use Rattle.lisp_world.specs.declared.line.Line.{Line}
 use Rattle.lisp_world.specs.declared.line.Line.TheVariants as lines
 use Rattle.lisp_world.specs.declared.refusal.Refusal.TheVariants as refusals
-use Rattle.lisp_world.specs.Trace.{Happening, Step, Opening, Shown, shown, database}
+use Rattle.lisp_world.specs.Trace.{Happening, Step, Opening, shown, database}
 use Rattle.lisp_world.specs.History.{Entry, entry_in, history}
-use Rattle.lisp_world.specs.Bag.{Arrival, arrival_of, thrown}
-use Rattle.lisp_world.specs.Turn.{Turn, values, values_after, Same, IsBase}
-use Rattle.lisp_world.specs.Sending.{CountsFrom, IsSent, pair_at, last_sent, last_sent_after, start_values, start_values_after, RefusesToSend}
-use Rattle.lisp_world.specs.Receiving.{RefusesMessage}
-use Rattle.lisp_world.specs.Hearing.{RefusesNotify}
-use Rattle.lisp_world.specs.Notifying.{RefusesNotice, RefusesToResend}
-use Rattle.lisp_world.specs.Legal.{Row, Arrives, Legal, LegalTrace, turn_of}
+use Rattle.lisp_world.specs.Turn.{Turn, values_after, IsBase}
+use Rattle.lisp_world.specs.Sending.{CountsFrom, IsSent, pair_at, last_sent, last_sent_after, start_values, start_values_after}
+use Rattle.lisp_world.specs.Legal.{Row, Legal, LegalTrace, turn_of}
 use Rattle.lisp_world.proofs.KeptLemmas.{only_value}
 use Rattle.lisp_world.proofs.ListLemmas.{head_or_tail, in_none}
 use Rattle.lisp_world.proofs.Locality.{by_actor, IsBy, same_number, other_number, last_sent_other, start_values_other}
+use Rattle.lisp_world.proofs.OwnValues.{own_values, own_values_after, Stays, Leaves, leaves}
 
 -- no number that the store keeps, or that the next one counts from, is below the nonce of an entry
 pub record Sound (r : ℕ) (entries : List Entry) (last : Option ℕ) (start kept : List (Option ℕ)) : Type 0 where
   pub floor : (e : Entry) → Contains entries e → e.router ≡ r → (v : Option ℕ) → Contains kept v → e.nonce ≤ number v
   pub below : (base : Option ℕ) → IsBase last start base → (e : Entry) → Contains entries e → e.router ≡ r → e.nonce ≤ number base
 
-kinds_clash : kinds.Sent ≢ kinds.Received
-kinds_clash e = absurd cc
-
-notice_clash : kinds.Sent ≢ kinds.Notice
-notice_clash e = absurd cc
-
-module _ (t : Turn) (was : Sound t.node (history t.opening t.past) (last_sent t.past t.node) (start_values t.opening t.past t.node) (values t (pair_at t.opening t.node))) where
-  not_received : (p : Pair) → p.kind ≡ kinds.Received → pair_at t.opening t.node ≢ p
-  not_received p is e = kinds_clash (ap (λ (x : Pair). x.kind) e ∙ is)
-
-  not_notice : pair_at t.opening t.node ≢ notice_pair
-  not_notice e = notice_clash (ap (λ (x : Pair). x.kind) e)
-
+module _ (t : Turn) (was : Sound t.node (history t.opening t.past) (last_sent t.past t.node) (start_values t.opening t.past t.node) (own_values t)) where
   abbrev Still : Type 0
-  Still = Sound t.node (history t.opening t.past) (last_sent t.past t.node) (start_values t.opening t.past t.node) (values_after t (pair_at t.opening t.node))
+  Still = Sound t.node (history t.opening t.past) (last_sent t.past t.node) (start_values t.opening t.past t.node) (own_values_after t)
 
-  narrower : ((v : Option ℕ) → Contains (values_after t (pair_at t.opening t.node)) v → Contains (values t (pair_at t.opening t.node)) v) → Still
+  narrower : ((v : Option ℕ) → Contains (own_values_after t) v → Contains (own_values t) v) → Still
   narrower each = record { floor = λ e has its v in_it. was.floor e has its v (each v in_it); below = was.below }
 
-  stays : values_after t (pair_at t.opening t.node) ≡ values t (pair_at t.opening t.node) → Still
+  stays : own_values_after t ≡ own_values t → Still
   stays e = narrower (λ v has. subst (λ (vs : List (Option ℕ)). Contains vs v) e has)
 
-  quiet : Same t → Still
-  quiet same = stays (ap (λ (k : Kept). kept_at k (pair_at t.opening t.node)) same)
-
-  doubts : (base : Option ℕ) → IsBase (last_sent t.past t.node) (start_values t.opening t.past t.node) base → (nonce : ℕ) → number base < nonce → InDoubt (values t (pair_at t.opening t.node)) (values_after t (pair_at t.opening t.node)) nonce → Still
+  doubts : (base : Option ℕ) → IsBase (last_sent t.past t.node) (start_values t.opening t.past t.node) base → (nonce : ℕ) → number base < nonce → InDoubt (own_values t) (own_values_after t) nonce → Still
   doubts base counts nonce above (inl same) = stays same
   doubts base counts nonce above (inr more) = record {
-    floor = λ e has its v in_it. at e has its v (Contains-append_cases (values t (pair_at t.opening t.node)) (Some nonce ∷ []) v (subst (λ (vs : List (Option ℕ)). Contains vs v) more in_it));
+    floor = λ e has its v in_it. at e has its v (Contains-append_cases (own_values t) (Some nonce ∷ []) v (subst (λ (vs : List (Option ℕ)). Contains vs v) more in_it));
     below = was.below;
   }
     where
-      at : (e : Entry) → Contains (history t.opening t.past) e → e.router ≡ t.node → (v : Option ℕ) → Contains (values t (pair_at t.opening t.node)) v ⊎ Contains (Some nonce ∷ []) v → e.nonce ≤ number v
+      at : (e : Entry) → Contains (history t.opening t.past) e → e.router ≡ t.node → (v : Option ℕ) → Contains (own_values t) v ⊎ Contains (Some nonce ∷ []) v → e.nonce ≤ number v
       at e has its v (inl old) = was.floor e has its v old
       at e has its v (inr one) = let low = was.below base counts e has its in subst (λ (w : Option ℕ). e.nonce ≤ number w) (sym (only_value (Some nonce) v one)) (omega (arith, low, above))
 
-  sends_still : (router server : ℕ) (why : SendFault) → t.node ≡ router → RefusesToSend t router server why → Still
-  sends_still router server sends.NoServer is row = quiet row.1
-  sends_still router server sends.NonceSpent is row = quiet row.2
-  sends_still router server sends.OutOfMemory is row = quiet row.4
-  sends_still router server (sends.Store fault) is row = doubts row.1.base (subst (λ (n : ℕ). CountsFrom t.opening t.past n row.1.base) (sym is) row.1.counts) row.1.nonce row.1.above
-      (subst (λ (n : ℕ). InDoubt (values t (pair_at t.opening n)) (values_after t (pair_at t.opening n)) row.1.nonce) (sym is) row.1.fails.here)
-
-  hears_still : (a : Arrival) (why : NotifyFault) → RefusesNotify t a why → Still
-  hears_still a (notifies.Stale latest) row = quiet row.1
-  hears_still a notifies.OutOfMemory row = quiet row.1
-  hears_still a _ row = quiet row.1
-
-  message_still : (a : Arrival) (why : Refused) → RefusesMessage t a why → Still
-  message_still a (refuseds.StoreLoad fault) row = quiet row.fails.same
-  message_still a (refuseds.Replay saved) row = quiet row.same
-  message_still a refuseds.OutOfMemory row = quiet row.1
-  message_still a (refuseds.StoreSave fault) row = stays (row.fails.others (pair_at t.opening t.node) (not_received _ refl))
-  message_still a _ row = quiet row.1
-
-  tells_still : (router : ℕ) (why : NoticeFault) → RefusesNotice t router why → Still
-  tells_still router announcements.NotRegistered row = quiet row.1
-  tells_still router announcements.TooLarge row = quiet row.3
-  tells_still router (announcements.StoreLoad fault) row = quiet row.2.same
-  tells_still router announcements.NonceSpent row = quiet row.4
-  tells_still router announcements.OutOfMemory row = quiet row.2
-  tells_still router (announcements.StoreSave fault) row = stays (row.2.others (pair_at t.opening t.node) not_notice)
-  tells_still router announcements.NotDue row = absurd row
-
-  repeats_still : (router : ℕ) (why : NoticeFault) → RefusesToResend t router why → Still
-  repeats_still router announcements.NotDue row = quiet row.1
-  repeats_still router announcements.OutOfMemory row = quiet row.1
-  repeats_still router _ row = absurd row
+  still : Stays t → Still
+  still (inl same) = stays same
+  still (inr saved) = doubts saved.base saved.counts saved.nonce saved.above saved.doubt
 
   abbrev After : Line → Type 0
-  After line = Sound t.node (entry_in t.opening t.past line ++ history t.opening t.past) (last_sent_after line t.node (last_sent t.past t.node)) (start_values_after line (values_after t (pair_at t.opening t.node)) t.node (start_values t.opening t.past t.node)) (values_after t (pair_at t.opening t.node))
-
-  arrives_still : (a : Arrival) (line : Line) → Arrives t a line → After line
-  arrives_still a (lines.Accepted server router key nonce datagram) row = stays (row.others (pair_at t.opening t.node) (not_received _ refl))
-  arrives_still a (lines.Done server router nonce) row = quiet row.same
-  arrives_still a (lines.Counted router server key nonce) row = quiet row.same
-  arrives_still a (lines.Noticed router server nonce datagram) row = quiet row.same
-  arrives_still a (lines.Down router) row = quiet row.same
-  arrives_still a (lines.Refused node (refusals.Receive why)) row = message_still a why row.1
-  arrives_still a (lines.Refused node (refusals.Notify why)) row = hears_still a why row.1
-  arrives_still a _ row = absurd row
+  After line = Sound t.node (entry_in t.opening t.past line ++ history t.opening t.past) (last_sent_after line t.node (last_sent t.past t.node)) (start_values_after line (own_values_after t) t.node (start_values t.opening t.past t.node)) (own_values_after t)
 
   -- every entry of the router has a lower nonce than the next one
   pub sent_above : (router server key nonce datagram : ℕ) → IsSent t router server key nonce datagram → (f : Entry) → Contains (history t.opening t.past) f → f.router ≡ router → f.nonce < nonce
@@ -128,7 +59,7 @@ module _ (t : Turn) (was : Sound t.node (history t.opening t.past) (last_sent t.
       omega (arith, low, next)
 
   sends_on : (r s key nonce datagram router server : ℕ) → r ≡ router → IsSent t router server key nonce datagram → After (lines.Sent r s key nonce datagram)
-  sends_on r s key nonce datagram router server names row = subst (λ b. Sound t.node (entry_in t.opening t.past (lines.Sent r s key nonce datagram) ++ history t.opening t.past) (if b then Some nonce else last_sent t.past t.node) (start_values t.opening t.past t.node) (values_after t (pair_at t.opening t.node)))
+  sends_on r s key nonce datagram router server names row = subst (λ b. Sound t.node (entry_in t.opening t.past (lines.Sent r s key nonce datagram) ++ history t.opening t.past) (if b then Some nonce else last_sent t.past t.node) (start_values t.opening t.past t.node) (own_values_after t))
       (sym (ap (λ x. x == t.node) (names ∙ sym row.acts.acts) ∙ same_number t.node)) (record {
         floor = λ e has its v in_it. let low = at_most e has its in let high = row.saves.none_below v (subst (λ (n : ℕ). Contains (values_after t (pair_at t.opening n)) v) row.acts.acts in_it) in omega (arith, low, high);
         below = λ base is e has its. subst (λ (b : Option ℕ). e.nonce ≤ number b) (sym is) (at_most e has its);
@@ -141,27 +72,19 @@ module _ (t : Turn) (was : Sound t.node (history t.opening t.past) (last_sent t.
       at_most : (e : Entry) → Contains (entry_in t.opening t.past (lines.Sent r s key nonce datagram) ++ history t.opening t.past) e → e.router ≡ t.node → e.nonce ≤ nonce
       at_most e has its = at_most_of e _ refl its (head_or_tail _ (history t.opening t.past) e has)
 
-  restarts_on : (named : ℕ) → named ≡ t.node → ((v : Option ℕ) → Contains (values_after t (pair_at t.opening t.node)) v → Contains (values t (pair_at t.opening t.node)) v) → After (lines.Restarted named)
-  restarts_on named is each = subst (λ b. Sound t.node (history t.opening t.past) (if b then None else last_sent t.past t.node) (if b then values_after t (pair_at t.opening t.node) else start_values t.opening t.past t.node) (values_after t (pair_at t.opening t.node)))
+  restarts_on : (named : ℕ) → named ≡ t.node → ((v : Option ℕ) → Contains (own_values_after t) v → Contains (own_values t) v) → After (lines.Restarted named)
+  restarts_on named is each = subst (λ b. Sound t.node (history t.opening t.past) (if b then None else last_sent t.past t.node) (if b then own_values_after t else start_values t.opening t.past t.node) (own_values_after t))
       (sym (ap (λ x. x == t.node) is ∙ same_number t.node)) (record { floor = (narrower each).floor; below = λ base has e in_it its. was.floor e in_it its base (each base has) })
 
+  after : (line : Line) → Leaves t line → After line
+  after (lines.Sent r s key nonce datagram) left = sends_on r s key nonce datagram left.0 left.1 left.2 left.3
+  after (lines.Restarted named) left = restarts_on named left.0 left.1.each
+  after (lines.Refused named (refusals.Start fault)) left = narrower left.1.each
+  after _ left = still left
+
+  -- any legal step of the node
   pub row_sound : (e : Happening) (line : Line) → Row t e line → After line
-  row_sound (events.Change router db) (lines.Changed named records) row = quiet row.same
-  row_sound (events.Change router db) (lines.Down named) row = quiet row.same
-  row_sound (events.Send router server fate) (lines.Sent r s key nonce datagram) row = sends_on r s key nonce datagram router server row.0 row.2
-  row_sound (events.Send router server fate) (lines.Down named) row = quiet row.1.same
-  row_sound (events.Send router server fate) (lines.Refused named (refusals.Send why)) row = sends_still router server why row.2.acts row.3
-  row_sound (events.Deliver k fate) (lines.Nowhere datagram) row = stays (ap (λ (s : Shown). kept_at s.kept (pair_at t.opening t.node)) row.idle.same)
-  row_sound (events.Deliver k fate) line row = arrives_still (arrival_of row.item) line row.arrives
-  row_sound (events.Junk to from bytes) line row = arrives_still (thrown from bytes) line row.arrives
-  row_sound (events.Tick ms) (lines.Ticked passed now) row = stays (ap (λ (s : Shown). kept_at s.kept (pair_at t.opening t.node)) row.idle.same)
-  row_sound (events.Restart node pick db) (lines.Restarted named) row = restarts_on named (row.names ∙ sym row.acts) (row.narrows (pair_at t.opening t.node)).each
-  row_sound (events.Restart node pick db) (lines.Refused named (refusals.Start fault)) row = narrower (row.narrows (pair_at t.opening t.node)).each
-  row_sound (events.Notice server router fate) (lines.Notice s r key nonce datagram) row = stays (row.2.saves.others (pair_at t.opening t.node) not_notice)
-  row_sound (events.Notice server router fate) (lines.Refused named (refusals.Notice why)) row = tells_still router why row.3
-  row_sound (events.Resend server router) (lines.Resent s r datagram) row = quiet row.2.same
-  row_sound (events.Resend server router) (lines.Refused named (refusals.Notice why)) row = repeats_still router why row.3
-  row_sound _ _ row = absurd row
+  row_sound e line row = after line (leaves t e line row)
 
 module _ (o : Opening) where
   abbrev SoundAt : List Step → ℕ → Type 0
@@ -212,17 +135,13 @@ module _ (o : Opening) where
       at (inr in_e) (inl is_f) = let low = below e in_e (sym router ∙ ap (λ (x : Entry). x.router) is_f) in let same = ap (λ (x : Entry). x.nonce) is_f in absurd (omega (arith, low, same, nonce))
       at (inr in_e) (inr in_f) = old e f in_e in_f router nonce
 
-  unique_row : (T : List Step) (actor : ℕ) (after : Shown) (e : Happening) (line : Line) → Row (turn_of o T (record { event = e; line = line; actor = actor; shown = after })) e line → SoundAt T actor → Unique (history o T) → Unique (entry_in o T line ++ history o T)
-  unique_row T actor after (events.Send router server fate) (lines.Sent r s key nonce datagram) row safe old = new_unique _ (history o T) old (λ f has its. sent_above (turn_of o T (record { event = events.Send router server fate; line = lines.Sent r s key nonce datagram; actor = actor; shown = after })) safe router server key nonce datagram row.2 f has (its ∙ row.0))
-  unique_row T actor after (events.Change _ _) (lines.Sent r s key nonce datagram) row safe old = absurd row
-  unique_row T actor after (events.Deliver _ _) (lines.Sent r s key nonce datagram) row safe old = absurd row.arrives
-  unique_row T actor after (events.Junk _ _ _) (lines.Sent r s key nonce datagram) row safe old = absurd row.arrives
-  unique_row T actor after (events.Tick _) (lines.Sent r s key nonce datagram) row safe old = absurd row
-  unique_row T actor after (events.Restart _ _ _) (lines.Sent r s key nonce datagram) row safe old = absurd row
-  unique_row T actor after (events.Notice _ _ _) (lines.Sent r s key nonce datagram) row safe old = absurd row
-  unique_row T actor after (events.Resend _ _) (lines.Sent r s key nonce datagram) row safe old = absurd row
-  unique_row T actor after e _ row safe old = old
+  unique_row : (T : List Step) (s : Step) → Legal o T s → SoundAt T s.actor → Unique (history o T) → Unique (history o (s ∷ T))
+  unique_row T s l safe old = by s.line (leaves (turn_of o T s) s.event s.line l.row)
+    where
+      by : (line : Line) → Leaves (turn_of o T s) line → Unique (entry_in o T line ++ history o T)
+      by (lines.Sent r server key nonce datagram) left = new_unique _ (history o T) old (λ f has its. sent_above (turn_of o T s) safe left.0 left.1 key nonce datagram left.3 f has (its ∙ left.2))
+      by _ left = old
 
   pub unique : (T : List Step) → LegalTrace o T → Unique (history o T)
   unique [] legal = λ e f has. absurd (in_none e has)
-  unique (s ∷ T) legal = unique_row T s.actor s.shown s.event s.line legal.0.row (sound T legal.1 s.actor) (unique T legal.1)
+  unique (s ∷ T) legal = unique_row T s legal.0 (sound T legal.1 s.actor) (unique T legal.1)

@@ -101,7 +101,7 @@ ack_item c router a m = record {
   message = Notifies (ack_of m);
 }
 
--- the bag, and what each server accepted since its start. What arrives is told by the bag; the records of
+-- the bag, and what each server accepted since its start. What arrives is found in the bag; the records of
 -- a notice by what was accepted
 pub record Past : Type 0 where
   pub bag : List Item

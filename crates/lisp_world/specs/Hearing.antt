@@ -43,7 +43,7 @@ pub record IsStale (t : Turn) (a : Arrival) (last : ℕ) : Type 0 where
   pub latest : last ≡ latest t.past t.node what.server
   pub other : is_latest what.message.nonce last ≡ false
 
--- the first reason that applies; want of memory may come in place of it
+-- the first reason that applies; out of memory may come in place of it
 abbrev pub RefusesNotify : Turn → Arrival → NotifyFault → Type 0
 RefusesNotify t a (Stale last) = IsStale t a last × Same t
 RefusesNotify t a OutOfMemory = HasHead a × Same t

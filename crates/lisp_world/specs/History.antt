@@ -1,5 +1,7 @@
 -- History: what the routers sent (RFC 9301 section 5.6).
-use Rattle.std.specs.Prelude.{ℕ, List, [], ◌∷◌, ◌++◌, length}
+use Rattle.std.specs.Prelude.{ℕ, List, [], ◌∷◌, ◌++◌, length, reverse, Option}
+use Rattle.std.specs.List.{find}
+use Rattle.lisp_records.specs.Address.{Block, block_eq}
 use Rattle.lisp_records.specs.Record.{Mapping}
 use Rattle.lisp_sites.specs.Configuration.{Configuration}
 use Rattle.lisp_messages.specs.Message.{Registration}
@@ -18,9 +20,13 @@ pub record Entry : Type 0 where
   pub database : List Mapping
   pub position : ℕ
 
--- its message: these fields and these records, P and T as the router is told, I and M set
+-- its message: these fields and these records, P and T by the router's configuration, I and M set
 abbrev pub message_of : Configuration → Entry → Registration
-message_of c e = registration_of (settings_of c (router_at c e.router)) e.database e.nonce
+message_of c e = registration_of (record (settings_of c (router_at c e.router)) { key_id = e.key }) e.database e.nonce
+
+-- the record that a database has for a prefix: of several the last one
+abbrev pub record_for : List Mapping → Block → Option Mapping
+record_for database eid = find (λ m. block_eq m.eid eid) (reverse database)
 
 abbrev pub entry_in : Opening → List Step → Line → List Entry
 entry_in o T (lines.Sent router server key nonce _) = record { router = router; key = key; nonce = nonce; server = server; database = database o T router; position = length T } ∷ []

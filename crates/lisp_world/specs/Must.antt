@@ -12,7 +12,7 @@ use Rattle.lisp_etr.specs.declared.notify_fault.NotifyFault.TheVariants as notif
 use Rattle.lisp_etr.specs.declared.send_fault.SendFault.TheVariants as sends
 use Rattle.lisp_server.specs.declared.refused.Refused.TheVariants as refuseds
 use Rattle.lisp_server.specs.Receiving.{IsBelow}
-use Rattle.lisp_server.specs.Registration.{pair_of}
+use Rattle.lisp_server.specs.AcceptedRows.{pair_of}
 use Rattle.lisp_world.specs.declared.event.Event.TheVariants as events
 use Rattle.lisp_world.specs.declared.line.Line.{Line}
 use Rattle.lisp_world.specs.declared.line.Line.TheVariants as lines
@@ -28,7 +28,7 @@ use Rattle.lisp_world.specs.Sending.{pair_at}
 use Rattle.lisp_world.specs.Receiving.{Admits, last_in, awaiting, answers}
 use Rattle.lisp_world.specs.Legal.{turn_of}
 
--- a router's or server's refusal for want of memory, or for its store
+-- a router's or server's refusal for out of memory, or for its store
 abbrev pub cause_of : Refusal → Option StoreFault
 cause_of (refusals.Send sends.OutOfMemory) = Some stores.OutOfMemory
 cause_of (refusals.Send (sends.Store fault)) = Some fault

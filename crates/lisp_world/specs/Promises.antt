@@ -8,13 +8,13 @@ use Rattle.lisp_records.specs.Row.{Holding}
 use Rattle.lisp_records.specs.declared.router.RouterId.{RouterId}
 use Rattle.lisp_sites.specs.Configuration.{Configuration}
 use Rattle.lisp_store.specs.declared.pair.Pair.{Pair}
-use Rattle.lisp_server.specs.Registration.{pair_of}
+use Rattle.lisp_server.specs.AcceptedRows.{pair_of}
 use Rattle.lisp_server.specs.declared.refused.Refused.TheVariants.{Replay}
 use Rattle.lisp_world.specs.declared.event.Event.TheVariants as events
 use Rattle.lisp_world.specs.declared.line.Line.TheVariants as lines
 use Rattle.lisp_world.specs.declared.refusal.Refusal.TheVariants.{Receive}
 use Rattle.lisp_world.specs.Trace.{Happening, Step, Opening, shown, clock, is_up, is_server, is_router, database, address_at, router_at}
-use Rattle.lisp_world.specs.History.{Entry, message_of, history}
+use Rattle.lisp_world.specs.History.{Entry, message_of, record_for, history}
 use Rattle.lisp_world.specs.Held.{Acceptance, held}
 use Rattle.lisp_world.specs.Timers.{round, notices, last_notice}
 use Rattle.lisp_world.specs.Bag.{Item, since, bag}
@@ -32,7 +32,7 @@ Falls (n ∷ ns) = ((m : ℕ) → Contains ns m → m < n) × Falls ns
 abbrev pub NoncesRise : Opening → List Step → Type 0
 NoncesRise o T = (server : ℕ) (pair : Pair) → Falls (nonces_of pair (accepted o T server))
 
--- a replay is told with a number that the server tried before, or that its store kept at the opening
+-- a replay is refused with a number that the server tried before, or that its store kept at the opening
 abbrev pub ReplaysAreTried : Opening → List Step → Step → Type 0
 ReplaysAreTried o T s = (server saved : ℕ) → s.line ≡ lines.Refused server (Receive (Replay saved)) → (a : Acceptance) → Contains (arriving o T s) a → Contains (tried o T server (pair_of a.message)) saved
 
@@ -89,7 +89,7 @@ pub record IsRowOf (c : Configuration) (h : Holding) (e : Entry) : Type 0 where
 -- what is held for a prefix is the record that an entry's database has for it
 abbrev pub HeldWasSent : Opening → List Step → Type 0
 HeldWasSent o T = (server : ℕ) (router : RouterId) (eid : Block) (h : Holding) → held (since o T server) router eid (clock T) ≡ Some h
-    → (e : Entry) × Contains (history o T) e × (e.server ≡ server) × IsRowOf o.config h e × Contains e.database h.mapping
+    → (e : Entry) × Contains (history o T) e × (e.server ≡ server) × IsRowOf o.config h e × (record_for e.database eid ≡ Some h.mapping)
 
 -- servers that hold a prefix of a router from entries with no change between hold equal records
 abbrev pub HeldAgree : Opening → List Step → Type 0

@@ -8,13 +8,13 @@ use Rattle.lisp_store.specs.declared.pair.Pair.{Pair}
 use Rattle.lisp_store.specs.declared.fault.StoreFault.{StoreFault}
 use Rattle.lisp_messages.specs.declared.fault.ReadFault.{ReadFault}
 use Rattle.lisp_messages.specs.Message.{Said, Registration, Notification, Registers, Notifies}
-use Rattle.lisp_messages.specs.Authentic.{is_authentic}
 use Rattle.lisp_server.specs.declared.refused.Refused.{Refused}
 use Rattle.lisp_server.specs.declared.refused.Refused.TheVariants.{Read, NotMine, BadAuth, StoreLoad, Replay, OutOfMemory, StoreSave, NoNotice}
 use Rattle.lisp_server.specs.Receiving.{IsBelow}
-use Rattle.lisp_server.specs.Registration.{router_of, pair_of}
-use Rattle.lisp_server.specs.Checks.{secret_under}
-use Rattle.lisp_world.specs.Trace.{secret_at, router_at}
+use Rattle.lisp_server.specs.AcceptedRows.{router_of, pair_of}
+use Rattle.lisp_server.specs.Checks.{secret_under, signed_by}
+use Rattle.lisp_server.specs.Contacts.{secret_at}
+use Rattle.lisp_world.specs.Trace.{router_at}
 use Rattle.lisp_world.specs.Held.{last_of}
 use Rattle.lisp_world.specs.Timers.{Notice, notices}
 use Rattle.lisp_world.specs.Bag.{HasHead, Item, Arrival, bag, since}
@@ -62,7 +62,7 @@ awaiting t from m = find (awaits t from m) (notices t.opening t.past t.node)
 
 -- the tag of what arrives is that of the notice's key
 abbrev pub answers : Turn → Arrival → Notice → Bool
-answers t a n = is_authentic a.bytes (secret_at t.opening.config.sites (router_at t.opening.config n.router).me.site n.key)
+answers t a n = signed_by (secret_at t.opening.config.sites (router_at t.opening.config n.router).me.site n.key) a.bytes
 
 -- a Map-Notify-Ack ends a notice
 pub record IsDone (t : Turn) (a : Arrival) (server : ℕ) (router : RouterId) (nonce : ℕ) : Type 0 where
@@ -93,7 +93,7 @@ FailsCheck t a (Err fault) why = why ≡ Read fault
 FailsCheck t a (Ok (Registers m)) why = secret_under t.opening.config.sites a.bytes m ≡ Err why
 FailsCheck t a (Ok (Notifies m)) why = FailsNotify t a m m.ack why
 
--- the base can't be told
+-- the base can't be loaded
 pub record NotLoaded (t : Turn) (a : Arrival) (fault : StoreFault) : Type 0 where
   pub message : Registration
   pub admits : Admits t a message

@@ -19,11 +19,11 @@ use Rattle.lisp_etr.specs.Etr.{EtrState}
 use Rattle.lisp_etr.specs.Round.{Keeps}
 use Rattle.lisp_etr.specs.declared.round.Round.{Round}
 use Rattle.lisp_server.specs.Server.{ServerState}
-use Rattle.lisp_server.specs.Nonces.{nonce_at}
+use Rattle.lisp_server.specs.LastNonces.{nonce_at}
 use Rattle.lisp_server.specs.Contacts.{contact_at}
 use Rattle.lisp_server.specs.Receiving.{contact_of}
 use Rattle.lisp_server.specs.Notices.{Standing, notice_pair}
-use Rattle.lisp_world.specs.Trace.{Shown, Step, Opening, addresses, router_at, settings_of, shown, clock, is_up, database}
+use Rattle.lisp_world.specs.Trace.{Shown, Step, Opening, addresses, router_at, settings_of, address_at, shown, clock, is_up, database}
 use Rattle.lisp_world.specs.Held.{last_of, heard_last, held}
 use Rattle.lisp_world.specs.Timers.{round, Notice, notices, last_notice}
 use Rattle.lisp_world.specs.Bag.{Item, bytes_of, bag, since}
@@ -42,7 +42,7 @@ pub record ServerNode : Type 0 where
   pub core : ServerState
   pub store : StoreState
 
--- a router with its store: up, or down with what it was told and its database
+-- a router with its store: up, or down with its configuration and its database
 pub data RouterCore : Type 0 where
   Up : EtrState → RouterCore
   Down : Settings → List Mapping → RouterCore
@@ -115,12 +115,13 @@ StandsForRouter o T router (Up e) = StandsForEtr o T router e
 StandsForRouter o T router (Down settings db) = (is_up T router ≡ false) × (settings ≡ settings_of o.config (router_at o.config router)) × (db ≡ database o T router)
 
 -- a notice as a server keeps it
-pub record IsStanding (o : Opening) (T : List Step) (n : Notice) (kept : Standing) : Type 0 where
+pub record IsStanding (o : Opening) (T : List Step) (server : ℕ) (n : Notice) (kept : Standing) : Type 0 where
   pub router : kept.router ≡ (router_at o.config n.router).me
   pub key : kept.key ≡ n.key
   pub nonce : kept.nonce ≡ n.nonce
   pub item : Item
   pub sent : slice_get (bag o T) n.datagram ≡ Some item
+  pub from : item.from ≡ address_at o.config server
   pub to : kept.to ≡ item.to
   pub bytes : kept.bytes ≡ bytes_of item
   pub earlier : List ℕ
@@ -135,8 +136,8 @@ pub record StandsForServer (o : Opening) (T : List Step) (server : ℕ) (n : Ser
   pub notice_nonce : nonce_at n.core.nonces notice_pair ≡ last_notice T server
   pub contacts : (router : RouterId) (eid : Block) (h : Holding) → held (since o T server) router eid (clock T) ≡ Some h → contact_at n.core.contacts router ≡ option_map (λ a. contact_of a.message a.from) (heard_last router (since o T server))
   pub one_each : AllPairs (λ a b. a.router ≢ b.router) n.core.notices
-  pub each : (kept : Standing) → Contains n.core.notices kept → (notice : Notice) × Contains (notices o T server) notice × IsStanding o T notice kept
-  pub all : (notice : Notice) → Contains (notices o T server) notice → (kept : Standing) × Contains n.core.notices kept × IsStanding o T notice kept
+  pub each : (kept : Standing) → Contains n.core.notices kept → (notice : Notice) × Contains (notices o T server) notice × IsStanding o T server notice kept
+  pub all : (notice : Notice) → Contains (notices o T server) notice → (kept : Standing) × Contains n.core.notices kept × IsStanding o T server notice kept
 
 -- the network stands for the trace: its steps and stores, clock and bag, each server and each router
 pub record Stands (w : WorldState) (o : Opening) (T : List Step) : Type 0 where

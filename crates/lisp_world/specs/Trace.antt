@@ -74,7 +74,7 @@ router_at c node = slice_index_or c.routers (node - length c.servers) (record { 
 abbrev pub secret_at : List SiteEntry → ℕ → ℕ → List ℕ
 secret_at sites site key = unwrap_or (known_secret sites site key) []
 
--- what a router is told
+-- what a router is configured with
 abbrev pub settings_of : Configuration → Router → Settings
 settings_of c r = record { me = r.me; key_id = r.key_id; secret = secret_at c.sites r.me.site r.key_id; servers = map (address_at c) r.servers; proxy = r.proxy; use_ttl = r.use_ttl }
 

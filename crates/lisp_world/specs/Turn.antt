@@ -41,7 +41,7 @@ Same t = t.after.kept ≡ t.before.kept
 abbrev pub SameOthers : Turn → Pair → Type 0
 SameOthers t pair = SameElsewhere t.before.kept t.after.kept pair
 
--- a device failed; the count stops at its end. Only then does a store answer a fault other than want of memory
+-- a device failed; the count stops at its end. Only then does a store answer a fault other than out of memory
 abbrev pub Rose : Turn → Type 0
 Rose t = (t.before.faults < t.after.faults) ⊎ (t.after.faults ≡ 2 ^ 64 - 1)
 

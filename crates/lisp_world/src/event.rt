@@ -51,7 +51,7 @@ pub enum Event<A: Allocator = Global> {
         /// What a router registers from now on, where that is another database.
         db: Option<Database<A>>,
     },
-    /// A Map-Server tells a router unasked what it holds of it.
+    /// A Map-Server sends a router an unsolicited Map-Notify (notice) of what it holds of it.
     Notice {
         /// The Map-Server.
         server: usize,

@@ -17,7 +17,7 @@ pub fn nonces_rise()
     ensures { (o : Opening) (T : List Step) → LegalTrace o T → NoncesRise o T }
 {}
 
-/// A replay is told with a number that the Map-Server tried before, or that its store kept at the opening.
+/// A replay is refused with a number that the Map-Server tried before, or that its store kept at the opening.
 #[tactic(auto, using(crate::proofs::RisingLaws::replays_tried))]
 pub fn replays_are_tried()
     ensures { (o : Opening) (T : List Step) (s : Step) → LegalTrace o T → Legal o T s → ReplaysAreTried o T s }

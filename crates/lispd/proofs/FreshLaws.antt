@@ -17,16 +17,16 @@ use Rattle.lisp_messages.specs.Message.{Said, Registers, Notifies, Notification}
 use Rattle.lisp_messages.specs.declared.fault.ReadFault.{ReadFault}
 use Rattle.lisp_server.specs.Checks.{Passed, register_checked, notice_ended, answers_under, check, ◌>>=◌}
 use Rattle.lisp_server.specs.Notices.{Standing, awaits}
-use Rattle.lisp_server.specs.Nonces.{nonce_at}
+use Rattle.lisp_server.specs.LastNonces.{nonce_at}
 use Rattle.lisp_server.specs.Receiving.{IsBase, Takes, RefusesRegister, RefusesRead, Refuses, HasCause}
-use Rattle.lisp_server.specs.Registration.{pair_of}
+use Rattle.lisp_server.specs.AcceptedRows.{pair_of}
 use Rattle.lisp_server.specs.Server.{ServerState}
 use Rattle.lisp_server.specs.Took.{reply_in}
 use Rattle.lisp_server.specs.declared.took.Took.{Took}
 use Rattle.lisp_server.specs.declared.took.Took.TheVariants.{Accepted, NoticeDone}
 use Rattle.lisp_server.specs.declared.refused.Refused.{Refused}
 use Rattle.lisp_server.specs.declared.refused.Refused.TheVariants as refusals
-use Rattle.lispd.specs.Answer.{answer_to, read_answer, IsWant}
+use Rattle.lispd.specs.Answer.{answer_to, read_answer, IsOutOfMemory}
 
 abbrev fresh_server : List SiteEntry → ServerState
 fresh_server sites = record { sites = sites; rows = []; nonces = empty; contacts = []; notices = [] }
@@ -78,7 +78,7 @@ taken sites (Ok (Notifies m)) from bytes new after (Accepted router key nonce re
 taken sites (Ok (Notifies m)) from bytes new after (NoticeDone router nonce) e = absurd (let clash : ◌≡◌ {A = Result Standing Refused} (Err (cond m.ack refusals.NoNotice refusals.NotMine)) (Ok e.notice) = sym (none_ended sites from bytes m) ∙ e.checks in cc)
 taken sites (Err fault) from bytes new after took never = absurd never
 
-register_refused : (sites : List SiteEntry) (c : Result Passed Refused) (after : StoreState) (why : Refused) → Proceeds fresh_store after → RefusesRegister c (fresh_server sites) fresh_store after why → IsWant why ⊎ (answer_to c ≡ Err why)
+register_refused : (sites : List SiteEntry) (c : Result Passed Refused) (after : StoreState) (why : Refused) → Proceeds fresh_store after → RefusesRegister c (fresh_server sites) fresh_store after why → IsOutOfMemory why ⊎ (answer_to c ≡ Err why)
 register_refused sites c after (refusals.StoreLoad fault) went r = inl (only_memory after fault went r.cause)
 register_refused sites c after (refusals.StoreSave fault) went r = inl (only_memory after fault went r.cause)
 register_refused sites c after refusals.OutOfMemory went r = inl tt
@@ -95,12 +95,12 @@ register_refused sites c after refusals.NoNotice went r = inr (ap answer_to r.0)
 err_same : (one other : Refused) → ◌≡◌ {A = Result Standing Refused} (Err one) (Err other) → one ≡ other
 err_same one other e = cc
 
-read_refused : (sites : List SiteEntry) (said : Result Said ReadFault) (from : Addr) (bytes : List ℕ) (after : StoreState) (why : Refused) → Proceeds fresh_store after → RefusesRead said from bytes (fresh_server sites) fresh_store after why → IsWant why ⊎ (read_answer sites bytes said ≡ Err why)
+read_refused : (sites : List SiteEntry) (said : Result Said ReadFault) (from : Addr) (bytes : List ℕ) (after : StoreState) (why : Refused) → Proceeds fresh_store after → RefusesRead said from bytes (fresh_server sites) fresh_store after why → IsOutOfMemory why ⊎ (read_answer sites bytes said ≡ Err why)
 read_refused sites (Ok (Registers m)) from bytes after why went r = register_refused sites (register_checked sites bytes m) after why went r
 read_refused sites (Ok (Notifies m)) from bytes after why went r = inr (ap Err (err_same (cond m.ack refusals.NoNotice refusals.NotMine) why (sym (none_ended sites from bytes m) ∙ r.0)))
 read_refused sites (Err fault) from bytes after why went r = inr (ap Err (sym r.0))
 
-pub refused : (sites : List SiteEntry) (said : Result Said ReadFault) (from : Addr) (bytes : List ℕ) (after : StoreState) (why : Refused) → Proceeds fresh_store after → Refuses said from bytes (fresh_server sites) fresh_store after why → IsWant why ⊎ (read_answer sites bytes said ≡ Err why)
+pub refused : (sites : List SiteEntry) (said : Result Said ReadFault) (from : Addr) (bytes : List ℕ) (after : StoreState) (why : Refused) → Proceeds fresh_store after → Refuses said from bytes (fresh_server sites) fresh_store after why → IsOutOfMemory why ⊎ (read_answer sites bytes said ≡ Err why)
 refused sites said from bytes after refusals.OutOfMemory went r = inl tt
 refused sites said from bytes after (refusals.StoreLoad x) went r = read_refused sites said from bytes after (refusals.StoreLoad x) went r
 refused sites said from bytes after (refusals.StoreSave x) went r = read_refused sites said from bytes after (refusals.StoreSave x) went r

@@ -18,7 +18,7 @@ abbrev pub answer_to : Result Passed Refused → Answer
 answer_to (Ok passed) = Ok (reply_of passed.secret passed.message)
 answer_to (Err refused) = Err refused
 
--- a Map-Notify is for routers, and no notice stands that a Map-Notify-Ack could end
+-- a Map-Notify is for routers, and no unsolicited Map-Notify (notice) stands that a Map-Notify-Ack could end
 abbrev pub said_answer : List SiteEntry → List ℕ → Said → Answer
 said_answer sites bytes (Registers m) = answer_to (register_checked sites bytes m)
 said_answer sites bytes (Notifies m) = Err (if m.ack then NoNotice else NotMine)
@@ -32,13 +32,13 @@ abbrev pub answer_of : List SiteEntry → List ℕ → Answer
 answer_of sites bytes = read_answer sites bytes (message_at bytes)
 
 -- memory ran out, here or in the store
-abbrev pub IsWant : Refused → Type 0
-IsWant OutOfMemory = Unit {0}
-IsWant (StoreLoad fault) = fault ≡ faults.OutOfMemory
-IsWant (StoreSave fault) = fault ≡ faults.OutOfMemory
-IsWant _ = ⊥
+abbrev pub IsOutOfMemory : Refused → Type 0
+IsOutOfMemory OutOfMemory = Unit {0}
+IsOutOfMemory (StoreLoad fault) = fault ≡ faults.OutOfMemory
+IsOutOfMemory (StoreSave fault) = fault ≡ faults.OutOfMemory
+IsOutOfMemory _ = ⊥
 
 -- the result is the answer, unless memory ran out
 abbrev pub Answers : Answer → Answer → Type 0
 Answers (Ok reply) answer = answer ≡ Ok reply
-Answers (Err refused) answer = IsWant refused ⊎ (answer ≡ Err refused)
+Answers (Err refused) answer = IsOutOfMemory refused ⊎ (answer ≡ Err refused)

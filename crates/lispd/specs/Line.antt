@@ -9,7 +9,7 @@ use Rattle.lisp_server.specs.declared.refused.Refused.{Refused}
 use Rattle.lisp_sites.specs.Site.{SiteEntry}
 use Rattle.lispd.specs.Setup.{Setup, sites_of}
 use Rattle.lispd.specs.Words.{refused_words}
-use Rattle.lispd.specs.Answer.{Answer, answer_of, IsWant}
+use Rattle.lispd.specs.Answer.{Answer, answer_of, IsOutOfMemory}
 
 -- an answer in words: the Map-Notify in digits, or why there is none
 abbrev pub answer_words : Answer → List ℕ
@@ -27,10 +27,10 @@ decoded_words sites (Err _) = codes "refused " ++ decimal 94
 abbrev pub line_of : Setup → List ℕ → List ℕ
 line_of s input = decoded_words (sites_of s) (decode_of (first_line input))
 
--- these words, or those for want of memory
+-- these words, or those for out of memory
 abbrev pub AreWords : List ℕ → List ℕ → Type 0
-AreWords text words = (text ≡ words) ⊎ ((refused : Refused) × IsWant refused × (text ≡ refused_words refused))
+AreWords text words = (text ≡ words) ⊎ ((refused : Refused) × IsOutOfMemory refused × (text ≡ refused_words refused))
 
--- to what was held, the line that answers the input was added, or the one for want of memory
+-- to what was held, the line that answers the input was added, or the one for out of memory
 abbrev pub Adds : Option (List ℕ) → Option (List ℕ) → Setup → List ℕ → Type 0
 Adds old new s input = (words : List ℕ) × AreWords words (line_of s input) × Appends old new (words ++ 10 ∷ [])

@@ -1,6 +1,6 @@
 //! The subcommand `answer`.
 
-ghost use Rattle.std.specs.Prelude.{◌≡◌, ◌≢◌, ◌<◌, ◌≤◌, length, IfSome, OnOk, IfErr, IsErrOf};
+ghost use Rattle.std.specs.Prelude.{◌≢◌, ◌<◌, ◌≤◌, length, IfSome, OnOk, IfErr, IsErrOf};
 ghost use Rattle.std.specs.Io.BufRead.{take_through};
 ghost use Rattle.std.specs.Io.KnownBytes.{Consumes, Keeps};
 ghost use Rattle.lispd.specs.Line.{Adds};
@@ -15,14 +15,17 @@ use std::alloc::Allocator;
 use std::io::{Read, Write};
 
 /// Reads one line of hexadecimal digits, the bytes of a message, and writes one line: what a fresh
-/// server with this setup answers. That is the Map-Notify in lower case digits; `accepted` where
-/// bit M is clear; `refused` with the number of the refusal and what it carries; or `refused 94`
-/// where the line isn't hexadecimal. Want of memory in the server is `refused 58`.
+/// Map-Server with this setup answers. To a Map-Register that is the Map-Notify in lower case digits,
+/// `accepted` where bit M is clear, or `refused` with the number of the refusal and what it carries. A
+/// Map-Notify is `refused 61`. A Map-Notify-Ack is `refused 60`, since no unsolicited Map-Notify (notice)
+/// waits for it. A line that isn't hexadecimal is `refused 94`. Out of memory in the server is
+/// `refused 58`, in its store `refused 59 store 32`.
 ///
 /// The line ends with a line feed, before which a carriage return is dropped, or with the input; it
-/// has at most 1,048,576 bytes, its line feed among them, and nothing behind it is read. Faults:
-/// `Read` where a read fails or 2,097,152 reads are not enough, `TooLong`, `OutOfMemory` where there
-/// is no memory for the site, the line or its answer, `Write`. Nothing was written at all but `Write`.
+/// has at most 1,048,576 bytes, its line feed among them, and nothing after it is read. Faults:
+/// `Read` where a read fails or 2,097,152 reads are not enough, `TooLong`, `OutOfMemory` where memory
+/// runs out for the site, the line or the text of its answer, `Write`. Only at `Write` may a part of
+/// the answer have been written.
 pub fn answer<A: Allocator + Copy, B: Allocator, R: Read, W: Write>(
     alloc: A,
     setup: &AnswerSetup<B>,

@@ -15,13 +15,13 @@ pub enum AnswerFault {
     /// The input could not be read, or took too many reads.
     #[error("standard input can't be read")]
     Read,
-    /// The answer could not be written; how much of it went out is open.
+    /// The answer could not be written; a part of it may have been.
     #[error("standard output can't be written")]
     Write,
     /// The line has more than 1,048,576 bytes.
     #[error("the line on standard input has more than 1,048,576 bytes")]
     TooLong,
-    /// No memory for the line or for the text of the answer.
+    /// Out of memory for the site, the line or the text of the answer.
     #[error("out of memory: free some and try again")]
     OutOfMemory,
 }
@@ -69,7 +69,7 @@ pub enum SetupFault {
     /// An option's value has another form than the option takes.
     #[error("{0}")]
     BadOption(AnswerOption),
-    /// No memory for the setup.
+    /// Out of memory for the setup.
     #[error("out of memory: free some and try again")]
     OutOfMemory,
 }

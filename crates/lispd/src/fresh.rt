@@ -11,8 +11,8 @@ use std::alloc::Allocator;
 /// Where the datagram is said to come from: no answer shows it.
 const SOURCE: Addr = Addr::V4([127, 0, 0, 1]);
 
-/// What a fresh server of these sites, over a store that keeps nothing, answers to the bytes: the
-/// Map-Notify where the Map-Register wants one, in memory of `alloc`, or the refusal.
+/// What a fresh server of these sites, over an empty store in memory, answers to the bytes: the Map-Notify
+/// where the Map-Register wants one, in memory of `alloc`, or the refusal.
 pub(crate) fn respond<A: Allocator + Copy>(
     alloc: A,
     sites: Sites<A>,

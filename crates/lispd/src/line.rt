@@ -32,7 +32,6 @@ pub(crate) fn words_for<A: Allocator + Copy>(
     }
 }
 
-// The words of an answer.
 fn words_of<A: Allocator>(
     alloc: A,
     answer: Result<Option<Bytes<A>>, Refused>,

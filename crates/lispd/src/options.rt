@@ -13,14 +13,14 @@ use crate::option::AnswerOption;
 use crate::site::{AnswerSetup, DEFAULT_KEY, DEFAULT_SECRET, DEFAULT_SITE, default_prefix};
 use clap::ArgMatches;
 use lisp_records::{Bytes, Prefix};
-use lisp_sites::{number_from_text, prefix_from_text, secret_from_text, site_id_from_text};
+use lisp_texts::{number_from_text, prefix_from_text, secret_from_text, site_id_from_text};
 use std::alloc::Allocator;
 
 /// The setup that the options ask for, in memory of `alloc`: `--site` 16 hexadecimal digits, `--key`
 /// a decimal number 0 to 255, `--secret` hexadecimal text of 1 to 256 bytes, `--prefix` a prefix as
-/// [`lisp_sites::prefix_from_text`] reads it, `--more-specifics`. What is absent, and `None`, are the
-/// defaults. `BadOption` names the first of these options whose value has another form; `OutOfMemory`
-/// where there is no memory for the secret.
+/// [`lisp_texts::prefix_from_text`] reads it, `--more-specifics`. What is absent has its default, and all
+/// has where there are no `matches`. `BadOption` names the first of these options whose value has another
+/// form; `OutOfMemory` where memory runs out for the secret.
 #[tactic(auto, unfolding(crate::specs::Options::setup_of))]
 pub fn setup<A: Allocator>(
     alloc: A,

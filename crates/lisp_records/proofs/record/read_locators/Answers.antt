@@ -1,5 +1,8 @@
 use Rattle.std.proofs.Common.{◌+◌, ap, length-append}
 use Rattle.std.proofs.lemmas.Result.{err_from_is_err_and}
+use Rattle.std.proofs.lemmas.List.Elements.{All-push}
+use Rattle.lisp_records.specs.declared.locator.Locator.{Locator}
+use Rattle.lisp_records.specs.Address.{IsWhole}
 use Rattle.lisp_records.specs.Reading.{locators_at}
 use Rattle.lisp_records.proofs.Loop.{goes_on, ends, is_done}
 use Rattle.lisp_records.proofs.record.read_locators.Goals as goal
@@ -7,14 +10,15 @@ use Rattle.lisp_records.proofs.record.read_locators.Goals as goal
 pub returns-in_err-locator-clause-locators : goal.returns-in_err-locator-clause-locators
 returns-in_err-locator-clause-locators g c =
     let p = err_from_is_err_and c.from_residual.result c.from_residual.ensures.1 in
-    rw (p.1, p.2) (ends c.in_err-locator.field-0.0 c.loop.locators.items c.args.count c.loop.counter c.loop.rest.now (locators_at c.args.count c.args.bytes.now) c.loop-test.true c.in_err-locator.ensures c.loop.invariant.read)
+    rw (p.1, p.2) (ends c.in_err-locator.field-0.0 c.loop.locators.items c.args.count c.loop.counter c.loop.rest.now (locators_at c.args.count c.args.bytes.now) c.loop-test.true c.in_err-locator.ensures.read c.loop.invariant.read)
 
 pub loop-preserved : goal.loop-preserved
 loop-preserved g c =
     let pushed = c.in_ok-push.ensures.items in
     record {
       count = rw (pushed, length-append) (ap (λ n. n + 1) c.loop.invariant.count);
-      read = rw pushed (goes_on c.loop.locators.items c.args.count c.loop.counter c.loop.rest.now c.in_ok-locator.locator c.in_ok-locator.after.now (locators_at c.args.count c.args.bytes.now) c.loop-test.true c.in_ok-locator.ensures c.loop.invariant.read);
+      whole = rw pushed (All-push (λ (x : Locator). IsWhole x.addr) c.loop.locators.items c.in_ok-locator.locator c.loop.invariant.whole c.in_ok-locator.ensures.whole);
+      read = rw pushed (goes_on c.loop.locators.items c.args.count c.loop.counter c.loop.rest.now c.in_ok-locator.locator c.in_ok-locator.after.now (locators_at c.args.count c.args.bytes.now) c.loop-test.true c.in_ok-locator.ensures.read c.loop.invariant.read);
     }
 
 pub returns-clause-locators : goal.returns-clause-locators

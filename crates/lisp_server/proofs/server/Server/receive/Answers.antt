@@ -7,16 +7,16 @@ use Rattle.lisp_server.proofs.KnownLaws.{known_after}
 use Rattle.lisp_server.proofs.server.Server.receive.Goals as goal
 
 pub returns-in-Ok-Register-clause-taken : goal.returns-in-Ok-Register-clause-taken
-returns-in-Ok-Register-clause-taken g c = rw (← c.self.view_is) (IfOk-weaker c.register.result _ _ (λ took. takes_register _ c.in-Ok-Register.message _ _ _ _ _ _ _ took (c.in-Ok-Register.ensures.exact ∙ ap (λ m. Ok (said m)) c.in-Ok-Register.field-0-is)) c.register.ensures.accepted)
+returns-in-Ok-Register-clause-taken g c = rw (← c.self.view_is) (IfOk-weaker c.receive_register.result _ _ (λ took. takes_register _ c.in-Ok-Register.message _ _ _ _ _ _ _ took (c.in-Ok-Register.ensures.exact ∙ ap (λ m. Ok (said m)) c.in-Ok-Register.field-0-is)) c.receive_register.ensures.accepted)
 
 pub returns-in-Ok-Register-clause-refused : goal.returns-in-Ok-Register-clause-refused
-returns-in-Ok-Register-clause-refused g c = rw (← c.self.view_is) (IfErr-weaker c.register.result _ _ (λ why. refuses_register _ c.in-Ok-Register.message _ _ _ _ _ why (c.in-Ok-Register.ensures.exact ∙ ap (λ m. Ok (said m)) c.in-Ok-Register.field-0-is)) c.register.ensures.refused)
+returns-in-Ok-Register-clause-refused g c = rw (← c.self.view_is) (IfErr-weaker c.receive_register.result _ _ (λ why. refuses_register _ c.in-Ok-Register.message _ _ _ _ _ why (c.in-Ok-Register.ensures.exact ∙ ap (λ m. Ok (said m)) c.in-Ok-Register.field-0-is)) c.receive_register.ensures.refused)
 
 pub returns-in-Ok-Notify-clause-taken : goal.returns-in-Ok-Notify-clause-taken
-returns-in-Ok-Notify-clause-taken g c = rw (← c.self.view_is) (IfOk-weaker c.acknowledge.result _ _ (λ took. takes_notify _ c.in-Ok-Notify.notify _ _ _ c.acknowledge.new.notices.notices _ _ took (c.in-Ok-Notify.ensures.exact ∙ ap (λ m. Ok (said m)) c.in-Ok-Notify.field-0-is)) c.acknowledge.ensures.done)
+returns-in-Ok-Notify-clause-taken g c = rw (← c.self.view_is) (IfOk-weaker c.receive_ack.result _ _ (λ took. takes_notify _ c.in-Ok-Notify.notify _ _ _ c.receive_ack.new.notices.notices _ _ took (c.in-Ok-Notify.ensures.exact ∙ ap (λ m. Ok (said m)) c.in-Ok-Notify.field-0-is)) c.receive_ack.ensures.done)
 
 pub returns-in-Ok-Notify-clause-refused : goal.returns-in-Ok-Notify-clause-refused
-returns-in-Ok-Notify-clause-refused g c = rw (← c.self.view_is) (IfErr-weaker c.acknowledge.result _ _ (λ why. refuses_notify _ c.in-Ok-Notify.notify _ _ _ _ why (c.in-Ok-Notify.ensures.exact ∙ ap (λ m. Ok (said m)) c.in-Ok-Notify.field-0-is)) c.acknowledge.ensures.refused)
+returns-in-Ok-Notify-clause-refused g c = rw (← c.self.view_is) (IfErr-weaker c.receive_ack.result _ _ (λ why. refuses_notify _ c.in-Ok-Notify.notify _ _ _ _ why (c.in-Ok-Notify.ensures.exact ∙ ap (λ m. Ok (said m)) c.in-Ok-Notify.field-0-is)) c.receive_ack.ensures.refused)
 
 pub returns-in-Err-clause-refused : goal.returns-in-Err-clause-refused
 returns-in-Err-clause-refused g c = rw c.of_read.ensures (read_fails c.in-Err.fault _ _ _ c.args.self.now (g.S.NonceStore.seen c.args.store.now) c.in-Err.ensures.exact)
@@ -25,4 +25,4 @@ pub returns-in-Err-clause-early : goal.returns-in-Err-clause-early
 returns-in-Err-clause-early g c = λ fault at. ap Err (c.of_read.ensures ∙ ap refused_of_read (let e = c.in-Err.ensures.early fault at in cc))
 
 pub invariant_of-self : goal.invariant_of-self
-invariant_of-self g c = known_after c.self.inside.sites c.args.bytes.now c.in-Ok-Register.message c.self.inside.tables c.register.new.tables _ _ c.args.from c.args.now c.register.result c.register.ensures.accepted c.register.ensures.err c.self.invariant
+invariant_of-self g c = known_after c.self.inside.sites c.args.bytes.now c.in-Ok-Register.message c.self.inside.tables c.receive_register.new.tables _ _ c.args.from c.args.now c.receive_register.result c.receive_register.ensures.accepted c.receive_register.ensures.err c.self.invariant

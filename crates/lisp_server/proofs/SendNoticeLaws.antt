@@ -1,0 +1,106 @@
+-- What a notice that is sent, or isn't, amounts to.
+use Rattle.std.proofs.Common.{◌≡◌, ◌≢◌, ℕ, ◌<◌, ◌≤◌, nat_lt, Bool, true, false, true≢false, List, [], ◌∷◌, length, Option, Some, None, Result, Ok, Err, ok_or, IsTrue, refl, sym, ap, ◌∙◌, subst, arith}
+use Rattle.std.specs.Option.{IfSome}
+use Rattle.std.specs.Result.{IfOk, IfErr}
+use Rattle.std.proofs.lemmas.List.Sorted.{length_permutation}
+use Rattle.lisp_records.specs.declared.router.RouterId.{RouterId}
+use Rattle.std.proofs.lemmas.Bool.{lt-ltb}
+use Rattle.lisp_records.specs.declared.database.DatabaseFault.{DatabaseFault}
+use Rattle.lisp_records.specs.declared.database.DatabaseFault.TheVariants.{TooLarge}
+use Rattle.lisp_records.specs.Database.{database_of}
+use Rattle.lisp_records.specs.Record.{Mapping}
+use Rattle.lisp_records.specs.Row.{Holding}
+use Rattle.lisp_messages.specs.Authentic.{signed}
+use Rattle.lisp_messages.specs.Written.{written_notify}
+use Rattle.lisp_sites.specs.Site.{SiteEntry}
+use Rattle.lisp_store.specs.Kept.{Kept, kept_at, SameElsewhere}
+use Rattle.lisp_store.specs.Store.{StoreState}
+use Rattle.lisp_lookup.specs.Records.{live_of, ByPrefix}
+use Rattle.lisp_lookup.proofs.LiveLaws.{some_row}
+use Rattle.lisp_server.specs.declared.contacts.Contact.{Contact}
+use Rattle.lisp_server.specs.declared.tables.Tables.{Tables}
+use Rattle.lisp_server.specs.SendNotice.{IsRegistered, Announces, Follows, notice_of}
+use Rattle.lisp_server.specs.Contacts.{IsHeard, Knows}
+use Rattle.lisp_server.specs.LastNonces.{Nonces, nonce_at, SetsNonce}
+use Rattle.lisp_server.specs.Notices.{Standing, notice_pair, nonce_after, announced}
+use Rattle.lisp_server.specs.Receiving.{KeepsLists}
+use Rattle.lisp_server.specs.Server.{SameTables, state_of}
+use Rattle.lisp_server.proofs.ContactLaws.{contact_router}
+
+-- what one message can carry stays so when it is sorted
+pub few_left : (given records : List Mapping) → ByPrefix given records → length given ≤ 255 → length records < 256
+few_left given records by_prefix few = (let same = length_permutation given records by_prefix.same in omega (arith, same, few))
+
+pub few_records : (ms : List Mapping) → database_of ms ≡ Ok ms → length ms ≤ 255
+few_records ms fits = by (nat_lt 255 (length ms)) refl fits
+  where
+    by : (b : Bool) → nat_lt 255 (length ms) ≡ b → database_of ms ≡ Ok ms → length ms ≤ 255
+    by true many fits = absurd (let clash : ◌≡◌ {A = Result (List Mapping) DatabaseFault} (Err TooLarge) (Ok ms) = sym (too_many many) ∙ fits in cc)
+      where
+        too_many : nat_lt 255 (length ms) ≡ true → database_of ms ≡ Err TooLarge
+        too_many many = rw many refl
+    by false few fits = (let not_above : ¬ (255 < length ms) = λ above. true≢false (sym (lt-ltb 255 (length ms) above) ∙ few) in omega (arith, not_above))
+
+-- a router with live records was heard
+pub heard_of : (sites : List SiteEntry) (rows : List Holding) (contacts : List Contact) (router : RouterId) (now : ℕ) → Knows sites rows contacts → live_of rows router now ≢ [] → IsHeard sites contacts router
+heard_of sites rows contacts router now knows some = (let row = some_row rows router now some in knows router row.0 row.1 row.2)
+
+-- where there is an answer, it isn't the fault
+pub some_ok : {X E : Type 0} (o : Option X) (fault : E) (P Q : X → Type 0) → (o ≡ None → ⊥) → ((x : X) → P x → Q x) → IfSome o P → IfOk (ok_or o fault) Q
+some_ok None fault P Q never wider some = absurd (never refl)
+some_ok (Some x) fault P Q never wider some = wider x some
+
+pub no_fault : {X E : Type 0} (o : Option X) (fault : E) (Q : E → Type 0) → (o ≡ None → ⊥) → IfErr (ok_or o fault) Q
+no_fault None fault Q never = absurd (never refl)
+no_fault (Some x) fault Q never = tt
+
+-- what is known once a notice was sent
+pub record Sent {A : Type 0} (sites : List SiteEntry) (old mid new : Tables A) (before between after : StoreState) (router : RouterId) (now : ℕ) (contact : Contact) (secret bytes copy : List ℕ) (nonce : ℕ) (notice : Standing) : Type 0 where
+  pub registered : IsRegistered (state_of sites old) router now
+  pub contact_is : contact ≡ registered.heard.contact
+  pub secret_is : secret ≡ registered.heard.secret
+  pub next : Follows (nonce_at old.nonces.nonces notice_pair) before nonce
+  pub records : List Mapping
+  pub by_prefix : ByPrefix (live_of old.rows.rows contact.router now) records
+  pub datagram : bytes ≡ signed secret (written_notify (notice_of contact.key nonce records))
+  pub copied : copy ≡ bytes
+  pub notice_is : notice ≡ record { router = contact.router; to = contact.from; key = contact.key; nonce = nonce; bytes = copy; resends = 0; last = now }
+  pub same : SameTables old mid
+  pub rows : new.rows.rows ≡ mid.rows.rows
+  pub nonces : SetsNonce mid.nonces.nonces new.nonces.nonces notice_pair notice.nonce
+  pub contacts : new.contacts.contacts ≡ mid.contacts.contacts
+  pub notices : new.notices.notices ≡ announced notice mid.notices.notices
+  pub loaded : KeepsLists before between
+  pub honest : between.is_honest ≡ before.is_honest
+  pub done : IsTrue between.is_honest → kept_at after.kept notice_pair ≡ Some nonce ∷ []
+  pub others : IsTrue between.is_honest → SameElsewhere between.kept after.kept notice_pair
+
+module _ {A : Type 0} {sites : List SiteEntry} {old mid new : Tables A} {before between after : StoreState} {router : RouterId} {now : ℕ} {contact : Contact} {secret bytes copy : List ℕ} {nonce : ℕ} {notice : Standing} where
+  pub announces : Sent sites old mid new before between after router now contact secret bytes copy nonce notice → Announces (state_of sites old) (state_of sites new) before after router now contact.from bytes
+  announces s = record {
+    registered = s.registered;
+    last = s.next.0;
+    counts = s.next.1;
+    unspent = s.next.2;
+    records = s.records;
+    by_prefix = subst (λ (q : RouterId). ByPrefix (live_of old.rows.rows q now) s.records) own s.by_prefix;
+    address = ap (λ (c : Contact). c.from) s.contact_is;
+    datagram = s.datagram ∙ (λ i. signed (s.secret_is i) (written_notify (notice_of (s.contact_is i).key (s.next.3 i) s.records)));
+    stands = s.notices ∙ ap (λ (n : Standing). announced n mid.notices.notices) s.notice_is ∙ (λ i. announced (record { router = own i; to = contact.from; key = (s.contact_is i).key; nonce = s.next.3 i; bytes = s.copied i; resends = 0; last = now }) (s.same.notices i));
+    nonces = subst (λ (x : Nonces × ℕ). SetsNonce x.0 new.nonces.nonces notice_pair x.1) (λ i. (s.same.nonces i, saved i)) s.nonces;
+    rest = λ i. record { sites = sites; rows = rows_are i; nonces = new.nonces.nonces; contacts = contacts_are i; notices = new.notices.notices };
+    kept = λ honest. s.done (subst (λ (b : Bool). IsTrue b) (sym s.honest) honest) ∙ ap (λ (n : ℕ). Some n ∷ []) s.next.3;
+    others = λ honest. subst (λ (was : Kept). SameElsewhere was after.kept notice_pair) (s.loaded honest) (s.others (subst (λ (b : Bool). IsTrue b) (sym s.honest) honest));
+  }
+    where
+      saved : notice.nonce ≡ nonce_after s.next.0
+      saved = ap (λ (n : Standing). n.nonce) s.notice_is ∙ s.next.3
+
+      rows_are : new.rows.rows ≡ old.rows.rows
+      rows_are = s.rows ∙ s.same.rows
+
+      contacts_are : new.contacts.contacts ≡ old.contacts.contacts
+      contacts_are = s.contacts ∙ s.same.contacts
+
+      own : contact.router ≡ router
+      own = ap (λ (c : Contact). c.router) s.contact_is ∙ contact_router old.contacts.contacts router s.registered.heard.contact s.registered.heard.heard

@@ -1,0 +1,57 @@
+-- The rows that an accepted Map-Register sets: whose they are, and how long they live (RFC 9301 sections 5.6 and
+-- 8.2).
+use Rattle.std.specs.Prelude.{ℕ, ◌*◌, ◌==◌, Bool, List, map, if◌then◌else◌}
+use Rattle.lisp_records.specs.declared.address.Addr.{Addr}
+use Rattle.lisp_records.specs.declared.router.RouterId.{RouterId}
+use Rattle.lisp_records.specs.Record.{Mapping}
+use Rattle.lisp_records.specs.Row.{Holding}
+use Rattle.lisp_messages.specs.Message.{Registration}
+use Rattle.lisp_store.specs.declared.pair.Pair.{Pair}
+use Rattle.lisp_store.specs.declared.pair.PairKind.TheVariants.{Received}
+use Rattle.lisp_server.specs.declared.accepted_rows.Origin.{Origin}
+
+-- the router that sent it
+abbrev pub router_of : Registration → RouterId
+router_of m = record { site = m.site; xtr = m.xtr }
+
+-- what its nonce is kept for
+abbrev pub pair_of : Registration → Pair
+pair_of m = record { kind = Received; router = router_of m; key = m.key_id }
+
+-- three minutes, in ms
+abbrev pub three_minutes : ℕ
+three_minutes = 180000
+
+-- the life in ms: none where the TTL is 0; three minutes where it is 0xffffffff, or bit T is clear; else
+-- the TTL, which counts minutes
+abbrev pub life_of : Bool → ℕ → ℕ
+life_of use_ttl ttl = if ttl == 0 then 0 else (if ttl == 0xffffffff then three_minutes else (if use_ttl then ttl * 60000 else three_minutes))
+
+-- what all its records have alike
+abbrev pub origin_of : Registration → Addr → ℕ → Origin
+origin_of m from now = record {
+  router = router_of m;
+  key = m.key_id;
+  nonce = m.nonce;
+  accepted = now;
+  use_ttl = m.use_ttl;
+  proxy = m.proxy;
+  from = from;
+}
+
+-- what is held of one of its records
+abbrev pub holding : Origin → Mapping → Holding
+holding o r = record {
+  router = o.router;
+  key = o.key;
+  nonce = o.nonce;
+  mapping = r;
+  accepted = o.accepted;
+  life = life_of o.use_ttl r.ttl;
+  proxy = o.proxy;
+  from = o.from;
+}
+
+-- what is held of all of them
+abbrev pub holdings : Registration → Addr → ℕ → List Holding
+holdings m from now = map (holding (origin_of m from now)) m.records

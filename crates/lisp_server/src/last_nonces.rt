@@ -1,0 +1,94 @@
+//! The last nonces since a Map-Server's start, in memory: of the Map-Registers that it accepted, and of the
+//! unsolicited Map-Notifies (notices) that it sent.
+
+ghost use Rattle.std.specs.Prelude.{◌≡◌, ◌<◌, Some, OnOk};
+ghost use Rattle.std.specs.FinMap.{empty};
+ghost use Rattle.std.specs.List.{position};
+ghost use Rattle.lisp_server.specs.LastNonces.{nonce_at, SetsNonce, is_of, nonces_of};
+
+use lisp_records::RouterId;
+use lisp_store::{Pair, PairKind};
+use std::alloc::{AllocError, Allocator};
+use std::marker::Model;
+
+/// The pair of the nonces of all notices.
+pub(crate) const NOTICES: Pair = Pair {
+    kind: PairKind::Notice,
+    router: RouterId {
+        site: 0,
+        xtr: [0; 16],
+    },
+    key: 0,
+};
+
+/// A pair, and its last nonce.
+#[derive(Clone, Copy, Debug, PartialEq, Eq)]
+pub(crate) struct LastNonce {
+    pub(crate) pair: Pair,
+    pub(crate) nonce: u64,
+}
+
+/// The last nonce of each pair, and room for more.
+#[derive(Debug, Drop)]
+pub(crate) struct LastNonces<A: Allocator> {
+    items: Vec<LastNonce, A>,
+}
+
+impl<A: Allocator> Model for LastNonces<A> {
+    ghost use Rattle.std.specs.Prelude.{◌-◌, vec_len, vec_capacity};
+    ghost use Rattle.std.specs.Coded.{codes};
+    ghost use Rattle.lisp_server.specs.LastNonces.{NonceTable, nonces_code, nonces_of};
+
+    ghost Value = { NonceTable };
+
+    ghost coded = { Prim.hlevel (codes, nonces_code) };
+
+    ghost view = { λ n. record { nonces = nonces_of n.items.items; spare = vec_capacity n.items - vec_len n.items } };
+}
+
+impl<A: Allocator> LastNonces<A> {
+    /// No nonces. Takes no memory.
+    #[tactic(auto, unfolding(crate::specs::LastNonces::nonces_of))]
+    pub(crate) fn new(alloc: A) -> LastNonces<A>
+        ensures { result.nonces ≡ empty }
+    {
+        LastNonces {
+            items: Vec::new(alloc),
+        }
+    }
+
+    /// The last nonce of a pair; `None` where there is none.
+    #[tactic(auto, using(crate::proofs::NonceLaws::nonce_nowhere, crate::proofs::NonceLaws::nonce_found))]
+    pub(crate) fn get(&self, pair: &Pair) -> Option<u64>
+        ensures { result ≡ nonce_at self.now.nonces pair.now }
+    {
+        Some(self.items[place(&self.items, pair)?].nonce)
+    }
+
+    /// Makes room for the last nonce of one more pair.
+    pub(crate) fn prepare(&mut self) -> Result<(), AllocError>
+        ensures same { self.new.nonces ≡ self.old.nonces }
+        ensures room { OnOk result (0 < self.new.spare) }
+    {
+        self.items.reserve(1)
+    }
+
+    /// Sets the last nonce of a pair. Takes no memory.
+    #[tactic(auto, using(crate::proofs::NonceLaws::nonce_set, crate::proofs::NonceLaws::nonce_pushed))]
+    pub(crate) fn set(&mut self, pair: Pair, nonce: u64)
+        requires { 0 < self.old.spare }
+        ensures { SetsNonce self.old.nonces self.new.nonces pair nonce }
+    {
+        match place(&self.items, &pair) {
+            Some(place) => self.items[place] = LastNonce { pair, nonce },
+            None => self.items.push_reserved(LastNonce { pair, nonce }),
+        }
+    }
+}
+
+// The place of a pair's entry.
+fn place(entries: &[LastNonce], pair: &Pair) -> Option<usize>
+    ensures { result ≡ position (is_of pair.now) entries.now }
+{
+    entries.iter().position(|entry| pair.is_same(&entry.pair))
+}

@@ -1,0 +1,66 @@
+//! Receiving a Map-Notify-Ack, which ends the unsolicited Map-Notify (notice) that it acknowledges.
+
+ghost use Rattle.std.specs.Prelude.{◌≡◌, Ok, Err, IfOk, IfErr, OnErr};
+ghost use Rattle.lisp_server.specs.Checks.{Reads, answers_under, notice_ended};
+ghost use Rattle.lisp_server.specs.Notices.{Standing, without};
+ghost use Rattle.lisp_server.specs.declared.took.Took.TheVariants.{NoticeDone};
+
+use crate::arrival::Arrival;
+use crate::checks::secret_at;
+use crate::refused::Refused;
+use crate::standing_notice::StandingNotice;
+use crate::standing_notices::StandingNotices;
+use crate::took::Took;
+use lisp_messages::{MapNotify, authentic};
+use lisp_sites::Sites;
+use std::alloc::Allocator;
+
+/// Receives a Map-Notify-Ack that was read from the bytes of an arrival, and ends the notice that it
+/// acknowledges. It refuses in this order: `NotMine` (it is a Map-Notify), `NoNotice`, `BadAuth`.
+pub(crate) fn receive_ack<A: Allocator>(
+    sites: &Sites<A>,
+    notices: &mut StandingNotices<A>,
+    arrival: Arrival<'_>,
+    ack: &MapNotify<A>,
+) -> Result<Took<A>, Refused>
+    ensures done { IfOk result (λ took. (n : Standing) × (notice_ended sites.now notices.old.notices arrival.entry.from arrival.entry.bytes.now ack.now ≡ Ok n) × (took ≡ NoticeDone n.router n.nonce) × (notices.new.notices ≡ without n.router notices.old.notices)) }
+    ensures refused { IfErr result (λ why. notice_ended sites.now notices.old.notices arrival.entry.from arrival.entry.bytes.now ack.now ≡ Err why) }
+    ensures err { OnErr result (notices.new.notices ≡ notices.old.notices) }
+{
+    let notice = ended(sites, notices, arrival, ack)?;
+    let (router, nonce) = (notice.router, notice.nonce);
+    notices.end(&router);
+    Ok(Took::NoticeDone { router, nonce })
+}
+
+// The notice that a Map-Notify-Ack ends, or the first check that it fails.
+#[tactic(auto, unfolding(crate::specs::Checks::notice_ended))]
+fn ended<'n, A: Allocator>(
+    sites: &Sites<A>,
+    notices: &'n StandingNotices<A>,
+    arrival: Arrival<'_>,
+    ack: &MapNotify<A>,
+) -> Result<&'n StandingNotice<A>, Refused>
+    ensures { Reads (λ n. n.now) result (notice_ended sites.now notices.now.notices arrival.entry.from arrival.entry.bytes.now ack.now) }
+{
+    if !ack.ack {
+        return Err(Refused::NotMine);
+    }
+    let notice = notices
+        .awaiting(&arrival.from, ack.key_id, ack.nonce)
+        .ok_or(Refused::NoNotice)?;
+    if !answers_under(sites, arrival.bytes, notice) {
+        return Err(Refused::BadAuth);
+    }
+    Ok(notice)
+}
+
+// Whether bytes are authentic under the secret of a notice's site and key.
+fn answers_under<A: Allocator>(sites: &Sites<A>, bytes: &[u8], notice: &StandingNotice<A>) -> bool
+    ensures { result ≡ answers_under sites.now bytes.now notice.now }
+{
+    match secret_at(sites, notice.router.site, notice.key) {
+        Some(secret) => authentic(bytes, secret),
+        None => false,
+    }
+}

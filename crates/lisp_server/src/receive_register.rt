@@ -1,0 +1,68 @@
+//! Receiving a Map-Register.
+
+ghost use Rattle.std.specs.Prelude.{◌≡◌, IfOk, IfErr, OnErr};
+ghost use Rattle.lisp_store.specs.Store.{Proceeds};
+ghost use Rattle.lisp_server.specs.AcceptedRows.{pair_of};
+ghost use Rattle.lisp_server.specs.Checks.{register_checked};
+ghost use Rattle.lisp_server.specs.Receiving.{Accepts, RefusesRegister};
+ghost use Rattle.lisp_server.specs.Server.{SameTables, state_of};
+
+use crate::accepted_rows::{router_of, rows_and_reply};
+use crate::arrival::Arrival;
+use crate::checks::secret_under;
+use crate::refused::Refused;
+use crate::saved_nonces::{check_nonce, save_nonce};
+use crate::tables::Tables;
+use crate::took::Took;
+use lisp_messages::MapRegister;
+use lisp_sites::Sites;
+use lisp_store::{NonceStore, Pair, PairKind};
+use std::alloc::Allocator;
+
+/// Receives a Map-Register that was read from the bytes of an arrival. All that takes memory comes before
+/// its nonce is saved; what the tables hold changes only after that.
+pub(crate) fn receive_register<S: NonceStore, A: Allocator + Copy>(
+    alloc: A,
+    sites: &Sites<A>,
+    tables: &mut Tables<A>,
+    store: &mut S,
+    arrival: Arrival<'_>,
+    register: MapRegister<A>,
+) -> Result<Took<A>, Refused>
+    ensures accepted { IfOk result (λ took. Accepts (register_checked sites.now arrival.entry.bytes.now register) (state_of sites.now tables.old) (state_of sites.now tables.new) (S.seen store.old) (S.seen store.new) arrival.entry.from arrival.entry.now took) }
+    ensures refused { IfErr result (λ why. RefusesRegister (register_checked sites.now arrival.entry.bytes.now register) (state_of sites.now tables.old) (S.seen store.old) (S.seen store.new) why) }
+    ensures err { OnErr result (SameTables tables.old tables.new) }
+    ensures proceeds { Proceeds (S.seen store.old) (S.seen store.new) }
+{
+    let secret = secret_under(sites, arrival.bytes, &register)?;
+    let pair = pair_of(&register);
+    let nonce = nonce_of(&register);
+    check_nonce(store, &pair, tables.nonces.get(&pair), nonce)?;
+    let (rows, reply) = rows_and_reply(alloc, secret, register, arrival.from, arrival.now)?;
+    tables.prepare(&rows)?;
+    save_nonce(store, &pair, nonce)?;
+    tables.accept(rows, pair, nonce, arrival.from);
+    Ok(Took::Accepted {
+        router: pair.router,
+        key: pair.key,
+        nonce,
+        reply,
+    })
+}
+
+// What the nonce of a Map-Register is kept for.
+fn pair_of<A: Allocator>(register: &MapRegister<A>) -> Pair
+    ensures { result ≡ pair_of register.now }
+{
+    Pair {
+        kind: PairKind::Received,
+        router: router_of(register),
+        key: register.key_id,
+    }
+}
+
+fn nonce_of<A: Allocator>(register: &MapRegister<A>) -> u64
+    ensures { result ≡ register.now.nonce }
+{
+    register.nonce
+}

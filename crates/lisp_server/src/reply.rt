@@ -1,0 +1,24 @@
+//! The Map-Notify that answers an accepted Map-Register (RFC 9301 section 5.7).
+
+ghost use Rattle.std.specs.Prelude.{◌≡◌, Some, None, IfOk, if◌then◌else◌};
+ghost use Rattle.lisp_messages.specs.Authentic.{signed};
+ghost use Rattle.lisp_messages.specs.Written.{written_notify};
+
+use lisp_messages::{MapNotify, write_notify};
+use lisp_records::Bytes;
+use std::alloc::{AllocError, Allocator};
+
+/// The bytes of a Map-Notify under a secret, where one is wanted.
+pub(crate) fn reply<A: Allocator>(
+    alloc: A,
+    wanted: bool,
+    notify: &MapNotify<A>,
+    secret: &[u8],
+) -> Result<Option<Bytes<A>>, AllocError>
+    ensures { IfOk result (λ reply. reply ≡ (if wanted then Some (signed secret.now (written_notify notify.now)) else None)) }
+{
+    if !wanted {
+        return Ok(None);
+    }
+    Ok(Some(Bytes::from_vec(write_notify(alloc, notify, secret)?)))
+}

@@ -1,0 +1,137 @@
+//! Sending a router an unsolicited Map-Notify (notice) of what is held for it.
+
+ghost use Rattle.std.specs.Prelude.{◌≡◌, ◌≤◌, List, None, length, IfOk, IfErr, IfSome, OnErr};
+ghost use Rattle.lisp_records.specs.Moment.{max_moment};
+ghost use Rattle.lisp_store.specs.Store.{Proceeds};
+ghost use Rattle.lisp_lookup.specs.Table.{OneEach};
+ghost use Rattle.lisp_lookup.specs.Records.{live_of, ByPrefix};
+ghost use Rattle.lisp_messages.specs.Authentic.{signed};
+ghost use Rattle.lisp_messages.specs.Written.{written_notify};
+ghost use Rattle.lisp_server.specs.SendNotice.{IsRegistered, Announces, RefusesNotice, notice_of, Unregistered};
+ghost use Rattle.lisp_records.specs.Record.{Mapping};
+ghost use Rattle.lisp_server.specs.Contacts.{IsHeard, Knows};
+ghost use Rattle.lisp_server.specs.Server.{SameTables, state_of};
+
+use crate::checks::secret_at;
+use crate::contacts::{Contact, Contacts};
+use crate::last_nonces::NOTICES;
+use crate::notice_fault::NoticeFault;
+use crate::saved_nonces::{next_nonce, save_notice};
+use crate::standing_notice::StandingNotice;
+use crate::tables::Tables;
+use lisp_lookup::Table;
+use lisp_messages::{MapNotify, write_notify};
+use lisp_records::{Addr, Bytes, Records, RouterId};
+use lisp_sites::Sites;
+use lisp_store::NonceStore;
+use std::alloc::{AllocError, Allocator};
+
+/// Sends a notice to a router at a time, in ms. All that takes memory comes before its nonce is saved; what
+/// the tables hold changes only after that.
+pub(crate) fn send_notice<S: NonceStore, A: Allocator + Copy>(
+    alloc: A,
+    sites: &Sites<A>,
+    tables: &mut Tables<A>,
+    store: &mut S,
+    router: &RouterId,
+    now: u64,
+) -> Result<(Addr, Vec<u8, A>), NoticeFault>
+    requires moment { now ≤ max_moment }
+    requires known { Knows sites.now tables.old.rows.rows tables.old.contacts.contacts }
+    ensures announces { IfOk result (λ x. Announces (state_of sites.now tables.old) (state_of sites.now tables.new) (S.seen store.old) (S.seen store.new) router.now now x.0 x.1.items) }
+    ensures refused { IfErr result (λ fault. RefusesNotice (state_of sites.now tables.old) (S.seen store.old) (S.seen store.new) router.now now fault) }
+    ensures err { OnErr result (SameTables tables.old tables.new) }
+    ensures rows { tables.new.rows.rows ≡ tables.old.rows.rows }
+    ensures contacts { tables.new.contacts.contacts ≡ tables.old.contacts.contacts }
+    ensures one_each { OneEach tables.old.rows.rows }
+    ensures proceeds { Proceeds (S.seen store.old) (S.seen store.new) }
+{
+    let recipient = recipient_of(sites, tables, router, now)?;
+    let nonce = next_nonce(store, tables.nonces.get(&NOTICES))?;
+    let bytes = recipient.notify(alloc, &tables.rows, now, nonce)?;
+    let notice = recipient.notice(nonce, bytes.copy(alloc)?, now);
+    tables.prepare_notice()?;
+    save_notice(store, nonce)?;
+    tables.keep_notice(notice);
+    Ok((recipient.contact.from, bytes.into_vec()))
+}
+
+/// Where a router was heard last, and the secret that its notices are sent under.
+#[derive(Clone, Copy, Drop)]
+struct Recipient<'s> {
+    contact: Contact,
+    secret: &'s [u8],
+}
+
+impl Recipient<'_> {
+    // The Map-Notify of the router's live records.
+    fn notify<A: Allocator + Copy>(
+        &self,
+        alloc: A,
+        rows: &Table<A>,
+        now: u64,
+        nonce: u64,
+    ) -> Result<Bytes<A>, AllocError>
+        requires few { length (live_of rows.now.rows self.now.contact.router now) ≤ 255 }
+        ensures { IfOk result (λ bytes. (records : List Mapping) × ByPrefix (live_of rows.now.rows self.now.contact.router now) records × (bytes ≡ signed self.now.secret.now (written_notify (notice_of self.now.contact.key nonce records)))) }
+    {
+        let notify = MapNotify {
+            ack: false,
+            nonce,
+            key_id: self.contact.key,
+            records: Records::from_vec(rows.live_records(&self.contact.router, now)?),
+        };
+        Ok(Bytes::from_vec(write_notify(alloc, &notify, self.secret)?))
+    }
+
+    // The notice that stands once its nonce is saved.
+    fn notice<A: Allocator>(&self, nonce: u64, bytes: Bytes<A>, now: u64) -> StandingNotice<A>
+        requires { now ≤ max_moment }
+        ensures { result ≡ record { router = self.now.contact.router; to = self.now.contact.from; key = self.now.contact.key; nonce = nonce; bytes = bytes; resends = 0; last = now } }
+    {
+        StandingNotice {
+            router: self.contact.router,
+            to: self.contact.from,
+            key: self.contact.key,
+            nonce,
+            bytes,
+            resends: 0,
+            last: now,
+        }
+    }
+}
+
+// Whom a notice goes to: `NotRegistered`, `TooLarge`. Takes no memory.
+fn recipient_of<'s, A: Allocator + Copy>(
+    sites: &'s Sites<A>,
+    tables: &Tables<A>,
+    router: &RouterId,
+    now: u64,
+) -> Result<Recipient<'s>, NoticeFault>
+    requires { Knows sites.now tables.now.rows.rows tables.now.contacts.contacts }
+    ensures registered { IfOk result (λ to. (r : IsRegistered (state_of sites.now tables.now) router.now now) × (to.contact ≡ r.heard.contact) × (to.secret.now ≡ r.heard.secret)) }
+    ensures refused { IfErr result (λ fault. Unregistered (live_of tables.now.rows.rows router.now now) fault) }
+    ensures one_each { OneEach tables.now.rows.rows }
+{
+    let Ok(count) = tables.rows.count_live(router, now) else {
+        return Err(NoticeFault::TooLarge);
+    };
+    if count == 0 {
+        return Err(NoticeFault::NotRegistered);
+    }
+    heard(sites, &tables.contacts, router).ok_or(NoticeFault::NotRegistered)
+}
+
+// Where a router was heard last, and the secret of that key.
+fn heard<'s, A: Allocator>(
+    sites: &'s Sites<A>,
+    contacts: &Contacts<A>,
+    router: &RouterId,
+) -> Option<Recipient<'s>>
+    ensures some { IfSome result (λ to. (h : IsHeard sites.now contacts.now.contacts router.now) × (to.contact ≡ h.contact) × (to.secret.now ≡ h.secret)) }
+    ensures none { result ≡ None → IsHeard sites.now contacts.now.contacts router.now → ⊥ }
+{
+    let contact = contacts.get(router)?;
+    let secret = secret_at(sites, router.site, contact.key)?;
+    Some(Recipient { contact, secret })
+}

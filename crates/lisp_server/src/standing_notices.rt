@@ -1,0 +1,130 @@
+//! The unsolicited Map-Notifies (notices) of a Map-Server that stand, at most one for each router.
+
+ghost use Rattle.std.specs.Prelude.{◌≡◌, ◌<◌, ◌≤◌, [], OnOk, OnErr, IfOk, IfErr, position};
+ghost use Rattle.lisp_records.specs.Moment.{max_moment};
+ghost use Rattle.std.specs.List.{find};
+ghost use Rattle.std.specs.Option.{option_map};
+ghost use Rattle.lisp_server.specs.Notices.{announced, without, awaits, lesser, due_of, IsDueRouter, Resends, RefusesResend};
+
+use crate::notice_fault::NoticeFault;
+use crate::standing_notice::StandingNotice;
+use lisp_records::{Addr, RouterId};
+use std::alloc::{AllocError, Allocator};
+use std::marker::Model;
+
+/// The notices that stand, and room for more.
+#[derive(Debug, Drop)]
+pub(crate) struct StandingNotices<A: Allocator> {
+    items: Vec<StandingNotice<A>, A>,
+}
+
+impl<A: Allocator> Model for StandingNotices<A> {
+    ghost use Rattle.std.specs.Prelude.{◌-◌, vec_len, vec_capacity};
+    ghost use Rattle.lisp_server.specs.Notices.{NoticeTable};
+
+    ghost Value = { NoticeTable };
+
+    ghost view = { λ n. record { notices = n.items.items; spare = vec_capacity n.items - vec_len n.items } };
+}
+
+impl<A: Allocator> StandingNotices<A> {
+    /// No notices. Takes no memory.
+    pub(crate) fn new(alloc: A) -> StandingNotices<A>
+        ensures { result.notices ≡ [] }
+    {
+        StandingNotices {
+            items: Vec::new(alloc),
+        }
+    }
+
+    /// Makes room for one more notice.
+    pub(crate) fn prepare(&mut self) -> Result<(), AllocError>
+        ensures same { self.new.notices ≡ self.old.notices }
+        ensures room { OnOk result (0 < self.new.spare) }
+    {
+        self.items.reserve(1)
+    }
+
+    /// Keeps a notice, in place of an earlier one to its router. Takes no memory.
+    pub(crate) fn keep(&mut self, notice: StandingNotice<A>)
+        requires { 0 < self.old.spare }
+        ensures { self.new.notices ≡ announced notice self.old.notices }
+    {
+        self.end(&notice.router);
+        self.items.push_reserved(notice);
+    }
+
+    /// Ends the notice to a router. Takes no memory.
+    pub(crate) fn end(&mut self, router: &RouterId)
+        ensures notices { self.new.notices ≡ without router.now self.old.notices }
+        ensures room { self.old.spare ≤ self.new.spare }
+    {
+        self.items.retain(|notice| notice.router != *router);
+    }
+
+    /// The notice that waits for a Map-Notify-Ack with this key and nonce from this address.
+    pub(crate) fn awaiting(&self, from: &Addr, key: u8, nonce: u64) -> Option<&StandingNotice<A>>
+        ensures { option_map (λ n. n.now) result ≡ find (awaits from.now key nonce) self.now.notices }
+    {
+        self.items
+            .iter()
+            .find(|notice| notice.awaits(from, key, nonce))
+    }
+
+    /// Sends the notice to a router again that is due at a time, in ms: its address and a copy of its bytes.
+    /// `NotDue`, `OutOfMemory`.
+    pub(crate) fn resend(
+        &mut self,
+        alloc: A,
+        router: &RouterId,
+        now: u64,
+    ) -> Result<(Addr, Vec<u8, A>), NoticeFault>
+        requires { now ≤ max_moment }
+        ensures resends { IfOk result (λ x. Resends self.old.notices self.new.notices router.now now x.0 x.1.items) }
+        ensures refused { IfErr result (λ fault. RefusesResend self.old.notices router.now now fault) }
+        ensures err { OnErr result (self.new.notices ≡ self.old.notices) }
+    {
+        match self.place_due(router, now) {
+            Some(place) => Ok(self.items[place].resend(alloc, now)?),
+            None => Err(NoticeFault::NotDue),
+        }
+    }
+
+    // The place of the notice to a router that is due at a time, in ms.
+    fn place_due(&self, router: &RouterId, now: u64) -> Option<usize>
+        ensures { result ≡ position (due_of router.now now) self.now.notices }
+    {
+        self.items
+            .iter()
+            .position(|notice| notice.is_due_of(router, now))
+    }
+
+    /// The least router to which a notice is due at a time, in ms.
+    pub(crate) fn due(&self, now: u64) -> Option<RouterId>
+        ensures { IsDueRouter self.now.notices now result }
+    {
+        least_due(&self.items, now)
+    }
+}
+
+fn least_due<A: Allocator>(notices: &[StandingNotice<A>], now: u64) -> Option<RouterId>
+    ensures { IsDueRouter notices.now now result }
+{
+    let mut least = None;
+    for notice in notices {
+        if notice.is_due(now) {
+            least = Some(lesser(least, notice.router));
+        }
+    }
+    least
+}
+
+// The lesser of two routers, where there is a first one.
+fn lesser(one: Option<RouterId>, other: RouterId) -> RouterId
+    ensures { result ≡ lesser one other }
+{
+    match one {
+        Some(one) if other.cmp(&one).is_ge() => one,
+        _ => other,
+    }
+}

@@ -1,0 +1,15 @@
+use Rattle.std.proofs.Common.{All, subst, ◌∙◌, arith}
+use Rattle.std.proofs.lemmas.List.{take_all}
+use Rattle.lisp_store.specs.Entries.{HasValues}
+use Rattle.lisp_store.proofs.Restart.{narrowed_more, one_more, others_stay}
+use Rattle.lisp_store.proofs.memory.narrow.Goals as goal
+
+pub loop-entry-preserved : goal.loop-entry-preserved
+loop-entry-preserved g c = record {
+  narrowed = narrowed_more c.args.pick c.loop-entry.entry-index c.loop-entry.entries c.entry-item.result c.narrow.new.self (omega (arith, c.loop-entry-test.true, c.loop-entry.auto.entries)) (λ i. record { pair = c.narrow.ensures.pair i; values = c.narrow.ensures.values i }) ∙ c.loop-entry.invariant.narrowed;
+  some = one_more c.loop-entry.entry-index c.loop-entry.entries c.args.entries.now c.entry-item.result c.loop-entry-test.true c.loop-entry.invariant.others c.loop-entry.invariant.some c.narrow.ensures.some;
+  others = others_stay c.loop-entry.entry-index c.loop-entry.entries c.args.entries.now c.narrow.new.self c.loop-entry.invariant.others;
+}
+
+pub returns-clause-some : goal.returns-clause-some
+returns-clause-some g c = subst (All HasValues) (take_all c.loop-entry.entry-index c.args.entries.now c.loop-entry-test.false) c.loop-entry.invariant.some
