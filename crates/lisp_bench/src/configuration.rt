@@ -23,15 +23,28 @@ const NETWORKS: [u32; 3] = [250, 500, 1_000];
 /// Prints how long it takes to refuse texts that are not valid TOML, and to read each network.
 pub(crate) fn measure<R: Print + Clock + AllocGlobal>(rt: &R) -> Result<()> {
     for (name, front, letter) in NO_TOML {
-        let text = repeated(rt.alloc(), front, letter)?;
-        time(rt, name, &text, false)?;
+        measure_repeated(rt, name, front, letter)?;
     }
     for size in NETWORKS {
-        let text = network(rt.alloc(), size)?;
-        println!(rt; "{size} sites and as many routers")?;
-        time(rt, "from_toml", &text, true)?;
+        measure_network(rt, size)?;
     }
     Ok(())
+}
+
+fn measure_repeated<R: Print + Clock + AllocGlobal>(
+    rt: &R,
+    name: &str,
+    front: &str,
+    letter: char,
+) -> Result<()> {
+    let text = repeated(rt.alloc(), front, letter)?;
+    time(rt, name, &text, false)
+}
+
+fn measure_network<R: Print + Clock + AllocGlobal>(rt: &R, size: u32) -> Result<()> {
+    let text = network(rt.alloc(), size)?;
+    println!(rt; "{size} sites and as many routers")?;
+    time(rt, "from_toml", &text, true)
 }
 
 // Prints how long it takes to read a text, which is a configuration or not valid TOML.
@@ -79,18 +92,10 @@ fn network(alloc: Global, size: u32) -> Result<String, AllocError> {
     for place in 0..size {
         write!(
             &mut text,
-            "[[site]]\nid = \"{place:016}\"\n[[site.key]]\nid = 1\nsecret = \"736563726574\"\n"
-        )?;
-        text.push_str("[[site.prefix]]\neid = \"10.1.0.0/16\"\n")?;
-    }
-    for place in 0..size {
-        write!(
-            &mut text,
-            "[[router]]\nname = \"r{place}\"\naddress = \"10.0.0.1\"\nsite = \"{place:016}\"\n"
-        )?;
-        write!(
-            &mut text,
-            "xtr = \"{place:032}\"\nkey = 1\nservers = []\nrecords = [\"10.1.0.0/16=1440+192.0.2.1\"]\n"
+            "[[site]]\nid = \"{place:016}\"\n[[site.key]]\nid = 1\nsecret = \"736563726574\"\n\
+             [[site.prefix]]\neid = \"10.1.0.0/16\"\n\
+             [[router]]\nname = \"r{place}\"\naddress = \"10.0.0.1\"\nsite = \"{place:016}\"\n\
+             xtr = \"{place:032}\"\nkey = 1\nservers = []\nrecords = [\"10.1.0.0/16=1440+192.0.2.1\"]\n"
         )?;
     }
     Ok(text)

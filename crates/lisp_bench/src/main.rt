@@ -16,16 +16,19 @@ fn main(rt: HostRuntime) -> Result<()> {
 }
 
 fn run<R: Env + Print + Clock + AllocGlobal>(rt: &R) -> Result<()> {
-    let mut count = 0u32;
-    for (place, word) in env::args(rt)?.enumerate() {
-        if place == 1 {
-            count = word.as_str().parse::<u32>()?;
-        }
-    }
+    let count = count(rt)?;
     if count > 0 {
         codec::measure(rt, count)?;
         configuration::measure(rt)?;
         registration::measure(rt)?;
     }
     Ok(())
+}
+
+// How often each call of the codec is made.
+fn count<R: Env + AllocGlobal>(rt: &R) -> Result<u32> {
+    match env::args(rt)?.nth(1) {
+        Some(word) => Ok(word.as_str().parse::<u32>()?),
+        None => Ok(0),
+    }
 }

@@ -81,10 +81,51 @@ impl Network {
         Ok(datagrams)
     }
 
-    // Registers so many host prefixes from one on.
-    fn register(&mut self, alloc: Global, first: u32, count: u32) -> Result<()> {
-        let datagram = self.datagram(alloc, first, count)?;
-        self.take(&datagram)
+    // Fills the server with so many rows, and prints how long a registration takes then.
+    fn measure<R: Print + Clock + AllocGlobal>(&mut self, rt: &R, held: u32) -> Result<()> {
+        self.fill(rt.alloc(), held)?;
+        for records in RECORDS {
+            println!(rt; "{held} rows held, {records} records")?;
+            self.time(rt, held.saturating_sub(records), records)?;
+        }
+        Ok(())
+    }
+
+    // Registers so many rows.
+    fn fill(&mut self, alloc: Global, held: u32) -> Result<()> {
+        for block in 0..held.div_ceil(BLOCK) {
+            let first = block.saturating_mul(BLOCK);
+            let datagram = self.datagram(alloc, first, held.saturating_sub(first).min(BLOCK))?;
+            self.take(&datagram)?;
+        }
+        Ok(())
+    }
+
+    // Prints how long a registration of so many records from one on takes.
+    fn time<R: Print + Clock + AllocGlobal>(
+        &mut self,
+        rt: &R,
+        first: u32,
+        records: u32,
+    ) -> Result<()> {
+        let mut timing = Timing::NONE;
+        for _ in 0..MOST_ROUNDS {
+            if timing.is_enough() {
+                break;
+            }
+            let datagrams = self.datagrams(rt.alloc(), first, records)?;
+            let start = Instant::now(rt)?;
+            self.take_all(&datagrams)?;
+            timing.add(rt, start, ROUND)?;
+        }
+        timing.print(rt, "receive")
+    }
+
+    fn take_all(&mut self, datagrams: &[Vec<u8>]) -> Result<()> {
+        for datagram in datagrams {
+            self.take(datagram)?;
+        }
+        Ok(())
     }
 
     fn take(&mut self, datagram: &[u8]) -> Result<()> {
@@ -118,43 +159,13 @@ fn host_record(alloc: Global, number: u32) -> Result<MapRecord> {
 /// Prints how long a registration takes, by the rows that are held and the records that it has.
 pub(crate) fn measure<R: Print + Clock + AllocGlobal>(rt: &R) -> Result<()> {
     for held in HELD {
-        let mut network = filled(rt.alloc(), held)?;
-        for records in RECORDS {
-            println!(rt; "{held} rows held, {records} records")?;
-            time(rt, &mut network, held.saturating_sub(records), records)?;
-        }
+        measure_at(rt, held)?;
     }
     Ok(())
 }
 
-// A network whose server holds so many rows.
-fn filled(alloc: Global, held: u32) -> Result<Network> {
-    let mut network = Network::new(alloc)?;
-    for block in 0..held.div_ceil(BLOCK) {
-        let first = block.saturating_mul(BLOCK);
-        network.register(alloc, first, held.saturating_sub(first).min(BLOCK))?;
-    }
-    Ok(network)
-}
-
-// Prints how long a registration of so many records takes.
-fn time<R: Print + Clock + AllocGlobal>(
-    rt: &R,
-    network: &mut Network,
-    first: u32,
-    records: u32,
-) -> Result<()> {
-    let mut timing = Timing::NONE;
-    for _ in 0..MOST_ROUNDS {
-        if timing.is_enough() {
-            break;
-        }
-        let datagrams = network.datagrams(rt.alloc(), first, records)?;
-        let start = Instant::now(rt)?;
-        for datagram in &datagrams {
-            network.take(datagram)?;
-        }
-        timing.add(rt, start, ROUND)?;
-    }
-    timing.print(rt, "receive")
+// Prints how long a registration takes where so many rows are held.
+fn measure_at<R: Print + Clock + AllocGlobal>(rt: &R, held: u32) -> Result<()> {
+    let mut network = Network::new(rt.alloc())?;
+    network.measure(rt, held)
 }

@@ -13,7 +13,7 @@ const ENOUGH_NANOS: u128 = 100_000_000;
 pub(crate) const MOST_ROUNDS: u32 = 1_000;
 
 /// Calls, and the nanoseconds that they took together.
-#[derive(Clone, Copy, Debug)]
+#[derive(Clone, Copy)]
 pub(crate) struct Timing {
     calls: u32,
     nanos: u128,

@@ -2,7 +2,8 @@
 use Rattle.std.specs.Prelude.{◌≡◌, ℕ, ◌^◌, ◌==◌, ◌&&◌, nat_le, Bool, true, not, List, Option, Result, Ok, Err, position, ok_or, slice_set, slice_index_or, if◌then◌else◌}
 use Rattle.lisp_records.specs.declared.address.Addr.{Addr}
 use Rattle.lisp_records.specs.Address.{addr_eq}
-use Rattle.lisp_messages.specs.Message.{Notification, Said, Registers, Notifies}
+use Rattle.lisp_records.specs.Result.{◌>>=◌}
+use Rattle.lisp_messages.specs.Message.{Notification, IsNotification, Said, Registers, Notifies}
 use Rattle.lisp_messages.specs.declared.fault.ReadFault.{ReadFault}
 use Rattle.lisp_messages.specs.Authentic.{is_authentic, signed}
 use Rattle.lisp_messages.specs.Written.{written_notify}
@@ -15,11 +16,6 @@ use Rattle.lisp_etr.specs.declared.seen.Seen.TheVariants.{Counted, Notice}
 use Rattle.lisp_etr.specs.Config.{Settings}
 use Rattle.lisp_etr.specs.Round.{started, counted}
 use Rattle.lisp_etr.specs.Etr.{EtrState}
-
-infixl 10 ◌>>=◌
-abbrev pub ◌>>=◌ : {A B : Type 0} → Result A NotifyFault → (A → Result B NotifyFault) → Result B NotifyFault
-(Ok x) >>= f = f x
-(Err e) >>= f = Err e
 
 -- a result, seen by view, is what is expected, except that out of memory may come in its place
 abbrev pub Gives : {X Y : Type 0} → (X → Y) → Result X NotifyFault → Result Y NotifyFault → Type 0
@@ -49,14 +45,19 @@ pub record Heard : Type 0 where
   pub server : ℕ
   pub message : Notification
 
--- the Map-Notify that bytes from an address spell, where it passes all checks; or the first that fails
-unfoldable pub heard : Settings → Addr → List ℕ → Result Heard NotifyFault
-heard c from bytes = do
-  m ← notify_read (message_at bytes)
-  server ← ok_or (server_at c.servers from) NotMine
+-- the Map-Notify that was read in bytes from a Map-Server of the router, where it passes all checks; or the first
+-- that fails
+unfoldable pub checked : Settings → List ℕ → Result Said ReadFault → Option ℕ → Result Heard NotifyFault
+checked c bytes read from = do
+  m ← notify_read read
+  server ← ok_or from NotMine
   _ ← check (m.key_id == c.key_id) WrongKey
   _ ← check (is_authentic bytes c.secret) BadAuth
   Ok (record { server = server; message = m })
+
+-- the same of bytes from an address
+abbrev pub heard : Settings → Addr → List ℕ → Result Heard NotifyFault
+heard c from bytes = checked c bytes (message_at bytes) (server_at c.servers from)
 
 -- nonces from here on are a Map-Server's own
 abbrev pub first_notice : ℕ
@@ -73,6 +74,11 @@ round_at rounds server = slice_index_or rounds server (started 0)
 -- the nonce is that of the last Map-Register; no nonce is 0
 abbrev pub is_latest : ℕ → ℕ → Bool
 is_latest nonce latest = not (nonce == 0) && (nonce == latest)
+
+-- the Map-Notify-Ack that answers a notice fits the format
+abbrev pub AnswerFits : {A : Type 0} → ℕ → Seen A → Type 0
+AnswerFits key (Counted server nonce) = Unit {0}
+AnswerFits key (Notice server nonce records answer) = IsNotification (record { ack = true; nonce = nonce; key_id = key; records = records })
 
 -- a notice with its answer
 abbrev pub notice_in : {A : Type 0} → Settings → Heard → Seen A

@@ -1,5 +1,5 @@
 -- What a router sends, and what its store keeps then (RFC 9301 sections 5.6 and 8.2).
-use Rattle.std.specs.Prelude.{◌≡◌, ℕ, ◌+◌, ◌-◌, ◌<◌, ◌^◌, ◌⊎◌, List, [], ◌∷◌, Option, Some, true, false, slice_set, slice_index_or}
+use Rattle.std.specs.Prelude.{◌≡◌, ℕ, ◌+◌, ◌-◌, ◌<◌, ◌≤◌, ◌^◌, ◌⊎◌, List, [], ◌∷◌, Option, Some, true, false, slice_set, slice_index_or}
 use Rattle.lisp_records.specs.Record.{Mapping}
 use Rattle.lisp_messages.specs.Message.{Registration}
 use Rattle.lisp_messages.specs.Authentic.{signed}
@@ -40,10 +40,16 @@ pub record Sends (old new : EtrState) (server now : ℕ) : Type 0 where
   pub last : new.last ≡ old.last + 1
   pub rounds : new.rounds ≡ slice_set old.rounds server (sent (old.last + 1) now (slice_index_or old.rounds server (started 0)))
 
--- what a send leaves of the pair: its values as they were, or one alone
-abbrev pub Settles : List (Option ℕ) → List (Option ℕ) → Type 0
-Settles old new = (new ≡ old) ⊎ ((n : ℕ) × (new ≡ Some n ∷ []))
+-- what may be saved for a nonce: the nonce or a number less than 1,024 above it, up to the last one
+pub record IsBound (nonce last bound : ℕ) : Type 0 where
+  pub least : nonce ≤ bound
+  pub near : bound < nonce + 1024
+  pub most : bound ≤ last
 
--- what a refused send leaves of the pair: its values as they were, or with a number above the last one
+-- what using a nonce leaves of its pair: the values as they were, or a bound alone
+abbrev pub Settles : List (Option ℕ) → List (Option ℕ) → ℕ → ℕ → Type 0
+Settles old new nonce last = (new ≡ old) ⊎ ((bound : ℕ) × IsBound nonce last bound × (new ≡ Some bound ∷ []))
+
+-- what a refused send with a nonce leaves of the pair: its values as they were, or with a bound added
 abbrev pub LeavesPair : List (Option ℕ) → List (Option ℕ) → ℕ → Type 0
-LeavesPair old new last = (n : ℕ) × (last < n) × InDoubt old new n
+LeavesPair old new nonce = (new ≡ old) ⊎ ((bound : ℕ) × IsBound nonce last_nonce bound × InDoubt old new bound)

@@ -1,6 +1,6 @@
 //! The site router.
 
-ghost use Rattle.std.specs.Prelude.{◌≡◌, ◌≢◌, ◌↔◌, ◌≤◌, ◌<◌, ◌+◌, ℕ, List, Some, Ok, Err, IsTrue, IfOk, IfErr, OnOk, OnErr, IsErrOf, length, map, nat_le, position, replicate, slice_get};
+ghost use Rattle.std.specs.Prelude.{◌≡◌, ◌≢◌, ◌↔◌, ◌≤◌, ◌<◌, ◌+◌, ℕ, List, Some, Ok, Err, IsTrue, IfOk, IfErr, IfSome, OnOk, OnErr, IsErrOf, length, map, nat_le, position, replicate, slice_get};
 ghost use Rattle.std.specs.Option.{option_and_then};
 ghost use Rattle.lisp_store.specs.Kept.{kept_at, IsKept, NoneBelow, SameElsewhere};
 ghost use Rattle.lisp_store.specs.Store.{Rose, Proceeds};
@@ -14,13 +14,13 @@ ghost use Rattle.lisp_etr.specs.Round.{started, begun};
 ghost use Rattle.lisp_etr.specs.Faults.{fault_of_read};
 ghost use Rattle.lisp_etr.specs.Etr.{etr_started};
 ghost use Rattle.lisp_etr.specs.Sending.{last_nonce, registration_of, datagram_of, Sends, Settles, LeavesPair};
-ghost use Rattle.lisp_etr.specs.Hearing.{Gives, notice_in, counted_in, seen_at, after};
+ghost use Rattle.lisp_etr.specs.Hearing.{Gives, AnswerFits, notice_in, counted_in, seen_at, after};
 ghost use Rattle.lisp_etr.specs.declared.start_fault.StartFault.{StartFault};
 ghost use Rattle.lisp_etr.specs.declared.send_fault.SendFault.{SendFault};
 ghost use Rattle.lisp_etr.specs.declared.notify_fault.NotifyFault.{NotifyFault};
 
 use crate::config::EtrConfig;
-use crate::hearing::{answer, hear};
+use crate::hearing::{hear, write_ack};
 use crate::notify_fault::NotifyFault;
 use crate::round::{Round, begin_all};
 use crate::seen::Seen;
@@ -112,7 +112,8 @@ impl<A: Allocator + Copy> Etr<A> {
     /// The least number, from 0 on, of a Map-Server that is due at a time, in ms; `None` where none is. Takes
     /// no memory.
     pub fn due(&self, now: u64) -> Option<usize>
-        ensures { result ≡ position (λ round. nat_le round.due now) self.now.rounds }
+        ensures due { result ≡ position (λ round. nat_le round.due now) self.now.rounds }
+        ensures server { IfSome result (λ server. server < length self.now.config.servers) }
     {
         self.rounds.iter().position(|round| round.due <= now)
     }
@@ -142,8 +143,8 @@ impl<A: Allocator + Copy> Etr<A> {
         // No lower nonce comes back from the store: not after a send, nor after one that failed.
         ensures safe { OnOk result (self.old.last + 1 ≤ self.new.safe) }
         ensures keeps_safe { IsTrue (S.seen store.old).is_honest → NoneBelow self.old.safe (kept_at (S.seen store.old).kept (sent_pair self.old.config)) → NoneBelow self.new.safe (kept_at (S.seen store.new).kept (sent_pair self.old.config)) }
-        ensures settles { IsTrue (S.seen store.old).is_honest → OnOk result (Settles (kept_at (S.seen store.old).kept (sent_pair self.old.config)) (kept_at (S.seen store.new).kept (sent_pair self.old.config))) }
-        ensures leaves { IsTrue (S.seen store.old).is_honest → OnErr result (LeavesPair (kept_at (S.seen store.old).kept (sent_pair self.old.config)) (kept_at (S.seen store.new).kept (sent_pair self.old.config)) self.old.last) }
+        ensures settles { IsTrue (S.seen store.old).is_honest → OnOk result (Settles (kept_at (S.seen store.old).kept (sent_pair self.old.config)) (kept_at (S.seen store.new).kept (sent_pair self.old.config)) (self.old.last + 1) last_nonce) }
+        ensures leaves { IsTrue (S.seen store.old).is_honest → OnErr result (LeavesPair (kept_at (S.seen store.old).kept (sent_pair self.old.config)) (kept_at (S.seen store.new).kept (sent_pair self.old.config)) (self.old.last + 1)) }
         ensures others { IsTrue (S.seen store.old).is_honest → SameElsewhere (S.seen store.old).kept (S.seen store.new).kept (sent_pair self.old.config) }
 
         // Only a device that failed leaves the store in doubt.
@@ -182,6 +183,7 @@ impl<A: Allocator + Copy> Etr<A> {
     pub fn receive(&mut self, from: Addr, bytes: &[u8], _now: u64) -> Result<Seen<A>, NotifyFault>
         ensures answer { Gives (λ seen. seen) result (seen_at self.old from bytes.now) }
         ensures after { self.new ≡ after self.old result }
+        ensures fits { IfOk result (λ seen. AnswerFits self.old.config.key_id seen) }
 
         // Before the first record nothing takes memory.
         ensures early { (fault : ReadFault) → kind_at bytes.now ≡ Err fault → result ≡ Err (fault_of_read fault) }
@@ -196,13 +198,14 @@ impl<A: Allocator + Copy> Etr<A> {
     // A Map-Server's notice, and its answer.
     fn notice(&self, server: usize, notify: MapNotify<A>) -> Result<Seen<A>, NotifyFault>
         ensures notice { IfOk result (λ seen. seen ≡ notice_in self.now.config (record { server = server; message = notify })) }
+        ensures fits { IfOk result (λ seen. AnswerFits notify.key_id seen) }
         ensures err { IfErr result (λ fault. fault ≡ NotifyFault.OutOfMemory) }
     {
         let ack = MapNotify {
             ack: true,
             ..notify
         };
-        let bytes = answer(self.alloc, &ack, self.config.secret.as_slice())?;
+        let bytes = write_ack(self.alloc, &ack, self.config.secret.as_slice())?;
         Ok(Seen::Notice {
             server,
             nonce: ack.nonce,

@@ -1,6 +1,7 @@
 //! What a router checks of a message, and how it answers a notice.
 
-ghost use Rattle.std.specs.Prelude.{◌≡◌, ◌<◌, Err, IfOk, length};
+ghost use Rattle.std.specs.Prelude.{◌≡◌, ◌<◌, Err, IfOk, OnOk, length};
+ghost use Rattle.lisp_messages.specs.Message.{IsNotification};
 ghost use Rattle.lisp_messages.specs.Reading.{kind_at, message_at};
 ghost use Rattle.lisp_messages.specs.declared.fault.ReadFault.{ReadFault};
 ghost use Rattle.lisp_messages.specs.Authentic.{signed};
@@ -16,7 +17,7 @@ use std::alloc::{AllocError, Allocator};
 
 /// The Map-Notify that bytes from an address spell and the number of the Map-Server there, or the
 /// first check that they fail: `Read`, `NotMine`, `WrongKey`, `BadAuth`; `OutOfMemory` in reading.
-#[tactic(auto, unfolding(crate::specs::Hearing::heard))]
+#[tactic(auto, unfolding(crate::specs::Hearing::checked))]
 pub(crate) fn hear<A: Allocator + Copy>(
     alloc: A,
     config: &EtrConfig<A>,
@@ -25,6 +26,7 @@ pub(crate) fn hear<A: Allocator + Copy>(
 ) -> Result<(usize, MapNotify<A>), NotifyFault>
     ensures exact { Gives (λ x. record { server = x.0; message = x.1 }) result (heard config.now from bytes.now) }
     ensures server { IfOk result (λ x. x.0 < length config.now.servers) }
+    ensures key { IfOk result (λ x. x.1.key_id ≡ config.now.key_id) }
     ensures early { (fault : ReadFault) → kind_at bytes.now ≡ Err fault → result ≡ Err (fault_of_read fault) }
 {
     let notify = read_notify(alloc, bytes)?;
@@ -58,12 +60,13 @@ fn server_at(servers: &[Addr], from: Addr) -> Option<usize>
 }
 
 /// The bytes of the Map-Notify-Ack that answers a notice (RFC 9301 section 5.7).
-pub(crate) fn answer<A: Allocator + Copy>(
+pub(crate) fn write_ack<A: Allocator + Copy>(
     alloc: A,
     ack: &MapNotify<A>,
     secret: &[u8],
 ) -> Result<Vec<u8, A>, AllocError>
-    ensures { IfOk result (λ bytes. bytes.items ≡ signed secret.now (written_notify ack.now)) }
+    ensures written { IfOk result (λ bytes. bytes.items ≡ signed secret.now (written_notify ack.now)) }
+    ensures known { OnOk result (IsNotification ack.now) }
 {
     write_notify(alloc, ack, secret)
 }

@@ -2,85 +2,89 @@
 
 use crate::worked::{FIRST, NOTICE, TTL, config, database, map_notify, start_fault, started};
 use linked_list_allocator::LocalHeap;
-use lisp_etr::SendFault;
-use lisp_samples::{HEAP_LEN, MOST_BLOCKS, fill, is_refused_then_answers};
+use lisp_etr::{Etr, SendFault};
+use lisp_samples::{HEAP_LEN, fill, is_refused_then_answers};
 use lisp_store::{MemoryStore, StoreFault};
-use std::alloc::Global;
+use std::alloc::{Allocator, Global};
 use std::process::Abort;
 
 /// What a router is asked for.
 #[derive(Clone, Copy)]
 enum Call<'a> {
     Starts,
-    /// To send, its nonce saved in this heap.
-    Sends(&'a LocalHeap),
+    Sends,
     /// To take a datagram of its first Map-Server's.
     Receives(&'a [u8]),
 }
 
 #[test]
 fn each_call_is_refused_memory(rt: HostRuntime) {
-    let alloc = rt.alloc();
-    let store = heap(&rt, alloc);
-    let notice = map_notify(&rt, alloc, NOTICE);
-    for call in [Call::Starts, Call::Sends(&store), Call::Receives(&notice)] {
-        assert!(rt; is_refused_then_answers(|blocks| answers_in(&rt, alloc, call, blocks)));
-    }
+    let heap = heap(&rt, rt.alloc());
+    let notice = map_notify(&rt, rt.alloc(), NOTICE);
+    assert_refused(&rt, rt.alloc(), &heap, Call::Starts);
+    assert_refused(&rt, rt.alloc(), &heap, Call::Sends);
+    assert_refused(&rt, rt.alloc(), &heap, Call::Receives(&notice));
 }
 
 #[test]
 fn a_store_without_memory_sends_nothing(rt: HostRuntime) {
     let store = heap(&rt, rt.alloc());
-    let _ballast = ballast(&rt, rt.alloc(), &store, 0);
-    let refusal = refusal_in(&rt, rt.alloc(), &store, MOST_BLOCKS);
+    let _ballast = fill(rt.alloc(), &store, 0).expect(&rt, "the ballast");
+    let refusal = refusal(&mut started(&rt, rt.alloc()), &store);
     assert!(rt; refusal == Some(SendFault::Store(StoreFault::OutOfMemory)));
 }
 
+fn assert_refused(rt: &impl Abort, ample: Global, heap: &LocalHeap, call: Call<'_>) {
+    assert!(rt; is_refused_then_answers(|blocks| answers_in(rt, ample, heap, call, blocks)));
+}
+
 /// Whether a router answers a call with so many blocks of memory.
-fn answers_in(rt: &impl Abort, alloc: Global, call: Call<'_>, blocks: usize) -> bool {
+fn answers_in(
+    rt: &impl Abort,
+    ample: Global,
+    heap: &LocalHeap,
+    call: Call<'_>,
+    blocks: usize,
+) -> bool {
     match call {
-        Call::Starts => starts_in(rt, alloc, blocks),
-        Call::Sends(store) => refusal_in(rt, alloc, store, blocks).is_none(),
-        Call::Receives(bytes) => receives_in(rt, alloc, bytes, blocks),
+        Call::Starts => starts_in(rt, ample, heap, blocks),
+        _ => asks_in(rt, ample, heap, call, blocks),
     }
 }
 
-fn starts_in(rt: &impl Abort, alloc: Global, blocks: usize) -> bool {
-    let heap = heap(rt, alloc);
-    let (config, database) = (config(rt, &heap), database(rt, &heap, Some(TTL)));
-    let _ballast = ballast(rt, alloc, &heap, blocks);
-    start_fault(rt, &heap, config, database, &mut MemoryStore::new(&heap)).is_none()
+fn starts_in(rt: &impl Abort, ample: Global, heap: &LocalHeap, blocks: usize) -> bool {
+    let (config, database) = (config(rt, heap), database(rt, heap, Some(TTL)));
+    let _ballast = fill(ample, heap, blocks).expect(rt, "the ballast");
+    start_fault(rt, heap, config, database, &mut MemoryStore::new(heap)).is_none()
 }
 
-fn refusal_in(
+fn asks_in(
     rt: &impl Abort,
-    alloc: Global,
-    store: &LocalHeap,
+    ample: Global,
+    heap: &LocalHeap,
+    call: Call<'_>,
     blocks: usize,
-) -> Option<SendFault> {
-    let heap = heap(rt, alloc);
-    let mut router = started(rt, &heap);
-    let _ballast = ballast(rt, alloc, &heap, blocks);
-    router.send(&mut MemoryStore::new(store), 0, 0).err()
+) -> bool {
+    let mut router = started(rt, heap);
+    let _ballast = fill(ample, heap, blocks).expect(rt, "the ballast");
+    match call {
+        Call::Receives(bytes) => receives(&mut router, bytes),
+        _ => refusal(&mut router, ample).is_none(),
+    }
 }
 
-fn receives_in(rt: &impl Abort, alloc: Global, bytes: &[u8], blocks: usize) -> bool {
-    let heap = heap(rt, alloc);
-    let mut router = started(rt, &heap);
-    let _ballast = ballast(rt, alloc, &heap, blocks);
+fn receives(router: &mut Etr<&LocalHeap>, bytes: &[u8]) -> bool {
     router.receive(FIRST, bytes, 0).is_ok()
+}
+
+/// Why a router doesn't send over an empty store in memory of `alloc`.
+fn refusal<A: Allocator + Copy, B: Allocator + Copy>(
+    router: &mut Etr<A>,
+    alloc: B,
+) -> Option<SendFault> {
+    router.send(&mut MemoryStore::new(alloc), 0, 0).err()
 }
 
 fn heap(rt: &impl Abort, alloc: Global) -> LocalHeap {
     LocalHeap::new(alloc, HEAP_LEN).expect(rt, "the heap")
-}
-
-/// All the memory of a heap but so many blocks.
-fn ballast<'h>(
-    rt: &impl Abort,
-    alloc: Global,
-    heap: &'h LocalHeap,
-    blocks: usize,
-) -> Vec<Vec<u8, &'h LocalHeap>> {
-    fill(alloc, heap, blocks).expect(rt, "the ballast")
 }

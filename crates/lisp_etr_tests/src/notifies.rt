@@ -7,12 +7,12 @@ use lisp_records::Addr;
 use lisp_samples::RECORD;
 
 /// The Map-Notify-Ack that answers the notice.
-const ACK: Datagram = Datagram {
-    len: 60,
-    head: [0x50, 0, 0, 1, 0x80, 0, 0, 0, 0, 0, 0, 0, 1, 2, 0, 16],
-    records: &RECORD,
-    end: &[],
-};
+const ACK: Datagram = (
+    60,
+    [0x50, 0, 0, 1, 0x80, 0, 0, 0, 0, 0, 0, 0, 1, 2, 0, 16],
+    &RECORD,
+    &[],
+);
 
 const COUNTS_THE_LAST: [Step; 4] = [
     Step::Sends { to: 0, at: 0 },

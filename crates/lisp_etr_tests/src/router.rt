@@ -70,28 +70,9 @@ pub(crate) enum Step {
     },
 }
 
-/// What a datagram is, which is also authentic under the worked secret.
-pub(crate) struct Datagram {
-    pub(crate) len: usize,
-    /// The bytes before its Authentication Data.
-    pub(crate) head: [u8; 16],
-    /// How its records begin.
-    pub(crate) records: &'static [u8],
-    pub(crate) end: &'static [u8],
-}
-
-impl Datagram {
-    fn is_spelt_by(&self, bytes: &[u8]) -> bool {
-        let Some((front, rest)) = bytes.split_at_checked(FRONT_LEN) else {
-            return false;
-        };
-        bytes.len() == self.len
-            && front.starts_with(&self.head)
-            && rest.starts_with(self.records)
-            && rest.ends_with(self.end)
-            && authentic(bytes, SECRET)
-    }
-}
+/// What a datagram is, which is also authentic under the worked secret: its length, the bytes before its
+/// Authentication Data, how its records begin, and how it ends.
+pub(crate) type Datagram = (usize, [u8; 16], &'static [u8], &'static [u8]);
 
 /// What is told by steps, and the steps.
 pub(crate) type Row = (&'static str, &'static [Step]);
@@ -99,19 +80,9 @@ pub(crate) type Row = (&'static str, &'static [Step]);
 /// Runs by the steps of each row the worked router, started at 0 ms over a store that keeps nothing.
 pub(crate) fn run_all(rt: &impl Abort, alloc: Global, rows: &[Row]) {
     for (name, steps) in rows {
-        run(rt, alloc, name, steps);
+        let mut router = Router::start(rt, alloc);
+        router.does_all(rt, name, steps);
     }
-}
-
-fn run(rt: &impl Abort, alloc: Global, name: &str, steps: &[Step]) {
-    let mut router = Router::start(rt, alloc);
-    for (place, step) in steps.iter().enumerate() {
-        assert_so(rt, router.does(rt, step), name, place);
-    }
-}
-
-fn assert_so(rt: &impl Abort, is_so: bool, name: &str, place: usize) {
-    assert!(rt; is_so, "{name}: step {place}");
 }
 
 /// The worked router and its store.
@@ -129,21 +100,27 @@ impl Router {
         Router { alloc, etr, store }
     }
 
+    fn does_all(&mut self, rt: &impl Abort, name: &str, steps: &[Step]) {
+        for (place, step) in steps.iter().enumerate() {
+            assert!(rt; self.does(rt, step), "{name}: step {place}");
+        }
+    }
+
     /// Whether this comes of a step.
     fn does(&mut self, rt: &impl Abort, step: &Step) -> bool {
         match *step {
             Step::Changes { ttl, at } => self.changes(rt, ttl, at),
-            Step::Sends { to, at } => self.send(to, at).is_ok(),
-            Step::SendsWhenDue { at } => self.sends_when_due(at),
-            Step::Registers(datagram) => self.registers(datagram),
-            Step::RefusesToSend { to, why } => self.send(to, 0).err() == Some(why),
+            Step::Sends { to, at } => self.sends(to, at),
+            Step::SendsWhenDue { at } => self.is_due(0, at) && self.sends(0, at),
+            Step::Registers(datagram) => self.send(0, 0, Some(datagram)) == Ok(true),
+            Step::RefusesToSend { to, why } => self.send(to, 0, None) == Err(why),
             Step::IsDue { to, at } => self.is_due(to, at),
             Step::Counts { nonce, at } => self.counts(rt, nonce, at),
             Step::Refuses { from, nonce, why } => self.refuses(rt, from, nonce, why),
             Step::AnswersNotice(datagram) => self.answers_notice(rt, datagram),
             Step::StoreIsArmed(fate) => self.store_is_armed(fate),
-            Step::StoreSaves(nonce) => self.store.save(&PAIR, nonce).is_ok(),
-            Step::StoreKeeps(nonce) => self.store.load(&PAIR) == Ok(Some(nonce)),
+            Step::StoreSaves(nonce) => self.store_saves(nonce),
+            Step::StoreKeeps(nonce) => self.store_keeps(nonce),
             Step::Restarts { pick } => self.restarts(rt, pick),
         }
     }
@@ -153,19 +130,16 @@ impl Router {
         true
     }
 
-    fn send(&mut self, to: usize, at: u64) -> Result<Vec<u8>, SendFault> {
-        self.etr.send(&mut self.store, to, at.min(LAST_TIME))
-    }
-
-    fn sends_when_due(&mut self, at: u64) -> bool {
-        self.is_due(0, at) && self.send(0, at).is_ok()
-    }
-
-    fn registers(&mut self, datagram: &Datagram) -> bool {
-        match self.send(0, 0) {
-            Ok(bytes) => datagram.is_spelt_by(&bytes),
-            Err(_) => false,
+    /// Sends, and tells whether the Map-Register is this one, where one is wanted.
+    fn send(&mut self, to: usize, at: u64, want: Option<&Datagram>) -> Result<bool, SendFault> {
+        match self.etr.send(&mut self.store, to, at.min(LAST_TIME)) {
+            Ok(bytes) => Ok(is_spelt(want, &bytes)),
+            Err(why) => Err(why),
         }
+    }
+
+    fn sends(&mut self, to: usize, at: u64) -> bool {
+        self.send(to, at, None) == Ok(true)
     }
 
     fn is_due(&self, to: usize, at: u64) -> bool {
@@ -177,36 +151,34 @@ impl Router {
     }
 
     fn counts(&mut self, rt: &impl Abort, nonce: u64, at: u64) -> bool {
-        self.hears(rt, FIRST, nonce, at).is_ok() && self.acked()[0] == Some((1, nonce))
+        self.hears(rt, FIRST, nonce, at, None) == Ok(true) && self.etr.acked(0) == Some((1, nonce))
     }
 
     fn refuses(&mut self, rt: &impl Abort, from: Addr, nonce: u64, why: NotifyFault) -> bool {
-        let acked = self.acked();
-        self.hears(rt, from, nonce, 0).err() == Some(why) && self.acked() == acked
+        self.hears(rt, from, nonce, 0, None) == Err(why)
     }
 
     fn answers_notice(&mut self, rt: &impl Abort, datagram: &Datagram) -> bool {
-        match self.hears(rt, SECOND, NOTICE, 0) {
-            Ok(Seen::Notice { answer, .. }) => datagram.is_spelt_by(answer.as_slice()),
-            _ => false,
-        }
+        self.hears(rt, SECOND, NOTICE, 0, Some(datagram)) == Ok(true)
     }
 
-    /// The Key ID and the nonce that each Map-Server acknowledged last.
-    fn acked(&self) -> [Option<(u8, u64)>; 2] {
-        [self.etr.acked(0), self.etr.acked(1)]
-    }
-
-    /// Takes a Map-Notify with this nonce.
+    /// Takes a Map-Notify with this nonce, and tells whether it is answered so, or counted where no answer is
+    /// wanted.
     fn hears(
         &mut self,
         rt: &impl Abort,
         from: Addr,
         nonce: u64,
         at: u64,
-    ) -> Result<Seen, NotifyFault> {
-        let bytes = map_notify(rt, self.alloc, nonce);
-        self.etr.receive(from, &bytes, at)
+        want: Option<&Datagram>,
+    ) -> Result<bool, NotifyFault> {
+        match self
+            .etr
+            .receive(from, &map_notify(rt, self.alloc, nonce), at)
+        {
+            Ok(seen) => Ok(is_answered(&seen, want)),
+            Err(why) => Err(why),
+        }
     }
 
     fn store_is_armed(&mut self, fate: Fate) -> bool {
@@ -214,9 +186,45 @@ impl Router {
         true
     }
 
+    fn store_saves(&mut self, nonce: u64) -> bool {
+        self.store.save(&PAIR, nonce).is_ok()
+    }
+
+    fn store_keeps(&mut self, nonce: u64) -> bool {
+        self.store.load(&PAIR) == Ok(Some(nonce))
+    }
+
     fn restarts(&mut self, rt: &impl Abort, pick: u64) -> bool {
         self.store.restart(pick);
         self.etr = start(rt, self.alloc, &mut self.store);
         true
+    }
+}
+
+/// Whether the bytes are the wanted datagram, where one is wanted.
+fn is_spelt(want: Option<&Datagram>, bytes: &[u8]) -> bool {
+    match want {
+        Some(datagram) => is_datagram(datagram, bytes),
+        None => true,
+    }
+}
+
+fn is_datagram(datagram: &Datagram, bytes: &[u8]) -> bool {
+    let (len, head, records, end) = datagram;
+    let Some((front, rest)) = bytes.split_at_checked(FRONT_LEN) else {
+        return false;
+    };
+    bytes.len() == *len
+        && front.starts_with(head)
+        && rest.starts_with(records)
+        && rest.ends_with(end)
+        && authentic(bytes, SECRET)
+}
+
+/// Whether a notice is answered with the wanted datagram, or a nonce is counted where none is wanted.
+fn is_answered(seen: &Seen, want: Option<&Datagram>) -> bool {
+    match seen {
+        Seen::Notice { answer, .. } => want.is_some() && is_spelt(want, answer.as_slice()),
+        Seen::Counted { .. } => want.is_none(),
     }
 }

@@ -11,28 +11,28 @@ const IDS: [u8; 24] = [
 ];
 
 /// The worked Map-Register: P, I and M set, one record, nonce 1.
-const WORKED: Datagram = Datagram {
-    len: 84,
-    head: [0x3a, 0, 1, 1, 0, 0, 0, 0, 0, 0, 0, 1, 1, 2, 0, 16],
-    records: &RECORD,
-    end: &IDS,
-};
+const WORKED: Datagram = (
+    84,
+    [0x3a, 0, 1, 1, 0, 0, 0, 0, 0, 0, 0, 1, 1, 2, 0, 16],
+    &RECORD,
+    &IDS,
+);
 
 /// The Map-Register of an empty database.
-const EMPTY: Datagram = Datagram {
-    len: 56,
-    head: [0x3a, 0, 1, 0, 0, 0, 0, 0, 0, 0, 0, 1, 1, 2, 0, 16],
-    records: &[],
-    end: &IDS,
-};
+const EMPTY: Datagram = (
+    56,
+    [0x3a, 0, 1, 0, 0, 0, 0, 0, 0, 0, 0, 1, 1, 2, 0, 16],
+    &[],
+    &IDS,
+);
 
 /// The second Map-Register, with a TTL of an hour.
-const CHANGED: Datagram = Datagram {
-    len: 84,
-    head: [0x3a, 0, 1, 1, 0, 0, 0, 0, 0, 0, 0, 2, 1, 2, 0, 16],
-    records: &[0, 0, 0, 60],
-    end: &IDS,
-};
+const CHANGED: Datagram = (
+    84,
+    [0x3a, 0, 1, 1, 0, 0, 0, 0, 0, 0, 0, 2, 1, 2, 0, 16],
+    &[0, 0, 0, 60],
+    &IDS,
+);
 
 const REGISTERS: [Step; 2] = [Step::Registers(&WORKED), Step::StoreKeeps(1)];
 

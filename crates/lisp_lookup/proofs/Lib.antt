@@ -1,4 +1,5 @@
 pub mod Found
+pub mod Apart
 pub mod Orders
 pub mod TableLaws
 pub mod LiveLaws

@@ -23,7 +23,8 @@ use Rattle.lisp_lookup.specs.Table.{is_row_of, row_key, row_at, OneEach}
 use Rattle.lisp_lookup.specs.Records.{is_live_of, live_of, ByPrefix}
 use Rattle.lisp_lookup.proofs.Found.{not_true}
 use Rattle.lisp_lookup.proofs.Orders.{block_total, same_block}
-use Rattle.lisp_lookup.proofs.TableLaws.{has_key, found, filtered_holds, less_from, differ_moved}
+use Rattle.lisp_lookup.proofs.Apart.{found}
+use Rattle.lisp_lookup.proofs.TableLaws.{has_key, filtered_holds, less_from, differ_moved}
 
 -- the row at a place is the last of the first so many
 taken : (rows : List Holding) (i : ℕ) (h : Holding) → i < length rows → h ≡ slice_index_or rows i h → take (i + 1) rows ≡ take i rows ++ h ∷ []

@@ -1,5 +1,5 @@
 -- Setting, dropping and listing rows.
-use Rattle.std.proofs.Common.{◌≡◌, ◌≢◌, ◌==◌, ◌⊎◌, inl, inr, not, ℕ, zero, suc, ◌-◌, ◌<◌, Bool, true, false, cond, List, [], ◌∷◌, ◌++◌, length, slice_set, slice_index_or, Option, Some, None, refl, sym, ap, ◌∙◌, subst, true≢false, arith}
+use Rattle.std.proofs.Common.{◌≡◌, ◌≢◌, ◌⊎◌, inl, inr, not, ℕ, suc, ◌-◌, ◌<◌, Bool, true, false, cond, List, [], ◌∷◌, ◌++◌, length, slice_set, slice_index_or, Option, Some, None, refl, sym, ap, ◌∙◌, subst, true≢false, arith}
 use Rattle.std.specs.Bool.{Decides}
 use Rattle.std.specs.Option.{option_or, option_and_then}
 use Rattle.std.specs.List.{AllPairs, Contains, find, filter, position, swap}
@@ -9,13 +9,10 @@ use Rattle.std.specs.declared.cmp.Ordering.{Ordering}
 use Rattle.std.specs.declared.cmp.Ordering.TheVariants.{Less, Equal, Greater}
 use Rattle.std.proofs.lemmas.Bool.{cases_eq}
 use Rattle.std.proofs.lemmas.List.Edits.{Swapped, swapped_from_swap, length-swap}
-use Rattle.std.proofs.lemmas.Bool.Decides.{Decides-and, Decides-eqb, Decides-ltb}
-use Rattle.std.proofs.lemmas.List.{reverse-append, get_or-set_other, length-set}
-use Rattle.std.proofs.lemmas.Grind.{get_or-set_at}
+use Rattle.std.proofs.lemmas.Bool.Decides.{Decides-and, Decides-ltb}
+use Rattle.std.proofs.lemmas.List.{reverse-append}
 use Rattle.std.proofs.lemmas.List.Elements.{All-contains, All-filter, All-contains_itself, Contains-append_cases, filter_passes}
-use Rattle.std.proofs.lemmas.List.Recursion.{found_at}
 use Rattle.std.proofs.lemmas.List.Kept.{AllPairs-filter}
-use Rattle.std.proofs.lemmas.List.Quantifiers.{position-Some, all_pairs_push}
 use Rattle.std.proofs.lemmas.List.Sorted.{ranks_by, sorted_far, IsPermutation-filter_both, IsPermutation-keeps, IsPermutation-sym, Contains-permutation}
 use Rattle.lisp_records.proofs.DatabaseLaws.{block_eq-Decides}
 use Rattle.lisp_records.proofs.RouterLaws.{router_eq-Decides}
@@ -23,7 +20,8 @@ use Rattle.lisp_records.specs.declared.router.RouterId.{RouterId}
 use Rattle.lisp_records.specs.Address.{Block}
 use Rattle.lisp_records.specs.Row.{Holding, is_alive}
 use Rattle.lisp_lookup.specs.Table.{is_row_of, row_key, row_at, last_of, OneEach, Sets, Expires, if_alive, row_cmp, IsHeld}
-use Rattle.lisp_lookup.proofs.Found.{put_set, put_push, nowhere, not_true}
+use Rattle.lisp_lookup.proofs.Apart.{apart_set, apart_push, own_found}
+use Rattle.lisp_lookup.proofs.Found.{put_set, put_push}
 use Rattle.lisp_lookup.proofs.Orders.{key_cmp, key_total, same_key}
 
 abbrev has : RouterId × Block → Holding → Bool
@@ -60,35 +58,14 @@ sets_more old mid new given y first second router eid =
     ∙ or_chain (is_row_of router eid y) y (last_of given router eid) (row_at old router eid)
     ∙ ap (λ (rows : List Holding). option_or (find (is_row_of router eid) rows) (row_at old router eid)) (sym (reverse-append given (y ∷ [])))
 
--- a row that is set at the place of another with its key leaves the keys as they are
-keys_case : (rows : List Holding) (i : ℕ) (y d : Holding) → i < length rows → row_key (slice_index_or rows i d) ≡ row_key y → (k : ℕ) (b : Bool) → (k == i) ≡ b → row_key (slice_index_or (slice_set rows i y) k d) ≡ row_key (slice_index_or rows k d)
-keys_case rows i y d lt same k true e =
-    let at : k ≡ i = (Decides-eqb k i).0 e in
-    ap row_key (get_or-set_at rows i k y d at lt) ∙ sym same ∙ ap (λ (j : ℕ). row_key (slice_index_or rows j d)) (sym at)
-keys_case rows i y d lt same k false e = ap row_key (get_or-set_other rows i k y d (λ at. true≢false (sym ((Decides-eqb k i).1 at) ∙ e)))
-
 pub one_each_set : (rows : List Holding) (i : ℕ) (y : Holding) → OneEach rows → position (is_row_of y.router y.mapping.eid) rows ≡ Some i → OneEach (slice_set rows i y)
-one_each_set rows i y one at = λ a b d before lt same.
-    (let place = position-Some (is_row_of y.router y.mapping.eid) rows i d at in
-    let alike : row_key (slice_index_or rows i d) ≡ row_key y = (has_key (row_key y) (slice_index_or rows i d)).0 place.1 in
-    let keys = λ (k : ℕ). keys_case rows i y d place.0 alike k (k == i) refl in
-    one a b d before (omega (arith, lt, length-set rows i y)) (sym (keys a) ∙ same ∙ keys b))
-
--- what passes a test is found
-pub some_inj : {X : Type 0} (x y : X) → ◌≡◌ {A = Option X} (Some x) (Some y) → x ≡ y
-some_inj x y e = cc
-
-found_case : (p : Holding → Bool) (x : Holding) (xs : List Holding) (k : ℕ) (d : Holding) → k < length (x ∷ xs) → p (slice_index_or (x ∷ xs) k d) ≡ true → (b : Bool) → p x ≡ b → ((j : ℕ) → j < length xs → p (slice_index_or xs j d) ≡ true → find p xs ≢ None) → cond b (Some x) (find p xs) ≢ None
-found_case p x xs k d lt passes true e later none = absurd (let clash : ◌≡◌ {A = Option Holding} (Some x) None = none in cc)
-found_case p x xs zero d lt passes false e later none = absurd (true≢false (sym passes ∙ e))
-found_case p x xs (suc k) d lt passes false e later none = later k (omega (arith, lt)) passes none
-
-pub found : (p : Holding → Bool) (rows : List Holding) (k : ℕ) (d : Holding) → k < length rows → p (slice_index_or rows k d) ≡ true → find p rows ≢ None
-found p [] k d lt passes none = absurd (omega (arith, lt))
-found p (x ∷ xs) k d lt passes none = found_case p x xs k d lt passes (p x) refl (λ j. found p xs j d) none
+one_each_set rows i y one at = apart_set row_key has has_key rows i y one at
 
 pub one_each_push : (rows : List Holding) (y : Holding) → OneEach rows → position (is_row_of y.router y.mapping.eid) rows ≡ None → OneEach (rows ++ y ∷ [])
-one_each_push rows y one at = all_pairs_push (λ a b. row_key a ≢ row_key b) rows y one (λ k d lt same. found (has (row_key y)) rows k d lt ((has_key (row_key y) (slice_index_or rows k d)).1 same) (nowhere (has (row_key y)) rows at))
+one_each_push rows y one at = apart_push row_key has has_key rows y one at
+
+pub some_inj : {X : Type 0} (x y : X) → ◌≡◌ {A = Option X} (Some x) (Some y) → x ≡ y
+some_inj x y e = cc
 
 -- where a swap of two places took the element of a third from
 abbrev From : ℕ → ℕ → ℕ → ℕ → Type 0
@@ -125,10 +102,7 @@ module _ {X K : Type 0} (key : X → K) where
 -- a row that is held is found by its router and prefix, and what is found is held
 pub found_own : (rows : List Holding) (h : Holding) → OneEach rows → Contains rows h → row_at rows h.router h.mapping.eid ≡ Some h
 unfolding row_at
-found_own rows h one (k, lt, at) =
-    let earlier : (j : ℕ) → j < k → has (row_key h) (slice_index_or rows j h) ≡ false = λ j before. not_true (has (row_key h) (slice_index_or rows j h)) (λ t. one j k h before lt ((has_key (row_key h) (slice_index_or rows j h)).0 t ∙ ap row_key (sym at))) in
-    let own : has (row_key h) (slice_index_or rows k h) ≡ true = (has_key (row_key h) (slice_index_or rows k h)).1 (ap row_key at) in
-    found_at (λ (rows : List Holding). find (has (row_key h)) rows) (has (row_key h)) Some None refl (λ x xs. refl) rows k h lt earlier own ∙ ap Some at
+found_own rows h one held = own_found row_key has has_key rows h one held
 
 holds_case : {X : Type 0} (p : X → Bool) (x : X) (xs : List X) (h : X) (b : Bool) → p x ≡ b → cond b (Some x) (find p xs) ≡ Some h → (find p xs ≡ Some h → Contains xs h × (p h ≡ true)) → Contains (x ∷ xs) h × (p h ≡ true)
 holds_case p x xs h true t e later = (let same : x ≡ h = some_inj x h e in ((0, omega arith, same), ap p (sym same) ∙ t))

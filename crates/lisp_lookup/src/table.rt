@@ -4,6 +4,7 @@ ghost use Rattle.std.specs.Prelude.{◌≡◌, ◌+◌, ◌≤◌, ◌<◌, [], 
 ghost use Rattle.std.specs.Option.{option_map};
 ghost use Rattle.std.specs.List.{filter, position};
 ghost use Rattle.lisp_records.specs.Address.{block_cmp};
+ghost use Rattle.lisp_records.specs.Moment.{max_moment};
 ghost use Rattle.lisp_records.specs.Row.{is_alive};
 ghost use Rattle.lisp_lookup.specs.Table.{is_row_of, OneEach, Sets, Expires, row_cmp, IsHeld};
 ghost use Rattle.lisp_lookup.specs.Answer.{Answers};
@@ -72,11 +73,14 @@ impl<A: Allocator + Copy> Table<A> {
     /// prefix the last stays. Takes no memory.
     pub fn put_all(&mut self, rows: Vec<Row<A>, A>)
         requires { length rows.items ≤ self.old.spare }
-        ensures { Sets self.old.rows self.new.rows rows.items }
+        ensures sets { Sets self.old.rows self.new.rows rows.items }
+        ensures one_each { OneEach self.new.rows }
     {
         for row in rows {
             self.put(row);
         }
+        // Reading a field shows the type's invariant to the proof.
+        let _items = &self.items;
     }
 
     // Sets a row.
@@ -92,9 +96,11 @@ impl<A: Allocator + Copy> Table<A> {
         }
     }
 
-    /// Takes out the rows that are dead at a moment, in ms; takes no memory.
+    /// Takes out the rows that are dead at a moment, in ms, of at most 2^62; takes no memory.
     pub fn drop_dead(&mut self, now: u64)
-        ensures { Expires self.old.rows self.new.rows now }
+        requires { now ≤ max_moment }
+        ensures expires { Expires self.old.rows self.new.rows now }
+        ensures one_each { OneEach self.new.rows }
     {
         self.items.retain(|row| row.alive(now));
     }

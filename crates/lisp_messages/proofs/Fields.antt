@@ -1,16 +1,18 @@
 -- The steps and fields of reading a message, each way: what a step took stands in the bytes, and
 -- what is written there is read again.
-use Rattle.std.proofs.Common.{◌≡◌, ℕ, zero, suc, ◌+◌, ◌^◌, ◌<◌, ◌≤◌, Bool, true, false, cond, eqb, ltb, List, [], ◌∷◌, ◌++◌, length, take, drop, Result, Ok, Err, refl, sym, ap, subst, ◌∙◌, arith}
+use Rattle.std.proofs.Common.{◌≡◌, ℕ, ◌+◌, ◌^◌, ◌<◌, ◌≤◌, Bool, true, false, cond, eqb, ltb, List, [], ◌∷◌, ◌++◌, length, take, drop, Result, Ok, Err, refl, sym, ap, subst, ◌∙◌, arith}
 use Rattle.std.specs.Int.{w64, from_be_bytes, to_be_bytes}
 use Rattle.std.proofs.lemmas.Bool.{ltb-false, le-ltb, eqb-true}
 use Rattle.std.proofs.lemmas.List.{take_at, drop_at, take-append-drop, length-append, length-take-le, length-drop, get_or-drop, drop_all, append-nil}
 use Rattle.std.proofs.lemmas.Nat.{be_bytes_8, from_be_bytes-to_be_bytes_8}
 use Rattle.lisp_records.specs.Spelling.{IsBytes}
+use Rattle.lisp_records.proofs.Fields.{IsBytes-take}
 use Rattle.lisp_messages.specs.declared.kind.Kind.{Kind}
 use Rattle.lisp_messages.specs.declared.kind.Kind.TheVariants as kinds
 use Rattle.lisp_messages.specs.declared.fault.ReadFault.{ReadFault}
 use Rattle.lisp_messages.specs.declared.fault.ReadFault.TheVariants as faults
-use Rattle.lisp_messages.specs.Reading.{◌>>=◌, after, require, kind_of, ids_at}
+use Rattle.lisp_records.specs.Result.{◌>>=◌}
+use Rattle.lisp_messages.specs.Reading.{after, require, kind_of, ids_at}
 
 -- the value of a step that did not fail
 pub bind_ok : {A B : Type 0} (r : Result A ReadFault) (f : A → Result B ReadFault) (y : B) → (r >>= f) ≡ Ok y → (x : A) × (r ≡ Ok x) × (f x ≡ Ok y)
@@ -84,13 +86,6 @@ eight_sum a b c d e f g h la lb lc ld le lf lg lh = omega arith
 pub eight_below : (bytes : List ℕ) → length bytes ≡ 8 → IsBytes bytes → from_be_bytes w64 bytes < 2 ^ 64
 eight_below (a ∷ b ∷ c ∷ d ∷ e ∷ f ∷ g ∷ h ∷ []) len fits = eight_sum a b c d e f g h (fits 0) (fits 1) (fits 2) (fits 3) (fits 4) (fits 5) (fits 6) (fits 7)
 eight_below _ len fits = absurd (omega arith)
-
--- the first bytes of bytes are bytes
-pub IsBytes-take : (n : ℕ) (bytes : List ℕ) → IsBytes bytes → IsBytes (take n bytes)
-IsBytes-take zero bytes fits i = omega arith
-IsBytes-take (suc n) [] fits i = omega arith
-IsBytes-take (suc n) (b ∷ bytes) fits zero = fits 0
-IsBytes-take (suc n) (b ∷ bytes) fits (suc i) = IsBytes-take n bytes (λ j. fits (suc j)) i
 
 -- what stands behind the first bytes of bytes is bytes
 pub IsBytes-drop : (n : ℕ) (bytes : List ℕ) → IsBytes bytes → IsBytes (drop n bytes)

@@ -1,19 +1,13 @@
 -- What bytes spell fits the format.
-use Rattle.std.proofs.Common.{◌<◌, ℕ, zero, suc, List, [], ◌∷◌, ◌++◌, length, refl, subst, arith}
+use Rattle.std.proofs.Common.{◌<◌, ℕ, List, [], ◌∷◌, ◌++◌, length, refl, subst}
 use Rattle.std.specs.Int.{w64, to_be_bytes}
 use Rattle.std.specs.List.{AllByRecursion}
 use Rattle.lisp_records.specs.Record.{Mapping, IsMapping}
 use Rattle.lisp_records.specs.Spelling.{IsBytes}
-use Rattle.lisp_records.proofs.Fields.{IsBytes-rest}
+use Rattle.lisp_records.proofs.Fields.{IsBytes-first, IsBytes-rest, each_byte}
 use Rattle.lisp_records.proofs.FitLaws.{record_fits}
 use Rattle.lisp_messages.specs.Message.{Said, Registers, Notifies, IsSaid, AreRecords}
 use Rattle.lisp_messages.specs.Spelling.{SpellsRecords, common, Spells}
-
--- what stands before something in bytes is bytes
-IsBytes-first : (first others : List ℕ) → IsBytes (first ++ others) → IsBytes first
-IsBytes-first [] others fits i = omega arith
-IsBytes-first (b ∷ first) others fits zero = fits 0
-IsBytes-first (b ∷ first) others fits (suc i) = IsBytes-first first others (λ j. fits (suc j)) i
 
 records_fit : (bytes : List ℕ) (rs : List Mapping) → IsBytes bytes → SpellsRecords bytes rs → AllByRecursion IsMapping rs
 records_fit bytes [] fits s = tt
@@ -27,9 +21,16 @@ pub said_fits : (bytes : List ℕ) (x : Said) → IsBytes bytes → Spells bytes
 said_fits bytes (Registers m) fits s =
     let head = s.kind ∷ s.reserved ∷ s.flags ∷ common (length m.records) m.nonce m.key_id s.auth in
     let whole = subst IsBytes s.parts fits in
-    let front = IsBytes-first (head ++ s.records) m.xtr (IsBytes-first (head ++ s.records ++ m.xtr) (to_be_bytes w64 m.site) whole) in
-    record { nonce = s.nonce; records = counted head s.records m.records front (whole 3) s.each; xtr = s.xtr; site = s.site }
+    let before_site = IsBytes-first (head ++ s.records ++ m.xtr) (to_be_bytes w64 m.site) whole in
+    record {
+      nonce = s.nonce;
+      key = whole 12;
+      records = counted head s.records m.records (IsBytes-first (head ++ s.records) m.xtr before_site) (whole 3) s.each;
+      xtr = s.xtr;
+      xtr_bytes = each_byte m.xtr (IsBytes-rest (head ++ s.records ++ m.xtr) (head ++ s.records) m.xtr refl before_site);
+      site = s.site;
+    }
 said_fits bytes (Notifies m) fits s =
     let head = s.kind ∷ s.reserved ∷ s.flags ∷ common (length m.records) m.nonce m.key_id s.auth in
     let whole = subst IsBytes s.parts fits in
-    record { nonce = s.nonce; records = counted head s.records m.records (IsBytes-first (head ++ s.records) s.tail whole) (whole 3) s.each }
+    record { nonce = s.nonce; key = whole 12; records = counted head s.records m.records (IsBytes-first (head ++ s.records) s.tail whole) (whole 3) s.each }

@@ -8,7 +8,8 @@ use Rattle.lisp_records.specs.declared.fault.RecordFault.TheVariants as records
 use Rattle.lisp_messages.specs.declared.fault.ReadFault.{ReadFault}
 use Rattle.lisp_messages.specs.declared.fault.ReadFault.TheVariants.{Record}
 use Rattle.lisp_messages.specs.Fault.{fault_at}
-use Rattle.lisp_messages.specs.Reading.{◌>>=◌, Fails, records_at}
+use Rattle.lisp_records.specs.Result.{◌>>=◌}
+use Rattle.lisp_messages.specs.Reading.{Fails, records_at}
 
 -- what was read before, and what is still read
 abbrev pub with_front : List Mapping → Result (List Mapping × List ℕ) ReadFault → Result (List Mapping × List ℕ) ReadFault

@@ -8,15 +8,16 @@ use Rattle.std.proofs.lemmas.Nat.{from_be_bytes-to_be_bytes_8}
 use Rattle.lisp_records.specs.Record.{Mapping, bit}
 use Rattle.lisp_records.specs.Reading.{is_set, number_at}
 use Rattle.lisp_records.specs.Spelling.{IsBytes}
-use Rattle.lisp_records.proofs.Fields.{IsBytes-behind, two_bytes, bit-eqb, eqb-bit}
+use Rattle.lisp_records.proofs.Fields.{IsBytes-behind, IsBytes-take, two_bytes, bit-eqb, eqb-bit}
 use Rattle.lisp_messages.specs.declared.kind.Kind.{Kind}
 use Rattle.lisp_messages.specs.declared.kind.Kind.TheVariants as kinds
 use Rattle.lisp_messages.specs.declared.fault.ReadFault.{ReadFault}
 use Rattle.lisp_messages.specs.declared.fault.ReadFault.TheVariants as faults
 use Rattle.lisp_messages.specs.Message.{Registration, Notification, Said, Registers, Notifies}
 use Rattle.lisp_messages.specs.Spelling.{SpellsRecords, common, SpellsRegister, notify_type, SpellsNotify, Spells}
-use Rattle.lisp_messages.specs.Reading.{◌>>=◌, after, require, kind_of, records_at, ids_at, nonce_of, registration_of, notification_of, register_at, notify_at, tail_at, kind_at, message_at}
-use Rattle.lisp_messages.proofs.Fields.{bind_ok, done, ok_is, require_takes, kind_number, kind_takes, kind_again, after_takes, after_again, eight_bytes, eight_below, IsBytes-take, IsBytes-drop, Ids, ids_take, ids_again}
+use Rattle.lisp_records.specs.Result.{◌>>=◌}
+use Rattle.lisp_messages.specs.Reading.{after, require, kind_of, records_at, ids_at, nonce_of, registration_of, notification_of, register_at, notify_at, tail_at, kind_at, message_at}
+use Rattle.lisp_messages.proofs.Fields.{bind_ok, done, ok_is, require_takes, kind_number, kind_takes, kind_again, after_takes, after_again, eight_bytes, eight_below, IsBytes-drop, Ids, ids_take, ids_again}
 use Rattle.lisp_messages.proofs.RecordsLaws.{records_take, records_again}
 
 -- the 16 bytes before the Authentication Data

@@ -11,7 +11,8 @@ use Rattle.lisp_records.proofs.Fields.{Takes, IsBytes-rest}
 use Rattle.lisp_records.proofs.RecordLaws.{record_takes, record_again, written_spells}
 use Rattle.lisp_messages.specs.Spelling.{SpellsRecords}
 use Rattle.lisp_messages.specs.Written.{written_records}
-use Rattle.lisp_messages.specs.Reading.{◌>>=◌, at_place, records_at}
+use Rattle.lisp_records.specs.Result.{◌>>=◌}
+use Rattle.lisp_messages.specs.Reading.{at_place, records_at}
 use Rattle.lisp_messages.proofs.Fields.{bind_ok, done, ok_is}
 
 -- a record that was read at its place was read

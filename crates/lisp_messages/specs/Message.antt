@@ -33,17 +33,22 @@ pub data Said : Type 0 where
 abbrev pub AreRecords : List Mapping → Type 0
 AreRecords rs = (length rs < 256) × AllByRecursion IsMapping rs
 
--- what has a spelling
+-- a Map-Register that has a spelling: each number fits its place, and the xTR-ID has 16 bytes
 pub record IsRegistration (m : Registration) : Type 0 where
   pub nonce : m.nonce < 2 ^ 64
+  pub key : m.key_id < 256
   pub records : AreRecords m.records
   pub xtr : length m.xtr ≡ 16
+  pub xtr_bytes : AllByRecursion (λ n. n < 256) m.xtr
   pub site : m.site < 2 ^ 64
 
+-- a Map-Notify or Map-Notify-Ack that has a spelling: each number fits its place
 pub record IsNotification (m : Notification) : Type 0 where
   pub nonce : m.nonce < 2 ^ 64
+  pub key : m.key_id < 256
   pub records : AreRecords m.records
 
+-- a message that has a spelling
 abbrev pub IsSaid : Said → Type 0
 IsSaid (Registers m) = IsRegistration m
 IsSaid (Notifies m) = IsNotification m

@@ -1,6 +1,7 @@
 -- Reading a message from left to right, with the first fault that is met.
 use Rattle.std.specs.Prelude.{◌≡◌, ℕ, zero, suc, ◌/◌, List, [], ◌∷◌, length, take, drop, Result, Ok, Err, Bool, true, false, nat_lt, ◌==◌, ◌||◌, if◌then◌else◌, slice_index}
 use Rattle.std.specs.Int.{w64, from_be_bytes}
+use Rattle.lisp_records.specs.Result.{◌>>=◌}
 use Rattle.lisp_records.specs.declared.fault.RecordFault.{RecordFault}
 use Rattle.lisp_records.specs.Record.{Mapping}
 use Rattle.lisp_records.specs.Reading.{is_set, number_at, record_at}
@@ -9,11 +10,6 @@ use Rattle.lisp_messages.specs.declared.kind.Kind.TheVariants as kinds
 use Rattle.lisp_messages.specs.declared.fault.ReadFault.{ReadFault}
 use Rattle.lisp_messages.specs.declared.fault.ReadFault.TheVariants as faults
 use Rattle.lisp_messages.specs.Message.{Registration, Notification, Said, Registers, Notifies}
-
-infixl 10 ◌>>=◌
-abbrev pub ◌>>=◌ : {A B : Type 0} → Result A ReadFault → (A → Result B ReadFault) → Result B ReadFault
-(Ok x) >>= f = f x
-(Err e) >>= f = Err e
 
 -- a fault is the one that reading meets, except that out of memory may come at any time
 abbrev pub Fails : {Y : Type 0} → ReadFault → Result Y ReadFault → Type 0
@@ -30,11 +26,6 @@ Fails (faults.Record i f) read = read ≡ Err (faults.Record i f)
 abbrev pub Gives : {X Y : Type 0} → (X → Y) → Result X ReadFault → Result Y ReadFault → Type 0
 Gives view (Ok x) read = read ≡ Ok (view x)
 Gives view (Err e) read = Fails e read
-
--- the same of a function that takes no memory
-abbrev pub Reads : {X Y : Type 0} → (X → Y) → Result X ReadFault → Result Y ReadFault → Type 0
-Reads view (Ok x) read = read ≡ Ok (view x)
-Reads view (Err e) read = read ≡ Err e
 
 -- the bytes after a field of so many
 abbrev pub after : ℕ → List ℕ → Result (List ℕ) ReadFault

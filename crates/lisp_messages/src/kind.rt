@@ -1,7 +1,8 @@
 //! The types of messages.
 
 ghost use Rattle.std.specs.Prelude.{◌≡◌};
-ghost use Rattle.lisp_messages.specs.Reading.{Reads, kind_of};
+ghost use Rattle.lisp_records.specs.Result.{Reads};
+ghost use Rattle.lisp_messages.specs.Reading.{kind_of};
 ghost use Rattle.lisp_messages.specs.Written.{kind_number};
 
 use crate::fault::ReadFault;

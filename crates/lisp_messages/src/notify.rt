@@ -5,7 +5,8 @@ ghost use Rattle.lisp_messages.specs.Message.{Notifies, IsNotification};
 ghost use Rattle.lisp_messages.specs.Spelling.{Spells};
 ghost use Rattle.lisp_messages.specs.Authentic.{IsAuthentic, signed};
 ghost use Rattle.lisp_messages.specs.Written.{written_notify};
-ghost use Rattle.lisp_messages.specs.Reading.{Reads, notify_at};
+ghost use Rattle.lisp_records.specs.Result.{Reads};
+ghost use Rattle.lisp_messages.specs.Reading.{notify_at};
 
 use crate::authentication::sign;
 use crate::fault::ReadFault;

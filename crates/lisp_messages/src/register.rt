@@ -2,11 +2,13 @@
 
 ghost use Rattle.std.specs.Prelude.{◌≡◌, ◌^◌, ◌<◌, ◌≤◌, [], ◌∷◌, ◌++◌, length, replicate, IfOk, OnOk};
 ghost use Rattle.std.specs.Int.{w64, to_be_bytes};
+ghost use Rattle.std.specs.List.{AllByRecursion};
 ghost use Rattle.lisp_messages.specs.Message.{Registers, IsRegistration};
 ghost use Rattle.lisp_messages.specs.Spelling.{Spells};
 ghost use Rattle.lisp_messages.specs.Authentic.{IsAuthentic, signed};
 ghost use Rattle.lisp_messages.specs.Written.{register_kind, register_flags, written_register_head, written_register};
-ghost use Rattle.lisp_messages.specs.Reading.{Reads, ids_at, register_at};
+ghost use Rattle.lisp_records.specs.Result.{Reads};
+ghost use Rattle.lisp_messages.specs.Reading.{ids_at, register_at};
 
 use crate::authentication::sign;
 use crate::fault::ReadFault;
@@ -124,7 +126,7 @@ fn put_head<A: Allocator, B: Allocator>(
 ) -> Result<(), AllocError>
     requires { out.old.items ≡ [] }
     ensures head { OnOk result (out.new.items ≡ written_register_head message.now (replicate 16 0)) }
-    ensures nonce { message.now.nonce < 2 ^ 64 }
+    ensures fits { (message.now.nonce < 2 ^ 64) × (message.now.key_id < 256) }
     ensures few { length message.now.records < 256 }
 {
     let count = message.records.as_slice().len() as u8;
@@ -158,6 +160,7 @@ fn flags_of<A: Allocator>(message: &MapRegister<A>) -> u8
 fn put_ids<A: Allocator>(out: &mut Vec<u8, A>, xtr: [u8; 16], site: u64) -> Result<(), AllocError>
     ensures ids { OnOk result (out.new.items ≡ out.old.items ++ (xtr ++ to_be_bytes w64 site)) }
     ensures fits { (length xtr ≡ 16) × (site < 2 ^ 64) }
+    ensures bytes { OnOk result (AllByRecursion (λ n. n < 256) xtr) }
 {
     out.extend_from_slice(&xtr)?;
     out.extend_from_slice(&site.to_be_bytes())?;

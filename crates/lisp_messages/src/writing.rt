@@ -14,7 +14,7 @@ use std::alloc::{AllocError, Allocator};
 #[rattlefmt::skip]
 pub(crate) fn common_head(count: u8, nonce: u64, key_id: u8) -> [u8; 29]
     ensures head { result ≡ common count nonce key_id (replicate 16 0) }
-    ensures fits { nonce < 2 ^ 64 }
+    ensures fits { (nonce < 2 ^ 64) × (key_id < 256) }
 {
     let [n0, n1, n2, n3, n4, n5, n6, n7] = nonce.to_be_bytes();
     [

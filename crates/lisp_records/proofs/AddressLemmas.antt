@@ -1,7 +1,8 @@
 -- Clearing the bits of an address past a mask: twice is once, and it keeps family and length.
-use Rattle.std.proofs.Common.{◌≡◌, ℕ, ◌+◌, ◌-◌, ◌*◌, ◌/◌, ◌^◌, ◌≤◌, List, [], ◌∷◌, length, min, refl, sym, ap, ◌∙◌, arith}
+use Rattle.std.proofs.Common.{◌≡◌, ℕ, ◌+◌, ◌-◌, ◌*◌, ◌/◌, ◌^◌, ◌<◌, ◌≤◌, List, [], ◌∷◌, length, min, refl, sym, ap, ◌∙◌, arith}
 use Rattle.std.proofs.Math.Nat.{div-div-eq-div-mul}
-use Rattle.std.proofs.lemmas.Nat.{shl-shr, pow-add}
+use Rattle.std.specs.List.{AllByRecursion}
+use Rattle.std.proofs.lemmas.Nat.{shl-shr, shr_split, pow-add}
 use Rattle.lisp_records.specs.declared.address.Addr.{Addr}
 use Rattle.lisp_records.specs.declared.address.Addr.TheVariants.{V4, V6}
 use Rattle.lisp_records.specs.Address.{family, IsWhole, max_len, high_bits, masked, cleared, Block, IsBlock, Covers, Holds}
@@ -32,10 +33,20 @@ pub family-cleared : (a : Addr) (n : ℕ) → family (cleared a n) ≡ family a
 family-cleared (V4 bytes) n = refl
 family-cleared (V6 bytes) n = refl
 
--- an address with bits cleared still has its family's bytes
+-- a byte with bits cleared is no greater
+high_bits-le : (byte k : ℕ) → high_bits byte k ≤ byte
+high_bits-le byte k = omega (arith, shr_split byte (8 - k))
+
+-- bytes with bits cleared are bytes
+masked-bytes : (bytes : List ℕ) (n : ℕ) → AllByRecursion (λ b. b < 256) bytes → AllByRecursion (λ b. b < 256) (masked bytes n)
+unfolding masked
+masked-bytes [] n all = tt
+masked-bytes (byte ∷ bytes) n all = (omega (arith, all.0, high_bits-le byte (min n 8)), masked-bytes bytes (n - 8) all.1)
+
+-- an address with bits cleared is still whole
 pub IsWhole-cleared : (a : Addr) (n : ℕ) → IsWhole a → IsWhole (cleared a n)
-IsWhole-cleared (V4 bytes) n whole = length-masked bytes n ∙ whole
-IsWhole-cleared (V6 bytes) n whole = length-masked bytes n ∙ whole
+IsWhole-cleared (V4 bytes) n whole = record { width = length-masked bytes n ∙ whole.width; bytes = masked-bytes bytes n whole.bytes }
+IsWhole-cleared (V6 bytes) n whole = record { width = length-masked bytes n ∙ whole.width; bytes = masked-bytes bytes n whole.bytes }
 
 -- an address cleared past a mask that fits it is a block with that mask
 pub IsBlock-cleared : (a : Addr) (n : ℕ) → n ≤ max_len a → IsBlock (record { addr = cleared a n; mask_len = n })

@@ -2,6 +2,7 @@
 -- written there is read again.
 use Rattle.std.proofs.Common.{◌≡◌, ℕ, zero, suc, ◌+◌, ◌*◌, ◌<◌, ◌≤◌, Bool, true, false, cond, eqb, ltb, List, [], ◌∷◌, ◌++◌, length, take, drop, Result, Ok, Err, refl, sym, ap, subst, ◌∙◌, arith}
 use Rattle.std.specs.Int.{w16, from_be_bytes, to_be_bytes}
+use Rattle.std.specs.List.{AllByRecursion}
 use Rattle.std.proofs.lemmas.Bool.{ltb-false, le-ltb, eqb-true}
 use Rattle.std.proofs.lemmas.List.{take_at, drop_at, take-append-drop, length-append, length-take, get_or-append-add, get_or-drop}
 use Rattle.std.proofs.lemmas.Nat.{be_bytes_2}
@@ -11,10 +12,11 @@ use Rattle.lisp_records.specs.declared.address.Family.{Family}
 use Rattle.lisp_records.specs.declared.address.Family.TheVariants.{Ipv4, Ipv6}
 use Rattle.lisp_records.specs.declared.fault.RecordFault.{RecordFault}
 use Rattle.lisp_records.specs.declared.fault.RecordFault.TheVariants.{Short, Afi, Mask}
-use Rattle.lisp_records.specs.Address.{afi, width, family, octets, IsWhole}
+use Rattle.lisp_records.specs.Address.{afi, width, family, octets, HasWidth}
 use Rattle.lisp_records.specs.Record.{bit}
 use Rattle.lisp_records.specs.Spelling.{IsBytes}
-use Rattle.lisp_records.specs.Reading.{◌>>=◌, after, family_of, address_of, address_at, mask_of}
+use Rattle.lisp_records.specs.Result.{◌>>=◌}
+use Rattle.lisp_records.specs.Reading.{after, family_of, address_of, address_at, mask_of}
 
 -- what a reader took from the front: a text of a kind, and the rest
 pub record Takes (Kind : List ℕ → Type 0) (bytes rest : List ℕ) : Type 0 where
@@ -25,6 +27,24 @@ pub record Takes (Kind : List ℕ → Type 0) (bytes rest : List ℕ) : Type 0 w
 -- what stands after a text in bytes is bytes
 pub IsBytes-rest : (bytes text rest : List ℕ) → bytes ≡ text ++ rest → IsBytes bytes → IsBytes rest
 IsBytes-rest bytes text rest parts fits i = rw (← get_or-append-add text rest i 0, ← parts) (fits (length text + i))
+
+-- what stands before something in bytes is bytes
+pub IsBytes-first : (first others : List ℕ) → IsBytes (first ++ others) → IsBytes first
+IsBytes-first [] others fits i = omega arith
+IsBytes-first (b ∷ first) others fits zero = fits 0
+IsBytes-first (b ∷ first) others fits (suc i) = IsBytes-first first others (λ j. fits (suc j)) i
+
+-- the first bytes of bytes are bytes
+pub IsBytes-take : (n : ℕ) (bytes : List ℕ) → IsBytes bytes → IsBytes (take n bytes)
+IsBytes-take zero bytes fits i = omega arith
+IsBytes-take (suc n) [] fits i = omega arith
+IsBytes-take (suc n) (b ∷ bytes) fits zero = fits 0
+IsBytes-take (suc n) (b ∷ bytes) fits (suc i) = IsBytes-take n bytes (λ j. fits (suc j)) i
+
+-- bytes are bytes one after the other
+pub each_byte : (bytes : List ℕ) → IsBytes bytes → AllByRecursion (λ n. n < 256) bytes
+each_byte [] fits = tt
+each_byte (b ∷ bytes) fits = (fits 0, each_byte bytes (λ i. fits (suc i)))
 
 -- what stands after some bytes and a text in bytes is bytes
 pub IsBytes-behind : (n : ℕ) (bytes text rest : List ℕ) → drop n bytes ≡ text ++ rest → IsBytes bytes → IsBytes rest
@@ -114,21 +134,21 @@ pub mask_again : (f : Family) (n : ℕ) → n ≤ 8 * width f → mask_of f n �
 mask_again f n fits = rw (le-ltb (8 * width f) n fits) refl
 
 -- the first bytes of a family's width are an address of it
-address_of_is : (f : Family) (bytes rest : List ℕ) → width f ≤ length bytes → drop (width f) bytes ≡ rest → (bytes ≡ octets (address_of f bytes) ++ rest) × IsWhole (address_of f bytes) × (family (address_of f bytes) ≡ f)
+address_of_is : (f : Family) (bytes rest : List ℕ) → width f ≤ length bytes → drop (width f) bytes ≡ rest → (bytes ≡ octets (address_of f bytes) ++ rest) × HasWidth (address_of f bytes) × (family (address_of f bytes) ≡ f)
 address_of_is Ipv4 bytes rest long after = (sym (take-append-drop 4 bytes) ∙ ap (λ (t : List ℕ). take 4 bytes ++ t) after, omega (arith, length-take 4 bytes), refl)
 address_of_is Ipv6 bytes rest long after = (sym (take-append-drop 16 bytes) ∙ ap (λ (t : List ℕ). take 16 bytes ++ t) after, omega (arith, length-take 16 bytes), refl)
 
--- an address that was read stands there, is whole, and is of its family
-pub address_takes : (f : Family) (bytes : List ℕ) (x : Addr × List ℕ) → address_at f bytes ≡ Ok x → (bytes ≡ octets x.0 ++ x.1) × IsWhole x.0 × (family x.0 ≡ f)
+-- an address that was read stands there, is as wide as its family, and is of it
+pub address_takes : (f : Family) (bytes : List ℕ) (x : Addr × List ℕ) → address_at f bytes ≡ Ok x → (bytes ≡ octets x.0 ++ x.1) × HasWidth x.0 × (family x.0 ≡ f)
 unfolding address_at
 address_takes f bytes x e =
     let a = bind_ok (after (width f) bytes) (λ rest. done (address_of f bytes, rest)) x e in
     let g = after_takes (width f) bytes a.0 a.1 in
     let made : Addr × List ℕ = (address_of f bytes, a.0) in
-    subst (λ (y : Addr × List ℕ). (bytes ≡ octets y.0 ++ y.1) × IsWhole y.0 × (family y.0 ≡ f)) {x = made} (ok_is made x a.2) (address_of_is f bytes a.0 g.0 g.1)
+    subst (λ (y : Addr × List ℕ). (bytes ≡ octets y.0 ++ y.1) × HasWidth y.0 × (family y.0 ≡ f)) {x = made} (ok_is made x a.2) (address_of_is f bytes a.0 g.0 g.1)
 
--- an address that is whole is read again
-pub address_again : (a : Addr) (rest : List ℕ) → IsWhole a → address_at (family a) (octets a ++ rest) ≡ Ok (a, rest)
+-- an address as wide as its family is read again
+pub address_again : (a : Addr) (rest : List ℕ) → HasWidth a → address_at (family a) (octets a ++ rest) ≡ Ok (a, rest)
 unfolding address_at
 address_again (V4 bytes) rest whole = rw (after_again 4 bytes rest whole, take_at bytes rest 4 whole) refl
 address_again (V6 bytes) rest whole = rw (after_again 16 bytes rest whole, take_at bytes rest 16 whole) refl

@@ -9,6 +9,7 @@ pub mod Loop
 pub mod Masks
 pub mod Positions
 pub mod RecordLaws
+pub mod RisingLaws
 pub mod RouterLaws
 pub mod StartLemmas
 pub mod WrittenLemmas

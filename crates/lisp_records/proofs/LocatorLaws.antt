@@ -6,13 +6,14 @@ use Rattle.lisp_records.specs.declared.address.Addr.{Addr}
 use Rattle.lisp_records.specs.declared.address.Addr.TheVariants.{V4, V6}
 use Rattle.lisp_records.specs.declared.address.Family.{Family}
 use Rattle.lisp_records.specs.declared.locator.Locator.{Locator}
-use Rattle.lisp_records.specs.Address.{afi, family, octets, IsWhole}
+use Rattle.lisp_records.specs.Address.{afi, family, octets, HasWidth}
 use Rattle.lisp_records.specs.Spelling.{IsBytes, SpellsLocator, SpellsLocators}
-use Rattle.lisp_records.specs.Reading.{◌>>=◌, after, number_at, family_of, address_at, is_set, locator_of, locator_at, locators_at}
+use Rattle.lisp_records.specs.Result.{◌>>=◌}
+use Rattle.lisp_records.specs.Reading.{after, number_at, family_of, address_at, is_set, locator_of, locator_at, locators_at}
 use Rattle.lisp_records.proofs.Fields.{Takes, IsBytes-rest, bind_ok, done, ok_is, two_bytes, bit-eqb, eqb-bit, after_takes, after_again, family_takes, address_takes, address_again}
 
 -- eight bytes with a family's number in the last two, and an address of it, spell a locator
-locator_made : (bytes : List ℕ) (a : Addr) (rest : List ℕ) → IsBytes bytes → 8 ≤ length bytes → number_at bytes 6 ≡ afi (family a) → drop 8 bytes ≡ octets a ++ rest → IsWhole a → Takes (λ text. SpellsLocator text (locator_of bytes a)) bytes rest
+locator_made : (bytes : List ℕ) (a : Addr) (rest : List ℕ) → IsBytes bytes → 8 ≤ length bytes → number_at bytes 6 ≡ afi (family a) → drop 8 bytes ≡ octets a ++ rest → HasWidth a → Takes (λ text. SpellsLocator text (locator_of bytes a)) bytes rest
 locator_made (b0 ∷ b1 ∷ b2 ∷ b3 ∷ b4 ∷ b5 ∷ b6 ∷ b7 ∷ bytes) a rest fits long number behind whole =
     let named : to_be_bytes w16 (afi (family a)) ≡ b6 ∷ b7 ∷ [] = two_bytes b6 b7 (afi (family a)) (fits 6) (fits 7) number in
     record {
@@ -48,7 +49,7 @@ locator_takes bytes x fits e =
     subst (λ (y : Locator × List ℕ). Takes (λ text. SpellsLocator text y.0) bytes y.1) {x = made} (ok_is made x c.2) (locator_steps bytes a.0 b.0 c.0 fits a.1 b.1 c.1)
 
 -- eight bytes with an address's family in the last two, and the address, are read
-locator_read : (b0 b1 b2 b3 b4 b5 : ℕ) (a : Addr) (rest : List ℕ) → IsWhole a → locator_at ((b0 ∷ b1 ∷ b2 ∷ b3 ∷ b4 ∷ b5 ∷ to_be_bytes w16 (afi (family a))) ++ (octets a ++ rest)) ≡ Ok (locator_of (b0 ∷ b1 ∷ b2 ∷ b3 ∷ b4 ∷ b5 ∷ []) a, rest)
+locator_read : (b0 b1 b2 b3 b4 b5 : ℕ) (a : Addr) (rest : List ℕ) → HasWidth a → locator_at ((b0 ∷ b1 ∷ b2 ∷ b3 ∷ b4 ∷ b5 ∷ to_be_bytes w16 (afi (family a))) ++ (octets a ++ rest)) ≡ Ok (locator_of (b0 ∷ b1 ∷ b2 ∷ b3 ∷ b4 ∷ b5 ∷ []) a, rest)
 unfolding locator_at
 locator_read b0 b1 b2 b3 b4 b5 (V4 bytes) rest whole = rw (after_again 8 (b0 ∷ b1 ∷ b2 ∷ b3 ∷ b4 ∷ b5 ∷ 0 ∷ 1 ∷ []) (bytes ++ rest) refl, address_again (V4 bytes) rest whole) refl
 locator_read b0 b1 b2 b3 b4 b5 (V6 bytes) rest whole = rw (after_again 8 (b0 ∷ b1 ∷ b2 ∷ b3 ∷ b4 ∷ b5 ∷ 0 ∷ 2 ∷ []) (bytes ++ rest) refl, address_again (V6 bytes) rest whole) refl

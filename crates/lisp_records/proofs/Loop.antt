@@ -4,7 +4,8 @@ use Rattle.std.proofs.lemmas.List.{append-nil}
 use Rattle.lisp_records.specs.declared.locator.Locator.{Locator}
 use Rattle.lisp_records.specs.declared.fault.RecordFault.{RecordFault}
 use Rattle.lisp_records.specs.declared.fault.RecordFault.TheVariants.{Short, Afi, Mask, OutOfMemory}
-use Rattle.lisp_records.specs.Reading.{◌>>=◌, Fails, locator_at, locators_at}
+use Rattle.lisp_records.specs.Result.{◌>>=◌}
+use Rattle.lisp_records.specs.Reading.{Fails, locator_at, locators_at}
 
 -- a fault of a part is the fault of the whole, where each is passed on
 pub Fails-passed : {X Y : Type 0} (e : RecordFault) (part : Result X RecordFault) (whole : Result Y RecordFault) → ((f : RecordFault) → part ≡ Err f → whole ≡ Err f) → Fails e part → Fails e whole

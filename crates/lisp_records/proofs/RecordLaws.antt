@@ -9,17 +9,18 @@ use Rattle.lisp_records.specs.declared.address.Family.{Family}
 use Rattle.lisp_records.specs.declared.address.Family.TheVariants.{Ipv4, Ipv6}
 use Rattle.lisp_records.specs.declared.locator.Locator.{Locator}
 use Rattle.lisp_records.specs.declared.fault.RecordFault.{RecordFault}
-use Rattle.lisp_records.specs.Address.{afi, width, family, octets, IsWhole, max_len, cleared}
-use Rattle.lisp_records.specs.Record.{Mapping, IsMapping, bit}
+use Rattle.lisp_records.specs.Address.{afi, width, family, octets, HasWidth, max_len, cleared}
+use Rattle.lisp_records.specs.Record.{Mapping, IsLocator, IsMapping, bit}
 use Rattle.lisp_records.specs.Spelling.{IsBytes, SpellsLocator, SpellsLocators, SpellsEid, Spells}
 use Rattle.lisp_records.specs.Written.{written_locator, written_locators, written}
-use Rattle.lisp_records.specs.Reading.{◌>>=◌, after, number_at, family_of, address_at, is_set, locators_at, mask_of, mapping_of, record_at}
+use Rattle.lisp_records.specs.Result.{◌>>=◌}
+use Rattle.lisp_records.specs.Reading.{after, number_at, family_of, address_at, is_set, locators_at, mask_of, mapping_of, record_at}
 use Rattle.lisp_records.proofs.AddressLemmas.{family-cleared, IsBlock-cleared}
 use Rattle.lisp_records.proofs.Fields.{Takes, IsBytes-behind, bind_ok, done, ok_is, two_bytes, bit-eqb, eqb-bit, bit_below, after_takes, after_again, family_takes, mask_takes, mask_again, address_takes, address_again}
 use Rattle.lisp_records.proofs.LocatorLaws.{locators_take, locators_again}
 
 -- an address under a mask that fits it spells the block
-eid_made : (a : Addr) (n : ℕ) → IsWhole a → n ≤ max_len a → SpellsEid (octets a) (record { addr = cleared a n; mask_len = n })
+eid_made : (a : Addr) (n : ℕ) → HasWidth a → n ≤ max_len a → SpellsEid (octets a) (record { addr = cleared a n; mask_len = n })
 eid_made a n whole fits = record { written = a; parts = refl; addr = whole; masked = refl; block = IsBlock-cleared a n fits }
 
 -- four numbers below 256 are bytes
@@ -37,7 +38,7 @@ four_bytes a b c d la lb lc ld = be_bytes_4 (a ∷ b ∷ c ∷ d ∷ []) _ refl 
 -- twelve bytes, then an address of the family that the last two name, then as many locators as
 -- the fifth says, spell a record
 record_made : (bytes : List ℕ) (a : Addr) (middle rest : List ℕ) (ls : List Locator) → IsBytes bytes → 12 ≤ length bytes → number_at bytes 10 ≡ afi (family a)
-    → drop 12 bytes ≡ octets a ++ middle → IsWhole a → get_or bytes 5 0 ≤ max_len a → length ls ≡ get_or bytes 4 0 → Takes (λ text. SpellsLocators text ls) middle rest
+    → drop 12 bytes ≡ octets a ++ middle → HasWidth a → get_or bytes 5 0 ≤ max_len a → length ls ≡ get_or bytes 4 0 → Takes (λ text. SpellsLocators text ls) middle rest
     → Takes (λ text. Spells text (mapping_of bytes a ls)) bytes rest
 record_made (b0 ∷ b1 ∷ b2 ∷ b3 ∷ b4 ∷ b5 ∷ b6 ∷ b7 ∷ b8 ∷ b9 ∷ b10 ∷ b11 ∷ bytes) a middle rest ls fits long number behind whole mask count locs =
     let ttl : ℕ = from_be_bytes w32 (b0 ∷ b1 ∷ b2 ∷ b3 ∷ []) in
@@ -101,7 +102,7 @@ abbrev head : ℕ → ℕ → ℕ → ℕ → ℕ → ℕ → ℕ → ℕ → Li
 head ttl count mask flags reserved high low number = to_be_bytes w32 ttl ++ (count ∷ mask ∷ flags ∷ reserved ∷ high ∷ low ∷ to_be_bytes w16 number)
 
 -- twelve bytes with an address's family in the last two, the address, and locators, are read
-record_read : (ttl mask flags reserved high low : ℕ) (a : Addr) (ls : List Locator) (text rest : List ℕ) → IsWhole a → mask ≤ max_len a → SpellsLocators text ls
+record_read : (ttl mask flags reserved high low : ℕ) (a : Addr) (ls : List Locator) (text rest : List ℕ) → HasWidth a → mask ≤ max_len a → SpellsLocators text ls
     → record_at (head ttl (length ls) mask flags reserved high low (afi (family a)) ++ (octets a ++ (text ++ rest))) ≡ Ok (mapping_of (head ttl (length ls) mask flags reserved high low 0) a ls, rest)
 unfolding record_at
 record_read ttl mask flags reserved high low (V4 bytes) ls text rest whole fits each =
@@ -150,15 +151,15 @@ no_proper_prefix bytes more m n s t =
     (answer_is (m, more) (n, []) (sym (record_again bytes more m s) ∙ whole)).1
 
 -- the written spelling of a locator is one of its spellings
-locator_spelled : (l : Locator) → IsWhole l.addr → SpellsLocator (written_locator l) l
-locator_spelled l whole =
+locator_spelled : (l : Locator) → IsLocator l → SpellsLocator (written_locator l) l
+locator_spelled l i =
     let a : bit l.local < 2 = bit_below l.local in
     let b : bit l.probe < 2 = bit_below l.probe in
     let c : bit l.reachable < 2 = bit_below l.reachable in
-    record { unused = 0; flags = bit l.local * 4 + bit l.probe * 2 + bit l.reachable; parts = refl; local = omega arith; probe = omega arith; reachable = omega arith; addr = whole }
+    record { unused = 0; flags = bit l.local * 4 + bit l.probe * 2 + bit l.reachable; parts = refl; local = omega arith; probe = omega arith; reachable = omega arith; addr = i.addr.width }
 
 -- the written spelling of locators is one of theirs
-locators_spelled : (ls : List Locator) → AllByRecursion (λ l. IsWhole l.addr) ls → SpellsLocators (written_locators ls) ls
+locators_spelled : (ls : List Locator) → AllByRecursion IsLocator ls → SpellsLocators (written_locators ls) ls
 locators_spelled [] all = refl
 locators_spelled (l ∷ ls) all = (written_locator l, written_locators ls, refl, locator_spelled l all.0, locators_spelled ls all.1)
 
@@ -179,7 +180,7 @@ written_spells m i =
       act = omega (arith, i.act);
       authoritative = omega arith;
       version = omega (arith, i.version);
-      prefix = record { written = m.eid.addr; parts = refl; addr = i.eid; masked = i.block.1; block = i.block };
+      prefix = record { written = m.eid.addr; parts = refl; addr = i.eid.width; masked = i.block.1; block = i.block };
       each = locators_spelled m.locators i.locators;
     }
 

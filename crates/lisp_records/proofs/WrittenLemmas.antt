@@ -8,7 +8,7 @@ use Rattle.lisp_records.specs.Written.{written_head, written_address, written_lo
 pub length-written : (m : Mapping) → IsWhole m.eid.addr → length (written m) ≡ 12 + width (family m.eid.addr) + length (written_locators m.locators)
 unfolding written
 length-written m whole =
-    omega (arith, length-append (written_head m) (written_address m.eid.addr ++ written_locators m.locators), length-append (written_address m.eid.addr) (written_locators m.locators), whole)
+    omega (arith, length-append (written_head m) (written_address m.eid.addr ++ written_locators m.locators), length-append (written_address m.eid.addr) (written_locators m.locators), whole.width)
 
 -- a record that was appended part by part
 pub written_from : (m : Mapping) (a b c d : List ℕ) → b ≡ a ++ written_head m → c ≡ b ++ written_address m.eid.addr → d ≡ c ++ written_locators m.locators → d ≡ a ++ written m

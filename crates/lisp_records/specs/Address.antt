@@ -1,5 +1,6 @@
 -- Addresses, and the blocks of them that an EID-Prefix names (RFC 9301 section 5.4).
-use Rattle.std.specs.Prelude.{◌≡◌, ℕ, ◌-◌, ◌*◌, ◌/◌, ◌^◌, ◌≤◌, nat_le, ◌==◌, Bool, false, ◌&&◌, List, [], ◌∷◌, length, min}
+use Rattle.std.specs.Prelude.{◌≡◌, ℕ, ◌-◌, ◌*◌, ◌/◌, ◌^◌, ◌<◌, ◌≤◌, nat_le, ◌==◌, Bool, false, ◌&&◌, List, [], ◌∷◌, length, min}
+use Rattle.std.specs.List.{AllByRecursion}
 use Rattle.std.specs.Str.{bytes_eq}
 use Rattle.std.specs.declared.cmp.Ordering.{Ordering}
 use Rattle.std.specs.declared.cmp.Ordering.TheVariants.{Less, Greater}
@@ -29,9 +30,14 @@ abbrev pub octets : Addr → List ℕ
 octets (V4 bytes) = bytes
 octets (V6 bytes) = bytes
 
--- an address has the bytes of its family
-abbrev pub IsWhole : Addr → Type 0
-IsWhole a = length (octets a) ≡ width (family a)
+-- an address has the width of its family
+abbrev pub HasWidth : Addr → Type 0
+HasWidth a = length (octets a) ≡ width (family a)
+
+-- an address has the octets of its family, each a byte
+pub record IsWhole (a : Addr) : Type 0 where
+  pub width : HasWidth a
+  pub bytes : AllByRecursion (λ n. n < 256) (octets a)
 
 -- the longest mask of an address
 abbrev pub max_len : Addr → ℕ

@@ -5,6 +5,7 @@ pub mod Record
 pub mod Spelling
 pub mod Grown
 pub mod Written
+pub mod Result
 pub mod Reading
 pub mod Router
 pub mod Database

@@ -6,15 +6,11 @@ use Rattle.lisp_records.specs.declared.address.Addr.TheVariants.{V4, V6}
 use Rattle.lisp_records.specs.declared.address.Family.{Family}
 use Rattle.lisp_records.specs.declared.address.Family.TheVariants.{Ipv4, Ipv6}
 use Rattle.lisp_records.specs.declared.locator.Locator.{Locator}
+use Rattle.lisp_records.specs.Result.{◌>>=◌}
 use Rattle.lisp_records.specs.declared.fault.RecordFault.{RecordFault}
 use Rattle.lisp_records.specs.declared.fault.RecordFault.TheVariants.{Short, Afi, Mask, OutOfMemory}
 use Rattle.lisp_records.specs.Address.{width, cleared}
 use Rattle.lisp_records.specs.Record.{Mapping}
-
-infixl 10 ◌>>=◌
-abbrev pub ◌>>=◌ : {A B : Type 0} → Result A RecordFault → (A → Result B RecordFault) → Result B RecordFault
-(Ok x) >>= f = f x
-(Err e) >>= f = Err e
 
 -- a fault is the one that reading meets, except that out of memory may come at any time
 abbrev pub Fails : {Y : Type 0} → RecordFault → Result Y RecordFault → Type 0
@@ -27,11 +23,6 @@ Fails Mask read = read ≡ Err Mask
 abbrev pub Gives : {X Y : Type 0} → (X → Y) → Result X RecordFault → Result Y RecordFault → Type 0
 Gives view (Ok x) read = read ≡ Ok (view x)
 Gives view (Err e) read = Fails e read
-
--- the same of a function that takes no memory
-abbrev pub Reads : {X Y : Type 0} → (X → Y) → Result X RecordFault → Result Y RecordFault → Type 0
-Reads view (Ok x) read = read ≡ Ok (view x)
-Reads view (Err e) read = read ≡ Err e
 
 -- the bytes after a field of so many
 abbrev pub after : ℕ → List ℕ → Result (List ℕ) RecordFault

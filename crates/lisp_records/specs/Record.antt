@@ -13,7 +13,15 @@ pub record Mapping : Type 0 where
   pub eid : Block
   pub locators : List Locator
 
--- what has a spelling: each field fits its place, and each address is whole
+-- a locator's numbers are bytes, and its address is whole
+pub record IsLocator (l : Locator) : Type 0 where
+  pub priority : l.priority < 256
+  pub weight : l.weight < 256
+  pub m_priority : l.m_priority < 256
+  pub m_weight : l.m_weight < 256
+  pub addr : IsWhole l.addr
+
+-- what has a spelling: each number fits its place, the EID-Prefix is a block, and each address is whole
 pub record IsMapping (m : Mapping) : Type 0 where
   pub ttl : m.ttl < 2 ^ 32
   pub act : m.act < 8
@@ -21,7 +29,7 @@ pub record IsMapping (m : Mapping) : Type 0 where
   pub block : IsBlock m.eid
   pub eid : IsWhole m.eid.addr
   pub count : length m.locators < 256
-  pub locators : AllByRecursion (λ l. IsWhole l.addr) m.locators
+  pub locators : AllByRecursion IsLocator m.locators
 
 -- a flag as a bit
 abbrev pub bit : Bool → ℕ

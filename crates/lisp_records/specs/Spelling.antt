@@ -4,7 +4,7 @@ use Rattle.std.specs.Prelude.{◌≡◌, ℕ, ◌+◌, ◌*◌, ◌/◌, ◌%◌
 use Rattle.std.specs.Int.{w16, w32, to_be_bytes}
 use Rattle.lisp_records.specs.declared.address.Addr.{Addr}
 use Rattle.lisp_records.specs.declared.locator.Locator.{Locator}
-use Rattle.lisp_records.specs.Address.{afi, family, octets, IsWhole, cleared, Block, IsBlock}
+use Rattle.lisp_records.specs.Address.{afi, family, octets, HasWidth, cleared, Block, IsBlock}
 use Rattle.lisp_records.specs.Record.{Mapping, bit}
 
 -- each item is a byte
@@ -19,7 +19,7 @@ pub record SpellsLocator (bytes : List ℕ) (l : Locator) : Type 0 where
   pub local : flags / 4 % 2 ≡ bit l.local
   pub probe : flags / 2 % 2 ≡ bit l.probe
   pub reachable : flags % 2 ≡ bit l.reachable
-  pub addr : IsWhole l.addr
+  pub addr : HasWidth l.addr
 
 -- locators, one after the other
 abbrev pub SpellsLocators : List ℕ → List Locator → Type 0
@@ -30,7 +30,7 @@ SpellsLocators bytes (l ∷ ls) = (first : List ℕ) × (others : List ℕ) × (
 pub record SpellsEid (bytes : List ℕ) (b : Block) : Type 0 where
   pub written : Addr
   pub parts : bytes ≡ octets written
-  pub addr : IsWhole written
+  pub addr : HasWidth written
   pub masked : cleared written b.mask_len ≡ b.addr
   pub block : IsBlock b
 

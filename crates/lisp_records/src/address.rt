@@ -1,10 +1,12 @@
 //! Addresses of the two families that EIDs and locators may have.
 
-ghost use Rattle.std.specs.Prelude.{◌≡◌, ◌*◌, ◌++◌, ◌≤◌, length, IfOk, OnOk, OnErr};
+ghost use Rattle.std.specs.Prelude.{◌≡◌, ◌*◌, ◌++◌, ◌<◌, ◌≤◌, length, IfOk, OnOk, OnErr};
+ghost use Rattle.std.specs.List.{AllByRecursion};
 ghost use Rattle.lisp_records.specs.Grown.{Grew};
 ghost use Rattle.lisp_records.specs.Written.{written_address};
 ghost use Rattle.lisp_records.specs.Address.{afi, width, family, octets, IsWhole, high_bits, masked, cleared};
-ghost use Rattle.lisp_records.specs.Reading.{Reads, family_of, address_at};
+ghost use Rattle.lisp_records.specs.Result.{Reads};
+ghost use Rattle.lisp_records.specs.Reading.{family_of, address_at};
 
 use crate::fault::RecordFault;
 use std::alloc::{AllocError, Allocator};
@@ -83,8 +85,8 @@ impl Addr {
         ensures whole { IsWhole self.now }
     {
         match self {
-            Addr::V4(bytes) => bytes,
-            Addr::V6(bytes) => bytes,
+            Addr::V4(bytes) => as_bytes(bytes),
+            Addr::V6(bytes) => as_bytes(bytes),
         }
     }
 
@@ -104,6 +106,15 @@ impl Addr {
             }
         }
     }
+}
+
+// The bytes as they are. A proof learns that each is below 256 only of a slice that is passed in.
+#[tactic(auto, using(crate::proofs::Fields::each_byte))]
+fn as_bytes(bytes: &[u8]) -> &[u8]
+    ensures same { result.now ≡ bytes.now }
+    ensures bytes { AllByRecursion (λ n. n < 256) bytes.now }
+{
+    bytes
 }
 
 /// The address of a family at the front of the bytes, and the bytes after it; `Short` where they
@@ -132,7 +143,8 @@ pub(crate) fn read_address(expected: Family, bytes: &[u8]) -> Result<(Addr, &[u8
 
 // Clears all bits but the first `mask_len`.
 fn clear_past(bytes: &mut [u8], mask_len: u8)
-    ensures { bytes.new ≡ masked bytes.old mask_len }
+    ensures cleared { bytes.new ≡ masked bytes.old mask_len }
+    ensures bytes { AllByRecursion (λ n. n < 256) bytes.new }
 {
     let mut left = mask_len;
     for byte in bytes.iter_mut() {

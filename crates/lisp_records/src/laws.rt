@@ -1,15 +1,18 @@
 //! What holds of the format itself: each function's contract is a law, and its body is empty.
 
-ghost use Rattle.std.specs.Prelude.{◌≡◌, ◌≢◌, ◌↔◌, ℕ, List, [], ◌++◌, map, false, Ok};
+ghost use Rattle.std.specs.Prelude.{◌≡◌, ◌≢◌, ◌↔◌, ℕ, List, [], ◌++◌, map, false, Ok, Err};
+ghost use Rattle.std.specs.declared.cmp.Ordering.TheVariants.{Less};
 ghost use Rattle.std.specs.List.{AllPairs};
+ghost use Rattle.std.specs.List.Sorted.{IsPermutation};
 ghost use Rattle.lisp_records.specs.Address.{Block, Covers, Holds, block_cmp};
 ghost use Rattle.lisp_records.specs.Router.{router_cmp};
-ghost use Rattle.lisp_records.specs.Database.{repeats};
+ghost use Rattle.lisp_records.specs.Database.{repeats, database_of};
 ghost use Rattle.lisp_records.specs.Record.{Mapping, IsMapping};
 ghost use Rattle.lisp_records.specs.Spelling.{IsBytes, Spells};
 ghost use Rattle.lisp_records.specs.Written.{written};
 ghost use Rattle.lisp_records.specs.Reading.{record_at};
 ghost use Rattle.lisp_records.specs.declared.address.Addr.{Addr};
+ghost use Rattle.lisp_records.specs.declared.database.DatabaseFault.{DatabaseFault};
 ghost use Rattle.lisp_records.specs.declared.router.RouterId.{RouterId};
 
 use crate::prefix::Prefix;
@@ -62,4 +65,16 @@ pub fn covers_holds()
 #[tactic(auto, using(crate::proofs::DatabaseLaws::distinct_prefixes))]
 pub fn distinct_prefixes()
     ensures { (ms : List Mapping) → (repeats ms ≡ false) ↔ AllPairs (λ a b. a ≢ b) (map (λ m. m.eid) ms) }
+{}
+
+/// The same records in another order make a database too, or fail alike.
+#[tactic(auto, using(crate::proofs::DatabaseLaws::any_order))]
+pub fn any_order()
+    ensures { (one other : List Mapping) → IsPermutation one other → (database_of one ≡ Ok one → database_of other ≡ Ok other) × ((fault : DatabaseFault) → database_of one ≡ Err fault → database_of other ≡ Err fault) }
+{}
+
+/// Records in rising order of their EID-Prefixes stand in one order alone.
+#[tactic(auto, using(crate::proofs::RisingLaws::one_rising_order))]
+pub fn one_rising_order()
+    ensures { (one other : List Mapping) → IsPermutation one other → AllPairs (λ a b. block_cmp a.eid b.eid ≡ Less) one → AllPairs (λ a b. block_cmp a.eid b.eid ≡ Less) other → one ≡ other }
 {}

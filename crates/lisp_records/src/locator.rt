@@ -1,11 +1,11 @@
 //! Locators: where the addresses of a prefix are reached.
 
 ghost use Rattle.std.specs.Prelude.{◌≡◌, ◌+◌, ◌*◌, ◌++◌, ◌∷◌, [], ◌<◌, ◌≤◌, length, IfOk, OnOk, OnErr};
-ghost use Rattle.lisp_records.specs.Address.{IsWhole};
 ghost use Rattle.lisp_records.specs.Grown.{Grew};
-ghost use Rattle.lisp_records.specs.Record.{bit};
+ghost use Rattle.lisp_records.specs.Record.{IsLocator, bit};
 ghost use Rattle.lisp_records.specs.Written.{written_address, written_locator};
-ghost use Rattle.lisp_records.specs.Reading.{Reads, family_of, locator_at, locator_of};
+ghost use Rattle.lisp_records.specs.Result.{Reads};
+ghost use Rattle.lisp_records.specs.Reading.{family_of, locator_at, locator_of};
 
 use crate::address::{Addr, Family, put_address, read_address};
 use crate::fault::RecordFault;
@@ -62,7 +62,7 @@ impl Locator {
 #[tactic(auto, unfolding(crate::specs::Reading::locator_at))]
 pub(crate) fn read_locator(bytes: &[u8]) -> Result<(Locator, &[u8]), RecordFault>
     ensures read { Reads (λ x. (x.0, x.1.now)) result (locator_at bytes.now) }
-    ensures whole { IfOk result (λ x. IsWhole x.0.addr) }
+    ensures fits { IfOk result (λ x. IsLocator x.0) }
 {
     let [
         priority,

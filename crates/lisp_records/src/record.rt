@@ -1,12 +1,14 @@
 //! The record: an EID-Prefix and its locators, read from bytes and written as bytes.
 
-ghost use Rattle.std.specs.Prelude.{◌≡◌, ℕ, ◌+◌, ◌*◌, ◌/◌, ◌%◌, ◌<◌, ◌≤◌, ◌↔◌, List, [], ◌∷◌, ◌++◌, length, drop, slice_range, All, IsSome, IfSome, IfOk, IfErr, OnOk, OnErr, Ok, Err};
-ghost use Rattle.lisp_records.specs.Address.{IsWhole, family, width};
+ghost use Rattle.std.specs.Prelude.{◌≡◌, ℕ, ◌+◌, ◌*◌, ◌/◌, ◌%◌, ◌<◌, ◌≤◌, ◌↔◌, List, [], ◌∷◌, ◌++◌, length, drop, slice_range, IsSome, IfSome, IfOk, IfErr, OnOk, OnErr, Ok, Err};
+ghost use Rattle.std.specs.List.{AllByRecursion};
+ghost use Rattle.lisp_records.specs.Address.{IsWhole, IsBlock, family, width};
 ghost use Rattle.lisp_records.specs.Grown.{Grew};
-ghost use Rattle.lisp_records.specs.Record.{Mapping, IsMapping, bit};
+ghost use Rattle.lisp_records.specs.Record.{Mapping, IsLocator, IsMapping, bit};
 ghost use Rattle.lisp_records.specs.Spelling.{Spells};
 ghost use Rattle.lisp_records.specs.Written.{written, written_head, written_counts, written_locators};
-ghost use Rattle.lisp_records.specs.Reading.{Gives, Reads, start_at, family_of, number_at, mask_of, locators_at, mapping_of, record_at};
+ghost use Rattle.lisp_records.specs.Result.{Reads};
+ghost use Rattle.lisp_records.specs.Reading.{Gives, start_at, family_of, number_at, mask_of, locators_at, mapping_of, record_at};
 ghost use Rattle.lisp_records.specs.declared.fault.RecordFault.{RecordFault};
 
 use crate::address::{Addr, Family, put_address, read_address};
@@ -44,15 +46,13 @@ pub struct MapRecord<A: Allocator = Global> {
 }
 
 impl<A: Allocator> Model for MapRecord<A> {
-    ghost use Rattle.std.specs.Prelude.{◌^◌, ◌<◌, length, All};
-    ghost use Rattle.lisp_records.specs.Address.{IsWhole};
-    ghost use Rattle.lisp_records.specs.Record.{Mapping};
+    ghost use Rattle.lisp_records.specs.Record.{Mapping, IsMapping};
 
     ghost Value = { Mapping };
 
     ghost view = { λ r. record { ttl = r.ttl; act = r.act; authoritative = r.authoritative; version = r.version; eid = r.eid; locators = r.locators.items } };
 
-    ghost invariant = { λ r. (r.ttl < 2 ^ 32) × (r.act < 8) × (r.version < 4096) × (length r.locators.items < 256) × All (λ l. IsWhole l.addr) r.locators.items };
+    ghost invariant = { λ r. IsMapping (record { ttl = r.ttl; act = r.act; authoritative = r.authoritative; version = r.version; eid = r.eid; locators = r.locators.items }) };
 }
 
 impl<A: Allocator> MapRecord<A> {
@@ -75,7 +75,7 @@ impl<A: Allocator> MapRecord<A> {
         if act > 7 || version > 4095 || locators.len() > MAX_LOCATORS {
             return None;
         }
-        each_whole(&locators);
+        each_fits(eid, &locators);
         Some(MapRecord {
             ttl,
             act,
@@ -123,20 +123,13 @@ impl<A: Allocator> MapRecord<A> {
         self.eid
     }
 
-    // The first address of the EID-Prefix.
-    fn eid_addr(&self) -> Addr
-        ensures addr { result ≡ self.now.eid.addr }
-
-        // What the types promise of every record.
-        ensures known { IsMapping self.now }
-    {
-        self.eid.addr()
-    }
-
     /// The locators, in the record's order; at most 255.
     pub fn locators(&self) -> &[Locator]
         ensures value { result.now ≡ self.now.locators }
         ensures few { length result.now < 256 }
+
+        // What the type promises of every record.
+        ensures known { IsMapping self.now }
     {
         &self.locators
     }
@@ -169,13 +162,24 @@ impl<A: Allocator> MapRecord<A> {
     }
 }
 
-// Each address has its family's bytes: the types promise it, but a proof learns it only by this walk.
-fn each_whole(locators: &[Locator])
-    ensures { All (λ l. IsWhole l.addr) locators.now }
+// The prefix is a block, and each number of a locator is a byte: the types promise it, but a proof learns
+// it only by this walk.
+fn each_fits(eid: Prefix, locators: &[Locator])
+    ensures block { IsBlock eid }
+    ensures whole { IsWhole eid.addr }
+    ensures locators { AllByRecursion IsLocator locators.now }
 {
+    let _ = eid.addr();
     for locator in locators {
-        let _ = locator.addr.octets();
+        locator_fits(*locator);
     }
+}
+
+// As `each_fits`, of one locator.
+fn locator_fits(locator: Locator)
+    ensures { IsLocator locator }
+{
+    let _ = locator.addr.octets();
 }
 
 /// The record that begins at byte `at`, its locators in memory of `alloc`, and the position after
@@ -280,7 +284,7 @@ fn read_locators<A: Allocator>(
 ) -> Result<(Vec<Locator, A>, &[u8]), RecordFault>
     ensures locators { Gives (λ x. (x.0.items, x.1.now)) result (locators_at count bytes.now) }
     ensures count { IfOk result (λ x. length x.0.items ≡ count) }
-    ensures whole { IfOk result (λ x. All (λ l. IsWhole l.addr) x.0.items) }
+    ensures fits { IfOk result (λ x. AllByRecursion IsLocator x.0.items) }
 {
     let mut locators = Vec::new(alloc);
     let mut rest = bytes;
@@ -323,10 +327,10 @@ fn put_record<A: Allocator, B: Allocator>(
     ensures err { OnErr result (Grew out.old.items out.new.items) }
     ensures known { IsMapping entry.now }
 {
-    let eid = entry.eid_addr();
+    let (eid, locators) = (entry.eid(), entry.locators());
     put_head(out, entry)?;
-    put_address(out, &eid)?;
-    put_locators(out, entry.locators())?;
+    put_address(out, &eid.addr())?;
+    put_locators(out, locators)?;
     Ok(())
 }
 

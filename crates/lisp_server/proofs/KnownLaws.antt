@@ -15,7 +15,7 @@ use Rattle.lisp_messages.specs.Message.{Registration}
 use Rattle.lisp_messages.specs.Authentic.{is_authentic}
 use Rattle.lisp_sites.specs.Site.{SiteEntry, site_of, secret_of}
 use Rattle.lisp_store.specs.Store.{StoreState}
-use Rattle.lisp_lookup.specs.Table.{is_row_of, row_at, last_of, Sets, Expires, if_alive}
+use Rattle.lisp_lookup.specs.Table.{is_row_of, row_at, last_of, Sets}
 use Rattle.lisp_lookup.proofs.TableLaws.{found_holds, has_key, some_inj}
 use Rattle.lisp_server.specs.declared.contacts.Contact.{Contact}
 use Rattle.lisp_server.specs.declared.refused.Refused.{Refused}
@@ -23,7 +23,8 @@ use Rattle.lisp_server.specs.declared.refused.Refused.TheVariants as refusals
 use Rattle.lisp_server.specs.declared.accepted_rows.Origin.{Origin}
 use Rattle.lisp_server.specs.declared.tables.Tables.{Tables}
 use Rattle.lisp_server.specs.declared.took.Took.{Took}
-use Rattle.lisp_server.specs.Checks.{Passed, secret_under, register_checked, check, refused_at, first_not_allowed, ◌>>=◌}
+use Rattle.lisp_records.specs.Result.{◌>>=◌}
+use Rattle.lisp_server.specs.Checks.{Passed, secret_under, register_checked, check, refused_at, first_not_allowed}
 use Rattle.lisp_server.specs.Contacts.{SetsContact, secret_at, IsHeard, Knows}
 use Rattle.lisp_server.specs.Receiving.{Accepts, contact_of}
 use Rattle.lisp_server.specs.AcceptedRows.{router_of, origin_of, holding, holdings}
@@ -33,14 +34,6 @@ use Rattle.lisp_server.specs.Server.{SameTables, state_of}
 pub none_known : (sites : List SiteEntry) (rows : List Holding) (contacts : List Contact) → rows ≡ [] → Knows sites rows contacts
 unfolding row_at
 none_known sites rows contacts none router eid h at = absurd (let clash : ◌≡◌ {A = Option Holding} None (Some h) = sym (ap (find (is_row_of router eid)) none) ∙ at in cc)
-
--- rows that die
-pub known_expires : (sites : List SiteEntry) (old new : List Holding) (contacts : List Contact) (now : ℕ) → Expires old new now → Knows sites old contacts → Knows sites new contacts
-known_expires sites old new contacts now expires known router eid h at = by (row_at old router eid) refl (sym (expires router eid) ∙ at)
-  where
-    by : (o : Option Holding) → row_at old router eid ≡ o → option_and_then (if_alive now) o ≡ Some h → IsHeard sites contacts router
-    by None was at = absurd (let clash : ◌≡◌ {A = Option Holding} None (Some h) = at in cc)
-    by (Some g) was at = known router eid g was
 
 -- a Map-Register that passed the checks has a secret
 signs : (sites : List SiteEntry) (bytes : List ℕ) (m : Registration) (passed : Passed) → register_checked sites bytes m ≡ Ok passed → (passed.message ≡ m) × (secret_at sites m.site m.key_id ≡ Some passed.secret)

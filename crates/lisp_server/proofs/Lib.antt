@@ -1,5 +1,6 @@
 pub mod NonceLaws
 pub mod ContactLaws
+pub mod StandingLaws
 pub mod NoticeLaws
 pub mod KnownLaws
 pub mod SendNoticeLaws

@@ -1,21 +1,31 @@
 -- The least router with a notice that is due, of some notices and one more.
-use Rattle.std.proofs.Common.{◌≡◌, ◌≢◌, ◌⊎◌, inl, inr, ℕ, zero, suc, ◌*◌, ◌+◌, ◌<◌, ◌≤◌, length, take, take_all, get_or, Bool, true, false, cond, ◌&&◌, slice_set, List, [], ◌∷◌, ◌++◌, Option, Some, None, refl, sym, ap, ◌∙◌, subst, true≢false, arith}
-use Rattle.std.specs.List.{Contains, position, slice_get}
+use Rattle.std.proofs.Common.{◌≡◌, ◌≢◌, ◌⊎◌, inl, inr, ℕ, zero, suc, ◌*◌, ◌+◌, ◌<◌, ◌≤◌, length, take, take_all, get_or, Bool, true, false, cond, List, [], ◌∷◌, ◌++◌, Option, Some, None, refl, sym, ap, ◌∙◌, subst, true≢false, arith}
+use Rattle.std.specs.List.{Contains, slice_get}
 use Rattle.std.specs.Option.{option_map}
-use Rattle.std.proofs.lemmas.Option.{slice_get-get_or, slice_get_cases}
-use Rattle.std.proofs.lemmas.List.Quantifiers.{position-Some}
 use Rattle.std.specs.Ordering.{is_lt}
 use Rattle.std.specs.declared.cmp.Ordering.TheVariants.{Less}
 use Rattle.std.proofs.Math.Seq.{take-suc}
 use Rattle.std.proofs.lemmas.List.Elements.{Contains-push_cases, Contains-push, Contains-append_left}
 use Rattle.lisp_records.specs.declared.router.RouterId.{RouterId}
-use Rattle.lisp_records.specs.declared.address.Addr.{Addr}
 use Rattle.lisp_records.specs.Moment.{second}
-use Rattle.lisp_records.specs.Router.{router_eq, router_cmp}
+use Rattle.lisp_records.specs.Router.{router_cmp}
 use Rattle.lisp_lookup.proofs.AnswerLaws.{less}
 use Rattle.lisp_lookup.proofs.TableLaws.{some_inj}
 use Rattle.lisp_lookup.proofs.Orders.{router_total}
-use Rattle.lisp_server.specs.Notices.{Standing, gaps, elapsed, due_after, IsPrompt, PromptNotices, NoticesKeepTime, has_come, is_due, due_of, resent, lesser, IsLeastDue, IsDueRouter, Resends}
+use Rattle.lisp_server.specs.Notices.{Standing, gaps, elapsed, due_after, IsPrompt, PromptNotices, NoticesKeepTime, is_due, is_due_at, notice_at, OneForEach, lesser, IsDueRouter}
+use Rattle.lisp_server.proofs.StandingLaws.{notice_own, notice_held}
+
+-- the least router with a notice that is due, of those in a list
+pub record IsLeast (notices : List Standing) (now : ℕ) (router : RouterId) : Type 0 where
+  pub notice : Standing
+  pub held : Contains notices notice
+  pub due : is_due now notice ≡ true
+  pub its : notice.router ≡ router
+  pub least : (other : Standing) → Contains notices other → is_due now other ≡ true → router_cmp other.router router ≢ Less
+
+abbrev pub Least : List Standing → ℕ → Option RouterId → Type 0
+Least notices now (Some router) = IsLeast notices now router
+Least notices now None = (n : Standing) → Contains notices n → is_due now n ≡ false
 
 -- no router is below itself
 not_below_itself : (r : RouterId) → router_cmp r r ≢ Less
@@ -27,7 +37,7 @@ not_below q r lower above less below = above (router_total.trans q lower r below
 
 module _ (notices : List Standing) (x : Standing) (now : ℕ) where
   -- a notice that isn't due changes nothing
-  due_passes : (least : Option RouterId) → is_due now x ≡ false → IsDueRouter notices now least → IsDueRouter (notices ++ x ∷ []) now least
+  due_passes : (least : Option RouterId) → is_due now x ≡ false → Least notices now least → Least (notices ++ x ∷ []) now least
   due_passes None never none = λ n has. either n (Contains-push_cases notices x n has)
     where
       either : (n : Standing) → Contains notices n ⊎ (x ≡ n) → is_due now n ≡ false
@@ -35,7 +45,7 @@ module _ (notices : List Standing) (x : Standing) (now : ℕ) where
       either n (inr is) = subst (λ (y : Standing). is_due now y ≡ false) is never
   due_passes (Some router) never is = record {
     notice = is.notice;
-    stands = Contains-append_left notices (x ∷ []) is.notice is.stands;
+    held = Contains-append_left notices (x ∷ []) is.notice is.held;
     due = is.due;
     its = is.its;
     least = λ other has due. either other due (Contains-push_cases notices x other has);
@@ -46,10 +56,10 @@ module _ (notices : List Standing) (x : Standing) (now : ℕ) where
       either other due (inr same) = absurd (true≢false (sym due ∙ ap (is_due now) (sym same) ∙ never))
 
   -- the new notice is of the lesser router, or it isn't
-  chosen : (router : RouterId) (below : Bool) → is_lt (router_cmp x.router router) ≡ below → is_due now x ≡ true → IsLeastDue notices now router → IsLeastDue (notices ++ x ∷ []) now (cond below x.router router)
+  chosen : (router : RouterId) (below : Bool) → is_lt (router_cmp x.router router) ≡ below → is_due now x ≡ true → IsLeast notices now router → IsLeast (notices ++ x ∷ []) now (cond below x.router router)
   chosen router true below due is = record {
     notice = x;
-    stands = Contains-push notices x;
+    held = Contains-push notices x;
     due = due;
     its = refl;
     least = λ other has due. either other due (Contains-push_cases notices x other has);
@@ -60,7 +70,7 @@ module _ (notices : List Standing) (x : Standing) (now : ℕ) where
       either other due (inr same) = subst (λ (y : Standing). router_cmp y.router x.router ≢ Less) same (not_below_itself x.router)
   chosen router false above due is = record {
     notice = is.notice;
-    stands = Contains-append_left notices (x ∷ []) is.notice is.stands;
+    held = Contains-append_left notices (x ∷ []) is.notice is.held;
     due = is.due;
     its = is.its;
     least = λ other has due. either other due (Contains-push_cases notices x other has);
@@ -70,10 +80,10 @@ module _ (notices : List Standing) (x : Standing) (now : ℕ) where
       either other due (inl was) = is.least other was due
       either other due (inr same) = subst (λ (y : Standing). router_cmp y.router router ≢ Less) same (λ below. true≢false (sym (ap is_lt below) ∙ above))
 
-  due_grows : (least : Option RouterId) → is_due now x ≡ true → IsDueRouter notices now least → IsLeastDue (notices ++ x ∷ []) now (lesser least x.router)
+  due_grows : (least : Option RouterId) → is_due now x ≡ true → Least notices now least → IsLeast (notices ++ x ∷ []) now (lesser least x.router)
   due_grows None due none = record {
     notice = x;
-    stands = Contains-push notices x;
+    held = Contains-push notices x;
     due = due;
     its = refl;
     least = λ other has due. either other due (Contains-push_cases notices x other has);
@@ -86,10 +96,10 @@ module _ (notices : List Standing) (x : Standing) (now : ℕ) where
 
 -- the least of the first notices and of the next one
 pub due_next : (notices : List Standing) (i : ℕ) (x : Standing) (now : ℕ) (old new : Option RouterId) → i < length notices → x ≡ get_or notices i x
-    → IsDueRouter (take i notices) now old
+    → Least (take i notices) now old
     → ((is_due now x ≡ true) × (new ≡ Some (lesser old x.router))) ⊎ ((is_due now x ≡ false) × (new ≡ old))
-    → IsDueRouter (take (i + 1) notices) now new
-due_next notices i x now old new within at is moved = subst (λ (before : List Standing). IsDueRouter before now new) (sym taken) (here moved)
+    → Least (take (i + 1) notices) now new
+due_next notices i x now old new within at is moved = subst (λ (before : List Standing). Least before now new) (sym taken) (here moved)
   where
     next : i + 1 ≡ suc i
     next = omega arith
@@ -97,43 +107,31 @@ due_next notices i x now old new within at is moved = subst (λ (before : List S
     taken : take (i + 1) notices ≡ take i notices ++ x ∷ []
     taken = ap (λ (n : ℕ). take n notices) next ∙ take-suc notices i x within ∙ ap (λ (y : Standing). take i notices ++ y ∷ []) (sym at)
 
-    here : ((is_due now x ≡ true) × (new ≡ Some (lesser old x.router))) ⊎ ((is_due now x ≡ false) × (new ≡ old)) → IsDueRouter (take i notices ++ x ∷ []) now new
-    here (inl grows) = subst (λ (o : Option RouterId). IsDueRouter (take i notices ++ x ∷ []) now o) (sym grows.1) (due_grows (take i notices) x now old grows.0 is)
-    here (inr stays) = subst (λ (o : Option RouterId). IsDueRouter (take i notices ++ x ∷ []) now o) (sym stays.1) (due_passes (take i notices) x now old stays.0 is)
+    here : ((is_due now x ≡ true) × (new ≡ Some (lesser old x.router))) ⊎ ((is_due now x ≡ false) × (new ≡ old)) → Least (take i notices ++ x ∷ []) now new
+    here (inl grows) = subst (λ (o : Option RouterId). Least (take i notices ++ x ∷ []) now o) (sym grows.1) (due_grows (take i notices) x now old grows.0 is)
+    here (inr stays) = subst (λ (o : Option RouterId). Least (take i notices ++ x ∷ []) now o) (sym stays.1) (due_passes (take i notices) x now old stays.0 is)
+
+-- where no two notices are for one router, the least of the list is the least of those that stand
+by_router : (notices : List Standing) (now : ℕ) (least : Option RouterId) → OneForEach notices → Least notices now least → IsDueRouter notices now least
+by_router notices now (Some router) one is = record {
+  notice = is.notice;
+  stands = subst (λ (q : RouterId). notice_at notices q ≡ Some is.notice) is.its (notice_own notices is.notice one is.held);
+  due = is.due;
+  least = λ other due. stood other (notice_at notices other) refl due;
+}
+  where
+    stood : (other : RouterId) (o : Option Standing) → notice_at notices other ≡ o → is_due_at now o ≡ true → router_cmp other router ≢ Less
+    stood other None at due = absurd (true≢false (sym due))
+    stood other (Some n) at due = (let held = notice_held notices other n at in subst (λ (q : RouterId). router_cmp q router ≢ Less) held.1 (is.least n held.0 due))
+by_router notices now None one none = λ other. stood other (notice_at notices other) refl
+  where
+    stood : (other : RouterId) (o : Option Standing) → notice_at notices other ≡ o → is_due_at now o ≡ false
+    stood other None at = refl
+    stood other (Some n) at = none n (notice_held notices other n at).0
 
 -- the first so many notices are all
-pub due_done : (notices : List Standing) (i now : ℕ) (least : Option RouterId) → length notices ≤ i → IsDueRouter (take i notices) now least → IsDueRouter notices now least
-due_done notices i now least past is = subst (λ (l : List Standing). IsDueRouter l now least) (take_all i notices past) is
-
--- a notice that is due was sent again at most five times
-pub few_resends : (n : Standing) (now : ℕ) → is_due now n ≡ true → n.resends < 6
-few_resends n now due = (let cases = slice_get_cases gaps n.resends in by cases.1)
-  where
-    by : ((gap : ℕ) × (n.resends < length gaps) × (slice_get gaps n.resends ≡ Some gap) × (get_or gaps n.resends gap ≡ gap)) ⊎ ((length gaps ≤ n.resends) × (slice_get gaps n.resends ≡ None)) → n.resends < 6
-    by (inl at) = at.1
-    by (inr at) = absurd (true≢false (sym due ∙ ap (λ (gap : Option ℕ). has_come now (option_map (λ gap. n.last + gap) gap)) at.1))
-
-due_of_is_due : (q : RouterId) (now : ℕ) (n : Standing) → due_of q now n ≡ true → is_due now n ≡ true
-due_of_is_due q now n due = second_of (router_eq n.router q) (is_due now n) due
-  where
-    second_of : (a b : Bool) → (a && b) ≡ true → b ≡ true
-    second_of true b t = t
-    second_of false b t = absurd (true≢false (sym t))
-
--- the notice at the place that was found
-pub resends_seldom : (notices : List Standing) (q : RouterId) (now i : ℕ) (n d : Standing) → position (due_of q now) notices ≡ Some i → n ≡ get_or notices i d → n.resends < 6
-resends_seldom notices q now i n d at is = few_resends n now (due_of_is_due q now n (subst (λ (m : Standing). due_of q now m ≡ true) (sym is) (position-Some (due_of q now) notices i d at).1))
-
-pub resends : (notices : List Standing) (q : RouterId) (now i : ℕ) (n d new : Standing) (to : Addr) (bytes : List ℕ) → position (due_of q now) notices ≡ Some i → n ≡ get_or notices i d → new ≡ resent now n → to ≡ n.to → bytes ≡ n.bytes → Resends notices (slice_set notices i new) q now to bytes
-resends notices q now i n d new to bytes at is sent address datagram = record {
-  place = i;
-  first = at;
-  notice = n;
-  stood = slice_get-get_or notices i d (position-Some (due_of q now) notices i d at).0 ∙ ap Some (sym is);
-  address = address;
-  datagram = datagram;
-  after = ap (slice_set notices i) sent;
-}
+pub due_done : (notices : List Standing) (i now : ℕ) (least : Option RouterId) → OneForEach notices → length notices ≤ i → Least (take i notices) now least → IsDueRouter notices now least
+due_done notices i now least one past is = by_router notices now least one (subst (λ (l : List Standing). Least l now least) (take_all i notices past) is)
 
 advance : (s0 s gap t first l last : ℕ) → ◌≡◌ {A = Option ℕ} (Some s0) (Some s) → s0 * second + gap ≡ t * second → l ≡ first + s * second → ◌≡◌ {A = Option ℕ} (Some (l + gap)) (Some last) → last ≡ first + t * second
 advance s0 s gap t first l last at fits is due = (let seconds = some_inj s0 s at in let moment = some_inj (l + gap) last due in omega (arith, seconds, moment, fits, is))

@@ -2,8 +2,11 @@
 use Rattle.std.proofs.Common.{◌≡◌, ◌≤◌, ℕ, Bool, true, false, List, [], ◌∷◌, Option, Some, None, Result, Ok, Err, ok_or, IsTrue, not, refl, sym, ap, ◌∙◌, subst, inl, inr, arith}
 use Rattle.lisp_records.specs.declared.address.Addr.{Addr}
 use Rattle.lisp_records.specs.Row.{Holding}
-use Rattle.lisp_messages.specs.Message.{Registration, Registers, Notification, Notifies, Said}
+use Rattle.lisp_messages.specs.Message.{Registration, Registers, Notification, IsNotification, Notifies, Said}
 use Rattle.lisp_messages.specs.Reading.{Fails}
+use Rattle.lisp_messages.specs.Spelling.{Spells}
+use Rattle.lisp_messages.proofs.FitLaws.{said_fits}
+use Rattle.lisp_records.specs.Spelling.{IsBytes}
 use Rattle.lisp_messages.specs.declared.fault.ReadFault.{ReadFault}
 use Rattle.lisp_messages.specs.declared.fault.ReadFault.TheVariants as reads
 use Rattle.lisp_messages.specs.Authentic.{is_authentic}
@@ -23,9 +26,10 @@ use Rattle.lisp_server.specs.AcceptedRows.{router_of, pair_of, holdings}
 use Rattle.lisp_lookup.specs.Table.{Sets}
 use Rattle.lisp_server.specs.LastNonces.{Nonces, nonce_at, SetsNonce}
 use Rattle.lisp_server.specs.Contacts.{SetsContact}
-use Rattle.lisp_server.specs.Notices.{Standing, without}
+use Rattle.lisp_server.specs.Notices.{Standing, EndsNotice}
 use Rattle.lisp_server.specs.Server.{ServerState, SameTables, state_of}
-use Rattle.lisp_server.specs.Checks.{Passed, secret_under, register_checked, notice_ended, reply_of, ◌>>=◌, check, refused_at, first_not_allowed}
+use Rattle.lisp_records.specs.Result.{◌>>=◌}
+use Rattle.lisp_server.specs.Checks.{Passed, secret_under, register_checked, Acknowledges, RefusesAck, notification_of, reply_of, check, refused_at, first_not_allowed}
 use Rattle.lisp_server.specs.Receiving.{IsFresh, KeepsLists, Unasked, HasCause, Stops, NotKept, Accepts, Takes, OutOfRoom, RefusesRegister, RefusesRead, Refuses, SaveFailed}
 
 abbrev register_passed : Registration → List ℕ → Result Passed Refused
@@ -47,6 +51,7 @@ rose_later a b c up (inr top) = inr top
 pub record Saved {A : Type 0} (sites : List SiteEntry) (bytes : List ℕ) (m : Registration) (from : Addr) (now : ℕ) (old mid new : Tables A) (before between after : StoreState) (rows : List Holding) (reply : Option (List ℕ)) (pair : Pair) (nonce : ℕ) : Type 0 where
   pub secret : List ℕ
   pub checks : secret_under sites bytes m ≡ Ok secret
+  pub fits : IsNotification (notification_of m)
   pub fresh : IsFresh (nonce_at old.nonces.nonces pair) before pair nonce
   pub loaded : KeepsLists before between
   pub honest : between.is_honest ≡ before.is_honest
@@ -65,6 +70,7 @@ module _ {A : Type 0} {sites : List SiteEntry} {bytes : List ℕ} {m : Registrat
   accepts_own s = record {
     passed = record { message = m; secret = s.secret };
     checks = ap (λ r. r >>= λ (secret : List ℕ). register_passed m secret) s.checks;
+    fits = s.fits;
     fresh = s.fresh;
     answer = ap (λ (r : Option (List ℕ)). Accepted (router_of m) m.key_id m.nonce r) s.replies;
     rows = subst (λ (was : List Holding). Sets was new.rows.rows (holdings m from now)) s.same.rows (subst (λ (given : List Holding). Sets mid.rows.rows new.rows.rows given) s.brings s.sets);
@@ -238,14 +244,15 @@ takes_register {A = A} said m from bytes old new before after now took at a = su
 
 -- a Map-Notify-Ack that was taken
 pub takes_notify : {A : Type 0} (said : Result Said ReadFault) (m : Notification) (from : Addr) (bytes : List ℕ) (old : ServerState) (left : List Standing) (before : StoreState) (now : ℕ) (took : Took A) → said ≡ Ok (Notifies m)
-    → (n : Standing) × (notice_ended old.sites old.notices from bytes m ≡ Ok n) × (took ≡ NoticeDone n.router n.nonce) × (left ≡ without n.router old.notices)
+    → (n : Standing) × Acknowledges old.sites old.notices from bytes m n × (took ≡ NoticeDone n.router n.nonce) × EndsNotice old.notices left n.router
     → Takes said from bytes old (record old { notices = left }) before before now took
-takes_notify {A = A} said m from bytes old left before now took at (n, checks, is, ended) = subst (λ (x : Result Said ReadFault × Took A). Takes x.0 from bytes old (record old { notices = left }) before before now x.1) (λ i. (sym at i, sym is i)) (record {
+takes_notify {A = A} said m from bytes old left before now took at (n, acknowledges, is, ended) = subst (λ (x : Result Said ReadFault × Took A). Takes x.0 from bytes old (record old { notices = left }) before before now x.1) (λ i. (sym at i, sym is i)) (record {
   notice = n;
-  checks = checks;
+  acknowledges = acknowledges;
   its = refl;
   under = refl;
-  ended = λ i. record old { notices = ended i };
+  ended = ended;
+  rest = refl;
   store = refl;
 })
 
@@ -254,8 +261,8 @@ pub refuses_register : (said : Result Said ReadFault) (m : Registration) (from :
 refuses_register said m from bytes old before after why at r = subst (λ (s : Result Said ReadFault). Refuses s from bytes old before after why) (sym at) (refuses_read (Ok (Registers m)) from bytes old before after why r)
 
 -- what a Map-Notify or Map-Notify-Ack was refused for
-pub refuses_notify : (said : Result Said ReadFault) (m : Notification) (from : Addr) (bytes : List ℕ) (old : ServerState) (before : StoreState) (why : Refused) → said ≡ Ok (Notifies m) → notice_ended old.sites old.notices from bytes m ≡ Err why → Refuses said from bytes old before before why
-refuses_notify said m from bytes old before why at e = subst (λ (s : Result Said ReadFault). Refuses s from bytes old before before why) (sym at) (refuses_read (Ok (Notifies m)) from bytes old before before why (e, refl))
+pub refuses_notify : (said : Result Said ReadFault) (m : Notification) (from : Addr) (bytes : List ℕ) (old : ServerState) (before : StoreState) (why : Refused) → said ≡ Ok (Notifies m) → RefusesAck old.sites old.notices from bytes m why → Refuses said from bytes old before before why
+refuses_notify said m from bytes old before why at r = subst (λ (s : Result Said ReadFault). Refuses s from bytes old before before why) (sym at) (refuses_read (Ok (Notifies m)) from bytes old before before why (r, refl))
 
 -- bytes that can't be read
 pub read_fails : (fault : ReadFault) (said : Result Said ReadFault) (from : Addr) (bytes : List ℕ) (old : ServerState) (before : StoreState) → Fails fault said → Refuses said from bytes old before before (refused_of_read fault)
@@ -267,3 +274,7 @@ read_fails reads.AuthLength said from bytes old before at = subst (λ (s : Resul
 read_fails reads.NoIds said from bytes old before at = subst (λ (s : Result Said ReadFault). Refuses s from bytes old before before (refusals.Read reads.NoIds)) (sym at) (refl, refl)
 read_fails reads.Trailing said from bytes old before at = subst (λ (s : Result Said ReadFault). Refuses s from bytes old before before (refusals.Read reads.Trailing)) (sym at) (refl, refl)
 read_fails (reads.Record i fault) said from bytes old before at = subst (λ (s : Result Said ReadFault). Refuses s from bytes old before before (refusals.Read (reads.Record i fault))) (sym at) (refl, refl)
+
+-- the Map-Notify of a Map-Register that was read from bytes fits the format
+pub notification_fits : (bytes : List ℕ) (m : Registration) → IsBytes bytes → Spells bytes (Registers m) → IsNotification (notification_of m)
+notification_fits bytes m bytewise s = (let fits = said_fits bytes (Registers m) bytewise s in record { nonce = fits.nonce; key = fits.key; records = fits.records })

@@ -10,6 +10,7 @@ use Rattle.lisp_records.specs.declared.database.DatabaseFault.TheVariants.{TooLa
 use Rattle.lisp_records.specs.Database.{database_of}
 use Rattle.lisp_records.specs.Record.{Mapping}
 use Rattle.lisp_records.specs.Row.{Holding}
+use Rattle.lisp_messages.specs.Message.{IsNotification}
 use Rattle.lisp_messages.specs.Authentic.{signed}
 use Rattle.lisp_messages.specs.Written.{written_notify}
 use Rattle.lisp_sites.specs.Site.{SiteEntry}
@@ -22,7 +23,7 @@ use Rattle.lisp_server.specs.declared.tables.Tables.{Tables}
 use Rattle.lisp_server.specs.SendNotice.{IsRegistered, Announces, Follows, notice_of}
 use Rattle.lisp_server.specs.Contacts.{IsHeard, Knows}
 use Rattle.lisp_server.specs.LastNonces.{Nonces, nonce_at, SetsNonce}
-use Rattle.lisp_server.specs.Notices.{Standing, notice_pair, nonce_after, announced}
+use Rattle.lisp_server.specs.Notices.{Standing, SetsNotice, notice_pair, nonce_after}
 use Rattle.lisp_server.specs.Receiving.{KeepsLists}
 use Rattle.lisp_server.specs.Server.{SameTables, state_of}
 use Rattle.lisp_server.proofs.ContactLaws.{contact_router}
@@ -63,13 +64,14 @@ pub record Sent {A : Type 0} (sites : List SiteEntry) (old mid new : Tables A) (
   pub records : List Mapping
   pub by_prefix : ByPrefix (live_of old.rows.rows contact.router now) records
   pub datagram : bytes ≡ signed secret (written_notify (notice_of contact.key nonce records))
+  pub fits : IsNotification (notice_of contact.key nonce records)
   pub copied : copy ≡ bytes
   pub notice_is : notice ≡ record { router = contact.router; to = contact.from; key = contact.key; nonce = nonce; bytes = copy; resends = 0; last = now }
   pub same : SameTables old mid
   pub rows : new.rows.rows ≡ mid.rows.rows
   pub nonces : SetsNonce mid.nonces.nonces new.nonces.nonces notice_pair notice.nonce
   pub contacts : new.contacts.contacts ≡ mid.contacts.contacts
-  pub notices : new.notices.notices ≡ announced notice mid.notices.notices
+  pub notices : SetsNotice mid.notices.notices new.notices.notices notice
   pub loaded : KeepsLists before between
   pub honest : between.is_honest ≡ before.is_honest
   pub done : IsTrue between.is_honest → kept_at after.kept notice_pair ≡ Some nonce ∷ []
@@ -86,21 +88,25 @@ module _ {A : Type 0} {sites : List SiteEntry} {old mid new : Tables A} {before 
     by_prefix = subst (λ (q : RouterId). ByPrefix (live_of old.rows.rows q now) s.records) own s.by_prefix;
     address = ap (λ (c : Contact). c.from) s.contact_is;
     datagram = s.datagram ∙ (λ i. signed (s.secret_is i) (written_notify (notice_of (s.contact_is i).key (s.next.3 i) s.records)));
-    stands = s.notices ∙ ap (λ (n : Standing). announced n mid.notices.notices) s.notice_is ∙ (λ i. announced (record { router = own i; to = contact.from; key = (s.contact_is i).key; nonce = s.next.3 i; bytes = s.copied i; resends = 0; last = now }) (s.same.notices i));
+    fits = subst (λ (x : ℕ × ℕ). IsNotification (notice_of x.0 x.1 s.records)) (λ i. ((s.contact_is i).key, s.next.3 i)) s.fits;
+    stands = subst (λ (x : List Standing × Standing). SetsNotice x.0 new.notices.notices x.1) (λ i. (s.same.notices i, standing i)) s.notices;
     nonces = subst (λ (x : Nonces × ℕ). SetsNonce x.0 new.nonces.nonces notice_pair x.1) (λ i. (s.same.nonces i, saved i)) s.nonces;
     rest = λ i. record { sites = sites; rows = rows_are i; nonces = new.nonces.nonces; contacts = contacts_are i; notices = new.notices.notices };
     kept = λ honest. s.done (subst (λ (b : Bool). IsTrue b) (sym s.honest) honest) ∙ ap (λ (n : ℕ). Some n ∷ []) s.next.3;
     others = λ honest. subst (λ (was : Kept). SameElsewhere was after.kept notice_pair) (s.loaded honest) (s.others (subst (λ (b : Bool). IsTrue b) (sym s.honest) honest));
   }
     where
+      own : contact.router ≡ router
+      own = ap (λ (c : Contact). c.router) s.contact_is ∙ contact_router old.contacts.contacts router s.registered.heard.contact s.registered.heard.heard
+
       saved : notice.nonce ≡ nonce_after s.next.0
       saved = ap (λ (n : Standing). n.nonce) s.notice_is ∙ s.next.3
+
+      standing : notice ≡ record { router = router; to = contact.from; key = s.registered.heard.contact.key; nonce = nonce_after s.next.0; bytes = bytes; resends = 0; last = now }
+      standing = s.notice_is ∙ (λ i. record { router = own i; to = contact.from; key = (s.contact_is i).key; nonce = s.next.3 i; bytes = s.copied i; resends = 0; last = now })
 
       rows_are : new.rows.rows ≡ old.rows.rows
       rows_are = s.rows ∙ s.same.rows
 
       contacts_are : new.contacts.contacts ≡ old.contacts.contacts
       contacts_are = s.contacts ∙ s.same.contacts
-
-      own : contact.router ≡ router
-      own = ap (λ (c : Contact). c.router) s.contact_is ∙ contact_router old.contacts.contacts router s.registered.heard.contact s.registered.heard.heard

@@ -1,7 +1,7 @@
 -- What a Map-Server checks of bytes before it looks at a nonce (RFC 9301 section 8.2).
-use Rattle.std.specs.Prelude.{◌≡◌, ℕ, Bool, false, not, List, Option, Some, None, Result, Ok, Err, position, ok_or, if◌then◌else◌}
-use Rattle.std.specs.List.{find}
+use Rattle.std.specs.Prelude.{◌≡◌, ℕ, Bool, true, false, not, List, Option, Some, None, Result, Ok, Err, position, ok_or, if◌then◌else◌}
 use Rattle.lisp_records.specs.Record.{Mapping}
+use Rattle.lisp_records.specs.Result.{◌>>=◌}
 use Rattle.lisp_messages.specs.Message.{Registration, Notification}
 use Rattle.lisp_records.specs.declared.address.Addr.{Addr}
 use Rattle.lisp_messages.specs.Authentic.{is_authentic, signed}
@@ -10,12 +10,7 @@ use Rattle.lisp_sites.specs.Site.{SiteEntry, is_allowed, site_of, secret_of}
 use Rattle.lisp_server.specs.declared.refused.Refused.{Refused}
 use Rattle.lisp_server.specs.declared.refused.Refused.TheVariants.{UnknownSite, UnknownKey, BadAuth, MergeAsked, NotAllowed, NoNotice, NotMine}
 use Rattle.lisp_server.specs.Contacts.{secret_at}
-use Rattle.lisp_server.specs.Notices.{Standing, awaits}
-
-infixl 10 ◌>>=◌
-abbrev pub ◌>>=◌ : {A B : Type 0} → Result A Refused → (A → Result B Refused) → Result B Refused
-(Ok x) >>= f = f x
-(Err e) >>= f = Err e
+use Rattle.lisp_server.specs.Notices.{Standing, IsAwaiting, NoneAwaits}
 
 -- the place of the first record that the site doesn't allow
 abbrev pub first_not_allowed : SiteEntry → List Mapping → Option ℕ
@@ -54,14 +49,18 @@ signed_by (Some secret) bytes = is_authentic bytes secret
 abbrev pub answers_under : List SiteEntry → List ℕ → Standing → Bool
 answers_under sites bytes n = signed_by (secret_at sites n.router.site n.key) bytes
 
--- the notice that a Map-Notify-Ack from an address ends, or the first check that it fails; a Map-Notify
--- is for routers
-unfoldable pub notice_ended : List SiteEntry → List Standing → Addr → List ℕ → Notification → Result Standing Refused
-notice_ended sites notices from bytes m = do
-  _ ← check m.ack NotMine
-  notice ← ok_or (find (awaits from m.key_id m.nonce) notices) NoNotice
-  _ ← check (answers_under sites bytes notice) BadAuth
-  Ok notice
+-- a Map-Notify-Ack from an address acknowledges the notice: it waits for it, and the bytes are authentic
+pub record Acknowledges (sites : List SiteEntry) (notices : List Standing) (from : Addr) (bytes : List ℕ) (m : Notification) (n : Standing) : Type 0 where
+  pub ack : m.ack ≡ true
+  pub awaiting : IsAwaiting notices from m.key_id m.nonce n
+  pub authentic : answers_under sites bytes n ≡ true
+
+-- the first check that a Map-Notify or Map-Notify-Ack from an address fails; a Map-Notify is for routers
+abbrev pub RefusesAck : List SiteEntry → List Standing → Addr → List ℕ → Notification → Refused → Type 0
+RefusesAck sites notices from bytes m NotMine = m.ack ≡ false
+RefusesAck sites notices from bytes m NoNotice = (m.ack ≡ true) × NoneAwaits notices from m.key_id m.nonce
+RefusesAck sites notices from bytes m BadAuth = (m.ack ≡ true) × (n : Standing) × IsAwaiting notices from m.key_id m.nonce n × (answers_under sites bytes n ≡ false)
+RefusesAck sites notices from bytes m _ = ⊥
 
 -- the Map-Notify of a Map-Register has its nonce, Key ID and records (RFC 9301 section 5.7)
 abbrev pub notification_of : Registration → Notification
@@ -70,8 +69,3 @@ notification_of m = record { ack = false; nonce = m.nonce; key_id = m.key_id; re
 -- bit M asks for the Map-Notify
 abbrev pub reply_of : List ℕ → Registration → Option (List ℕ)
 reply_of secret m = if m.want_notify then Some (signed secret (written_notify (notification_of m))) else None
-
--- a result that takes no memory, seen by view, is what the checks give
-abbrev pub Reads : {X Y : Type 0} → (X → Y) → Result X Refused → Result Y Refused → Type 0
-Reads view (Ok x) read = read ≡ Ok (view x)
-Reads view (Err e) read = read ≡ Err e

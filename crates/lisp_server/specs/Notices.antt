@@ -1,8 +1,8 @@
 -- Notices: the unsolicited Map-Notifies of a Map-Server, each of which it sends again, up to six times, until it
 -- is acknowledged (RFC 9301 sections 5.7 and 8.2).
-use Rattle.std.specs.Prelude.{◌≡◌, ◌≢◌, ℕ, ◌+◌, ◌*◌, ◌^◌, max, nat_le, ◌==◌, Bool, true, false, not, ◌&&◌, List, [], ◌∷◌, ◌++◌, length, replicate, slice_get, slice_set, position, Option, Some, None, if◌then◌else◌}
+use Rattle.std.specs.Prelude.{◌≡◌, ◌≢◌, ℕ, ◌+◌, ◌*◌, ◌^◌, max, nat_le, ◌==◌, Bool, true, false, ◌&&◌, List, [], ◌∷◌, length, replicate, slice_get, Option, Some, None, if◌then◌else◌}
 use Rattle.std.specs.Ordering.{is_lt}
-use Rattle.std.specs.List.{Contains, filter}
+use Rattle.std.specs.List.{AllPairs, find}
 use Rattle.std.specs.Option.{option_map}
 use Rattle.std.specs.declared.cmp.Ordering.TheVariants.{Less}
 use Rattle.lisp_records.specs.declared.address.Addr.{Addr}
@@ -85,21 +85,45 @@ pub record NoticesKeepTime : Type 0 where
   pub first : (n : Standing) → n.resends ≡ 0 → Keeps n n.last []
   pub again : (n : Standing) (last now : ℕ) (before : List ℕ) → Keeps n last before → Keeps (resent now n) now (last ∷ before)
 
--- the notices of other routers
-abbrev pub without : RouterId → List Standing → List Standing
-without router notices = filter (λ n. not (router_eq n.router router)) notices
+-- the notice is for the router
+abbrev pub is_notice_of : RouterId → Standing → Bool
+is_notice_of router n = router_eq n.router router
 
--- a notice takes the place of an earlier one to its router
-abbrev pub announced : Standing → List Standing → List Standing
-announced n notices = without n.router notices ++ n ∷ []
+-- the notice that stands for a router
+unfoldable pub notice_at : List Standing → RouterId → Option Standing
+notice_at notices router = find (is_notice_of router) notices
 
--- the notice of a router that is due
-abbrev pub due_of : RouterId → ℕ → Standing → Bool
-due_of router now n = router_eq n.router router && is_due now n
+-- no two notices are for one router
+abbrev pub OneForEach : List Standing → Type 0
+OneForEach notices = AllPairs (λ a b. a.router ≢ b.router) notices
+
+-- the notice was set for its router, and no other was touched
+pub record SetsNotice (old new : List Standing) (n : Standing) : Type 0 where
+  pub here : notice_at new n.router ≡ Some n
+  pub others : (other : RouterId) → other ≢ n.router → notice_at new other ≡ notice_at old other
+
+-- the notice for the router was ended, and no other was touched
+pub record EndsNotice (old new : List Standing) (router : RouterId) : Type 0 where
+  pub here : notice_at new router ≡ None
+  pub others : (other : RouterId) → other ≢ router → notice_at new other ≡ notice_at old other
 
 -- the notice waits for a Map-Notify-Ack with this key and nonce from this address
 abbrev pub awaits : Addr → ℕ → ℕ → Standing → Bool
 awaits from key nonce n = addr_eq n.to from && (n.key == key) && (n.nonce == nonce)
+
+-- the notice stands for its router, and waits for a Map-Notify-Ack with this key and nonce from this address
+pub record IsAwaiting (notices : List Standing) (from : Addr) (key nonce : ℕ) (n : Standing) : Type 0 where
+  pub stands : notice_at notices n.router ≡ Some n
+  pub waits : awaits from key nonce n ≡ true
+
+-- no router's notice waits for it
+abbrev pub NoneAwaits : List Standing → Addr → ℕ → ℕ → Type 0
+NoneAwaits notices from key nonce = (router : RouterId) (n : Standing) → notice_at notices router ≡ Some n → awaits from key nonce n ≡ false
+
+-- a notice that waits for it, where there is one
+abbrev pub Awaited : List Standing → Addr → ℕ → ℕ → Option Standing → Type 0
+Awaited notices from key nonce (Some n) = IsAwaiting notices from key nonce n
+Awaited notices from key nonce None = NoneAwaits notices from key nonce
 
 -- the notices, and how many more there is room for
 pub record NoticeTable : Type 0 where
@@ -111,30 +135,34 @@ abbrev pub lesser : Option RouterId → RouterId → RouterId
 lesser None other = other
 lesser (Some one) other = if is_lt (router_cmp other one) then other else one
 
+-- a router's notice is due; where none stands, none is
+abbrev pub is_due_at : ℕ → Option Standing → Bool
+is_due_at now None = false
+is_due_at now (Some n) = is_due now n
+
 -- the least router with a notice that is due
 pub record IsLeastDue (notices : List Standing) (now : ℕ) (router : RouterId) : Type 0 where
   pub notice : Standing
-  pub stands : Contains notices notice
+  pub stands : notice_at notices router ≡ Some notice
   pub due : is_due now notice ≡ true
-  pub its : notice.router ≡ router
-  pub least : (other : Standing) → Contains notices other → is_due now other ≡ true → router_cmp other.router router ≢ Less
+  pub least : (other : RouterId) → is_due_at now (notice_at notices other) ≡ true → router_cmp other router ≢ Less
 
+-- that router, or none where no router's notice is due
 abbrev pub IsDueRouter : List Standing → ℕ → Option RouterId → Type 0
 IsDueRouter notices now (Some router) = IsLeastDue notices now router
-IsDueRouter notices now None = (n : Standing) → Contains notices n → is_due now n ≡ false
+IsDueRouter notices now None = (router : RouterId) → is_due_at now (notice_at notices router) ≡ false
 
--- a notice of the router that is due was sent again: the same bytes to the same address
+-- the notice of the router, which is due, was sent again: the same bytes to the same address
 pub record Resends (old new : List Standing) (router : RouterId) (now : ℕ) (to : Addr) (bytes : List ℕ) : Type 0 where
-  pub place : ℕ
-  pub first : position (due_of router now) old ≡ Some place
   pub notice : Standing
-  pub stood : slice_get old place ≡ Some notice
+  pub stood : notice_at old router ≡ Some notice
+  pub due : is_due now notice ≡ true
   pub address : to ≡ notice.to
   pub datagram : bytes ≡ notice.bytes
-  pub after : new ≡ slice_set old place (resent now notice)
+  pub after : SetsNotice old new (resent now notice)
 
 -- no notice was sent again
 abbrev pub RefusesResend : List Standing → RouterId → ℕ → NoticeFault → Type 0
-RefusesResend old router now NotDue = position (due_of router now) old ≡ None
-RefusesResend old router now OutOfMemory = position (due_of router now) old ≢ None
+RefusesResend old router now NotDue = is_due_at now (notice_at old router) ≡ false
+RefusesResend old router now OutOfMemory = is_due_at now (notice_at old router) ≡ true
 RefusesResend old router now _ = ⊥

@@ -3,7 +3,7 @@ use Rattle.std.specs.Prelude.{◌≡◌, ◌≢◌, ◌<◌, ◌≤◌, ◌⊎�
 use Rattle.std.specs.List.{Contains}
 use Rattle.lisp_records.specs.declared.address.Addr.{Addr}
 use Rattle.lisp_records.specs.declared.router.RouterId.{RouterId}
-use Rattle.lisp_messages.specs.Message.{Registration, Registers, Notifies, Said}
+use Rattle.lisp_messages.specs.Message.{Registration, Registers, Notification, IsNotification, Notifies, Said}
 use Rattle.lisp_messages.specs.declared.fault.ReadFault.{ReadFault}
 use Rattle.lisp_store.specs.declared.pair.Pair.{Pair}
 use Rattle.lisp_store.specs.declared.fault.StoreFault.{StoreFault}
@@ -19,9 +19,9 @@ use Rattle.lisp_server.specs.AcceptedRows.{router_of, pair_of, holdings}
 use Rattle.lisp_lookup.specs.Table.{Sets}
 use Rattle.lisp_server.specs.LastNonces.{nonce_at, SetsNonce}
 use Rattle.lisp_server.specs.Contacts.{SetsContact}
-use Rattle.lisp_server.specs.Notices.{Standing, without}
+use Rattle.lisp_server.specs.Notices.{Standing, EndsNotice}
 use Rattle.lisp_server.specs.Server.{ServerState}
-use Rattle.lisp_server.specs.Checks.{Passed, register_checked, notice_ended, reply_of}
+use Rattle.lisp_server.specs.Checks.{Passed, register_checked, Acknowledges, RefusesAck, notification_of, reply_of}
 
 -- the number that a nonce has to be above: the pair's last since the start, or where there is none
 -- a value that the store may answer
@@ -73,10 +73,12 @@ abbrev pub contact_of : Registration → Addr → Contact
 contact_of m from = record { router = router_of m; key = m.key_id; from = from }
 
 -- a Map-Register was accepted: it passed all checks with a fresh nonce, which an honest store keeps
--- alone for its pair from now on; its records were set, and no others; the answer is its own
+-- alone for its pair from now on; its records were set, and no others; the answer is its own, and fits the
+-- format
 pub record Accepts {A : Type 0} (check : Result Passed Refused) (old new : ServerState) (before after : StoreState) (from : Addr) (now : ℕ) (took : Took A) : Type 0 where
   pub passed : Passed
   pub checks : check ≡ Ok passed
+  pub fits : IsNotification (notification_of passed.message)
   pub fresh : IsFresh (nonce_at old.nonces (pair_of passed.message)) before (pair_of passed.message) passed.message.nonce
   pub answer : took ≡ Accepted (router_of passed.message) passed.message.key_id passed.message.nonce (reply_of passed.secret passed.message)
   pub rows : Sets old.rows new.rows (holdings passed.message from now)
@@ -87,19 +89,20 @@ pub record Accepts {A : Type 0} (check : Result Passed Refused) (old new : Serve
   pub kept : IsTrue before.is_honest → kept_at after.kept (pair_of passed.message) ≡ Some passed.message.nonce ∷ []
   pub others : IsTrue before.is_honest → SameElsewhere before.kept after.kept (pair_of passed.message)
 
--- a Map-Notify-Ack ended an unsolicited Map-Notify (notice), and changed nothing else
-pub record Ends (check : Result Standing Refused) (old new : ServerState) (before after : StoreState) (router : RouterId) (nonce : ℕ) : Type 0 where
+-- a Map-Notify-Ack ended an unsolicited Map-Notify (notice) that it acknowledges, and changed nothing else
+pub record Ends (from : Addr) (bytes : List ℕ) (m : Notification) (old new : ServerState) (before after : StoreState) (router : RouterId) (nonce : ℕ) : Type 0 where
   pub notice : Standing
-  pub checks : check ≡ Ok notice
+  pub acknowledges : Acknowledges old.sites old.notices from bytes m notice
   pub its : router ≡ notice.router
   pub under : nonce ≡ notice.nonce
-  pub ended : new ≡ record old { notices = without notice.router old.notices }
+  pub ended : EndsNotice old.notices new.notices notice.router
+  pub rest : new ≡ record old { notices = new.notices }
   pub store : after ≡ before
 
 -- the message that bytes from an address spell was taken
 abbrev pub Takes : {A : Type 0} → Result Said ReadFault → Addr → List ℕ → ServerState → ServerState → StoreState → StoreState → ℕ → Took A → Type 0
 Takes {A = A} (Ok (Registers m)) from bytes old new before after now (Accepted router key nonce reply) = Accepts {A = A} (register_checked old.sites bytes m) old new before after from now (Accepted router key nonce reply)
-Takes (Ok (Notifies m)) from bytes old new before after now (NoticeDone router nonce) = Ends (notice_ended old.sites old.notices from bytes m) old new before after router nonce
+Takes (Ok (Notifies m)) from bytes old new before after now (NoticeDone router nonce) = Ends from bytes m old new before after router nonce
 Takes _ from bytes old new before after now _ = ⊥
 
 -- the pair's base can't be loaded from the store, which is unchanged if memory ran out in that
@@ -150,7 +153,7 @@ RefusesRegister check old before after refused = (check ≡ Err refused) × (aft
 -- what was read was refused
 abbrev pub RefusesRead : Result Said ReadFault → Addr → List ℕ → ServerState → StoreState → StoreState → Refused → Type 0
 RefusesRead (Ok (Registers m)) from bytes old before after why = RefusesRegister (register_checked old.sites bytes m) old before after why
-RefusesRead (Ok (Notifies m)) from bytes old before after why = (notice_ended old.sites old.notices from bytes m ≡ Err why) × (after ≡ before)
+RefusesRead (Ok (Notifies m)) from bytes old before after why = RefusesAck old.sites old.notices from bytes m why × (after ≡ before)
 RefusesRead (Err fault) from bytes old before after why = (why ≡ Read fault) × (after ≡ before)
 
 -- the message that bytes from an address spell was refused: as what was read, but that memory may also

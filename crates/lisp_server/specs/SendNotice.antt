@@ -5,7 +5,7 @@ use Rattle.lisp_records.specs.declared.database.DatabaseFault.{DatabaseFault}
 use Rattle.lisp_records.specs.declared.router.RouterId.{RouterId}
 use Rattle.lisp_records.specs.Database.{database_of}
 use Rattle.lisp_records.specs.Record.{Mapping}
-use Rattle.lisp_messages.specs.Message.{Notification}
+use Rattle.lisp_messages.specs.Message.{Notification, IsNotification}
 use Rattle.lisp_messages.specs.Authentic.{signed}
 use Rattle.lisp_messages.specs.Written.{written_notify}
 use Rattle.lisp_store.specs.declared.fault.StoreFault.{StoreFault}
@@ -17,7 +17,7 @@ use Rattle.lisp_server.specs.declared.notice_fault.NoticeFault.{NoticeFault}
 use Rattle.lisp_server.specs.declared.notice_fault.NoticeFault.TheVariants.{NotRegistered, TooLarge, StoreLoad, NonceSpent, OutOfMemory, StoreSave, NotDue}
 use Rattle.lisp_server.specs.Contacts.{IsHeard}
 use Rattle.lisp_server.specs.LastNonces.{nonce_at, SetsNonce}
-use Rattle.lisp_server.specs.Notices.{notice_pair, nonce_after, announced}
+use Rattle.lisp_server.specs.Notices.{notice_pair, nonce_after, SetsNotice}
 use Rattle.lisp_server.specs.Receiving.{IsBase, KeepsLists, Unasked, Unknown, Unsaved, HasCause}
 use Rattle.lisp_server.specs.Server.{ServerState}
 
@@ -61,7 +61,8 @@ abbrev pub notice_of : ℕ → ℕ → List Mapping → Notification
 notice_of key nonce records = record { ack = false; nonce = nonce; key_id = key; records = records }
 
 -- a notice was sent: of the router's live records, by prefix, under the key and to the address that it
--- was heard under last, with the next nonce, which an honest store keeps alone for notices from now on; it stands
+-- was heard under last, with the next nonce, which an honest store keeps alone for notices from now on; it
+-- fits the format, and stands
 pub record Announces (old new : ServerState) (before after : StoreState) (router : RouterId) (now : ℕ) (to : Addr) (bytes : List ℕ) : Type 0 where
   pub registered : IsRegistered old router now
   pub last : Option ℕ
@@ -71,7 +72,8 @@ pub record Announces (old new : ServerState) (before after : StoreState) (router
   pub by_prefix : ByPrefix (live_of old.rows router now) records
   pub address : to ≡ registered.heard.contact.from
   pub datagram : bytes ≡ signed registered.heard.secret (written_notify (notice_of registered.heard.contact.key (nonce_after last) records))
-  pub stands : new.notices ≡ announced (record { router = router; to = to; key = registered.heard.contact.key; nonce = nonce_after last; bytes = bytes; resends = 0; last = now }) old.notices
+  pub fits : IsNotification (notice_of registered.heard.contact.key (nonce_after last) records)
+  pub stands : SetsNotice old.notices new.notices (record { router = router; to = to; key = registered.heard.contact.key; nonce = nonce_after last; bytes = bytes; resends = 0; last = now })
   pub nonces : SetsNonce old.nonces new.nonces notice_pair (nonce_after last)
   pub rest : new ≡ record old { notices = new.notices; nonces = new.nonces }
   pub kept : IsTrue before.is_honest → kept_at after.kept notice_pair ≡ Some (nonce_after last) ∷ []

@@ -2,7 +2,8 @@
 
 ghost use Rattle.std.specs.Prelude.{◌≡◌};
 ghost use Rattle.std.specs.Option.{option_map};
-ghost use Rattle.lisp_server.specs.Checks.{Reads, first_not_allowed, secret_under};
+ghost use Rattle.lisp_records.specs.Result.{Reads};
+ghost use Rattle.lisp_server.specs.Checks.{first_not_allowed, secret_under};
 ghost use Rattle.lisp_server.specs.Contacts.{secret_at};
 
 use crate::refused::Refused;

@@ -1,8 +1,8 @@
 //! Receiving a Map-Notify-Ack, which ends the unsolicited Map-Notify (notice) that it acknowledges.
 
-ghost use Rattle.std.specs.Prelude.{◌≡◌, Ok, Err, IfOk, IfErr, OnErr};
-ghost use Rattle.lisp_server.specs.Checks.{Reads, answers_under, notice_ended};
-ghost use Rattle.lisp_server.specs.Notices.{Standing, without};
+ghost use Rattle.std.specs.Prelude.{◌≡◌, IfOk, IfErr, OnErr};
+ghost use Rattle.lisp_server.specs.Checks.{answers_under, Acknowledges, RefusesAck};
+ghost use Rattle.lisp_server.specs.Notices.{Standing, EndsNotice};
 ghost use Rattle.lisp_server.specs.declared.took.Took.TheVariants.{NoticeDone};
 
 use crate::arrival::Arrival;
@@ -23,8 +23,8 @@ pub(crate) fn receive_ack<A: Allocator>(
     arrival: Arrival<'_>,
     ack: &MapNotify<A>,
 ) -> Result<Took<A>, Refused>
-    ensures done { IfOk result (λ took. (n : Standing) × (notice_ended sites.now notices.old.notices arrival.entry.from arrival.entry.bytes.now ack.now ≡ Ok n) × (took ≡ NoticeDone n.router n.nonce) × (notices.new.notices ≡ without n.router notices.old.notices)) }
-    ensures refused { IfErr result (λ why. notice_ended sites.now notices.old.notices arrival.entry.from arrival.entry.bytes.now ack.now ≡ Err why) }
+    ensures done { IfOk result (λ took. (n : Standing) × Acknowledges sites.now notices.old.notices arrival.entry.from arrival.entry.bytes.now ack.now n × (took ≡ NoticeDone n.router n.nonce) × EndsNotice notices.old.notices notices.new.notices n.router) }
+    ensures refused { IfErr result (λ why. RefusesAck sites.now notices.old.notices arrival.entry.from arrival.entry.bytes.now ack.now why) }
     ensures err { OnErr result (notices.new.notices ≡ notices.old.notices) }
 {
     let notice = ended(sites, notices, arrival, ack)?;
@@ -34,21 +34,21 @@ pub(crate) fn receive_ack<A: Allocator>(
 }
 
 // The notice that a Map-Notify-Ack ends, or the first check that it fails.
-#[tactic(auto, unfolding(crate::specs::Checks::notice_ended))]
 fn ended<'n, A: Allocator>(
     sites: &Sites<A>,
     notices: &'n StandingNotices<A>,
     arrival: Arrival<'_>,
     ack: &MapNotify<A>,
 ) -> Result<&'n StandingNotice<A>, Refused>
-    ensures { Reads (λ n. n.now) result (notice_ended sites.now notices.now.notices arrival.entry.from arrival.entry.bytes.now ack.now) }
+    ensures ends { IfOk result (λ n. Acknowledges sites.now notices.now.notices arrival.entry.from arrival.entry.bytes.now ack.now n.now) }
+    ensures refused { IfErr result (λ why. RefusesAck sites.now notices.now.notices arrival.entry.from arrival.entry.bytes.now ack.now why) }
 {
     if !ack.ack {
         return Err(Refused::NotMine);
     }
-    let notice = notices
-        .awaiting(&arrival.from, ack.key_id, ack.nonce)
-        .ok_or(Refused::NoNotice)?;
+    let Some(notice) = notices.awaiting(&arrival.from, ack.key_id, ack.nonce) else {
+        return Err(Refused::NoNotice);
+    };
     if !answers_under(sites, arrival.bytes, notice) {
         return Err(Refused::BadAuth);
     }

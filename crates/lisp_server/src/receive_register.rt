@@ -3,7 +3,8 @@
 ghost use Rattle.std.specs.Prelude.{◌≡◌, IfOk, IfErr, OnErr};
 ghost use Rattle.lisp_store.specs.Store.{Proceeds};
 ghost use Rattle.lisp_server.specs.AcceptedRows.{pair_of};
-ghost use Rattle.lisp_server.specs.Checks.{register_checked};
+ghost use Rattle.lisp_messages.specs.Message.{IsNotification};
+ghost use Rattle.lisp_server.specs.Checks.{register_checked, notification_of};
 ghost use Rattle.lisp_server.specs.Receiving.{Accepts, RefusesRegister};
 ghost use Rattle.lisp_server.specs.Server.{SameTables, state_of};
 
@@ -29,6 +30,7 @@ pub(crate) fn receive_register<S: NonceStore, A: Allocator + Copy>(
     arrival: Arrival<'_>,
     register: MapRegister<A>,
 ) -> Result<Took<A>, Refused>
+    requires { IsNotification (notification_of register) }
     ensures accepted { IfOk result (λ took. Accepts (register_checked sites.now arrival.entry.bytes.now register) (state_of sites.now tables.old) (state_of sites.now tables.new) (S.seen store.old) (S.seen store.new) arrival.entry.from arrival.entry.now took) }
     ensures refused { IfErr result (λ why. RefusesRegister (register_checked sites.now arrival.entry.bytes.now register) (state_of sites.now tables.old) (S.seen store.old) (S.seen store.new) why) }
     ensures err { OnErr result (SameTables tables.old tables.new) }

@@ -5,6 +5,7 @@ ghost use Rattle.lisp_records.specs.Moment.{max_moment};
 ghost use Rattle.lisp_store.specs.Store.{Proceeds};
 ghost use Rattle.lisp_lookup.specs.Table.{OneEach};
 ghost use Rattle.lisp_lookup.specs.Records.{live_of, ByPrefix};
+ghost use Rattle.lisp_messages.specs.Message.{IsNotification};
 ghost use Rattle.lisp_messages.specs.Authentic.{signed};
 ghost use Rattle.lisp_messages.specs.Written.{written_notify};
 ghost use Rattle.lisp_server.specs.SendNotice.{IsRegistered, Announces, RefusesNotice, notice_of, Unregistered};
@@ -73,7 +74,7 @@ impl Recipient<'_> {
         nonce: u64,
     ) -> Result<Bytes<A>, AllocError>
         requires few { length (live_of rows.now.rows self.now.contact.router now) ≤ 255 }
-        ensures { IfOk result (λ bytes. (records : List Mapping) × ByPrefix (live_of rows.now.rows self.now.contact.router now) records × (bytes ≡ signed self.now.secret.now (written_notify (notice_of self.now.contact.key nonce records)))) }
+        ensures { IfOk result (λ bytes. (records : List Mapping) × ByPrefix (live_of rows.now.rows self.now.contact.router now) records × (bytes ≡ signed self.now.secret.now (written_notify (notice_of self.now.contact.key nonce records))) × IsNotification (notice_of self.now.contact.key nonce records)) }
     {
         let notify = MapNotify {
             ack: false,

@@ -10,7 +10,7 @@ ghost use Rattle.lisp_lookup.specs.Answer.{Answers};
 ghost use Rattle.lisp_records.specs.Moment.{max_moment};
 ghost use Rattle.lisp_server.specs.SendNotice.{Announces, RefusesNotice};
 ghost use Rattle.lisp_server.specs.LastNonces.{nonce_at};
-ghost use Rattle.lisp_server.specs.Notices.{IsDueRouter, Resends, RefusesResend};
+ghost use Rattle.lisp_server.specs.Notices.{OneForEach, IsDueRouter, Resends, RefusesResend};
 ghost use Rattle.lisp_server.specs.Receiving.{Takes, Refuses};
 ghost use Rattle.lisp_server.specs.Refused.{refused_of_read};
 ghost use Rattle.lisp_server.specs.declared.refused.Refused.{Refused};
@@ -172,7 +172,8 @@ impl<A: Allocator + Copy> Server<A> {
     /// The least router, by Site-ID, then xTR-ID, to which a notice is due at a time, in ms: a notice is due 3,
     /// 3, 3, 6, 12 and 24 s after it was last sent, then never. Takes no memory.
     pub fn due_notices(&self, now: u64) -> Option<RouterId>
-        ensures { IsDueRouter self.now.notices now result }
+        ensures due { IsDueRouter self.now.notices now result }
+        ensures one_each { OneForEach self.now.notices }
     {
         self.tables.notices.due(now)
     }
@@ -216,10 +217,12 @@ impl<A: Allocator + Copy> Server<A> {
         self.tables.nonces.get(pair)
     }
 
-    /// Drops the rows that are dead at a time, in ms. Takes no memory.
+    /// Drops the rows that are dead at a time, in ms, of at most 2^62. Takes no memory.
     pub fn expire(&mut self, now: u64)
+        requires { now ≤ max_moment }
         ensures rows { Expires self.old.rows self.new.rows now }
         ensures rest { self.new ≡ record self.old { rows = self.new.rows } }
+        ensures one_each { OneEach self.new.rows }
     {
         self.tables.rows.drop_dead(now);
     }

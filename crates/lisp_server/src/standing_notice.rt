@@ -2,7 +2,7 @@
 
 ghost use Rattle.std.specs.Prelude.{◌≡◌, ◌≤◌, ◌<◌, IfOk, IfSome, OnOk, OnErr, slice_get};
 ghost use Rattle.lisp_records.specs.Moment.{max_moment};
-ghost use Rattle.lisp_server.specs.Notices.{gaps, is_due, due_of, awaits, resent};
+ghost use Rattle.lisp_server.specs.Notices.{gaps, is_due, awaits, resent};
 
 use lisp_records::{Addr, Bytes, RouterId};
 use std::alloc::{AllocError, Allocator};
@@ -47,13 +47,6 @@ impl<A: Allocator> StandingNotice<A> {
             Some(gap) => self.last + gap <= now,
             None => false,
         }
-    }
-
-    /// Whether it is for a router, and due again at a time, in ms.
-    pub(crate) fn is_due_of(&self, router: &RouterId, now: u64) -> bool
-        ensures { result ≡ due_of router.now now self.now }
-    {
-        self.router == *router && self.is_due(now)
     }
 
     /// Sends it again at a time, in ms: its address and a copy of its bytes.

@@ -4,7 +4,7 @@ ghost use Rattle.std.specs.Prelude.{◌≡◌, ◌<◌, ◌≤◌, [], OnOk, OnE
 ghost use Rattle.lisp_records.specs.Moment.{max_moment};
 ghost use Rattle.std.specs.List.{find};
 ghost use Rattle.std.specs.Option.{option_map};
-ghost use Rattle.lisp_server.specs.Notices.{announced, without, awaits, lesser, due_of, IsDueRouter, Resends, RefusesResend};
+ghost use Rattle.lisp_server.specs.Notices.{is_notice_of, OneForEach, SetsNotice, EndsNotice, awaits, Awaited, lesser, IsDueRouter, Resends, RefusesResend};
 
 use crate::notice_fault::NoticeFault;
 use crate::standing_notice::StandingNotice;
@@ -20,11 +20,13 @@ pub(crate) struct StandingNotices<A: Allocator> {
 
 impl<A: Allocator> Model for StandingNotices<A> {
     ghost use Rattle.std.specs.Prelude.{◌-◌, vec_len, vec_capacity};
-    ghost use Rattle.lisp_server.specs.Notices.{NoticeTable};
+    ghost use Rattle.lisp_server.specs.Notices.{NoticeTable, OneForEach};
 
     ghost Value = { NoticeTable };
 
     ghost view = { λ n. record { notices = n.items.items; spare = vec_capacity n.items - vec_len n.items } };
+
+    ghost invariant = { λ n. OneForEach n.items.items };
 }
 
 impl<A: Allocator> StandingNotices<A> {
@@ -48,27 +50,26 @@ impl<A: Allocator> StandingNotices<A> {
     /// Keeps a notice, in place of an earlier one to its router. Takes no memory.
     pub(crate) fn keep(&mut self, notice: StandingNotice<A>)
         requires { 0 < self.old.spare }
-        ensures { self.new.notices ≡ announced notice self.old.notices }
+        ensures { SetsNotice self.old.notices self.new.notices notice }
     {
-        self.end(&notice.router);
-        self.items.push_reserved(notice);
+        match place(&self.items, &notice.router) {
+            Some(place) => self.items[place] = notice,
+            None => self.items.push_reserved(notice),
+        }
     }
 
     /// Ends the notice to a router. Takes no memory.
     pub(crate) fn end(&mut self, router: &RouterId)
-        ensures notices { self.new.notices ≡ without router.now self.old.notices }
-        ensures room { self.old.spare ≤ self.new.spare }
+        ensures { EndsNotice self.old.notices self.new.notices router.now }
     {
         self.items.retain(|notice| notice.router != *router);
     }
 
-    /// The notice that waits for a Map-Notify-Ack with this key and nonce from this address.
+    /// A notice that waits for a Map-Notify-Ack with this key and nonce from this address.
     pub(crate) fn awaiting(&self, from: &Addr, key: u8, nonce: u64) -> Option<&StandingNotice<A>>
-        ensures { option_map (λ n. n.now) result ≡ find (awaits from.now key nonce) self.now.notices }
+        ensures { Awaited self.now.notices from.now key nonce (option_map (λ n. n.now) result) }
     {
-        self.items
-            .iter()
-            .find(|notice| notice.awaits(from, key, nonce))
+        first_awaiting(&self.items, from, key, nonce)
     }
 
     /// Sends the notice to a router again that is due at a time, in ms: its address and a copy of its bytes.
@@ -84,30 +85,46 @@ impl<A: Allocator> StandingNotices<A> {
         ensures refused { IfErr result (λ fault. RefusesResend self.old.notices router.now now fault) }
         ensures err { OnErr result (self.new.notices ≡ self.old.notices) }
     {
-        match self.place_due(router, now) {
-            Some(place) => Ok(self.items[place].resend(alloc, now)?),
-            None => Err(NoticeFault::NotDue),
+        let Some(place) = place(&self.items, router) else {
+            return Err(NoticeFault::NotDue);
+        };
+        if !self.items[place].is_due(now) {
+            return Err(NoticeFault::NotDue);
         }
-    }
-
-    // The place of the notice to a router that is due at a time, in ms.
-    fn place_due(&self, router: &RouterId, now: u64) -> Option<usize>
-        ensures { result ≡ position (due_of router.now now) self.now.notices }
-    {
-        self.items
-            .iter()
-            .position(|notice| notice.is_due_of(router, now))
+        Ok(self.items[place].resend(alloc, now)?)
     }
 
     /// The least router to which a notice is due at a time, in ms.
     pub(crate) fn due(&self, now: u64) -> Option<RouterId>
-        ensures { IsDueRouter self.now.notices now result }
+        ensures due { IsDueRouter self.now.notices now result }
+        ensures one_each { OneForEach self.now.notices }
     {
         least_due(&self.items, now)
     }
 }
 
+// The place of the notice to a router.
+fn place<A: Allocator>(notices: &[StandingNotice<A>], router: &RouterId) -> Option<usize>
+    ensures { result ≡ position (is_notice_of router.now) notices.now }
+{
+    notices.iter().position(|notice| notice.router == *router)
+}
+
+fn first_awaiting<'n, A: Allocator>(
+    notices: &'n [StandingNotice<A>],
+    from: &Addr,
+    key: u8,
+    nonce: u64,
+) -> Option<&'n StandingNotice<A>>
+    ensures { option_map (λ n. n.now) result ≡ find (awaits from.now key nonce) notices.now }
+{
+    notices
+        .iter()
+        .find(|notice| notice.awaits(from, key, nonce))
+}
+
 fn least_due<A: Allocator>(notices: &[StandingNotice<A>], now: u64) -> Option<RouterId>
+    requires { OneForEach notices.now }
     ensures { IsDueRouter notices.now now result }
 {
     let mut least = None;

@@ -4,7 +4,7 @@ ghost use Rattle.std.specs.Prelude.{◌≡◌, length, OnOk};
 ghost use Rattle.lisp_lookup.specs.Table.{Sets};
 ghost use Rattle.lisp_server.specs.LastNonces.{SetsNonce};
 ghost use Rattle.lisp_server.specs.Contacts.{SetsContact};
-ghost use Rattle.lisp_server.specs.Notices.{announced, notice_pair};
+ghost use Rattle.lisp_server.specs.Notices.{SetsNotice, notice_pair};
 ghost use Rattle.lisp_server.specs.Server.{SameTables, HasRoom, HasNoticeRoom};
 
 use crate::contacts::{Contact, Contacts};
@@ -71,7 +71,7 @@ impl<A: Allocator + Copy> Tables<A> {
         ensures rows { self.new.rows.rows ≡ self.old.rows.rows }
         ensures nonces { SetsNonce self.old.nonces.nonces self.new.nonces.nonces notice_pair notice.nonce }
         ensures contacts { self.new.contacts.contacts ≡ self.old.contacts.contacts }
-        ensures notices { self.new.notices.notices ≡ announced notice self.old.notices.notices }
+        ensures notices { SetsNotice self.old.notices.notices self.new.notices.notices notice }
     {
         self.nonces.set(NOTICES, notice.nonce);
         self.notices.keep(notice);

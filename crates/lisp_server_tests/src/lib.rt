@@ -16,5 +16,3 @@ mod registrations;
 mod sent;
 #[cfg(test)]
 mod step;
-#[cfg(test)]
-mod table_memory;

@@ -5,44 +5,22 @@ use crate::sent::{Eid, WIDE, record, router};
 use lisp_lookup::Table;
 use lisp_records::{Addr, Row};
 use lisp_sites::Sites;
-use std::alloc::{Allocator, Global};
+use std::alloc::Global;
 use std::process::Abort;
 
-/// A row that is held from time 0 on.
-#[derive(Clone, Copy)]
-pub(crate) struct Registered {
-    /// The last byte of the xTR-ID and of the address of its router.
-    router: u8,
-    eid: Eid,
-    ttl: u32,
-    proxy: bool,
-}
+/// A row that is held from time 0 on: the last byte of the xTR-ID and of the address of its router, its
+/// EID-Prefix and TTL, and whether its router asks for proxy replies.
+type Registered = (u8, Eid, u32, bool);
 
 /// r1 asks for proxy replies.
-pub(crate) const FIRST_ROW: Registered = Registered {
-    router: 0x0a,
-    eid: WIDE,
-    ttl: 1440,
-    proxy: true,
-};
+const FIRST_ROW: Registered = (0x0a, WIDE, 1440, true);
+
+const FIRST_ROW_WITHOUT_PROXY: Registered = (0x0a, WIDE, 1440, false);
 
 /// r2 asks for none.
-const SECOND_ROW: Registered = Registered {
-    router: 0x0b,
-    eid: WIDE,
-    ttl: 5,
-    proxy: false,
-};
+const SECOND_ROW: Registered = (0x0b, WIDE, 5, false);
 
-const SECOND_NARROW_ROW: Registered = Registered {
-    eid: ([10, 1, 2, 0], 24),
-    ..SECOND_ROW
-};
-
-const FIRST_ROW_WITHOUT_PROXY: Registered = Registered {
-    proxy: false,
-    ..FIRST_ROW
-};
+const SECOND_NARROW_ROW: Registered = (0x0b, ([10, 1, 2, 0], 24), 5, false);
 
 /// Where r2 sends from.
 const FROM_SECOND: Addr = Addr::V4([127, 0, 0, 0x0b]);
@@ -93,11 +71,7 @@ fn answers(rt: &impl Abort, alloc: Global, sites: &Sites, lookup: &Lookup<'_>) -
 }
 
 /// A table of these rows.
-pub(crate) fn table_of<A: Allocator + Copy>(
-    rt: &impl Abort,
-    alloc: A,
-    registered: &[Registered],
-) -> Table<A> {
+fn table_of(rt: &impl Abort, alloc: Global, registered: &[Registered]) -> Table {
     let rows = rows_of(rt, alloc, registered);
     let mut table = Table::new(alloc);
     table.prepare(&rows).expect(rt, "no room");
@@ -106,11 +80,7 @@ pub(crate) fn table_of<A: Allocator + Copy>(
 }
 
 /// The rows, accepted at time 0, alive for three minutes.
-pub(crate) fn rows_of<A: Allocator + Copy>(
-    rt: &impl Abort,
-    alloc: A,
-    registered: &[Registered],
-) -> Vec<Row<A>, A> {
+fn rows_of(rt: &impl Abort, alloc: Global, registered: &[Registered]) -> Vec<Row> {
     let mut rows = Vec::new(alloc);
     for one in registered {
         rows.push(row_of(rt, alloc, one)).expect(rt, "a row");
@@ -118,15 +88,16 @@ pub(crate) fn rows_of<A: Allocator + Copy>(
     rows
 }
 
-fn row_of<A: Allocator>(rt: &impl Abort, alloc: A, registered: &Registered) -> Row<A> {
+fn row_of(rt: &impl Abort, alloc: Global, registered: &Registered) -> Row {
+    let (end, eid, ttl, proxy) = *registered;
     Row {
-        router: router(1, registered.router),
+        router: router(1, end),
         key: 1,
         nonce: 1,
-        mapping: record(rt, alloc, registered.eid, registered.ttl),
+        mapping: record(rt, alloc, eid, ttl),
         accepted: 0,
         life: 180_000,
-        proxy: registered.proxy,
-        from: Addr::V4([127, 0, 0, registered.router]),
+        proxy,
+        from: Addr::V4([127, 0, 0, end]),
     }
 }

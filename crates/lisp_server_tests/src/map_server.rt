@@ -1,9 +1,9 @@
 //! A Map-Server and its store, and whether its calls answer what is wanted.
 
-use crate::sent::{FROM, ROUTER, Sent, WIDE, acknowledgement, block};
+use crate::sent::{FROM, KEY, ROUTER, Sent, WIDE, acknowledgement, block, map_register};
 use lisp_lookup::Answer;
 use lisp_messages::authentic;
-use lisp_records::{Addr, MapRecord, Row};
+use lisp_records::{Addr, Bytes, MapRecord, RouterId, Row};
 use lisp_samples::{LOCATOR, RECORD, SECRET, fields};
 use lisp_server::{NoticeFault, Refused, Server, Took};
 use lisp_sites::Sites;
@@ -17,9 +17,6 @@ const LATEST: u64 = 0x4000_0000_0000_0000;
 /// The nonce of the first notice: 2^63.
 pub(crate) const FIRST_NOTICE: u64 = 0x8000_0000_0000_0000;
 
-/// What a Map-Register of one record brings: the Map-Register, and how long the record lives, in ms.
-pub(crate) type Held<'a> = (Sent<'a>, u64);
-
 /// Who answers for an address.
 #[derive(Clone, Copy, PartialEq, Eq)]
 pub(crate) enum Who {
@@ -31,12 +28,24 @@ pub(crate) enum Who {
     Forward(Addr),
 }
 
-/// The Map-Server of the worked site, and its store. The methods that answer a `bool` tell whether what is
-/// wanted comes; times are in ms.
+/// What comes of a message that is not refused.
+#[derive(Clone, Copy, PartialEq, Eq)]
+pub(crate) enum Heard {
+    /// The Map-Register is accepted, and answered by the worked Map-Notify with its nonce.
+    Replied,
+    /// It is accepted, and has another answer.
+    Accepted,
+    /// The notice to this router, of this nonce, has ended.
+    Ended(RouterId, u64),
+}
+
+/// The Map-Server of the worked site, its store, and where they lie. The methods tell whether what is wanted
+/// comes; times are in ms, and messages come from the worked router at time 0.
 #[derive(Drop)]
 pub(crate) struct MapServer<A: Allocator + Copy = Global> {
-    pub(crate) server: Server<A>,
+    server: Server<A>,
     store: MemoryStore<A>,
+    alloc: A,
 }
 
 impl<A: Allocator + Copy> MapServer<A> {
@@ -45,62 +54,59 @@ impl<A: Allocator + Copy> MapServer<A> {
         MapServer {
             server: start(rt, alloc),
             store: MemoryStore::new(alloc),
+            alloc,
         }
     }
 
-    /// Takes bytes from the worked router at time 0.
-    fn receive(&mut self, bytes: &[u8]) -> Result<Took<A>, Refused> {
-        self.server.receive(&mut self.store, FROM, bytes, 0)
-    }
-
-    /// Sends a notice to the worked router at time 0.
-    fn notify(&mut self) -> Result<(Addr, Vec<u8, A>), NoticeFault> {
-        self.server.notify(&mut self.store, &ROUTER, 0)
-    }
-
-    /// Sends the notice to the worked router again at a time.
-    fn resend(&mut self, rt: &impl Abort, now: u64) -> Result<(Addr, Vec<u8, A>), NoticeFault> {
-        assert!(rt; now <= LATEST);
-        self.server.resend(&ROUTER, now)
-    }
-
-    /// A Map-Register is accepted.
-    pub(crate) fn accepts(&mut self, rt: &impl Abort, alloc: Global, sent: &Sent<'_>) -> bool {
-        self.receive(&sent.written(rt, alloc)).is_ok()
-    }
-
-    /// A Map-Register is accepted, and answered by the worked Map-Notify with its nonce.
-    pub(crate) fn replies(&mut self, rt: &impl Abort, alloc: Global, sent: &Sent<'_>) -> bool {
-        match self.receive(&sent.written(rt, alloc)) {
-            Ok(
-                Took::Accepted {
-                    reply: Some(reply),
-                    ..
-                },
-            ) => is_worked_notify(reply.as_slice(), sent.nonce),
-            _ => false,
+    /// What comes of these bytes, of a message with this nonce.
+    fn receive(&mut self, bytes: &[u8], nonce: u64) -> Result<Heard, Refused> {
+        match self.server.receive(&mut self.store, FROM, bytes, 0) {
+            Ok(took) => Ok(outcome(&took, nonce)),
+            Err(why) => Err(why),
         }
     }
 
-    /// A Map-Register is refused for this reason.
-    pub(crate) fn refuses(
+    /// This comes of a Map-Register.
+    pub(crate) fn hears(
         &mut self,
         rt: &impl Abort,
-        alloc: Global,
-        sent: &Sent<'_>,
-        why: Refused,
+        ample: Global,
+        sent: &Sent,
+        want: &Result<Heard, Refused>,
     ) -> bool {
-        self.refuses_bytes(&sent.written(rt, alloc), why)
+        self.receive(&map_register(rt, ample, sent), sent.0) == *want
     }
 
-    pub(crate) fn refuses_bytes(&mut self, bytes: &[u8], why: Refused) -> bool {
-        self.receive(bytes).err() == Some(why)
+    /// The bytes are refused for this reason.
+    pub(crate) fn refuses(&mut self, bytes: &[u8], why: Refused) -> bool {
+        self.receive(bytes, 0) == Err(why)
     }
 
-    /// At a time these rows are held, and no others.
-    pub(crate) fn holds(&self, rt: &impl Abort, now: u64, want: &[Held<'_>]) -> bool {
-        let rows = self.server.held(now).expect(rt, "the rows");
-        rows.len() == want.len() && are_rows(rt, &rows, want)
+    /// This comes of a Map-Notify-Ack with this nonce.
+    pub(crate) fn hears_ack(
+        &mut self,
+        rt: &impl Abort,
+        ample: Global,
+        nonce: u64,
+        want: &Result<Heard, Refused>,
+    ) -> bool {
+        self.receive(&acknowledgement(rt, ample, nonce), nonce) == *want
+    }
+
+    /// At a time so many rows are held.
+    pub(crate) fn counts(&self, now: u64, count: usize) -> bool {
+        match self.server.held(now) {
+            Ok(rows) => rows.len() == count,
+            Err(_) => false,
+        }
+    }
+
+    /// At a time the row of this Map-Register alone is held, which lives so long.
+    pub(crate) fn holds(&self, rt: &impl Abort, now: u64, sent: &Sent, life: u64) -> bool {
+        match self.server.held(now) {
+            Ok(rows) => is_alone(rt, &rows, sent, life),
+            Err(_) => false,
+        }
     }
 
     /// At a time this one answers for an address.
@@ -115,54 +121,31 @@ impl<A: Allocator + Copy> MapServer<A> {
     }
 
     /// A crash: of the nonces that the store may keep the one at this place is left.
-    pub(crate) fn restarts(&mut self, rt: &impl Abort, alloc: A, pick: u64) -> bool {
+    pub(crate) fn restarts(&mut self, rt: &impl Abort, pick: u64) -> bool {
         self.store.restart(pick);
-        self.server = start(rt, alloc);
+        self.server = start(rt, self.alloc);
         true
     }
 
-    /// The worked Map-Notify is sent unasked, with this nonce.
-    pub(crate) fn announces(&mut self, nonce: u64) -> bool {
-        is_notice(&self.notify(), nonce)
+    /// This comes of a notice to the worked router: its nonce, or a fault.
+    pub(crate) fn announces(&mut self, want: &Result<u64, NoticeFault>) -> bool {
+        is_notice(&self.server.notify(&mut self.store, &ROUTER, 0), want)
     }
 
-    /// No notice is sent, for this reason.
-    pub(crate) fn announces_none(&mut self, why: NoticeFault) -> bool {
-        self.notify().err() == Some(why)
+    /// This comes of sending it again at a time.
+    pub(crate) fn resends(
+        &mut self,
+        rt: &impl Abort,
+        now: u64,
+        want: &Result<u64, NoticeFault>,
+    ) -> bool {
+        assert!(rt; now <= LATEST);
+        is_notice(&self.server.resend(&ROUTER, now), want)
     }
 
     /// Whether a notice is due at a time.
     pub(crate) fn is_due(&self, now: u64, want: bool) -> bool {
         self.server.due_notices(now) == want.then_some(ROUTER)
-    }
-
-    /// At a time the notice with this nonce is sent again.
-    pub(crate) fn resends(&mut self, rt: &impl Abort, now: u64, nonce: u64) -> bool {
-        is_notice(&self.resend(rt, now), nonce)
-    }
-
-    /// At a time no notice is sent again.
-    pub(crate) fn resends_none(&mut self, rt: &impl Abort, now: u64) -> bool {
-        self.resend(rt, now).err() == Some(NoticeFault::NotDue)
-    }
-
-    /// A Map-Notify-Ack ends the notice with its nonce.
-    pub(crate) fn ends(&mut self, rt: &impl Abort, alloc: Global, want: u64) -> bool {
-        match self.receive(&acknowledgement(rt, alloc, want)) {
-            Ok(Took::NoticeDone { router, nonce }) => router == ROUTER && nonce == want,
-            _ => false,
-        }
-    }
-
-    /// A Map-Notify-Ack with this nonce is refused for this reason.
-    pub(crate) fn refuses_ack(
-        &mut self,
-        rt: &impl Abort,
-        alloc: Global,
-        nonce: u64,
-        why: Refused,
-    ) -> bool {
-        self.refuses_bytes(&acknowledgement(rt, alloc, nonce), why)
     }
 }
 
@@ -173,7 +156,31 @@ fn start<A: Allocator + Copy>(rt: &impl Abort, alloc: A) -> Server<A> {
 
 /// The worked site.
 pub(crate) fn sites<A: Allocator + Copy>(rt: &impl Abort, alloc: A) -> Sites<A> {
-    Sites::single(alloc, 1, 1, SECRET, block(rt, WIDE), true).expect(rt, "the site")
+    Sites::single(alloc, 1, KEY, SECRET, block(rt, WIDE), true).expect(rt, "the site")
+}
+
+/// What came of a message with this nonce.
+fn outcome<A: Allocator>(took: &Took<A>, nonce: u64) -> Heard {
+    match took {
+        Took::Accepted { reply, .. } => accepted(reply, nonce),
+        Took::NoticeDone { router, nonce } => Heard::Ended(*router, *nonce),
+    }
+}
+
+/// What came of a Map-Register with this nonce that was accepted.
+fn accepted<A: Allocator>(reply: &Option<Bytes<A>>, nonce: u64) -> Heard {
+    match reply {
+        Some(reply) => answered(reply.as_slice(), nonce),
+        None => Heard::Accepted,
+    }
+}
+
+fn answered(reply: &[u8], nonce: u64) -> Heard {
+    if is_worked_notify(reply, nonce) {
+        Heard::Replied
+    } else {
+        Heard::Accepted
+    }
 }
 
 /// Who answers, for comparison.
@@ -186,10 +193,21 @@ pub(crate) fn who_answers<A: Allocator>(answer: &Answer<'_, A>) -> Who {
     }
 }
 
-/// Whether the worked Map-Notify is sent to the worked router, with this nonce.
-fn is_notice<A: Allocator>(sent: &Result<(Addr, Vec<u8, A>), NoticeFault>, nonce: u64) -> bool {
+/// Whether the worked Map-Notify was sent to the worked router with the wanted nonce, or the wanted fault came.
+fn is_notice<A: Allocator>(
+    sent: &Result<(Addr, Vec<u8, A>), NoticeFault>,
+    want: &Result<u64, NoticeFault>,
+) -> bool {
     match sent {
-        Ok((to, bytes)) => *to == FROM && is_worked_notify(bytes, nonce),
+        Ok((to, bytes)) => *to == FROM && is_wanted(bytes, want),
+        Err(fault) => *want == Err(*fault),
+    }
+}
+
+/// Whether bytes are the worked Map-Notify with the wanted nonce.
+fn is_wanted(bytes: &[u8], want: &Result<u64, NoticeFault>) -> bool {
+    match want {
+        Ok(nonce) => is_worked_notify(bytes, *nonce),
         Err(_) => false,
     }
 }
@@ -204,32 +222,25 @@ fn is_worked_notify(bytes: &[u8], nonce: u64) -> bool {
         && authentic(bytes, SECRET)
 }
 
-/// Whether each row is what its Map-Register brings at time 0.
-fn are_rows<A: Allocator>(rt: &impl Abort, rows: &[Row<A>], want: &[Held<'_>]) -> bool {
-    for (row, (sent, life)) in rows.iter().zip(want) {
-        if !is_row(row, sent, *life) || !has_record(rt, &row.mapping, sent) {
-            return false;
-        }
+/// Whether the only row is that of a Map-Register, and lives so long.
+fn is_alone<A: Allocator>(rt: &impl Abort, rows: &[Row<A>], sent: &Sent, life: u64) -> bool {
+    match rows {
+        [row] => is_row(row, sent.0, life) && has_record(rt, &row.mapping, sent.1.ttl()),
+        _ => false,
     }
-    true
 }
 
-fn is_row<A: Allocator>(row: &Row<A>, sent: &Sent<'_>, life: u64) -> bool {
-    row.router == sent.router()
+fn is_row<A: Allocator>(row: &Row<A>, nonce: u64, life: u64) -> bool {
+    row.router == ROUTER
         && row.from == FROM
-        && row.key == sent.key
-        && row.nonce == sent.nonce
+        && row.key == KEY
+        && row.nonce == nonce
         && row.proxy
         && row.accepted == 0
         && row.life == life
 }
 
-/// Whether this is the one record of a Map-Register.
-fn has_record<A: Allocator>(rt: &impl Abort, record: &MapRecord<A>, sent: &Sent<'_>) -> bool {
-    match sent.records {
-        [(eid, ttl)] => {
-            fields(record) == (*ttl, 0, true, 0, block(rt, *eid), [LOCATOR].as_slice())
-        }
-        _ => false,
-    }
+/// Whether the record is the worked one, but for its TTL.
+fn has_record<A: Allocator>(rt: &impl Abort, record: &MapRecord<A>, ttl: u32) -> bool {
+    fields(record) == (ttl, 0, true, 0, block(rt, WIDE), [LOCATOR].as_slice())
 }

@@ -1,64 +1,19 @@
 //! Tests of Map-Registers: the worked rows of RFC 9301 sections 5.6, 5.7 and 8.2.
 
+use crate::map_server::Heard::{Accepted, Replied};
 use crate::map_server::Who;
-use crate::sent::{FIRST, Sent, WIDE};
-use crate::step::Step::{Accepts, Answers, Arms, Holds, Refuses, RefusesBytes, Replies, Restarts};
+use crate::sent::Form::{
+    Foreign, Merge, Ttl, UnknownKey, UnknownSite, UseTtl, Worked, WrongSecret,
+};
+use crate::step::Step::{Answers, Arms, Counts, Holds, RefusesBytes, Registers, Restarts};
 use crate::step::{Scenario, run_all};
 use lisp_messages::ReadFault;
-use lisp_server::Refused;
+use lisp_server::Refused::{self, Replay, StoreLoad, StoreSave};
 use lisp_store::{Fate, StoreFault};
 
 const MINUTE: u64 = 60_000;
 
 const THREE_MINUTES: u64 = 180_000;
-
-// The worked Map-Register under other nonces.
-const ZERO: Sent<'static> = Sent { nonce: 0, ..FIRST };
-
-const THIRD: Sent<'static> = Sent { nonce: 3, ..FIRST };
-
-const FOURTH: Sent<'static> = Sent { nonce: 4, ..FIRST };
-
-const FIFTH: Sent<'static> = Sent { nonce: 5, ..FIRST };
-
-const LARGEST: Sent<'static> = Sent {
-    nonce: u64::MAX,
-    ..FIRST
-};
-
-/// A later Map-Register, with another record.
-const NEWER: Sent<'static> = Sent {
-    nonce: 2,
-    records: &[(WIDE, 60)],
-    ..FIRST
-};
-
-/// The worked record, and one that the site may not register.
-const FOREIGN: Sent<'static> = Sent {
-    records: &[(WIDE, 1440), (([10, 2, 0, 0], 16), 1440)],
-    ..FIRST
-};
-
-/// Bit T, and a TTL of one minute.
-const SHORT: Sent<'static> = Sent {
-    use_ttl: true,
-    records: &[(WIDE, 1)],
-    ..FIRST
-};
-
-/// Bit T, and the greatest TTL.
-const GREATEST: Sent<'static> = Sent {
-    use_ttl: true,
-    records: &[(WIDE, u32::MAX)],
-    ..FIRST
-};
-
-/// Bit T, and a TTL of 0.
-const WITHDRAWN: Sent<'static> = Sent {
-    use_ttl: true,
-    records: &[(WIDE, 0)],
-    ..FIRST
-};
 
 /// A Map-Notify of no record.
 const NOTIFY: [u8; 32] = [
@@ -68,135 +23,142 @@ const NOTIFY: [u8; 32] = [
     0, 0, 0, 0, 0, 0, 0, 0, 0, 0, 0, 0, 0, 0, 0, 0,
 ];
 
-const SCENARIOS: [Scenario<'static>; 13] = [
+const NONCES: [Scenario<'static>; 4] = [
     (
         "the worked Map-Register is answered and held, and is a replay when it comes again",
         &[
-            Replies(FIRST),
-            Holds(0, &[(FIRST, THREE_MINUTES)]),
-            Refuses(FIRST, Refused::Replay { saved: 1 }),
+            Registers((1, Worked), Ok(Replied)),
+            Holds(0, (1, Worked), THREE_MINUTES),
+            Registers((1, Worked), Err(Replay { saved: 1 })),
         ],
     ),
     (
         "an older Map-Register is a replay, and changes no row",
         &[
-            Accepts(NEWER),
-            Refuses(FIRST, Refused::Replay { saved: 2 }),
-            Holds(0, &[(NEWER, THREE_MINUTES)]),
+            Registers((2, Ttl(60)), Ok(Accepted)),
+            Registers((1, Worked), Err(Replay { saved: 2 })),
+            Holds(0, (2, Ttl(60)), THREE_MINUTES),
         ],
     ),
     (
+        "the largest nonce is the last",
+        &[
+            Registers((u64::MAX, Worked), Ok(Replied)),
+            Registers((1, Worked), Err(Replay { saved: u64::MAX })),
+            Registers((u64::MAX, Worked), Err(Replay { saved: u64::MAX })),
+        ],
+    ),
+    (
+        "nonce 0 is a nonce",
+        &[
+            Registers((0, Worked), Ok(Replied)),
+            Registers((0, Worked), Err(Replay { saved: 0 })),
+        ],
+    ),
+];
+
+#[test]
+fn nonces_rise(rt: HostRuntime) {
+    run_all(&rt, rt.alloc(), &NONCES);
+}
+
+const STORES: [Scenario<'static>; 4] = [
+    (
         "a restart keeps nonces and no rows",
         &[
-            Accepts(THIRD),
+            Registers((3, Worked), Ok(Replied)),
             Restarts(0),
-            Holds(0, &[]),
-            Refuses(THIRD, Refused::Replay { saved: 3 }),
-            Accepts(FOURTH),
+            Counts(0, 0),
+            Registers((3, Worked), Err(Replay { saved: 3 })),
+            Registers((4, Worked), Ok(Replied)),
         ],
     ),
     (
         "a nonce in doubt that was not kept is accepted after a restart",
         &[
-            Accepts(FOURTH),
+            Registers((4, Worked), Ok(Replied)),
             Arms(Fate::Doubt),
-            Refuses(FIFTH, Refused::StoreSave(StoreFault::Device)),
-            Holds(0, &[(FOURTH, THREE_MINUTES)]),
+            Registers((5, Worked), Err(StoreSave(StoreFault::Device))),
+            Holds(0, (4, Worked), THREE_MINUTES),
             Arms(Fate::Done),
             Restarts(0),
-            Accepts(FIFTH),
+            Registers((5, Worked), Ok(Replied)),
         ],
     ),
     (
         "a nonce in doubt that was kept is a replay after a restart",
         &[
-            Accepts(FOURTH),
+            Registers((4, Worked), Ok(Replied)),
             Arms(Fate::Doubt),
-            Refuses(FIFTH, Refused::StoreSave(StoreFault::Device)),
+            Registers((5, Worked), Err(StoreSave(StoreFault::Device))),
             Arms(Fate::Done),
             Restarts(1),
-            Refuses(FIFTH, Refused::Replay { saved: 5 }),
+            Registers((5, Worked), Err(Replay { saved: 5 })),
         ],
     ),
     (
         "a nonce that can't be loaded is refused",
         &[
             Arms(Fate::LoadFails),
-            Refuses(FIRST, Refused::StoreLoad(StoreFault::Device)),
-            Holds(0, &[]),
+            Registers((1, Worked), Err(StoreLoad(StoreFault::Device))),
+            Counts(0, 0),
         ],
     ),
+];
+
+#[test]
+fn nonces_are_kept(rt: HostRuntime) {
+    run_all(&rt, rt.alloc(), &STORES);
+}
+
+const LIVES: [Scenario<'static>; 5] = [
     (
         "a row lives and answers for three minutes",
         &[
-            Accepts(FIRST),
-            Holds(THREE_MINUTES - 1, &[(FIRST, THREE_MINUTES)]),
+            Registers((1, Worked), Ok(Replied)),
+            Holds(THREE_MINUTES - 1, (1, Worked), THREE_MINUTES),
             Answers([10, 1, 2, 3], THREE_MINUTES - 1, Who::Reply(1440)),
-            Holds(THREE_MINUTES, &[]),
+            Counts(THREE_MINUTES, 0),
             Answers([10, 1, 2, 3], THREE_MINUTES, Who::NotRegistered),
         ],
     ),
     (
         "a row with bit T lives for the minutes of its TTL",
         &[
-            Accepts(SHORT),
-            Holds(MINUTE - 1, &[(SHORT, MINUTE)]),
-            Holds(MINUTE, &[]),
+            Registers((1, UseTtl(1)), Ok(Accepted)),
+            Holds(MINUTE - 1, (1, UseTtl(1)), MINUTE),
+            Counts(MINUTE, 0),
         ],
     ),
     (
         "a row of the greatest TTL lives for three minutes",
         &[
-            Accepts(GREATEST),
-            Holds(THREE_MINUTES - 1, &[(GREATEST, THREE_MINUTES)]),
-            Holds(THREE_MINUTES, &[]),
+            Registers((1, UseTtl(u32::MAX)), Ok(Accepted)),
+            Holds(THREE_MINUTES - 1, (1, UseTtl(u32::MAX)), THREE_MINUTES),
+            Counts(THREE_MINUTES, 0),
         ],
     ),
     (
         "a row of TTL 0 is never held",
-        &[Accepts(WITHDRAWN), Holds(0, &[])],
-    ),
-    (
-        "the largest nonce is the last",
-        &[
-            Accepts(LARGEST),
-            Refuses(FIRST, Refused::Replay { saved: u64::MAX }),
-            Refuses(LARGEST, Refused::Replay { saved: u64::MAX }),
-        ],
-    ),
-    (
-        "nonce 0 is a nonce",
-        &[Accepts(ZERO), Refuses(ZERO, Refused::Replay { saved: 0 })],
+        &[Registers((1, UseTtl(0)), Ok(Accepted)), Counts(0, 0)],
     ),
     (
         "what is refused is not held, and spends no nonce",
         &[
             RefusesBytes(&[], Refused::Read(ReadFault::Short)),
             RefusesBytes(&NOTIFY, Refused::NotMine),
-            Refuses(Sent { site: 2, ..FIRST }, Refused::UnknownSite),
-            Refuses(Sent { key: 9, ..FIRST }, Refused::UnknownKey),
-            Refuses(
-                Sent {
-                    secret: b"secreT",
-                    ..FIRST
-                },
-                Refused::BadAuth,
-            ),
-            Refuses(
-                Sent {
-                    merge: true,
-                    ..FIRST
-                },
-                Refused::MergeAsked,
-            ),
-            Refuses(FOREIGN, Refused::NotAllowed(1)),
-            Holds(0, &[]),
-            Accepts(FIRST),
+            Registers((1, UnknownSite), Err(Refused::UnknownSite)),
+            Registers((1, UnknownKey), Err(Refused::UnknownKey)),
+            Registers((1, WrongSecret), Err(Refused::BadAuth)),
+            Registers((1, Merge), Err(Refused::MergeAsked)),
+            Registers((1, Foreign), Err(Refused::NotAllowed(1))),
+            Counts(0, 0),
+            Registers((1, Worked), Ok(Replied)),
         ],
     ),
 ];
 
 #[test]
-fn map_registers(rt: HostRuntime) {
-    run_all(&rt, rt.alloc(), &SCENARIOS);
+fn rows_live_and_refusals_change_none(rt: HostRuntime) {
+    run_all(&rt, rt.alloc(), &LIVES);
 }

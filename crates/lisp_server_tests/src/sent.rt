@@ -5,7 +5,7 @@ ghost use Rattle.std.specs.Prelude.{◌<◌, length};
 use lisp_messages::{MapNotify, MapRegister, write_notify, write_register};
 use lisp_records::{Addr, MapRecord, Prefix, Records, RouterId};
 use lisp_samples::{LOCATOR, SECRET};
-use std::alloc::{Allocator, Global};
+use std::alloc::Global;
 use std::process::Abort;
 
 /// An EID-Prefix: an IPv4 address and the length of its mask.
@@ -14,65 +14,112 @@ pub(crate) type Eid = ([u8; 4], u8);
 /// The prefix of the worked site and of the worked record.
 pub(crate) const WIDE: Eid = ([10, 1, 0, 0], 16);
 
+/// A prefix that the worked site may not register.
+const FOREIGN: Eid = ([10, 2, 0, 0], 16);
+
+/// The TTL of the worked record, in minutes.
+const TTL: u32 = 1440;
+
+/// The Key ID of the worked site.
+pub(crate) const KEY: u8 = 1;
+
+/// The last byte of the worked router's xTR-ID.
+const XTR_END: u8 = 0x0a;
+
 /// The worked router, r1.
 pub(crate) const ROUTER: RouterId = RouterId {
     site: 1,
-    xtr: [0, 0, 0, 0, 0, 0, 0, 0, 0, 0, 0, 0, 0, 0, 0, 0x0a],
+    xtr: [0, 0, 0, 0, 0, 0, 0, 0, 0, 0, 0, 0, 0, 0, 0, XTR_END],
 };
 
 /// Where it sends from.
 pub(crate) const FROM: Addr = Addr::V4([127, 0, 0, 21]);
 
-/// A Map-Register that asks for a Map-Notify and for proxy replies: each record by its EID-Prefix and its
-/// TTL, all with the worked locator.
+/// A Map-Register that asks for a Map-Notify and for proxy replies: its nonce, and the rest.
+pub(crate) type Sent = (u64, Form);
+
+/// How a Map-Register differs from the worked one, but for its nonce.
 #[derive(Clone, Copy)]
-pub(crate) struct Sent<'a> {
-    pub(crate) site: u64,
-    pub(crate) xtr_end: u8,
-    pub(crate) key: u8,
-    pub(crate) secret: &'a [u8],
-    pub(crate) nonce: u64,
-    pub(crate) records: &'a [(Eid, u32)],
-    pub(crate) use_ttl: bool,
-    pub(crate) merge: bool,
+pub(crate) enum Form {
+    Worked,
+    /// The TTL of its record.
+    Ttl(u32),
+    /// Bit T, and the TTL of its record.
+    UseTtl(u32),
+    /// Behind the worked record one that the site may not register.
+    Foreign,
+    /// Records of 10.1.x.0/24, from one x to another.
+    Numbered(u8, u8),
+    Merge,
+    /// From another router of the site, whose xTR-ID ends so.
+    Router(u8),
+    UnknownSite,
+    UnknownKey,
+    WrongSecret,
 }
 
-/// The worked Map-Register.
-pub(crate) const FIRST: Sent<'static> = Sent {
-    site: 1,
-    xtr_end: 0x0a,
-    key: 1,
-    secret: SECRET,
-    nonce: 1,
-    records: &[(WIDE, 1440)],
-    use_ttl: false,
-    merge: false,
-};
-
-impl Sent<'_> {
-    /// The router that sends it.
-    pub(crate) fn router(&self) -> RouterId {
-        router(self.site, self.xtr_end)
+impl Form {
+    /// The TTL of its first record.
+    pub(crate) fn ttl(&self) -> u32 {
+        match self {
+            Form::Ttl(ttl) | Form::UseTtl(ttl) => *ttl,
+            _ => TTL,
+        }
     }
 
-    /// Its bytes, authentic under its secret.
-    pub(crate) fn written(&self, rt: &impl Abort, alloc: Global) -> Vec<u8> {
-        let RouterId { site, xtr } = self.router();
-        let register = MapRegister {
-            proxy: true,
-            sec: false,
-            eid_notify: false,
-            use_ttl: self.use_ttl,
-            merge: self.merge,
-            want_notify: true,
-            nonce: self.nonce,
-            key_id: self.key,
-            records: records(rt, alloc, self.records),
-            xtr,
-            site,
+    /// The Site-ID, the last byte of the xTR-ID, the Key ID and the secret.
+    fn sender(&self) -> (u64, u8, u8, &'static [u8]) {
+        match self {
+            Form::Router(xtr_end) => (1, *xtr_end, KEY, SECRET),
+            Form::UnknownSite => (2, XTR_END, KEY, SECRET),
+            Form::UnknownKey => (1, XTR_END, 9, SECRET),
+            Form::WrongSecret => (1, XTR_END, KEY, b"secreT"),
+            _ => (1, XTR_END, KEY, SECRET),
+        }
+    }
+
+    fn records(&self, rt: &impl Abort, alloc: Global) -> Records
+        ensures { length result < 256 }
+    {
+        let records = match self {
+            Form::Numbered(first, last) => numbered(rt, alloc, *first, *last),
+            Form::Foreign => of_ttl(rt, alloc, &[WIDE, FOREIGN], TTL),
+            _ => of_ttl(rt, alloc, &[WIDE], self.ttl()),
         };
-        write_register(alloc, &register, self.secret).expect(rt, "the Map-Register")
+        assert!(rt; records.len() < 256);
+        Records::from_vec(records)
     }
+}
+
+/// The bytes of a Map-Register, authentic under its secret.
+pub(crate) fn map_register(rt: &impl Abort, alloc: Global, sent: &Sent) -> Vec<u8> {
+    let (nonce, form) = sent;
+    let (site, xtr_end, key_id, secret) = form.sender();
+    let register = MapRegister {
+        proxy: true,
+        sec: false,
+        eid_notify: false,
+        use_ttl: matches!(form, Form::UseTtl(_)),
+        merge: matches!(form, Form::Merge),
+        want_notify: true,
+        nonce: *nonce,
+        key_id,
+        records: form.records(rt, alloc),
+        xtr: router(site, xtr_end).xtr,
+        site,
+    };
+    write_register(alloc, &register, secret).expect(rt, "the Map-Register")
+}
+
+/// The bytes of a Map-Notify-Ack with a nonce and the worked record.
+pub(crate) fn acknowledgement(rt: &impl Abort, alloc: Global, nonce: u64) -> Vec<u8> {
+    let ack = MapNotify {
+        ack: true,
+        nonce,
+        key_id: KEY,
+        records: Form::Worked.records(rt, alloc),
+    };
+    write_notify(alloc, &ack, SECRET).expect(rt, "the Map-Notify-Ack")
 }
 
 /// A router, by its Site-ID and the last byte of its xTR-ID.
@@ -83,32 +130,26 @@ pub(crate) fn router(site: u64, xtr_end: u8) -> RouterId {
     }
 }
 
-/// The bytes of a Map-Notify-Ack with a nonce and the worked record.
-pub(crate) fn acknowledgement(rt: &impl Abort, alloc: Global, nonce: u64) -> Vec<u8> {
-    let ack = MapNotify {
-        ack: true,
-        nonce,
-        key_id: FIRST.key,
-        records: records(rt, alloc, FIRST.records),
-    };
-    write_notify(alloc, &ack, SECRET).expect(rt, "the Map-Notify-Ack")
+fn numbered(rt: &impl Abort, alloc: Global, first: u8, last: u8) -> Vec<MapRecord> {
+    let mut records = Vec::new(alloc);
+    for third in first..=last {
+        let record = record(rt, alloc, ([10, 1, third, 0], 24), TTL);
+        records.push(record).expect(rt, "a record");
+    }
+    records
 }
 
-fn records(rt: &impl Abort, alloc: Global, sent: &[(Eid, u32)]) -> Records
-    ensures { length result < 256 }
-{
+fn of_ttl(rt: &impl Abort, alloc: Global, eids: &[Eid], ttl: u32) -> Vec<MapRecord> {
     let mut records = Vec::new(alloc);
-    for (eid, ttl) in sent {
-        records
-            .push(record(rt, alloc, *eid, *ttl))
-            .expect(rt, "a record");
+    for eid in eids {
+        let record = record(rt, alloc, *eid, ttl);
+        records.push(record).expect(rt, "a record");
     }
-    assert!(rt; records.len() < 256);
-    Records::from_vec(records)
+    records
 }
 
 /// A record of a prefix, otherwise as the worked one.
-pub(crate) fn record<A: Allocator>(rt: &impl Abort, alloc: A, eid: Eid, ttl: u32) -> MapRecord<A> {
+pub(crate) fn record(rt: &impl Abort, alloc: Global, eid: Eid, ttl: u32) -> MapRecord {
     let locators = Vec::from_slice(alloc, &[LOCATOR]).expect(rt, "the locator");
     MapRecord::new(ttl, 0, true, 0, block(rt, eid), locators).expect(rt, "a field is too large")
 }

@@ -7,7 +7,8 @@ use Rattle.toml.specs.View.{view, items_view}
 use Rattle.toml.specs.declared.value.Value.{Value}
 use Rattle.lisp_sites.specs.declared.fault.ConfigFault.{ConfigFault}
 use Rattle.lisp_sites.specs.declared.fault.ConfigFault.TheVariants.{Toml, Missing, BadValue, Repeated, OutOfMemory}
-use Rattle.lisp_sites.specs.Table.{◌>>=◌, Fails, each}
+use Rattle.lisp_records.specs.Result.{◌>>=◌}
+use Rattle.lisp_sites.specs.Table.{Fails, each}
 
 -- a fault of a part is the fault of the whole, where each is passed on
 pub Fails-passed : {X Y : Type 0} (e : ConfigFault) (part : Result X ConfigFault) (whole : Result Y ConfigFault) → ((f : ConfigFault) → part ≡ Err f → whole ≡ Err f) → Fails e part → Fails e whole

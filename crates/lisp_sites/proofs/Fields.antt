@@ -7,7 +7,7 @@ use Rattle.lisp_sites.specs.declared.fault.ConfigFault.{ConfigFault}
 use Rattle.lisp_sites.specs.declared.fault.ConfigFault.TheVariants.{Missing, BadValue}
 use Rattle.lisp_texts.specs.Reading.{◌>>=◌}
 use Rattle.lisp_sites.specs.Form.{text_as}
-use Rattle.lisp_sites.specs.Table.{required, field_at, field}
+use Rattle.lisp_sites.specs.Table.{required_at, required}
 
 same_fault : {X Y : Type 0} (a e : ConfigFault) → ◌≡◌ {A = Result X ConfigFault} (Err a) (Err e) → ◌≡◌ {A = Result Y ConfigFault} (Err a) (Err e)
 same_fault a e h = let same : a ≡ e = cc in ap Err same
@@ -16,10 +16,10 @@ no_text_in : {X : Type 0} (name : Field) (form : List ℕ → Option X) (e : Con
 no_text_in {X} name form e None h = same_fault {X = List ℕ} {Y = X} (BadValue name) e h
 no_text_in name form e (Some t) h = absurd (let clash : ◌≡◌ {A = Result (List ℕ) ConfigFault} (Ok t) (Err e) = h in cc)
 
-no_text_at : {X : Type 0} (name : Field) (key : List ℕ) (form : List ℕ → Option X) (e : ConfigFault) (found : Option Data) → field_at (required name key as_str) found ≡ Err e → field_at (required name key (text_as form)) found ≡ Err e
-no_text_at {X} name key form e None h = same_fault {X = List ℕ} {Y = X} (Missing name) e h
-no_text_at name key form e (Some v) h = no_text_in name form e (as_str v) h
+no_text_at : {X : Type 0} (name : Field) (form : List ℕ → Option X) (e : ConfigFault) (found : Option Data) → required_at name as_str found ≡ Err e → required_at name (text_as form) found ≡ Err e
+no_text_at {X} name form e None h = same_fault {X = List ℕ} {Y = X} (Missing name) e h
+no_text_at name form e (Some v) h = no_text_in name form e (as_str v) h
 
 -- where a field is no text, it has no form that a text may have
-pub no_text : {X : Type 0} (name : Field) (key : List ℕ) (form : List ℕ → Option X) (e : ConfigFault) (d : Data) → field (required name key as_str) d ≡ Err e → field (required name key (text_as form)) d ≡ Err e
-no_text name key form e d h = no_text_at name key form e (get key d) h
+pub no_text : {X : Type 0} (name : Field) (key : List ℕ) (form : List ℕ → Option X) (e : ConfigFault) (d : Data) → required name key as_str d ≡ Err e → required name key (text_as form) d ≡ Err e
+no_text name key form e d h = no_text_at name form e (get key d) h

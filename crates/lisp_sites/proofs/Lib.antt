@@ -1,4 +1,11 @@
 pub mod Allowed
+pub mod ConfigLaws
 pub mod Each
 pub mod Fields
-pub mod PlaceLaws
+pub mod Forms
+pub mod Names
+pub mod NodeLaws
+pub mod Readings
+pub mod RouterParts
+pub mod SiteLaws
+pub mod TextFits

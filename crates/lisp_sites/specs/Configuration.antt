@@ -1,10 +1,15 @@
--- What a configuration says: the sites, and the nodes that serve and register them.
-use Rattle.std.specs.Prelude.{ℕ, ◌<◌, Bool, List, length}
-use Rattle.std.specs.List.{AllByRecursion}
+-- What a configuration says: the sites, and the nodes that serve and register them; and what is true
+-- of each configuration that was read.
+use Rattle.std.specs.Prelude.{◌≡◌, ◌≢◌, ℕ, ◌^◌, ◌<◌, ◌≤◌, Bool, true, List, ◌++◌, length, map, IsSomeAnd, Ok}
+use Rattle.std.specs.List.{AllByRecursion, AllPairs}
 use Rattle.lisp_records.specs.declared.address.Addr.{Addr}
 use Rattle.lisp_records.specs.declared.router.RouterId.{RouterId}
-use Rattle.lisp_records.specs.Record.{Mapping}
-use Rattle.lisp_sites.specs.Site.{SiteEntry}
+use Rattle.lisp_records.specs.Address.{IsBlock, IsWhole}
+use Rattle.lisp_records.specs.Record.{Mapping, IsMapping}
+use Rattle.lisp_records.specs.Database.{database_of}
+use Rattle.lisp_sites.specs.declared.site.SitePrefix.{SitePrefix}
+use Rattle.lisp_sites.specs.Form.{is_name}
+use Rattle.lisp_sites.specs.Site.{KeyEntry, SiteEntry, site_of, has_key}
 
 -- a Map-Server
 pub record Server : Type 0 where
@@ -23,15 +28,62 @@ pub record Router : Type 0 where
   pub use_ttl : Bool
   pub database : List Mapping
 
--- it registers with servers of the list, by their places there
-abbrev pub HasServers : List Server → Router → Type 0
-HasServers servers r = AllByRecursion (λ place. place < length servers) r.servers
-
 pub record Configuration : Type 0 where
   pub sites : List SiteEntry
   pub servers : List Server
   pub routers : List Router
 
--- each router registers with servers of the configuration
-abbrev pub NamesServers : Configuration → Type 0
-NamesServers c = AllByRecursion (HasServers c.servers) c.routers
+-- a key: a Key ID of one byte, and a secret of 1 to 256 bytes
+pub record IsKey (k : KeyEntry) : Type 0 where
+  pub id : k.id < 256
+  pub some : 1 ≤ length k.secret
+  pub few : length k.secret ≤ 256
+  pub bytes : AllByRecursion (λ n. n < 256) k.secret
+
+-- a prefix of a site: a whole address, with no bit set past the mask
+pub record IsSitePrefix (p : SitePrefix) : Type 0 where
+  pub whole : IsWhole p.eid.addr
+  pub block : IsBlock p.eid
+
+-- a site: a Site-ID of 64 bits; keys, no two of one Key ID; prefixes, no two alike
+pub record IsSite (s : SiteEntry) : Type 0 where
+  pub id : s.id < 2 ^ 64
+  pub keys : AllByRecursion IsKey s.keys
+  pub key_ids : AllPairs (λ a b. a.id ≢ b.id) s.keys
+  pub prefixes : AllByRecursion IsSitePrefix s.prefixes
+  pub eids : AllPairs (λ a b. a.eid ≢ b.eid) s.prefixes
+
+-- a Map-Server: a name, and a whole address
+pub record IsServer (s : Server) : Type 0 where
+  pub name : is_name s.name ≡ true
+  pub address : IsWhole s.address
+
+-- a router registers with Map-Servers of the list, by their places there, and with none twice
+pub record HasServers (servers : List Server) (r : Router) : Type 0 where
+  pub there : AllByRecursion (λ place. place < length servers) r.servers
+  pub once : AllPairs (λ a b. a ≢ b) r.servers
+
+-- a router: a name, a whole address, an xTR-ID of 16 bytes; a key of its site, which is there; its
+-- Map-Servers; and records that fit the format and make a database
+pub record IsRouter (c : Configuration) (r : Router) : Type 0 where
+  pub name : is_name r.name ≡ true
+  pub address : IsWhole r.address
+  pub xtr : length r.me.xtr ≡ 16
+  pub xtr_bytes : AllByRecursion (λ n. n < 256) r.me.xtr
+  pub key_id : r.key_id < 256
+  pub key : IsSomeAnd (site_of c.sites r.me.site) (λ s. has_key s.keys r.key_id ≡ true)
+  pub servers : HasServers c.servers r
+  pub records : AllByRecursion IsMapping r.database
+  pub database : database_of r.database ≡ Ok r.database
+
+-- the names of all nodes: those of Map-Servers, then those of routers
+abbrev pub names : Configuration → List (List ℕ)
+names c = map (λ s. s.name) c.servers ++ map (λ r. r.name) c.routers
+
+-- what each configuration is that was read: no two sites of one Site-ID, no two nodes of one name
+pub record IsConfiguration (c : Configuration) : Type 0 where
+  pub sites : AllByRecursion IsSite c.sites
+  pub site_ids : AllPairs (λ a b. a.id ≢ b.id) c.sites
+  pub servers : AllByRecursion IsServer c.servers
+  pub routers : AllByRecursion (IsRouter c) c.routers
+  pub names : AllPairs (λ a b. a ≢ b) (names c)

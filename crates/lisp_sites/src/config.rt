@@ -3,7 +3,7 @@
 ghost use Rattle.std.specs.Prelude.{◌≡◌};
 ghost use Rattle.toml.specs.Parse.{parse_document};
 ghost use Rattle.toml.specs.View.{view};
-ghost use Rattle.lisp_sites.specs.Configuration.{NamesServers};
+ghost use Rattle.lisp_sites.specs.Configuration.{IsConfiguration};
 ghost use Rattle.lisp_sites.specs.Table.{Gives, document_of, configuration_of, config_of};
 
 use crate::fault::ConfigFault;
@@ -15,7 +15,13 @@ use std::alloc::{Allocator, Global};
 use std::marker::Model;
 use toml::Value;
 
-/// What a configuration file says.
+/// What a configuration file says: the sites, the Map-Servers and the site routers.
+///
+/// - No two sites have the same Site-ID; within a site no two keys have the same Key ID, and no two
+///   prefixes are alike. A secret has 1 to 256 bytes.
+/// - No two nodes, Map-Servers or routers, have the same name.
+/// - A router is of a site that is there, and uses one of its keys. It registers with Map-Servers that
+///   are there, with none of them twice. Its records make a database.
 #[derive(Debug, Drop)]
 pub struct Config<A: Allocator = Global> {
     sites: Sites<A>,
@@ -24,13 +30,13 @@ pub struct Config<A: Allocator = Global> {
 }
 
 impl<A: Allocator> Model for Config<A> {
-    ghost use Rattle.lisp_sites.specs.Configuration.{Configuration, NamesServers};
+    ghost use Rattle.lisp_sites.specs.Configuration.{Configuration, IsConfiguration};
 
     ghost Value = { Configuration };
 
     ghost view = { λ c. record { sites = c.sites; servers = c.servers.items; routers = c.routers.items } };
 
-    ghost invariant = { λ c. NamesServers (record { sites = c.sites; servers = c.servers.items; routers = c.routers.items }) };
+    ghost invariant = { λ c. IsConfiguration (record { sites = c.sites; servers = c.servers.items; routers = c.routers.items }) };
 }
 
 impl<A: Allocator> Config<A> {
@@ -51,7 +57,9 @@ impl<A: Allocator> Config<A> {
     /// The site routers, in the order of the file; each names Map-Servers by their places there.
     pub fn routers(&self) -> &[RouterEntry<A>]
         ensures routers { result.now ≡ self.now.routers }
-        ensures named { NamesServers self.now }
+
+        // What the type promises of every configuration.
+        ensures configuration { IsConfiguration self.now }
     {
         &self.routers
     }
@@ -62,7 +70,8 @@ impl<A: Allocator + Copy> Config<A> {
     /// alone. The first fault found is the answer: `Toml` if the text is not valid TOML; then sites,
     /// Map-Servers and routers, each entry field by field in the order of [`Field`](crate::Field):
     /// `Missing` for an absent field without a default, `BadValue` for a value of another type or
-    /// form, out of its range, or naming what isn't there, `Repeated` where no two may be alike.
+    /// form, out of its range, or naming what isn't there, `Repeated` where no two may be alike. So
+    /// what is read keeps what [`Config`] promises.
     pub fn from_toml(heap: Global, alloc: A, text: &str) -> Result<Config<A>, ConfigFault>
         ensures { Gives (λ c. c) result (config_of (parse_document text.now)) }
     {
@@ -82,7 +91,7 @@ fn read_document(heap: Global, text: &str) -> Result<Value, ConfigFault>
     }
 }
 
-#[tactic(auto, unfolding(crate::specs::Table::configuration_of), using(crate::proofs::PlaceLaws::routers_name_servers))]
+#[tactic(auto, unfolding(crate::specs::Table::configuration_of))]
 fn read_configuration<A: Allocator + Copy>(
     alloc: A,
     document: &Value,

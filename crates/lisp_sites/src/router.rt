@@ -2,7 +2,8 @@
 
 ghost use Rattle.std.specs.Prelude.{◌≡◌, []};
 ghost use Rattle.toml.specs.View.{view, items_view};
-ghost use Rattle.lisp_sites.specs.Table.{Gives, Reads, field, each, has_router, fresh_router_name, router_node, router_site, router_key, router_identity, place_of, place_at, places_of, router_flags, record_at, as_database, database_at, router_at, routers_of};
+ghost use Rattle.lisp_records.specs.Result.{Reads};
+ghost use Rattle.lisp_sites.specs.Table.{Gives, each, has_router, fresh_router_name, router_node, router_site, router_key, router_identity, place_of, place_at, places_of, router_flags, record_at, as_database, database_at, router_at, routers_of};
 
 use crate::fault::ConfigFault;
 use crate::field::Field;
@@ -165,7 +166,7 @@ fn read_site<'a, A: Allocator>(
     entry: &Value,
     sites: &'a Sites<A>,
 ) -> Result<&'a Site<A>, ConfigFault>
-    ensures { Reads (λ s. s.now) result (field (router_site sites.now) (view entry.now)) }
+    ensures { Reads (λ s. s.now) result (router_site sites.now (view entry.now)) }
 {
     let id = site_id(entry, "site", Field::RouterSite)?;
     sites
@@ -174,7 +175,7 @@ fn read_site<'a, A: Allocator>(
 }
 
 fn read_key<A: Allocator>(entry: &Value, site: &Site<A>) -> Result<u8, ConfigFault>
-    ensures { result ≡ field (router_key site.now) (view entry.now) }
+    ensures { result ≡ router_key site.now (view entry.now) }
 {
     let id = byte(entry, "key", Field::RouterKey)?;
     if !has_key(&site.keys, id) {

@@ -2,7 +2,8 @@
 
 ghost use Rattle.std.specs.Prelude.{◌≡◌, []};
 ghost use Rattle.toml.specs.View.{view, items_view};
-ghost use Rattle.lisp_sites.specs.Table.{Gives, Reads, each, has_server, server_place, fresh_server_name, server_at, servers_of};
+ghost use Rattle.lisp_records.specs.Result.{Reads};
+ghost use Rattle.lisp_sites.specs.Table.{Gives, each, has_server, server_place, fresh_server_name, server_at, servers_of};
 
 use crate::fault::ConfigFault;
 use crate::field::Field;

@@ -7,7 +7,8 @@ ghost use Rattle.toml.specs.View.{view, items_view};
 ghost use Rattle.lisp_texts.specs.Reading.{address_of, prefix_of};
 ghost use Rattle.lisp_texts.specs.Form.{site_id_of, xtr_of, secret_text_of};
 ghost use Rattle.lisp_sites.specs.Form.{name_of, text_as, byte_as};
-ghost use Rattle.lisp_sites.specs.Table.{Gives, Reads, required, optional, field, items, as_entry};
+ghost use Rattle.lisp_records.specs.Result.{Reads};
+ghost use Rattle.lisp_sites.specs.Table.{Gives, required, optional, items, as_entry};
 ghost use Rattle.lisp_sites.specs.declared.fault.ConfigFault.TheVariants.{BadValue};
 
 use crate::fault::ConfigFault;
@@ -40,7 +41,7 @@ pub(crate) fn array<'a>(
     key: &str,
     name: Field,
 ) -> Result<&'a [Value], ConfigFault>
-    ensures { Reads (λ vs. items_view vs.now) result (field (required name key.now as_array) (view entry.now)) }
+    ensures { Reads (λ vs. items_view vs.now) result (required name key.now as_array (view entry.now)) }
 {
     match entry.get(key) {
         None => Err(ConfigFault::Missing(name)),
@@ -71,7 +72,7 @@ pub(crate) fn check_table(entry: &Value, name: Field) -> Result<(), ConfigFault>
 
 // A text that has to be there.
 fn text<'a>(entry: &'a Value, key: &str, name: Field) -> Result<&'a str, ConfigFault>
-    ensures { Reads (λ t. t.now) result (field (required name key.now as_str) (view entry.now)) }
+    ensures { Reads (λ t. t.now) result (required name key.now as_str (view entry.now)) }
 {
     match entry.get(key) {
         None => Err(ConfigFault::Missing(name)),
@@ -81,35 +82,35 @@ fn text<'a>(entry: &'a Value, key: &str, name: Field) -> Result<&'a str, ConfigF
 
 /// A Site-ID.
 pub(crate) fn site_id(entry: &Value, key: &str, name: Field) -> Result<u64, ConfigFault>
-    ensures { result ≡ field (required name key.now (text_as site_id_of)) (view entry.now) }
+    ensures { result ≡ required name key.now (text_as site_id_of) (view entry.now) }
 {
     site_id_from_text(text(entry, key, name)?).ok_or(ConfigFault::BadValue(name))
 }
 
 /// An xTR-ID.
 pub(crate) fn xtr(entry: &Value, key: &str, name: Field) -> Result<[u8; 16], ConfigFault>
-    ensures { result ≡ field (required name key.now (text_as xtr_of)) (view entry.now) }
+    ensures { result ≡ required name key.now (text_as xtr_of) (view entry.now) }
 {
     xtr_from_text(text(entry, key, name)?).ok_or(ConfigFault::BadValue(name))
 }
 
 /// An address.
 pub(crate) fn address(entry: &Value, key: &str, name: Field) -> Result<Addr, ConfigFault>
-    ensures { result ≡ field (required name key.now (text_as address_of)) (view entry.now) }
+    ensures { result ≡ required name key.now (text_as address_of) (view entry.now) }
 {
     addr_from_text(text(entry, key, name)?).ok_or(ConfigFault::BadValue(name))
 }
 
 /// A prefix.
 pub(crate) fn prefix(entry: &Value, key: &str, name: Field) -> Result<Prefix, ConfigFault>
-    ensures { result ≡ field (required name key.now (text_as prefix_of)) (view entry.now) }
+    ensures { result ≡ required name key.now (text_as prefix_of) (view entry.now) }
 {
     prefix_from_text(text(entry, key, name)?).ok_or(ConfigFault::BadValue(name))
 }
 
 /// A whole number from 0 to 255.
 pub(crate) fn byte(entry: &Value, key: &str, name: Field) -> Result<u8, ConfigFault>
-    ensures { result ≡ field (required name key.now byte_as) (view entry.now) }
+    ensures { result ≡ required name key.now byte_as (view entry.now) }
 {
     match entry.get(key) {
         None => Err(ConfigFault::Missing(name)),
@@ -122,7 +123,7 @@ pub(crate) fn byte(entry: &Value, key: &str, name: Field) -> Result<u8, ConfigFa
 
 /// A boolean, false if it is absent.
 pub(crate) fn flag(entry: &Value, key: &str, name: Field) -> Result<bool, ConfigFault>
-    ensures { result ≡ field (optional name key.now as_bool false) (view entry.now) }
+    ensures { result ≡ optional name key.now as_bool false (view entry.now) }
 {
     match entry.get(key) {
         None => Ok(false),
@@ -137,7 +138,7 @@ pub(crate) fn secret<A: Allocator>(
     key: &str,
     name: Field,
 ) -> Result<Bytes<A>, ConfigFault>
-    ensures { Gives (λ b. b) result (field (required name key.now (text_as secret_text_of)) (view entry.now)) }
+    ensures { Gives (λ b. b) result (required name key.now (text_as secret_text_of) (view entry.now)) }
 {
     match secret_from_text(alloc, text(entry, key, name)?)? {
         Some(secret) => Ok(secret),
@@ -147,7 +148,7 @@ pub(crate) fn secret<A: Allocator>(
 
 /// The text of a node's name.
 pub(crate) fn name<'a>(entry: &'a Value, key: &str, name: Field) -> Result<&'a str, ConfigFault>
-    ensures { Reads (λ t. t.now) result (field (required name key.now (text_as name_of)) (view entry.now)) }
+    ensures { Reads (λ t. t.now) result (required name key.now (text_as name_of) (view entry.now)) }
 {
     let text = text(entry, key, name)?;
     if is_name(text) {

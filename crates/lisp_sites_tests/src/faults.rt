@@ -6,11 +6,12 @@ use lisp_sites::{Config, Field};
 use std::alloc::Global;
 use std::process::Abort;
 
-/// Parts of the worked configuration, what stands in their place, and the fault then, in the order
-/// of the fields.
-const FAULTS: [(&str, &str, ConfigFault); 52] = [
+/// A part of the worked configuration, what stands in its place, and the fault then.
+type Edit = (&'static str, &'static str, ConfigFault);
+
+/// Of sites, in the order of the fields.
+const SITES: [Edit; 17] = [
     ("[[site]]", "[[site]", Toml),
-    // Sites.
     (r#"id = "0000000000000001""#, "", Missing(Field::SiteId)),
     (
         r#"id = "0000000000000001""#,
@@ -61,7 +62,10 @@ const FAULTS: [(&str, &str, ConfigFault); 52] = [
         Repeated(Field::SitePrefixEid),
     ),
     ("= true", "= 1", BadValue(Field::SitePrefixMoreSpecifics)),
-    // Map-Servers.
+];
+
+/// Of Map-Servers, in the order of the fields.
+const SERVERS: [Edit; 7] = [
     (r#"name = "s1""#, "", Missing(Field::ServerName)),
     (
         r#"name = "s1""#,
@@ -90,7 +94,10 @@ const FAULTS: [(&str, &str, ConfigFault); 52] = [
         Missing(Field::ServerAddress),
     ),
     ("127.0.0.11", "localhost", BadValue(Field::ServerAddress)),
-    // Routers.
+];
+
+/// Of routers, in the order of the fields.
+const ROUTERS: [Edit; 20] = [
     (r#"name = "r1""#, "", Missing(Field::RouterName)),
     (r#"name = "r1""#, "name = 1", BadValue(Field::RouterName)),
     (
@@ -160,7 +167,11 @@ const FAULTS: [(&str, &str, ConfigFault); 52] = [
         r#"["10.1.0.0/16=1", "10.1.0.0/16=2"]"#,
         BadValue(Field::RouterRecords),
     ),
-    // Of two faults the first is told: entries one after the other.
+];
+
+/// Of two faults, of which the first is told.
+const ORDER: [Edit; 8] = [
+    // Entries one after the other.
     (
         "192.0.2.1\"]\n[[router]]\nname = \"r2\"",
         "\"]\n[[router]]",
@@ -202,10 +213,23 @@ const FAULTS: [(&str, &str, ConfigFault); 52] = [
 ];
 
 #[test]
+fn faults_of_sites(rt: HostRuntime) {
+    assert_faults(&rt, rt.alloc(), &SITES);
+}
+
+#[test]
+fn faults_of_servers(rt: HostRuntime) {
+    assert_faults(&rt, rt.alloc(), &SERVERS);
+}
+
+#[test]
+fn faults_of_routers(rt: HostRuntime) {
+    assert_faults(&rt, rt.alloc(), &ROUTERS);
+}
+
+#[test]
 fn the_first_fault_is_told(rt: HostRuntime) {
-    for (old, new, fault) in &FAULTS {
-        assert_edited(&rt, rt.alloc(), old, new, Some(*fault));
-    }
+    assert_faults(&rt, rt.alloc(), &ORDER);
 }
 
 /// Parts of the worked configuration, and what may stand in their place.
@@ -235,9 +259,7 @@ const GOOD: [(&str, &str); 8] = [
 
 #[test]
 fn what_means_nothing_or_has_a_default_is_no_fault(rt: HostRuntime) {
-    for (old, new) in &GOOD {
-        assert_edited(&rt, rt.alloc(), old, new, None);
-    }
+    assert_good(&rt, rt.alloc(), &GOOD);
 }
 
 /// Whole texts, and their faults.
@@ -267,8 +289,24 @@ const TEXTS: [(&str, Option<ConfigFault>); 10] = [
 
 #[test]
 fn a_text_has_its_first_fault(rt: HostRuntime) {
-    for (text, wanted) in &TEXTS {
-        assert_text(&rt, rt.alloc(), text, *wanted);
+    assert_texts(&rt, rt.alloc(), &TEXTS);
+}
+
+fn assert_faults(rt: &impl Abort, alloc: Global, edits: &[Edit]) {
+    for (old, new, fault) in edits {
+        assert_edited(rt, alloc, old, new, Some(*fault));
+    }
+}
+
+fn assert_good(rt: &impl Abort, alloc: Global, edits: &[(&str, &str)]) {
+    for (old, new) in edits {
+        assert_edited(rt, alloc, old, new, None);
+    }
+}
+
+fn assert_texts(rt: &impl Abort, alloc: Global, texts: &[(&str, Option<ConfigFault>)]) {
+    for (text, wanted) in texts {
+        assert_text(rt, alloc, text, *wanted);
     }
 }
 

@@ -6,8 +6,10 @@ use lisp_sites::Sites;
 use std::alloc::{AllocError, Allocator, Global};
 use std::process::Abort;
 
-/// Whether the worked site has more-specifics, prefixes, and whether it allows them then.
-const ROWS: [(bool, [u8; 4], u8, bool); 6] = [
+/// Whether the worked site has more-specifics, a prefix, and whether the site allows it then.
+type Row = (bool, [u8; 4], u8, bool);
+
+const ROWS: [Row; 6] = [
     (true, [10, 1, 0, 0], 16, true),
     (true, [10, 1, 2, 0], 24, true),
     (true, [10, 0, 0, 0], 8, false),
@@ -18,28 +20,22 @@ const ROWS: [(bool, [u8; 4], u8, bool); 6] = [
 
 #[test]
 fn a_site_allows_its_prefix_and_perhaps_more_specifics(rt: HostRuntime) {
-    for (more_specifics, octets, mask_len, is_allowed) in &ROWS {
-        let prefix = block(&rt, *octets, *mask_len);
-        assert_allows(&rt, rt.alloc(), *more_specifics, &prefix, *is_allowed);
+    assert_rows(&rt, rt.alloc(), &ROWS);
+}
+
+fn assert_rows(rt: &impl Abort, alloc: Global, rows: &[Row]) {
+    for (place, row) in rows.iter().enumerate() {
+        assert!(rt; holds(rt, alloc, row), "row {place}");
     }
 }
 
-/// Stops the test unless the worked site, with more-specifics or without, allows the prefix or
-/// doesn't.
-fn assert_allows(
-    rt: &impl Abort,
-    alloc: Global,
-    more_specifics: bool,
-    prefix: &Prefix,
-    is_allowed: bool,
-) {
+fn holds(rt: &impl Abort, alloc: Global, row: &Row) -> bool {
+    let (more_specifics, octets, mask_len, is_allowed) = *row;
     let sites = worked_sites(rt, alloc, more_specifics).expect(rt, "the sites");
-    let site = sites.site(1).expect(rt, "no site");
-    assert!(rt;
-        site.allows(prefix) == is_allowed,
-        "{more_specifics} {}",
-        prefix.mask_len()
-    );
+    match sites.site(1) {
+        Some(site) => site.allows(&block(rt, octets, mask_len)) == is_allowed,
+        None => false,
+    }
 }
 
 /// The worked site alone, with more-specifics or without.

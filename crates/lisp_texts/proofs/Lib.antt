@@ -4,7 +4,6 @@ pub mod ByteNumbers
 pub mod Cut
 pub mod Groups
 pub mod Hex
-pub mod Known
 pub mod Locators
 pub mod NumberTexts
 pub mod Numbers

@@ -13,12 +13,12 @@ use Rattle.std.proofs.lemmas.Str.Parse.{numerals_by_value}
 use Rattle.lisp_records.specs.declared.address.Addr.{Addr}
 use Rattle.lisp_records.specs.declared.address.Addr.TheVariants.{V4, V6}
 use Rattle.lisp_records.specs.declared.locator.Locator.{Locator}
-use Rattle.lisp_records.specs.Address.{Block, IsBlock}
-use Rattle.lisp_records.specs.Record.{Mapping}
+use Rattle.lisp_records.specs.Address.{Block, IsBlock, IsWhole}
+use Rattle.lisp_records.specs.Record.{Mapping, IsLocator, IsMapping}
 use Rattle.lisp_texts.specs.Number.{number_of}
 use Rattle.lisp_texts.specs.Text.{IsAddressText, IsGroup, group_octets, IsPrefixText, IsByteText, IsNumbersText, numbers_of_locator, shown_locator, IsLocatorText, IsRecordText}
 use Rattle.lisp_texts.specs.Reading.{record_text_of}
-use Rattle.lisp_texts.specs.Written.{hex_text, groups_text, addr_text, prefix_text, numbers_text, locator_text, record_text, shown, HasOctets, HasNumbers, HasText}
+use Rattle.lisp_texts.specs.Written.{hex_text, groups_text, addr_text, prefix_text, numbers_text, locator_text, record_text, shown}
 use Rattle.lisp_texts.proofs.Numbers.{digits, is_number-digits}
 use Rattle.lisp_texts.proofs.RecordLaws.{record_again}
 use Rattle.lisp_texts.proofs.WrittenGroups.{marked}
@@ -74,16 +74,16 @@ are_groups (suc n) (a ∷ b ∷ octets) len bytes =
     }
 
 -- the written text of an address is one of its texts
-pub written_address : (a : Addr) → HasOctets a → IsAddressText (addr_text a) a
-written_address (V4 octets) has = record { four = has.whole; each = has.bytes; parts = refl }
+pub written_address : (a : Addr) → IsWhole a → IsAddressText (addr_text a) a
+written_address (V4 octets) has = record { four = has.width; each = has.bytes; parts = refl }
 written_address (V6 octets) has =
-    let groups = are_groups 8 octets has.whole has.bytes in
+    let groups = are_groups 8 octets has.width has.bytes in
     record { groups = groups_text octets; eight = groups.count; each = groups.each; parts = refl; value = groups.value }
 
 -- ---- prefixes
 
 -- the written text of a prefix is one of its texts
-pub written_prefix : (b : Block) → IsBlock b → HasOctets b.addr → IsPrefixText (prefix_text b) b
+pub written_prefix : (b : Block) → IsBlock b → IsWhole b.addr → IsPrefixText (prefix_text b) b
 written_prefix b block has = record {
   address = addr_text b.addr;
   written = b.addr;
@@ -104,24 +104,24 @@ number_again n small =
 byte_spelled : (n : ℕ) → n < 256 → IsByteText (decimal n) n
 byte_spelled n lt = (number_again n (omega arith), lt)
 
-numbers_spelled : (l : Locator) → AllByRecursion (λ n. n < 256) (numbers_of_locator l) → IsNumbersText (numbers_text l) (numbers_of_locator l)
-numbers_spelled l bytes = record {
+numbers_spelled : (l : Locator) → IsLocator l → IsNumbersText (numbers_text l) (numbers_of_locator l)
+numbers_spelled l has = record {
   pieces = map decimal (numbers_of_locator l);
   parts = refl;
-  each = (byte_spelled l.priority bytes.0, (byte_spelled l.weight bytes.1.0, (byte_spelled l.m_priority bytes.1.1.0, (byte_spelled l.m_weight bytes.1.1.1.0, tt))));
+  each = (byte_spelled l.priority has.priority, (byte_spelled l.weight has.weight, (byte_spelled l.m_priority has.m_priority, (byte_spelled l.m_weight has.m_weight, tt))));
 }
 
-locator_spelled : (l : Locator) → HasNumbers l → IsLocatorText (locator_text l) (shown_locator l)
+locator_spelled : (l : Locator) → IsLocator l → IsLocatorText (locator_text l) (shown_locator l)
 locator_spelled l has = record {
   address = addr_text l.addr;
   behind = numbers_text l;
   parts = refl;
   spelled = written_address l.addr has.addr;
-  numbers = inl (numbers_spelled l has.bytes);
+  numbers = inl (numbers_spelled l has);
   flags = refl;
 }
 
-locators_spelled : (ls : List Locator) → AllByRecursion HasNumbers ls → AllZip IsLocatorText (map locator_text ls) (map shown_locator ls)
+locators_spelled : (ls : List Locator) → AllByRecursion IsLocator ls → AllZip IsLocatorText (map locator_text ls) (map shown_locator ls)
 locators_spelled [] has = tt
 locators_spelled (l ∷ ls) has = (locator_spelled l has.0, locators_spelled ls has.1)
 
@@ -130,20 +130,20 @@ marked-map [] = refl
 marked-map (l ∷ ls) = ap (λ (t : List ℕ). 43 ∷ (locator_text l ++ t)) (marked-map ls)
 
 -- the written text of a record is a text of what it shows
-pub written_record : (m : Mapping) → HasText m → IsRecordText (record_text m) (shown m)
+pub written_record : (m : Mapping) → IsMapping m → IsRecordText (record_text m) (shown m)
 written_record m has = record {
   prefix = prefix_text m.eid;
   ttl = decimal m.ttl;
   pieces = map locator_text m.locators;
   parts = ap (λ (t : List ℕ). prefix_text m.eid ++ 61 ∷ [] ++ decimal m.ttl ++ t) (marked-map m.locators);
-  spelled = written_prefix m.eid has.mapping.block has.eid;
-  number = number_again m.ttl (omega (arith, has.mapping.ttl));
-  fits = has.mapping.ttl;
+  spelled = written_prefix m.eid has.block has.eid;
+  number = number_again m.ttl (omega (arith, has.ttl));
+  fits = has.ttl;
   each = locators_spelled m.locators has.locators;
-  count = rw (length-map m.locators shown_locator) has.mapping.count;
+  count = rw (length-map m.locators shown_locator) has.count;
   flags = refl;
 }
 
 -- what is written of a record is read again
-pub reads_back : (m : Mapping) → HasText m → record_text_of (record_text m) ≡ Some (shown m)
+pub reads_back : (m : Mapping) → IsMapping m → record_text_of (record_text m) ≡ Some (shown m)
 reads_back m has = record_again (record_text m) (shown m) (written_record m has)

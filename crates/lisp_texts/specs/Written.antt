@@ -1,13 +1,13 @@
 -- The written text of an address, a prefix and a record.
-use Rattle.std.specs.Prelude.{ℕ, ◌/◌, ◌%◌, ◌<◌, true, List, [], ◌∷◌, ◌++◌, map, codes}
+use Rattle.std.specs.Prelude.{ℕ, ◌/◌, ◌%◌, true, List, [], ◌∷◌, ◌++◌, map, codes}
 use Rattle.std.specs.Char.{digit_char}
 use Rattle.std.specs.Fmt.{decimal}
-use Rattle.std.specs.List.{AllByRecursion, flat_map, join_with_byte}
+use Rattle.std.specs.List.{flat_map, join_with_byte}
 use Rattle.lisp_records.specs.declared.address.Addr.{Addr}
 use Rattle.lisp_records.specs.declared.address.Addr.TheVariants.{V4, V6}
 use Rattle.lisp_records.specs.declared.locator.Locator.{Locator}
-use Rattle.lisp_records.specs.Address.{Block, octets, IsWhole}
-use Rattle.lisp_records.specs.Record.{Mapping, IsMapping}
+use Rattle.lisp_records.specs.Address.{Block}
+use Rattle.lisp_records.specs.Record.{Mapping}
 use Rattle.lisp_texts.specs.Text.{numbers_of_locator, shown_locator}
 
 -- an octet as two lower case hexadecimal digits
@@ -41,19 +41,3 @@ record_text m = prefix_text m.eid ++ codes "=" ++ decimal m.ttl ++ flat_map (λ 
 -- what a record's text shows of it
 abbrev pub shown : Mapping → Mapping
 shown m = record m { act = 0; authoritative = true; version = 0; locators = map shown_locator m.locators }
-
--- an address with the octets of its family, each a byte
-pub record HasOctets (a : Addr) : Type 0 where
-  pub whole : IsWhole a
-  pub bytes : AllByRecursion (λ n. n < 256) (octets a)
-
--- a locator with such an address, each of its numbers a byte
-pub record HasNumbers (l : Locator) : Type 0 where
-  pub addr : HasOctets l.addr
-  pub bytes : AllByRecursion (λ n. n < 256) (numbers_of_locator l)
-
--- what a record's text is read back of: each number fits its place
-pub record HasText (m : Mapping) : Type 0 where
-  pub mapping : IsMapping m
-  pub eid : HasOctets m.eid.addr
-  pub locators : AllByRecursion HasNumbers m.locators

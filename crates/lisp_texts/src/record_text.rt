@@ -1,15 +1,15 @@
 //! The texts of records.
 
-ghost use Rattle.std.specs.Prelude.{◌≡◌, ◌<◌, ◌==◌, ◌++◌, ◌∷◌, Some, map, IfSome, IfOk, OnOk, string_bytes, All};
+ghost use Rattle.std.specs.Prelude.{◌≡◌, ◌<◌, ◌==◌, ◌++◌, ◌∷◌, Some, map, IfSome, IfOk, OnOk, string_bytes};
 ghost use Rattle.std.specs.List.{flat_map, slice_split};
 ghost use Rattle.std.specs.Option.{option_map};
-ghost use Rattle.lisp_records.specs.Record.{Mapping};
+ghost use Rattle.lisp_records.specs.Record.{Mapping, IsMapping};
 ghost use Rattle.lisp_texts.specs.Text.{IsRecordText};
 ghost use Rattle.lisp_texts.specs.Reading.{cut, number_below, numbers_of, located, locator_of, locators_of, front_of, record_of, record_text_of};
-ghost use Rattle.lisp_texts.specs.Written.{numbers_text, locator_text, record_text, HasNumbers, HasText};
+ghost use Rattle.lisp_texts.specs.Written.{numbers_text, locator_text, record_text};
 
 use crate::number::number_from_text;
-use crate::text::{addr_from_text, known_addr, prefix_from_text, put_addr, put_prefix};
+use crate::text::{addr_from_text, prefix_from_text, put_addr, put_prefix};
 use lisp_records::{Addr, Locator, MapRecord, Prefix};
 use std::alloc::{AllocError, Allocator};
 
@@ -44,39 +44,14 @@ pub fn record_to_text<A: Allocator, B: Allocator>(
     ensures text { IfOk result (λ t. string_bytes t ≡ record_text entry.now) }
 
     // Every record of the program has this text, so that what is written is read again.
-    ensures known { HasText entry.now }
+    ensures known { IsMapping entry.now }
 {
-    known_record(entry);
-    let ttl = entry.ttl();
+    let (ttl, locators) = (entry.ttl(), entry.locators());
     let mut text = String::new(alloc);
     put_prefix(&mut text, entry.eid())?;
     write!(&mut text, "={ttl}")?;
-    put_locators(&mut text, entry.locators())?;
+    put_locators(&mut text, locators)?;
     Ok(text)
-}
-
-// What the types promise of every record. It is called for the proof alone, which learns of a locator's
-// bytes only where the locator is read: so there is a walk over them.
-fn known_record<A: Allocator>(entry: &MapRecord<A>)
-    ensures { HasText entry.now }
-{
-    let (_ttl, _act, _version) = (entry.ttl(), entry.act(), entry.version());
-    known_addr(entry.eid().addr());
-    known_locators(entry.locators());
-}
-
-fn known_locators(locators: &[Locator])
-    ensures { All HasNumbers locators.now }
-{
-    for locator in locators {
-        known_locator(*locator);
-    }
-}
-
-fn known_locator(locator: Locator)
-    ensures { HasNumbers locator }
-{
-    known_addr(locator.addr);
 }
 
 // The pieces between plus signs.

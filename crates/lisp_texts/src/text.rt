@@ -2,12 +2,12 @@
 
 ghost use Rattle.std.specs.Prelude.{◌≡◌, ◌<◌, ◌==◌, ◌++◌, IfSome, IfOk, OnOk, map, position, string_bytes};
 ghost use Rattle.std.specs.Fmt.{decimal};
-ghost use Rattle.std.specs.List.{AllByRecursion, join_with_byte};
+ghost use Rattle.std.specs.List.{join_with_byte};
 ghost use Rattle.std.specs.Option.{option_map};
-ghost use Rattle.lisp_records.specs.Address.{Block, IsBlock};
+ghost use Rattle.lisp_records.specs.Address.{Block, IsBlock, IsWhole};
 ghost use Rattle.lisp_texts.specs.Text.{IsAddressText, IsPrefixText};
 ghost use Rattle.lisp_texts.specs.Reading.{cut, byte_of, digit_of, group_of, v4_of, v6_of, address_of, prefix_of};
-ghost use Rattle.lisp_texts.specs.Written.{hex_text, groups_text, addr_text, prefix_text, HasOctets};
+ghost use Rattle.lisp_texts.specs.Written.{hex_text, groups_text, addr_text, prefix_text};
 
 use lisp_records::{Addr, Prefix};
 use std::alloc::{AllocError, Allocator};
@@ -45,9 +45,10 @@ pub fn addr_to_text<A: Allocator>(alloc: A, addr: &Addr) -> Result<String<A>, Al
     ensures text { IfOk result (λ t. string_bytes t ≡ addr_text addr.now) }
 
     // Every address of the program has this text, so that what is written is read again.
-    ensures known { HasOctets addr.now }
+    ensures known { IsWhole addr.now }
 {
-    known_addr(*addr);
+    // For the proof alone: `octets` says that the address is whole.
+    let _octets = addr.octets();
     let mut text = String::new(alloc);
     put_addr(&mut text, *addr)?;
     Ok(text)
@@ -58,31 +59,13 @@ pub fn prefix_to_text<A: Allocator>(alloc: A, prefix: &Prefix) -> Result<String<
     ensures text { IfOk result (λ t. string_bytes t ≡ prefix_text prefix.now) }
 
     // Every prefix of the program has this text, so that what is written is read again.
-    ensures known { HasOctets prefix.now.addr }
+    ensures known { IsWhole prefix.now.addr }
     ensures block { IsBlock prefix.now }
 {
-    known_addr(prefix.addr());
     let mut text = String::new(alloc);
     put_prefix(&mut text, *prefix)?;
     Ok(text)
 }
-
-/// What the type promises of every address. It is called for the proof alone, which learns of the bytes
-/// by the `match`.
-pub(crate) fn known_addr(addr: Addr)
-    ensures { HasOctets addr }
-{
-    match addr {
-        Addr::V4(octets) => known_bytes(&octets),
-        Addr::V6(octets) => known_bytes(&octets),
-    }
-}
-
-// What the type promises of every byte of a list, for the proof alone.
-#[tactic(auto, using(crate::proofs::Known::bytes_small))]
-fn known_bytes(bytes: &[u8])
-    ensures { AllByRecursion (λ n. n < 256) bytes.now }
-{}
 
 // A prefix of either family.
 #[tactic(auto, unfolding(crate::specs::Reading::prefix_of))]
@@ -194,7 +177,9 @@ pub(crate) fn put_prefix<A: Allocator>(
     text: &mut String<A>,
     prefix: Prefix,
 ) -> Result<(), AllocError>
-    ensures { OnOk result (string_bytes text.new ≡ string_bytes text.old ++ prefix_text prefix) }
+    ensures text { OnOk result (string_bytes text.new ≡ string_bytes text.old ++ prefix_text prefix) }
+    ensures known { IsWhole prefix.addr }
+    ensures block { IsBlock prefix }
 {
     let mask_len = prefix.mask_len();
     put_addr(text, prefix.addr())?;

@@ -17,9 +17,10 @@ use Rattle.lisp_world.specs.Timers.{Notice, notice_to}
 use Rattle.lisp_world.specs.Bag.{Item, Arrival, arrival_in, as_notify, taken, register_item, reply_item, notice_item, ack_item, posted, past, bag, since}
 use Rattle.lisp_world.specs.Accepted.{accepted}
 use Rattle.lisp_world.specs.Clean.{IsHarmless, Clean}
-use Rattle.lisp_world.specs.Legal.{Row, LegalTrace, turn_of}
+use Rattle.lisp_world.specs.Legal.{MayCome, LegalTrace, turn_of}
 use Rattle.lisp_world.proofs.ArrivalLemmas.{AllBelow, comes}
 use Rattle.lisp_world.proofs.CleanLemmas.{in_get, in_option, from_map}
+use Rattle.lisp_world.proofs.HeardLines.{noticed_of}
 use Rattle.lisp_world.proofs.HearingLemmas.{is_heard}
 use Rattle.lisp_world.proofs.ListLemmas.{at_head, in_tail, head_or_tail, in_none}
 use Rattle.lisp_world.proofs.Origins.{ReadsBack, AllFrom, all_from}
@@ -63,15 +64,16 @@ not_plain m n same plain ack = true≢false (sym ack ∙ sym (ap (λ (x : Notifi
 module _ (o : Opening) (T : List Step) (reads : ReadsBack) (all : AllFrom o (history o T) (bag o T)) (below : AllBelow (bag o T)) (old : AllAnswers o T (bag o T)) where
   -- the answer that is posted
   answered : (node : ℕ) (after : Shown) (e : Happening) (router server nonce datagram : ℕ) → IsHarmless o T e
-      → Row (turn_of o T (record { event = e; line = lines.Noticed router server nonce datagram; actor = node; shown = after })) e (lines.Noticed router server nonce datagram)
+      → MayCome (turn_of o T (record { event = e; line = lines.Noticed router server nonce datagram; actor = node; shown = after })) e (lines.Noticed router server nonce datagram)
       → (i : Item) → Contains (posted o T (past o T) (arrival_in (bag o T) e) (lines.Noticed router server nonce datagram)) i → (n : Notification) → i.message ≡ Notifies n → (s : Step) → s.line ≡ lines.Noticed router server nonce datagram → IsAnswer o (s ∷ T) i n
   answered node after e router server nonce datagram harmless row i has n is s line =
       let c = comes o T reads all below node e (lines.Noticed router server nonce datagram) after tt harmless row in
-      let f = from_some (ack_item o.config router c.arrival) (as_notify c.arrival.read) i (subst (λ (a : Option Arrival). Contains (posted o T (past o T) a (lines.Noticed router server nonce datagram)) i) c.is has) in
-      let h = is_heard o.config node c.arrival c.row.what c.row.hears in
-      let read : f.value ≡ c.row.what.message = read_same f.value c.row.what.message c.arrival.read (notified c.arrival.read f.value f.some) h.read.is in
+      let f = from_some (ack_item o T router c.arrival) (as_notify c.arrival.read) i (subst (λ (a : Option Arrival). Contains (posted o T (past o T) a (lines.Noticed router server nonce datagram)) i) c.is has) in
+      let what = noticed_of _ c.arrival router server nonce datagram c.row in
+      let h = is_heard o T node c.arrival what.what what.hears in
+      let read : f.value ≡ what.what.message = read_same f.value what.what.message c.arrival.read (notified c.arrival.read f.value f.some) h.read.is in
       let said : ack_of f.value ≡ n = said_same (ack_of f.value) n (ap (λ (x : Item). x.message) f.is ∙ is) in
-      let number : n.nonce ≡ nonce = sym (ap (λ (x : Notification). x.nonce) said) ∙ ap (λ (x : Notification). x.nonce) read ∙ sym c.row.number in
+      let number : n.nonce ≡ nonce = sym (ap (λ (x : Notification). x.nonce) said) ∙ ap (λ (x : Notification). x.nonce) read ∙ sym what.number in
       record {
         before = s;
         earlier = at_head s T;
@@ -79,13 +81,13 @@ module _ (o : Opening) (T : List Step) (reads : ReadsBack) (all : AllFrom o (his
         server = server;
         datagram = datagram;
         line = line ∙ ap (λ (k : ℕ). lines.Noticed router server k datagram) (sym number);
-        kind = c.row.acts.kind;
-        listed = subst (λ (k : ℕ). Contains (router_at o.config k).servers server) c.row.acts.acts (subst (Contains (router_at o.config node).servers) (sym c.row.whose) h.listed);
+        kind = subst (λ (k : ℕ). is_router o.config k ≡ true) what.acts c.row.acts.kind;
+        listed = subst (λ (k : ℕ). Contains (router_at o.config k).servers server) what.acts (subst (Contains (router_at o.config node).servers) (sym what.whose) h.listed);
         from = sym (ap (λ (x : Item). x.from) f.is);
-        to = sym (ap (λ (x : Item). x.to) f.is) ∙ sym h.source ∙ ap (address_at o.config) (sym c.row.whose);
+        to = sym (ap (λ (x : Item). x.to) f.is) ∙ sym h.source ∙ ap (address_at o.config) (sym what.whose);
       }
 
-  posts : (s : Step) (line : Line) → s.line ≡ line → IsHarmless o T s.event → Row (turn_of o T s) s.event line → AllAnswers o (s ∷ T) (posted o T (past o T) (arrival_in (bag o T) s.event) line)
+  posts : (s : Step) (line : Line) → s.line ≡ line → IsHarmless o T s.event → MayCome (turn_of o T s) s.event line → AllAnswers o (s ∷ T) (posted o T (past o T) (arrival_in (bag o T) s.event) line)
   posts s (lines.Sent r k key nonce datagram) line harmless row i has n is ack = at (head_or_tail (register_item o T r k nonce) [] i has)
     where
       at : (i ≡ register_item o T r k nonce) ⊎ Contains [] i → IsAnswer o (s ∷ T) i n
@@ -99,7 +101,7 @@ module _ (o : Opening) (T : List Step) (reads : ReadsBack) (all : AllFrom o (his
   posts s (lines.Notice server router key nonce datagram) line harmless row i has n is ack =
       let f = from_some (notice_item o T (since o T server) server router key nonce) (heard_last (router_at o.config router).me (since o T server)) i has in
       absurd (not_plain _ n (said_same _ n (ap (λ (x : Item). x.message) f.is ∙ is)) refl ack)
-  posts s (lines.Resent server router datagram) line harmless row i has n is ack = at (notice_to o T server router) (in_option (option_and_then (λ n. slice_get (bag o T) n.datagram) (notice_to o T server router)) i has)
+  posts s (lines.Resent server router datagram) line harmless row i has n is ack = at (notice_to o T server (router_at o.config router).me) (in_option (option_and_then (λ n. slice_get (bag o T) n.datagram) (notice_to o T server (router_at o.config router).me)) i has)
     where
       none_clash : ◌≡◌ {A = Option Item} None (Some i) → ⊥
       none_clash e = absurd cc

@@ -19,9 +19,9 @@ use Rattle.lisp_world.specs.Bag.{since, since_after}
 use Rattle.lisp_world.specs.Accepted.{accepted, accepted_after, arriving}
 use Rattle.lisp_world.specs.Change.{NoChange, Keeps}
 use Rattle.lisp_world.specs.Clean.{Clean}
-use Rattle.lisp_world.specs.Legal.{Row, LegalTrace, turn_of}
+use Rattle.lisp_world.specs.Legal.{MayCome, LegalTrace, turn_of}
 use Rattle.lisp_world.specs.Promises.{HeldAgree, IsRowOf}
-use Rattle.lisp_world.specs.Stands.{IsNetwork}
+use Rattle.lisp_world.specs.Network.{IsNetwork}
 use Rattle.lisp_world.proofs.Agreement.{Found, held_found, same_mapping}
 use Rattle.lisp_world.proofs.ChangeLemmas.{IsNew, new_or_old, same_database, one_place}
 use Rattle.lisp_world.proofs.ListLemmas.{in_none}
@@ -52,7 +52,7 @@ since_accepted o [] k x has = absurd (in_none x has)
 since_accepted o (s ∷ T) k x has = within s.line (arriving o T s) (since o T k) (accepted o T k) k x (since_accepted o T k x) has
 
 -- entries are those of routers
-sent_by_router : (o : Opening) (T : List Step) (actor : ℕ) (after : Shown) (e : Happening) (r s k n g : ℕ) → Row (turn_of o T (record { event = e; line = lines.Sent r s k n g; actor = actor; shown = after })) e (lines.Sent r s k n g) → is_router o.config r ≡ true
+sent_by_router : (o : Opening) (T : List Step) (actor : ℕ) (after : Shown) (e : Happening) (r s k n g : ℕ) → MayCome (turn_of o T (record { event = e; line = lines.Sent r s k n g; actor = actor; shown = after })) e (lines.Sent r s k n g) → is_router o.config r ≡ true
 sent_by_router o T actor after (events.Send router server fate) r s k n g row = ap (is_router o.config) row.0 ∙ row.2.acts.kind
 sent_by_router o T actor after (events.Change _ _) r s k n g row = absurd row
 sent_by_router o T actor after (events.Deliver _ _) r s k n g row = absurd row.arrives
@@ -67,7 +67,7 @@ entry_router o [] legal d has = absurd (in_none d has)
 entry_router o (s ∷ T) legal d has = at (new_or_old o T s.line d has) (entry_router o T legal.1 d)
   where
     at : IsNew o T s.line d ⊎ Contains (history o T) d → (Contains (history o T) d → is_router o.config d.router ≡ true) → is_router o.config d.router ≡ true
-    at (inl new) later = ap (λ (x : Entry). is_router o.config x.router) new.is ∙ sent_by_router o T s.actor s.shown s.event new.router new.server new.key new.nonce new.datagram (subst (λ (line : Line). Row (turn_of o T s) s.event line) new.sent legal.0.row)
+    at (inl new) later = ap (λ (x : Entry). is_router o.config x.router) new.is ∙ sent_by_router o T s.actor s.shown s.event new.router new.server new.key new.nonce new.datagram (subst (λ (line : Line). MayCome (turn_of o T s) s.event line) new.sent legal.0.row)
     at (inr old) later = later old
 
 -- one identity is one router's

@@ -19,7 +19,7 @@ use Rattle.lisp_world.specs.Trace.{Happening, Step, Opening, Shown, addresses, a
 use Rattle.lisp_world.specs.History.{history}
 use Rattle.lisp_world.specs.Bag.{Item, Arrival, bytes_of, arrival_of, arrival_in, thrown, bag}
 use Rattle.lisp_world.specs.Clean.{secrets_of, IsEcho, IsNoise, IsForged, IsHarmless}
-use Rattle.lisp_world.specs.Legal.{Row, Arrives, turn_of}
+use Rattle.lisp_world.specs.Legal.{MayCome, Arrives, turn_of}
 use Rattle.lisp_world.proofs.CleanLemmas.{addr_same, in_get}
 use Rattle.lisp_world.proofs.HeadLemmas.{SameHead, item_head}
 use Rattle.lisp_world.proofs.Origins.{ReadsBack, AllFrom}
@@ -76,9 +76,9 @@ module _ (o : Opening) (T : List Step) (reads : ReadsBack) (all : AllFrom o (his
     pub arrival : Arrival
     pub is : arrival_in (bag o T) e ≡ Some arrival
     pub row : Arrives (turn_of o T (record { event = e; line = line; actor = node; shown = after })) arrival line
-    pub origin : (m : Notification) → arrival.read ≡ Ok (Notifies m) → (secret : List ℕ) → Contains (secrets_of o.config node) secret → is_authentic arrival.bytes secret ≡ true → IsOfItem o (bag o T) node arrival.from m
+    pub origin : (m : Notification) → arrival.read ≡ Ok (Notifies m) → (secret : List ℕ) → Contains (secrets_of o T node) secret → is_authentic arrival.bytes secret ≡ true → IsOfItem o (bag o T) node arrival.from m
 
-  pub comes : (e : Happening) (line : Line) (after : Shown) → IsOfArrival line → IsHarmless o T e → Row (turn_of o T (record { event = e; line = line; actor = node; shown = after })) e line → Comes e line after
+  pub comes : (e : Happening) (line : Line) (after : Shown) → IsOfArrival line → IsHarmless o T e → MayCome (turn_of o T (record { event = e; line = line; actor = node; shown = after })) e line → Comes e line after
   comes (events.Deliver k fate) (lines.Nowhere datagram) after arriving harmless row = absurd arriving
   comes (events.Deliver k fate) line after arriving harmless row = record {
     arrival = arrival_of row.item;
@@ -88,11 +88,11 @@ module _ (o : Opening) (T : List Step) (reads : ReadsBack) (all : AllFrom o (his
   }
   comes (events.Junk to from bytes) line after arriving harmless row = record { arrival = thrown from bytes; is = refl; row = row.arrives; origin = λ m read secret known authentic. at m read secret known authentic harmless }
     where
-      at : (m : Notification) → message_at bytes ≡ Ok (Notifies m) → (secret : List ℕ) → Contains (secrets_of o.config node) secret → is_authentic bytes secret ≡ true
-          → (IsEcho (bag o T) from (address_at o.config to) bytes ⊎ (IsNoise bytes ⊎ IsForged (secrets_of o.config to) bytes)) → IsOfItem o (bag o T) node from m
+      at : (m : Notification) → message_at bytes ≡ Ok (Notifies m) → (secret : List ℕ) → Contains (secrets_of o T node) secret → is_authentic bytes secret ≡ true
+          → (IsEcho (bag o T) from (address_at o.config to) bytes ⊎ (IsNoise bytes ⊎ IsForged (secrets_of o T to) bytes)) → IsOfItem o (bag o T) node from m
       at m read secret known authentic (inl echo) = echoed from bytes (subst (λ (k : ℕ). IsEcho (bag o T) from (address_at o.config k) bytes) (sym row.acts) echo) m read
       at m read secret known authentic (inr (inl noise)) = absurd (noise_clash (sym noise.1 ∙ read))
-      at m read secret known authentic (inr (inr forged)) = absurd (true≢false (sym authentic ∙ forged secret (subst (λ (k : ℕ). Contains (secrets_of o.config k) secret) row.acts known)))
+      at m read secret known authentic (inr (inr forged)) = absurd (true≢false (sym authentic ∙ forged secret (subst (λ (k : ℕ). Contains (secrets_of o T k) secret) row.acts known)))
   comes _ (lines.Accepted _ _ _ _ _) after arriving harmless row = absurd row
   comes _ (lines.Done _ _ _) after arriving harmless row = absurd row
   comes _ (lines.Counted _ _ _ _) after arriving harmless row = absurd row

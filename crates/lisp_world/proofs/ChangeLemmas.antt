@@ -10,7 +10,7 @@ use Rattle.lisp_world.specs.declared.line.Line.TheVariants as lines
 use Rattle.lisp_world.specs.Trace.{Happening, Step, Opening, Shown, database, database_after}
 use Rattle.lisp_world.specs.History.{Entry, entry_in, history}
 use Rattle.lisp_world.specs.Change.{gives, Keeps}
-use Rattle.lisp_world.specs.Legal.{Row, Legal, LegalTrace, turn_of}
+use Rattle.lisp_world.specs.Legal.{MayCome, Legal, LegalTrace, turn_of}
 use Rattle.lisp_world.proofs.ListLemmas.{head_or_tail, in_none}
 
 -- an event that gives nothing
@@ -20,7 +20,7 @@ given_none (events.Restart node pick (Some db)) line r old none = ap (λ b. if b
 given_none e line r old none = refl
 
 -- a Map-Register that goes out gives nothing
-sent_none : (o : Opening) (T : List Step) (actor : ℕ) (after : Shown) (e : Happening) (router server key nonce datagram r : ℕ) → Row (turn_of o T (record { event = e; line = lines.Sent router server key nonce datagram; actor = actor; shown = after })) e (lines.Sent router server key nonce datagram) → gives e r ≡ false
+sent_none : (o : Opening) (T : List Step) (actor : ℕ) (after : Shown) (e : Happening) (router server key nonce datagram r : ℕ) → MayCome (turn_of o T (record { event = e; line = lines.Sent router server key nonce datagram; actor = actor; shown = after })) e (lines.Sent router server key nonce datagram) → gives e r ≡ false
 sent_none o T actor after (events.Send _ _ _) router server key nonce datagram r row = refl
 sent_none o T actor after (events.Change _ _) router server key nonce datagram r row = absurd row
 sent_none o T actor after (events.Deliver _ _) router server key nonce datagram r row = absurd row.arrives
@@ -86,7 +86,7 @@ module _ (o : Opening) where
   nothing_before s T r p none place x low high is = none place x low (omega (arith, high)) (earlier_place s T place high ∙ is)
 
   new_sent : (T : List Step) (s : Step) → Legal o T s → (d : Entry) → (new : IsNew o T s.line d) → gives s.event d.router ≡ false
-  new_sent T s l d new = sent_none o T s.actor s.shown s.event new.router new.server new.key new.nonce new.datagram d.router (subst (λ (line : Line). Row (turn_of o T s) s.event line) new.sent l.row)
+  new_sent T s l d new = sent_none o T s.actor s.shown s.event new.router new.server new.key new.nonce new.datagram d.router (subst (λ (line : Line). MayCome (turn_of o T s) s.event line) new.sent l.row)
 
   kept_since : (T : List Step) → LegalTrace o T → (d : Entry) → Contains (history o T) d → NothingAfter T d.router d.position → d.database ≡ database o T d.router
   kept_since [] legal d has none = absurd (in_none d has)

@@ -7,7 +7,7 @@ use Rattle.lisp_world.specs.Bag.{bytes_of}
 use Rattle.lisp_world.specs.Clean.{Clean}
 use Rattle.lisp_world.specs.Legal.{LegalTrace}
 use Rattle.lisp_world.specs.Promises.{AcceptedWasSent, HeldWasSent, HeldAgree, CountedWasAccepted, DoneWasNoticed}
-use Rattle.lisp_world.specs.Stands.{IsNetwork}
+use Rattle.lisp_world.specs.Network.{IsNetwork}
 use Rattle.lisp_world.proofs.Origins.{ReadsBack}
 use Rattle.lisp_world.proofs.OriginLaws as origins
 use Rattle.lisp_world.proofs.AgreementLaws as agreement

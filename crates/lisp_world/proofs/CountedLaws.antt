@@ -12,22 +12,23 @@ use Rattle.lisp_world.specs.declared.line.Line.{Line}
 use Rattle.lisp_world.specs.declared.line.Line.TheVariants as lines
 use Rattle.lisp_world.specs.Trace.{Happening, Step, Opening, Shown, addresses, address_at, is_server, is_router, router_at}
 use Rattle.lisp_world.specs.History.{entry_in, history}
-use Rattle.lisp_world.specs.Bag.{Item}
+use Rattle.lisp_world.specs.Bag.{Item, Arrival, bag}
 use Rattle.lisp_world.specs.Accepted.{accepted, arriving}
 use Rattle.lisp_world.specs.Counted.{latest, latest_after, acknowledged, acknowledged_after}
 use Rattle.lisp_world.specs.Clean.{Clean, IsHarmless}
-use Rattle.lisp_world.specs.Legal.{Row, LegalTrace, turn_of}
+use Rattle.lisp_world.specs.Legal.{MayCome, LegalTrace, turn_of}
 use Rattle.lisp_world.specs.Promises.{WasAccepted, CountedWasAccepted}
-use Rattle.lisp_world.proofs.ArrivalLemmas.{comes}
+use Rattle.lisp_world.proofs.ArrivalLemmas.{IsOfItem, comes}
 use Rattle.lisp_world.proofs.CleanLemmas.{server_of}
-use Rattle.lisp_world.proofs.HearingLemmas.{is_heard, knows_own, router_of}
+use Rattle.lisp_world.proofs.HeardLines.{IsCounted, counted_of}
+use Rattle.lisp_world.proofs.HearingLemmas.{IsHeard, is_heard, knows_own, router_of}
 use Rattle.lisp_world.proofs.ListLemmas.{head_or_tail, in_none}
 use Rattle.lisp_world.proofs.OriginLaws.{were_sent}
 use Rattle.lisp_world.proofs.Origins.{ReadsBack, all_from}
 use Rattle.lisp_world.proofs.ReplyOrigins.{IsEntry, entry_is, server_of_sent, IsReply, stays_accepted, all_known}
 
 -- a Map-Register goes to a server, so that nothing is the latest to another node
-latest_case : (o : Opening) (T : List Step) (s : Step) (line : Line) → Row (turn_of o T s) s.event line → (r k : ℕ) (old : ℕ) → (old ≡ 0) ⊎ (is_server o.config k ≡ true) → (latest_after line r k old ≡ 0) ⊎ (is_server o.config k ≡ true)
+latest_case : (o : Opening) (T : List Step) (s : Step) (line : Line) → MayCome (turn_of o T s) s.event line → (r k : ℕ) (old : ℕ) → (old ≡ 0) ⊎ (is_server o.config k ≡ true) → (latest_after line r k old ≡ 0) ⊎ (is_server o.config k ≡ true)
 latest_case o T s (lines.Sent router server key nonce datagram) row r k old before = at (router == r && server == k) refl
   where
     at : (b : Bool) → (router == r && server == k) ≡ b → ((if b then nonce else old) ≡ 0) ⊎ (is_server o.config k ≡ true)
@@ -95,20 +96,25 @@ module _ (o : Opening) (distinct : AllPairs (λ a b. a ≢ b) (addresses o.confi
           message = w.message;
         }
 
-    -- what is counted was accepted
-    counted : (node : ℕ) (after : Shown) (e : Happening) → IsHarmless o T e → Row (turn_of o T (record { event = e; line = lines.Counted router server key nonce; actor = node; shown = after })) e (lines.Counted router server key nonce) → WasAccepted o T router server key nonce
-    counted node after e harmless row =
-        let known = all_known o distinct reads T legal clean in
-        let c = comes o T reads (all_from o T legal) (λ i has n is. (known i has n is).below) node e (lines.Counted router server key nonce) after tt harmless row in
-        let h = is_heard o.config node c.arrival c.row.what c.row.hears in
-        let origin = c.origin c.row.what.message h.read.is _ (knows_own o.config node (ap (is_router o.config) c.row.acts.acts ∙ c.row.acts.kind)) h.authentic in
-        let number : origin.what.nonce ≡ nonce = sym origin.head.nonce ∙ sym c.row.number in
-        let reply = (known origin.item origin.sent origin.what origin.says).reply (sym origin.head.ack ∙ h.read.plain) (subst (λ (k : ℕ). k < first_notice) (sym number) c.row.low) in
+    -- a Map-Notify that counts is the server's answer to an entry that it accepted
+    counted_at : (s : Step) (a : Arrival) (what : IsCounted (turn_of o T s) a router server key nonce) → is_router o.config router ≡ true → IsHeard o T s.actor a what.what → IsOfItem o (bag o T) s.actor a.from what.what.message → WasAccepted o T router server key nonce
+    counted_at s a what its h origin =
+        let number : origin.what.nonce ≡ nonce = sym origin.head.nonce ∙ sym what.number in
+        let reply = (all_known o distinct reads T legal clean origin.item origin.sent origin.what origin.says).reply (sym origin.head.ack ∙ h.read.plain) (subst (λ (k : ℕ). k < first_notice) (sym number) what.low) in
         replied origin.item origin.what reply origin.says number
-        (origin.source ∙ sym h.source ∙ ap (address_at o.config) (sym c.row.whose)) (origin.target ∙ ap (address_at o.config) c.row.acts.acts)
-        (is_to_server o T legal router server nonce c.row.latest) c.row.acts.kind c.row.under
+        (origin.source ∙ sym h.source ∙ ap (address_at o.config) (sym what.whose)) (origin.target ∙ ap (address_at o.config) what.acts)
+        (is_to_server o T legal router server nonce what.latest) its (what.under ∙ ap (λ (k : ℕ). (router_at o.config k).key_id) what.acts)
 
-  acknowledged_case : (T : List Step) (s : Step) → LegalTrace o T → Clean o T → IsHarmless o T s.event → (line : Line) → Row (turn_of o T s) s.event line → (router server key nonce : ℕ)
+    -- what is counted was accepted
+    counted : (node : ℕ) (after : Shown) (e : Happening) → IsHarmless o T e → MayCome (turn_of o T (record { event = e; line = lines.Counted router server key nonce; actor = node; shown = after })) e (lines.Counted router server key nonce) → WasAccepted o T router server key nonce
+    counted node after e harmless row =
+        let c = comes o T reads (all_from o T legal) (λ i has n is. (all_known o distinct reads T legal clean i has n is).below) node e (lines.Counted router server key nonce) after tt harmless row in
+        let what = counted_of _ c.arrival router server key nonce c.row in
+        let h = is_heard o T node c.arrival what.what what.hears in
+        counted_at (record { event = e; line = lines.Counted router server key nonce; actor = node; shown = after }) c.arrival what (subst (λ (k : ℕ). is_router o.config k ≡ true) what.acts c.row.acts.kind) h
+        (c.origin what.what.message h.read.is _ (knows_own o T node c.row.acts.kind) h.authentic)
+
+  acknowledged_case : (T : List Step) (s : Step) → LegalTrace o T → Clean o T → IsHarmless o T s.event → (line : Line) → MayCome (turn_of o T s) s.event line → (router server key nonce : ℕ)
       → Contains (acknowledged_after line router server (acknowledged T router server)) (key, nonce) → WasAccepted o T router server key nonce ⊎ Contains (acknowledged T router server) (key, nonce)
   acknowledged_case T s legal clean harmless (lines.Counted r k its number) row router server key nonce has = at (r == router && k == server) refl has
     where

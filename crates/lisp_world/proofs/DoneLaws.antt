@@ -7,19 +7,20 @@ use Rattle.std.proofs.lemmas.Bool.{and_parts, leb-true, ltb-true, lt-ltb}
 use Rattle.std.proofs.lemmas.Bool.Decides.{Decides-eqb}
 use Rattle.lisp_records.specs.declared.address.Addr.{Addr}
 use Rattle.lisp_records.specs.declared.router.RouterId.{RouterId}
-use Rattle.lisp_sites.specs.Configuration.{Configuration, HasServers, NamesServers}
+use Rattle.lisp_sites.specs.Configuration.{Configuration, HasServers}
 use Rattle.lisp_messages.specs.Message.{Notification}
 use Rattle.lisp_messages.specs.Authentic.{is_authentic}
 use Rattle.lisp_server.specs.Checks.{signed_by}
 use Rattle.lisp_server.specs.Contacts.{secret_at as known_secret}
 use Rattle.lisp_world.specs.declared.line.Line.{Line}
 use Rattle.lisp_world.specs.declared.line.Line.TheVariants as lines
-use Rattle.lisp_world.specs.Trace.{Happening, Step, Opening, Shown, addresses, address_at, is_server, is_router, router_at, settings_of}
+use Rattle.lisp_world.specs.Trace.{Happening, Step, Opening, Shown, addresses, address_at, is_server, is_router, router_at, settings}
 use Rattle.lisp_world.specs.Bag.{Item, bag}
 use Rattle.lisp_world.specs.Timers.{Notice, notices}
+use Rattle.lisp_world.specs.Network.{NamesServers}
 use Rattle.lisp_world.specs.Clean.{Clean, IsHarmless, secrets_of}
 use Rattle.lisp_world.specs.Receiving.{went_to, awaits}
-use Rattle.lisp_world.specs.Legal.{Row, LegalTrace, turn_of}
+use Rattle.lisp_world.specs.Legal.{MayCome, LegalTrace, turn_of}
 use Rattle.lisp_world.specs.Promises.{DoneWasNoticed}
 use Rattle.lisp_world.proofs.AcknowledgementOrigins.{IsAnswer, all_answers}
 use Rattle.lisp_world.proofs.ArrivalLemmas.{comes}
@@ -49,7 +50,7 @@ lists_server c names router k its listed =
     let within = and_parts (nat_le (length c.servers) router) (nat_lt router (length c.servers + length c.routers)) its in
     let low = leb-true (length c.servers) router within.0 in
     let high = ltb-true router (length c.servers + length c.routers) within.1 in
-    lt-ltb k (length c.servers) (each_of (λ place. place < length c.servers) (router_at c router).servers k (each_at (HasServers c.servers) c.routers (router - length c.servers) _ names (omega (arith, low, high))) listed)
+    lt-ltb k (length c.servers) (each_of (λ place. place < length c.servers) (router_at c router).servers k (each_at (HasServers c.servers) c.routers (router - length c.servers) _ names (omega (arith, low, high))).there listed)
 
 -- a notice waits for what it awaits
 pub record IsAwaited (o : Opening) (T : List Step) (from : Addr) (m : Notification) (x : Notice) : Type 0 where
@@ -63,8 +64,8 @@ awaited o T from m x e =
     record { to = λ i is. addr_same i.to from (ap (went_to from) (sym is) ∙ two.0); nonce = (Decides-eqb x.nonce m.nonce).0 one.1 }
 
 module _ (o : Opening) (distinct : AllPairs (λ a b. a ≢ b) (addresses o.config)) (names : NamesServers o.config) (reads : ReadsBack) (T : List Step) (legal : LegalTrace o T) (clean : Clean o T) where
-  holds_secret : (node : ℕ) → is_server o.config node ≡ true → (secret : List ℕ) → Contains (site_secrets o.config) secret → Contains (secrets_of o.config node) secret
-  holds_secret node kind secret known = subst (λ b. Contains (if b then flat_map (λ s. map (λ k. k.secret) s.keys) o.config.sites else (settings_of o.config (router_at o.config node)).secret ∷ []) secret) (sym kind) known
+  holds_secret : (node : ℕ) → is_server o.config node ≡ true → (secret : List ℕ) → Contains (site_secrets o.config) secret → Contains (secrets_of o T node) secret
+  holds_secret node kind secret known = subst (λ b. Contains (if b then flat_map (λ s. map (λ k. k.secret) s.keys) o.config.sites else (settings o T node).secret ∷ []) secret) (sym kind) known
 
   -- a notice that was noticed before
   pub record WasNoticed (server nonce : ℕ) (router : RouterId) : Type 0 where
@@ -76,7 +77,7 @@ module _ (o : Opening) (distinct : AllPairs (λ a b. a ≢ b) (addresses o.confi
     pub me : (router_at o.config node).me ≡ router
 
   ended : (from : Addr) (m what : Notification) (x : Notice) (item : Item) (server nonce : ℕ) (router : RouterId) → IsAnswer o T item what → WentOut o (bag o T) x → IsAwaited o T from m x
-      → item.from ≡ from → item.to ≡ address_at o.config server → is_server o.config server ≡ true → m.nonce ≡ what.nonce → nonce ≡ x.nonce → router ≡ (router_at o.config x.router).me → WasNoticed server nonce router
+      → item.from ≡ from → item.to ≡ address_at o.config server → is_server o.config server ≡ true → m.nonce ≡ what.nonce → nonce ≡ x.nonce → router ≡ x.router → WasNoticed server nonce router
   ended from m what x item server nonce router ans w a source target kind read number its =
       let went : w.item.to ≡ from = a.to w.item w.place in
       let same : address_at o.config ans.node ≡ address_at o.config w.router = sym ans.from ∙ source ∙ sym went ∙ w.to in
@@ -94,7 +95,7 @@ module _ (o : Opening) (distinct : AllPairs (λ a b. a ≢ b) (addresses o.confi
       }
 
   done : (actor : ℕ) (after : Shown) (e : Happening) (server nonce : ℕ) (router : RouterId) → IsHarmless o T e
-      → Row (turn_of o T (record { event = e; line = lines.Done server router nonce; actor = actor; shown = after })) e (lines.Done server router nonce) → WasNoticed server nonce router
+      → MayCome (turn_of o T (record { event = e; line = lines.Done server router nonce; actor = actor; shown = after })) e (lines.Done server router nonce) → WasNoticed server nonce router
   done actor after e server nonce router harmless row =
       let all = all_known o distinct reads T legal clean in
       let c = comes o T reads (all_from o T legal) (λ i has n is. (all i has n is).below) actor e (lines.Done server router nonce) after tt harmless row in
@@ -103,12 +104,12 @@ module _ (o : Opening) (distinct : AllPairs (λ a b. a ≢ b) (addresses o.confi
       let w = all_went_out o distinct reads T legal clean actor x (in_find (awaits t c.arrival.from c.row.message) (notices o T actor) x c.row.stands) in
       let a = awaited o T c.arrival.from c.row.message x (find_true (awaits t c.arrival.from c.row.message) (notices o T actor) x c.row.stands) in
       let acts : actor ≡ server = c.row.acts.acts in
-      let origin = c.origin c.row.message c.row.read _ (holds_secret actor (ap (is_server o.config) acts ∙ c.row.acts.kind) _ w.known) (signed_under (known_secret o.config.sites (router_at o.config x.router).me.site x.key) c.arrival.bytes c.row.authentic) in
+      let origin = c.origin c.row.message c.row.read _ (holds_secret actor (ap (is_server o.config) acts ∙ c.row.acts.kind) _ w.known) (signed_under (known_secret o.config.sites x.router.site x.key) c.arrival.bytes c.row.authentic) in
       let ans = all_answers o distinct reads T legal clean origin.item origin.sent origin.what origin.says (◌∙◌ {a = origin.what.ack} {b = c.row.message.ack} {c = true} (sym origin.head.ack) c.row.ack) in
       ended c.arrival.from c.row.message origin.what x origin.item server nonce router ans w a origin.source (subst (λ (k : ℕ). origin.item.to ≡ address_at o.config k) acts origin.target) c.row.acts.kind origin.head.nonce c.row.number c.row.who
 
 -- what is done was noticed
 pub done_was_noticed : (o : Opening) (T : List Step) → AllPairs (λ a b. a ≢ b) (addresses o.config) → NamesServers o.config → ReadsBack → (s : Step) → LegalTrace o (s ∷ T) → Clean o (s ∷ T) → DoneWasNoticed o T s
 done_was_noticed o T distinct names reads s legal clean server nonce router is =
-    let w = done o distinct names reads T legal.1 clean.1 s.actor s.shown s.event server nonce router clean.0 (subst (λ (line : Line). Row (turn_of o T s) s.event line) is legal.0.row) in
+    let w = done o distinct names reads T legal.1 clean.1 s.actor s.shown s.event server nonce router clean.0 (subst (λ (line : Line). MayCome (turn_of o T s) s.event line) is legal.0.row) in
     (w.before, w.node, w.datagram, w.earlier, w.line, w.me)

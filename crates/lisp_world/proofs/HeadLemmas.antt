@@ -11,7 +11,8 @@ use Rattle.lisp_messages.specs.declared.fault.ReadFault.TheVariants as faults
 use Rattle.lisp_messages.specs.Message.{Said, Notification, Notifies}
 use Rattle.lisp_messages.specs.Authentic.{signed}
 use Rattle.lisp_messages.specs.Written.{written, written_notify}
-use Rattle.lisp_messages.specs.Reading.{◌>>=◌, after, require, nonce_of, notification_of, records_at, notify_at, tail_at, kind_at, message_at}
+use Rattle.lisp_records.specs.Result.{◌>>=◌}
+use Rattle.lisp_messages.specs.Reading.{after, require, nonce_of, notification_of, records_at, notify_at, tail_at, kind_at, message_at}
 use Rattle.lisp_messages.proofs.Fields.{bind_ok}
 use Rattle.lisp_world.specs.Bag.{Item, bytes_of}
 use Rattle.lisp_world.proofs.ReadingLemmas.{kept_kind, notification}

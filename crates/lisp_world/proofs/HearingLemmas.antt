@@ -11,8 +11,10 @@ use Rattle.lisp_messages.specs.Authentic.{is_authentic}
 use Rattle.lisp_messages.specs.Message.{Said, Notification, Registers, Notifies}
 use Rattle.lisp_etr.specs.declared.notify_fault.NotifyFault.{NotifyFault}
 use Rattle.lisp_etr.specs.declared.notify_fault.NotifyFault.TheVariants.{NotMine, WrongKey, BadAuth}
-use Rattle.lisp_etr.specs.Hearing.{◌>>=◌, Heard, check, notify_read}
-use Rattle.lisp_world.specs.Trace.{addresses, address_at, router_at, settings_of, is_server, is_router}
+use Rattle.lisp_records.specs.Result.{◌>>=◌}
+use Rattle.lisp_etr.specs.Hearing.{Heard, check, checked, notify_read}
+use Rattle.lisp_etr.specs.Config.{Settings}
+use Rattle.lisp_world.specs.Trace.{Step, Opening, addresses, address_at, router_at, settings, is_server, is_router}
 use Rattle.lisp_world.specs.Bag.{Arrival}
 use Rattle.lisp_world.specs.Clean.{secrets_of}
 use Rattle.lisp_world.specs.Counted.{server_from, heard}
@@ -62,30 +64,42 @@ read_of (Ok (Notifies n)) m e = at n.ack refl e
     at false is e = let same : n ≡ m = cc in record { is = ap (λ (x : Notification). Ok (Notifies x)) same; plain = ap (λ (x : Notification). x.ack) (sym same) ∙ is }
 
 -- what a router hears
-pub record IsHeard (c : Configuration) (router : ℕ) (a : Arrival) (h : Heard) : Type 0 where
+pub record IsHeard (o : Opening) (T : List Step) (router : ℕ) (a : Arrival) (h : Heard) : Type 0 where
   pub read : IsRead a.read h.message
-  pub listed : Contains (router_at c router).servers h.server
-  pub source : address_at c h.server ≡ a.from
-  pub authentic : is_authentic a.bytes (settings_of c (router_at c router)).secret ≡ true
+  pub listed : Contains (router_at o.config router).servers h.server
+  pub source : address_at o.config h.server ≡ a.from
+  pub authentic : is_authentic a.bytes (settings o T router).secret ≡ true
 
-pub is_heard : (c : Configuration) (router : ℕ) (a : Arrival) (h : Heard) → heard c router a ≡ Ok h → IsHeard c router a h
-is_heard c router a h e =
-    let m = bind_ok (notify_read a.read) (λ m. ok_or (server_from c router a.from) NotMine >>= λ server. check (m.key_id == (router_at c router).key_id) WrongKey >>= λ _. check (is_authentic a.bytes (settings_of c (router_at c router)).secret) BadAuth >>= λ _. Ok (record { server = server; message = m })) h e in
-    let s = bind_ok (ok_or (server_from c router a.from) NotMine) (λ server. check (m.0.key_id == (router_at c router).key_id) WrongKey >>= λ _. check (is_authentic a.bytes (settings_of c (router_at c router)).secret) BadAuth >>= λ _. Ok (record { server = server; message = m.0 })) h m.2 in
-    let k = bind_ok (check (m.0.key_id == (router_at c router).key_id) WrongKey) (λ _. check (is_authentic a.bytes (settings_of c (router_at c router)).secret) BadAuth >>= λ _. Ok (record { server = s.0; message = m.0 })) h s.2 in
-    let t = bind_ok (check (is_authentic a.bytes (settings_of c (router_at c router)).secret) BadAuth) (λ _. Ok (record { server = s.0; message = m.0 })) h k.2 in
+-- what each check lets through
+pub record HasPassed (c : Settings) (bytes : List ℕ) (read : Result Said ReadFault) (from : Option ℕ) (h : Heard) : Type 0 where
+  pub reads : notify_read read ≡ Ok h.message
+  pub found : from ≡ Some h.server
+  pub authentic : is_authentic bytes c.secret ≡ true
+
+has_passed : (c : Settings) (bytes : List ℕ) (read : Result Said ReadFault) (from : Option ℕ) (h : Heard) → checked c bytes read from ≡ Ok h → HasPassed c bytes read from h
+unfolding checked
+has_passed c bytes read from h e =
+    let m = bind_ok (notify_read read) (λ m. ok_or from NotMine >>= λ server. check (m.key_id == c.key_id) WrongKey >>= λ _. check (is_authentic bytes c.secret) BadAuth >>= λ _. Ok (record { server = server; message = m })) h e in
+    let s = bind_ok (ok_or from NotMine) (λ server. check (m.0.key_id == c.key_id) WrongKey >>= λ _. check (is_authentic bytes c.secret) BadAuth >>= λ _. Ok (record { server = server; message = m.0 })) h m.2 in
+    let k = bind_ok (check (m.0.key_id == c.key_id) WrongKey) (λ _. check (is_authentic bytes c.secret) BadAuth >>= λ _. Ok (record { server = s.0; message = m.0 })) h s.2 in
+    let t = bind_ok (check (is_authentic bytes c.secret) BadAuth) (λ _. Ok (record { server = s.0; message = m.0 })) h k.2 in
     made m.0 s.0 m.1 s.1 (passed _ t.0 BadAuth t.1) t.2
   where
-    made : (m : Notification) (server : ℕ) → notify_read a.read ≡ Ok m → ok_or (server_from c router a.from) NotMine ≡ Ok server → is_authentic a.bytes (settings_of c (router_at c router)).secret ≡ true
-        → ◌≡◌ {A = Result Heard NotifyFault} (Ok (record { server = server; message = m })) (Ok h) → IsHeard c router a h
-    made m server read found authentic is =
+    made : (m : Notification) (server : ℕ) → notify_read read ≡ Ok m → ok_or from NotMine ≡ Ok server → is_authentic bytes c.secret ≡ true
+        → ◌≡◌ {A = Result Heard NotifyFault} (Ok (record { server = server; message = m })) (Ok h) → HasPassed c bytes read from h
+    made m server reads found authentic is =
         let same : ◌≡◌ {A = Heard} (record { server = server; message = m }) h = cc in
-        subst (IsHeard c router a) same (record {
-          read = read_of a.read m read;
-          listed = in_find (λ s. addr_eq (address_at c s) a.from) (router_at c router).servers server (some_of (server_from c router a.from) server found);
-          source = addr_same _ _ (find_true (λ s. addr_eq (address_at c s) a.from) (router_at c router).servers server (some_of (server_from c router a.from) server found));
-          authentic = authentic;
-        })
+        subst (HasPassed c bytes read from) same (record { reads = reads; found = some_of from server found; authentic = authentic })
+
+pub is_heard : (o : Opening) (T : List Step) (router : ℕ) (a : Arrival) (h : Heard) → heard o T router a ≡ Ok h → IsHeard o T router a h
+is_heard o T router a h e =
+    let p = has_passed (settings o T router) a.bytes a.read (server_from o.config router a.from) h e in
+    record {
+      read = read_of a.read h.message p.reads;
+      listed = in_find (λ s. addr_eq (address_at o.config s) a.from) (router_at o.config router).servers h.server p.found;
+      source = addr_same _ _ (find_true (λ s. addr_eq (address_at o.config s) a.from) (router_at o.config router).servers h.server p.found);
+      authentic = p.authentic;
+    }
 
 -- a router is no server, has an address, and knows its secret
 router_above : (c : Configuration) (k : ℕ) → is_router c k ≡ true → length c.servers ≤ k
@@ -103,8 +117,8 @@ no_server : (c : Configuration) (k : ℕ) → length c.servers ≤ k → (b : Bo
 no_server c k above true is = let low = ltb-true k (length c.servers) is in absurd (omega (arith, low, above))
 no_server c k above false is = refl
 
-pub knows_own : (c : Configuration) (k : ℕ) → is_router c k ≡ true → Contains (secrets_of c k) (settings_of c (router_at c k)).secret
-knows_own c k is = subst (λ b. Contains (if b then flat_map (λ s. map (λ key. key.secret) s.keys) c.sites else (settings_of c (router_at c k)).secret ∷ []) (settings_of c (router_at c k)).secret) (sym (no_server c k (router_above c k is) (is_server c k) refl)) (at_head _ [])
+pub knows_own : (o : Opening) (T : List Step) (k : ℕ) → is_router o.config k ≡ true → Contains (secrets_of o T k) (settings o T k).secret
+knows_own o T k is = subst (λ b. Contains (if b then flat_map (λ s. map (λ key. key.secret) s.keys) o.config.sites else (settings o T k).secret ∷ []) (settings o T k).secret) (sym (no_server o.config k (router_above o.config k is) (is_server o.config k) refl)) (at_head _ [])
 
 pub router_of : (c : Configuration) → AllPairs (λ a b. a ≢ b) (addresses c) → (i j : ℕ) → is_router c i ≡ true → is_router c j ≡ true → address_at c i ≡ address_at c j → i ≡ j
 router_of c distinct i j is_i is_j same = one_node c distinct i j (router_in c i is_i) (router_in c j is_j) same

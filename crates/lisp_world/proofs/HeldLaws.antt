@@ -1,29 +1,19 @@
 -- Over clean traces what is held is what was sent.
 use Rattle.std.proofs.Common.{◌≡◌, Bool, true, false, ◌&&◌, List, [], ◌∷◌, reverse, Option, Some, None, refl, sym, ap, ◌∙◌}
-use Rattle.std.specs.Prelude.{◌⊎◌}
 use Rattle.std.specs.List.{find}
-use Rattle.std.proofs.lemmas.List.{reverse-append}
-use Rattle.std.proofs.lemmas.List.Elements.{Contains-append_cases}
 use Rattle.lisp_records.specs.Address.{block_eq}
-use Rattle.lisp_records.specs.Record.{Mapping}
 use Rattle.lisp_records.specs.Router.{router_eq}
 use Rattle.lisp_records.specs.Row.{Holding}
-use Rattle.lisp_lookup.proofs.TableLaws.{found_holds}
 use Rattle.lisp_server.specs.AcceptedRows.{router_of}
-use Rattle.lisp_world.specs.declared.event.Event.TheVariants as events
-use Rattle.lisp_world.specs.declared.line.Line.{Line}
-use Rattle.lisp_world.specs.declared.line.Line.TheVariants as lines
-use Rattle.lisp_world.specs.Trace.{Happening, Step, Opening, Shown, router_at, clock}
+use Rattle.lisp_world.specs.Trace.{Step, Opening, clock}
 use Rattle.lisp_world.specs.History.{record_for}
 use Rattle.lisp_world.specs.Bag.{since}
 use Rattle.lisp_world.specs.Clean.{Clean}
-use Rattle.lisp_world.specs.Legal.{Row, LegalTrace, turn_of}
+use Rattle.lisp_world.specs.Legal.{LegalTrace}
 use Rattle.lisp_world.specs.Promises.{HeldWasSent}
-use Rattle.lisp_world.specs.Stands.{IsNetwork}
+use Rattle.lisp_world.specs.Network.{IsNetwork}
 use Rattle.lisp_world.proofs.Agreement.{held_found}
 use Rattle.lisp_world.proofs.AgreementLaws.{since_accepted}
-use Rattle.lisp_world.proofs.ChangeLemmas.{IsNew, new_or_old}
-use Rattle.lisp_world.proofs.ListLemmas.{at_head, in_tail, head_or_tail, in_none}
 use Rattle.lisp_world.proofs.OriginLaws.{were_sent}
 use Rattle.lisp_world.proofs.Origins.{ReadsBack}
 

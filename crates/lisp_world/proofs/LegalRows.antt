@@ -34,12 +34,14 @@ use Rattle.lisp_etr.specs.declared.start_fault.StartFault.TheVariants as start_f
 use Rattle.lisp_store.specs.declared.fault.StoreFault.TheVariants as stores
 use Rattle.lisp_world.specs.Trace.{Step, clock}
 use Rattle.lisp_world.specs.Held.{held, rows}
+use Rattle.lisp_world.specs.Counted.{heard}
+use Rattle.lisp_etr.specs.Hearing.{checked}
 use Rattle.lisp_world.specs.Bag.{since, thrown}
 use Rattle.lisp_world.specs.Legal.{LegalTrace, turn_of}
 use Rattle.lisp_world.proofs.KeptLemmas.{empty_full, insert_full, set_full, stays}
 use Rattle.lisp_world.proofs.TurnLemmas.{fresh_value, set_value, doubted_old, doubted_new, doubted_end, other_value}
 use Rattle.lisp_world.proofs.Samples.{opening, site, one, two, wide, narrow, strange, keeps, mapping, sent_by, got_from, local_at, sends, takes, replays, counts, changes, ticks, restarts, doubts_send, doubts_take, fails_load, restarts_to, tells, repeats, notices, ends, refuses, failed, step, at}
-use Rattle.lisp_world.proofs.Steps.{sends_legal, takes_legal, replays_legal, counts_legal, changes_legal, ticks_legal, wide_record, doubts_send_legal, doubts_take_legal, fails_load_legal, refuses_record, restarts_legal, restarts_to_legal, tells_legal, repeats_legal, notices_legal, ends_legal, told, heard_of, hears, answered}
+use Rattle.lisp_world.proofs.Steps.{sends_legal, takes_legal, replays_legal, counts_legal, changes_legal, ticks_legal, wide_record, doubts_send_legal, doubts_take_legal, fails_load_legal, refuses_record, restarts_legal, restarts_to_legal, tells_legal, repeats_legal, notices_legal, ends_legal, told, hears, answered}
 
 pub kinds_differ : notice_pair ≡ got_from one → ⊥
 kinds_differ e = let kinds : kinds.Notice ≡ kinds.Received = ap (λ (p : Pair). p.kind) e in cc
@@ -117,7 +119,7 @@ abbrev doubted : List Step
 doubted = doubts_send one_sent 0 2 ∷ one_sent
 
 doubted_legal : LegalTrace opening doubted
-doubted_legal = (doubts_send_legal one_sent 0 2 (Some 1) refl refl refl refl (omega arith) (omega arith), one_sent_legal)
+doubted_legal = (doubts_send_legal one_sent 0 2 (Some 1) refl refl refl refl (record { least = omega arith; near = omega arith; most = omega arith }), one_sent_legal)
 
 abbrev forgot : List Step
 forgot = restarts_to doubted 2 (sent_by one) (Some 1) ∷ doubted
@@ -289,7 +291,7 @@ stale = (
       item = told (local_at 11) (local_at 21) 1 (mapping wide 1440 ∷ []);
       sent = refl;
       there = refl;
-      arrives = (record { kind = refl; acts = refl; state = refl }, (record { what = heard_of 0 1 (mapping wide 1440 ∷ []); hears = hears (local_at 11) (local_at 21) 1 (mapping wide 1440 ∷ []) 0 refl; low = omega arith; latest = refl; other = refl }, refl));
+      arrives = record { acts = record { kind = refl; acts = refl; state = refl }; same = refl; comes = inl (rw (hears (local_at 11) (local_at 21) 1 (mapping wide 1440 ∷ []) 0 refl sent_twice) refl) };
     };
   },
   (sends_legal one_taken 0 2 2 (Some 1) refl refl refl refl refl (omega arith) (wide_record 1440 (omega arith)) refl, one_taken_legal),
@@ -307,6 +309,14 @@ short_message = refl
 pub nothing_thrown : LegalTrace opening (refuses [] (events.Junk 0 (local_at 21) []) 0 (refusals.Receive (refuseds.Read reads.Short)) ∷ [])
 nothing_thrown = (record { faults = omega arith; row = record { acts = refl; arrives = (record { kind = refl; acts = refl }, (subst (λ (r : Result Said ReadFault). FailsCheck (turn_of opening [] (refuses [] (events.Junk 0 (local_at 21) []) 0 (refusals.Receive (refuseds.Read reads.Short)))) (thrown (local_at 21) []) r (refuseds.Read reads.Short)) (sym short_message) refl, refl)) } }, tt)
 
+-- neither are they at a router
+short_heard : heard opening [] 2 (thrown (local_at 11) []) ≡ Err (notify_faults.Read reads.Short)
+unfolding checked
+short_heard = rw short_message refl
+
+pub nothing_thrown_at_router : LegalTrace opening (refuses [] (events.Junk 2 (local_at 11) []) 2 (refusals.Notify (notify_faults.Read reads.Short)) ∷ [])
+nothing_thrown_at_router = (record { faults = omega arith; row = record { acts = refl; arrives = record { acts = record { kind = refl; acts = refl; state = refl }; same = refl; comes = inl (rw short_heard refl) } } }, tt)
+
 -- a record of another site is refused
 abbrev pub foreign_sent : List Step
 foreign_sent = sends (changes [] foreign ∷ []) 0 1 0 ∷ changes [] foreign ∷ []
@@ -320,8 +330,8 @@ unfolding masked
 foreign_fits = (
   omega arith,
   (
-    record { ttl = omega arith; act = omega arith; version = omega arith; block = (omega arith, refl); eid = refl; count = omega arith; locators = tt },
-    (record { ttl = omega arith; act = omega arith; version = omega arith; block = (omega arith, refl); eid = refl; count = omega arith; locators = tt }, tt),
+    record { ttl = omega arith; act = omega arith; version = omega arith; block = (omega arith, refl); eid = record { width = refl; bytes = (omega arith, (omega arith, (omega arith, (omega arith, tt)))) }; count = omega arith; locators = tt },
+    (record { ttl = omega arith; act = omega arith; version = omega arith; block = (omega arith, refl); eid = record { width = refl; bytes = (omega arith, (omega arith, (omega arith, (omega arith, tt)))) }; count = omega arith; locators = tt }, tt),
   ),
 )
 

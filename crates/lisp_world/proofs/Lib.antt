@@ -12,6 +12,7 @@ pub mod Rising
 pub mod RisingSteps
 pub mod RisingLaws
 pub mod OwnValues
+pub mod HeardLines
 pub mod MustLemmas
 pub mod MustLaws
 pub mod Sound
@@ -32,5 +33,6 @@ pub mod NoticeOrigins
 pub mod DoneLaws
 pub mod HeldLaws
 pub mod NoticeRising
+pub mod NoticeNonces
 pub mod CleanLaws
 pub mod RowLaws

@@ -17,8 +17,9 @@ use Rattle.lisp_world.specs.Accepted.{accepted_after, tried_after}
 use Rattle.lisp_world.specs.Counted.{latest_after, acked_after}
 use Rattle.lisp_world.specs.Turn.{Turn}
 use Rattle.lisp_world.specs.Sending.{last_sent_after, start_values_after}
-use Rattle.lisp_world.specs.Legal.{Row, Arrives, Legal, turn_of}
+use Rattle.lisp_world.specs.Legal.{MayCome, Arrives, Legal, turn_of}
 use Rattle.lisp_world.specs.Promises.{is_timeless, LeavesOthers}
+use Rattle.lisp_world.proofs.HeardLines.{IsBy, heard_by}
 
 -- a choice by two numbers that differ
 pub other_case : (a b : ℕ) → a ≢ b → (t : Bool) → (a == b) ≡ t → t ≡ false
@@ -37,34 +38,18 @@ unless a b x y differ = ap (λ t. if t then x else y) (other_number a b differ)
 pub unless_both : {X : Type 0} (a b c d : ℕ) (x y : X) → a ≢ b → (if a == b && c == d then x else y) ≡ y
 unless_both a b c d x y differ = ap (λ t. if t && c == d then x else y) (other_number a b differ)
 
--- the line tells of that node, if of any
-abbrev pub IsBy : Line → ℕ → Type 0
-IsBy (lines.Changed router _) node = router ≡ node
-IsBy (lines.Sent router _ _ _ _) node = router ≡ node
-IsBy (lines.Accepted server _ _ _ _) node = server ≡ node
-IsBy (lines.Done server _ _) node = server ≡ node
-IsBy (lines.Counted router _ _ _) node = router ≡ node
-IsBy (lines.Noticed router _ _ _) node = router ≡ node
-IsBy (lines.Nowhere _) node = Unit {0}
-IsBy (lines.Ticked _ _) node = Unit {0}
-IsBy (lines.Restarted named) node = named ≡ node
-IsBy (lines.Notice server _ _ _ _) node = server ≡ node
-IsBy (lines.Resent server _ _) node = server ≡ node
-IsBy (lines.Down router) node = router ≡ node
-IsBy (lines.Refused named _) node = named ≡ node
-
 arrives_by : (t : Turn) (a : Arrival) (line : Line) → Arrives t a line → IsBy line t.node
 arrives_by t a (lines.Accepted server router key nonce datagram) row = sym row.acts.acts
 arrives_by t a (lines.Done server router nonce) row = sym row.acts.acts
-arrives_by t a (lines.Counted router server key nonce) row = sym row.acts.acts
-arrives_by t a (lines.Noticed router server nonce datagram) row = sym row.acts.acts
+arrives_by t a (lines.Counted router server key nonce) row = heard_by t a _ row
+arrives_by t a (lines.Noticed router server nonce datagram) row = heard_by t a _ row
 arrives_by t a (lines.Down router) row = sym row.acts.acts
 arrives_by t a (lines.Refused node (refusals.Receive why)) row = sym row.0.acts
-arrives_by t a (lines.Refused node (refusals.Notify why)) row = sym row.0.acts
+arrives_by t a (lines.Refused node (refusals.Notify why)) row = heard_by t a _ row
 arrives_by t a _ row = absurd row
 
 -- the line of a legal step tells of its actor
-pub by_actor : (t : Turn) (e : Happening) (line : Line) → Row t e line → IsBy line t.node
+pub by_actor : (t : Turn) (e : Happening) (line : Line) → MayCome t e line → IsBy line t.node
 by_actor t (events.Change router db) (lines.Changed named records) row = row.names ∙ sym row.acts.acts
 by_actor t (events.Change router db) (lines.Down named) row = row.names ∙ sym row.acts.acts
 by_actor t (events.Send router server fate) (lines.Sent r s key nonce datagram) row = row.0 ∙ sym row.2.acts.acts
@@ -88,7 +73,7 @@ GivenBy (events.Change router _) (lines.Changed _ _) node = router ≡ node
 GivenBy (events.Restart named _ _) _ node = named ≡ node
 GivenBy _ _ node = Unit {0}
 
-pub given_by : (t : Turn) (e : Happening) (line : Line) → Row t e line → GivenBy e line t.node
+pub given_by : (t : Turn) (e : Happening) (line : Line) → MayCome t e line → GivenBy e line t.node
 given_by t (events.Change router db) (lines.Changed named records) row = sym row.acts.acts
 given_by t (events.Restart node pick db) (lines.Restarted named) row = sym row.acts
 given_by t (events.Restart node pick db) (lines.Refused named (refusals.Start fault)) row = sym row.acts

@@ -10,7 +10,9 @@ use Rattle.lisp_lookup.specs.Answer.{IsBest, rank_cmp}
 use Rattle.lisp_world.specs.Answer.{IsAnswer}
 use Rattle.lisp_world.proofs.ListLemmas.{head_or_tail, in_none}
 use Rattle.std.proofs.Common.{◌≡◌, ℕ, ◌<◌, true, false, List, [], ◌∷◌, Some, None, refl, inl, inr, true≢false, arith}
+use Rattle.lisp_records.specs.declared.router.RouterId.{RouterId}
 use Rattle.lisp_records.specs.Record.{Mapping}
+use Rattle.lisp_store.specs.declared.fate.Fate.TheVariants as fates
 use Rattle.lisp_records.specs.Row.{Holding}
 use Rattle.lisp_messages.specs.declared.fault.ReadFault.TheVariants as reads
 use Rattle.lisp_etr.specs.Timers.{due_after}
@@ -20,13 +22,13 @@ use Rattle.lisp_world.specs.declared.line.Line.TheVariants as lines
 use Rattle.lisp_world.specs.Trace.{Step}
 use Rattle.lisp_world.specs.History.{Entry, history}
 use Rattle.lisp_world.specs.Held.{held, rows}
-use Rattle.lisp_world.specs.Timers.{due, notices as standing, notice_to, is_due}
+use Rattle.lisp_world.specs.Timers.{due, Notice, notices as standing, notice_to, is_due}
 use Rattle.lisp_world.specs.Bag.{register_item, bytes_of, since, bag}
 use Rattle.lisp_world.specs.Counted.{acknowledged, acked}
 use Rattle.lisp_world.specs.Change.{NoChange}
 use Rattle.lisp_world.specs.Clean.{Clean}
 use Rattle.lisp_world.proofs.ListLemmas.{at_head}
-use Rattle.lisp_world.proofs.Samples.{opening, one, wide, narrow, mapping, local_at, step, at, sends, takes, counts, changes, ticks, restarts, tells}
+use Rattle.lisp_world.proofs.Samples.{opening, one, two, wide, narrow, mapping, local_at, step, at, sends, takes, counts, changes, ticks, restarts, tells}
 use Rattle.lisp_world.proofs.LegalRows.{one_sent, one_taken, one_counted, both_sent, both_taken, both_heard, first_told, told_anew, short, two_sent, newer_taken, short_message}
 use Rattle.lisp_world.proofs.Steps.{told}
 
@@ -102,11 +104,11 @@ unfolding due_after
 due_at_other = refl
 
 -- a notice is due after three seconds, not before
-not_due : is_due (notice_to opening first_told 0 2) 2999 ≡ false
+not_due : is_due (notice_to opening first_told 0 one) 2999 ≡ false
 unfolding notice_due_after
 not_due = refl
 
-now_due : is_due (notice_to opening first_told 0 2) 3000 ≡ true
+now_due : is_due (notice_to opening first_told 0 one) 3000 ≡ true
 unfolding notice_due_after
 now_due = refl
 
@@ -115,8 +117,21 @@ notice_of_one : slice_get (bag opening (tells both_heard (2 ^ 63) 4 ∷ both_hea
 notice_of_one = refl
 
 -- a newer one stands in its place
-newer_stands : standing opening told_anew 0 ≡ record { router = 2; key = 1; nonce = 2 ^ 63 + 1; datagram = 3; moments = 0 ∷ [] } ∷ []
+newer_stands : standing opening told_anew 0 ≡ record { router = one; key = 1; nonce = 2 ^ 63 + 1; datagram = 3; moments = 0 ∷ [] } ∷ []
 newer_stands = refl
+
+-- a notice that is sent again moves its own timer alone, and one that is acknowledged leaves the others
+abbrev two_told : List Step
+two_told = step (events.Notice 0 3 fates.Done) (lines.Notice 0 3 1 (2 ^ 63 + 1) 8) 0 (at [] 0) ∷ step (events.Notice 0 2 fates.Done) (lines.Notice 0 2 1 (2 ^ 63) 7) 0 (at [] 0) ∷ []
+
+abbrev told_to : RouterId → ℕ → ℕ → List ℕ → Notice
+told_to router nonce datagram moments = record { router = router; key = 1; nonce = nonce; datagram = datagram; moments = moments }
+
+resent_alone : standing opening (step (events.Resend 0 2) (lines.Resent 0 2 9) 0 (at [] 0) ∷ two_told) 0 ≡ told_to two (2 ^ 63 + 1) 8 (0 ∷ []) ∷ told_to one (2 ^ 63) 7 (0 ∷ 0 ∷ []) ∷ []
+resent_alone = refl
+
+done_alone : standing opening (step (events.Deliver 0 fates.Done) (lines.Done 0 one (2 ^ 63)) 0 (at [] 0) ∷ two_told) 0 ≡ told_to two (2 ^ 63 + 1) 8 (0 ∷ []) ∷ []
+done_alone = refl
 
 -- a restart ends it
 ended_by_restart : standing opening (restarts first_told 0 ∷ first_told) 0 ≡ []

@@ -11,8 +11,9 @@ use Rattle.lisp_world.specs.declared.line.Line.TheVariants as lines
 use Rattle.lisp_world.specs.declared.refusal.Refusal.TheVariants as refusals
 use Rattle.lisp_world.specs.Trace.{Happening, Step, Opening, shown, is_up, up_after}
 use Rattle.lisp_world.specs.Turn.{Turn, values, values_after, Saves, IsBase}
+use Rattle.lisp_etr.specs.Sending.{last_nonce, IsBound}
 use Rattle.lisp_world.specs.Sending.{CountsFrom, pair_at, last_sent, last_sent_after, start_values, start_values_after}
-use Rattle.lisp_world.specs.Legal.{Row, Legal, LegalTrace, turn_of}
+use Rattle.lisp_world.specs.Legal.{MayCome, Legal, LegalTrace, turn_of}
 use Rattle.lisp_world.proofs.ListLemmas.{at_head}
 use Rattle.lisp_world.proofs.Locality.{by_actor, same_number, other_number, up_other, last_sent_other, start_values_other}
 use Rattle.lisp_world.proofs.OwnValues.{own_values, own_values_after, Stays, Leaves, leaves}
@@ -50,17 +51,17 @@ module _ (t : Turn) (was : is_up t.past t.node ≡ true → Reached (own_values 
   sent_reached r nonce is found = subst (λ b. Reached (own_values_after t) (if b then Some nonce else last_sent t.past t.node) (start_values t.opening t.past t.node)) (sym (ap (λ s. s == t.node) is ∙ same_number t.node))
       (λ base e. (found.0, found.1, subst (λ (b : Option ℕ). number b ≤ number found.0) (sym e) found.2))
 
-  saves_reached : (router nonce : ℕ) → t.node ≡ router → is_up t.past router ≡ true → (base : Option ℕ) → CountsFrom t.opening t.past router base → Saves t (pair_at t.opening router) nonce
+  saves_reached : (router nonce : ℕ) → t.node ≡ router → is_up t.past router ≡ true → (base : Option ℕ) → CountsFrom t.opening t.past router base → Saves t (pair_at t.opening t.past router) nonce last_nonce
       → (v : Option ℕ) × Contains (own_values_after t) v × (nonce ≤ number v)
-  saves_reached router nonce is up base counts saves = subst (λ (n : ℕ). (v : Option ℕ) × Contains (values_after t (pair_at t.opening n)) v × (nonce ≤ number v)) (sym is) (at saves.here)
+  saves_reached router nonce is up base counts saves = subst (λ (n : ℕ). (v : Option ℕ) × Contains (values_after t (pair_at t.opening t.past n)) v × (nonce ≤ number v)) (sym is) (at saves.here)
     where
-      old : (v : Option ℕ) × Contains (values t (pair_at t.opening router)) v × (number base ≤ number v)
-      old = subst (λ (n : ℕ). (v : Option ℕ) × Contains (values t (pair_at t.opening n)) v × (number base ≤ number v)) is
+      old : (v : Option ℕ) × Contains (values t (pair_at t.opening t.past router)) v × (number base ≤ number v)
+      old = subst (λ (n : ℕ). (v : Option ℕ) × Contains (values t (pair_at t.opening t.past n)) v × (number base ≤ number v)) is
           (was (ap (is_up t.past) is ∙ up) base (subst (λ (n : ℕ). CountsFrom t.opening t.past n base) (sym is) counts))
 
-      at : (values_after t (pair_at t.opening router) ≡ values t (pair_at t.opening router)) ⊎ ((n : ℕ) × (values_after t (pair_at t.opening router) ≡ Some n ∷ [])) → (v : Option ℕ) × Contains (values_after t (pair_at t.opening router)) v × (nonce ≤ number v)
+      at : (values_after t (pair_at t.opening t.past router) ≡ values t (pair_at t.opening t.past router)) ⊎ ((n : ℕ) × IsBound nonce last_nonce n × (values_after t (pair_at t.opening t.past router) ≡ Some n ∷ [])) → (v : Option ℕ) × Contains (values_after t (pair_at t.opening t.past router)) v × (nonce ≤ number v)
       at (inl same) = let has = subst (λ (vs : List (Option ℕ)). Contains vs old.0) (sym same) old.1 in (old.0, has, saves.none_below old.0 has)
-      at (inr one) = let has = subst (λ (vs : List (Option ℕ)). Contains vs (Some one.0)) (sym one.1) (at_head (Some one.0) []) in (Some one.0, has, saves.none_below (Some one.0) has)
+      at (inr one) = let has = subst (λ (vs : List (Option ℕ)). Contains vs (Some one.0)) (sym one.2) (at_head (Some one.0) []) in (Some one.0, has, saves.none_below (Some one.0) has)
 
   -- the router starts
   starts_reached : (named : ℕ) → named ≡ t.node → (last : Option ℕ) → Reached (own_values_after t) (if named == t.node then None else last) (if named == t.node then own_values_after t else start_values t.opening t.past t.node)
@@ -70,7 +71,7 @@ module _ (t : Turn) (was : is_up t.past t.node ≡ true → Reached (own_values 
   down_now : (named : ℕ) → named ≡ t.node → (if named == t.node then false else is_up t.past t.node) ≡ false
   down_now named is = ap (λ b. if b then false else is_up t.past t.node) (ap (λ s. s == t.node) is ∙ same_number t.node)
 
-  after : (e : Happening) (line : Line) → Row t e line → Leaves t line → After e line
+  after : (e : Happening) (line : Line) → MayCome t e line → Leaves t line → After e line
   after (events.Restart node pick db) (lines.Refused named (refusals.Start fault)) row left = λ up. absurd (true≢false (sym up ∙ down_now named left.0))
   after (events.Restart node pick db) (lines.Refused named _) row left = absurd row
   after (events.Deliver k fate) (lines.Refused named (refusals.Start fault)) row left = absurd row.arrives
@@ -81,24 +82,24 @@ module _ (t : Turn) (was : is_up t.past t.node ≡ true → Reached (own_values 
   after e line row left = later left
 
   -- any legal step of the node
-  pub row_reached : (e : Happening) (line : Line) → Row t e line → After e line
+  pub row_reached : (e : Happening) (line : Line) → MayCome t e line → After e line
   row_reached e line row = after e line row (leaves t e line row)
 
 module _ (o : Opening) where
   abbrev ReachedAt : List Step → ℕ → Type 0
-  ReachedAt T r = is_up T r ≡ true → Reached (kept_at (shown o T r).kept (pair_at o r)) (last_sent T r) (start_values o T r)
+  ReachedAt T r = is_up T r ≡ true → Reached (kept_at (shown o T r).kept (pair_at o T r)) (last_sent T r) (start_values o T r)
 
   reached_actor : (T : List Step) (s : Step) → Legal o T s → ReachedAt T s.actor → ReachedAt (s ∷ T) s.actor
-  reached_actor T s l old = subst (λ b. is_up (s ∷ T) s.actor ≡ true → Reached (kept_at (if b then s.shown else shown o T s.actor).kept (pair_at o s.actor)) (last_sent (s ∷ T) s.actor) (start_values o (s ∷ T) s.actor)) (sym (same_number s.actor))
+  reached_actor T s l old = subst (λ b. is_up (s ∷ T) s.actor ≡ true → Reached (kept_at (if b then s.shown else shown o T s.actor).kept (pair_at o T s.actor)) (last_sent (s ∷ T) s.actor) (start_values o (s ∷ T) s.actor)) (sym (same_number s.actor))
       (row_reached (turn_of o T s) old s.event s.line l.row)
 
   reached_other : (T : List Step) (s : Step) (r : ℕ) → r ≢ s.actor → Legal o T s → ReachedAt T r → ReachedAt (s ∷ T) r
   reached_other T s r differ l old up =
       let by = by_actor (turn_of o T s) s.event s.line l.row in
       let was = old (sym (up_other s.actor r differ s.event s.line by (is_up T r)) ∙ up) in
-      subst (λ (last : Option ℕ). Reached (kept_at (shown o (s ∷ T) r).kept (pair_at o r)) last (start_values o (s ∷ T) r)) (sym (last_sent_other s.actor r differ s.line by (last_sent T r)))
-      (subst (λ (start : List (Option ℕ)). Reached (kept_at (shown o (s ∷ T) r).kept (pair_at o r)) (last_sent T r) start) (sym (start_values_other s.actor r differ s.line by (kept_at s.shown.kept (pair_at o r)) (start_values o T r)))
-      (subst (λ b. Reached (kept_at (if b then s.shown else shown o T r).kept (pair_at o r)) (last_sent T r) (start_values o T r)) (sym (other_number s.actor r (λ e. differ (sym e)))) was))
+      subst (λ (last : Option ℕ). Reached (kept_at (shown o (s ∷ T) r).kept (pair_at o T r)) last (start_values o (s ∷ T) r)) (sym (last_sent_other s.actor r differ s.line by (last_sent T r)))
+      (subst (λ (start : List (Option ℕ)). Reached (kept_at (shown o (s ∷ T) r).kept (pair_at o T r)) (last_sent T r) start) (sym (start_values_other s.actor r differ s.line by (kept_at s.shown.kept (pair_at o T r)) (start_values o T r)))
+      (subst (λ b. Reached (kept_at (if b then s.shown else shown o T r).kept (pair_at o T r)) (last_sent T r) (start_values o T r)) (sym (other_number s.actor r (λ e. differ (sym e)))) was))
 
   reached_step : (T : List Step) (s : Step) (r : ℕ) (b : Bool) → (s.actor == r) ≡ b → Legal o T s → ((n : ℕ) → ReachedAt T n) → ReachedAt (s ∷ T) r
   reached_step T s r true e l old = subst (ReachedAt (s ∷ T)) ((Decides-eqb s.actor r).0 e) (reached_actor T s l (old s.actor))

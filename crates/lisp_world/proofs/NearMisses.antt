@@ -1,12 +1,13 @@
 -- Steps that are illegal: near misses of the legal traces.
 use Rattle.std.proofs.Common.{◌≡◌, ℕ, true, false, List, [], ◌∷◌, length, Option, Some, None, Ok, refl, sym, ap, subst, inl, inr, ◌∙◌, arith}
 use Rattle.std.specs.Prelude.{◌^◌, ◌+◌, ◌-◌, ◌<◌, ◌≤◌, ◌⊎◌, slice_get, if◌then◌else◌, Result, Err}
-use Rattle.std.specs.FinMap.{insert}
+use Rattle.std.specs.FinMap.{empty, insert}
 use Rattle.std.specs.List.{Contains}
 use Rattle.lisp_store.specs.declared.fate.Fate.TheVariants as fates
 use Rattle.lisp_store.specs.Kept.{Kept, kept_at, number}
 use Rattle.lisp_messages.specs.Message.{Registration, Registers}
 use Rattle.lisp_etr.specs.Hearing.{Heard}
+use Rattle.lisp_etr.specs.Sending.{last_nonce, IsBound}
 use Rattle.lisp_etr.specs.declared.send_fault.SendFault.TheVariants as send_faults
 use Rattle.lisp_server.specs.declared.refused.Refused.{Refused}
 use Rattle.lisp_etr.specs.declared.notify_fault.NotifyFault.{NotifyFault}
@@ -27,11 +28,13 @@ use Rattle.lisp_world.specs.declared.refusal.Refusal.TheVariants as refusals
 use Rattle.lisp_world.specs.Trace.{Step, Shown, node_at}
 use Rattle.lisp_world.specs.Bag.{Item, bytes_of, arrival_of, bag}
 use Rattle.lisp_world.specs.Turn.{Turn, values_after}
+use Rattle.lisp_world.specs.Hearing.{Hears}
 use Rattle.lisp_world.specs.Receiving.{IsFresh}
 use Rattle.lisp_world.specs.Legal.{Legal, turn_of}
 use Rattle.lisp_world.proofs.KeptLemmas.{kept_at-empty, only_value, set_here, set_others}
 use Rattle.lisp_world.proofs.ItemLemmas.{item_authentic, is_not_allowed}
 use Rattle.lisp_world.proofs.Samples.{opening, network, site, secret, local_at, one, wide, mapping, registers, sent_by, got_from, at, step, keeps, blank, sends, takes, replays, counts, ticks, tells, refuses, changes}
+use Rattle.lisp_world.proofs.HeardLines.{counted_of}
 use Rattle.lisp_world.proofs.Steps.{told, heard_of, hears}
 use Rattle.lisp_world.proofs.LegalRows.{one_sent, one_taken, restarted, foreign, foreign_sent, strange_refused, sent_twice, waited, registered_again, told_and_gone, kinds_differ, not_started}
 
@@ -57,6 +60,21 @@ sent_unsaved : Legal opening [] (step (events.Send 2 0 fates.Done) (lines.Sent 2
 sent_unsaved l =
     let low : 1 ≤ number None = l.row.2.saves.none_below None (subst (λ (vs : List (Option ℕ)). Contains vs None) (sym (kept_at-empty (sent_by one))) (0, omega arith, refl)) in
     absurd (omega (arith, low))
+
+-- far more is saved than its nonce
+saved_far_ahead : Legal opening [] (step (events.Send 2 0 fates.Done) (lines.Sent 2 0 1 1 0) 2 (keeps blank (sent_by one) 1025)) → ⊥
+saved_far_ahead l = at l.row.2.saves.here
+  where
+    shows : kept_at (insert empty (sent_by one) (Some 1025 ∷ [])) (sent_by one) ≡ Some 1025 ∷ []
+    shows = set_here empty (sent_by one) (Some 1025 ∷ [])
+
+    at : (kept_at (insert empty (sent_by one) (Some 1025 ∷ [])) (sent_by one) ≡ kept_at empty (sent_by one)) ⊎ ((bound : ℕ) × IsBound 1 last_nonce bound × (kept_at (insert empty (sent_by one) (Some 1025 ∷ [])) (sent_by one) ≡ Some bound ∷ [])) → ⊥
+    at (inl same) = nothing_is_no_number (sym (kept_at-empty (sent_by one)) ∙ sym same ∙ shows)
+    at (inr saved) =
+        let one_value : ◌≡◌ {A = List (Option ℕ)} (Some saved.0 ∷ []) (Some 1025 ∷ []) = sym saved.2 ∙ shows in
+        let bound : saved.0 ≡ 1025 = cc in
+        let near = saved.1.near in
+        absurd (omega (arith, near, bound))
 
 -- what an accepted datagram was
 record Takes (t : Turn) (k server : ℕ) (datagram : Option ℕ) (i : Item) (m : Registration) : Type 0 where
@@ -139,17 +157,22 @@ wrong_order_of_send l = let clash : false ≡ true = l.row.3.0 in absurd cc
 
 -- a Map-Notify counts as another server's
 counted_from_other : Legal opening one_taken (counts one_taken 1 1 1) → ⊥
-counted_from_other l =
-    let a = l.row.arrives in
-    let sent : told (local_at 11) (local_at 21) 1 (mapping wide 1440 ∷ []) ≡ l.row.item = cc in
-    let heard_it : ◌≡◌ {A = Result Heard NotifyFault} (Ok a.what) (Ok (heard_of 0 1 (mapping wide 1440 ∷ []))) = sym a.hears ∙ ap (λ (i : Item). heard network 2 (arrival_of i)) (sym sent) ∙ hears (local_at 11) (local_at 21) 1 (mapping wide 1440 ∷ []) 0 refl in
-    let what : a.what ≡ heard_of 0 1 (mapping wide 1440 ∷ []) = cc in
-    let server : ◌≡◌ {A = ℕ} 1 0 = a.whose ∙ ap (λ (h : Heard). h.server) what in
-    absurd (omega (arith, server))
+counted_from_other l = no_line l.row.item (let same : told (local_at 11) (local_at 21) 1 (mapping wide 1440 ∷ []) ≡ l.row.item = cc in same) l.row.arrives
+  where
+    no_line : (i : Item) → told (local_at 11) (local_at 21) 1 (mapping wide 1440 ∷ []) ≡ i → Hears (turn_of opening one_taken (counts one_taken 1 1 1)) (arrival_of i) (lines.Counted 2 1 1 1) → ⊥
+    no_line i same heard_there =
+        let row = counted_of _ (arrival_of i) 2 1 1 1 heard_there in
+        let heard_it : ◌≡◌ {A = Result Heard NotifyFault} (Ok row.what) (Ok (heard_of 0 1 (mapping wide 1440 ∷ []))) = sym row.hears ∙ ap (λ (x : Item). heard opening one_taken 2 (arrival_of x)) (sym same) ∙ hears_told in
+        let what : row.what ≡ heard_of 0 1 (mapping wide 1440 ∷ []) = cc in
+        let server : ◌≡◌ {A = ℕ} 1 0 = row.whose ∙ ap (λ (h : Heard). h.server) what in
+        absurd (omega (arith, server))
+      where
+        hears_told : heard opening one_taken 2 (arrival_of (told (local_at 11) (local_at 21) 1 (mapping wide 1440 ∷ []))) ≡ Ok (heard_of 0 1 (mapping wide 1440 ∷ []))
+        hears_told = hears (local_at 11) (local_at 21) 1 (mapping wide 1440 ∷ []) 0 refl one_taken
 
 -- a Map-Notify for an older Map-Register counts
 counted_stale : Legal opening sent_twice (counts sent_twice 1 0 1) → ⊥
-counted_stale l = let clash : false ≡ true = l.row.arrives.latest in absurd cc
+counted_stale l = let clash : false ≡ true = (counted_of _ (arrival_of l.row.item) 2 0 1 1 l.row.arrives).latest in absurd cc
 
 -- a record is told after a restart
 told_after_restart : Legal opening told_and_gone (tells told_and_gone (2 ^ 63 + 1) 3) → ⊥

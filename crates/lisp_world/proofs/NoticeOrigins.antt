@@ -13,18 +13,19 @@ use Rattle.lisp_messages.specs.Message.{Registration}
 use Rattle.lisp_messages.specs.Authentic.{is_authentic}
 use Rattle.lisp_server.specs.declared.refused.Refused.{Refused}
 use Rattle.lisp_server.specs.declared.refused.Refused.TheVariants.{UnknownSite, UnknownKey, BadAuth, MergeAsked}
-use Rattle.lisp_server.specs.Checks.{◌>>=◌, check, refused_at, first_not_allowed, secret_under}
+use Rattle.lisp_records.specs.Result.{◌>>=◌}
+use Rattle.lisp_server.specs.Checks.{check, refused_at, first_not_allowed, secret_under}
 use Rattle.lisp_server.specs.AcceptedRows.{router_of}
 use Rattle.lisp_world.specs.declared.event.Event.TheVariants as events
 use Rattle.lisp_world.specs.declared.line.Line.{Line}
 use Rattle.lisp_world.specs.declared.line.Line.TheVariants as lines
 use Rattle.lisp_world.specs.Trace.{Happening, Step, Opening, Shown, addresses, address_at, is_router, router_at, secret_at, clock}
 use Rattle.lisp_world.specs.Held.{Acceptance, heard_last}
-use Rattle.lisp_world.specs.Timers.{Notice, notices, notices_after, without, sent_again, not_to}
+use Rattle.lisp_world.specs.Timers.{Notice, notices, notices_after, without, sent_again}
 use Rattle.lisp_world.specs.Bag.{Item, Arrival, arrival_in, taken, notice_item, posted, past, bag, since}
 use Rattle.lisp_world.specs.Accepted.{accepted, accepted_after}
 use Rattle.lisp_world.specs.Clean.{IsHarmless, Clean}
-use Rattle.lisp_world.specs.Legal.{Row, LegalTrace, turn_of}
+use Rattle.lisp_world.specs.Legal.{MayCome, LegalTrace, turn_of}
 use Rattle.lisp_world.proofs.AgreementLaws.{since_accepted}
 use Rattle.lisp_world.proofs.ArrivalLemmas.{comes}
 use Rattle.lisp_world.proofs.ChangeLemmas.{get_last}
@@ -53,7 +54,7 @@ module _ {X : Type 0} where
       at (inr more) = in_tail y ys x (later more)
   filter_case y x ys zs false has later = in_tail y ys x (later has)
 
-  in_filter : (p : X → Bool) (xs : List X) (x : X) → Contains (filter p xs) x → Contains xs x
+  pub in_filter : (p : X → Bool) (xs : List X) (x : X) → Contains (filter p xs) x → Contains xs x
   in_filter p [] x has = has
   in_filter p (y ∷ ys) x has = filter_case y x ys (filter p ys) (p y) has (in_filter p ys x)
 
@@ -86,8 +87,8 @@ pub record WentOut (o : Opening) (items : List Item) (x : Notice) : Type 0 where
   pub router : ℕ
   pub kind : is_router o.config router ≡ true
   pub to : item.to ≡ address_at o.config router
-  pub same : (router_at o.config router).me ≡ (router_at o.config x.router).me
-  pub known : Contains (site_secrets o.config) (secret_at o.config.sites (router_at o.config x.router).me.site x.key)
+  pub same : (router_at o.config router).me ≡ x.router
+  pub known : Contains (site_secrets o.config) (secret_at o.config.sites x.router.site x.key)
 
 abbrev pub AllWentOut : Opening → List Item → List Notice → Type 0
 AllWentOut o items notices = (x : Notice) → Contains notices x → WentOut o items x
@@ -95,8 +96,8 @@ AllWentOut o items notices = (x : Notice) → Contains notices x → WentOut o i
 later_out : (o : Opening) (items more : List Item) (x : Notice) → WentOut o items x → WentOut o (items ++ more) x
 later_out o items more x w = record { item = w.item; place = get_more items more x.datagram w.item w.place; router = w.router; kind = w.kind; to = w.to; same = w.same; known = w.known }
 
-again_out : (o : Opening) (items : List Item) (router now : ℕ) (x : Notice) → WentOut o items x → WentOut o items (sent_again router now x)
-again_out o items router now x w = at (x.router == router)
+again_out : (o : Opening) (items : List Item) (router : RouterId) (now : ℕ) (x : Notice) → WentOut o items x → WentOut o items (sent_again router now x)
+again_out o items router now x w = at (router_eq x.router router)
   where
     at : (b : Bool) → WentOut o items (if b then record x { moments = now ∷ x.moments } else x)
     at true = record { item = w.item; place = w.place; router = w.router; kind = w.kind; to = w.to; same = w.same; known = w.known }
@@ -109,7 +110,7 @@ pub record Announces (o : Opening) (T : List Step) (server router key datagram :
   pub under : key ≡ last.message.key_id
   pub place : datagram ≡ length (bag o T)
 
-announces : (o : Opening) (T : List Step) (actor : ℕ) (after : Shown) (e : Happening) (server router key nonce datagram : ℕ) → Row (turn_of o T (record { event = e; line = lines.Notice server router key nonce datagram; actor = actor; shown = after })) e (lines.Notice server router key nonce datagram) → Announces o T server router key datagram
+announces : (o : Opening) (T : List Step) (actor : ℕ) (after : Shown) (e : Happening) (server router key nonce datagram : ℕ) → MayCome (turn_of o T (record { event = e; line = lines.Notice server router key nonce datagram; actor = actor; shown = after })) e (lines.Notice server router key nonce datagram) → Announces o T server router key datagram
 announces o T actor after (events.Notice s r fate) server router key nonce datagram row = record { last = row.2.last; heard = (λ i. heard_last (router_at o.config (row.1 i)).me (since o T (row.0 i))) ∙ row.2.heard; under = row.2.under; place = row.2.place }
 announces o T actor after (events.Change _ _) server router key nonce datagram row = absurd row
 announces o T actor after (events.Send _ _ _) server router key nonce datagram row = absurd row
@@ -121,7 +122,7 @@ announces o T actor after (events.Resend _ _) server router key nonce datagram r
 
 module _ (o : Opening) (distinct : AllPairs (λ a b. a ≢ b) (addresses o.config)) (reads : ReadsBack) where
   -- an accepted message was checked under a secret of its site
-  known_case : (T : List Step) → LegalTrace o T → Clean o T → (s : Step) → IsHarmless o T s.event → (line : Line) → Row (turn_of o T s) s.event line → (k : ℕ) (x : Acceptance)
+  known_case : (T : List Step) → LegalTrace o T → Clean o T → (s : Step) → IsHarmless o T s.event → (line : Line) → MayCome (turn_of o T s) s.event line → (k : ℕ) (x : Acceptance)
       → Contains (accepted_after line (taken (arrival_in (bag o T) s.event) (clock T)) k (accepted o T k)) x → (Contains (accepted o T k) x → Contains (site_secrets o.config) (secret_at o.config.sites x.message.site x.message.key_id)) → Contains (site_secrets o.config) (secret_at o.config.sites x.message.site x.message.key_id)
   known_case T legal clean s harmless (lines.Accepted server router key nonce datagram) row k x has old = at (server == k) has
     where
@@ -147,7 +148,7 @@ module _ (o : Opening) (distinct : AllPairs (λ a b. a ≢ b) (addresses o.confi
 
   module _ (T : List Step) (legal : LegalTrace o T) (clean : Clean o T) where
     announced : (server router key nonce datagram now : ℕ) → Announces o T server router key datagram
-        → WentOut o (bag o T ++ option_to_list (option_map (notice_item o T (since o T server) server router key nonce) (heard_last (router_at o.config router).me (since o T server)))) (record { router = router; key = key; nonce = nonce; datagram = datagram; moments = now ∷ [] })
+        → WentOut o (bag o T ++ option_to_list (option_map (notice_item o T (since o T server) server router key nonce) (heard_last (router_at o.config router).me (since o T server)))) (record { router = (router_at o.config router).me; key = key; nonce = nonce; datagram = datagram; moments = now ∷ [] })
     announced server router key nonce datagram now a =
         let me : RouterId = (router_at o.config router).me in
         let its = since_accepted o T server a.last (in_find (λ x. router_eq (router_of x.message) me) (since o T server) a.last a.heard) in
@@ -164,12 +165,12 @@ module _ (o : Opening) (distinct : AllPairs (λ a b. a ≢ b) (addresses o.confi
           known = subst (λ (k : ℕ). Contains (site_secrets o.config) (secret_at o.config.sites me.site k)) (sym a.under) (subst (λ (r : RouterId). Contains (site_secrets o.config) (secret_at o.config.sites r.site a.last.message.key_id)) named (accepted_known T legal clean server a.last its));
         }
 
-    out_case : (s : Step) (line : Line) → Row (turn_of o T s) s.event line → (k : ℕ) → AllWentOut o (bag o T) (notices o T k)
+    out_case : (s : Step) (line : Line) → MayCome (turn_of o T s) s.event line → (k : ℕ) → AllWentOut o (bag o T) (notices o T k)
         → AllWentOut o (bag o T ++ posted o T (past o T) (arrival_in (bag o T) s.event) line) (notices_after o.config line (clock T) k (notices o T k))
     out_case s (lines.Notice server router key nonce datagram) row k old x has = at (server == k) has
       where
         one : Notice
-        one = record { router = router; key = key; nonce = nonce; datagram = datagram; moments = clock T ∷ [] }
+        one = record { router = (router_at o.config router).me; key = key; nonce = nonce; datagram = datagram; moments = clock T ∷ [] }
 
         items : List Item
         items = posted o T (past o T) (arrival_in (bag o T) s.event) (lines.Notice server router key nonce datagram)
@@ -177,27 +178,27 @@ module _ (o : Opening) (distinct : AllPairs (λ a b. a ≢ b) (addresses o.confi
         new : WentOut o (bag o T ++ items) one
         new = announced server router key nonce datagram (clock T) (announces o T s.actor s.shown s.event server router key nonce datagram row)
 
-        at : (b : Bool) → Contains (if b then one ∷ without router (notices o T k) else notices o T k) x → WentOut o (bag o T ++ items) x
+        at : (b : Bool) → Contains (if b then one ∷ without (router_at o.config router).me (notices o T k) else notices o T k) x → WentOut o (bag o T ++ items) x
         at false has = later_out o (bag o T) items x (old x has)
-        at true has = both (head_or_tail one (without router (notices o T k)) x has)
+        at true has = both (head_or_tail one (without (router_at o.config router).me (notices o T k)) x has)
           where
-            both : (x ≡ one) ⊎ Contains (without router (notices o T k)) x → WentOut o (bag o T ++ items) x
+            both : (x ≡ one) ⊎ Contains (without (router_at o.config router).me (notices o T k)) x → WentOut o (bag o T ++ items) x
             both (inl same) = subst (WentOut o (bag o T ++ items)) (sym same) new
-            both (inr more) = later_out o (bag o T) items x (old x (in_filter (λ n. not (n.router == router)) (notices o T k) x more))
+            both (inr more) = later_out o (bag o T) items x (old x (in_filter (λ n. not (router_eq n.router (router_at o.config router).me)) (notices o T k) x more))
     out_case s (lines.Resent server router datagram) row k old x has = at (server == k) has
       where
         items : List Item
         items = posted o T (past o T) (arrival_in (bag o T) s.event) (lines.Resent server router datagram)
 
-        at : (b : Bool) → Contains (if b then map (sent_again router (clock T)) (notices o T k) else notices o T k) x → WentOut o (bag o T ++ items) x
+        at : (b : Bool) → Contains (if b then map (sent_again (router_at o.config router).me (clock T)) (notices o T k) else notices o T k) x → WentOut o (bag o T ++ items) x
         at false has = later_out o (bag o T) items x (old x has)
-        at true has = let found = from_map (sent_again router (clock T)) (notices o T k) x has in
-            later_out o (bag o T) items x (subst (WentOut o (bag o T)) (sym found.2) (again_out o (bag o T) router (clock T) found.0 (old found.0 found.1)))
+        at true has = let found = from_map (sent_again (router_at o.config router).me (clock T)) (notices o T k) x has in
+            later_out o (bag o T) items x (subst (WentOut o (bag o T)) (sym found.2) (again_out o (bag o T) (router_at o.config router).me (clock T) found.0 (old found.0 found.1)))
     out_case s (lines.Done server router nonce) row k old x has = later_out o (bag o T) [] x (at (server == k) has)
       where
-        at : (b : Bool) → Contains (if b then not_to o.config router (notices o T k) else notices o T k) x → WentOut o (bag o T) x
+        at : (b : Bool) → Contains (if b then without router (notices o T k) else notices o T k) x → WentOut o (bag o T) x
         at false has = old x has
-        at true has = old x (in_filter (λ n. not (router_eq (router_at o.config n.router).me router)) (notices o T k) x has)
+        at true has = old x (in_filter (λ n. not (router_eq n.router router)) (notices o T k) x has)
     out_case s (lines.Restarted node) row k old x has = later_out o (bag o T) [] x (at (node == k) has)
       where
         at : (b : Bool) → Contains (if b then [] else notices o T k) x → WentOut o (bag o T) x

@@ -10,8 +10,6 @@ use Rattle.lisp_store.specs.declared.pair.PairKind.TheVariants as kinds
 use Rattle.lisp_store.specs.Kept.{Kept, kept_at, number, InDoubt, NoneBelow}
 use Rattle.lisp_etr.specs.declared.send_fault.SendFault.{SendFault}
 use Rattle.lisp_etr.specs.declared.send_fault.SendFault.TheVariants as sends
-use Rattle.lisp_etr.specs.declared.notify_fault.NotifyFault.{NotifyFault}
-use Rattle.lisp_etr.specs.declared.notify_fault.NotifyFault.TheVariants as notifies
 use Rattle.lisp_server.specs.declared.refused.Refused.{Refused}
 use Rattle.lisp_server.specs.declared.refused.Refused.TheVariants as refuseds
 use Rattle.lisp_server.specs.declared.notice_fault.NoticeFault.{NoticeFault}
@@ -27,12 +25,12 @@ use Rattle.lisp_world.specs.Timers.{last_notice, last_notice_after}
 use Rattle.lisp_world.specs.Turn.{Turn, values, values_after, Same, IsBase}
 use Rattle.lisp_world.specs.Sending.{RefusesToSend}
 use Rattle.lisp_world.specs.Receiving.{RefusesMessage}
-use Rattle.lisp_world.specs.Hearing.{RefusesNotify}
 use Rattle.lisp_world.specs.Notifying.{RefusesNotice, RefusesToResend}
-use Rattle.lisp_world.specs.Legal.{Row, Arrives, Legal, LegalTrace, turn_of}
+use Rattle.lisp_world.specs.Legal.{MayCome, Arrives, Legal, LegalTrace, turn_of}
 use Rattle.lisp_world.specs.Promises.{Falls, notice_nonces, notice_nonces_after, NoticeNoncesRise}
 use Rattle.lisp_world.proofs.ListLemmas.{head_or_tail, in_none}
-use Rattle.lisp_world.proofs.Locality.{IsBy, by_actor, unless, same_number, other_number, last_notice_other}
+use Rattle.lisp_world.proofs.HeardLines.{IsBy}
+use Rattle.lisp_world.proofs.Locality.{by_actor, unless, same_number, other_number, last_notice_other}
 
 -- what holds at a server: its notices' nonces fall from the last one, and are at most each kept value, and
 -- at most the last one since its start
@@ -125,11 +123,6 @@ module _ (t : Turn) (nonces : List ℕ) (safe : NoticeSafe nonces (last_notice t
   sends_safe router server sends.OutOfMemory row = quiet row.4
   sends_safe router server (sends.Store fault) row = stays (row.1.fails.others notice_pair (not_sent _ refl))
 
-  hears_safe : (a : Arrival) (why : NotifyFault) → RefusesNotify t a why → Stays
-  hears_safe a (notifies.Stale latest) row = quiet row.1
-  hears_safe a notifies.OutOfMemory row = quiet row.1
-  hears_safe a _ row = quiet row.1
-
   message_safe : (a : Arrival) (why : Refused) → RefusesMessage t a why → Stays
   message_safe a (refuseds.StoreLoad fault) row = quiet row.fails.same
   message_safe a (refuseds.Replay saved) row = quiet row.same
@@ -158,7 +151,7 @@ module _ (t : Turn) (nonces : List ℕ) (safe : NoticeSafe nonces (last_notice t
   arrives_safe a (lines.Noticed router server nonce datagram) row = quiet row.same
   arrives_safe a (lines.Down router) row = quiet row.same
   arrives_safe a (lines.Refused node (refusals.Receive why)) row = message_safe a why row.1
-  arrives_safe a (lines.Refused node (refusals.Notify why)) row = hears_safe a why row.1
+  arrives_safe a (lines.Refused node (refusals.Notify why)) row = quiet row.same
   arrives_safe a _ row = absurd row
 
   restart_line : (named : ℕ) → named ≡ t.node → NoticeSafe nonces None (values_after t notice_pair) → NoticeSafe nonces (if named == t.node then None else last_notice t.past t.node) (values_after t notice_pair)
@@ -168,7 +161,7 @@ module _ (t : Turn) (nonces : List ℕ) (safe : NoticeSafe nonces (last_notice t
       → NoticeSafe (if server == t.node then nonce ∷ nonces else nonces) (if server == t.node then Some nonce else last_notice t.past t.node) (values_after t notice_pair)
   notice_line server nonce is next = subst (λ (b : Bool). NoticeSafe (if b then nonce ∷ nonces else nonces) (if b then Some nonce else last_notice t.past t.node) (values_after t notice_pair)) (sym (ap (λ s. s == t.node) is ∙ same_number t.node)) next
 
-  row_safe : (e : Happening) (line : Line) → Row t e line → After line
+  row_safe : (e : Happening) (line : Line) → MayCome t e line → After line
   row_safe (events.Change router db) (lines.Changed named records) row = quiet row.same
   row_safe (events.Change router db) (lines.Down named) row = quiet row.same
   row_safe (events.Send router server fate) (lines.Sent r s key nonce datagram) row = stays (row.2.saves.others notice_pair (not_sent _ refl))

@@ -12,10 +12,11 @@ use Rattle.lisp_world.specs.Held.{Acceptance}
 use Rattle.lisp_world.specs.Bag.{arrival_in, taken, bag}
 use Rattle.lisp_world.specs.Accepted.{accepted, accepted_after}
 use Rattle.lisp_world.specs.Clean.{IsHarmless, Clean}
-use Rattle.lisp_world.specs.Legal.{Row, LegalTrace, turn_of}
+use Rattle.lisp_world.specs.Legal.{MayCome, LegalTrace, turn_of}
 use Rattle.lisp_world.specs.Promises.{AcceptedWasSent}
 use Rattle.lisp_world.proofs.ListLemmas.{in_none}
-use Rattle.lisp_world.proofs.Locality.{IsBy, by_actor}
+use Rattle.lisp_world.proofs.HeardLines.{IsBy}
+use Rattle.lisp_world.proofs.Locality.{by_actor}
 use Rattle.lisp_world.proofs.Origins.{ReadsBack, IsSentTo, AllFrom, all_from, arrived}
 use Rattle.lisp_world.proofs.Sound.{unique}
 
@@ -36,10 +37,10 @@ module _ (o : Opening) (distinct : AllPairs (λ a b. a ≢ b) (addresses o.confi
         at (inr before) = old k x before
     chosen k server new x fresh false e has = old k x has
 
-    sent_after : (e : Happening) (line : Line) (actor : ℕ) (after : Shown) → IsHarmless o T e → Row (turn_of o T (record { event = e; line = line; actor = actor; shown = after })) e line → IsBy line actor
+    sent_after : (e : Happening) (line : Line) (actor : ℕ) (after : Shown) → IsHarmless o T e → MayCome (turn_of o T (record { event = e; line = line; actor = actor; shown = after })) e line → IsBy line actor
         → (k : ℕ) (x : Acceptance) → Contains (accepted_after line (taken (arrival_in (bag o T) e) (clock T)) k (accepted o T k)) x → IsSentTo o (entry_in o T line ++ history o T) k x
     sent_after e (lines.Accepted server router key nonce datagram) actor after harmless row by k x has =
-        let here = subst (λ (n : ℕ). Row (turn_of o T (record { event = e; line = lines.Accepted server router key nonce datagram; actor = n; shown = after })) e (lines.Accepted server router key nonce datagram)) (sym by) row in
+        let here = subst (λ (n : ℕ). MayCome (turn_of o T (record { event = e; line = lines.Accepted server router key nonce datagram; actor = n; shown = after })) e (lines.Accepted server router key nonce datagram)) (sym by) row in
         chosen k server (taken (arrival_in (bag o T) e) (clock T)) x (λ y one. arrived o T distinct reads all server router key nonce datagram e after harmless here y one) (server == k) refl has
     sent_after e line actor after harmless row by k x has = later_sent o (entry_in o T line) (history o T) k x (old k x has)
 

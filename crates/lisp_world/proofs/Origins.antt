@@ -19,7 +19,7 @@ use Rattle.lisp_world.specs.Held.{Acceptance, heard_last}
 use Rattle.lisp_world.specs.Timers.{Notice, notice_to}
 use Rattle.lisp_world.specs.Bag.{Item, Arrival, bytes_of, arrival_of, arrival_in, thrown, as_notify, taken, register_item, reply_item, notice_item, ack_item, posted, past, bag, since}
 use Rattle.lisp_world.specs.Clean.{secrets_of, IsEcho, IsNoise, IsForged, IsHarmless}
-use Rattle.lisp_world.specs.Legal.{Row, LegalTrace, turn_of}
+use Rattle.lisp_world.specs.Legal.{MayCome, LegalTrace, turn_of}
 use Rattle.lisp_world.proofs.CleanLemmas.{node_of, server_of, in_get, in_option, from_map, Checked, checked}
 use Rattle.lisp_world.proofs.ListLemmas.{at_head, head_or_tail, in_none}
 use Rattle.lisp_world.proofs.ReadingLemmas.{notifies_no_register}
@@ -47,7 +47,7 @@ later_from o one entries i m f = record { entry = f.entry; sent = Contains-appen
 
 module _ (o : Opening) (T : List Step) where
   -- no other line posts a Map-Register that wasn't there
-  posts : (node : ℕ) (after : Shown) (e : Happening) (line : Line) → Row (turn_of o T (record { event = e; line = line; actor = node; shown = after })) e line → AllFrom o (history o T) (bag o T)
+  posts : (node : ℕ) (after : Shown) (e : Happening) (line : Line) → MayCome (turn_of o T (record { event = e; line = line; actor = node; shown = after })) e line → AllFrom o (history o T) (bag o T)
       → (a : Option Arrival) → AllFrom o (entry_in o T line ++ history o T) (posted o T (past o T) a line)
   posts node after (events.Send router server fate) (lines.Sent r s key nonce datagram) row old a i has m is = at (head_or_tail (register_item o T r s nonce) [] i has)
     where
@@ -82,14 +82,14 @@ module _ (o : Opening) (T : List Step) where
   posts node after e (lines.Accepted server router key nonce None) row old a i has m is = absurd (in_none i has)
   posts node after e (lines.Accepted server router key nonce (Some datagram)) row old a i has m is = let found = from_map (reply_item o.config server) (taken a (clock T)) i has in absurd (said_clash (sym (ap (λ (x : Item). x.message) found.2) ∙ is))
   posts node after e (lines.Noticed router server nonce datagram) row old None i has m is = absurd (in_none i has)
-  posts node after e (lines.Noticed router server nonce datagram) row old (Some a) i has m is = at (as_notify a.read) (in_option (option_map (ack_item o.config router a) (as_notify a.read)) i has)
+  posts node after e (lines.Noticed router server nonce datagram) row old (Some a) i has m is = at (as_notify a.read) (in_option (option_map (ack_item o T router a) (as_notify a.read)) i has)
     where
-      at : (n : Option Notification) → option_map (ack_item o.config router a) n ≡ Some i → IsFrom o (history o T) i m
+      at : (n : Option Notification) → option_map (ack_item o T router a) n ≡ Some i → IsFrom o (history o T) i m
       at None e = absurd (none_clash e)
         where
           none_clash : ◌≡◌ {A = Option Item} None (Some i) → ⊥
           none_clash e = absurd cc
-      at (Some n) e = let same : ack_item o.config router a n ≡ i = cc in absurd (said_clash (ap (λ (x : Item). x.message) same ∙ is))
+      at (Some n) e = let same : ack_item o T router a n ≡ i = cc in absurd (said_clash (ap (λ (x : Item). x.message) same ∙ is))
   posts node after e (lines.Notice server router key nonce datagram) row old a i has m is = at (heard_last (router_at o.config router).me (since o T server)) (in_option (option_map (notice_item o T (since o T server) server router key nonce) (heard_last (router_at o.config router).me (since o T server))) i has)
     where
       at : (n : Option Acceptance) → option_map (notice_item o T (since o T server) server router key nonce) n ≡ Some i → IsFrom o (history o T) i m
@@ -98,7 +98,7 @@ module _ (o : Opening) (T : List Step) where
           none_clash : ◌≡◌ {A = Option Item} None (Some i) → ⊥
           none_clash e = absurd cc
       at (Some n) e = let same : notice_item o T (since o T server) server router key nonce n ≡ i = cc in absurd (said_clash (ap (λ (x : Item). x.message) same ∙ is))
-  posts node after e (lines.Resent server router datagram) row old a i has m is = at (notice_to o T server router) (in_option (option_and_then (λ n. slice_get (bag o T) n.datagram) (notice_to o T server router)) i has)
+  posts node after e (lines.Resent server router datagram) row old a i has m is = at (notice_to o T server (router_at o.config router).me) (in_option (option_and_then (λ n. slice_get (bag o T) n.datagram) (notice_to o T server (router_at o.config router).me)) i has)
     where
       at : (n : Option Notice) → option_and_then (λ n. slice_get (bag o T) n.datagram) n ≡ Some i → IsFrom o (history o T) i m
       at None e = absurd (none_clash e)
@@ -162,7 +162,7 @@ module _ (o : Opening) (T : List Step) (distinct : AllPairs (λ a b. a ≢ b) (a
         at (Notifies n) is = absurd (notifies_no_register i n m is (ap message_at same ∙ read))
 
     -- an acceptance in a step
-    pub arrived : (e : Happening) (after : Shown) → IsHarmless o T e → Row (turn_of o T (record { event = e; line = lines.Accepted server router key nonce datagram; actor = server; shown = after })) e (lines.Accepted server router key nonce datagram)
+    pub arrived : (e : Happening) (after : Shown) → IsHarmless o T e → MayCome (turn_of o T (record { event = e; line = lines.Accepted server router key nonce datagram; actor = server; shown = after })) e (lines.Accepted server router key nonce datagram)
         → (x : Acceptance) → Contains (taken (arrival_in (bag o T) e) (clock T)) x → IsSentTo o (history o T) server x
     arrived (events.Deliver k fate) after harmless row x has = subst (IsSentTo o (history o T) server) (sym only) (delivered row.item (in_get (bag o T) k row.item row.sent) row.there row.arrives.message said (clock T))
       where
@@ -185,7 +185,7 @@ module _ (o : Opening) (T : List Step) (distinct : AllPairs (λ a b. a ≢ b) (a
         at_server : is_server o.config to ≡ true
         at_server = ap (is_server o.config) (sym row.acts) ∙ row.arrives.acts.kind
 
-        at : (IsEcho (bag o T) from (address_at o.config to) bytes ⊎ (IsNoise bytes ⊎ IsForged (secrets_of o.config to) bytes)) → IsSentTo o (history o T) server (record { message = row.arrives.message; from = from; moment = clock T })
+        at : (IsEcho (bag o T) from (address_at o.config to) bytes ⊎ (IsNoise bytes ⊎ IsForged (secrets_of o T to) bytes)) → IsSentTo o (history o T) server (record { message = row.arrives.message; from = from; moment = clock T })
         at (inl echo) = echoed echo.item echo.sent row.arrives.acts.kind (echo.target ∙ ap (address_at o.config) (sym row.acts)) from echo.source bytes echo.same row.arrives.message row.arrives.admits.read (clock T)
         at (inr (inl noise)) = absurd (noise_clash (sym noise.1 ∙ row.arrives.admits.read))
           where

@@ -1,13 +1,11 @@
 -- What a legal step leaves of the values that a router's store keeps for its own nonces.
-use Rattle.std.proofs.Common.{◌≡◌, ℕ, ◌<◌, List, Option, refl, sym, ap, subst, inl, inr, ◌∙◌}
+use Rattle.std.proofs.Common.{arith, ◌≡◌, ℕ, ◌<◌, List, Option, refl, sym, ap, subst, inl, inr, ◌∙◌}
 use Rattle.std.specs.Prelude.{◌≢◌, ◌⊎◌}
 use Rattle.lisp_store.specs.declared.pair.Pair.{Pair}
 use Rattle.lisp_store.specs.declared.pair.PairKind.TheVariants as kinds
 use Rattle.lisp_store.specs.Kept.{Kept, kept_at, number, InDoubt, Narrows}
 use Rattle.lisp_etr.specs.declared.send_fault.SendFault.{SendFault}
 use Rattle.lisp_etr.specs.declared.send_fault.SendFault.TheVariants as sends
-use Rattle.lisp_etr.specs.declared.notify_fault.NotifyFault.{NotifyFault}
-use Rattle.lisp_etr.specs.declared.notify_fault.NotifyFault.TheVariants as notifies
 use Rattle.lisp_server.specs.declared.refused.Refused.{Refused}
 use Rattle.lisp_server.specs.declared.refused.Refused.TheVariants as refuseds
 use Rattle.lisp_server.specs.declared.notice_fault.NoticeFault.{NoticeFault}
@@ -22,15 +20,14 @@ use Rattle.lisp_world.specs.Bag.{Arrival, arrival_of, thrown}
 use Rattle.lisp_world.specs.Turn.{Turn, values, values_after, Same}
 use Rattle.lisp_world.specs.Sending.{CountsFrom, IsSent, pair_at, RefusesToSend}
 use Rattle.lisp_world.specs.Receiving.{RefusesMessage}
-use Rattle.lisp_world.specs.Hearing.{RefusesNotify}
 use Rattle.lisp_world.specs.Notifying.{RefusesNotice, RefusesToResend}
-use Rattle.lisp_world.specs.Legal.{Row, Arrives}
+use Rattle.lisp_world.specs.Legal.{MayCome, Arrives}
 
 abbrev pub own_values : Turn → List (Option ℕ)
-own_values t = values t (pair_at t.opening t.node)
+own_values t = values t (pair_at t.opening t.past t.node)
 
 abbrev pub own_values_after : Turn → List (Option ℕ)
-own_values_after t = values_after t (pair_at t.opening t.node)
+own_values_after t = values_after t (pair_at t.opening t.past t.node)
 
 -- a nonce above the number that the router counts from may have been saved
 pub record Doubts (t : Turn) : Type 0 where
@@ -58,14 +55,14 @@ notice_clash : kinds.Sent ≢ kinds.Notice
 notice_clash e = absurd cc
 
 module _ (t : Turn) where
-  not_received : (p : Pair) → p.kind ≡ kinds.Received → pair_at t.opening t.node ≢ p
+  not_received : (p : Pair) → p.kind ≡ kinds.Received → pair_at t.opening t.past t.node ≢ p
   not_received p is e = received_clash (ap (λ (x : Pair). x.kind) e ∙ is)
 
-  not_notice : pair_at t.opening t.node ≢ notice_pair
+  not_notice : pair_at t.opening t.past t.node ≢ notice_pair
   not_notice e = notice_clash (ap (λ (x : Pair). x.kind) e)
 
   quiet : Same t → Stays t
-  quiet same = inl (ap (λ (k : Kept). kept_at k (pair_at t.opening t.node)) same)
+  quiet same = inl (ap (λ (k : Kept). kept_at k (pair_at t.opening t.past t.node)) same)
 
   idle : t.after ≡ t.before → Stays t
   idle same = quiet (ap (λ (s : Shown). s.kept) same)
@@ -77,21 +74,16 @@ module _ (t : Turn) where
   send_refused router server (sends.Store fault) is row = inr (record {
     base = row.1.base;
     counts = subst (λ (n : ℕ). CountsFrom t.opening t.past n row.1.base) (sym is) row.1.counts;
-    nonce = row.1.nonce;
-    above = row.1.above;
-    doubt = subst (λ (n : ℕ). InDoubt (values t (pair_at t.opening n)) (values_after t (pair_at t.opening n)) row.1.nonce) (sym is) row.1.fails.here;
+    nonce = row.1.bound;
+    above = (let least = row.1.fits.least in omega (arith, least));
+    doubt = subst (λ (n : ℕ). InDoubt (values t (pair_at t.opening t.past n)) (values_after t (pair_at t.opening t.past n)) row.1.bound) (sym is) row.1.fails.here;
   })
-
-  notify_refused : (a : Arrival) (why : NotifyFault) → RefusesNotify t a why → Stays t
-  notify_refused a (notifies.Stale latest) row = quiet row.1
-  notify_refused a notifies.OutOfMemory row = quiet row.1
-  notify_refused a _ row = quiet row.1
 
   message_refused : (a : Arrival) (why : Refused) → RefusesMessage t a why → Stays t
   message_refused a (refuseds.StoreLoad fault) row = quiet row.fails.same
   message_refused a (refuseds.Replay saved) row = quiet row.same
   message_refused a refuseds.OutOfMemory row = quiet row.1
-  message_refused a (refuseds.StoreSave fault) row = inl (row.fails.others (pair_at t.opening t.node) (not_received _ refl))
+  message_refused a (refuseds.StoreSave fault) row = inl (row.fails.others (pair_at t.opening t.past t.node) (not_received _ refl))
   message_refused a _ row = quiet row.1
 
   notice_refused : (router : ℕ) (why : NoticeFault) → RefusesNotice t router why → Stays t
@@ -100,7 +92,7 @@ module _ (t : Turn) where
   notice_refused router (notices.StoreLoad fault) row = quiet row.2.same
   notice_refused router notices.NonceSpent row = quiet row.4
   notice_refused router notices.OutOfMemory row = quiet row.2
-  notice_refused router (notices.StoreSave fault) row = inl (row.2.others (pair_at t.opening t.node) not_notice)
+  notice_refused router (notices.StoreSave fault) row = inl (row.2.others (pair_at t.opening t.past t.node) not_notice)
   notice_refused router notices.NotDue row = absurd row
 
   resend_refused : (router : ℕ) (why : NoticeFault) → RefusesToResend t router why → Stays t
@@ -109,17 +101,17 @@ module _ (t : Turn) where
   resend_refused router _ row = absurd row
 
   arrival_leaves : (a : Arrival) (line : Line) → Arrives t a line → Leaves t line
-  arrival_leaves a (lines.Accepted server router key nonce datagram) row = inl (row.others (pair_at t.opening t.node) (not_received _ refl))
+  arrival_leaves a (lines.Accepted server router key nonce datagram) row = inl (row.others (pair_at t.opening t.past t.node) (not_received _ refl))
   arrival_leaves a (lines.Done server router nonce) row = quiet row.same
   arrival_leaves a (lines.Counted router server key nonce) row = quiet row.same
   arrival_leaves a (lines.Noticed router server nonce datagram) row = quiet row.same
   arrival_leaves a (lines.Down router) row = quiet row.same
   arrival_leaves a (lines.Refused node (refusals.Receive why)) row = message_refused a why row.1
-  arrival_leaves a (lines.Refused node (refusals.Notify why)) row = notify_refused a why row.1
+  arrival_leaves a (lines.Refused node (refusals.Notify why)) row = quiet row.same
   arrival_leaves a _ row = absurd row
 
   -- any legal step of the node
-  pub leaves : (e : Happening) (line : Line) → Row t e line → Leaves t line
+  pub leaves : (e : Happening) (line : Line) → MayCome t e line → Leaves t line
   leaves (events.Change router db) (lines.Changed named records) row = quiet row.same
   leaves (events.Change router db) (lines.Down named) row = quiet row.same
   leaves (events.Send router server fate) (lines.Sent r s key nonce datagram) row = (router, server, row.0, row.2)
@@ -129,9 +121,9 @@ module _ (t : Turn) where
   leaves (events.Deliver k fate) line row = arrival_leaves (arrival_of row.item) line row.arrives
   leaves (events.Junk to from bytes) line row = arrival_leaves (thrown from bytes) line row.arrives
   leaves (events.Tick ms) (lines.Ticked passed now) row = idle row.idle.same
-  leaves (events.Restart node pick db) (lines.Restarted named) row = (row.names ∙ sym row.acts, row.narrows (pair_at t.opening t.node))
-  leaves (events.Restart node pick db) (lines.Refused named (refusals.Start fault)) row = (row.names ∙ sym row.acts, row.narrows (pair_at t.opening t.node))
-  leaves (events.Notice server router fate) (lines.Notice s r key nonce datagram) row = inl (row.2.saves.others (pair_at t.opening t.node) not_notice)
+  leaves (events.Restart node pick db) (lines.Restarted named) row = (row.names ∙ sym row.acts, row.narrows (pair_at t.opening t.past t.node))
+  leaves (events.Restart node pick db) (lines.Refused named (refusals.Start fault)) row = (row.names ∙ sym row.acts, row.narrows (pair_at t.opening t.past t.node))
+  leaves (events.Notice server router fate) (lines.Notice s r key nonce datagram) row = inl (row.2.saves.others (pair_at t.opening t.past t.node) not_notice)
   leaves (events.Notice server router fate) (lines.Refused named (refusals.Notice why)) row = notice_refused router why row.3
   leaves (events.Resend server router) (lines.Resent s r datagram) row = quiet row.2.same
   leaves (events.Resend server router) (lines.Refused named (refusals.Notice why)) row = resend_refused router why row.3

@@ -10,7 +10,8 @@ use Rattle.lisp_messages.specs.declared.fault.ReadFault.TheVariants as faults
 use Rattle.lisp_messages.specs.Message.{Said, Registration, Notification, Registers, Notifies}
 use Rattle.lisp_messages.specs.Authentic.{signed}
 use Rattle.lisp_messages.specs.Written.{written, written_notify}
-use Rattle.lisp_messages.specs.Reading.{◌>>=◌, after, require, records_at, notify_at, tail_at, kind_at, message_at}
+use Rattle.lisp_records.specs.Result.{◌>>=◌}
+use Rattle.lisp_messages.specs.Reading.{after, require, records_at, notify_at, tail_at, kind_at, message_at}
 use Rattle.lisp_world.specs.Bag.{Item, bytes_of}
 
 err_clash : {X : Type 0} {fault : ReadFault} {x : X} → ◌≡◌ {A = Result X ReadFault} (Err fault) (Ok x) → ⊥

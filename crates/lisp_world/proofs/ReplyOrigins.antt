@@ -19,11 +19,13 @@ use Rattle.lisp_world.specs.Timers.{Notice, notice_to}
 use Rattle.lisp_world.specs.Bag.{Item, Arrival, arrival_in, as_notify, taken, register_item, reply_item, notice_item, ack_item, posted, past, bag, since}
 use Rattle.lisp_world.specs.Accepted.{accepted, accepted_after}
 use Rattle.lisp_world.specs.Clean.{IsHarmless, Clean}
-use Rattle.lisp_world.specs.Legal.{Row, LegalTrace, turn_of}
+use Rattle.lisp_world.specs.Legal.{MayCome, LegalTrace, turn_of}
 use Rattle.lisp_world.proofs.ArrivalLemmas.{AllBelow, comes}
 use Rattle.lisp_world.proofs.ChangeLemmas.{IsNew, new_or_old}
 use Rattle.lisp_world.proofs.CleanLemmas.{in_get, in_option, from_map}
 use Rattle.lisp_world.proofs.HeadLemmas.{SameHead}
+use Rattle.lisp_etr.specs.Sending.{last_nonce}
+use Rattle.lisp_world.proofs.HeardLines.{noticed_of}
 use Rattle.lisp_world.proofs.HearingLemmas.{is_heard, knows_own}
 use Rattle.lisp_world.proofs.ListLemmas.{head_or_tail, in_none}
 use Rattle.lisp_world.proofs.Locality.{same_number}
@@ -36,9 +38,12 @@ pub record IsEntry (o : Opening) (e : Entry) : Type 0 where
   pub under : e.key ≡ (router_at o.config e.router).key_id
   pub low : e.nonce < first_notice
 
-sent_entry : (o : Opening) (T : List Step) (actor : ℕ) (after : Shown) (e : Happening) (r s k n g : ℕ) → Row (turn_of o T (record { event = e; line = lines.Sent r s k n g; actor = actor; shown = after })) e (lines.Sent r s k n g)
+below_first : {n : ℕ} → n ≤ last_nonce → n < first_notice
+below_first within = omega (arith, within)
+
+sent_entry : (o : Opening) (T : List Step) (actor : ℕ) (after : Shown) (e : Happening) (r s k n g : ℕ) → MayCome (turn_of o T (record { event = e; line = lines.Sent r s k n g; actor = actor; shown = after })) e (lines.Sent r s k n g)
     → (is_router o.config r ≡ true) × (k ≡ (router_at o.config r).key_id) × (n < first_notice) × (is_server o.config s ≡ true)
-sent_entry o T actor after (events.Send router server fate) r s k n g row = (ap (is_router o.config) row.0 ∙ row.2.acts.kind, row.2.under ∙ ap (λ (x : ℕ). (router_at o.config x).key_id) (sym row.0), row.2.bound, ap (is_server o.config) row.1 ∙ row.2.kind)
+sent_entry o T actor after (events.Send router server fate) r s k n g row = (ap (is_router o.config) row.0 ∙ row.2.acts.kind, row.2.under ∙ ap (λ (x : ℕ). (router_at o.config x).key_id) (sym row.0), below_first row.2.within, ap (is_server o.config) row.1 ∙ row.2.kind)
 sent_entry o T actor after (events.Change _ _) r s k n g row = absurd row
 sent_entry o T actor after (events.Deliver _ _) r s k n g row = absurd row.arrives
 sent_entry o T actor after (events.Junk _ _ _) r s k n g row = absurd row.arrives
@@ -47,7 +52,7 @@ sent_entry o T actor after (events.Restart _ _ _) r s k n g row = absurd row
 sent_entry o T actor after (events.Notice _ _ _) r s k n g row = absurd row
 sent_entry o T actor after (events.Resend _ _) r s k n g row = absurd row
 
-pub server_of_sent : (o : Opening) (T : List Step) (actor : ℕ) (after : Shown) (e : Happening) (r s k n g : ℕ) → Row (turn_of o T (record { event = e; line = lines.Sent r s k n g; actor = actor; shown = after })) e (lines.Sent r s k n g) → is_server o.config s ≡ true
+pub server_of_sent : (o : Opening) (T : List Step) (actor : ℕ) (after : Shown) (e : Happening) (r s k n g : ℕ) → MayCome (turn_of o T (record { event = e; line = lines.Sent r s k n g; actor = actor; shown = after })) e (lines.Sent r s k n g) → is_server o.config s ≡ true
 server_of_sent o T actor after e r s k n g row = (sent_entry o T actor after e r s k n g row).3
 
 pub entry_is : (o : Opening) (T : List Step) → LegalTrace o T → (d : Entry) → Contains (history o T) d → IsEntry o d
@@ -56,7 +61,7 @@ entry_is o (s ∷ T) legal d has = at (new_or_old o T s.line d has) (entry_is o 
   where
     at : IsNew o T s.line d ⊎ Contains (history o T) d → (Contains (history o T) d → IsEntry o d) → IsEntry o d
     at (inl new) later =
-        let row = sent_entry o T s.actor s.shown s.event new.router new.server new.key new.nonce new.datagram (subst (λ (line : Line). Row (turn_of o T s) s.event line) new.sent legal.0.row) in
+        let row = sent_entry o T s.actor s.shown s.event new.router new.server new.key new.nonce new.datagram (subst (λ (line : Line). MayCome (turn_of o T s) s.event line) new.sent legal.0.row) in
         subst (IsEntry o) (sym new.is) (record { kind = row.0; under = row.1; low = row.2 })
     at (inr old) later = later old
 
@@ -142,7 +147,7 @@ module _ (o : Opening) (T : List Step) (reads : ReadsBack) (all : AllFrom o (his
       record { below = omega (arith, number, read, bound); reply = λ plain under. absurd (true≢false (ap (λ (x : Notification). x.ack) said ∙ plain)) }
 
   -- the step posts it
-  posts : (node : ℕ) (after : Shown) (e : Happening) (line : Line) → IsHarmless o T e → Row (turn_of o T (record { event = e; line = line; actor = node; shown = after })) e line → IsLow (Kept e line)
+  posts : (node : ℕ) (after : Shown) (e : Happening) (line : Line) → IsHarmless o T e → MayCome (turn_of o T (record { event = e; line = line; actor = node; shown = after })) e line → IsLow (Kept e line)
       → AllKnown o (Kept e line) (posted o T (past o T) (arrival_in (bag o T) e) line)
   posts node after e (lines.Sent r s key nonce datagram) harmless row low i has n is = at (head_or_tail (register_item o T r s nonce) [] i has)
     where
@@ -163,10 +168,11 @@ module _ (o : Opening) (T : List Step) (reads : ReadsBack) (all : AllFrom o (his
       }
   posts node after e (lines.Noticed router server nonce datagram) harmless row low i has n is =
       let c = comes o T reads all below node e (lines.Noticed router server nonce datagram) after tt harmless row in
-      let here : Contains (option_to_list (option_map (ack_item o.config router c.arrival) (as_notify c.arrival.read))) i = subst (λ (a : Option Arrival). Contains (posted o T (past o T) a (lines.Noticed router server nonce datagram)) i) c.is has in
-      let f = from_some (ack_item o.config router c.arrival) (as_notify c.arrival.read) i here in
+      let what = noticed_of _ c.arrival router server nonce datagram c.row in
+      let here : Contains (option_to_list (option_map (ack_item o T router c.arrival) (as_notify c.arrival.read))) i = subst (λ (a : Option Arrival). Contains (posted o T (past o T) a (lines.Noticed router server nonce datagram)) i) c.is has in
+      let f = from_some (ack_item o T router c.arrival) (as_notify c.arrival.read) i here in
       let said : ack_of f.value ≡ n = said_same _ n (ap (λ (x : Item). x.message) f.is ∙ is) in
-      let origin = c.origin f.value (notified c.arrival.read f.value f.some) _ (knows_own o.config node (ap (is_router o.config) c.row.acts.acts ∙ c.row.acts.kind)) (is_heard o.config node c.arrival c.row.what c.row.hears).authentic in
+      let origin = c.origin f.value (notified c.arrival.read f.value f.some) _ (knows_own o T node c.row.acts.kind) (is_heard o T node c.arrival what.what what.hears).authentic in
       answer_known (Kept e (lines.Noticed router server nonce datagram)) i f.value origin.what n origin.head said (below origin.item origin.sent origin.what origin.says)
   posts node after (events.Notice s r fate) (lines.Notice server router key nonce datagram) harmless row low i has n is =
       let f = from_some (notice_item o T (since o T server) server router key nonce) (heard_last (router_at o.config router).me (since o T server)) i has in
@@ -183,7 +189,7 @@ module _ (o : Opening) (T : List Step) (reads : ReadsBack) (all : AllFrom o (his
   posts node after (events.Tick _) (lines.Notice server router key nonce datagram) harmless row low i has n is = absurd row
   posts node after (events.Restart _ _ _) (lines.Notice server router key nonce datagram) harmless row low i has n is = absurd row
   posts node after (events.Resend _ _) (lines.Notice server router key nonce datagram) harmless row low i has n is = absurd row
-  posts node after e (lines.Resent server router datagram) harmless row low i has n is = at (notice_to o T server router) (in_option (option_and_then (λ n. slice_get (bag o T) n.datagram) (notice_to o T server router)) i has)
+  posts node after e (lines.Resent server router datagram) harmless row low i has n is = at (notice_to o T server (router_at o.config router).me) (in_option (option_and_then (λ n. slice_get (bag o T) n.datagram) (notice_to o T server (router_at o.config router).me)) i has)
     where
       at : (x : Option Notice) → option_and_then (λ n. slice_get (bag o T) n.datagram) x ≡ Some i → IsKnown o (accepted o T) i n
       at None e = absurd (none_clash e)

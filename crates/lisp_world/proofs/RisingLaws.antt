@@ -21,7 +21,7 @@ use Rattle.lisp_world.specs.Bag.{Arrival, arrival_of, arrival_in, thrown, taken,
 use Rattle.lisp_world.specs.Accepted.{accepted, arriving, nonces_of, tried}
 use Rattle.lisp_world.specs.Turn.{Turn, values, IsBase}
 use Rattle.lisp_world.specs.Receiving.{last_in}
-use Rattle.lisp_world.specs.Legal.{Row, Arrives, Legal, LegalTrace, turn_of}
+use Rattle.lisp_world.specs.Legal.{MayCome, Arrives, Legal, LegalTrace, turn_of}
 use Rattle.lisp_world.specs.Promises.{Falls, NoncesRise, ReplaysAreTried}
 use Rattle.lisp_world.proofs.KeptLemmas.{pair_same}
 use Rattle.lisp_world.proofs.ListLemmas.{at_head, in_tail, head_or_tail, in_none}
@@ -132,7 +132,7 @@ module _ (t : Turn) (server saved : ℕ) where
       only : x ≡ record { message = row.1.message; from = a.from; moment = now }
       only = at (head_or_tail _ [] x in_one)
 
-  replay_base : (e : Happening) → Row t e (lines.Refused server (refusals.Receive (Replay saved))) → (x : Acceptance) → Contains (taken (arrival_in (bag t.opening t.past) e) (clock t.past)) x → HasBase x
+  replay_base : (e : Happening) → MayCome t e (lines.Refused server (refusals.Receive (Replay saved))) → (x : Acceptance) → Contains (taken (arrival_in (bag t.opening t.past) e) (clock t.past)) x → HasBase x
   replay_base (events.Deliver k fate) row x has = has_base (arrival_of row.item) (clock t.past) row.arrives x (subst (λ (a : Option Arrival). Contains (taken a (clock t.past)) x) (ap (option_map arrival_of) row.sent) has)
   replay_base (events.Junk to from bytes) row x has = has_base (thrown from bytes) (clock t.past) row.arrives x has
   replay_base _ row x has = absurd row
@@ -143,7 +143,7 @@ based q acc since tried kept safe saved None is base = safe.tried_kept saved bas
 
 pub replays_tried : (o : Opening) (T : List Step) (s : Step) → LegalTrace o T → Legal o T s → ReplaysAreTried o T s
 replays_tried o T s legal l server saved is x has =
-    let found = replay_base (turn_of o T s) server saved s.event (subst (Row (turn_of o T s) s.event) is l.row) x has in
+    let found = replay_base (turn_of o T s) server saved s.event (subst (MayCome (turn_of o T s) s.event) is l.row) x has in
     let q = pair_of x.message in
     subst (λ (k : ℕ). Contains (tried o T k (pair_of x.message)) saved) found.acts
     (based q (accepted o T s.actor) (since o T s.actor) (tried o T s.actor q) (kept_at (shown o T s.actor).kept q) (safe_trace o q refl T legal s.actor) saved (last_of q (since o T s.actor)) refl found.base)

@@ -11,8 +11,6 @@ use Rattle.lisp_store.specs.Kept.{Kept, kept_at, InDoubt}
 use Rattle.lisp_messages.specs.Message.{Registration, Registers}
 use Rattle.lisp_etr.specs.declared.send_fault.SendFault.{SendFault}
 use Rattle.lisp_etr.specs.declared.send_fault.SendFault.TheVariants as sends
-use Rattle.lisp_etr.specs.declared.notify_fault.NotifyFault.{NotifyFault}
-use Rattle.lisp_etr.specs.declared.notify_fault.NotifyFault.TheVariants as notifies
 use Rattle.lisp_server.specs.declared.refused.Refused.{Refused}
 use Rattle.lisp_server.specs.declared.refused.Refused.TheVariants as refuseds
 use Rattle.lisp_server.specs.declared.notice_fault.NoticeFault.{NoticeFault}
@@ -30,9 +28,8 @@ use Rattle.lisp_world.specs.Accepted.{accepted_after, nonces_of, tried_after}
 use Rattle.lisp_world.specs.Turn.{Turn, values, values_after, Same, SameOthers, IsBase}
 use Rattle.lisp_world.specs.Sending.{RefusesToSend}
 use Rattle.lisp_world.specs.Receiving.{IsFresh, RefusesMessage}
-use Rattle.lisp_world.specs.Hearing.{RefusesNotify}
 use Rattle.lisp_world.specs.Notifying.{RefusesNotice, RefusesToResend}
-use Rattle.lisp_world.specs.Legal.{Row, Arrives}
+use Rattle.lisp_world.specs.Legal.{MayCome, Arrives}
 use Rattle.lisp_world.proofs.KeptLemmas.{pair_itself, pair_same}
 use Rattle.lisp_world.proofs.Locality.{same_number}
 use Rattle.lisp_world.proofs.Rising.{Safe, safe_narrows, safe_restarts, safe_doubts, safe_takes, safe_passes, nonces_of-same, nonces_of-other}
@@ -76,11 +73,6 @@ module _ (t : Turn) (q : Pair) (kind : q.kind ≡ kinds.Received) (acc : List Ac
   sends_safe router server sends.NonceSpent row = quiet row.2
   sends_safe router server sends.OutOfMemory row = quiet row.4
   sends_safe router server (sends.Store fault) row = stays (row.1.fails.others q (not_sent _ refl))
-
-  hears_safe : (a : Arrival) (why : NotifyFault) → RefusesNotify t a why → Safe q acc (since t.opening t.past t.node) old (values_after t q)
-  hears_safe a (notifies.Stale latest) row = quiet row.1
-  hears_safe a notifies.OutOfMemory row = quiet row.1
-  hears_safe a _ row = quiet row.1
 
   tells_safe : (router : ℕ) (why : NoticeFault) → RefusesNotice t router why → Safe q acc (since t.opening t.past t.node) old (values_after t q)
   tells_safe router announcements.NotRegistered row = quiet row.1
@@ -144,14 +136,14 @@ module _ (t : Turn) (q : Pair) (kind : q.kind ≡ kinds.Received) (acc : List Ac
   arrives_safe a now (lines.Noticed router server nonce datagram) row = quiet row.same
   arrives_safe a now (lines.Down router) row = quiet row.same
   arrives_safe a now (lines.Refused node (refusals.Receive why)) row = message_safe a now node why row.0.acts row.1
-  arrives_safe a now (lines.Refused node (refusals.Notify why)) row = hears_safe a why row.1
+  arrives_safe a now (lines.Refused node (refusals.Notify why)) row = quiet row.same
   arrives_safe a now _ row = absurd row
 
   restart_line : (named : ℕ) → named ≡ t.node → Safe q acc [] old (values_after t q) → Safe q acc (if named == t.node then [] else since t.opening t.past t.node) old (values_after t q)
   restart_line named is next = subst (λ b. Safe q acc (if b then [] else since t.opening t.past t.node) old (values_after t q)) (sym (ap (λ s. s == t.node) is ∙ same_number t.node)) next
 
   -- any legal step of the node
-  pub row_safe : (e : Happening) (line : Line) → Row t e line → After (taken (arrival_in (bag t.opening t.past) e) (clock t.past)) line
+  pub row_safe : (e : Happening) (line : Line) → MayCome t e line → After (taken (arrival_in (bag t.opening t.past) e) (clock t.past)) line
   row_safe (events.Change router db) (lines.Changed named records) row = quiet row.same
   row_safe (events.Change router db) (lines.Down named) row = quiet row.same
   row_safe (events.Send router server fate) (lines.Sent r s key nonce datagram) row = stays (row.2.saves.others q (not_sent _ refl))

@@ -12,10 +12,11 @@ use Rattle.lisp_world.specs.Trace.{Happening, Step, Opening, shown, database}
 use Rattle.lisp_world.specs.History.{Entry, entry_in, history}
 use Rattle.lisp_world.specs.Turn.{Turn, values_after, IsBase}
 use Rattle.lisp_world.specs.Sending.{CountsFrom, IsSent, pair_at, last_sent, last_sent_after, start_values, start_values_after}
-use Rattle.lisp_world.specs.Legal.{Row, Legal, LegalTrace, turn_of}
+use Rattle.lisp_world.specs.Legal.{MayCome, Legal, LegalTrace, turn_of}
 use Rattle.lisp_world.proofs.KeptLemmas.{only_value}
 use Rattle.lisp_world.proofs.ListLemmas.{head_or_tail, in_none}
-use Rattle.lisp_world.proofs.Locality.{by_actor, IsBy, same_number, other_number, last_sent_other, start_values_other}
+use Rattle.lisp_world.proofs.HeardLines.{IsBy}
+use Rattle.lisp_world.proofs.Locality.{by_actor, same_number, other_number, last_sent_other, start_values_other}
 use Rattle.lisp_world.proofs.OwnValues.{own_values, own_values_after, Stays, Leaves, leaves}
 
 -- no number that the store keeps, or that the next one counts from, is below the nonce of an entry
@@ -61,7 +62,7 @@ module _ (t : Turn) (was : Sound t.node (history t.opening t.past) (last_sent t.
   sends_on : (r s key nonce datagram router server : ℕ) → r ≡ router → IsSent t router server key nonce datagram → After (lines.Sent r s key nonce datagram)
   sends_on r s key nonce datagram router server names row = subst (λ b. Sound t.node (entry_in t.opening t.past (lines.Sent r s key nonce datagram) ++ history t.opening t.past) (if b then Some nonce else last_sent t.past t.node) (start_values t.opening t.past t.node) (own_values_after t))
       (sym (ap (λ x. x == t.node) (names ∙ sym row.acts.acts) ∙ same_number t.node)) (record {
-        floor = λ e has its v in_it. let low = at_most e has its in let high = row.saves.none_below v (subst (λ (n : ℕ). Contains (values_after t (pair_at t.opening n)) v) row.acts.acts in_it) in omega (arith, low, high);
+        floor = λ e has its v in_it. let low = at_most e has its in let high = row.saves.none_below v (subst (λ (n : ℕ). Contains (values_after t (pair_at t.opening t.past n)) v) row.acts.acts in_it) in omega (arith, low, high);
         below = λ base is e has its. subst (λ (b : Option ℕ). e.nonce ≤ number b) (sym is) (at_most e has its);
       })
     where
@@ -83,15 +84,15 @@ module _ (t : Turn) (was : Sound t.node (history t.opening t.past) (last_sent t.
   after _ left = still left
 
   -- any legal step of the node
-  pub row_sound : (e : Happening) (line : Line) → Row t e line → After line
+  pub row_sound : (e : Happening) (line : Line) → MayCome t e line → After line
   row_sound e line row = after line (leaves t e line row)
 
 module _ (o : Opening) where
   abbrev SoundAt : List Step → ℕ → Type 0
-  SoundAt T r = Sound r (history o T) (last_sent T r) (start_values o T r) (kept_at (shown o T r).kept (pair_at o r))
+  SoundAt T r = Sound r (history o T) (last_sent T r) (start_values o T r) (kept_at (shown o T r).kept (pair_at o T r))
 
   sound_actor : (T : List Step) (s : Step) → Legal o T s → SoundAt T s.actor → SoundAt (s ∷ T) s.actor
-  sound_actor T s l old = subst (λ b. Sound s.actor (history o (s ∷ T)) (last_sent (s ∷ T) s.actor) (start_values o (s ∷ T) s.actor) (kept_at (if b then s.shown else shown o T s.actor).kept (pair_at o s.actor))) (sym (same_number s.actor))
+  sound_actor T s l old = subst (λ b. Sound s.actor (history o (s ∷ T)) (last_sent (s ∷ T) s.actor) (start_values o (s ∷ T) s.actor) (kept_at (if b then s.shown else shown o T s.actor).kept (pair_at o T s.actor))) (sym (same_number s.actor))
       (row_sound (turn_of o T s) old s.event s.line l.row)
 
   -- an entry of another router is an old one
@@ -106,9 +107,9 @@ module _ (o : Opening) where
   sound_other : (T : List Step) (s : Step) (r : ℕ) → r ≢ s.actor → Legal o T s → SoundAt T r → SoundAt (s ∷ T) r
   sound_other T s r differ l old =
       let by = by_actor (turn_of o T s) s.event s.line l.row in
-      subst (λ (last : Option ℕ). Sound r (history o (s ∷ T)) last (start_values o (s ∷ T) r) (kept_at (shown o (s ∷ T) r).kept (pair_at o r))) (sym (last_sent_other s.actor r differ s.line by (last_sent T r)))
-      (subst (λ (start : List (Option ℕ)). Sound r (history o (s ∷ T)) (last_sent T r) start (kept_at (shown o (s ∷ T) r).kept (pair_at o r))) (sym (start_values_other s.actor r differ s.line by (kept_at s.shown.kept (pair_at o r)) (start_values o T r)))
-      (subst (λ b. Sound r (history o (s ∷ T)) (last_sent T r) (start_values o T r) (kept_at (if b then s.shown else shown o T r).kept (pair_at o r))) (sym (other_number s.actor r (λ e. differ (sym e))))
+      subst (λ (last : Option ℕ). Sound r (history o (s ∷ T)) last (start_values o (s ∷ T) r) (kept_at (shown o (s ∷ T) r).kept (pair_at o T r))) (sym (last_sent_other s.actor r differ s.line by (last_sent T r)))
+      (subst (λ (start : List (Option ℕ)). Sound r (history o (s ∷ T)) (last_sent T r) start (kept_at (shown o (s ∷ T) r).kept (pair_at o T r))) (sym (start_values_other s.actor r differ s.line by (kept_at s.shown.kept (pair_at o T r)) (start_values o T r)))
+      (subst (λ b. Sound r (history o (s ∷ T)) (last_sent T r) (start_values o T r) (kept_at (if b then s.shown else shown o T r).kept (pair_at o T r))) (sym (other_number s.actor r (λ e. differ (sym e))))
       (record { floor = λ e has its. old.floor e (old_entry T s.line s.actor r differ by e has its) its; below = λ base counts e has its. old.below base counts e (old_entry T s.line s.actor r differ by e has its) its })))
 
   sound_step : (T : List Step) (s : Step) (r : ℕ) (b : Bool) → (s.actor == r) ≡ b → Legal o T s → ((n : ℕ) → SoundAt T n) → SoundAt (s ∷ T) r

@@ -1,7 +1,8 @@
 -- Legal steps of the small network.
-use Rattle.std.proofs.Common.{◌≡◌, ℕ, ◌+◌, ◌≤◌, Bool, true, false, List, [], ◌∷◌, length, Option, Some, None, Ok, refl, sym, ap, subst, inl, inr, arith}
-use Rattle.std.specs.Prelude.{◌≢◌, ◌⊎◌, ◌-◌, ◌<◌, ◌^◌, slice_get, ok_or}
+use Rattle.std.proofs.Common.{rules, ◌≡◌, ℕ, ◌+◌, ◌≤◌, Bool, true, false, List, [], ◌∷◌, length, Option, Some, None, Ok, refl, sym, ap, subst, inl, inr, arith}
+use Rattle.std.specs.Prelude.{◌≢◌, ◌⊎◌, ◌-◌, ◌<◌, ◌^◌, slice_get, nat_le, ok_or}
 use Rattle.std.specs.List.{Contains}
+use Rattle.std.proofs.lemmas.Bool.{leb-true, le-leb}
 use Rattle.lisp_records.specs.Moment.{max_moment}
 use Rattle.lisp_records.specs.Address.{masked}
 use Rattle.lisp_records.specs.Record.{Mapping}
@@ -19,7 +20,9 @@ use Rattle.lisp_messages.specs.Message.{Said, IsRegistration, AreRecords, Regist
 use Rattle.lisp_messages.specs.Authentic.{is_authentic}
 use Rattle.lisp_server.specs.Checks.{secret_under, first_not_allowed}
 use Rattle.lisp_etr.specs.declared.notify_fault.NotifyFault.TheVariants.{NotMine, BadAuth}
-use Rattle.lisp_etr.specs.Hearing.{◌>>=◌, check, Heard, first_notice, is_latest}
+use Rattle.lisp_records.specs.Result.{◌>>=◌}
+use Rattle.lisp_etr.specs.Hearing.{check, checked, Heard, first_notice, is_latest}
+use Rattle.lisp_etr.specs.Sending.{last_nonce, IsBound}
 use Rattle.lisp_records.specs.declared.address.Addr.{Addr}
 use Rattle.lisp_world.specs.Trace.{Step, clock, is_up, is_server, is_router, is_listed, node_at, database}
 use Rattle.lisp_world.specs.Held.{Acceptance, last_of, heard_last, records_of}
@@ -37,14 +40,14 @@ use Rattle.lisp_world.proofs.Samples.{opening, network, site, secret, one, wide,
 
 -- messages of a few records fit
 pub fits : (db : List Mapping) (nonce : ℕ) → nonce < 2 ^ 64 → AreRecords db → IsRegistration (registers db nonce)
-fits db nonce low records = record { nonce = low; records = records; xtr = refl; site = omega arith }
+fits db nonce low records = record { nonce = low; key = omega arith; records = records; xtr = refl; xtr_bytes = search rules; site = omega arith }
 
 pub no_records : AreRecords []
 no_records = (omega arith, tt)
 
 pub wide_record : (ttl : ℕ) → ttl < 2 ^ 32 → AreRecords (mapping wide ttl ∷ [])
 unfolding masked
-wide_record ttl low = (omega arith, (record { ttl = low; act = omega arith; version = omega arith; block = (omega arith, refl); eid = refl; count = omega arith; locators = tt }, tt))
+wide_record ttl low = (omega arith, (record { ttl = low; act = omega arith; version = omega arith; block = (omega arith, refl); eid = record { width = refl; bytes = (omega arith, (omega arith, (omega arith, (omega arith, tt)))) }; count = omega arith; locators = tt }, tt))
 
 pub sends_legal : (T : List Step) (server nonce datagram : ℕ) (base : Option ℕ) → is_up T 2 ≡ true → is_server network server ≡ true → is_listed network 2 server ≡ true → CountsFrom opening T 2 base → nonce ≡ number base + 1 → nonce < 2 ^ 63
     → AreRecords (database opening T 2) → datagram ≡ length (bag opening T) → Legal opening T (sends T server nonce datagram)
@@ -61,10 +64,10 @@ sends_legal T server nonce datagram base up kind listed counts next low records 
       base = base;
       counts = counts;
       next = next;
-      bound = low;
+      within = omega (arith, low);
       message = fits (database opening T 2) nonce (omega (arith, low)) records;
       place = place;
-      saves = saved _ (sent_by one) nonce refl;
+      saves = saved _ (sent_by one) nonce last_nonce (omega (arith, low)) refl;
     },
   );
 }
@@ -131,8 +134,17 @@ passed : (s : Option ℕ) (server nonce : ℕ) (records : List Mapping) (b : Boo
 passed s server nonce records b from tag = rw (from, tag) refl
 
 -- from a server it passes the checks of the first router
-pub hears : (from to : Addr) (nonce : ℕ) (records : List Mapping) (server : ℕ) → server_from network 2 from ≡ Some server → heard network 2 (arrival_of (told from to nonce records)) ≡ Ok (heard_of server nonce records)
-hears from to nonce records server is = passed _ server nonce records _ is (item_authentic (told from to nonce records))
+pub hears : (from to : Addr) (nonce : ℕ) (records : List Mapping) (server : ℕ) → server_from network 2 from ≡ Some server → (T : List Step) → heard opening T 2 (arrival_of (told from to nonce records)) ≡ Ok (heard_of server nonce records)
+unfolding checked
+hears from to nonce records server is T = passed _ server nonce records _ is (item_authentic (told from to nonce records))
+
+-- a number below another isn't above it
+pub not_above : (m n : ℕ) → n < m → nat_le m n ≡ false
+not_above m n low = at (nat_le m n) refl
+  where
+    at : (b : Bool) → nat_le m n ≡ b → nat_le m n ≡ false
+    at false is = is
+    at true is = let above = leb-true m n is in absurd (omega (arith, low, above))
 
 pub counts_legal : (T : List Step) (k server nonce : ℕ) (from : Addr) (records : List Mapping) → is_up T 2 ≡ true → slice_get (bag opening T) k ≡ Some (told from (local_at 21) nonce records)
     → server_from network 2 from ≡ Some server → nonce < first_notice → is_latest nonce (latest T 2 server) ≡ true → Legal opening T (counts T k server nonce)
@@ -142,7 +154,7 @@ counts_legal T k server nonce from records up sent is low last = record {
     item = told from (local_at 21) nonce records;
     sent = sent;
     there = refl;
-    arrives = record { acts = record { kind = refl; acts = refl; state = up }; what = heard_of server nonce records; hears = hears from (local_at 21) nonce records server is; whose = refl; under = refl; number = refl; low = low; latest = last; same = refl };
+    arrives = record { acts = record { kind = refl; acts = refl; state = up }; same = refl; comes = inl (rw (hears from (local_at 21) nonce records server is T, not_above first_notice nonce low, last) refl) };
   };
 }
 
@@ -152,11 +164,11 @@ changes_legal T db fits up = record { faults = omega arith; row = record { acts 
 pub ticks_legal : (T : List Step) (ms now : ℕ) → now ≡ clock T + ms → now ≤ max_moment → Legal opening T (ticks T ms now)
 ticks_legal T ms now is low = record { faults = omega arith; row = record { names = refl; clock = is; bound = low; idle = record { server = refl; router = refl; same = refl } } }
 
-pub doubts_send_legal : (T : List Step) (server nonce : ℕ) (base : Option ℕ) → is_up T 2 ≡ true → is_server network server ≡ true → is_listed network 2 server ≡ true → CountsFrom opening T 2 base → number base < 2 ^ 63 - 1 → number base < nonce
+pub doubts_send_legal : (T : List Step) (server nonce : ℕ) (base : Option ℕ) → is_up T 2 ≡ true → is_server network server ≡ true → is_listed network 2 server ≡ true → CountsFrom opening T 2 base → IsBound (number base + 1) last_nonce nonce
     → Legal opening T (doubts_send T server nonce)
-doubts_send_legal T server nonce base up kind listed counts left above = record {
+doubts_send_legal T server nonce base up kind listed counts fits = record {
   faults = omega arith;
-  row = (refl, kind, record { kind = refl; acts = refl; state = up }, (listed, record { base = base; counts = counts; left = left; nonce = nonce; above = above; fails = in_doubt _ (sent_by one) nonce refl (omega arith) }));
+  row = (refl, kind, record { kind = refl; acts = refl; state = up }, (listed, record { base = base; counts = counts; bound = nonce; fits = fits; fails = in_doubt _ (sent_by one) nonce refl (omega arith) }));
 }
 
 pub doubts_take_legal : (T : List Step) (k server nonce : ℕ) (i : Item) (db : List Mapping) (base : Option ℕ) → slice_get (bag opening T) k ≡ Some i → node_at network i.to ≡ Some server → is_server network server ≡ true
@@ -255,12 +267,12 @@ tells_legal T nonce datagram last base held heard key counts next bound place = 
       next = next;
       bound = bound;
       place = place;
-      saves = saved _ notice_pair nonce refl;
+      saves = saved _ notice_pair nonce (2 ^ 64 - 1) (omega (arith, bound)) refl;
     },
   );
 }
 
-pub repeats_legal : (T : List Step) (datagram : ℕ) → is_due (notice_to opening T 0 2) (clock T) ≡ true → datagram ≡ length (bag opening T) → Legal opening T (repeats T datagram)
+pub repeats_legal : (T : List Step) (datagram : ℕ) → is_due (notice_to opening T 0 one) (clock T) ≡ true → datagram ≡ length (bag opening T) → Legal opening T (repeats T datagram)
 repeats_legal T datagram due place = record { faults = omega arith; row = (refl, refl, record { acts = record { kind = refl; acts = refl }; kind = refl; due = due; place = place; same = refl }) }
 
 pub notices_legal : (T : List Step) (k nonce datagram : ℕ) (records : List Mapping) → is_up T 2 ≡ true → slice_get (bag opening T) k ≡ Some (told (local_at 11) (local_at 21) nonce records) → first_notice ≤ nonce → datagram ≡ length (bag opening T) → Legal opening T (notices T k nonce datagram)
@@ -270,7 +282,7 @@ notices_legal T k nonce datagram records up sent high place = record {
     item = told (local_at 11) (local_at 21) nonce records;
     sent = sent;
     there = refl;
-    arrives = record { acts = record { kind = refl; acts = refl; state = up }; what = heard_of 0 nonce records; hears = hears (local_at 11) (local_at 21) nonce records 0 refl; whose = refl; number = refl; high = high; place = place; same = refl };
+    arrives = record { acts = record { kind = refl; acts = refl; state = up }; same = refl; comes = inl (rw (hears (local_at 11) (local_at 21) nonce records 0 refl T, le-leb first_notice nonce high, place) refl) };
   };
 }
 
@@ -279,7 +291,7 @@ abbrev pub answered : ℕ → List Mapping → Item
 answered nonce records = record { from = local_at 21; to = local_at 11; secret = secret; message = Notifies (record { ack = true; nonce = nonce; key_id = 1; records = records }) }
 
 pub ends_legal : (T : List Step) (k nonce : ℕ) (records : List Mapping) (n : Notice) → slice_get (bag opening T) k ≡ Some (answered nonce records)
-    → awaiting (turn_of opening T (ends T k nonce)) (local_at 21) (record { ack = true; nonce = nonce; key_id = 1; records = records }) ≡ Some n → n.router ≡ 2 → n.key ≡ 1 → nonce ≡ n.nonce → Legal opening T (ends T k nonce)
+    → awaiting (turn_of opening T (ends T k nonce)) (local_at 21) (record { ack = true; nonce = nonce; key_id = 1; records = records }) ≡ Some n → n.router ≡ one → n.key ≡ 1 → nonce ≡ n.nonce → Legal opening T (ends T k nonce)
 ends_legal T k nonce records n sent stands router key number = record {
   faults = omega arith;
   row = record {
@@ -294,7 +306,7 @@ ends_legal T k nonce records n sent stands router key number = record {
       notice = n;
       stands = stands;
       authentic = rw (router, key) (item_authentic (answered nonce records));
-      who = rw router refl;
+      who = sym router;
       number = number;
       same = refl;
     };

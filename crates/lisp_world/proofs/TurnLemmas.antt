@@ -19,9 +19,9 @@ pub set_value : (kept : Kept) (pair : Pair) (v : Option ℕ) → Contains (kept_
 set_value kept pair v = subst (λ (vs : List (Option ℕ)). Contains vs v) (sym (set_here kept pair (v ∷ []))) (0, omega arith, refl)
 
 -- a number was saved
-pub saved : (t : Turn) (pair : Pair) (nonce : ℕ) → t.after.kept ≡ insert t.before.kept pair (Some nonce ∷ []) → Saves t pair nonce
-saved t pair nonce is = record {
-  here = inr (nonce, here);
+pub saved : (t : Turn) (pair : Pair) (nonce last : ℕ) → nonce ≤ last → t.after.kept ≡ insert t.before.kept pair (Some nonce ∷ []) → Saves t pair nonce last
+saved t pair nonce last within is = record {
+  here = inr (nonce, record { least = omega arith; near = omega arith; most = within }, here);
   none_below = λ v has. subst (λ (w : Option ℕ). nonce ≤ number w) (sym (only_value (Some nonce) v (subst (λ (vs : List (Option ℕ)). Contains vs v) here has))) (omega arith);
   others = λ q differ. ap (λ (k : Kept). kept_at k q) is ∙ set_others t.before.kept pair (Some nonce ∷ []) q differ;
 }

@@ -14,7 +14,7 @@ use Rattle.lisp_server.specs.Checks.{notification_of}
 use Rattle.lisp_world.specs.declared.event.Event.TheVariants as events
 use Rattle.lisp_world.specs.declared.line.Line.{Line}
 use Rattle.lisp_world.specs.declared.line.Line.TheVariants as lines
-use Rattle.lisp_world.specs.Trace.{Happening, Step, Opening, address_at, router_at, secret_at, settings_of, clock, database}
+use Rattle.lisp_world.specs.Trace.{Happening, Step, Opening, address_at, router_at, secret_at, settings, clock, database}
 use Rattle.lisp_world.specs.Held.{Acceptance, heard_last, records_of}
 use Rattle.lisp_world.specs.Timers.{notice_to}
 
@@ -70,8 +70,8 @@ abbrev pub register_item : Opening → List Step → ℕ → ℕ → ℕ → Ite
 register_item o T router server nonce = record {
   from = address_at o.config router;
   to = address_at o.config server;
-  secret = (settings_of o.config (router_at o.config router)).secret;
-  message = Registers (registration_of (settings_of o.config (router_at o.config router)) (database o T router) nonce);
+  secret = (settings o T router).secret;
+  message = Registers (registration_of (settings o T router) (database o T router) nonce);
 }
 
 -- the item of the Map-Notify that answers a Map-Register: with its nonce, key and records, to its source
@@ -93,11 +93,11 @@ notice_item o T since server router key nonce last = record {
 }
 
 -- the item of the Map-Notify-Ack that answers a notice: with the notice's fields, to its source
-abbrev pub ack_item : Configuration → ℕ → Arrival → Notification → Item
-ack_item c router a m = record {
-  from = address_at c router;
+abbrev pub ack_item : Opening → List Step → ℕ → Arrival → Notification → Item
+ack_item o T router a m = record {
+  from = address_at o.config router;
   to = a.from;
-  secret = (settings_of c (router_at c router)).secret;
+  secret = (settings o T router).secret;
   message = Notifies (ack_of m);
 }
 
@@ -111,9 +111,9 @@ pub record Past : Type 0 where
 abbrev pub posted : Opening → List Step → Past → Option Arrival → Line → List Item
 posted o T p a (lines.Sent router server _ nonce _) = register_item o T router server nonce ∷ []
 posted o T p a (lines.Accepted server _ _ _ (Some _)) = map (reply_item o.config server) (taken a (clock T))
-posted o T p (Some a) (lines.Noticed router _ _ _) = option_to_list (option_map (ack_item o.config router a) (as_notify a.read))
+posted o T p (Some a) (lines.Noticed router _ _ _) = option_to_list (option_map (ack_item o T router a) (as_notify a.read))
 posted o T p a (lines.Notice server router key nonce _) = option_to_list (option_map (notice_item o T (p.since server) server router key nonce) (heard_last (router_at o.config router).me (p.since server)))
-posted o T p a (lines.Resent server router _) = option_to_list (option_and_then (λ n. slice_get p.bag n.datagram) (notice_to o T server router))
+posted o T p a (lines.Resent server router _) = option_to_list (option_and_then (λ n. slice_get p.bag n.datagram) (notice_to o T server (router_at o.config router).me))
 posted o T p a _ = []
 
 -- an accepted message is added for its server; a restart forgets

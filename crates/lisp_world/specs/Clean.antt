@@ -3,17 +3,16 @@
 use Rattle.std.specs.Prelude.{◌≡◌, ◌⊎◌, ℕ, false, List, [], ◌∷◌, map, Err, if◌then◌else◌}
 use Rattle.std.specs.List.{Contains, flat_map}
 use Rattle.lisp_records.specs.declared.address.Addr.{Addr}
-use Rattle.lisp_sites.specs.Configuration.{Configuration}
 use Rattle.lisp_messages.specs.declared.fault.ReadFault.{ReadFault}
 use Rattle.lisp_messages.specs.Authentic.{is_authentic}
 use Rattle.lisp_messages.specs.Reading.{message_at}
 use Rattle.lisp_world.specs.declared.event.Event.TheVariants as events
-use Rattle.lisp_world.specs.Trace.{Happening, Step, Opening, address_at, router_at, settings_of, is_server}
+use Rattle.lisp_world.specs.Trace.{Happening, Step, Opening, address_at, settings, is_server}
 use Rattle.lisp_world.specs.Bag.{Item, bytes_of, bag}
 
 -- the secrets of a node: of a server those of all its sites, of a router its own
-abbrev pub secrets_of : Configuration → ℕ → List (List ℕ)
-secrets_of c node = if is_server c node then flat_map (λ s. map (λ k. k.secret) s.keys) c.sites else (settings_of c (router_at c node)).secret ∷ []
+abbrev pub secrets_of : Opening → List Step → ℕ → List (List ℕ)
+secrets_of o T node = if is_server o.config node then flat_map (λ s. map (λ k. k.secret) s.keys) o.config.sites else (settings o T node).secret ∷ []
 
 -- the bytes are those of a datagram from and to the same addresses
 pub record IsEcho (items : List Item) (from to : Addr) (bytes : List ℕ) : Type 0 where
@@ -32,7 +31,7 @@ abbrev pub IsForged : List (List ℕ) → List ℕ → Type 0
 IsForged secrets bytes = (secret : List ℕ) → Contains secrets secret → is_authentic bytes secret ≡ false
 
 abbrev pub IsHarmless : Opening → List Step → Happening → Type 0
-IsHarmless o T (events.Junk to from bytes) = IsEcho (bag o T) from (address_at o.config to) bytes ⊎ (IsNoise bytes ⊎ IsForged (secrets_of o.config to) bytes)
+IsHarmless o T (events.Junk to from bytes) = IsEcho (bag o T) from (address_at o.config to) bytes ⊎ (IsNoise bytes ⊎ IsForged (secrets_of o T to) bytes)
 IsHarmless o T _ = Unit {0}
 
 abbrev pub Clean : Opening → List Step → Type 0

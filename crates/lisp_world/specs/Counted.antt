@@ -1,31 +1,24 @@
 -- Counted: what a router makes of what arrives (RFC 9301 sections 5.7 and 8.2).
-use Rattle.std.specs.Prelude.{ℕ, ◌==◌, ◌&&◌, List, [], ◌∷◌, Option, Some, None, Result, Ok, ok_or, if◌then◌else◌}
+use Rattle.std.specs.Prelude.{ℕ, ◌==◌, ◌&&◌, List, [], ◌∷◌, Option, Some, None, Result, if◌then◌else◌}
 use Rattle.std.specs.List.{find}
 use Rattle.lisp_records.specs.declared.address.Addr.{Addr}
 use Rattle.lisp_records.specs.Address.{addr_eq}
 use Rattle.lisp_sites.specs.Configuration.{Configuration}
-use Rattle.lisp_messages.specs.Authentic.{is_authentic}
 use Rattle.lisp_etr.specs.declared.notify_fault.NotifyFault.{NotifyFault}
-use Rattle.lisp_etr.specs.declared.notify_fault.NotifyFault.TheVariants.{NotMine, WrongKey, BadAuth}
-use Rattle.lisp_etr.specs.Hearing.{◌>>=◌, Heard, check, notify_read}
+use Rattle.lisp_etr.specs.Hearing.{Heard, checked}
 use Rattle.lisp_world.specs.declared.line.Line.{Line}
 use Rattle.lisp_world.specs.declared.line.Line.TheVariants as lines
-use Rattle.lisp_world.specs.Trace.{Step, address_at, router_at, settings_of}
+use Rattle.lisp_world.specs.Trace.{Step, Opening, address_at, router_at, settings}
 use Rattle.lisp_world.specs.Bag.{Arrival}
 
 -- the server of a router's list that has an address
 abbrev pub server_from : Configuration → ℕ → Addr → Option ℕ
 server_from c router from = find (λ s. addr_eq (address_at c s) from) (router_at c router).servers
 
--- the Map-Notify that arrives at a router, from one of its servers, under its key and authentic under its
--- secret; or the first of these checks that fails
-abbrev pub heard : Configuration → ℕ → Arrival → Result Heard NotifyFault
-heard c router a = do
-  m ← notify_read a.read
-  server ← ok_or (server_from c router a.from) NotMine
-  _ ← check (m.key_id == (router_at c router).key_id) WrongKey
-  _ ← check (is_authentic a.bytes (settings_of c (router_at c router)).secret) BadAuth
-  Ok (record { server = server; message = m })
+-- the Map-Notify that arrives at a router, from one of its servers, where it passes all checks; or the first
+-- that fails
+abbrev pub heard : Opening → List Step → ℕ → Arrival → Result Heard NotifyFault
+heard o T router a = checked (settings o T router) a.bytes a.read (server_from o.config router a.from)
 
 -- the nonce of a router's last Map-Register to a server since its start, 0 where there is none
 abbrev pub latest_after : Line → ℕ → ℕ → ℕ → ℕ

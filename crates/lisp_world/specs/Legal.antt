@@ -14,7 +14,7 @@ use Rattle.lisp_world.specs.Bag.{Item, Arrival, arrival_of, thrown, bag}
 use Rattle.lisp_world.specs.Turn.{Turn, IsServers, IsRouters, Same, HasCause, Restarts, IsNobodys}
 use Rattle.lisp_world.specs.Sending.{IsChanged, IsSent, RefusesToSend}
 use Rattle.lisp_world.specs.Receiving.{IsAccepted, IsDone, RefusesMessage}
-use Rattle.lisp_world.specs.Hearing.{IsCounted, IsNoticed, RefusesNotify}
+use Rattle.lisp_world.specs.Hearing.{Hears}
 use Rattle.lisp_world.specs.Notifying.{IsNotice, IsResent, RefusesNotice, RefusesToResend}
 
 -- the router is down, and says so
@@ -27,11 +27,11 @@ pub record IsDown (t : Turn) (router named : ℕ) : Type 0 where
 abbrev pub Arrives : Turn → Arrival → Line → Type 0
 Arrives t a (lines.Accepted server router key nonce datagram) = IsAccepted t a server router key nonce datagram
 Arrives t a (lines.Done server router nonce) = IsDone t a server router nonce
-Arrives t a (lines.Counted router server key nonce) = IsCounted t a router server key nonce
-Arrives t a (lines.Noticed router server nonce datagram) = IsNoticed t a router server nonce datagram
+Arrives t a (lines.Counted router server key nonce) = Hears t a (lines.Counted router server key nonce)
+Arrives t a (lines.Noticed router server nonce datagram) = Hears t a (lines.Noticed router server nonce datagram)
 Arrives t a (lines.Down router) = IsDown t router router
 Arrives t a (lines.Refused node (refusals.Receive why)) = IsServers t node × RefusesMessage t a why
-Arrives t a (lines.Refused node (refusals.Notify why)) = IsRouters t node true × RefusesNotify t a why
+Arrives t a (lines.Refused node (refusals.Notify why)) = Hears t a (lines.Refused node (refusals.Notify why))
 Arrives t a _ = ⊥
 
 -- a datagram arrives at the node that has its destination address
@@ -87,24 +87,24 @@ pub record IsNotStarted (t : Turn) (node : ℕ) (db : Option (List Mapping)) (na
   pub narrows : Restarts t
   pub cause : StartCause t fault
 
--- the rows
-abbrev pub Row : Turn → Happening → Line → Type 0
-Row t (events.Change router db) (lines.Changed named records) = IsChanged t router db named records
-Row t (events.Change router db) (lines.Down named) = IsDown t router named
-Row t (events.Send router server _) (lines.Sent r s key nonce datagram) = (r ≡ router) × (s ≡ server) × IsSent t router server key nonce datagram
-Row t (events.Send router server _) (lines.Down named) = (is_server t.opening.config server ≡ true) × IsDown t router named
-Row t (events.Send router server _) (lines.Refused named (refusals.Send why)) = (named ≡ router) × (is_server t.opening.config server ≡ true) × IsRouters t router true × RefusesToSend t router server why
-Row t (events.Deliver k _) (lines.Nowhere datagram) = IsNowhere t k datagram
-Row t (events.Deliver k _) line = IsDelivered t k line
-Row t (events.Junk to from bytes) line = IsThrown t to (thrown from bytes) line
-Row t (events.Tick ms) (lines.Ticked passed now) = IsTicked t ms passed now
-Row t (events.Restart node _ db) (lines.Restarted named) = IsRestarted t node db named
-Row t (events.Restart node _ db) (lines.Refused named (refusals.Start fault)) = IsNotStarted t node db named fault
-Row t (events.Notice server router _) (lines.Notice s r key nonce datagram) = (s ≡ server) × (r ≡ router) × IsNotice t server router key nonce datagram
-Row t (events.Notice server router _) (lines.Refused named (refusals.Notice why)) = (named ≡ server) × IsServers t server × (is_router t.opening.config router ≡ true) × RefusesNotice t router why
-Row t (events.Resend server router) (lines.Resent s r datagram) = (s ≡ server) × (r ≡ router) × IsResent t server router datagram
-Row t (events.Resend server router) (lines.Refused named (refusals.Notice why)) = (named ≡ server) × IsServers t server × (is_router t.opening.config router ≡ true) × RefusesToResend t router why
-Row t _ _ = ⊥
+-- what may come of an event: one row for each line
+abbrev pub MayCome : Turn → Happening → Line → Type 0
+MayCome t (events.Change router db) (lines.Changed named records) = IsChanged t router db named records
+MayCome t (events.Change router db) (lines.Down named) = IsDown t router named
+MayCome t (events.Send router server _) (lines.Sent r s key nonce datagram) = (r ≡ router) × (s ≡ server) × IsSent t router server key nonce datagram
+MayCome t (events.Send router server _) (lines.Down named) = (is_server t.opening.config server ≡ true) × IsDown t router named
+MayCome t (events.Send router server _) (lines.Refused named (refusals.Send why)) = (named ≡ router) × (is_server t.opening.config server ≡ true) × IsRouters t router true × RefusesToSend t router server why
+MayCome t (events.Deliver k _) (lines.Nowhere datagram) = IsNowhere t k datagram
+MayCome t (events.Deliver k _) line = IsDelivered t k line
+MayCome t (events.Junk to from bytes) line = IsThrown t to (thrown from bytes) line
+MayCome t (events.Tick ms) (lines.Ticked passed now) = IsTicked t ms passed now
+MayCome t (events.Restart node _ db) (lines.Restarted named) = IsRestarted t node db named
+MayCome t (events.Restart node _ db) (lines.Refused named (refusals.Start fault)) = IsNotStarted t node db named fault
+MayCome t (events.Notice server router _) (lines.Notice s r key nonce datagram) = (s ≡ server) × (r ≡ router) × IsNotice t server router key nonce datagram
+MayCome t (events.Notice server router _) (lines.Refused named (refusals.Notice why)) = (named ≡ server) × IsServers t server × (is_router t.opening.config router ≡ true) × RefusesNotice t router why
+MayCome t (events.Resend server router) (lines.Resent s r datagram) = (s ≡ server) × (r ≡ router) × IsResent t server router datagram
+MayCome t (events.Resend server router) (lines.Refused named (refusals.Notice why)) = (named ≡ server) × IsServers t server × (is_router t.opening.config router ≡ true) × RefusesToResend t router why
+MayCome t _ _ = ⊥
 
 abbrev pub turn_of : Opening → List Step → Step → Turn
 turn_of o T s = record { opening = o; past = T; node = s.actor; before = shown o T s.actor; after = s.shown }
@@ -112,7 +112,7 @@ turn_of o T s = record { opening = o; past = T; node = s.actor; before = shown o
 -- a step is legal after a trace: a row allows it, and no call lowers the count of faults
 pub record Legal (o : Opening) (T : List Step) (s : Step) : Type 0 where
   pub faults : (shown o T s.actor).faults ≤ s.shown.faults
-  pub row : Row (turn_of o T s) s.event s.line
+  pub row : MayCome (turn_of o T s) s.event s.line
 
 -- each step is legal after those before it
 abbrev pub LegalTrace : Opening → List Step → Type 0

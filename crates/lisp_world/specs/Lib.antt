@@ -17,4 +17,5 @@ pub mod Change
 pub mod Answer
 pub mod Clean
 pub mod Promises
+pub mod Network
 pub mod Stands

@@ -1,6 +1,6 @@
 -- The must side of legal steps: what meets its conditions is sent, accepted, counted, answered or done, save where
 -- memory or a store's device failed.
-use Rattle.std.specs.Prelude.{◌≡◌, ◌⊎◌, ℕ, ◌-◌, ◌^◌, ◌<◌, ◌≤◌, Bool, true, false, List, Option, Some, None, Ok}
+use Rattle.std.specs.Prelude.{◌≡◌, ◌⊎◌, ℕ, ◌<◌, ◌≤◌, Bool, true, false, List, Option, Some, None, Ok}
 use Rattle.std.specs.List.{Contains}
 use Rattle.lisp_store.specs.declared.fault.StoreFault.{StoreFault}
 use Rattle.lisp_store.specs.declared.fault.StoreFault.TheVariants as stores
@@ -8,6 +8,7 @@ use Rattle.lisp_store.specs.declared.fate.Fate.{Fate}
 use Rattle.lisp_store.specs.Kept.{number}
 use Rattle.lisp_messages.specs.Message.{Registration, Notification, Notifies}
 use Rattle.lisp_etr.specs.Hearing.{Heard, first_notice, is_latest}
+use Rattle.lisp_etr.specs.Sending.{last_nonce}
 use Rattle.lisp_etr.specs.declared.notify_fault.NotifyFault.TheVariants as notifies
 use Rattle.lisp_etr.specs.declared.send_fault.SendFault.TheVariants as sends
 use Rattle.lisp_server.specs.declared.refused.Refused.TheVariants as refuseds
@@ -21,11 +22,10 @@ use Rattle.lisp_world.specs.declared.refusal.Refusal.TheVariants as refusals
 use Rattle.lisp_world.specs.Trace.{Happening, Step, Opening, is_server, is_listed, is_up, is_router}
 use Rattle.lisp_world.specs.Timers.{Notice}
 use Rattle.lisp_world.specs.Bag.{Arrival, arrival_in, bag}
-use Rattle.lisp_world.specs.Counted.{latest}
-use Rattle.lisp_world.specs.Hearing.{Hears}
+use Rattle.lisp_world.specs.Counted.{latest, heard}
 use Rattle.lisp_world.specs.Turn.{Turn, HasCause, values}
 use Rattle.lisp_world.specs.Sending.{pair_at}
-use Rattle.lisp_world.specs.Receiving.{Admits, last_in, awaiting, answers}
+use Rattle.lisp_world.specs.Receiving.{Admits, last_in, awaiting, has_tag_for}
 use Rattle.lisp_world.specs.Legal.{turn_of}
 
 -- a router's or server's refusal for out of memory, or for its store
@@ -66,7 +66,7 @@ IsAbove None kept nonce = (v : Option ℕ) → Contains kept v → IsBelow v non
 -- a router that is up sends to a server of its list, where every value that is kept is below 2^63 - 1
 abbrev pub MustSend : Turn → Happening → Line → Type 0
 MustSend t event line = (router server : ℕ) (fate : Fate) → event ≡ events.Send router server fate → is_up t.past router ≡ true → is_listed t.opening.config router server ≡ true
-    → ((v : Option ℕ) → Contains (values t (pair_at t.opening router)) v → number v < 2 ^ 63 - 1) → (is_sent line ≡ true) ⊎ IsExcused t line
+    → ((v : Option ℕ) → Contains (values t (pair_at t.opening t.past router)) v → number v < last_nonce) → (is_sent line ≡ true) ⊎ IsExcused t line
 
 -- a server accepts a Map-Register that passes all checks, with such a nonce
 abbrev pub MustAccept : Turn → Happening → Line → Type 0
@@ -76,7 +76,7 @@ MustAccept t event line = (a : Arrival) (m : Registration) → arrival_in (bag t
 -- a Map-Notify-Ack ends the notice that waits for it
 abbrev pub MustEnd : Turn → Happening → Line → Type 0
 MustEnd t event line = (a : Arrival) (m : Notification) (n : Notice) → arrival_in (bag t.opening t.past) event ≡ Some a → is_server t.opening.config t.node ≡ true
-    → a.read ≡ Ok (Notifies m) → m.ack ≡ true → awaiting t a.from m ≡ Some n → answers t a n ≡ true → (is_done line ≡ true) ⊎ IsExcused t line
+    → a.read ≡ Ok (Notifies m) → m.ack ≡ true → awaiting t a.from m ≡ Some n → has_tag_for t a n ≡ true → (is_done line ≡ true) ⊎ IsExcused t line
 
 abbrev pub is_counted : Line → Bool
 is_counted (lines.Counted _ _ _ _) = true
@@ -88,11 +88,11 @@ is_noticed _ = false
 
 -- a router that is up counts a Map-Notify for its last Map-Register to that server, and answers a notice
 abbrev pub MustCount : Turn → Happening → Line → Type 0
-MustCount t event line = (a : Arrival) (h : Heard) → arrival_in (bag t.opening t.past) event ≡ Some a → is_router t.opening.config t.node ≡ true → is_up t.past t.node ≡ true → Hears t a h
+MustCount t event line = (a : Arrival) (h : Heard) → arrival_in (bag t.opening t.past) event ≡ Some a → is_router t.opening.config t.node ≡ true → is_up t.past t.node ≡ true → heard t.opening t.past t.node a ≡ Ok h
     → h.message.nonce < first_notice → is_latest h.message.nonce (latest t.past t.node h.server) ≡ true → (is_counted line ≡ true) ⊎ IsExcused t line
 
 abbrev pub MustNotice : Turn → Happening → Line → Type 0
-MustNotice t event line = (a : Arrival) (h : Heard) → arrival_in (bag t.opening t.past) event ≡ Some a → is_router t.opening.config t.node ≡ true → is_up t.past t.node ≡ true → Hears t a h
+MustNotice t event line = (a : Arrival) (h : Heard) → arrival_in (bag t.opening t.past) event ≡ Some a → is_router t.opening.config t.node ≡ true → is_up t.past t.node ≡ true → heard t.opening t.past t.node a ≡ Ok h
     → first_notice ≤ h.message.nonce → (is_noticed line ≡ true) ⊎ IsExcused t line
 
 pub record Must (o : Opening) (T : List Step) (s : Step) : Type 0 where

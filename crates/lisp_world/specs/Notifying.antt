@@ -40,13 +40,13 @@ pub record IsNotice (t : Turn) (server router key nonce datagram : ℕ) : Type 0
   pub next : nonce ≡ nonce_after base
   pub bound : nonce < 2 ^ 64
   pub place : datagram ≡ length (bag t.opening t.past)
-  pub saves : Saves t notice_pair nonce
+  pub saves : Saves t notice_pair nonce (2 ^ 64 - 1)
 
 -- it goes out again when it is due
 pub record IsResent (t : Turn) (server router datagram : ℕ) : Type 0 where
   pub acts : IsServers t server
   pub kind : is_router t.opening.config router ≡ true
-  pub due : is_due (notice_to t.opening t.past server router) (clock t.past) ≡ true
+  pub due : is_due (notice_to t.opening t.past server (router_at t.opening.config router).me) (clock t.past) ≡ true
   pub place : datagram ≡ length (bag t.opening t.past)
   pub same : Same t
 
@@ -68,6 +68,6 @@ RefusesNotice t router (StoreSave fault) = (base : Option ℕ) × HasNonce t rou
 RefusesNotice t router NotDue = ⊥
 
 abbrev pub RefusesToResend : Turn → ℕ → NoticeFault → Type 0
-RefusesToResend t router NotDue = (is_due (notice_to t.opening t.past t.node router) (clock t.past) ≡ false) × Same t
-RefusesToResend t router OutOfMemory = (is_due (notice_to t.opening t.past t.node router) (clock t.past) ≡ true) × Same t
+RefusesToResend t router NotDue = (is_due (notice_to t.opening t.past t.node (router_at t.opening.config router).me) (clock t.past) ≡ false) × Same t
+RefusesToResend t router OutOfMemory = (is_due (notice_to t.opening t.past t.node (router_at t.opening.config router).me) (clock t.past) ≡ true) × Same t
 RefusesToResend t router _ = ⊥

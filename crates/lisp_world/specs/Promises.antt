@@ -14,9 +14,9 @@ use Rattle.lisp_world.specs.declared.event.Event.TheVariants as events
 use Rattle.lisp_world.specs.declared.line.Line.TheVariants as lines
 use Rattle.lisp_world.specs.declared.refusal.Refusal.TheVariants.{Receive}
 use Rattle.lisp_world.specs.Trace.{Happening, Step, Opening, shown, clock, is_up, is_server, is_router, database, address_at, router_at}
-use Rattle.lisp_world.specs.History.{Entry, message_of, record_for, history}
+use Rattle.lisp_world.specs.History.{Entry, message_of, record_in, history}
 use Rattle.lisp_world.specs.Held.{Acceptance, held}
-use Rattle.lisp_world.specs.Timers.{round, notices, last_notice}
+use Rattle.lisp_world.specs.Timers.{round, Notice, notices, last_notice}
 use Rattle.lisp_world.specs.Bag.{Item, since, bag}
 use Rattle.lisp_world.specs.Accepted.{accepted, arriving, nonces_of, tried}
 use Rattle.lisp_world.specs.Counted.{latest, acknowledged, acked}
@@ -89,7 +89,7 @@ pub record IsRowOf (c : Configuration) (h : Holding) (e : Entry) : Type 0 where
 -- what is held for a prefix is the record that an entry's database has for it
 abbrev pub HeldWasSent : Opening → List Step → Type 0
 HeldWasSent o T = (server : ℕ) (router : RouterId) (eid : Block) (h : Holding) → held (since o T server) router eid (clock T) ≡ Some h
-    → (e : Entry) × Contains (history o T) e × (e.server ≡ server) × IsRowOf o.config h e × (record_for e.database eid ≡ Some h.mapping)
+    → (e : Entry) × Contains (history o T) e × (e.server ≡ server) × IsRowOf o.config h e × (record_in e eid ≡ Some h.mapping)
 
 -- servers that hold a prefix of a router from entries with no change between hold equal records
 abbrev pub HeldAgree : Opening → List Step → Type 0
@@ -129,3 +129,7 @@ notice_nonces (s ∷ T) server = notice_nonces_after s.line server (notice_nonce
 -- they rise, over its restarts too
 abbrev pub NoticeNoncesRise : List Step → Type 0
 NoticeNoncesRise T = (server : ℕ) → Falls (notice_nonces T server)
+
+-- no two standing notices of a server have one nonce
+abbrev pub NoticesDiffer : Opening → List Step → Type 0
+NoticesDiffer o T = (server : ℕ) (m n : Notice) → Contains (notices o T server) m → Contains (notices o T server) n → m.nonce ≡ n.nonce → m ≡ n

@@ -14,7 +14,6 @@ use Rattle.lisp_server.specs.Receiving.{IsBelow}
 use Rattle.lisp_server.specs.AcceptedRows.{router_of, pair_of}
 use Rattle.lisp_server.specs.Checks.{secret_under, signed_by}
 use Rattle.lisp_server.specs.Contacts.{secret_at}
-use Rattle.lisp_world.specs.Trace.{router_at}
 use Rattle.lisp_world.specs.Held.{last_of}
 use Rattle.lisp_world.specs.Timers.{Notice, notices}
 use Rattle.lisp_world.specs.Bag.{HasHead, Item, Arrival, bag, since}
@@ -61,8 +60,8 @@ abbrev pub awaiting : Turn → Addr → Notification → Option Notice
 awaiting t from m = find (awaits t from m) (notices t.opening t.past t.node)
 
 -- the tag of what arrives is that of the notice's key
-abbrev pub answers : Turn → Arrival → Notice → Bool
-answers t a n = signed_by (secret_at t.opening.config.sites (router_at t.opening.config n.router).me.site n.key) a.bytes
+abbrev pub has_tag_for : Turn → Arrival → Notice → Bool
+has_tag_for t a n = signed_by (secret_at t.opening.config.sites n.router.site n.key) a.bytes
 
 -- a Map-Notify-Ack ends a notice
 pub record IsDone (t : Turn) (a : Arrival) (server : ℕ) (router : RouterId) (nonce : ℕ) : Type 0 where
@@ -72,15 +71,15 @@ pub record IsDone (t : Turn) (a : Arrival) (server : ℕ) (router : RouterId) (n
   pub ack : message.ack ≡ true
   pub notice : Notice
   pub stands : awaiting t a.from message ≡ Some notice
-  pub authentic : answers t a notice ≡ true
-  pub who : router ≡ (router_at t.opening.config notice.router).me
+  pub authentic : has_tag_for t a notice ≡ true
+  pub who : router ≡ notice.router
   pub number : nonce ≡ notice.nonce
   pub same : Same t
 
 -- a Map-Notify-Ack is refused: no notice waits for it, or its tag is wrong
 abbrev pub RefusesAck : Turn → Arrival → Option Notice → Refused → Type 0
 RefusesAck t a None why = why ≡ NoNotice
-RefusesAck t a (Some notice) why = (answers t a notice ≡ false) × (why ≡ BadAuth)
+RefusesAck t a (Some notice) why = (has_tag_for t a notice ≡ false) × (why ≡ BadAuth)
 
 -- a Map-Notify is for routers
 abbrev pub FailsNotify : Turn → Arrival → Notification → Bool → Refused → Type 0

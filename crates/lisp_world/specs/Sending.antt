@@ -1,5 +1,5 @@
 -- Legal steps of a router that changes its database or sends (RFC 9301 sections 5.6 and 8.2).
-use Rattle.std.specs.Prelude.{◌≡◌, ◌<◌, ◌≤◌, ℕ, ◌+◌, ◌-◌, ◌^◌, ◌==◌, true, false, List, [], ◌∷◌, length, Option, Some, None, if◌then◌else◌, Ok}
+use Rattle.std.specs.Prelude.{◌≡◌, ◌<◌, ◌≤◌, ℕ, ◌+◌, ◌==◌, true, false, List, [], ◌∷◌, length, Option, Some, None, if◌then◌else◌, Ok}
 use Rattle.lisp_records.specs.Database.{database_of}
 use Rattle.lisp_records.specs.Record.{Mapping}
 use Rattle.lisp_store.specs.declared.pair.Pair.{Pair}
@@ -7,18 +7,18 @@ use Rattle.lisp_store.specs.declared.fault.StoreFault.{StoreFault}
 use Rattle.lisp_store.specs.Kept.{kept_at, number}
 use Rattle.lisp_messages.specs.Message.{IsRegistration}
 use Rattle.lisp_etr.specs.Config.{sent_pair}
-use Rattle.lisp_etr.specs.Sending.{registration_of}
+use Rattle.lisp_etr.specs.Sending.{last_nonce, registration_of, IsBound}
 use Rattle.lisp_etr.specs.declared.send_fault.SendFault.{SendFault}
 use Rattle.lisp_etr.specs.declared.send_fault.SendFault.TheVariants.{NoServer, NonceSpent, OutOfMemory, Store}
 use Rattle.lisp_world.specs.declared.line.Line.{Line}
 use Rattle.lisp_world.specs.declared.line.Line.TheVariants as lines
-use Rattle.lisp_world.specs.Trace.{Step, Opening, shown, router_at, settings_of, is_server, is_listed, database}
+use Rattle.lisp_world.specs.Trace.{Step, Opening, shown, settings, is_server, is_listed, database}
 use Rattle.lisp_world.specs.Bag.{bag}
 use Rattle.lisp_world.specs.Turn.{Turn, IsRouters, Same, Saves, SaveFails, IsBase}
 
 -- what the nonces of a router are kept for
-abbrev pub pair_at : Opening → ℕ → Pair
-pair_at o router = sent_pair (settings_of o.config (router_at o.config router))
+abbrev pub pair_at : Opening → List Step → ℕ → Pair
+pair_at o T router = sent_pair (settings o T router)
 
 -- the nonce of a router's last entry since its start
 abbrev pub last_sent_after : Line → ℕ → Option ℕ → Option ℕ
@@ -36,8 +36,8 @@ start_values_after (lines.Restarted node) new r old = if node == r then new else
 start_values_after _ new r old = old
 
 abbrev pub start_values : Opening → List Step → ℕ → List (Option ℕ)
-start_values o [] r = kept_at (shown o [] r).kept (pair_at o r)
-start_values o (s ∷ T) r = start_values_after s.line (kept_at s.shown.kept (pair_at o r)) r (start_values o T r)
+start_values o [] r = kept_at (shown o [] r).kept (pair_at o [] r)
+start_values o (s ∷ T) r = start_values_after s.line (kept_at s.shown.kept (pair_at o T r)) r (start_values o T r)
 
 -- the numbers that the next nonce of a router may count from
 abbrev pub CountsFrom : Opening → List Step → ℕ → Option ℕ → Type 0
@@ -56,31 +56,30 @@ pub record IsSent (t : Turn) (router server key nonce datagram : ℕ) : Type 0 w
   pub acts : IsRouters t router true
   pub kind : is_server t.opening.config server ≡ true
   pub listed : is_listed t.opening.config router server ≡ true
-  pub under : key ≡ (router_at t.opening.config router).key_id
+  pub under : key ≡ (settings t.opening t.past router).key_id
   pub base : Option ℕ
   pub counts : CountsFrom t.opening t.past router base
   pub next : nonce ≡ number base + 1
-  pub bound : nonce < 2 ^ 63
-  pub message : IsRegistration (registration_of (settings_of t.opening.config (router_at t.opening.config router)) (database t.opening t.past router) nonce)
+  pub within : nonce ≤ last_nonce
+  pub message : IsRegistration (registration_of (settings t.opening t.past router) (database t.opening t.past router) nonce)
   pub place : datagram ≡ length (bag t.opening t.past)
-  pub saves : Saves t (pair_at t.opening router) nonce
+  pub saves : Saves t (pair_at t.opening t.past router) nonce last_nonce
 
 -- the nonces are spent, or not
 abbrev pub IsSpent : Turn → ℕ → Type 0
-IsSpent t router = (base : Option ℕ) × CountsFrom t.opening t.past router base × (2 ^ 63 - 1 ≤ number base)
+IsSpent t router = (base : Option ℕ) × CountsFrom t.opening t.past router base × (last_nonce ≤ number base)
 
--- a nonce above the last one can't be saved
+-- what is to be saved for the next nonce can't be
 pub record NotSaved (t : Turn) (router : ℕ) (fault : StoreFault) : Type 0 where
   pub base : Option ℕ
   pub counts : CountsFrom t.opening t.past router base
-  pub left : number base < 2 ^ 63 - 1
-  pub nonce : ℕ
-  pub above : number base < nonce
-  pub fails : SaveFails t (pair_at t.opening router) nonce fault
+  pub bound : ℕ
+  pub fits : IsBound (number base + 1) last_nonce bound
+  pub fails : SaveFails t (pair_at t.opening t.past router) bound fault
 
 -- the first reason that applies: the server isn't listed; the nonces are spent; memory; the store
 abbrev pub RefusesToSend : Turn → ℕ → ℕ → SendFault → Type 0
 RefusesToSend t router server NoServer = (is_listed t.opening.config router server ≡ false) × Same t
 RefusesToSend t router server NonceSpent = (is_listed t.opening.config router server ≡ true) × IsSpent t router × Same t
-RefusesToSend t router server OutOfMemory = (is_listed t.opening.config router server ≡ true) × (base : Option ℕ) × CountsFrom t.opening t.past router base × (number base < 2 ^ 63 - 1) × Same t
+RefusesToSend t router server OutOfMemory = (is_listed t.opening.config router server ≡ true) × (base : Option ℕ) × CountsFrom t.opening t.past router base × (number base < last_nonce) × Same t
 RefusesToSend t router server (Store fault) = (is_listed t.opening.config router server ≡ true) × NotSaved t router fault

@@ -1,6 +1,5 @@
 -- What a network stands for a trace means.
-use Rattle.std.specs.Prelude.{◌≡◌, ◌≢◌, ℕ, ◌+◌, ◌≤◌, IsTrue, true, false, List, ◌∷◌, length, slice_get, Option, Some}
-use Rattle.std.specs.List.{Contains, AllPairs}
+use Rattle.std.specs.Prelude.{◌≡◌, ◌≢◌, ℕ, ◌+◌, ◌≤◌, IsTrue, true, false, List, ◌∷◌, length, slice_get, Option, Some, None}
 use Rattle.std.specs.Option.{option_map, option_and_then}
 use Rattle.lisp_records.specs.declared.address.Addr.{Addr}
 use Rattle.lisp_records.specs.declared.router.RouterId.{RouterId}
@@ -11,7 +10,7 @@ use Rattle.lisp_records.specs.Row.{Holding}
 use Rattle.lisp_store.specs.declared.pair.Pair.{Pair}
 use Rattle.lisp_store.specs.Kept.{kept_at, number, NoneBelow}
 use Rattle.lisp_store.specs.Store.{StoreState}
-use Rattle.lisp_sites.specs.Configuration.{Configuration, NamesServers}
+use Rattle.lisp_sites.specs.Configuration.{Configuration}
 use Rattle.lisp_messages.specs.Message.{IsSaid}
 use Rattle.lisp_lookup.specs.Table.{row_at, if_alive}
 use Rattle.lisp_etr.specs.Config.{Settings}
@@ -22,14 +21,15 @@ use Rattle.lisp_server.specs.Server.{ServerState}
 use Rattle.lisp_server.specs.LastNonces.{nonce_at}
 use Rattle.lisp_server.specs.Contacts.{contact_at}
 use Rattle.lisp_server.specs.Receiving.{contact_of}
-use Rattle.lisp_server.specs.Notices.{Standing, notice_pair}
-use Rattle.lisp_world.specs.Trace.{Shown, Step, Opening, addresses, router_at, settings_of, address_at, shown, clock, is_up, database}
+use Rattle.lisp_server.specs.Notices.{Standing, notice_at, notice_pair}
+use Rattle.lisp_world.specs.Trace.{Shown, Step, Opening, router_at, settings, address_at, shown, clock, is_up, database}
 use Rattle.lisp_world.specs.Held.{last_of, heard_last, held}
-use Rattle.lisp_world.specs.Timers.{round, Notice, notices, last_notice}
+use Rattle.lisp_world.specs.Timers.{round, Notice, notice_to, last_notice}
 use Rattle.lisp_world.specs.Bag.{Item, bytes_of, bag, since}
 use Rattle.lisp_world.specs.Counted.{latest, acked}
 use Rattle.lisp_world.specs.Sending.{pair_at, CountsFrom}
 use Rattle.lisp_world.specs.Legal.{LegalTrace}
+use Rattle.lisp_world.specs.Network.{IsNetwork}
 
 -- a datagram as it is kept
 pub record Posted : Type 0 where
@@ -57,12 +57,6 @@ pub record WorldState : Type 0 where
   pub bag : List Posted
   pub servers : List ServerNode
   pub routers : List RouterNode
-
--- no two nodes have one address, and no two routers one identity; each router's list names servers
-pub record IsNetwork (c : Configuration) : Type 0 where
-  pub addresses : AllPairs (λ a b. a ≢ b) (addresses c)
-  pub routers : AllPairs (λ a b. a.me ≢ b.me) c.routers
-  pub servers : NamesServers c
 
 -- an honest store shows what the trace says
 pub record Shows (store : StoreState) (s : Shown) : Type 0 where
@@ -102,21 +96,21 @@ pub record StandsForRound (T : List Step) (router server : ℕ) (r : Round) : Ty
 
 pub record StandsForEtr (o : Opening) (T : List Step) (router : ℕ) (e : EtrState) : Type 0 where
   pub up : is_up T router ≡ true
-  pub config : e.config ≡ settings_of o.config (router_at o.config router)
+  pub config : e.config ≡ settings o T router
   pub database : e.database ≡ database o T router
   pub last : (base : Option ℕ) × CountsFrom o T router base × (e.last ≡ number base)
-  pub safe : NoneBelow e.safe (kept_at (shown o T router).kept (pair_at o router))
+  pub safe : NoneBelow e.safe (kept_at (shown o T router).kept (pair_at o T router))
   pub count : length e.rounds ≡ length (router_at o.config router).servers
   pub rounds : (i server : ℕ) (r : Round) → slice_get (router_at o.config router).servers i ≡ Some server → slice_get e.rounds i ≡ Some r → StandsForRound T router server r
 
 -- a router
 abbrev pub StandsForRouter : Opening → List Step → ℕ → RouterCore → Type 0
 StandsForRouter o T router (Up e) = StandsForEtr o T router e
-StandsForRouter o T router (Down settings db) = (is_up T router ≡ false) × (settings ≡ settings_of o.config (router_at o.config router)) × (db ≡ database o T router)
+StandsForRouter o T router (Down config db) = (is_up T router ≡ false) × (config ≡ settings o T router) × (db ≡ database o T router)
 
 -- a notice as a server keeps it
 pub record IsStanding (o : Opening) (T : List Step) (server : ℕ) (n : Notice) (kept : Standing) : Type 0 where
-  pub router : kept.router ≡ (router_at o.config n.router).me
+  pub router : kept.router ≡ n.router
   pub key : kept.key ≡ n.key
   pub nonce : kept.nonce ≡ n.nonce
   pub item : Item
@@ -128,6 +122,12 @@ pub record IsStanding (o : Opening) (T : List Step) (server : ℕ) (n : Notice) 
   pub moments : n.moments ≡ kept.last ∷ earlier
   pub resends : kept.resends ≡ length earlier
 
+-- a notice stands where the server keeps one
+abbrev pub SameNotice : Opening → List Step → ℕ → Option Notice → Option Standing → Type 0
+SameNotice o T server (Some n) (Some kept) = IsStanding o T server n kept
+SameNotice o T server None None = Unit {0}
+SameNotice o T server _ _ = ⊥
+
 -- a server
 pub record StandsForServer (o : Opening) (T : List Step) (server : ℕ) (n : ServerNode) : Type 0 where
   pub sites : n.core.sites ≡ o.config.sites
@@ -135,9 +135,7 @@ pub record StandsForServer (o : Opening) (T : List Step) (server : ℕ) (n : Ser
   pub nonces : (pair : Pair) → pair ≢ notice_pair → nonce_at n.core.nonces pair ≡ last_of pair (since o T server)
   pub notice_nonce : nonce_at n.core.nonces notice_pair ≡ last_notice T server
   pub contacts : (router : RouterId) (eid : Block) (h : Holding) → held (since o T server) router eid (clock T) ≡ Some h → contact_at n.core.contacts router ≡ option_map (λ a. contact_of a.message a.from) (heard_last router (since o T server))
-  pub one_each : AllPairs (λ a b. a.router ≢ b.router) n.core.notices
-  pub each : (kept : Standing) → Contains n.core.notices kept → (notice : Notice) × Contains (notices o T server) notice × IsStanding o T server notice kept
-  pub all : (notice : Notice) → Contains (notices o T server) notice → (kept : Standing) × Contains n.core.notices kept × IsStanding o T server notice kept
+  pub notices : (router : RouterId) → SameNotice o T server (notice_to o T server router) (notice_at n.core.notices router)
 
 -- the network stands for the trace: its steps and stores, clock and bag, each server and each router
 pub record Stands (w : WorldState) (o : Opening) (T : List Step) : Type 0 where

@@ -40,28 +40,24 @@ due T r server = due_after (round T r server).begin (round T r server).moments
 -- a notice that stands: for which router, under which key and nonce; the datagram that carried it first;
 -- and the moments of its sendings, the last one first
 pub record Notice : Type 0 where
-  pub router : ℕ
+  pub router : RouterId
   pub key : ℕ
   pub nonce : ℕ
   pub datagram : ℕ
   pub moments : List ℕ
 
 -- the notices to other routers
-abbrev pub without : ℕ → List Notice → List Notice
-without router notices = filter (λ n. not (n.router == router)) notices
+abbrev pub without : RouterId → List Notice → List Notice
+without router notices = filter (λ n. not (router_eq n.router router)) notices
 
-abbrev pub sent_again : ℕ → ℕ → Notice → Notice
-sent_again router now n = if n.router == router then record n { moments = now ∷ n.moments } else n
-
--- the notices to routers of other identities
-abbrev pub not_to : Configuration → RouterId → List Notice → List Notice
-not_to c router notices = filter (λ n. not (router_eq (router_at c n.router).me router)) notices
+abbrev pub sent_again : RouterId → ℕ → Notice → Notice
+sent_again router now n = if router_eq n.router router then record n { moments = now ∷ n.moments } else n
 
 -- a notice stands from its line until it is acknowledged, another one to its router, or a restart
 abbrev pub notices_after : Configuration → Line → ℕ → ℕ → List Notice → List Notice
-notices_after c (lines.Notice server router key nonce datagram) now k old = if server == k then record { router = router; key = key; nonce = nonce; datagram = datagram; moments = now ∷ [] } ∷ without router old else old
-notices_after c (lines.Resent server router _) now k old = if server == k then map (sent_again router now) old else old
-notices_after c (lines.Done server router _) now k old = if server == k then not_to c router old else old
+notices_after c (lines.Notice server router key nonce datagram) now k old = if server == k then record { router = (router_at c router).me; key = key; nonce = nonce; datagram = datagram; moments = now ∷ [] } ∷ without (router_at c router).me old else old
+notices_after c (lines.Resent server router _) now k old = if server == k then map (sent_again (router_at c router).me now) old else old
+notices_after c (lines.Done server router _) now k old = if server == k then without router old else old
 notices_after c (lines.Restarted node) now k old = if node == k then [] else old
 notices_after c _ now k old = old
 
@@ -70,8 +66,8 @@ notices o [] server = []
 notices o (s ∷ T) server = notices_after o.config s.line (clock T) server (notices o T server)
 
 -- the notice that stands for a router
-abbrev pub notice_to : Opening → List Step → ℕ → ℕ → Option Notice
-notice_to o T server router = find (λ n. n.router == router) (notices o T server)
+abbrev pub notice_to : Opening → List Step → ℕ → RouterId → Option Notice
+notice_to o T server router = find (λ n. router_eq n.router router) (notices o T server)
 
 -- it is due
 abbrev pub is_due : Option Notice → ℕ → Bool

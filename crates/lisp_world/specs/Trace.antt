@@ -78,6 +78,10 @@ secret_at sites site key = unwrap_or (known_secret sites site key) []
 abbrev pub settings_of : Configuration → Router → Settings
 settings_of c r = record { me = r.me; key_id = r.key_id; secret = secret_at c.sites r.me.site r.key_id; servers = map (address_at c) r.servers; proxy = r.proxy; use_ttl = r.use_ttl }
 
+-- a router's key, secret and the rest of its settings after a trace: those of the configuration
+abbrev pub settings : Opening → List Step → ℕ → Settings
+settings o T r = settings_of o.config (router_at o.config r)
+
 -- the server is one of those that the router registers with
 abbrev pub is_listed : Configuration → ℕ → ℕ → Bool
 is_listed c router server = list_any (λ s. s == server) (router_at c router).servers

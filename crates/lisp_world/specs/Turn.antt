@@ -48,11 +48,11 @@ Rose t = (t.before.faults < t.after.faults) ⊎ (t.after.faults ≡ 2 ^ 64 - 1)
 abbrev pub HasCause : Turn → StoreFault → Type 0
 HasCause t fault = fault ≢ faults.OutOfMemory → Rose t
 
--- what was saved, if anything was, is one value for that pair, which it alone keeps then; and from now on no
--- value of it is below the number
-pub record Saves (t : Turn) (pair : Pair) (floor : ℕ) : Type 0 where
-  pub here : Settles (values t pair) (values_after t pair)
-  pub none_below : NoneBelow floor (values_after t pair)
+-- what was saved, if anything was, is a bound for the nonce, which that pair alone keeps then; and from now on
+-- no value of it is below the nonce
+pub record Saves (t : Turn) (pair : Pair) (nonce last : ℕ) : Type 0 where
+  pub here : Settles (values t pair) (values_after t pair) nonce last
+  pub none_below : NoneBelow nonce (values_after t pair)
   pub others : SameOthers t pair
 
 -- a load failed

@@ -7,8 +7,8 @@ ghost use Rattle.lisp_world.specs.Held.{Acceptance, named, rows};
 ghost use Rattle.lisp_world.specs.Legal.{Legal, LegalTrace};
 ghost use Rattle.lisp_world.specs.Must.{Must};
 ghost use Rattle.lisp_world.specs.Clean.{Clean};
-ghost use Rattle.lisp_world.specs.Promises.{NoncesRise, ReplaysAreTried, NoticeNoncesRise, LeavesOthers, AcceptedWasSent, HeldWasSent, HeldAgree, CountedWasAccepted, DoneWasNoticed};
-ghost use Rattle.lisp_world.specs.Stands.{IsNetwork};
+ghost use Rattle.lisp_world.specs.Promises.{NoncesRise, ReplaysAreTried, NoticeNoncesRise, NoticesDiffer, LeavesOthers, AcceptedWasSent, HeldWasSent, HeldAgree, CountedWasAccepted, DoneWasNoticed};
+ghost use Rattle.lisp_world.specs.Network.{IsNetwork};
 
 /// The nonces that a Map-Server accepts of a router under a key rise, over its restarts too (RFC 9301
 /// section 5.6).
@@ -27,6 +27,11 @@ pub fn replays_are_tried()
 #[tactic(auto, using(crate::proofs::NoticeRising::notice_nonces_rise))]
 pub fn notice_nonces_rise()
     ensures { (o : Opening) (T : List Step) → LegalTrace o T → NoticeNoncesRise T }
+{}
+
+/// No two standing notices of a Map-Server have one nonce, so that a Map-Notify-Ack ends at most one.
+pub fn notices_differ()
+    ensures { (o : Opening) (T : List Step) → LegalTrace o T → NoticesDiffer o T }
 {}
 
 /// A legal step leaves the part of each node that doesn't act as it was.

@@ -1,9 +1,10 @@
 -- What a fresh server over an empty store makes of a message: no nonce stands in its way.
-use Rattle.std.proofs.Common.{◌≡◌, ◌⊎◌, inl, inr, ℕ, zero, suc, Bool, true, false, cond, ok_or, List, [], ◌∷◌, Option, Some, None, Result, Ok, Err, refl, sym, ap, ◌∙◌, subst, arith}
+use Rattle.std.proofs.Common.{◌≡◌, ◌⊎◌, inl, inr, ℕ, zero, suc, Bool, cond, List, [], ◌∷◌, Option, Some, None, Result, Ok, Err, refl, sym, ap, ◌∙◌, subst, arith}
 use Rattle.std.specs.FinMap.{empty, get-empty}
 use Rattle.std.specs.Option.{unwrap_or}
-use Rattle.std.specs.List.{Contains, find}
+use Rattle.std.specs.List.{Contains}
 use Rattle.lisp_records.specs.declared.address.Addr.{Addr}
+use Rattle.lisp_records.specs.declared.router.RouterId.{RouterId}
 use Rattle.lisp_sites.specs.Site.{SiteEntry}
 use Rattle.lisp_store.specs.declared.fault.StoreFault.{StoreFault}
 use Rattle.lisp_store.specs.declared.fault.StoreFault.TheVariants as faults
@@ -15,8 +16,8 @@ use Rattle.lisp_store.specs.Memory.{memory_state}
 use Rattle.lisp_store.specs.Store.{StoreState, Rose, Proceeds}
 use Rattle.lisp_messages.specs.Message.{Said, Registers, Notifies, Notification}
 use Rattle.lisp_messages.specs.declared.fault.ReadFault.{ReadFault}
-use Rattle.lisp_server.specs.Checks.{Passed, register_checked, notice_ended, answers_under, check, ◌>>=◌}
-use Rattle.lisp_server.specs.Notices.{Standing, awaits}
+use Rattle.lisp_server.specs.Checks.{Passed, register_checked, RefusesAck}
+use Rattle.lisp_server.specs.Notices.{Standing, notice_at}
 use Rattle.lisp_server.specs.LastNonces.{nonce_at}
 use Rattle.lisp_server.specs.Receiving.{IsBase, Takes, RefusesRegister, RefusesRead, Refuses, HasCause}
 use Rattle.lisp_server.specs.AcceptedRows.{pair_of}
@@ -63,19 +64,29 @@ no_base pair saved base =
     only_none saved (suc k, lt, at) = omega (arith, lt)
 
 -- no notice stands that an acknowledgement could end
-none_ended : (sites : List SiteEntry) (from : Addr) (bytes : List ℕ) (m : Notification) → notice_ended sites [] from bytes m ≡ Err (cond m.ack refusals.NoNotice refusals.NotMine)
-unfolding notice_ended
-none_ended sites from bytes m = by m.ack
-  where
-    by : (ack : Bool) → (check ack refusals.NotMine >>= λ _. ok_or (find (awaits from m.key_id m.nonce) []) refusals.NoNotice >>= λ n. check (answers_under sites bytes n) refusals.BadAuth >>= λ _. Ok n) ≡ Err (cond ack refusals.NoNotice refusals.NotMine)
-    by true = refl
-    by false = refl
+none_stands : (router : RouterId) (n : Standing) → notice_at [] router ≡ Some n → ⊥
+unfolding notice_at
+none_stands router n at = (let clash : ◌≡◌ {A = Option Standing} None (Some n) = at in absurd cc)
+
+ack_refused : (sites : List SiteEntry) (from : Addr) (bytes : List ℕ) (m : Notification) (why : Refused) → RefusesAck sites [] from bytes m why → cond m.ack refusals.NoNotice refusals.NotMine ≡ why
+ack_refused sites from bytes m refusals.NotMine notify = ap (λ (ack : Bool). cond ack refusals.NoNotice refusals.NotMine) notify
+ack_refused sites from bytes m refusals.NoNotice r = ap (λ (ack : Bool). cond ack refusals.NoNotice refusals.NotMine) r.0
+ack_refused sites from bytes m refusals.BadAuth r = absurd (none_stands r.1.router r.1 r.2.stands)
+ack_refused sites from bytes m (refusals.Read _) never = absurd never
+ack_refused sites from bytes m refusals.UnknownSite never = absurd never
+ack_refused sites from bytes m refusals.UnknownKey never = absurd never
+ack_refused sites from bytes m refusals.MergeAsked never = absurd never
+ack_refused sites from bytes m (refusals.NotAllowed _) never = absurd never
+ack_refused sites from bytes m (refusals.StoreLoad _) never = absurd never
+ack_refused sites from bytes m (refusals.Replay _) never = absurd never
+ack_refused sites from bytes m refusals.OutOfMemory never = absurd never
+ack_refused sites from bytes m (refusals.StoreSave _) never = absurd never
 
 pub taken : {A : Type 0} (sites : List SiteEntry) (said : Result Said ReadFault) (from : Addr) (bytes : List ℕ) (new : ServerState) (after : StoreState) (took : Took A) → Takes said from bytes (fresh_server sites) new fresh_store after 0 took → read_answer sites bytes said ≡ Ok (reply_in took)
 taken sites (Ok (Registers m)) from bytes new after (Accepted router key nonce reply) a = ap answer_to a.checks ∙ ap (λ t. Ok (reply_in t)) (sym a.answer)
 taken sites (Ok (Registers m)) from bytes new after (NoticeDone router nonce) never = absurd never
 taken sites (Ok (Notifies m)) from bytes new after (Accepted router key nonce reply) never = absurd never
-taken sites (Ok (Notifies m)) from bytes new after (NoticeDone router nonce) e = absurd (let clash : ◌≡◌ {A = Result Standing Refused} (Err (cond m.ack refusals.NoNotice refusals.NotMine)) (Ok e.notice) = sym (none_ended sites from bytes m) ∙ e.checks in cc)
+taken sites (Ok (Notifies m)) from bytes new after (NoticeDone router nonce) e = absurd (none_stands e.notice.router e.notice e.acknowledges.awaiting.stands)
 taken sites (Err fault) from bytes new after took never = absurd never
 
 register_refused : (sites : List SiteEntry) (c : Result Passed Refused) (after : StoreState) (why : Refused) → Proceeds fresh_store after → RefusesRegister c (fresh_server sites) fresh_store after why → IsOutOfMemory why ⊎ (answer_to c ≡ Err why)
@@ -92,12 +103,9 @@ register_refused sites c after refusals.MergeAsked went r = inr (ap answer_to r.
 register_refused sites c after (refusals.NotAllowed _) went r = inr (ap answer_to r.0)
 register_refused sites c after refusals.NoNotice went r = inr (ap answer_to r.0)
 
-err_same : (one other : Refused) → ◌≡◌ {A = Result Standing Refused} (Err one) (Err other) → one ≡ other
-err_same one other e = cc
-
 read_refused : (sites : List SiteEntry) (said : Result Said ReadFault) (from : Addr) (bytes : List ℕ) (after : StoreState) (why : Refused) → Proceeds fresh_store after → RefusesRead said from bytes (fresh_server sites) fresh_store after why → IsOutOfMemory why ⊎ (read_answer sites bytes said ≡ Err why)
 read_refused sites (Ok (Registers m)) from bytes after why went r = register_refused sites (register_checked sites bytes m) after why went r
-read_refused sites (Ok (Notifies m)) from bytes after why went r = inr (ap Err (err_same (cond m.ack refusals.NoNotice refusals.NotMine) why (sym (none_ended sites from bytes m) ∙ r.0)))
+read_refused sites (Ok (Notifies m)) from bytes after why went r = inr (ap Err (ack_refused sites from bytes m why r.0))
 read_refused sites (Err fault) from bytes after why went r = inr (ap Err (sym r.0))
 
 pub refused : (sites : List SiteEntry) (said : Result Said ReadFault) (from : Addr) (bytes : List ℕ) (after : StoreState) (why : Refused) → Proceeds fresh_store after → Refuses said from bytes (fresh_server sites) fresh_store after why → IsOutOfMemory why ⊎ (read_answer sites bytes said ≡ Err why)

@@ -5,6 +5,7 @@ use Rattle.std.specs.Str.{bytes_eq}
 use Rattle.clap.specs.Words.{first_value, found_of}
 use Rattle.clap.specs.declared.parser.matches.ArgMatches.{ArgMatches}
 use denote.Ref.{Bor}
+use Rattle.lisp_records.specs.Result.{◌>>=◌}
 use Rattle.lisp_texts.specs.Number.{number_of}
 use Rattle.lisp_texts.specs.Form.{site_id_of, secret_text_of}
 use Rattle.lisp_texts.specs.Reading.{prefix_of}
@@ -13,11 +14,6 @@ use Rattle.lispd.specs.declared.option.AnswerOption.TheVariants.{Site, Key, Secr
 use Rattle.lispd.specs.declared.fault.SetupFault.{SetupFault}
 use Rattle.lispd.specs.declared.fault.SetupFault.TheVariants.{BadOption, OutOfMemory}
 use Rattle.lispd.specs.Setup.{Setup, default_setup}
-
-infixl 10 ◌>>=◌
-abbrev pub ◌>>=◌ : {A B : Type 0} → Result A SetupFault → (A → Result B SetupFault) → Result B SetupFault
-(Ok x) >>= f = f x
-(Err fault) >>= f = Err fault
 
 -- an option's name on the command line, without its dashes
 abbrev pub option_name : AnswerOption → List ℕ

@@ -1,7 +1,11 @@
-use Rattle.std.proofs.Common.{◌≡◌, ◌++◌, take, drop}
+use Rattle.std.proofs.Common.{◌≡◌, ◌++◌, ◌<◌, take, drop}
+use Rattle.std.specs.List.{AllWithin}
 use Rattle.lisp_records.specs.Address.{masked}
 use Rattle.lisp_records.proofs.address.clear_past.Given as goal
 
--- the bytes so far are masked, and those to come are masked by what is left of the mask
+-- the bytes so far are masked and are bytes, and those to come are masked by what is left of the mask
 abbrev pub invariant-loop-byte : goal.invariant-loop-byte
-invariant-loop-byte l = take l.byte-index l.bytes ++ masked (drop l.byte-index l.bytes) l.left ≡ masked l.fn.bytes l.mask_len
+invariant-loop-byte l = record {
+  clear : take l.byte-index l.bytes ++ masked (drop l.byte-index l.bytes) l.left ≡ masked l.fn.bytes l.mask_len;
+  small : AllWithin (λ n. n < 256) l.bytes 0 l.byte-index;
+}

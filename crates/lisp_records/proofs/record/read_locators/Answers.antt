@@ -1,8 +1,7 @@
 use Rattle.std.proofs.Common.{◌+◌, ap, length-append}
 use Rattle.std.proofs.lemmas.Result.{err_from_is_err_and}
-use Rattle.std.proofs.lemmas.List.Elements.{All-push}
-use Rattle.lisp_records.specs.declared.locator.Locator.{Locator}
-use Rattle.lisp_records.specs.Address.{IsWhole}
+use Rattle.std.proofs.lemmas.List.Elements.{All-push, recursion_from_All}
+use Rattle.lisp_records.specs.Record.{IsLocator}
 use Rattle.lisp_records.specs.Reading.{locators_at}
 use Rattle.lisp_records.proofs.Loop.{goes_on, ends, is_done}
 use Rattle.lisp_records.proofs.record.read_locators.Goals as goal
@@ -17,9 +16,12 @@ loop-preserved g c =
     let pushed = c.in_ok-push.ensures.items in
     record {
       count = rw (pushed, length-append) (ap (λ n. n + 1) c.loop.invariant.count);
-      whole = rw pushed (All-push (λ (x : Locator). IsWhole x.addr) c.loop.locators.items c.in_ok-locator.locator c.loop.invariant.whole c.in_ok-locator.ensures.whole);
+      fits = rw pushed (All-push IsLocator c.loop.locators.items c.in_ok-locator.locator c.loop.invariant.fits c.in_ok-locator.ensures.fits);
       read = rw pushed (goes_on c.loop.locators.items c.args.count c.loop.counter c.loop.rest.now c.in_ok-locator.locator c.in_ok-locator.after.now (locators_at c.args.count c.args.bytes.now) c.loop-test.true c.in_ok-locator.ensures.read c.loop.invariant.read);
     }
 
 pub returns-clause-locators : goal.returns-clause-locators
 returns-clause-locators g c = is_done c.loop.locators.items c.args.count c.loop.counter c.loop.rest.now (locators_at c.args.count c.args.bytes.now) c.loop-test.false c.loop.invariant.read
+
+pub returns-clause-fits : goal.returns-clause-fits
+returns-clause-fits g c = recursion_from_All IsLocator c.loop.locators.items c.loop.invariant.fits

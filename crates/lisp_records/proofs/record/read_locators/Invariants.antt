@@ -1,6 +1,5 @@
 use Rattle.std.proofs.Common.{◌≡◌, ◌-◌, All, length}
-use Rattle.lisp_records.specs.Address.{IsWhole}
-use Rattle.lisp_records.specs.declared.locator.Locator.{Locator}
+use Rattle.lisp_records.specs.Record.{IsLocator}
 use Rattle.lisp_records.specs.Reading.{locators_at}
 use Rattle.lisp_records.proofs.Loop.{with_front}
 use Rattle.lisp_records.proofs.record.read_locators.Given as goal
@@ -9,6 +8,6 @@ use Rattle.lisp_records.proofs.record.read_locators.Given as goal
 abbrev pub invariant-loop : goal.invariant-loop
 invariant-loop g l = record {
   count : length l.locators.items ≡ l.counter;
-  whole : All (λ (x : Locator). IsWhole x.addr) l.locators.items;
+  fits : All IsLocator l.locators.items;
   read : with_front l.locators.items (locators_at (l.count - l.counter) l.rest) ≡ locators_at l.count l.bytes;
 }

@@ -41,6 +41,7 @@ pub returns-clause-accepted : goal.returns-clause-accepted
 returns-clause-accepted g c = accepts {new = c.accept.new.self} {between = g.S.NonceStore.seen c.check_nonce.new.store} c.pair_of-pair.result c.nonce_of-nonce.result c.pair_of-pair.ensures c.nonce_of-nonce.ensures (record {
   secret = c.in_ok-secret.secret.now;
   checks = c.in_ok-secret.ensures;
+  fits = c.requires;
   fresh = subst (λ (last : Option ℕ). IsFresh last (g.S.NonceStore.seen c.args.store.now) c.pair_of-pair.result c.nonce_of-nonce.result) c.get.ensures c.in_ok-check_nonce.ensures.fresh;
   loaded = c.check_nonce.ensures.same;
   honest = c.check_nonce.ensures.proceeds.honest;

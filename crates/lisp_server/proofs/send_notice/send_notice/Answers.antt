@@ -25,6 +25,7 @@ returns-clause-announces g c =
       records = bytes.0;
       by_prefix = bytes.1;
       datagram = bytes.2;
+      fits = bytes.3;
       copied = c.in_ok-copy.ensures;
       notice_is = c.notice-notice.ensures;
       same = c.prepare_notice.ensures.same;

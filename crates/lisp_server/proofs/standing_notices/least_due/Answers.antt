@@ -11,4 +11,4 @@ loop-notice-preserved g c = due_next c.args.notices.now c.loop-notice.notice-ind
 ])
 
 pub returns : goal.returns
-returns g c = due_done c.args.notices.now c.loop-notice.notice-index c.args.now c.loop-notice.least c.loop-notice-test.false c.loop-notice.invariant
+returns g c = due_done c.args.notices.now c.loop-notice.notice-index c.args.now c.loop-notice.least c.requires c.loop-notice-test.false c.loop-notice.invariant

@@ -9,7 +9,12 @@ invariant_of-self g c =
     let alive = filter_same _ (λ h. is_alive h c.args.now) _ (λ x b q k. search (rules, tests)) _ _ c.retain.ensures.filtered in
     rw alive (one_each_alive c.self.inside.items.items c.args.now c.self.invariant)
 
-pub returns : goal.returns
-returns g c =
+pub returns-clause-expires : goal.returns-clause-expires
+returns-clause-expires g c =
     let alive = filter_same _ (λ h. is_alive h c.args.now) _ (λ x b q k. search (rules, tests)) _ _ c.retain.ensures.filtered in
     rw (← c.self.view_is) (rw alive (expires c.self.inside.items.items c.args.now c.self.invariant))
+
+pub returns-clause-one_each : goal.returns-clause-one_each
+returns-clause-one_each g c =
+    let alive = filter_same _ (λ h. is_alive h c.args.now) _ (λ x b q k. search (rules, tests)) _ _ c.retain.ensures.filtered in
+    rw alive (one_each_alive c.self.inside.items.items c.args.now c.self.invariant)

@@ -1,10 +1,14 @@
-use Rattle.std.proofs.Common.{ap, ◌∙◌, Ok, Err}
+use Rattle.std.proofs.Common.{ap, ◌∙◌, subst, Ok, Err, arith}
 use Rattle.std.proofs.lemmas.Result.{IfOk-weaker, IfErr-weaker}
 use Rattle.lisp_messages.specs.Meaning.{said}
+use Rattle.lisp_messages.specs.Spelling.{Spells}
 use Rattle.lisp_server.specs.Refused.{refused_of_read}
-use Rattle.lisp_server.proofs.ReceivingLaws.{read_fails, takes_register, takes_notify, refuses_register, refuses_notify}
+use Rattle.lisp_server.proofs.ReceivingLaws.{read_fails, notification_fits, takes_register, takes_notify, refuses_register, refuses_notify}
 use Rattle.lisp_server.proofs.KnownLaws.{known_after}
 use Rattle.lisp_server.proofs.server.Server.receive.Goals as goal
+
+pub receive_register-requires : goal.receive_register-requires
+receive_register-requires g c = notification_fits c.args.bytes.now c.in-Ok-Register.message (λ i. omega (arith, c.type_inv.bytes i)) (subst (Spells c.args.bytes.now) (ap said c.in-Ok-Register.field-0-is) c.in-Ok-Register.ensures.found)
 
 pub returns-in-Ok-Register-clause-taken : goal.returns-in-Ok-Register-clause-taken
 returns-in-Ok-Register-clause-taken g c = rw (← c.self.view_is) (IfOk-weaker c.receive_register.result _ _ (λ took. takes_register _ c.in-Ok-Register.message _ _ _ _ _ _ _ took (c.in-Ok-Register.ensures.exact ∙ ap (λ m. Ok (said m)) c.in-Ok-Register.field-0-is)) c.receive_register.ensures.accepted)

@@ -1,11 +1,33 @@
-use Rattle.std.proofs.Common.{sym, ap, ◌∙◌}
-use Rattle.std.specs.List.{position}
-use Rattle.lisp_server.specs.Notices.{NoticeTable, due_of}
-use Rattle.lisp_server.proofs.NoticeLaws.{resends_seldom, resends}
+use Rattle.std.proofs.Common.{refl, sym, ap, ◌∙◌, true, false}
+use Rattle.std.proofs.lemmas.Result.{err_from_is_err_and}
+use Rattle.lisp_server.specs.Notices.{Standing, is_due}
+use Rattle.lisp_server.proofs.StandingLaws.{its_place, none_due, due_there, same_there, same_set, one_stays, resends}
 use Rattle.lisp_server.proofs.standing_notices.StandingNotices.resend.Goals as goal
 
-pub resend-requires-clause-seldom : goal.resend-requires-clause-seldom
-resend-requires-clause-seldom g c = resends_seldom c.self.inside.items.items c.args.router.now c.args.now c.in-Some.place c.index_mut.result.now _ (ap (λ (t : NoticeTable). position (due_of c.args.router.now c.args.now) t.notices) c.self.view_is ∙ sym c.place_due.ensures ∙ c.in-Some.is) c.index_mut.ensures.value
+pub returns-in_default-clause-refused : goal.returns-in_default-clause-refused
+returns-in_default-clause-refused g c = rw (← c.self.view_is) (none_due c.self.inside.items.items c.args.router.now c.args.now (its_place _ _ _ _ _ _ refl c.deref.ensures.value c.place.ensures c.in_default.is))
 
-pub returns-in_ok-resend-in-Some-clause-resends : goal.returns-in_ok-resend-in-Some-clause-resends
-returns-in_ok-resend-in-Some-clause-resends g c = rw (← c.self.view_is) (resends c.self.inside.items.items c.args.router.now c.args.now c.in-Some.place c.index_mut.result.now _ c.resend.new.self c.in_ok-resend-in-Some.field-0.0 c.in_ok-resend-in-Some.field-0.1.items (ap (λ (t : NoticeTable). position (due_of c.args.router.now c.args.now) t.notices) c.self.view_is ∙ sym c.place_due.ensures ∙ c.in-Some.is) c.index_mut.ensures.value c.in_ok-resend-in-Some.ensures.resent c.in_ok-resend-in-Some.ensures.datagram.0 c.in_ok-resend-in-Some.ensures.datagram.1)
+pub returns-then-not-is_due-clause-refused : goal.returns-then-not-is_due-clause-refused
+returns-then-not-is_due-clause-refused g c = rw (← c.self.view_is) (due_there c.self.inside.items.items c.args.router.now c.args.now c.in-Some.place c.index.result.now _ false (its_place _ _ _ _ _ _ refl c.deref.ensures.value c.place.ensures c.in-Some.is) c.index.ensures (sym c.is_due.ensures ∙ c.if-not-is_due.true))
+
+pub invariant_of-self : goal.invariant_of-self
+invariant_of-self g c = one_stays c.self.inside.items.items c.args.router.now c.in-Some.place c.index_mut.result.now _ c.resend.new.self c.self.invariant (its_place _ _ _ _ _ _ refl c.deref.ensures.value c.place.ensures c.in-Some.is) c.index_mut.ensures.value (ap (λ (n : Standing). n.router) c.in_err-resend.ensures.err)
+
+pub returns-in_err-resend-clause-refused : goal.returns-in_err-resend-clause-refused
+returns-in_err-resend-clause-refused g c =
+    let p = err_from_is_err_and c.from_residual.result c.from_residual.ensures.1 in
+    rw (p.1, p.2, ← c.self.view_is) (due_there c.self.inside.items.items c.args.router.now c.args.now c.in-Some.place c.index.result.now _ true (its_place _ _ _ _ _ _ refl c.deref.ensures.value c.place.ensures c.in-Some.is) c.index.ensures (sym c.is_due.ensures ∙ c.if-not-is_due.false))
+
+pub returns-in_err-resend-clause-err : goal.returns-in_err-resend-clause-err
+returns-in_err-resend-clause-err g c =
+    let p = err_from_is_err_and c.from_residual.result c.from_residual.ensures.1 in
+    rw (p.1, ← c.self.view_is) (same_set c.self.inside.items.items c.in-Some.place c.index_mut.result.now _ c.resend.new.self c.index_mut.ensures.value c.in_err-resend.ensures.err)
+
+pub invariant_of-self-2 : goal.invariant_of-self-2
+invariant_of-self-2 g c = one_stays c.self.inside.items.items c.args.router.now c.in-Some.place c.index_mut.result.now _ c.resend.new.self c.self.invariant (its_place _ _ _ _ _ _ refl c.deref.ensures.value c.place.ensures c.in-Some.is) c.index_mut.ensures.value (ap (λ (n : Standing). n.router) c.in_ok-resend.ensures.resent)
+
+pub returns-clause-resends : goal.returns-clause-resends
+returns-clause-resends g c =
+    let at = its_place _ _ _ _ _ _ refl c.deref.ensures.value c.place.ensures c.in-Some.is in
+    let due = ap (is_due c.args.now) (same_there c.self.inside.items.items c.args.router.now c.in-Some.place c.index_mut.result.now c.index.result.now _ _ at c.index_mut.ensures.value c.index.ensures) ∙ sym c.is_due.ensures ∙ c.if-not-is_due.false in
+    rw (← c.self.view_is) (resends c.self.inside.items.items c.args.router.now c.args.now c.in-Some.place c.index_mut.result.now _ c.resend.new.self c.in_ok-resend.field-0.0 c.in_ok-resend.field-0.1.items at c.index_mut.ensures.value due c.in_ok-resend.ensures.resent c.in_ok-resend.ensures.datagram.0 c.in_ok-resend.ensures.datagram.1)
