@@ -3,6 +3,7 @@
 
 use crate::support::{MAP_NOTIFY, MAP_REGISTER, assert_at, is_worked_message, is_worked_record};
 use linked_list_allocator::LocalHeap;
+use lisp_memory::Memory;
 use lisp_messages::{Message, read_message, write_notify, write_register};
 use lisp_records::{Addr, Bytes, Database, MapRecord, RouterId, Row, read_record, write_record};
 use lisp_samples::{HEAP_LEN, RECORD, SECRET, fill, is_refused_then_answers};
@@ -47,7 +48,7 @@ fn passes_in(rt: &impl Abort, alloc: Global, value: Value, blocks: usize) -> boo
     is_passed
 }
 
-fn passes<A: Allocator + Copy>(alloc: A, value: Value) -> bool {
+fn passes<A: Memory + Copy>(alloc: A, value: Value) -> bool {
     match value {
         Value::Record => passes_record(alloc),
         Value::Bytes => copies_bytes(alloc),
@@ -60,7 +61,7 @@ fn passes<A: Allocator + Copy>(alloc: A, value: Value) -> bool {
 
 /// Whether the worked record is read, copied, and written as the same bytes. The copy stays in memory, so that
 /// the first growth of the writing is refused too.
-fn passes_record<A: Allocator + Copy>(alloc: A) -> bool {
+fn passes_record<A: Memory + Copy>(alloc: A) -> bool {
     match read_record(alloc, &RECORD, 0) {
         Ok((record, next)) => {
             let copy = record.copy(alloc);
@@ -71,19 +72,19 @@ fn passes_record<A: Allocator + Copy>(alloc: A) -> bool {
     }
 }
 
-fn writes_record<A: Allocator + Copy>(alloc: A, record: &MapRecord<A>) -> bool {
+fn writes_record<A: Memory + Copy>(alloc: A, record: &MapRecord<A>) -> bool {
     let mut out = Vec::new(alloc);
     write_record(record, &mut out).is_ok() && out.as_slice() == RECORD.as_slice()
 }
 
-fn copies_bytes<A: Allocator + Copy>(alloc: A) -> bool {
+fn copies_bytes<A: Memory + Copy>(alloc: A) -> bool {
     match Vec::from_slice(alloc, b"kept") {
         Ok(bytes) => Bytes::from_vec(bytes).copy(alloc).is_ok(),
         Err(_) => false,
     }
 }
 
-fn copies_row<A: Allocator + Copy>(alloc: A) -> bool {
+fn copies_row<A: Memory + Copy>(alloc: A) -> bool {
     match read_record(alloc, &RECORD, 0) {
         Ok((record, _)) => row_of(record).copy(alloc).is_ok(),
         Err(_) => false,
@@ -107,7 +108,7 @@ fn row_of<A: Allocator>(mapping: MapRecord<A>) -> Row<A> {
 }
 
 /// Here the copy stays in memory too.
-fn copies_database<A: Allocator + Copy>(alloc: A) -> bool {
+fn copies_database<A: Memory + Copy>(alloc: A) -> bool {
     match database_of(alloc) {
         Some(database) => {
             let copy = database.copy(alloc);
@@ -119,7 +120,7 @@ fn copies_database<A: Allocator + Copy>(alloc: A) -> bool {
 }
 
 /// The worked record alone.
-fn database_of<A: Allocator + Copy>(alloc: A) -> Option<Database<A>> {
+fn database_of<A: Memory + Copy>(alloc: A) -> Option<Database<A>> {
     let (record, _) = read_record(alloc, &RECORD, 0).ok()?;
     let mut records = Vec::new(alloc);
     records.push(record).ok()?;
@@ -127,14 +128,14 @@ fn database_of<A: Allocator + Copy>(alloc: A) -> Option<Database<A>> {
 }
 
 /// Whether the bytes of a worked message are read, and written as the same bytes.
-fn passes_message<A: Allocator + Copy>(alloc: A, bytes: &[u8]) -> bool {
+fn passes_message<A: Memory + Copy>(alloc: A, bytes: &[u8]) -> bool {
     match read_message(alloc, bytes) {
         Ok(message) => is_worked_message(&message) && writes_message(alloc, &message, bytes),
         Err(_) => false,
     }
 }
 
-fn writes_message<A: Allocator + Copy>(alloc: A, message: &Message<A>, bytes: &[u8]) -> bool {
+fn writes_message<A: Memory + Copy>(alloc: A, message: &Message<A>, bytes: &[u8]) -> bool {
     let written = match message {
         Message::Register(register) => write_register(alloc, register, SECRET),
         Message::Notify(notify) => write_notify(alloc, notify, SECRET),

@@ -27,6 +27,7 @@ use crate::seen::Seen;
 use crate::send_fault::SendFault;
 use crate::sending::datagram;
 use crate::start_fault::{StartFault, StartRefused};
+use lisp_memory::{FallibleCopies, Memory};
 use lisp_messages::MapNotify;
 use lisp_records::{Addr, Bytes, Database};
 use lisp_store::{FIRST_NOTICE_NONCE, LAST_ROUTER_NONCE, NonceStore};
@@ -56,7 +57,7 @@ impl<A: Allocator> Model for Etr<A> {
     ghost invariant = { λ e. (length e.rounds.items ≡ length e.config.servers) × (e.safe ≤ e.last) };
 }
 
-impl<A: Allocator + Copy> Etr<A> {
+impl<A: Memory + Copy> Etr<A> {
     /// A router that starts at a time, in ms: its last nonce is the one that the store keeps, 0 where
     /// it keeps none, and all its Map-Servers are due. What it makes lies in memory of `alloc`. It
     /// refuses in this order, and gives back what it was given: `OutOfMemory`, `Store`.
@@ -71,7 +72,9 @@ impl<A: Allocator + Copy> Etr<A> {
         ensures last { IsTrue (S.seen store.old).is_honest → IfOk result (λ e. IsKept (kept_at (S.seen store.old).kept (sent_pair config)) e.last) }
         ensures back { IfErr result (λ r. (r.config ≡ config) × (r.database ≡ database)) }
         ensures same { IsTrue (S.seen store.old).is_honest → (S.seen store.new).kept ≡ (S.seen store.old).kept }
-        ensures memory { IfErr result (λ r. r.fault ≡ StartFault.OutOfMemory → S.seen store.new ≡ S.seen store.old) }
+        ensures memory { IfErr result (λ r. r.fault ≡ StartFault.OutOfMemory → A.may_refuse) }
+        ensures unasked { IfErr result (λ r. r.fault ≡ StartFault.OutOfMemory → S.seen store.new ≡ S.seen store.old) }
+        ensures store_memory { IfErr result (λ r. r.fault ≡ StartFault.Store StoreFault.OutOfMemory → S.may_refuse) }
         ensures refused { IfErr result (λ r. r.fault ≡ StartFault.Store StoreFault.OutOfMemory → S.seen store.new ≡ S.seen store.old) }
         ensures cause { IfErr result (λ r. (f : StoreFault) → r.fault ≡ StartFault.Store f → f ≢ StoreFault.OutOfMemory → Rose (S.seen store.old) (S.seen store.new)) }
         ensures proceeds { Proceeds (S.seen store.old) (S.seen store.new) }
@@ -138,6 +141,8 @@ impl<A: Allocator + Copy> Etr<A> {
         // The refusals, in their order.
         ensures no_server { (result ≡ Err SendFault.NoServer) ↔ (length self.old.config.servers ≤ server) }
         ensures spent { (result ≡ Err SendFault.NonceSpent) ↔ ((server < length self.old.config.servers) × (last_nonce ≤ self.old.last)) }
+        ensures memory { IsErrOf result SendFault.OutOfMemory → A.may_refuse }
+        ensures store_memory { IsErrOf result (SendFault.Store StoreFault.OutOfMemory) → S.may_refuse }
         ensures err { OnErr result (self.new ≡ self.old) }
 
         // No lower nonce comes back from the store: not after a send, nor after one that failed.
@@ -187,6 +192,7 @@ impl<A: Allocator + Copy> Etr<A> {
 
         // Before the first record nothing takes memory.
         ensures early { (fault : ReadFault) → kind_at bytes.now ≡ Err fault → result ≡ Err (fault_of_read fault) }
+        ensures memory { IsErrOf result NotifyFault.OutOfMemory → A.may_refuse }
     {
         let (server, notify) = hear(self.alloc, &self.config, from, bytes)?;
         if notify.nonce >= FIRST_NOTICE_NONCE {
@@ -200,6 +206,7 @@ impl<A: Allocator + Copy> Etr<A> {
         ensures notice { IfOk result (λ seen. seen ≡ notice_in self.now.config (record { server = server; message = notify })) }
         ensures fits { IfOk result (λ seen. AnswerFits notify.key_id seen) }
         ensures err { IfErr result (λ fault. fault ≡ NotifyFault.OutOfMemory) }
+        ensures memory { OnErr result A.may_refuse }
     {
         let ack = MapNotify {
             ack: true,
@@ -218,6 +225,7 @@ impl<A: Allocator + Copy> Etr<A> {
     fn count(&mut self, server: usize, nonce: u64) -> Result<Seen<A>, NotifyFault>
         requires { server < length self.old.config.servers }
         ensures answer { result ≡ counted_in self.old.rounds server nonce }
+        ensures plain { ¬ (IsErrOf result NotifyFault.OutOfMemory) }
         ensures after { self.new ≡ after self.old result }
     {
         let round = &mut self.rounds[server];
@@ -248,7 +256,7 @@ impl<A: Allocator + Copy> Etr<A> {
 }
 
 // The rounds of a router that starts, and its last nonce; `OutOfMemory`, `Store`.
-fn begin<S: NonceStore, A: Allocator + Copy>(
+fn begin<S: NonceStore, A: Memory + Copy>(
     alloc: A,
     config: &EtrConfig<A>,
     store: &mut S,
@@ -257,13 +265,15 @@ fn begin<S: NonceStore, A: Allocator + Copy>(
     ensures rounds { IfOk result (λ x. x.0.items ≡ replicate (length config.now.servers) (started now)) }
     ensures last { IsTrue (S.seen store.old).is_honest → IfOk result (λ x. IsKept (kept_at (S.seen store.old).kept (sent_pair config.now)) x.1) }
     ensures same { IsTrue (S.seen store.old).is_honest → (S.seen store.new).kept ≡ (S.seen store.old).kept }
-    ensures memory { IsErrOf result StartFault.OutOfMemory → S.seen store.new ≡ S.seen store.old }
+    ensures memory { IsErrOf result StartFault.OutOfMemory → A.may_refuse }
+    ensures unasked { IsErrOf result StartFault.OutOfMemory → S.seen store.new ≡ S.seen store.old }
+    ensures store_memory { IsErrOf result (StartFault.Store StoreFault.OutOfMemory) → S.may_refuse }
     ensures refused { IsErrOf result (StartFault.Store StoreFault.OutOfMemory) → S.seen store.new ≡ S.seen store.old }
     ensures cause { IfErr result (λ fault. (f : StoreFault) → fault ≡ StartFault.Store f → f ≢ StoreFault.OutOfMemory → Rose (S.seen store.old) (S.seen store.new)) }
     ensures proceeds { Proceeds (S.seen store.old) (S.seen store.new) }
 {
     let servers = config.servers.as_slice().len();
-    let Ok(rounds) = vec![in alloc; Round::start(now); servers] else {
+    let Ok(rounds) = Vec::try_from_elem(alloc, Round::start(now), servers) else {
         return Err(StartFault::OutOfMemory);
     };
     match store.load(&config.pair()) {

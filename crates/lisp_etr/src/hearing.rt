@@ -1,6 +1,6 @@
 //! What a router checks of a message, and how it answers a notice.
 
-ghost use Rattle.std.specs.Prelude.{◌≡◌, ◌<◌, Err, IfOk, OnOk, length};
+ghost use Rattle.std.specs.Prelude.{◌≡◌, ◌<◌, Err, IfOk, IsErrOf, OnErr, OnOk, length};
 ghost use Rattle.lisp_messages.specs.Message.{IsNotification};
 ghost use Rattle.lisp_messages.specs.Reading.{kind_at, message_at};
 ghost use Rattle.lisp_messages.specs.declared.fault.ReadFault.{ReadFault};
@@ -8,17 +8,19 @@ ghost use Rattle.lisp_messages.specs.Authentic.{signed};
 ghost use Rattle.lisp_messages.specs.Written.{written_notify};
 ghost use Rattle.lisp_etr.specs.Faults.{fault_of_read};
 ghost use Rattle.lisp_etr.specs.Hearing.{Gives, Heard, notify_read, server_at, heard, ack_of};
+ghost use Rattle.lisp_etr.specs.declared.notify_fault.NotifyFault.{NotifyFault};
 
 use crate::config::EtrConfig;
 use crate::notify_fault::NotifyFault;
+use lisp_memory::Memory;
 use lisp_messages::{MapNotify, Message, authentic, read_message, write_notify};
 use lisp_records::Addr;
-use std::alloc::{AllocError, Allocator};
+use std::alloc::AllocError;
 
 /// The Map-Notify that bytes from an address spell and the number of the Map-Server there, or the
 /// first check that they fail: `Read`, `NotMine`, `WrongKey`, `BadAuth`; `OutOfMemory` in reading.
 #[tactic(auto, unfolding(crate::specs::Hearing::checked))]
-pub(crate) fn hear<A: Allocator + Copy>(
+pub(crate) fn hear<A: Memory + Copy>(
     alloc: A,
     config: &EtrConfig<A>,
     from: Addr,
@@ -28,6 +30,7 @@ pub(crate) fn hear<A: Allocator + Copy>(
     ensures server { IfOk result (λ x. x.0 < length config.now.servers) }
     ensures key { IfOk result (λ x. x.1.key_id ≡ config.now.key_id) }
     ensures early { (fault : ReadFault) → kind_at bytes.now ≡ Err fault → result ≡ Err (fault_of_read fault) }
+    ensures memory { IsErrOf result NotifyFault.OutOfMemory → A.may_refuse }
 {
     let notify = read_notify(alloc, bytes)?;
     let server = server_at(config.servers.as_slice(), from).ok_or(NotifyFault::NotMine)?;
@@ -41,9 +44,10 @@ pub(crate) fn hear<A: Allocator + Copy>(
 }
 
 // The Map-Notify that bytes spell; `Read`, `NotMine`.
-fn read_notify<A: Allocator + Copy>(alloc: A, bytes: &[u8]) -> Result<MapNotify<A>, NotifyFault>
+fn read_notify<A: Memory + Copy>(alloc: A, bytes: &[u8]) -> Result<MapNotify<A>, NotifyFault>
     ensures exact { Gives (λ m. m) result (notify_read (message_at bytes.now)) }
     ensures early { (fault : ReadFault) → kind_at bytes.now ≡ Err fault → result ≡ Err (fault_of_read fault) }
+    ensures memory { IsErrOf result NotifyFault.OutOfMemory → A.may_refuse }
 {
     match read_message(alloc, bytes) {
         Ok(Message::Notify(notify)) if !notify.ack => Ok(notify),
@@ -60,13 +64,14 @@ fn server_at(servers: &[Addr], from: Addr) -> Option<usize>
 }
 
 /// The bytes of the Map-Notify-Ack that answers a notice (RFC 9301 section 5.7).
-pub(crate) fn write_ack<A: Allocator + Copy>(
+pub(crate) fn write_ack<A: Memory + Copy>(
     alloc: A,
     ack: &MapNotify<A>,
     secret: &[u8],
 ) -> Result<Vec<u8, A>, AllocError>
     ensures written { IfOk result (λ bytes. bytes.items ≡ signed secret.now (written_notify ack.now)) }
     ensures known { OnOk result (IsNotification ack.now) }
+    ensures memory { OnErr result A.may_refuse }
 {
     write_notify(alloc, ack, secret)
 }

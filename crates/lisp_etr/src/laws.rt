@@ -1,7 +1,24 @@
-//! What holds of a router's timers: each function's contract is a law, and its body is empty.
+//! What holds of a router: each function's contract is a law. Those of its timers have empty bodies; those of
+//! its answers hold over memory and a store that never run out, and make the call that they speak of.
 
+ghost use Rattle.std.specs.Prelude.{◌≡◌, ◌<◌, ◌≤◌, ◌⊎◌, IfErr, IsOk, length};
+ghost use Rattle.lisp_records.specs.Moment.{max_moment};
+ghost use Rattle.lisp_records.specs.Result.{Reads};
+ghost use Rattle.lisp_store.specs.Store.{Rose};
+ghost use Rattle.lisp_store.specs.declared.fault.StoreFault.{StoreFault};
 ghost use Rattle.lisp_etr.specs.Timers.{PromptSends};
 ghost use Rattle.lisp_etr.specs.Round.{KeepsTime};
+ghost use Rattle.lisp_etr.specs.Sending.{last_nonce};
+ghost use Rattle.lisp_etr.specs.Hearing.{seen_at};
+ghost use Rattle.lisp_etr.specs.declared.send_fault.SendFault.{SendFault};
+
+use crate::etr::Etr;
+use crate::notify_fault::NotifyFault;
+use crate::seen::Seen;
+use crate::send_fault::SendFault;
+use lisp_memory::Memory;
+use lisp_records::Addr;
+use lisp_store::NonceStore;
 
 /// Sends that are made when due, without changes or acknowledgements, are at 2^k - 1 s after a round's
 /// beginning for k up to 6, and at 63 + 60 (k - 6) s from there.
@@ -13,3 +30,31 @@ pub fn prompt_sends()
 pub fn rounds_keep_time()
     ensures { KeepsTime }
 {}
+
+/// Over memory and a store that are never refused memory, a send is refused only where there is no such
+/// Map-Server, the nonces are spent, or the device failed.
+pub fn sends_exactly<S: NonceStore, A: Memory + Copy>(
+    router: &mut Etr<A>,
+    store: &mut S,
+    server: usize,
+    now: u64,
+) -> Result<Vec<u8, A>, SendFault>
+    requires { now ≤ max_moment }
+    ensures refusals { (A.may_refuse → ⊥) → (S.may_refuse → ⊥) → IfErr result (λ fault. (fault ≡ SendFault.NoServer) ⊎ (fault ≡ SendFault.NonceSpent) ⊎ (fault ≡ SendFault.Store StoreFault.Device)) }
+    ensures sent { (A.may_refuse → ⊥) → (S.may_refuse → ⊥) → server < length router.old.config.servers → router.old.last < last_nonce → ¬ (Rose (S.seen store.old) (S.seen store.new)) → IsOk result }
+{
+    router.send(store, server, now)
+}
+
+/// Over memory that is never refused, a router answers exactly what there is to answer to bytes from an
+/// address, or why it refuses them.
+pub fn receives_exactly<A: Memory + Copy>(
+    router: &mut Etr<A>,
+    from: Addr,
+    bytes: &[u8],
+    now: u64,
+) -> Result<Seen<A>, NotifyFault>
+    ensures { (A.may_refuse → ⊥) → Reads (λ seen. seen) result (seen_at router.old from bytes.now) }
+{
+    router.receive(from, bytes, now)
+}

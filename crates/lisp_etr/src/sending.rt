@@ -1,16 +1,17 @@
 //! The Map-Registers of a router.
 
-ghost use Rattle.std.specs.Prelude.{◌≡◌, IfOk, OnOk};
+ghost use Rattle.std.specs.Prelude.{◌≡◌, IfOk, OnErr, OnOk};
 ghost use Rattle.lisp_messages.specs.Message.{IsRegistration};
 ghost use Rattle.lisp_etr.specs.Sending.{datagram_of, registration_of};
 
 use crate::config::EtrConfig;
+use lisp_memory::Memory;
 use lisp_messages::{MapRegister, write_register};
 use lisp_records::Database;
-use std::alloc::{AllocError, Allocator};
+use std::alloc::AllocError;
 
 /// The bytes of the Map-Register of a database under a nonce (RFC 9301 section 5.6).
-pub(crate) fn datagram<A: Allocator + Copy>(
+pub(crate) fn datagram<A: Memory + Copy>(
     alloc: A,
     config: &EtrConfig<A>,
     database: &Database<A>,
@@ -18,6 +19,7 @@ pub(crate) fn datagram<A: Allocator + Copy>(
 ) -> Result<Vec<u8, A>, AllocError>
     ensures written { IfOk result (λ bytes. bytes.items ≡ datagram_of config.now database.now nonce) }
     ensures known { OnOk result (IsRegistration (registration_of config.now database.now nonce)) }
+    ensures memory { OnErr result A.may_refuse }
 {
     let register = MapRegister {
         proxy: config.proxy,

@@ -3,9 +3,10 @@
 use crate::worked::{FIRST, NOTICE, TTL, config, database, map_notify, start_fault, started};
 use linked_list_allocator::LocalHeap;
 use lisp_etr::{Etr, SendFault};
+use lisp_memory::Memory;
 use lisp_samples::{HEAP_LEN, fill, is_refused_then_answers};
 use lisp_store::{MemoryStore, StoreFault};
-use std::alloc::{Allocator, Global};
+use std::alloc::Global;
 use std::process::Abort;
 
 /// What a router is asked for.
@@ -78,10 +79,7 @@ fn receives(router: &mut Etr<&LocalHeap>, bytes: &[u8]) -> bool {
 }
 
 /// Why a router doesn't send over an empty store in memory of `alloc`.
-fn refusal<A: Allocator + Copy, B: Allocator + Copy>(
-    router: &mut Etr<A>,
-    alloc: B,
-) -> Option<SendFault> {
+fn refusal<A: Memory + Copy, B: Memory + Copy>(router: &mut Etr<A>, alloc: B) -> Option<SendFault> {
     router.send(&mut MemoryStore::new(alloc), 0, 0).err()
 }
 

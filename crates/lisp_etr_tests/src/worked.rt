@@ -1,6 +1,7 @@
 //! The worked router: what it is told, and what Map-Servers send it.
 
 use lisp_etr::{Etr, EtrConfig, Servers, StartFault};
+use lisp_memory::Memory;
 use lisp_messages::{MapNotify, write_notify};
 use lisp_records::{Addr, Bytes, Database, MapRecord, Prefix, RouterId};
 use lisp_samples::{LOCATOR, SECRET};
@@ -34,12 +35,12 @@ pub(crate) const PAIR: Pair = Pair {
 };
 
 /// It, started at 0 ms over a store that keeps nothing.
-pub(crate) fn started<A: Allocator + Copy>(rt: &impl Abort, alloc: A) -> Etr<A> {
+pub(crate) fn started<A: Memory + Copy>(rt: &impl Abort, alloc: A) -> Etr<A> {
     start(rt, alloc, &mut MemoryStore::new(alloc))
 }
 
 /// It, started at 0 ms.
-pub(crate) fn start<A: Allocator + Copy>(
+pub(crate) fn start<A: Memory + Copy>(
     rt: &impl Abort,
     alloc: A,
     store: &mut MemoryStore<A>,
@@ -51,7 +52,7 @@ pub(crate) fn start<A: Allocator + Copy>(
 }
 
 /// Why a router doesn't start that is told what it is, which is given back then.
-pub(crate) fn start_fault<A: Allocator + Copy>(
+pub(crate) fn start_fault<A: Memory + Copy>(
     rt: &impl Abort,
     alloc: A,
     config: EtrConfig<A>,
@@ -69,7 +70,7 @@ pub(crate) fn is_worked<A: Allocator>(config: &EtrConfig<A>, database: &Database
 }
 
 /// What it is told.
-pub(crate) fn config<A: Allocator + Copy>(rt: &impl Abort, alloc: A) -> EtrConfig<A> {
+pub(crate) fn config<A: Memory + Copy>(rt: &impl Abort, alloc: A) -> EtrConfig<A> {
     let secret = Vec::from_slice(alloc, SECRET).expect(rt, "the secret");
     let servers = Vec::from_slice(alloc, &[FIRST, SECOND]).expect(rt, "the Map-Servers");
     EtrConfig {
@@ -83,7 +84,7 @@ pub(crate) fn config<A: Allocator + Copy>(rt: &impl Abort, alloc: A) -> EtrConfi
 }
 
 /// A database of the worked record with this TTL, or an empty one.
-pub(crate) fn database<A: Allocator + Copy>(
+pub(crate) fn database<A: Memory + Copy>(
     rt: &impl Abort,
     alloc: A,
     ttl: Option<u32>,
@@ -98,7 +99,7 @@ pub(crate) fn database<A: Allocator + Copy>(
 }
 
 /// The worked record with this TTL.
-fn record<A: Allocator + Copy>(rt: &impl Abort, alloc: A, ttl: u32) -> MapRecord<A> {
+fn record<A: Memory + Copy>(rt: &impl Abort, alloc: A, ttl: u32) -> MapRecord<A> {
     let eid = Prefix::new(Addr::V4([10, 1, 0, 0]), 16).expect(rt, "the EID-Prefix");
     let locators = Vec::from_slice(alloc, &[LOCATOR]).expect(rt, "the locator");
     MapRecord::new(ttl, 0, true, 0, eid, locators).expect(rt, "a field is too large")

@@ -9,7 +9,8 @@ use Rattle.std.proofs.Math.Seq.{take-suc}
 use Rattle.std.proofs.lemmas.List.Elements.{Contains-push_cases, Contains-push, Contains-append_left}
 use Rattle.lisp_records.specs.declared.address.Addr.{Addr}
 use Rattle.lisp_records.specs.Row.{Holding}
-use Rattle.lisp_lookup.specs.Answer.{may_answer, rank_cmp, greater, IsBest, IsBestOf}
+use Rattle.std.specs.Option.{option_map}
+use Rattle.lisp_lookup.specs.Answer.{may_answer, rank_cmp, greater, IsBest, NoneAnswers, IsBestOf}
 use Rattle.lisp_lookup.proofs.Orders.{router_total}
 
 rank_total : IsTotalOrder rank_cmp
@@ -115,3 +116,15 @@ best_next rows i x addr now old new within at is moved = subst (λ (before : Lis
     here : ((may_answer addr now x ≡ true) × (new ≡ Some (greater old x))) ⊎ ((may_answer addr now x ≡ false) × (new ≡ old)) → IsBestOf (take i rows ++ x ∷ []) addr now new
     here (inl grows) = subst (λ (o : Option Holding). IsBestOf (take i rows ++ x ∷ []) addr now o) (sym grows.1) (best_grows (take i rows) x addr now old grows.0 is)
     here (inr stays) = subst (λ (o : Option Holding). IsBestOf (take i rows ++ x ∷ []) addr now o) (sym stays.1) (best_passes (take i rows) x addr now old stays.0 is)
+
+module _ {R : Type 0} (view : R → Holding) (rows seen : List Holding) (addr : Addr) (now : ℕ) (result : Option R) (same : seen ≡ rows) (best : IsBestOf seen addr now (option_map view result)) where
+  of_rows : (found : Option R) → result ≡ found → IsBestOf rows addr now (option_map view found)
+  of_rows found is = subst (λ (o : Option R). IsBestOf rows addr now (option_map view o)) is (subst (λ (l : List Holding). IsBestOf l addr now (option_map view result)) same best)
+
+  -- the row that was found among equal rows is the best
+  pub best_found : (row : R) → result ≡ Some row → IsBest rows addr now (view row)
+  best_found row is = of_rows (Some row) is
+
+  -- where none was found among equal rows, none answers
+  pub none_found : result ≡ None → NoneAnswers rows addr now
+  none_found is = of_rows None is

@@ -168,3 +168,17 @@ some_row rows router now some = first (filter (is_live_of router now) rows) refl
     first (x ∷ xs) e =
         let held = filtered_holds (is_live_of router now) rows x (subst (λ (fl : List Holding). Contains fl x) (sym e) (0, omega arith, refl)) in
         row_of x (there x held.0 (its x held.1)) (row_at rows router x.mapping.eid) refl
+
+-- copies of the records so far, and of one more where the next row is one of the router, and alive
+pub copies_next : (rows : List Holding) (i : ℕ) (h : Holding) (router : RouterId) (now : ℕ) (old new : List Mapping) → i < length rows → h ≡ slice_index_or rows i h
+    → old ≡ live_of (take i rows) router now
+    → ((is_live_of router now h ≡ true) × (new ≡ old ++ h.mapping ∷ [])) ⊎ ((is_live_of router now h ≡ false) × (new ≡ old ++ []))
+    → new ≡ live_of (take (i + 1) rows) router now
+copies_next rows i h router now old new within at so_far moved = either moved ∙ sym (ap (λ (l : List Holding). live_of l router now) (taken rows i h within at) ∙ live_both (take i rows) (h ∷ []) router now)
+  where
+    alone : (b : Bool) → is_live_of router now h ≡ b → live_of (h ∷ []) router now ≡ map (λ (h : Holding). h.mapping) (cond b (h ∷ []) [])
+    alone b is = ap (λ (b : Bool). map (λ (h : Holding). h.mapping) (cond b (h ∷ []) [])) is
+
+    either : ((is_live_of router now h ≡ true) × (new ≡ old ++ h.mapping ∷ [])) ⊎ ((is_live_of router now h ≡ false) × (new ≡ old ++ [])) → new ≡ live_of (take i rows) router now ++ live_of (h ∷ []) router now
+    either (inl (is, grew)) = rw (alone true is, ← so_far) grew
+    either (inr (is, stayed)) = rw (alone false is, ← so_far) stayed

@@ -1,10 +1,11 @@
 //! The records of one router that are alive.
 
-ghost use Rattle.std.specs.Prelude.{◌≡◌, IfOk, IfErr, length};
+ghost use Rattle.std.specs.Prelude.{◌≡◌, IfOk, IfErr, OnErr, length};
 ghost use Rattle.lisp_records.specs.Database.{database_of};
 ghost use Rattle.lisp_lookup.specs.Table.{OneEach};
 ghost use Rattle.lisp_lookup.specs.Records.{is_live_of, live_of};
 
+use lisp_memory::{FallibleVec, Memory};
 use lisp_records::{DatabaseFault, MAX_RECORDS, MAX_SIZE, MapRecord, RouterId, Row};
 use std::alloc::{AllocError, Allocator};
 
@@ -34,18 +35,19 @@ pub(crate) fn count_live<A: Allocator>(
 }
 
 /// Copies of the records of a router that are alive at a moment, in ms, in memory of `alloc`.
-pub(crate) fn copy_live<A: Allocator + Copy>(
+pub(crate) fn copy_live<A: Memory + Copy>(
     alloc: A,
     rows: &[Row<A>],
     router: &RouterId,
     now: u64,
 ) -> Result<Vec<MapRecord<A>, A>, AllocError>
-    ensures { IfOk result (λ records. records.items ≡ live_of rows.now router.now now) }
+    ensures records { IfOk result (λ records. records.items ≡ live_of rows.now router.now now) }
+    ensures memory { OnErr result A.may_refuse }
 {
     let mut records = Vec::new(alloc);
     for row in rows {
         if is_live_of(row, router, now) {
-            records.push(row.mapping.copy(alloc)?)?;
+            records.try_push(row.mapping.copy(alloc)?)?;
         }
     }
     Ok(records)

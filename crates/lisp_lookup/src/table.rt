@@ -1,6 +1,6 @@
 //! The rows that a Map-Server holds, as a plain list.
 
-ghost use Rattle.std.specs.Prelude.{◌≡◌, ◌+◌, ◌≤◌, ◌<◌, [], ◌∷◌, List, length, nat_le, slice_get, Ok, Err, IfOk, IfErr, OnOk};
+ghost use Rattle.std.specs.Prelude.{◌≡◌, ◌+◌, ◌≤◌, ◌<◌, [], ◌∷◌, List, length, nat_le, slice_get, Ok, Err, IfOk, IfErr, OnOk, OnErr};
 ghost use Rattle.std.specs.Option.{option_map};
 ghost use Rattle.std.specs.List.{filter, position};
 ghost use Rattle.lisp_records.specs.Address.{block_cmp};
@@ -14,6 +14,7 @@ ghost use Rattle.lisp_records.specs.Database.{database_of};
 use crate::answer::Answer;
 use crate::best::best;
 use crate::live::{copy_live, count_live};
+use lisp_memory::{FallibleVec, Memory};
 use lisp_records::{Addr, DatabaseFault, MapRecord, Prefix, RouterId, Row};
 use lisp_sites::Sites;
 use std::alloc::{AllocError, Allocator, Global};
@@ -47,14 +48,6 @@ impl<A: Allocator + Copy> Table<A> {
         }
     }
 
-    /// Makes room for these rows; no row changes, also where memory is refused.
-    pub fn prepare(&mut self, rows: &[Row<A>]) -> Result<(), AllocError>
-        ensures same { self.new.rows ≡ self.old.rows }
-        ensures room { OnOk result (length rows.now ≤ self.new.spare) }
-    {
-        self.items.reserve(rows.len())
-    }
-
     /// Whether there is room for these rows. Takes no memory.
     pub fn ready(&self, rows: &[Row<A>]) -> bool
         ensures { result ≡ nat_le (length rows.now) self.now.spare }
@@ -84,7 +77,6 @@ impl<A: Allocator + Copy> Table<A> {
     }
 
     // Sets a row.
-    #[tactic(auto, using(crate::proofs::TableLaws::sets_set, crate::proofs::TableLaws::sets_push, crate::proofs::TableLaws::one_each_set, crate::proofs::TableLaws::one_each_push))]
     fn put(&mut self, row: Row<A>)
         requires { 0 < self.old.spare }
         ensures row { Sets self.old.rows self.new.rows (row ∷ []) }
@@ -105,15 +97,6 @@ impl<A: Allocator + Copy> Table<A> {
         self.items.retain(|row| row.alive(now));
     }
 
-    /// Copies of the rows that are alive at a moment, in ms: by router, then by prefix.
-    pub fn rows(&self, now: u64) -> Result<Vec<Row<A>, A>, AllocError>
-        ensures { IfOk result (λ rows. IsHeld self.now.rows now rows.items) }
-    {
-        let mut live = live_rows(*self.items.allocator(), &self.items, now)?;
-        live.sort_unstable_by(|one, other| order(one, other));
-        Ok(live)
-    }
-
     /// How many records of a router are alive at a moment, in ms; `TooLarge` where they are too many, or too
     /// long, for a Database. Takes no memory.
     pub fn count_live(&self, router: &RouterId, now: u64) -> Result<usize, DatabaseFault>
@@ -123,19 +106,6 @@ impl<A: Allocator + Copy> Table<A> {
         ensures one_each { OneEach self.now.rows }
     {
         count_live(&self.items, router, now)
-    }
-
-    /// Copies of the records of a router that are alive at a moment, in ms, by prefix.
-    pub fn live_records(
-        &self,
-        router: &RouterId,
-        now: u64,
-    ) -> Result<Vec<MapRecord<A>, A>, AllocError>
-        ensures { IfOk result (λ records. ByPrefix (live_of self.now.rows router.now now) records.items) }
-    {
-        let mut records = copy_live(*self.items.allocator(), &self.items, router, now)?;
-        records.sort_unstable_by(|one, other| eid_order(one, other));
-        Ok(records)
     }
 
     /// Who answers for an address at a moment, in ms: of the live rows whose prefix has it the one with the
@@ -154,18 +124,54 @@ impl<A: Allocator + Copy> Table<A> {
     }
 }
 
+impl<A: Memory + Copy> Table<A> {
+    /// Makes room for these rows; no row changes, also where memory is refused.
+    pub fn prepare(&mut self, rows: &[Row<A>]) -> Result<(), AllocError>
+        ensures same { self.new.rows ≡ self.old.rows }
+        ensures room { OnOk result (length rows.now ≤ self.new.spare) }
+        ensures memory { OnErr result A.may_refuse }
+    {
+        self.items.make_room(rows.len())
+    }
+
+    /// Copies of the rows that are alive at a moment, in ms: by router, then by prefix.
+    pub fn rows(&self, now: u64) -> Result<Vec<Row<A>, A>, AllocError>
+        ensures held { IfOk result (λ rows. IsHeld self.now.rows now rows.items) }
+        ensures memory { OnErr result A.may_refuse }
+    {
+        let mut live = live_rows(*self.items.allocator(), &self.items, now)?;
+        live.sort_unstable_by(|one, other| order(one, other));
+        Ok(live)
+    }
+
+    /// Copies of the records of a router that are alive at a moment, in ms, by prefix.
+    pub fn live_records(
+        &self,
+        router: &RouterId,
+        now: u64,
+    ) -> Result<Vec<MapRecord<A>, A>, AllocError>
+        ensures records { IfOk result (λ records. ByPrefix (live_of self.now.rows router.now now) records.items) }
+        ensures memory { OnErr result A.may_refuse }
+    {
+        let mut records = copy_live(*self.items.allocator(), &self.items, router, now)?;
+        records.sort_unstable_by(|one, other| eid_order(one, other));
+        Ok(records)
+    }
+}
+
 // Copies of the rows that are alive, in memory of `alloc`.
-fn live_rows<A: Allocator + Copy>(
+fn live_rows<A: Memory + Copy>(
     alloc: A,
     rows: &[Row<A>],
     now: u64,
 ) -> Result<Vec<Row<A>, A>, AllocError>
-    ensures { IfOk result (λ live. live.items ≡ filter (λ h. is_alive h now) rows.now) }
+    ensures live { IfOk result (λ live. live.items ≡ filter (λ h. is_alive h now) rows.now) }
+    ensures memory { OnErr result A.may_refuse }
 {
     let mut live = Vec::new(alloc);
     for row in rows {
         if row.alive(now) {
-            live.push(row.copy(alloc)?)?;
+            live.try_push(row.copy(alloc)?)?;
         }
     }
     Ok(live)

@@ -7,3 +7,4 @@ pub mod ReadLemmas
 pub mod RecordsLaws
 pub mod WrittenLaws
 pub mod WrittenLemmas
+pub mod ReadingLaws

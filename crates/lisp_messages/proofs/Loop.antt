@@ -1,12 +1,13 @@
 -- Reading records one after the other, as a loop does.
 use Rattle.std.proofs.Common.{◌≡◌, ℕ, suc, ◌-◌, ◌+◌, ◌≤◌, ◌<◌, List, [], ◌∷◌, ◌++◌, Result, Ok, Err, refl, sym, ap, ◌∙◌, append_assoc, arith}
+use Rattle.std.specs.Result.{IsErrOf}
 use Rattle.std.proofs.lemmas.List.{append-nil}
 use Rattle.lisp_records.specs.declared.fault.RecordFault.{RecordFault}
 use Rattle.lisp_records.specs.Record.{Mapping}
 use Rattle.lisp_records.specs.Reading.{record_at, Fails as FailsRecord}
 use Rattle.lisp_records.specs.declared.fault.RecordFault.TheVariants as records
 use Rattle.lisp_messages.specs.declared.fault.ReadFault.{ReadFault}
-use Rattle.lisp_messages.specs.declared.fault.ReadFault.TheVariants.{Record}
+use Rattle.lisp_messages.specs.declared.fault.ReadFault.TheVariants.{Record, OutOfMemory}
 use Rattle.lisp_messages.specs.Fault.{fault_at}
 use Rattle.lisp_records.specs.Result.{◌>>=◌}
 use Rattle.lisp_messages.specs.Reading.{Fails, records_at}
@@ -53,3 +54,10 @@ is_done front count i bytes total le so_far =
     let k : count - i ≡ 0 = omega arith in
     let one : with_front front (records_at i (count - i) bytes) ≡ Ok (front, bytes) = rw k (ap (λ (ms : List Mapping). Ok (ms, bytes)) (append-nil front)) in
     sym so_far ∙ one
+
+-- out of memory of a record is that of the message, and of no other fault
+pub ran_out : {X Y : Type 0} (i : ℕ) (f : RecordFault) → IsErrOf {T = X} (Err (fault_at i f)) OutOfMemory → IsErrOf {T = Y} (Err f) records.OutOfMemory
+ran_out i records.OutOfMemory e = refl
+ran_out i records.Short e = absurd cc
+ran_out i records.Afi e = absurd cc
+ran_out i records.Mask e = absurd cc

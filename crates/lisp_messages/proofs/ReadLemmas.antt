@@ -17,7 +17,7 @@ pub message_found : {A : Type 0} (bytes : List ℕ) (r : Result (Message A) Read
 message_found bytes (Ok m) fits given = message_takes bytes (said m) fits given
 message_found bytes (Err e) fits given = tt
 
--- want of memory aside, a fault is none where reading succeeds
+-- out of memory aside, a fault is none where reading succeeds
 Fails-never : (e : ReadFault) (bytes : List ℕ) (x : Said) → message_at bytes ≡ Ok x → Fails e (message_at bytes) → Fails e (done x)
 Fails-never faults.OutOfMemory bytes x reads fails = tt
 Fails-never faults.Short bytes x reads fails = sym reads ∙ fails

@@ -1,5 +1,5 @@
 -- Reading a message from left to right, with the first fault that is met.
-use Rattle.std.specs.Prelude.{◌≡◌, ℕ, zero, suc, ◌/◌, List, [], ◌∷◌, length, take, drop, Result, Ok, Err, Bool, true, false, nat_lt, ◌==◌, ◌||◌, if◌then◌else◌, slice_index}
+use Rattle.std.specs.Prelude.{◌≡◌, ◌≢◌, ℕ, zero, suc, ◌/◌, ◌<◌, List, [], ◌∷◌, length, take, drop, Result, Ok, Err, Bool, true, false, nat_lt, ◌==◌, ◌||◌, if◌then◌else◌, slice_index}
 use Rattle.std.specs.Int.{w64, from_be_bytes}
 use Rattle.lisp_records.specs.Result.{◌>>=◌}
 use Rattle.lisp_records.specs.declared.fault.RecordFault.{RecordFault}
@@ -113,3 +113,11 @@ message_at bytes = do
   kind ← kind_at bytes
   records ← records_at 0 (slice_index bytes 3) (drop 32 bytes)
   tail_at kind bytes records.0 records.1
+
+-- the Record Count is not 0: only then reading a message takes memory
+abbrev pub HasRecords : List ℕ → Type 0
+HasRecords bytes = 0 < slice_index bytes 3
+
+-- the bytes before the records have no fault
+abbrev pub HasHead : List ℕ → Type 0
+HasHead bytes = (fault : ReadFault) → kind_at bytes ≢ Err fault

@@ -1,6 +1,7 @@
 //! The types of messages.
 
-ghost use Rattle.std.specs.Prelude.{◌≡◌};
+ghost use Rattle.std.specs.Prelude.{◌≡◌, IsErrOf};
+ghost use Rattle.lisp_messages.specs.declared.fault.ReadFault.{ReadFault};
 ghost use Rattle.lisp_records.specs.Result.{Reads};
 ghost use Rattle.lisp_messages.specs.Reading.{kind_of};
 ghost use Rattle.lisp_messages.specs.Written.{kind_number};
@@ -21,7 +22,8 @@ pub enum Kind {
 impl Kind {
     /// The kind of a type number; `Kind` at any number but 3, 4 and 5.
     pub(crate) fn from_number(number: u8) -> Result<Kind, ReadFault>
-        ensures { Reads (λ k. k) result (kind_of number) }
+        ensures kind { Reads (λ k. k) result (kind_of number) }
+        ensures plain { ¬ (IsErrOf result ReadFault.OutOfMemory) }
     {
         match number {
             3 => Ok(Kind::Register),

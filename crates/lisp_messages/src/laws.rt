@@ -1,11 +1,18 @@
-//! What holds of the format itself: each function's contract is a law, and its body is empty.
+//! What holds of the format and of reading: each function's contract is a law.
 
 ghost use Rattle.std.specs.Prelude.{◌≡◌, ℕ, List, length, Ok};
+ghost use Rattle.lisp_records.specs.Result.{Reads};
 ghost use Rattle.lisp_records.specs.Spelling.{IsBytes};
 ghost use Rattle.lisp_messages.specs.Message.{Said, IsSaid};
+ghost use Rattle.lisp_messages.specs.Meaning.{said};
 ghost use Rattle.lisp_messages.specs.Spelling.{Spells};
 ghost use Rattle.lisp_messages.specs.Written.{written};
 ghost use Rattle.lisp_messages.specs.Reading.{message_at};
+
+use crate::fault::ReadFault;
+use crate::message::Message;
+use crate::reading::read_message;
+use lisp_memory::Memory;
 
 /// Bytes spell at most one message.
 #[tactic(auto, using(crate::proofs::MessageLaws::one_message))]
@@ -29,3 +36,11 @@ pub fn written_spells()
 pub fn reads_back()
     ensures { (x : Said) (auth : List ℕ) → IsSaid x → length auth ≡ 16 → message_at (written x auth) ≡ Ok x }
 {}
+
+/// Over memory that is never refused, reading gives the message or the first fault, exactly.
+#[tactic(auto, using(crate::proofs::ReadingLaws::without_excuse))]
+pub fn reads_exactly<A: Memory + Copy>(alloc: A, bytes: &[u8]) -> Result<Message<A>, ReadFault>
+    ensures { (A.may_refuse → ⊥) → Reads said result (message_at bytes.now) }
+{
+    read_message(alloc, bytes)
+}

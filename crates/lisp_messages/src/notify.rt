@@ -1,6 +1,7 @@
 //! The Map-Notify and the Map-Notify-Ack.
 
-ghost use Rattle.std.specs.Prelude.{◌≡◌, ◌<◌, ◌≤◌, [], length, replicate, IfOk, OnOk};
+ghost use Rattle.std.specs.Prelude.{◌≡◌, ◌<◌, ◌≤◌, [], length, replicate, IfOk, IsErrOf, OnOk, OnErr};
+ghost use Rattle.lisp_messages.specs.declared.fault.ReadFault.{ReadFault};
 ghost use Rattle.lisp_messages.specs.Message.{Notifies, IsNotification};
 ghost use Rattle.lisp_messages.specs.Spelling.{Spells};
 ghost use Rattle.lisp_messages.specs.Authentic.{IsAuthentic, signed};
@@ -13,6 +14,7 @@ use crate::fault::ReadFault;
 use crate::kind::Kind;
 use crate::reading::read_nonce;
 use crate::writing::{common_head, put_records};
+use lisp_memory::{FallibleCopies, Memory};
 use lisp_records::{MapRecord, Records};
 use std::alloc::{AllocError, Allocator, Global};
 use std::marker::Model;
@@ -54,7 +56,8 @@ pub(crate) fn read_notify<A: Allocator>(
 ) -> Result<MapNotify<A>, ReadFault>
     requires head { 32 ≤ length bytes.now }
     requires few { length records.items < 256 }
-    ensures { Reads Notifies result (notify_at ack bytes.now records.items tail.now) }
+    ensures read { Reads Notifies result (notify_at ack bytes.now records.items tail.now) }
+    ensures plain { ¬ (IsErrOf result ReadFault.OutOfMemory) }
 {
     if !(tail.is_empty() || tail.len() == 24) {
         return Err(ReadFault::Trailing);
@@ -70,7 +73,7 @@ pub(crate) fn read_notify<A: Allocator>(
 /// The written spelling of a Map-Notify or Map-Notify-Ack, authentic under the secret: all reserved
 /// bits 0, and nothing after the records. It lies in memory of `alloc`; out of memory is the only
 /// refusal.
-pub fn write_notify<A: Allocator, B: Allocator>(
+pub fn write_notify<A: Memory, B: Allocator>(
     alloc: A,
     message: &MapNotify<B>,
     secret: &[u8],
@@ -79,6 +82,7 @@ pub fn write_notify<A: Allocator, B: Allocator>(
     ensures authentic { IfOk result (λ v. IsAuthentic v.items secret.now) }
     ensures spells { IfOk result (λ v. Spells v.items (Notifies message.now)) }
     ensures known { OnOk result (IsNotification message.now) }
+    ensures memory { OnErr result A.may_refuse }
 {
     let mut out = Vec::new(alloc);
     put_notify(&mut out, message)?;
@@ -88,13 +92,14 @@ pub fn write_notify<A: Allocator, B: Allocator>(
 
 // The written spelling, its Authentication Data zeros.
 #[tactic(auto, unfolding(crate::specs::Written::written_notify))]
-fn put_notify<A: Allocator, B: Allocator>(
+fn put_notify<A: Memory, B: Allocator>(
     out: &mut Vec<u8, A>,
     message: &MapNotify<B>,
 ) -> Result<(), AllocError>
     requires { out.old.items ≡ [] }
     ensures written { OnOk result (out.new.items ≡ written_notify message.now (replicate 16 0)) }
     ensures known { OnOk result (IsNotification message.now) }
+    ensures memory { OnErr result A.may_refuse }
 {
     let kind = if message.ack {
         Kind::NotifyAck
@@ -102,8 +107,8 @@ fn put_notify<A: Allocator, B: Allocator>(
         Kind::Notify
     };
     let records = message.records.as_slice();
-    out.extend_from_slice(&[kind.number() * 16, 0, 0])?;
-    out.extend_from_slice(&common_head(records.len() as u8, message.nonce, message.key_id))?;
+    out.try_extend_from_slice(&[kind.number() * 16, 0, 0])?;
+    out.try_extend_from_slice(&common_head(records.len() as u8, message.nonce, message.key_id))?;
     put_records(out, records)?;
     Ok(())
 }

@@ -1,20 +1,20 @@
 //! Reading a message.
 
-ghost use Rattle.std.specs.Prelude.{◌≡◌, ◌<◌, ◌≤◌, length, drop, slice_index, IfOk, OnOk, Ok, Err};
+ghost use Rattle.std.specs.Prelude.{◌≡◌, ◌<◌, ◌≤◌, length, drop, slice_index, IfOk, IsErrOf, OnOk, Ok, Err};
 ghost use Rattle.lisp_messages.specs.declared.fault.ReadFault.{ReadFault};
 ghost use Rattle.lisp_messages.specs.Message.{Said};
 ghost use Rattle.lisp_messages.specs.Meaning.{said};
 ghost use Rattle.lisp_messages.specs.Spelling.{Spells};
 ghost use Rattle.lisp_records.specs.Result.{Reads};
-ghost use Rattle.lisp_messages.specs.Reading.{Gives, kind_at, records_at, nonce_of, tail_at, notify_at, register_at, message_at};
+ghost use Rattle.lisp_messages.specs.Reading.{Gives, HasHead, HasRecords, kind_at, records_at, nonce_of, tail_at, notify_at, register_at, message_at};
 
 use crate::fault::ReadFault;
 use crate::kind::Kind;
 use crate::message::Message;
 use crate::notify::read_notify;
 use crate::register::read_register;
+use lisp_memory::{FallibleVec, Memory};
 use lisp_records::{MapRecord, read_record};
-use std::alloc::Allocator;
 
 /// The one Algorithm ID that is served: HMAC-SHA-256-128-None (RFC 9301 section 12.5).
 pub(crate) const HMAC_SHA_256_128_NONE: u8 = 2;
@@ -29,7 +29,7 @@ pub(crate) const HEAD_LEN: usize = 32;
 /// clear), `Short` or `Trailing` (other than 24 bytes after the records), for the other two
 /// `Trailing` (other than 0 or 24 bytes there, which are ignored). `OutOfMemory` may come in place
 /// of any answer past the first record.
-pub fn read_message<A: Allocator + Copy>(alloc: A, bytes: &[u8]) -> Result<Message<A>, ReadFault>
+pub fn read_message<A: Memory + Copy>(alloc: A, bytes: &[u8]) -> Result<Message<A>, ReadFault>
     // What is read is spelled so.
     ensures found { IfOk result (λ m. Spells bytes.now (said m)) }
 
@@ -41,14 +41,18 @@ pub fn read_message<A: Allocator + Copy>(alloc: A, bytes: &[u8]) -> Result<Messa
 
     // Before the first record nothing takes memory.
     ensures early { (fault : ReadFault) → kind_at bytes.now ≡ Err fault → result ≡ Err fault }
+    ensures memory { IsErrOf result ReadFault.OutOfMemory → A.may_refuse }
+    ensures grows { IsErrOf result ReadFault.OutOfMemory → HasHead bytes.now × HasRecords bytes.now }
 {
     read_whole(alloc, bytes)
 }
 
 #[tactic(auto, unfolding(crate::specs::Reading::message_at))]
-fn read_whole<A: Allocator + Copy>(alloc: A, bytes: &[u8]) -> Result<Message<A>, ReadFault>
+fn read_whole<A: Memory + Copy>(alloc: A, bytes: &[u8]) -> Result<Message<A>, ReadFault>
     ensures exact { Gives said result (message_at bytes.now) }
     ensures early { (fault : ReadFault) → kind_at bytes.now ≡ Err fault → result ≡ Err fault }
+    ensures memory { IsErrOf result ReadFault.OutOfMemory → A.may_refuse }
+    ensures grows { IsErrOf result ReadFault.OutOfMemory → HasHead bytes.now × HasRecords bytes.now }
 {
     let kind = read_kind(bytes)?;
     let (records, tail) = read_records(alloc, bytes)?;
@@ -65,6 +69,7 @@ fn read_whole<A: Allocator + Copy>(alloc: A, bytes: &[u8]) -> Result<Message<A>,
 fn read_kind(bytes: &[u8]) -> Result<Kind, ReadFault>
     ensures kind { Reads (λ k. k) result (kind_at bytes.now) }
     ensures head { OnOk result (32 ≤ length bytes.now) }
+    ensures plain { ¬ (IsErrOf result ReadFault.OutOfMemory) }
 {
     let [first, _, _, _, _, _, _, _, _, _, _, _, _, algorithm, length_high, length_low, ..] = bytes
     else {
@@ -84,20 +89,22 @@ fn read_kind(bytes: &[u8]) -> Result<Kind, ReadFault>
 }
 
 // The records after the first 32 bytes, and the bytes after them.
-fn read_records<A: Allocator + Copy>(
+fn read_records<A: Memory + Copy>(
     alloc: A,
     bytes: &[u8],
 ) -> Result<(Vec<MapRecord<A>, A>, &[u8]), ReadFault>
     requires { 32 ≤ length bytes.now }
     ensures records { Gives (λ x. (x.0.items, x.1.now)) result (records_at 0 (slice_index bytes.now 3) (drop 32 bytes.now)) }
     ensures few { IfOk result (λ x. length x.0.items < 256) }
+    ensures memory { IsErrOf result ReadFault.OutOfMemory → A.may_refuse }
+    ensures grows { IsErrOf result ReadFault.OutOfMemory → HasRecords bytes.now }
 {
     let mut records = Vec::new(alloc);
     let mut at = HEAD_LEN;
     for place in 0..bytes[3] {
         match read_record(alloc, bytes, at) {
             Ok((record, next)) => {
-                records.push(record)?;
+                records.try_push(record)?;
                 at = next;
             }
             Err(fault) => return Err(ReadFault::of_record(place, fault)),

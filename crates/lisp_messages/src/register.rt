@@ -1,8 +1,9 @@
 //! The Map-Register.
 
-ghost use Rattle.std.specs.Prelude.{◌≡◌, ◌^◌, ◌<◌, ◌≤◌, [], ◌∷◌, ◌++◌, length, replicate, IfOk, OnOk};
+ghost use Rattle.std.specs.Prelude.{◌≡◌, ◌^◌, ◌<◌, ◌≤◌, [], ◌∷◌, ◌++◌, length, replicate, IfOk, IsErrOf, OnOk, OnErr};
 ghost use Rattle.std.specs.Int.{w64, to_be_bytes};
 ghost use Rattle.std.specs.List.{AllByRecursion};
+ghost use Rattle.lisp_messages.specs.declared.fault.ReadFault.{ReadFault};
 ghost use Rattle.lisp_messages.specs.Message.{Registers, IsRegistration};
 ghost use Rattle.lisp_messages.specs.Spelling.{Spells};
 ghost use Rattle.lisp_messages.specs.Authentic.{IsAuthentic, signed};
@@ -15,6 +16,7 @@ use crate::fault::ReadFault;
 use crate::kind::Kind;
 use crate::reading::read_nonce;
 use crate::writing::{common_head, put_records};
+use lisp_memory::{FallibleCopies, Memory};
 use lisp_records::{MapRecord, Records, is_set};
 use std::alloc::{AllocError, Allocator, Global};
 use std::marker::Model;
@@ -87,7 +89,7 @@ impl<A: Allocator> Model for MapRegister<A> {
 
 /// The written spelling of a Map-Register, authentic under the secret: bit I set, all reserved bits
 /// 0. It lies in memory of `alloc`; out of memory is the only refusal.
-pub fn write_register<A: Allocator, B: Allocator>(
+pub fn write_register<A: Memory, B: Allocator>(
     alloc: A,
     message: &MapRegister<B>,
     secret: &[u8],
@@ -96,6 +98,7 @@ pub fn write_register<A: Allocator, B: Allocator>(
     ensures authentic { IfOk result (λ v. IsAuthentic v.items secret.now) }
     ensures spells { IfOk result (λ v. Spells v.items (Registers message.now)) }
     ensures known { OnOk result (IsRegistration message.now) }
+    ensures memory { OnErr result A.may_refuse }
 {
     let mut out = Vec::new(alloc);
     put_register(&mut out, message)?;
@@ -105,13 +108,14 @@ pub fn write_register<A: Allocator, B: Allocator>(
 
 // The written spelling, its Authentication Data zeros.
 #[tactic(auto, unfolding(crate::specs::Written::written_register))]
-fn put_register<A: Allocator, B: Allocator>(
+fn put_register<A: Memory, B: Allocator>(
     out: &mut Vec<u8, A>,
     message: &MapRegister<B>,
 ) -> Result<(), AllocError>
     requires { out.old.items ≡ [] }
     ensures written { OnOk result (out.new.items ≡ written_register message.now (replicate 16 0)) }
     ensures known { OnOk result (IsRegistration message.now) }
+    ensures memory { OnErr result A.may_refuse }
 {
     put_head(out, message)?;
     put_records(out, message.records.as_slice())?;
@@ -120,7 +124,7 @@ fn put_register<A: Allocator, B: Allocator>(
 }
 
 // The 32 bytes before the records, the Authentication Data zeros.
-fn put_head<A: Allocator, B: Allocator>(
+fn put_head<A: Memory, B: Allocator>(
     out: &mut Vec<u8, A>,
     message: &MapRegister<B>,
 ) -> Result<(), AllocError>
@@ -128,11 +132,12 @@ fn put_head<A: Allocator, B: Allocator>(
     ensures head { OnOk result (out.new.items ≡ written_register_head message.now (replicate 16 0)) }
     ensures fits { (message.now.nonce < 2 ^ 64) × (message.now.key_id < 256) }
     ensures few { length message.now.records < 256 }
+    ensures memory { OnErr result A.may_refuse }
 {
     let count = message.records.as_slice().len() as u8;
     let common = common_head(count, message.nonce, message.key_id);
-    out.extend_from_slice(&[kind_of(message), 0, flags_of(message)])?;
-    out.extend_from_slice(&common)?;
+    out.try_extend_from_slice(&[kind_of(message), 0, flags_of(message)])?;
+    out.try_extend_from_slice(&common)?;
     Ok(())
 }
 
@@ -157,13 +162,14 @@ fn flags_of<A: Allocator>(message: &MapRegister<A>) -> u8
 }
 
 // xTR-ID and Site-ID.
-fn put_ids<A: Allocator>(out: &mut Vec<u8, A>, xtr: [u8; 16], site: u64) -> Result<(), AllocError>
+fn put_ids<A: Memory>(out: &mut Vec<u8, A>, xtr: [u8; 16], site: u64) -> Result<(), AllocError>
     ensures ids { OnOk result (out.new.items ≡ out.old.items ++ (xtr ++ to_be_bytes w64 site)) }
     ensures fits { (length xtr ≡ 16) × (site < 2 ^ 64) }
     ensures bytes { OnOk result (AllByRecursion (λ n. n < 256) xtr) }
+    ensures memory { OnErr result A.may_refuse }
 {
-    out.extend_from_slice(&xtr)?;
-    out.extend_from_slice(&site.to_be_bytes())?;
+    out.try_extend_from_slice(&xtr)?;
+    out.try_extend_from_slice(&site.to_be_bytes())?;
     Ok(())
 }
 
@@ -177,7 +183,8 @@ pub(crate) fn read_register<A: Allocator>(
 ) -> Result<MapRegister<A>, ReadFault>
     requires head { 32 ≤ length bytes.now }
     requires few { length records.items < 256 }
-    ensures { Reads Registers result (register_at bytes.now records.items tail.now) }
+    ensures read { Reads Registers result (register_at bytes.now records.items tail.now) }
+    ensures plain { ¬ (IsErrOf result ReadFault.OutOfMemory) }
 {
     if !is_set(bytes[0], IDS) {
         return Err(ReadFault::NoIds);
@@ -201,7 +208,8 @@ pub(crate) fn read_register<A: Allocator>(
 // xTR-ID and Site-ID, which end the message.
 #[tactic(auto, unfolding(crate::specs::Reading::ids_at))]
 fn read_ids(tail: &[u8]) -> Result<([u8; 16], u64), ReadFault>
-    ensures { Reads (λ x. x) result (ids_at tail.now) }
+    ensures ids { Reads (λ x. x) result (ids_at tail.now) }
+    ensures plain { ¬ (IsErrOf result ReadFault.OutOfMemory) }
 {
     let Some((xtr, rest)) = tail.split_first_chunk::<16>() else {
         return Err(ReadFault::Short);

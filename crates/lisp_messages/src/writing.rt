@@ -1,12 +1,13 @@
 //! What is written in each message alike.
 
-ghost use Rattle.std.specs.Prelude.{◌≡◌, ◌++◌, ◌<◌, ◌^◌, length, replicate, All, OnOk};
+ghost use Rattle.std.specs.Prelude.{◌≡◌, ◌++◌, ◌<◌, ◌^◌, length, replicate, All, OnErr, OnOk};
 ghost use Rattle.lisp_records.specs.Record.{IsMapping};
 ghost use Rattle.lisp_messages.specs.Spelling.{common};
 ghost use Rattle.lisp_messages.specs.Written.{written_records};
 
 use crate::reading::HMAC_SHA_256_128_NONE;
 use lisp_hmac::TAG_LEN;
+use lisp_memory::Memory;
 use lisp_records::{MapRecord, write_record};
 use std::alloc::{AllocError, Allocator};
 
@@ -24,12 +25,13 @@ pub(crate) fn common_head(count: u8, nonce: u64, key_id: u8) -> [u8; 29]
 }
 
 /// Appends the written spellings of the records, one after the other.
-pub(crate) fn put_records<A: Allocator, B: Allocator>(
+pub(crate) fn put_records<A: Memory, B: Allocator>(
     out: &mut Vec<u8, A>,
     records: &[MapRecord<B>],
 ) -> Result<(), AllocError>
     ensures records { OnOk result (out.new.items ≡ out.old.items ++ written_records records.now) }
     ensures known { OnOk result (All IsMapping records.now) }
+    ensures memory { OnErr result A.may_refuse }
 {
     for record in records {
         write_record(record, out)?;

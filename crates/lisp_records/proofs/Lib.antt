@@ -11,5 +11,4 @@ pub mod Positions
 pub mod RecordLaws
 pub mod RisingLaws
 pub mod RouterLaws
-pub mod StartLemmas
 pub mod WrittenLemmas

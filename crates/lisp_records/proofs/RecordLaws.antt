@@ -14,7 +14,7 @@ use Rattle.lisp_records.specs.Record.{Mapping, IsLocator, IsMapping, bit}
 use Rattle.lisp_records.specs.Spelling.{IsBytes, SpellsLocator, SpellsLocators, SpellsEid, Spells}
 use Rattle.lisp_records.specs.Written.{written_locator, written_locators, written}
 use Rattle.lisp_records.specs.Result.{◌>>=◌}
-use Rattle.lisp_records.specs.Reading.{after, number_at, family_of, address_at, is_set, locators_at, mask_of, mapping_of, record_at}
+use Rattle.lisp_records.specs.Reading.{after, number_at, family_of, address_at, is_set, locators_at, mask_of, mapping_of, record_at, start_at}
 use Rattle.lisp_records.proofs.AddressLemmas.{family-cleared, IsBlock-cleared}
 use Rattle.lisp_records.proofs.Fields.{Takes, IsBytes-behind, bind_ok, done, ok_is, two_bytes, bit-eqb, eqb-bit, bit_below, after_takes, after_again, family_takes, mask_takes, mask_again, address_takes, address_again}
 use Rattle.lisp_records.proofs.LocatorLaws.{locators_take, locators_again}
@@ -87,15 +87,15 @@ record_end bytes addr = locators_at (get_or bytes 4 0) addr.1 >>= λ locators. d
 
 -- a record that was read is spelled by the bytes in front
 pub record_takes : (bytes : List ℕ) (x : Mapping × List ℕ) → IsBytes bytes → record_at bytes ≡ Ok x → Takes (λ text. Spells text x.0) bytes x.1
-unfolding record_at
+unfolding record_at start_at
 record_takes bytes x fits e =
-    let a = bind_ok (after 12 bytes) (λ rest. family_of (number_at bytes 10) >>= λ f. mask_of f (get_or bytes 5 0) >>= λ mask_len. address_at f rest >>= λ addr. record_end bytes addr) x e in
-    let b = bind_ok (family_of (number_at bytes 10)) (λ f. mask_of f (get_or bytes 5 0) >>= λ mask_len. address_at f a.0 >>= λ addr. record_end bytes addr) x a.2 in
-    let c = bind_ok (mask_of b.0 (get_or bytes 5 0)) (λ mask_len. address_at b.0 a.0 >>= λ addr. record_end bytes addr) x b.2 in
-    let d = bind_ok (address_at b.0 a.0) (λ addr. record_end bytes addr) x c.2 in
+    let d = bind_ok (start_at bytes) (λ addr. record_end bytes addr) x e in
+    let a = bind_ok (after 12 bytes) (λ rest. family_of (number_at bytes 10) >>= λ f. mask_of f (get_or bytes 5 0) >>= λ mask_len. address_at f rest) d.0 d.1 in
+    let b = bind_ok (family_of (number_at bytes 10)) (λ f. mask_of f (get_or bytes 5 0) >>= λ mask_len. address_at f a.0) d.0 a.2 in
+    let c = bind_ok (mask_of b.0 (get_or bytes 5 0)) (λ mask_len. address_at b.0 a.0) d.0 b.2 in
     let l = bind_ok (locators_at (get_or bytes 4 0) d.0.1) (λ locators. done (mapping_of bytes d.0.0 locators.0, locators.1)) x d.2 in
     let made : Mapping × List ℕ = (mapping_of bytes d.0.0 l.0.0, l.0.1) in
-    subst (λ (y : Mapping × List ℕ). Takes (λ text. Spells text y.0) bytes y.1) {x = made} (ok_is made x l.2) (record_steps bytes a.0 b.0 c.0 d.0 l.0 fits a.1 b.1 c.1 d.1 l.1)
+    subst (λ (y : Mapping × List ℕ). Takes (λ text. Spells text y.0) bytes y.1) {x = made} (ok_is made x l.2) (record_steps bytes a.0 b.0 c.0 d.0 l.0 fits a.1 b.1 c.1 c.2 l.1)
 
 -- the twelve bytes in front of a record's addresses
 abbrev head : ℕ → ℕ → ℕ → ℕ → ℕ → ℕ → ℕ → ℕ → List ℕ
@@ -104,7 +104,7 @@ head ttl count mask flags reserved high low number = to_be_bytes w32 ttl ++ (cou
 -- twelve bytes with an address's family in the last two, the address, and locators, are read
 record_read : (ttl mask flags reserved high low : ℕ) (a : Addr) (ls : List Locator) (text rest : List ℕ) → HasWidth a → mask ≤ max_len a → SpellsLocators text ls
     → record_at (head ttl (length ls) mask flags reserved high low (afi (family a)) ++ (octets a ++ (text ++ rest))) ≡ Ok (mapping_of (head ttl (length ls) mask flags reserved high low 0) a ls, rest)
-unfolding record_at
+unfolding record_at start_at
 record_read ttl mask flags reserved high low (V4 bytes) ls text rest whole fits each =
     rw (after_again 12 (head ttl (length ls) mask flags reserved high low 1) (bytes ++ (text ++ rest)) refl, mask_again Ipv4 mask fits, address_again (V4 bytes) (text ++ rest) whole, locators_again text rest ls each) refl
 record_read ttl mask flags reserved high low (V6 bytes) ls text rest whole fits each =

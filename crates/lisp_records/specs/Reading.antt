@@ -1,5 +1,5 @@
 -- Reading a record from left to right, with the first fault that is met.
-use Rattle.std.specs.Prelude.{◌≡◌, ℕ, zero, suc, ◌+◌, ◌*◌, ◌/◌, ◌%◌, List, [], ◌∷◌, length, take, drop, Result, Ok, Err, Bool, nat_lt, ◌==◌, if◌then◌else◌, slice_index}
+use Rattle.std.specs.Prelude.{◌≡◌, ℕ, zero, suc, ◌+◌, ◌*◌, ◌/◌, ◌%◌, ◌<◌, List, [], ◌∷◌, length, take, drop, Result, Ok, Err, Bool, nat_lt, ◌==◌, if◌then◌else◌, slice_index}
 use Rattle.std.specs.Int.{w16, w32, from_be_bytes}
 use Rattle.lisp_records.specs.declared.address.Addr.{Addr}
 use Rattle.lisp_records.specs.declared.address.Addr.TheVariants.{V4, V6}
@@ -89,19 +89,21 @@ mapping_of bytes addr locators = record {
   locators = locators;
 }
 
-unfoldable pub record_at : List ℕ → Result (Mapping × List ℕ) RecordFault
-record_at bytes = do
-  rest ← after 12 bytes
-  f ← family_of (number_at bytes 10)
-  mask_len ← mask_of f (slice_index bytes 5)
-  addr ← address_at f rest
-  locators ← locators_at (slice_index bytes 4) addr.1
-  Ok (mapping_of bytes addr.0 locators.0, locators.1)
-
--- what is read before the first locator: of these bytes nothing takes memory
+-- the address of a record's EID-Prefix, and the bytes after it, which are those of its locators; nothing takes memory
+-- so far
 unfoldable pub start_at : List ℕ → Result (Addr × List ℕ) RecordFault
 start_at bytes = do
   rest ← after 12 bytes
   f ← family_of (number_at bytes 10)
   mask_len ← mask_of f (slice_index bytes 5)
   address_at f rest
+
+unfoldable pub record_at : List ℕ → Result (Mapping × List ℕ) RecordFault
+record_at bytes = do
+  addr ← start_at bytes
+  locators ← locators_at (slice_index bytes 4) addr.1
+  Ok (mapping_of bytes addr.0 locators.0, locators.1)
+
+-- the Locator Count is not 0: only then reading a record takes memory
+abbrev pub HasLocators : List ℕ → Type 0
+HasLocators bytes = 0 < slice_index bytes 4

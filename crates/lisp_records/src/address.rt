@@ -1,15 +1,17 @@
 //! Addresses of the two families that EIDs and locators may have.
 
-ghost use Rattle.std.specs.Prelude.{◌≡◌, ◌*◌, ◌++◌, ◌<◌, ◌≤◌, length, IfOk, OnOk, OnErr};
+ghost use Rattle.std.specs.Prelude.{◌≡◌, ◌*◌, ◌++◌, ◌<◌, ◌≤◌, length, IfOk, IsErrOf, OnOk, OnErr};
 ghost use Rattle.std.specs.List.{AllByRecursion};
 ghost use Rattle.lisp_records.specs.Grown.{Grew};
 ghost use Rattle.lisp_records.specs.Written.{written_address};
 ghost use Rattle.lisp_records.specs.Address.{afi, width, family, octets, IsWhole, high_bits, masked, cleared};
 ghost use Rattle.lisp_records.specs.Result.{Reads};
 ghost use Rattle.lisp_records.specs.Reading.{family_of, address_at};
+ghost use Rattle.lisp_records.specs.declared.fault.RecordFault.{RecordFault};
 
 use crate::fault::RecordFault;
-use std::alloc::{AllocError, Allocator};
+use lisp_memory::{FallibleCopies, Memory};
+use std::alloc::AllocError;
 
 /// An address family, as an AFI field names it (RFC 9301 section 5.4).
 #[derive(Clone, Copy, Debug, PartialEq, Eq)]
@@ -21,7 +23,8 @@ pub enum Family {
 impl Family {
     /// The family that an AFI field names; `Afi` at any number but 1 and 2.
     pub(crate) fn from_afi(number: u16) -> Result<Family, RecordFault>
-        ensures { Reads (λ f. f) result (family_of number) }
+        ensures family { Reads (λ f. f) result (family_of number) }
+        ensures plain { ¬ (IsErrOf result RecordFault.OutOfMemory) }
     {
         match number {
             1 => Ok(Family::Ipv4),
@@ -124,6 +127,7 @@ pub(crate) fn read_address(expected: Family, bytes: &[u8]) -> Result<(Addr, &[u8
     ensures read { Reads (λ x. (x.0, x.1.now)) result (address_at expected bytes.now) }
     ensures family { IfOk result (λ x. family x.0 ≡ expected) }
     ensures whole { IfOk result (λ x. IsWhole x.0) }
+    ensures plain { ¬ (IsErrOf result RecordFault.OutOfMemory) }
 {
     match expected {
         Family::Ipv4 => {
@@ -159,17 +163,18 @@ fn first_bits(byte: u8, count: u8) -> u8
     requires { count ≤ 8 }
     ensures { result ≡ high_bits byte count }
 {
-    let dropped = 8 - count;
-    ((u16::from(byte) >> dropped) << dropped) as u8
+    let unit = 1u16 << (8 - count);
+    (u16::from(byte) / unit * unit) as u8
 }
 
 /// Appends an AFI and its address. Out of memory, it may leave a part of them.
 #[tactic(auto, using(crate::proofs::Grown::steps))]
-pub(crate) fn put_address<A: Allocator>(out: &mut Vec<u8, A>, addr: &Addr) -> Result<(), AllocError>
+pub(crate) fn put_address<A: Memory>(out: &mut Vec<u8, A>, addr: &Addr) -> Result<(), AllocError>
     ensures ok { OnOk result (out.new.items ≡ out.old.items ++ written_address addr.now) }
     ensures err { OnErr result (Grew out.old.items out.new.items) }
+    ensures memory { OnErr result A.may_refuse }
 {
-    out.extend_from_slice(&addr.family().afi().to_be_bytes())?;
-    out.extend_from_slice(addr.octets())?;
+    out.try_extend_from_slice(&addr.family().afi().to_be_bytes())?;
+    out.try_extend_from_slice(addr.octets())?;
     Ok(())
 }

@@ -1,7 +1,8 @@
 //! A list of bytes that a value keeps.
 
-ghost use Rattle.std.specs.Prelude.{◌≡◌, IfOk};
+ghost use Rattle.std.specs.Prelude.{◌≡◌, IfOk, OnErr};
 
+use lisp_memory::{FallibleCopies, Memory};
 use std::alloc::{AllocError, Allocator, Global};
 use std::marker::Model;
 
@@ -35,10 +36,11 @@ impl<A: Allocator> Bytes<A> {
     }
 
     /// Equal bytes, in memory of `alloc`.
-    pub fn copy<B: Allocator>(&self, alloc: B) -> Result<Bytes<B>, AllocError>
-        ensures { IfOk result (λ b. b ≡ self.now) }
+    pub fn copy<B: Memory>(&self, alloc: B) -> Result<Bytes<B>, AllocError>
+        ensures equal { IfOk result (λ b. b ≡ self.now) }
+        ensures memory { OnErr result B.may_refuse }
     {
-        let items = Vec::from_slice(alloc, self.as_slice())?;
+        let items = Vec::try_from_slice(alloc, self.as_slice())?;
         Ok(Bytes { items })
     }
 

@@ -1,12 +1,13 @@
 //! What a router registers: its records, as one message carries them.
 
-ghost use Rattle.std.specs.Prelude.{◌≡◌, ◌<◌, ◌≤◌, length, IfOk};
+ghost use Rattle.std.specs.Prelude.{◌≡◌, ◌<◌, ◌≤◌, length, IfOk, OnErr};
 ghost use Rattle.lisp_records.specs.Fault.{database_fault_number};
 ghost use Rattle.lisp_records.specs.Database.{has_prefix, repeats, size, database_of};
 
 use crate::prefix::Prefix;
 use crate::record::MapRecord;
 use crate::records::Records;
+use lisp_memory::{FallibleVec, Memory};
 use std::alloc::{AllocError, Allocator, Global};
 use std::marker::Model;
 use thiserror::Error;
@@ -89,17 +90,19 @@ impl<A: Allocator> Database<A> {
     }
 
     /// An equal database, in memory of `alloc`.
-    pub fn copy<B: Allocator + Copy>(&self, alloc: B) -> Result<Database<B>, AllocError>
-        ensures { IfOk result (λ d. d ≡ self.now) }
+    pub fn copy<B: Memory + Copy>(&self, alloc: B) -> Result<Database<B>, AllocError>
+        ensures equal { IfOk result (λ d. d ≡ self.now) }
+        ensures memory { OnErr result B.may_refuse }
     {
         let records = copy_records(&self.records, alloc)?;
         Ok(Database { records })
     }
 
     /// Equal records as a message carries them, in memory of `alloc`.
-    pub fn to_records<B: Allocator + Copy>(&self, alloc: B) -> Result<Records<B>, AllocError>
+    pub fn to_records<B: Memory + Copy>(&self, alloc: B) -> Result<Records<B>, AllocError>
         ensures value { IfOk result (λ r. r ≡ self.now) }
         ensures few { IfOk result (λ r. length r < 256) }
+        ensures memory { OnErr result B.may_refuse }
     {
         Ok(Records::from_vec(copy_records(&self.records, alloc)?))
     }
@@ -137,15 +140,16 @@ fn written_size<A: Allocator>(records: &[MapRecord<A>]) -> usize
 }
 
 // Equal records, in memory of `alloc`.
-fn copy_records<A: Allocator, B: Allocator + Copy>(
+fn copy_records<A: Allocator, B: Memory + Copy>(
     records: &[MapRecord<A>],
     alloc: B,
 ) -> Result<Vec<MapRecord<B>, B>, AllocError>
-    ensures { IfOk result (λ v. v.items ≡ records.now) }
+    ensures equal { IfOk result (λ v. v.items ≡ records.now) }
+    ensures memory { OnErr result B.may_refuse }
 {
     let mut copies = Vec::new(alloc);
     for record in records {
-        copies.push(record.copy(alloc)?)?;
+        copies.try_push(record.copy(alloc)?)?;
     }
     Ok(copies)
 }

@@ -1,16 +1,18 @@
 //! Locators: where the addresses of a prefix are reached.
 
-ghost use Rattle.std.specs.Prelude.{◌≡◌, ◌+◌, ◌*◌, ◌++◌, ◌∷◌, [], ◌<◌, ◌≤◌, length, IfOk, OnOk, OnErr};
+ghost use Rattle.std.specs.Prelude.{◌≡◌, ◌+◌, ◌*◌, ◌++◌, ◌∷◌, [], ◌<◌, ◌≤◌, length, IfOk, IsErrOf, OnOk, OnErr};
 ghost use Rattle.lisp_records.specs.Grown.{Grew};
 ghost use Rattle.lisp_records.specs.Record.{IsLocator, bit};
 ghost use Rattle.lisp_records.specs.Written.{written_address, written_locator};
 ghost use Rattle.lisp_records.specs.Result.{Reads};
 ghost use Rattle.lisp_records.specs.Reading.{family_of, locator_at, locator_of};
+ghost use Rattle.lisp_records.specs.declared.fault.RecordFault.{RecordFault};
 
 use crate::address::{Addr, Family, put_address, read_address};
 use crate::fault::RecordFault;
 use crate::flags::is_set;
-use std::alloc::{AllocError, Allocator};
+use lisp_memory::{FallibleCopies, Memory};
+use std::alloc::AllocError;
 
 // The flags, byte 5.
 const LOCAL: u8 = 0x04;
@@ -63,6 +65,7 @@ impl Locator {
 pub(crate) fn read_locator(bytes: &[u8]) -> Result<(Locator, &[u8]), RecordFault>
     ensures read { Reads (λ x. (x.0, x.1.now)) result (locator_at bytes.now) }
     ensures fits { IfOk result (λ x. IsLocator x.0) }
+    ensures plain { ¬ (IsErrOf result RecordFault.OutOfMemory) }
 {
     let [
         priority,
@@ -95,17 +98,18 @@ pub(crate) fn read_locator(bytes: &[u8]) -> Result<(Locator, &[u8]), RecordFault
 
 /// Appends the written spelling of a locator. Out of memory, it may leave a part of it.
 #[tactic(auto, using(crate::proofs::Grown::steps))]
-pub(crate) fn put_locator<A: Allocator>(
+pub(crate) fn put_locator<A: Memory>(
     out: &mut Vec<u8, A>,
     locator: &Locator,
 ) -> Result<(), AllocError>
     ensures ok { OnOk result (out.new.items ≡ out.old.items ++ written_locator locator.now) }
     ensures err { OnErr result (Grew out.old.items out.new.items) }
+    ensures memory { OnErr result A.may_refuse }
 {
     let flags = u8::from(locator.local) * LOCAL
         + u8::from(locator.probe) * PROBE
         + u8::from(locator.reachable) * REACHABLE;
-    out.extend_from_slice(&[
+    out.try_extend_from_slice(&[
         locator.priority,
         locator.weight,
         locator.m_priority,

@@ -1,14 +1,14 @@
 //! The record: an EID-Prefix and its locators, read from bytes and written as bytes.
 
-ghost use Rattle.std.specs.Prelude.{◌≡◌, ℕ, ◌+◌, ◌*◌, ◌/◌, ◌%◌, ◌<◌, ◌≤◌, ◌↔◌, List, [], ◌∷◌, ◌++◌, length, drop, slice_range, IsSome, IfSome, IfOk, IfErr, OnOk, OnErr, Ok, Err};
+ghost use Rattle.std.specs.Prelude.{◌≡◌, ℕ, ◌+◌, ◌*◌, ◌/◌, ◌%◌, ◌<◌, ◌≤◌, ◌↔◌, List, [], ◌∷◌, ◌++◌, length, drop, slice_index, slice_range, IsSome, IfSome, IfOk, IfErr, IsErrOf, OnOk, OnErr, Ok, Err};
 ghost use Rattle.std.specs.List.{AllByRecursion};
-ghost use Rattle.lisp_records.specs.Address.{IsWhole, IsBlock, family, width};
+ghost use Rattle.lisp_records.specs.Address.{IsWhole, IsBlock, family, width, max_len};
 ghost use Rattle.lisp_records.specs.Grown.{Grew};
 ghost use Rattle.lisp_records.specs.Record.{Mapping, IsLocator, IsMapping, bit};
 ghost use Rattle.lisp_records.specs.Spelling.{Spells};
 ghost use Rattle.lisp_records.specs.Written.{written, written_head, written_counts, written_locators};
 ghost use Rattle.lisp_records.specs.Result.{Reads};
-ghost use Rattle.lisp_records.specs.Reading.{Gives, start_at, family_of, number_at, mask_of, locators_at, mapping_of, record_at};
+ghost use Rattle.lisp_records.specs.Reading.{Gives, HasLocators, start_at, family_of, number_at, mask_of, locators_at, mapping_of, record_at};
 ghost use Rattle.lisp_records.specs.declared.fault.RecordFault.{RecordFault};
 
 use crate::address::{Addr, Family, put_address, read_address};
@@ -16,11 +16,15 @@ use crate::fault::RecordFault;
 use crate::flags::is_set;
 use crate::locator::{Locator, put_locator, read_locator};
 use crate::prefix::Prefix;
+use lisp_memory::{FallibleCopies, FallibleVec, Memory};
 use std::alloc::{AllocError, Allocator, Global};
 use std::marker::Model;
 
 /// The most locators of one record: their count is one byte.
 pub const MAX_LOCATORS: usize = 255;
+
+// The bytes before the EID-Prefix.
+const HEAD_LEN: usize = 12;
 
 // The flags, byte 6: the lowest bit of ACT, and A.
 const ACT: u8 = 0x20;
@@ -135,10 +139,11 @@ impl<A: Allocator> MapRecord<A> {
     }
 
     /// An equal record, its locators in memory of `alloc`.
-    pub fn copy<B: Allocator>(&self, alloc: B) -> Result<MapRecord<B>, AllocError>
-        ensures { IfOk result (λ r. r ≡ self.now) }
+    pub fn copy<B: Memory>(&self, alloc: B) -> Result<MapRecord<B>, AllocError>
+        ensures equal { IfOk result (λ r. r ≡ self.now) }
+        ensures memory { OnErr result B.may_refuse }
     {
-        let locators = Vec::from_slice(alloc, &self.locators)?;
+        let locators = Vec::try_from_slice(alloc, &self.locators)?;
         Ok(MapRecord {
             ttl: self.ttl,
             act: self.act,
@@ -187,7 +192,7 @@ fn locator_fits(locator: Locator)
 /// `Short` (no 12 bytes), `Afi`, `Mask` (longer than the address), `Short` (no whole address), then
 /// for each locator `Short` (no 8 bytes), `Afi`, `Short` (no whole address). `OutOfMemory` may come
 /// in place of any answer past the first address.
-pub fn read_record<A: Allocator>(
+pub fn read_record<A: Memory>(
     alloc: A,
     bytes: &[u8],
     at: usize,
@@ -204,12 +209,14 @@ pub fn read_record<A: Allocator>(
 
     // Before the first locator nothing takes memory.
     ensures early { (fault : RecordFault) → start_at (drop at bytes.now) ≡ Err fault → result ≡ Err fault }
+    ensures memory { IsErrOf result RecordFault.OutOfMemory → A.may_refuse }
+    ensures grows { IsErrOf result RecordFault.OutOfMemory → HasLocators (drop at bytes.now) }
 {
     read_at(alloc, bytes, at)
 }
 
 // As `read_record`.
-fn read_at<A: Allocator>(
+fn read_at<A: Memory>(
     alloc: A,
     bytes: &[u8],
     at: usize,
@@ -218,6 +225,8 @@ fn read_at<A: Allocator>(
     ensures exact { Gives (λ x. (x.0, drop x.1 bytes.now)) result (record_at (drop at bytes.now)) }
     ensures within { IfOk result (λ x. (at ≤ x.1) × (x.1 ≤ length bytes.now)) }
     ensures early { (fault : RecordFault) → start_at (drop at bytes.now) ≡ Err fault → result ≡ Err fault }
+    ensures memory { IsErrOf result RecordFault.OutOfMemory → A.may_refuse }
+    ensures grows { IsErrOf result RecordFault.OutOfMemory → HasLocators (drop at bytes.now) }
 {
     let (_, after) = bytes.split_at(at);
     match read_front(alloc, after) {
@@ -227,48 +236,49 @@ fn read_at<A: Allocator>(
 }
 
 // The record at the front of the bytes, and the bytes after it.
-#[tactic(auto, unfolding(crate::specs::Reading::record_at, crate::specs::Reading::start_at))]
-fn read_front<A: Allocator>(alloc: A, bytes: &[u8]) -> Result<(MapRecord<A>, &[u8]), RecordFault>
+#[tactic(auto, unfolding(crate::specs::Reading::record_at))]
+fn read_front<A: Memory>(alloc: A, bytes: &[u8]) -> Result<(MapRecord<A>, &[u8]), RecordFault>
     ensures read { Gives (λ x. (x.0, x.1.now)) result (record_at bytes.now) }
     ensures early { (fault : RecordFault) → start_at bytes.now ≡ Err fault → result ≡ Err fault }
+    ensures memory { IsErrOf result RecordFault.OutOfMemory → A.may_refuse }
+    ensures grows { IsErrOf result RecordFault.OutOfMemory → HasLocators bytes.now }
 {
-    let [
-        ttl_0,
-        ttl_1,
-        ttl_2,
-        ttl_3,
-        count,
-        mask_len,
-        flags,
-        _,
-        version_high,
-        version_low,
-        afi_high,
-        afi_low,
-        rest @ ..,
-    ] = bytes
-    else {
-        return Err(RecordFault::Short);
-    };
-    let family = Family::from_afi(u16::from_be_bytes([*afi_high, *afi_low]))?;
-    check_mask(family, *mask_len)?;
-    let (addr, rest) = read_address(family, rest)?;
-    let (locators, rest) = read_locators(alloc, *count, rest)?;
+    let (addr, rest) = read_start(bytes)?;
+    let (locators, rest) = read_locators(alloc, bytes[4], rest)?;
     let record = MapRecord {
-        ttl: u32::from_be_bytes([*ttl_0, *ttl_1, *ttl_2, *ttl_3]),
-        act: *flags / ACT,
-        authoritative: is_set(*flags, AUTHORITATIVE),
-        version: u16::from_be_bytes([*version_high & 0x0f, *version_low]),
-        eid: Prefix::masked(addr, *mask_len),
+        ttl: u32::from_be_bytes([bytes[0], bytes[1], bytes[2], bytes[3]]),
+        act: bytes[6] / ACT,
+        authoritative: is_set(bytes[6], AUTHORITATIVE),
+        version: u16::from_be_bytes([bytes[8] & 0x0f, bytes[9]]),
+        eid: Prefix::masked(addr, bytes[5]),
         locators,
     };
     Ok((record, rest))
+}
+
+// The address of the EID-Prefix, and the bytes after it.
+#[tactic(auto, unfolding(crate::specs::Reading::start_at))]
+fn read_start(bytes: &[u8]) -> Result<(Addr, &[u8]), RecordFault>
+    ensures start { Reads (λ x. (x.0, x.1.now)) result (start_at bytes.now) }
+    ensures head { OnOk result (12 ≤ length bytes.now) }
+    ensures mask { IfOk result (λ x. slice_index bytes.now 5 ≤ max_len x.0) }
+    ensures whole { IfOk result (λ x. IsWhole x.0) }
+    ensures plain { ¬ (IsErrOf result RecordFault.OutOfMemory) }
+{
+    if bytes.len() < HEAD_LEN {
+        return Err(RecordFault::Short);
+    }
+    let (_, rest) = bytes.split_at(HEAD_LEN);
+    let family = Family::from_afi(u16::from_be_bytes([bytes[10], bytes[11]]))?;
+    check_mask(family, bytes[5])?;
+    read_address(family, rest)
 }
 
 // `Mask` where the mask is longer than an address of the family.
 fn check_mask(family: Family, mask_len: u8) -> Result<(), RecordFault>
     ensures mask { Reads (λ _. mask_len) result (mask_of family mask_len) }
     ensures fits { OnOk result (mask_len ≤ 8 * width family) }
+    ensures plain { ¬ (IsErrOf result RecordFault.OutOfMemory) }
 {
     if mask_len > family.max_mask_len() {
         return Err(RecordFault::Mask);
@@ -277,7 +287,7 @@ fn check_mask(family: Family, mask_len: u8) -> Result<(), RecordFault>
 }
 
 // So many locators from the front of the bytes, and the bytes after them.
-fn read_locators<A: Allocator>(
+fn read_locators<A: Memory>(
     alloc: A,
     count: u8,
     bytes: &[u8],
@@ -285,12 +295,14 @@ fn read_locators<A: Allocator>(
     ensures locators { Gives (λ x. (x.0.items, x.1.now)) result (locators_at count bytes.now) }
     ensures count { IfOk result (λ x. length x.0.items ≡ count) }
     ensures fits { IfOk result (λ x. AllByRecursion IsLocator x.0.items) }
+    ensures memory { IsErrOf result RecordFault.OutOfMemory → A.may_refuse }
+    ensures grows { IsErrOf result RecordFault.OutOfMemory → 0 < count }
 {
     let mut locators = Vec::new(alloc);
     let mut rest = bytes;
     for _ in 0..count {
         let (locator, after) = read_locator(rest)?;
-        locators.push(locator)?;
+        locators.try_push(locator)?;
         rest = after;
     }
     Ok((locators, rest))
@@ -299,12 +311,13 @@ fn read_locators<A: Allocator>(
 /// Appends the written spelling of a record: all reserved bits 0. Out of memory, it leaves `out` as
 /// it was.
 #[tactic(auto, using(crate::proofs::Grown::steps))]
-pub fn write_record<A: Allocator, B: Allocator>(
+pub fn write_record<A: Allocator, B: Memory>(
     entry: &MapRecord<A>,
     out: &mut Vec<u8, B>,
 ) -> Result<(), AllocError>
     ensures ok { OnOk result (out.new.items ≡ out.old.items ++ written entry.now) }
     ensures err { OnErr result (out.new.items ≡ out.old.items) }
+    ensures memory { OnErr result B.may_refuse }
 
     // Every record of the program has a spelling, so that what is written is read again.
     ensures known { IsMapping entry.now }
@@ -319,12 +332,13 @@ pub fn write_record<A: Allocator, B: Allocator>(
 
 // As `write_record`, but out of memory it may leave a part of the record.
 #[tactic(auto, using(crate::proofs::Grown::steps))]
-fn put_record<A: Allocator, B: Allocator>(
+fn put_record<A: Allocator, B: Memory>(
     out: &mut Vec<u8, B>,
     entry: &MapRecord<A>,
 ) -> Result<(), AllocError>
     ensures ok { OnOk result (out.new.items ≡ out.old.items ++ written entry.now) }
     ensures err { OnErr result (Grew out.old.items out.new.items) }
+    ensures memory { OnErr result B.may_refuse }
     ensures known { IsMapping entry.now }
 {
     let (eid, locators) = (entry.eid(), entry.locators());
@@ -335,15 +349,16 @@ fn put_record<A: Allocator, B: Allocator>(
 }
 
 #[tactic(auto, using(crate::proofs::Grown::steps))]
-fn put_head<A: Allocator, B: Allocator>(
+fn put_head<A: Allocator, B: Memory>(
     out: &mut Vec<u8, B>,
     entry: &MapRecord<A>,
 ) -> Result<(), AllocError>
     ensures ok { OnOk result (out.new.items ≡ out.old.items ++ written_head entry.now) }
     ensures err { OnErr result (Grew out.old.items out.new.items) }
+    ensures memory { OnErr result B.may_refuse }
 {
-    out.extend_from_slice(&entry.ttl().to_be_bytes())?;
-    out.extend_from_slice(&counts_and_flags(entry))?;
+    out.try_extend_from_slice(&entry.ttl().to_be_bytes())?;
+    out.try_extend_from_slice(&counts_and_flags(entry))?;
     Ok(())
 }
 
@@ -363,9 +378,10 @@ fn counts_and_flags<A: Allocator>(entry: &MapRecord<A>) -> [u8; 6]
 }
 
 #[tactic(auto, using(crate::proofs::Grown::steps))]
-fn put_locators<A: Allocator>(out: &mut Vec<u8, A>, locators: &[Locator]) -> Result<(), AllocError>
+fn put_locators<A: Memory>(out: &mut Vec<u8, A>, locators: &[Locator]) -> Result<(), AllocError>
     ensures ok { OnOk result (out.new.items ≡ out.old.items ++ written_locators locators.now) }
     ensures err { OnErr result (Grew out.old.items out.new.items) }
+    ensures memory { OnErr result A.may_refuse }
 {
     for locator in locators {
         put_locator(out, locator)?;

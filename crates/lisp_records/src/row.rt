@@ -1,11 +1,12 @@
 //! The row of a Map-Server's table.
 
-ghost use Rattle.std.specs.Prelude.{◌≡◌, ◌↔◌, IsTrue, IfOk};
+ghost use Rattle.std.specs.Prelude.{◌≡◌, ◌↔◌, IsTrue, IfOk, OnErr};
 ghost use Rattle.lisp_records.specs.Row.{IsAlive, is_alive};
 
 use crate::address::Addr;
 use crate::record::MapRecord;
 use crate::router::RouterId;
+use lisp_memory::Memory;
 use std::alloc::{AllocError, Allocator, Global};
 use std::marker::Model;
 
@@ -53,8 +54,9 @@ impl<A: Allocator> Row<A> {
     }
 
     /// An equal row, its record in memory of `alloc`.
-    pub fn copy<B: Allocator>(&self, alloc: B) -> Result<Row<B>, AllocError>
-        ensures { IfOk result (λ r. r ≡ self.now) }
+    pub fn copy<B: Memory>(&self, alloc: B) -> Result<Row<B>, AllocError>
+        ensures equal { IfOk result (λ r. r ≡ self.now) }
+        ensures memory { OnErr result B.may_refuse }
     {
         Ok(Row {
             router: self.router,

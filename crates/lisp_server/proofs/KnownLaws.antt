@@ -18,16 +18,18 @@ use Rattle.lisp_store.specs.Store.{StoreState}
 use Rattle.lisp_lookup.specs.Table.{is_row_of, row_at, last_of, Sets}
 use Rattle.lisp_lookup.proofs.TableLaws.{found_holds, has_key, some_inj}
 use Rattle.lisp_server.specs.declared.contacts.Contact.{Contact}
-use Rattle.lisp_server.specs.declared.refused.Refused.{Refused}
-use Rattle.lisp_server.specs.declared.refused.Refused.TheVariants as refusals
+use Rattle.lisp_checks.specs.declared.refused.Refused.{Refused}
+use Rattle.lisp_checks.specs.declared.refused.Refused.TheVariants as refusals
 use Rattle.lisp_server.specs.declared.accepted_rows.Origin.{Origin}
 use Rattle.lisp_server.specs.declared.tables.Tables.{Tables}
 use Rattle.lisp_server.specs.declared.took.Took.{Took}
 use Rattle.lisp_records.specs.Result.{◌>>=◌}
-use Rattle.lisp_server.specs.Checks.{Passed, secret_under, register_checked, check, refused_at, first_not_allowed}
-use Rattle.lisp_server.specs.Contacts.{SetsContact, secret_at, IsHeard, Knows}
+use Rattle.lisp_checks.specs.Checks.{secret_under, check, refused_at, first_not_allowed, secret_at}
+use Rattle.lisp_server.specs.Checks.{Passed, register_checked}
+use Rattle.lisp_server.specs.Contacts.{SetsContact, IsHeard, Knows}
 use Rattle.lisp_server.specs.Receiving.{Accepts, contact_of}
-use Rattle.lisp_server.specs.AcceptedRows.{router_of, origin_of, holding, holdings}
+use Rattle.lisp_checks.specs.Pairs.{router_of}
+use Rattle.lisp_server.specs.AcceptedRows.{origin_of, holding, holdings}
 use Rattle.lisp_server.specs.Server.{SameTables, state_of}
 
 -- no row, no router

@@ -5,3 +5,4 @@ pub mod NoticeLaws
 pub mod KnownLaws
 pub mod SendNoticeLaws
 pub mod ReceivingLaws
+pub mod AcceptLaws

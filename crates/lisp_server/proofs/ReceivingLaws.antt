@@ -15,22 +15,25 @@ use Rattle.lisp_store.specs.declared.pair.Pair.{Pair}
 use Rattle.lisp_store.specs.declared.fault.StoreFault.{StoreFault}
 use Rattle.lisp_store.specs.Kept.{Kept, kept_at, SameElsewhere, InDoubt}
 use Rattle.lisp_store.specs.Store.{StoreState, Rose, Proceeds}
-use Rattle.lisp_server.specs.declared.refused.Refused.{Refused}
-use Rattle.lisp_server.specs.declared.refused.Refused.TheVariants as refusals
+use Rattle.lisp_checks.specs.declared.refused.Refused.{Refused}
+use Rattle.lisp_checks.specs.declared.refused.Refused.TheVariants as refusals
 use Rattle.lisp_server.specs.declared.contacts.Contact.{Contact}
 use Rattle.lisp_server.specs.declared.tables.Tables.{Tables}
 use Rattle.lisp_server.specs.declared.took.Took.{Took}
 use Rattle.lisp_server.specs.declared.took.Took.TheVariants.{Accepted, NoticeDone}
-use Rattle.lisp_server.specs.Refused.{refused_of_read}
-use Rattle.lisp_server.specs.AcceptedRows.{router_of, pair_of, holdings}
+use Rattle.lisp_checks.specs.Refused.{refused_of_read}
+use Rattle.lisp_checks.specs.Pairs.{router_of, pair_of}
+use Rattle.lisp_server.specs.AcceptedRows.{holdings}
 use Rattle.lisp_lookup.specs.Table.{Sets}
 use Rattle.lisp_server.specs.LastNonces.{Nonces, nonce_at, SetsNonce}
 use Rattle.lisp_server.specs.Contacts.{SetsContact}
 use Rattle.lisp_server.specs.Notices.{Standing, EndsNotice}
 use Rattle.lisp_server.specs.Server.{ServerState, SameTables, state_of}
 use Rattle.lisp_records.specs.Result.{◌>>=◌}
-use Rattle.lisp_server.specs.Checks.{Passed, secret_under, register_checked, Acknowledges, RefusesAck, notification_of, reply_of, check, refused_at, first_not_allowed}
-use Rattle.lisp_server.specs.Receiving.{IsFresh, KeepsLists, Unasked, HasCause, Stops, NotKept, Accepts, Takes, OutOfRoom, RefusesRegister, RefusesRead, Refuses, SaveFailed}
+use Rattle.lisp_checks.specs.Checks.{secret_under, check, refused_at, first_not_allowed}
+use Rattle.lisp_server.specs.Checks.{Passed, register_checked, Acknowledges, RefusesAck, notification_of, reply_of}
+use Rattle.lisp_checks.specs.Nonces.{IsFresh, KeepsLists, Unasked, HasCause, Stops, NotKept}
+use Rattle.lisp_server.specs.Receiving.{Accepts, Takes, OutOfRoom, RefusesRegister, RefusesRead, Refuses, SaveFailed}
 
 abbrev register_passed : Registration → List ℕ → Result Passed Refused
 register_passed m secret = Ok (record { message = m; secret = secret })

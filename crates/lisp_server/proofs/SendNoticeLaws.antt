@@ -20,11 +20,12 @@ use Rattle.lisp_lookup.specs.Records.{live_of, ByPrefix}
 use Rattle.lisp_lookup.proofs.LiveLaws.{some_row}
 use Rattle.lisp_server.specs.declared.contacts.Contact.{Contact}
 use Rattle.lisp_server.specs.declared.tables.Tables.{Tables}
-use Rattle.lisp_server.specs.SendNotice.{IsRegistered, Announces, Follows, notice_of}
+use Rattle.lisp_checks.specs.Nonces.{Follows, nonce_after, KeepsLists}
+use Rattle.lisp_server.specs.SendNotice.{IsRegistered, Announces, notice_of}
 use Rattle.lisp_server.specs.Contacts.{IsHeard, Knows}
 use Rattle.lisp_server.specs.LastNonces.{Nonces, nonce_at, SetsNonce}
-use Rattle.lisp_server.specs.Notices.{Standing, SetsNotice, notice_pair, nonce_after}
-use Rattle.lisp_server.specs.Receiving.{KeepsLists}
+use Rattle.lisp_checks.specs.Pairs.{notice_pair}
+use Rattle.lisp_server.specs.Notices.{Standing, SetsNotice}
 use Rattle.lisp_server.specs.Server.{SameTables, state_of}
 use Rattle.lisp_server.proofs.ContactLaws.{contact_router}
 

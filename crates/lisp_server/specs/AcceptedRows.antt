@@ -2,21 +2,11 @@
 -- 8.2).
 use Rattle.std.specs.Prelude.{ℕ, ◌*◌, ◌==◌, Bool, List, map, if◌then◌else◌}
 use Rattle.lisp_records.specs.declared.address.Addr.{Addr}
-use Rattle.lisp_records.specs.declared.router.RouterId.{RouterId}
 use Rattle.lisp_records.specs.Record.{Mapping}
 use Rattle.lisp_records.specs.Row.{Holding}
 use Rattle.lisp_messages.specs.Message.{Registration}
-use Rattle.lisp_store.specs.declared.pair.Pair.{Pair}
-use Rattle.lisp_store.specs.declared.pair.PairKind.TheVariants.{Received}
 use Rattle.lisp_server.specs.declared.accepted_rows.Origin.{Origin}
-
--- the router that sent it
-abbrev pub router_of : Registration → RouterId
-router_of m = record { site = m.site; xtr = m.xtr }
-
--- what its nonce is kept for
-abbrev pub pair_of : Registration → Pair
-pair_of m = record { kind = Received; router = router_of m; key = m.key_id }
+use Rattle.lisp_checks.specs.Pairs.{router_of}
 
 -- three minutes, in ms
 abbrev pub three_minutes : ℕ

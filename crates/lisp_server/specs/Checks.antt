@@ -1,37 +1,15 @@
 -- What a Map-Server checks of bytes before it looks at a nonce (RFC 9301 section 8.2).
-use Rattle.std.specs.Prelude.{◌≡◌, ℕ, Bool, true, false, not, List, Option, Some, None, Result, Ok, Err, position, ok_or, if◌then◌else◌}
-use Rattle.lisp_records.specs.Record.{Mapping}
+use Rattle.std.specs.Prelude.{◌≡◌, ℕ, Bool, true, false, List, Option, Some, None, Result, Ok, if◌then◌else◌}
 use Rattle.lisp_records.specs.Result.{◌>>=◌}
 use Rattle.lisp_messages.specs.Message.{Registration, Notification}
 use Rattle.lisp_records.specs.declared.address.Addr.{Addr}
 use Rattle.lisp_messages.specs.Authentic.{is_authentic, signed}
 use Rattle.lisp_messages.specs.Written.{written_notify}
-use Rattle.lisp_sites.specs.Site.{SiteEntry, is_allowed, site_of, secret_of}
-use Rattle.lisp_server.specs.declared.refused.Refused.{Refused}
-use Rattle.lisp_server.specs.declared.refused.Refused.TheVariants.{UnknownSite, UnknownKey, BadAuth, MergeAsked, NotAllowed, NoNotice, NotMine}
-use Rattle.lisp_server.specs.Contacts.{secret_at}
+use Rattle.lisp_sites.specs.Site.{SiteEntry}
+use Rattle.lisp_checks.specs.declared.refused.Refused.{Refused}
+use Rattle.lisp_checks.specs.declared.refused.Refused.TheVariants.{BadAuth, NoNotice, NotMine}
+use Rattle.lisp_checks.specs.Checks.{secret_under, secret_at}
 use Rattle.lisp_server.specs.Notices.{Standing, IsAwaiting, NoneAwaits}
-
--- the place of the first record that the site doesn't allow
-abbrev pub first_not_allowed : SiteEntry → List Mapping → Option ℕ
-first_not_allowed site records = position (λ r. not (is_allowed site r.eid)) records
-
--- a check: the refusal, unless the test holds
-abbrev pub check : Bool → Refused → Result Bool Refused
-check holds refused = if holds then Ok holds else Err refused
-
-abbrev pub refused_at : Option ℕ → List ℕ → Result (List ℕ) Refused
-refused_at None secret = Ok secret
-refused_at (Some place) secret = Err (NotAllowed place)
-
--- the secret that a Map-Register stands under, or the first check that it fails
-unfoldable pub secret_under : List SiteEntry → List ℕ → Registration → Result (List ℕ) Refused
-secret_under sites bytes m = do
-  site ← ok_or (site_of sites m.site) UnknownSite
-  secret ← ok_or (secret_of site m.key_id) UnknownKey
-  _ ← check (is_authentic bytes secret) BadAuth
-  _ ← check (not m.merge) MergeAsked
-  refused_at (first_not_allowed site m.records) secret
 
 -- a Map-Register that passes all checks, with its secret
 pub record Passed : Type 0 where

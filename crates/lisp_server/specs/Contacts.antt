@@ -1,14 +1,14 @@
 -- Where each router was heard last: the source address and the key of its last accepted Map-Register.
 use Rattle.std.specs.Prelude.{◌≡◌, ◌≢◌, ℕ, List, Bool, Option, Some}
 use Rattle.std.specs.List.{find}
-use Rattle.std.specs.Option.{option_and_then}
 use Rattle.lisp_records.specs.declared.router.RouterId.{RouterId}
 use Rattle.lisp_records.specs.Address.{Block}
 use Rattle.lisp_records.specs.Router.{router_eq}
 use Rattle.lisp_records.specs.Row.{Holding}
-use Rattle.lisp_sites.specs.Site.{SiteEntry, site_of, secret_of}
+use Rattle.lisp_sites.specs.Site.{SiteEntry}
 use Rattle.lisp_lookup.specs.Table.{row_at}
 use Rattle.lisp_server.specs.declared.contacts.Contact.{Contact}
+use Rattle.lisp_checks.specs.Checks.{secret_at}
 
 abbrev pub is_contact_of : RouterId → Contact → Bool
 is_contact_of router c = router_eq c.router router
@@ -20,10 +20,6 @@ contact_at contacts router = find (is_contact_of router) contacts
 pub record SetsContact (old new : List Contact) (c : Contact) : Type 0 where
   pub here : contact_at new c.router ≡ Some c
   pub others : (other : RouterId) → other ≢ c.router → contact_at new other ≡ contact_at old other
-
--- the secret of a key of a site
-abbrev pub secret_at : List SiteEntry → ℕ → ℕ → Option (List ℕ)
-secret_at sites site key = option_and_then (λ s. secret_of s key) (site_of sites site)
 
 -- the router was heard, under a key that its site has a secret for
 pub record IsHeard (sites : List SiteEntry) (contacts : List Contact) (router : RouterId) : Type 0 where

@@ -1,10 +1,8 @@
-pub mod Refused
 pub mod Took
 pub mod AcceptedRows
 pub mod LastNonces
 pub mod Contacts
 pub mod Notices
-pub mod NoticeFault
 pub mod Server
 pub mod Checks
 pub mod Receiving

@@ -1,6 +1,6 @@
 -- Notices: the unsolicited Map-Notifies of a Map-Server, each of which it sends again, up to six times, until it
 -- is acknowledged (RFC 9301 sections 5.7 and 8.2).
-use Rattle.std.specs.Prelude.{◌≡◌, ◌≢◌, ℕ, ◌+◌, ◌*◌, ◌^◌, max, nat_le, ◌==◌, Bool, true, false, ◌&&◌, List, [], ◌∷◌, length, replicate, slice_get, Option, Some, None, if◌then◌else◌}
+use Rattle.std.specs.Prelude.{◌≡◌, ◌≢◌, ℕ, ◌+◌, ◌*◌, nat_le, ◌==◌, Bool, true, false, ◌&&◌, List, [], ◌∷◌, length, slice_get, Option, Some, None, if◌then◌else◌}
 use Rattle.std.specs.Ordering.{is_lt}
 use Rattle.std.specs.List.{AllPairs, find}
 use Rattle.std.specs.Option.{option_map}
@@ -10,19 +10,8 @@ use Rattle.lisp_records.specs.declared.router.RouterId.{RouterId}
 use Rattle.lisp_records.specs.Address.{addr_eq}
 use Rattle.lisp_records.specs.Moment.{second}
 use Rattle.lisp_records.specs.Router.{router_eq, router_cmp}
-use Rattle.lisp_store.specs.declared.pair.Pair.{Pair}
-use Rattle.lisp_store.specs.declared.pair.PairKind.TheVariants as kinds
-use Rattle.lisp_store.specs.Kept.{number}
-use Rattle.lisp_server.specs.declared.notice_fault.NoticeFault.{NoticeFault}
-use Rattle.lisp_server.specs.declared.notice_fault.NoticeFault.TheVariants.{OutOfMemory, NotDue}
-
--- what the nonces of all notices of a Map-Server are kept for
-abbrev pub notice_pair : Pair
-notice_pair = record { kind = kinds.Notice; router = record { site = 0; xtr = replicate 16 0 }; key = 0 }
-
--- the nonce after the last one, where there is one: the lower half is the routers' own
-abbrev pub nonce_after : Option ℕ → ℕ
-nonce_after last = max (2 ^ 63) (number last + 1)
+use Rattle.lisp_checks.specs.declared.notice_fault.NoticeFault.{NoticeFault}
+use Rattle.lisp_checks.specs.declared.notice_fault.NoticeFault.TheVariants.{OutOfMemory, NotDue}
 
 -- how long after a notice's first, second .. sixth sending the next one is due
 abbrev pub gaps : List ℕ

@@ -1,6 +1,5 @@
 -- What a Map-Server makes of a message (RFC 9301 sections 5.6 and 8.2).
-use Rattle.std.specs.Prelude.{◌≡◌, ◌≢◌, ◌<◌, ◌≤◌, ◌⊎◌, ℕ, List, [], ◌∷◌, Option, Some, None, Result, Ok, Err, IfSome, IsTrue}
-use Rattle.std.specs.List.{Contains}
+use Rattle.std.specs.Prelude.{◌≡◌, ◌≢◌, ◌≤◌, ◌⊎◌, ℕ, List, [], ◌∷◌, Option, Some, None, Result, Ok, Err, IsTrue}
 use Rattle.lisp_records.specs.declared.address.Addr.{Addr}
 use Rattle.lisp_records.specs.declared.router.RouterId.{RouterId}
 use Rattle.lisp_messages.specs.Message.{Registration, Registers, Notification, IsNotification, Notifies, Said}
@@ -9,64 +8,25 @@ use Rattle.lisp_store.specs.declared.pair.Pair.{Pair}
 use Rattle.lisp_store.specs.declared.fault.StoreFault.{StoreFault}
 use Rattle.lisp_store.specs.declared.fault.StoreFault.TheVariants as faults
 use Rattle.lisp_store.specs.Kept.{kept_at, SameElsewhere, InDoubt}
-use Rattle.lisp_store.specs.Store.{StoreState, Rose}
-use Rattle.lisp_server.specs.declared.refused.Refused.{Refused}
-use Rattle.lisp_server.specs.declared.refused.Refused.TheVariants.{Read, StoreLoad, Replay, OutOfMemory, StoreSave}
+use Rattle.lisp_store.specs.Store.{StoreState}
+use Rattle.lisp_checks.specs.declared.refused.Refused.{Refused}
+use Rattle.lisp_checks.specs.declared.refused.Refused.TheVariants.{Read, StoreLoad, Replay, OutOfMemory, StoreSave}
 use Rattle.lisp_server.specs.declared.took.Took.{Took}
 use Rattle.lisp_server.specs.declared.took.Took.TheVariants.{Accepted, NoticeDone}
 use Rattle.lisp_server.specs.declared.contacts.Contact.{Contact}
-use Rattle.lisp_server.specs.AcceptedRows.{router_of, pair_of, holdings}
+use Rattle.lisp_checks.specs.Pairs.{router_of, pair_of}
+use Rattle.lisp_server.specs.AcceptedRows.{holdings}
 use Rattle.lisp_lookup.specs.Table.{Sets}
 use Rattle.lisp_server.specs.LastNonces.{nonce_at, SetsNonce}
 use Rattle.lisp_server.specs.Contacts.{SetsContact}
 use Rattle.lisp_server.specs.Notices.{Standing, EndsNotice}
 use Rattle.lisp_server.specs.Server.{ServerState}
 use Rattle.lisp_server.specs.Checks.{Passed, register_checked, Acknowledges, RefusesAck, notification_of, reply_of}
+use Rattle.lisp_checks.specs.Nonces.{IsBase, IsBelow, IsFresh, KeepsLists, Unasked, HasCause}
 
--- the number that a nonce has to be above: the pair's last since the start, or where there is none
--- a value that the store may answer
-abbrev pub IsBase : Option ℕ → StoreState → Pair → Option ℕ → Type 0
-IsBase (Some last) store pair base = base ≡ Some last
-IsBase None store pair base = IsTrue store.is_honest → Contains (kept_at store.kept pair) base
-
--- 'nothing' is below each nonce
-abbrev pub IsBelow : Option ℕ → ℕ → Type 0
-IsBelow None nonce = Unit {0}
-IsBelow (Some base) nonce = base < nonce
-
--- the nonce is above its base
-abbrev pub IsFresh : Option ℕ → StoreState → Pair → ℕ → Type 0
-IsFresh last store pair nonce = (base : Option ℕ) × IsBase last store pair base × IsBelow base nonce
-
--- no list of the store changed
-abbrev pub KeepsLists : StoreState → StoreState → Type 0
-KeepsLists before after = IsTrue before.is_honest → after.kept ≡ before.kept
-
--- where the last nonce is known the store is untouched
-abbrev pub Unasked : Option ℕ → StoreState → StoreState → Type 0
-Unasked last before after = IfSome last (λ _. after ≡ before)
-
--- a fault other than out of memory comes only where a device failed in between
-abbrev pub HasCause : StoreFault → StoreState → StoreState → Type 0
-HasCause fault before after = fault ≢ faults.OutOfMemory → Rose before after
-
--- the pair's base is not in memory, and can't be loaded: a device failed, or memory ran out, which changes nothing
-abbrev pub Unknown : Option ℕ → StoreState → StoreState → StoreFault → Type 0
-Unknown last before after fault = (last ≡ None) × HasCause fault before after × (fault ≡ faults.OutOfMemory → after ≡ before)
-
--- why a nonce is not let through: its base can't be loaded, or is not below it
-abbrev pub Stops : Option ℕ → StoreState → StoreState → Pair → ℕ → Refused → Type 0
-Stops last before after pair nonce (StoreLoad fault) = Unknown last before after fault
-Stops last before after pair nonce (Replay saved) = IsBase last before pair (Some saved) × (nonce ≤ saved)
-Stops last before after pair nonce _ = ⊥
-
--- a nonce isn't saved, and what may be kept of it
-abbrev pub Unsaved : StoreState → StoreState → Pair → ℕ → StoreFault → Type 0
-Unsaved before after pair nonce fault = HasCause fault before after × (fault ≢ faults.Damaged) × (IsTrue before.is_honest → InDoubt (kept_at before.kept pair) (kept_at after.kept pair) nonce) × (fault ≡ faults.OutOfMemory → after ≡ before)
-
-abbrev pub NotKept : StoreState → StoreState → Pair → ℕ → Refused → Type 0
-NotKept before after pair nonce (StoreSave fault) = Unsaved before after pair nonce fault
-NotKept before after pair nonce _ = ⊥
+-- the nonce is above each value that may be its base
+abbrev pub IsAboveAnyBase : Option ℕ → StoreState → Pair → ℕ → Type 0
+IsAboveAnyBase last store pair nonce = (base : Option ℕ) → IsBase last store pair base → IsBelow base nonce
 
 -- where a router was heard last
 abbrev pub contact_of : Registration → Addr → Contact
@@ -161,3 +121,11 @@ RefusesRead (Err fault) from bytes old before after why = (why ≡ Read fault) �
 abbrev pub Refuses : Result Said ReadFault → Addr → List ℕ → ServerState → StoreState → StoreState → Refused → Type 0
 Refuses said from bytes old before after OutOfMemory = (after ≡ before) ⊎ RefusesRead said from bytes old before after OutOfMemory
 Refuses said from bytes old before after why = RefusesRead said from bytes old before after why
+
+-- what was read is a Map-Register that passes all checks, with a nonce above each value that may be its base
+pub record IsAcceptable (said : Result Said ReadFault) (bytes : List ℕ) (s : ServerState) (store : StoreState) : Type 0 where
+  pub register : Registration
+  pub spelled : said ≡ Ok (Registers register)
+  pub passed : Passed
+  pub checks : register_checked s.sites bytes register ≡ Ok passed
+  pub fresh : IsAboveAnyBase (nonce_at s.nonces (pair_of passed.message)) store (pair_of passed.message) passed.message.nonce

@@ -1,5 +1,5 @@
 -- What comes of a call to send a router an unsolicited Map-Notify (notice) (RFC 9301 section 5.7).
-use Rattle.std.specs.Prelude.{◌≡◌, ◌≢◌, ◌<◌, ◌-◌, ◌^◌, ℕ, List, [], ◌∷◌, Option, Some, None, Ok, Err, IsTrue, false}
+use Rattle.std.specs.Prelude.{◌≡◌, ◌≢◌, ◌-◌, ◌^◌, ℕ, List, [], ◌∷◌, Option, Some, None, Ok, Err, IsTrue, false}
 use Rattle.lisp_records.specs.declared.address.Addr.{Addr}
 use Rattle.lisp_records.specs.declared.database.DatabaseFault.{DatabaseFault}
 use Rattle.lisp_records.specs.declared.router.RouterId.{RouterId}
@@ -10,15 +10,16 @@ use Rattle.lisp_messages.specs.Authentic.{signed}
 use Rattle.lisp_messages.specs.Written.{written_notify}
 use Rattle.lisp_store.specs.declared.fault.StoreFault.{StoreFault}
 use Rattle.lisp_store.specs.declared.fault.StoreFault.TheVariants as faults
-use Rattle.lisp_store.specs.Kept.{kept_at, number, SameElsewhere, InDoubt}
+use Rattle.lisp_store.specs.Kept.{kept_at, SameElsewhere, InDoubt}
 use Rattle.lisp_store.specs.Store.{StoreState}
 use Rattle.lisp_lookup.specs.Records.{live_of, ByPrefix}
-use Rattle.lisp_server.specs.declared.notice_fault.NoticeFault.{NoticeFault}
-use Rattle.lisp_server.specs.declared.notice_fault.NoticeFault.TheVariants.{NotRegistered, TooLarge, StoreLoad, NonceSpent, OutOfMemory, StoreSave, NotDue}
+use Rattle.lisp_checks.specs.declared.notice_fault.NoticeFault.{NoticeFault}
+use Rattle.lisp_checks.specs.declared.notice_fault.NoticeFault.TheVariants.{NotRegistered, TooLarge, StoreLoad, NonceSpent, OutOfMemory, StoreSave, NotDue}
 use Rattle.lisp_server.specs.Contacts.{IsHeard}
 use Rattle.lisp_server.specs.LastNonces.{nonce_at, SetsNonce}
-use Rattle.lisp_server.specs.Notices.{notice_pair, nonce_after, SetsNotice}
-use Rattle.lisp_server.specs.Receiving.{IsBase, KeepsLists, Unasked, Unknown, Unsaved, HasCause}
+use Rattle.lisp_checks.specs.Pairs.{notice_pair}
+use Rattle.lisp_checks.specs.Nonces.{IsUnspent, nonce_after, IsBase, KeepsLists, Unasked, HasCause}
+use Rattle.lisp_server.specs.Notices.{SetsNotice}
 use Rattle.lisp_server.specs.Server.{ServerState}
 
 -- the router has live records, which make a Database, and was heard
@@ -36,25 +37,6 @@ abbrev pub Unregistered : List Mapping → NoticeFault → Type 0
 Unregistered live NotRegistered = live ≡ []
 Unregistered live TooLarge = (fault : DatabaseFault) × (database_of live ≡ Err fault)
 Unregistered live _ = ⊥
-
--- there is a nonce after it
-abbrev pub IsUnspent : Option ℕ → Type 0
-IsUnspent last = number last < 2 ^ 64 - 1
-
--- the nonce is that of the next notice, by the last one in memory
-abbrev pub Follows : Option ℕ → StoreState → ℕ → Type 0
-Follows known store nonce = (last : Option ℕ) × IsBase known store notice_pair last × IsUnspent last × (nonce ≡ nonce_after last)
-
--- why there is no next nonce
-abbrev pub FollowsNone : Option ℕ → StoreState → StoreState → NoticeFault → Type 0
-FollowsNone known before after (StoreLoad fault) = Unknown known before after fault
-FollowsNone known before after NonceSpent = IsBase known before notice_pair (Some (2 ^ 64 - 1))
-FollowsNone known before after _ = ⊥
-
--- why the nonce of a notice isn't saved
-abbrev pub NoticeNotKept : StoreState → StoreState → ℕ → NoticeFault → Type 0
-NoticeNotKept before after nonce (StoreSave fault) = Unsaved before after notice_pair nonce fault
-NoticeNotKept before after nonce _ = ⊥
 
 -- the Map-Notify of a notice
 abbrev pub notice_of : ℕ → ℕ → List Mapping → Notification

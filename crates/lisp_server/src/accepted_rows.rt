@@ -1,10 +1,13 @@
 //! The rows that an accepted Map-Register sets (RFC 9301 section 5.6).
 
-ghost use Rattle.std.specs.Prelude.{◌≡◌, map, IfOk};
-ghost use Rattle.lisp_server.specs.AcceptedRows.{router_of, life_of, origin_of, holding, holdings};
+ghost use Rattle.std.specs.Prelude.{◌≡◌, map, IfOk, OnErr};
+ghost use Rattle.lisp_checks.specs.Pairs.{router_of};
+ghost use Rattle.lisp_server.specs.AcceptedRows.{life_of, origin_of, holding, holdings};
 ghost use Rattle.lisp_server.specs.Checks.{reply_of};
 
 use crate::reply::reply;
+use lisp_checks::router_of;
+use lisp_memory::{FallibleVec, Memory};
 use lisp_messages::{MapNotify, MapRegister};
 use lisp_records::{Addr, Bytes, MapRecord, RouterId, Row};
 use std::alloc::{AllocError, Allocator};
@@ -14,16 +17,6 @@ const THREE_MINUTES: u64 = 180_000;
 
 /// One minute, which TTLs count, in ms.
 const MINUTE: u64 = 60_000;
-
-/// The router that sent a Map-Register.
-pub(crate) fn router_of<A: Allocator>(register: &MapRegister<A>) -> RouterId
-    ensures { result ≡ router_of register.now }
-{
-    RouterId {
-        site: register.site,
-        xtr: register.xtr,
-    }
-}
 
 /// What all rows of one Map-Register have alike.
 #[derive(Clone, Copy, Debug)]
@@ -68,16 +61,18 @@ impl Origin {
         }
     }
 
-    fn rows<A: Allocator>(
+    fn rows<A: Memory>(
         &self,
         alloc: A,
         records: Vec<MapRecord<A>, A>,
     ) -> Result<Vec<Row<A>, A>, AllocError>
-        ensures { IfOk result (λ rows. rows.items ≡ map (holding self.now) records.items) }
+        ensures rows { IfOk result (λ rows. rows.items ≡ map (holding self.now) records.items) }
+        ensures memory { OnErr result A.may_refuse }
     {
-        let mut rows = Vec::with_capacity(alloc, records.len())?;
+        let mut rows = Vec::new(alloc);
+        rows.make_room(records.len())?;
         for mapping in records {
-            rows.push(self.row(mapping))?;
+            rows.try_push(self.row(mapping))?;
         }
         Ok(rows)
     }
@@ -97,7 +92,7 @@ const fn life_of(use_ttl: bool, ttl: u32) -> u64
 
 /// The rows of the records of a Map-Register from an address that is accepted at a time, in ms, and the
 /// Map-Notify that answers it, where it wants one.
-pub(crate) fn rows_and_reply<A: Allocator + Copy>(
+pub(crate) fn rows_and_reply<A: Memory + Copy>(
     alloc: A,
     secret: &[u8],
     register: MapRegister<A>,
@@ -106,6 +101,7 @@ pub(crate) fn rows_and_reply<A: Allocator + Copy>(
 ) -> Result<(Vec<Row<A>, A>, Option<Bytes<A>>), AllocError>
     ensures rows { IfOk result (λ x. x.0.items ≡ holdings register from now) }
     ensures reply { IfOk result (λ x. x.1 ≡ reply_of secret.now register) }
+    ensures memory { OnErr result A.may_refuse }
 {
     let origin = Origin::of(&register, from, now);
     let wanted = register.want_notify;

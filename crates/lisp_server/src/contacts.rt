@@ -1,9 +1,10 @@
 //! Where a Map-Server heard each router last.
 
-ghost use Rattle.std.specs.Prelude.{◌≡◌, ◌<◌, [], OnOk};
+ghost use Rattle.std.specs.Prelude.{◌≡◌, ◌<◌, [], OnOk, OnErr};
 ghost use Rattle.std.specs.List.{position};
 ghost use Rattle.lisp_server.specs.Contacts.{is_contact_of, contact_at, SetsContact};
 
+use lisp_memory::{FallibleVec, Memory};
 use lisp_records::{Addr, RouterId};
 use std::alloc::{AllocError, Allocator};
 use std::marker::Model;
@@ -49,14 +50,6 @@ impl<A: Allocator> Contacts<A> {
         Some(self.items[place(&self.items, *router)?])
     }
 
-    /// Makes room for one more contact.
-    pub(crate) fn prepare(&mut self) -> Result<(), AllocError>
-        ensures same { self.new.contacts ≡ self.old.contacts }
-        ensures room { OnOk result (0 < self.new.spare) }
-    {
-        self.items.reserve(1)
-    }
-
     /// Sets the contact of its router. Takes no memory.
     #[tactic(auto, using(crate::proofs::ContactLaws::contact_set, crate::proofs::ContactLaws::contact_pushed))]
     pub(crate) fn set(&mut self, contact: Contact)
@@ -67,6 +60,17 @@ impl<A: Allocator> Contacts<A> {
             Some(place) => self.items[place] = contact,
             None => self.items.push_reserved(contact),
         }
+    }
+}
+
+impl<A: Memory> Contacts<A> {
+    /// Makes room for one more contact.
+    pub(crate) fn prepare(&mut self) -> Result<(), AllocError>
+        ensures same { self.new.contacts ≡ self.old.contacts }
+        ensures room { OnOk result (0 < self.new.spare) }
+        ensures memory { OnErr result A.may_refuse }
+    {
+        self.items.make_room(1)
     }
 }
 

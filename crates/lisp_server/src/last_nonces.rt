@@ -1,25 +1,15 @@
 //! The last nonces since a Map-Server's start, in memory: of the Map-Registers that it accepted, and of the
 //! unsolicited Map-Notifies (notices) that it sent.
 
-ghost use Rattle.std.specs.Prelude.{◌≡◌, ◌<◌, Some, OnOk};
+ghost use Rattle.std.specs.Prelude.{◌≡◌, ◌<◌, Some, OnOk, OnErr};
 ghost use Rattle.std.specs.FinMap.{empty};
 ghost use Rattle.std.specs.List.{position};
 ghost use Rattle.lisp_server.specs.LastNonces.{nonce_at, SetsNonce, is_of, nonces_of};
 
-use lisp_records::RouterId;
-use lisp_store::{Pair, PairKind};
+use lisp_memory::{FallibleVec, Memory};
+use lisp_store::Pair;
 use std::alloc::{AllocError, Allocator};
 use std::marker::Model;
-
-/// The pair of the nonces of all notices.
-pub(crate) const NOTICES: Pair = Pair {
-    kind: PairKind::Notice,
-    router: RouterId {
-        site: 0,
-        xtr: [0; 16],
-    },
-    key: 0,
-};
 
 /// A pair, and its last nonce.
 #[derive(Clone, Copy, Debug, PartialEq, Eq)]
@@ -65,14 +55,6 @@ impl<A: Allocator> LastNonces<A> {
         Some(self.items[place(&self.items, pair)?].nonce)
     }
 
-    /// Makes room for the last nonce of one more pair.
-    pub(crate) fn prepare(&mut self) -> Result<(), AllocError>
-        ensures same { self.new.nonces ≡ self.old.nonces }
-        ensures room { OnOk result (0 < self.new.spare) }
-    {
-        self.items.reserve(1)
-    }
-
     /// Sets the last nonce of a pair. Takes no memory.
     #[tactic(auto, using(crate::proofs::NonceLaws::nonce_set, crate::proofs::NonceLaws::nonce_pushed))]
     pub(crate) fn set(&mut self, pair: Pair, nonce: u64)
@@ -83,6 +65,17 @@ impl<A: Allocator> LastNonces<A> {
             Some(place) => self.items[place] = LastNonce { pair, nonce },
             None => self.items.push_reserved(LastNonce { pair, nonce }),
         }
+    }
+}
+
+impl<A: Memory> LastNonces<A> {
+    /// Makes room for the last nonce of one more pair.
+    pub(crate) fn prepare(&mut self) -> Result<(), AllocError>
+        ensures same { self.new.nonces ≡ self.old.nonces }
+        ensures room { OnOk result (0 < self.new.spare) }
+        ensures memory { OnErr result A.may_refuse }
+    {
+        self.items.make_room(1)
     }
 }
 

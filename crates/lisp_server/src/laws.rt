@@ -1,7 +1,18 @@
-//! What holds of the timer of an unsolicited Map-Notify (notice): each function's contract is a law, and its
-//! body is empty.
+//! What holds of the timer of an unsolicited Map-Notify (notice), and which Map-Registers are accepted: each
+//! function's contract is a law.
 
+ghost use Rattle.std.specs.Prelude.{IfOk, IsOk};
+ghost use Rattle.lisp_store.specs.Store.{Rose};
+ghost use Rattle.lisp_messages.specs.Reading.{message_at};
 ghost use Rattle.lisp_server.specs.Notices.{PromptNotices, NoticesKeepTime};
+ghost use Rattle.lisp_server.specs.Receiving.{IsAcceptable, Takes};
+
+use crate::server::Server;
+use crate::took::Took;
+use lisp_checks::Refused;
+use lisp_memory::Memory;
+use lisp_records::Addr;
+use lisp_store::NonceStore;
 
 /// A notice that is sent again each time when it is due goes out 3, 6, 9, 15, 27 and 51 s after it was first
 /// sent, and then no more.
@@ -15,3 +26,18 @@ pub fn prompt_notices()
 pub fn notices_keep_time()
     ensures { NoticesKeepTime }
 {}
+
+/// Over memory that is never refused, a Map-Register that passes all checks with a nonce above each value that
+/// may be its base is accepted, unless the store's device failed.
+pub fn accepts_exactly<S: NonceStore, A: Memory + Copy>(
+    server: &mut Server<A>,
+    store: &mut S,
+    from: Addr,
+    bytes: &[u8],
+    now: u64,
+) -> Result<Took<A>, Refused>
+    ensures accepts { (A.may_refuse → ⊥) → (S.may_refuse → ⊥) → (Rose (S.seen store.old) (S.seen store.new) → ⊥) → IsAcceptable (message_at bytes.now) bytes.now server.old (S.seen store.old) → IsOk result }
+    ensures only { IfOk result (λ took. Takes (message_at bytes.now) from bytes.now server.old server.new (S.seen store.old) (S.seen store.new) now took) }
+{
+    server.receive(store, from, bytes, now)
+}

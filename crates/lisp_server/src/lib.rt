@@ -5,16 +5,12 @@
 
 mod accepted_rows;
 mod arrival;
-mod checks;
 mod contacts;
 mod last_nonces;
 pub mod laws;
-mod notice_fault;
 mod receive_ack;
 mod receive_register;
-mod refused;
 mod reply;
-mod saved_nonces;
 mod send_notice;
 mod server;
 mod standing_notice;
@@ -22,7 +18,6 @@ mod standing_notices;
 mod tables;
 mod took;
 
-pub use notice_fault::NoticeFault;
-pub use refused::Refused;
+pub use lisp_checks::{NoticeFault, Refused};
 pub use server::Server;
 pub use took::Took;

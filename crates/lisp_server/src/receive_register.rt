@@ -1,20 +1,21 @@
 //! Receiving a Map-Register.
 
-ghost use Rattle.std.specs.Prelude.{◌≡◌, IfOk, IfErr, OnErr};
+ghost use Rattle.std.specs.Prelude.{◌≡◌, IfOk, IfErr, IsErrOf, OnErr};
+ghost use Rattle.lisp_store.specs.declared.fault.StoreFault.{StoreFault};
 ghost use Rattle.lisp_store.specs.Store.{Proceeds};
-ghost use Rattle.lisp_server.specs.AcceptedRows.{pair_of};
+ghost use Rattle.lisp_checks.specs.Pairs.{pair_of};
 ghost use Rattle.lisp_messages.specs.Message.{IsNotification};
 ghost use Rattle.lisp_server.specs.Checks.{register_checked, notification_of};
 ghost use Rattle.lisp_server.specs.Receiving.{Accepts, RefusesRegister};
 ghost use Rattle.lisp_server.specs.Server.{SameTables, state_of};
+ghost use Rattle.lisp_checks.specs.declared.refused.Refused.{Refused};
 
-use crate::accepted_rows::{router_of, rows_and_reply};
+use crate::accepted_rows::rows_and_reply;
 use crate::arrival::Arrival;
-use crate::checks::secret_under;
-use crate::refused::Refused;
-use crate::saved_nonces::{check_nonce, save_nonce};
 use crate::tables::Tables;
 use crate::took::Took;
+use lisp_checks::{Refused, check_nonce, pair_of, save_nonce, secret_under};
+use lisp_memory::Memory;
 use lisp_messages::MapRegister;
 use lisp_sites::Sites;
 use lisp_store::{NonceStore, Pair, PairKind};
@@ -22,7 +23,7 @@ use std::alloc::Allocator;
 
 /// Receives a Map-Register that was read from the bytes of an arrival. All that takes memory comes before
 /// its nonce is saved; what the tables hold changes only after that.
-pub(crate) fn receive_register<S: NonceStore, A: Allocator + Copy>(
+pub(crate) fn receive_register<S: NonceStore, A: Memory + Copy>(
     alloc: A,
     sites: &Sites<A>,
     tables: &mut Tables<A>,
@@ -34,6 +35,9 @@ pub(crate) fn receive_register<S: NonceStore, A: Allocator + Copy>(
     ensures accepted { IfOk result (λ took. Accepts (register_checked sites.now arrival.entry.bytes.now register) (state_of sites.now tables.old) (state_of sites.now tables.new) (S.seen store.old) (S.seen store.new) arrival.entry.from arrival.entry.now took) }
     ensures refused { IfErr result (λ why. RefusesRegister (register_checked sites.now arrival.entry.bytes.now register) (state_of sites.now tables.old) (S.seen store.old) (S.seen store.new) why) }
     ensures err { OnErr result (SameTables tables.old tables.new) }
+    ensures memory { IsErrOf result Refused.OutOfMemory → A.may_refuse }
+    ensures load_memory { IsErrOf result (Refused.StoreLoad StoreFault.OutOfMemory) → S.may_refuse }
+    ensures save_memory { IsErrOf result (Refused.StoreSave StoreFault.OutOfMemory) → S.may_refuse }
     ensures proceeds { Proceeds (S.seen store.old) (S.seen store.new) }
 {
     let secret = secret_under(sites, arrival.bytes, &register)?;
@@ -50,17 +54,6 @@ pub(crate) fn receive_register<S: NonceStore, A: Allocator + Copy>(
         nonce,
         reply,
     })
-}
-
-// What the nonce of a Map-Register is kept for.
-fn pair_of<A: Allocator>(register: &MapRegister<A>) -> Pair
-    ensures { result ≡ pair_of register.now }
-{
-    Pair {
-        kind: PairKind::Received,
-        router: router_of(register),
-        key: register.key_id,
-    }
 }
 
 fn nonce_of<A: Allocator>(register: &MapRegister<A>) -> u64

@@ -1,21 +1,23 @@
 //! The Map-Notify that answers an accepted Map-Register (RFC 9301 section 5.7).
 
-ghost use Rattle.std.specs.Prelude.{◌≡◌, Some, None, IfOk, if◌then◌else◌};
+ghost use Rattle.std.specs.Prelude.{◌≡◌, Some, None, IfOk, OnErr, if◌then◌else◌};
 ghost use Rattle.lisp_messages.specs.Authentic.{signed};
 ghost use Rattle.lisp_messages.specs.Written.{written_notify};
 
+use lisp_memory::Memory;
 use lisp_messages::{MapNotify, write_notify};
 use lisp_records::Bytes;
-use std::alloc::{AllocError, Allocator};
+use std::alloc::AllocError;
 
 /// The bytes of a Map-Notify under a secret, where one is wanted.
-pub(crate) fn reply<A: Allocator>(
+pub(crate) fn reply<A: Memory>(
     alloc: A,
     wanted: bool,
     notify: &MapNotify<A>,
     secret: &[u8],
 ) -> Result<Option<Bytes<A>>, AllocError>
-    ensures { IfOk result (λ reply. reply ≡ (if wanted then Some (signed secret.now (written_notify notify.now)) else None)) }
+    ensures reply { IfOk result (λ reply. reply ≡ (if wanted then Some (signed secret.now (written_notify notify.now)) else None)) }
+    ensures memory { OnErr result A.may_refuse }
 {
     if !wanted {
         return Ok(None);

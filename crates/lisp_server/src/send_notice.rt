@@ -1,7 +1,8 @@
 //! Sending a router an unsolicited Map-Notify (notice) of what is held for it.
 
-ghost use Rattle.std.specs.Prelude.{◌≡◌, ◌≤◌, List, None, length, IfOk, IfErr, IfSome, OnErr};
+ghost use Rattle.std.specs.Prelude.{◌≡◌, ◌≤◌, List, None, length, IfOk, IfErr, IfSome, IsErrOf, OnErr};
 ghost use Rattle.lisp_records.specs.Moment.{max_moment};
+ghost use Rattle.lisp_store.specs.declared.fault.StoreFault.{StoreFault};
 ghost use Rattle.lisp_store.specs.Store.{Proceeds};
 ghost use Rattle.lisp_lookup.specs.Table.{OneEach};
 ghost use Rattle.lisp_lookup.specs.Records.{live_of, ByPrefix};
@@ -12,15 +13,14 @@ ghost use Rattle.lisp_server.specs.SendNotice.{IsRegistered, Announces, RefusesN
 ghost use Rattle.lisp_records.specs.Record.{Mapping};
 ghost use Rattle.lisp_server.specs.Contacts.{IsHeard, Knows};
 ghost use Rattle.lisp_server.specs.Server.{SameTables, state_of};
+ghost use Rattle.lisp_checks.specs.declared.notice_fault.NoticeFault.{NoticeFault};
 
-use crate::checks::secret_at;
 use crate::contacts::{Contact, Contacts};
-use crate::last_nonces::NOTICES;
-use crate::notice_fault::NoticeFault;
-use crate::saved_nonces::{next_nonce, save_notice};
 use crate::standing_notice::StandingNotice;
 use crate::tables::Tables;
+use lisp_checks::{NOTICES, NoticeFault, next_nonce, save_notice, secret_at};
 use lisp_lookup::Table;
+use lisp_memory::Memory;
 use lisp_messages::{MapNotify, write_notify};
 use lisp_records::{Addr, Bytes, Records, RouterId};
 use lisp_sites::Sites;
@@ -29,7 +29,7 @@ use std::alloc::{AllocError, Allocator};
 
 /// Sends a notice to a router at a time, in ms. All that takes memory comes before its nonce is saved; what
 /// the tables hold changes only after that.
-pub(crate) fn send_notice<S: NonceStore, A: Allocator + Copy>(
+pub(crate) fn send_notice<S: NonceStore, A: Memory + Copy>(
     alloc: A,
     sites: &Sites<A>,
     tables: &mut Tables<A>,
@@ -42,6 +42,9 @@ pub(crate) fn send_notice<S: NonceStore, A: Allocator + Copy>(
     ensures announces { IfOk result (λ x. Announces (state_of sites.now tables.old) (state_of sites.now tables.new) (S.seen store.old) (S.seen store.new) router.now now x.0 x.1.items) }
     ensures refused { IfErr result (λ fault. RefusesNotice (state_of sites.now tables.old) (S.seen store.old) (S.seen store.new) router.now now fault) }
     ensures err { OnErr result (SameTables tables.old tables.new) }
+    ensures memory { IsErrOf result NoticeFault.OutOfMemory → A.may_refuse }
+    ensures load_memory { IsErrOf result (NoticeFault.StoreLoad StoreFault.OutOfMemory) → S.may_refuse }
+    ensures save_memory { IsErrOf result (NoticeFault.StoreSave StoreFault.OutOfMemory) → S.may_refuse }
     ensures rows { tables.new.rows.rows ≡ tables.old.rows.rows }
     ensures contacts { tables.new.contacts.contacts ≡ tables.old.contacts.contacts }
     ensures one_each { OneEach tables.old.rows.rows }
@@ -66,7 +69,7 @@ struct Recipient<'s> {
 
 impl Recipient<'_> {
     // The Map-Notify of the router's live records.
-    fn notify<A: Allocator + Copy>(
+    fn notify<A: Memory + Copy>(
         &self,
         alloc: A,
         rows: &Table<A>,
@@ -74,7 +77,8 @@ impl Recipient<'_> {
         nonce: u64,
     ) -> Result<Bytes<A>, AllocError>
         requires few { length (live_of rows.now.rows self.now.contact.router now) ≤ 255 }
-        ensures { IfOk result (λ bytes. (records : List Mapping) × ByPrefix (live_of rows.now.rows self.now.contact.router now) records × (bytes ≡ signed self.now.secret.now (written_notify (notice_of self.now.contact.key nonce records))) × IsNotification (notice_of self.now.contact.key nonce records)) }
+        ensures notice { IfOk result (λ bytes. (records : List Mapping) × ByPrefix (live_of rows.now.rows self.now.contact.router now) records × (bytes ≡ signed self.now.secret.now (written_notify (notice_of self.now.contact.key nonce records))) × IsNotification (notice_of self.now.contact.key nonce records)) }
+        ensures memory { OnErr result A.may_refuse }
     {
         let notify = MapNotify {
             ack: false,
@@ -112,6 +116,7 @@ fn recipient_of<'s, A: Allocator + Copy>(
     requires { Knows sites.now tables.now.rows.rows tables.now.contacts.contacts }
     ensures registered { IfOk result (λ to. (r : IsRegistered (state_of sites.now tables.now) router.now now) × (to.contact ≡ r.heard.contact) × (to.secret.now ≡ r.heard.secret)) }
     ensures refused { IfErr result (λ fault. Unregistered (live_of tables.now.rows.rows router.now now) fault) }
+    ensures plain { ¬ (IsErrOf result NoticeFault.OutOfMemory) }
     ensures one_each { OneEach tables.now.rows.rows }
 {
     let Ok(count) = tables.rows.count_live(router, now) else {

@@ -1,9 +1,10 @@
 //! The Map-Server.
 
-ghost use Rattle.std.specs.Prelude.{◌≡◌, ◌≤◌, [], Err, IfOk, IfErr, OnErr};
+ghost use Rattle.std.specs.Prelude.{◌≡◌, ◌≤◌, [], Err, IfOk, IfErr, IsErrOf, OnErr};
 ghost use Rattle.std.specs.FinMap.{empty};
+ghost use Rattle.lisp_store.specs.declared.fault.StoreFault.{StoreFault};
 ghost use Rattle.lisp_store.specs.Store.{Proceeds};
-ghost use Rattle.lisp_messages.specs.Reading.{kind_at, message_at};
+ghost use Rattle.lisp_messages.specs.Reading.{HasHead, kind_at, message_at};
 ghost use Rattle.lisp_messages.specs.declared.fault.ReadFault.{ReadFault};
 ghost use Rattle.lisp_lookup.specs.Table.{OneEach, Expires, IsHeld};
 ghost use Rattle.lisp_lookup.specs.Answer.{Answers};
@@ -12,21 +13,22 @@ ghost use Rattle.lisp_server.specs.SendNotice.{Announces, RefusesNotice};
 ghost use Rattle.lisp_server.specs.LastNonces.{nonce_at};
 ghost use Rattle.lisp_server.specs.Notices.{OneForEach, IsDueRouter, Resends, RefusesResend};
 ghost use Rattle.lisp_server.specs.Receiving.{Takes, Refuses};
-ghost use Rattle.lisp_server.specs.Refused.{refused_of_read};
-ghost use Rattle.lisp_server.specs.declared.refused.Refused.{Refused};
+ghost use Rattle.lisp_checks.specs.Refused.{refused_of_read};
+ghost use Rattle.lisp_checks.specs.declared.refused.Refused.{Refused};
+ghost use Rattle.lisp_checks.specs.declared.notice_fault.NoticeFault.{NoticeFault};
 
 use crate::arrival::Arrival;
 use crate::contacts::Contacts;
 use crate::last_nonces::LastNonces;
-use crate::notice_fault::NoticeFault;
 use crate::receive_ack::receive_ack;
 use crate::receive_register::receive_register;
-use crate::refused::Refused;
 use crate::send_notice::send_notice;
 use crate::standing_notices::StandingNotices;
 use crate::tables::Tables;
 use crate::took::Took;
+use lisp_checks::{NoticeFault, Refused};
 use lisp_lookup::{Answer, Table};
+use lisp_memory::Memory;
 use lisp_messages::{Message, read_message};
 use lisp_records::{Addr, RouterId, Row};
 use lisp_sites::Sites;
@@ -83,6 +85,47 @@ impl<A: Allocator + Copy> Server<A> {
         self.sites
     }
 
+    /// The least router, by Site-ID, then xTR-ID, to which a notice is due at a time, in ms: a notice is due 3,
+    /// 3, 3, 6, 12 and 24 s after it was last sent, then never. Takes no memory.
+    pub fn due_notices(&self, now: u64) -> Option<RouterId>
+        ensures due { IsDueRouter self.now.notices now result }
+        ensures one_each { OneForEach self.now.notices }
+    {
+        self.tables.notices.due(now)
+    }
+
+    /// Who answers for an address at a time, in ms, by the rows that are held: of those whose prefix has
+    /// the address the one with the longest prefix; of several one whose router asked for proxy replies,
+    /// before one that didn't; then the one that was accepted last; then that of the greater router, by
+    /// Site-ID, then xTR-ID (RFC 9301 section 8.3). Takes no memory.
+    pub fn answer(&self, addr: &Addr, now: u64) -> Answer<'_, A>
+        ensures answers { Answers self.now.rows self.now.sites addr.now now result }
+        ensures one_each { OneEach self.now.rows }
+    {
+        self.tables.rows.answer(&self.sites, addr, now)
+    }
+
+    /// The last nonce of a pair since the start, `None` where there is none: of the last Map-Register that was
+    /// accepted from its router under its key; of the last notice to any router under the pair of all notices,
+    /// which has `PairKind::Notice`, Site-ID 0, xTR-ID 0 and Key ID 0. Takes no memory.
+    pub fn last_nonce(&self, pair: &Pair) -> Option<u64>
+        ensures { result ≡ nonce_at self.now.nonces pair.now }
+    {
+        self.tables.nonces.get(pair)
+    }
+
+    /// Drops the rows that are dead at a time, in ms, of at most 2^62. Takes no memory.
+    pub fn expire(&mut self, now: u64)
+        requires { now ≤ max_moment }
+        ensures rows { Expires self.old.rows self.new.rows now }
+        ensures rest { self.new ≡ record self.old { rows = self.new.rows } }
+        ensures one_each { OneEach self.new.rows }
+    {
+        self.tables.rows.drop_dead(now);
+    }
+}
+
+impl<A: Memory + Copy> Server<A> {
     /// Receives a message that came from an address at a time, in ms. It refuses bytes that are no message
     /// (`Read`) and a Map-Notify (`NotMine`). A refusal changes nothing here.
     ///
@@ -112,10 +155,14 @@ impl<A: Allocator + Copy> Server<A> {
         ensures refused { IfErr result (λ why. Refuses (message_at bytes.now) from bytes.now self.old (S.seen store.old) (S.seen store.new) why) }
 
         ensures err { OnErr result (self.new ≡ self.old) }
+        ensures memory { IsErrOf result Refused.OutOfMemory → A.may_refuse }
+        ensures load_memory { IsErrOf result (Refused.StoreLoad StoreFault.OutOfMemory) → S.may_refuse }
+        ensures save_memory { IsErrOf result (Refused.StoreSave StoreFault.OutOfMemory) → S.may_refuse }
         ensures proceeds { Proceeds (S.seen store.old) (S.seen store.new) }
 
         // Before the first record nothing takes memory.
         ensures early { (fault : ReadFault) → kind_at bytes.now ≡ Err fault → result ≡ Err (refused_of_read fault) }
+        ensures head { IsErrOf result Refused.OutOfMemory → HasHead bytes.now }
     {
         match read_message(self.alloc, bytes) {
             Ok(Message::Register(message)) => receive_register(
@@ -156,6 +203,9 @@ impl<A: Allocator + Copy> Server<A> {
         ensures announces { IfOk result (λ x. Announces self.old self.new (S.seen store.old) (S.seen store.new) router.now now x.0 x.1.items) }
         ensures refused { IfErr result (λ fault. RefusesNotice self.old (S.seen store.old) (S.seen store.new) router.now now fault) }
         ensures err { OnErr result (self.new ≡ self.old) }
+        ensures memory { IsErrOf result NoticeFault.OutOfMemory → A.may_refuse }
+        ensures load_memory { IsErrOf result (NoticeFault.StoreLoad StoreFault.OutOfMemory) → S.may_refuse }
+        ensures save_memory { IsErrOf result (NoticeFault.StoreSave StoreFault.OutOfMemory) → S.may_refuse }
         ensures proceeds { Proceeds (S.seen store.old) (S.seen store.new) }
         ensures one_each { OneEach self.old.rows }
     {
@@ -169,15 +219,6 @@ impl<A: Allocator + Copy> Server<A> {
         )
     }
 
-    /// The least router, by Site-ID, then xTR-ID, to which a notice is due at a time, in ms: a notice is due 3,
-    /// 3, 3, 6, 12 and 24 s after it was last sent, then never. Takes no memory.
-    pub fn due_notices(&self, now: u64) -> Option<RouterId>
-        ensures due { IsDueRouter self.now.notices now result }
-        ensures one_each { OneForEach self.now.notices }
-    {
-        self.tables.notices.due(now)
-    }
-
     /// Sends the notice to a router again that is due at a time, in ms, of at most 2^62: the same bytes to the
     /// same address. It refuses in this order: `NotDue`, `OutOfMemory`. A refusal changes nothing.
     pub fn resend(&mut self, router: &RouterId, now: u64) -> Result<(Addr, Vec<u8, A>), NoticeFault>
@@ -186,44 +227,16 @@ impl<A: Allocator + Copy> Server<A> {
         ensures rest { self.new ≡ record self.old { notices = self.new.notices } }
         ensures refused { IfErr result (λ fault. RefusesResend self.old.notices router.now now fault) }
         ensures err { OnErr result (self.new ≡ self.old) }
+        ensures memory { IsErrOf result NoticeFault.OutOfMemory → A.may_refuse }
     {
         self.tables.notices.resend(self.alloc, router, now)
     }
 
     /// Copies of the rows that are alive at a time, in ms: by router, then by prefix.
     pub fn held(&self, now: u64) -> Result<Vec<Row<A>, A>, AllocError>
-        ensures { IfOk result (λ rows. IsHeld self.now.rows now rows.items) }
+        ensures held { IfOk result (λ rows. IsHeld self.now.rows now rows.items) }
+        ensures memory { OnErr result A.may_refuse }
     {
         self.tables.rows.rows(now)
-    }
-
-    /// Who answers for an address at a time, in ms, by the rows that are held: of those whose prefix has
-    /// the address the one with the longest prefix; of several one whose router asked for proxy replies,
-    /// before one that didn't; then the one that was accepted last; then that of the greater router, by
-    /// Site-ID, then xTR-ID (RFC 9301 section 8.3). Takes no memory.
-    pub fn answer(&self, addr: &Addr, now: u64) -> Answer<'_, A>
-        ensures answers { Answers self.now.rows self.now.sites addr.now now result }
-        ensures one_each { OneEach self.now.rows }
-    {
-        self.tables.rows.answer(&self.sites, addr, now)
-    }
-
-    /// The last nonce of a pair since the start, `None` where there is none: of the last Map-Register that was
-    /// accepted from its router under its key; of the last notice to any router under the pair of all notices,
-    /// which has `PairKind::Notice`, Site-ID 0, xTR-ID 0 and Key ID 0. Takes no memory.
-    pub fn last_nonce(&self, pair: &Pair) -> Option<u64>
-        ensures { result ≡ nonce_at self.now.nonces pair.now }
-    {
-        self.tables.nonces.get(pair)
-    }
-
-    /// Drops the rows that are dead at a time, in ms, of at most 2^62. Takes no memory.
-    pub fn expire(&mut self, now: u64)
-        requires { now ≤ max_moment }
-        ensures rows { Expires self.old.rows self.new.rows now }
-        ensures rest { self.new ≡ record self.old { rows = self.new.rows } }
-        ensures one_each { OneEach self.new.rows }
-    {
-        self.tables.rows.drop_dead(now);
     }
 }

@@ -4,6 +4,7 @@ ghost use Rattle.std.specs.Prelude.{◌≡◌, ◌≤◌, ◌<◌, IfOk, IfSome,
 ghost use Rattle.lisp_records.specs.Moment.{max_moment};
 ghost use Rattle.lisp_server.specs.Notices.{gaps, is_due, awaits, resent};
 
+use lisp_memory::Memory;
 use lisp_records::{Addr, Bytes, RouterId};
 use std::alloc::{AllocError, Allocator};
 use std::marker::Model;
@@ -50,7 +51,7 @@ impl<A: Allocator> StandingNotice<A> {
     }
 
     /// Sends it again at a time, in ms: its address and a copy of its bytes.
-    pub(crate) fn resend<B: Allocator>(
+    pub(crate) fn resend<B: Memory>(
         &mut self,
         alloc: B,
         now: u64,
@@ -60,6 +61,7 @@ impl<A: Allocator> StandingNotice<A> {
         ensures datagram { IfOk result (λ x. (x.0 ≡ self.old.to) × (x.1.items ≡ self.old.bytes)) }
         ensures resent { OnOk result (self.new ≡ resent now self.old) }
         ensures err { OnErr result (self.new ≡ self.old) }
+        ensures memory { OnErr result B.may_refuse }
     {
         let bytes = self.bytes.copy(alloc)?;
         self.resends += 1;

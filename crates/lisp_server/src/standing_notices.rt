@@ -1,13 +1,15 @@
 //! The unsolicited Map-Notifies (notices) of a Map-Server that stand, at most one for each router.
 
-ghost use Rattle.std.specs.Prelude.{◌≡◌, ◌<◌, ◌≤◌, [], OnOk, OnErr, IfOk, IfErr, position};
+ghost use Rattle.std.specs.Prelude.{◌≡◌, ◌<◌, ◌≤◌, [], OnOk, OnErr, IfOk, IfErr, IsErrOf, position};
 ghost use Rattle.lisp_records.specs.Moment.{max_moment};
 ghost use Rattle.std.specs.List.{find};
 ghost use Rattle.std.specs.Option.{option_map};
+ghost use Rattle.lisp_checks.specs.declared.notice_fault.NoticeFault.{NoticeFault};
 ghost use Rattle.lisp_server.specs.Notices.{is_notice_of, OneForEach, SetsNotice, EndsNotice, awaits, Awaited, lesser, IsDueRouter, Resends, RefusesResend};
 
-use crate::notice_fault::NoticeFault;
 use crate::standing_notice::StandingNotice;
+use lisp_checks::NoticeFault;
+use lisp_memory::{FallibleVec, Memory};
 use lisp_records::{Addr, RouterId};
 use std::alloc::{AllocError, Allocator};
 use std::marker::Model;
@@ -39,14 +41,6 @@ impl<A: Allocator> StandingNotices<A> {
         }
     }
 
-    /// Makes room for one more notice.
-    pub(crate) fn prepare(&mut self) -> Result<(), AllocError>
-        ensures same { self.new.notices ≡ self.old.notices }
-        ensures room { OnOk result (0 < self.new.spare) }
-    {
-        self.items.reserve(1)
-    }
-
     /// Keeps a notice, in place of an earlier one to its router. Takes no memory.
     pub(crate) fn keep(&mut self, notice: StandingNotice<A>)
         requires { 0 < self.old.spare }
@@ -72,6 +66,25 @@ impl<A: Allocator> StandingNotices<A> {
         first_awaiting(&self.items, from, key, nonce)
     }
 
+    /// The least router to which a notice is due at a time, in ms.
+    pub(crate) fn due(&self, now: u64) -> Option<RouterId>
+        ensures due { IsDueRouter self.now.notices now result }
+        ensures one_each { OneForEach self.now.notices }
+    {
+        least_due(&self.items, now)
+    }
+}
+
+impl<A: Memory> StandingNotices<A> {
+    /// Makes room for one more notice.
+    pub(crate) fn prepare(&mut self) -> Result<(), AllocError>
+        ensures same { self.new.notices ≡ self.old.notices }
+        ensures room { OnOk result (0 < self.new.spare) }
+        ensures memory { OnErr result A.may_refuse }
+    {
+        self.items.make_room(1)
+    }
+
     /// Sends the notice to a router again that is due at a time, in ms: its address and a copy of its bytes.
     /// `NotDue`, `OutOfMemory`.
     pub(crate) fn resend(
@@ -84,6 +97,7 @@ impl<A: Allocator> StandingNotices<A> {
         ensures resends { IfOk result (λ x. Resends self.old.notices self.new.notices router.now now x.0 x.1.items) }
         ensures refused { IfErr result (λ fault. RefusesResend self.old.notices router.now now fault) }
         ensures err { OnErr result (self.new.notices ≡ self.old.notices) }
+        ensures memory { IsErrOf result NoticeFault.OutOfMemory → A.may_refuse }
     {
         let Some(place) = place(&self.items, router) else {
             return Err(NoticeFault::NotDue);
@@ -92,14 +106,6 @@ impl<A: Allocator> StandingNotices<A> {
             return Err(NoticeFault::NotDue);
         }
         Ok(self.items[place].resend(alloc, now)?)
-    }
-
-    /// The least router to which a notice is due at a time, in ms.
-    pub(crate) fn due(&self, now: u64) -> Option<RouterId>
-        ensures due { IsDueRouter self.now.notices now result }
-        ensures one_each { OneForEach self.now.notices }
-    {
-        least_due(&self.items, now)
     }
 }
 

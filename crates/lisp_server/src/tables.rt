@@ -1,17 +1,20 @@
 //! What a Map-Server keeps in memory, all of it since its start.
 
-ghost use Rattle.std.specs.Prelude.{◌≡◌, length, OnOk};
+ghost use Rattle.std.specs.Prelude.{◌≡◌, length, OnOk, OnErr};
 ghost use Rattle.lisp_lookup.specs.Table.{Sets};
 ghost use Rattle.lisp_server.specs.LastNonces.{SetsNonce};
 ghost use Rattle.lisp_server.specs.Contacts.{SetsContact};
-ghost use Rattle.lisp_server.specs.Notices.{SetsNotice, notice_pair};
+ghost use Rattle.lisp_checks.specs.Pairs.{notice_pair};
+ghost use Rattle.lisp_server.specs.Notices.{SetsNotice};
 ghost use Rattle.lisp_server.specs.Server.{SameTables, HasRoom, HasNoticeRoom};
 
 use crate::contacts::{Contact, Contacts};
-use crate::last_nonces::{LastNonces, NOTICES};
+use crate::last_nonces::LastNonces;
 use crate::standing_notice::StandingNotice;
 use crate::standing_notices::StandingNotices;
+use lisp_checks::NOTICES;
 use lisp_lookup::Table;
+use lisp_memory::Memory;
 use lisp_records::{Addr, Row};
 use lisp_store::Pair;
 use std::alloc::{AllocError, Allocator};
@@ -27,17 +30,6 @@ pub(crate) struct Tables<A: Allocator> {
 }
 
 impl<A: Allocator + Copy> Tables<A> {
-    /// Makes room for what a Map-Register that sets these rows leaves here.
-    pub(crate) fn prepare(&mut self, rows: &[Row<A>]) -> Result<(), AllocError>
-        ensures same { SameTables self.old self.new }
-        ensures room { OnOk result (HasRoom self.new (length rows.now)) }
-    {
-        self.rows.prepare(rows)?;
-        self.nonces.prepare()?;
-        self.contacts.prepare()?;
-        Ok(())
-    }
-
     /// Keeps what an accepted Map-Register leaves here. Takes no memory.
     pub(crate) fn accept(&mut self, rows: Vec<Row<A>, A>, pair: Pair, nonce: u64, from: Addr)
         requires { HasRoom self.old (length rows.items) }
@@ -55,16 +47,6 @@ impl<A: Allocator + Copy> Tables<A> {
         });
     }
 
-    /// Makes room for one more notice and its nonce.
-    pub(crate) fn prepare_notice(&mut self) -> Result<(), AllocError>
-        ensures same { SameTables self.old self.new }
-        ensures room { OnOk result (HasNoticeRoom self.new) }
-    {
-        self.nonces.prepare()?;
-        self.notices.prepare()?;
-        Ok(())
-    }
-
     /// Keeps a notice and its nonce. Takes no memory.
     pub(crate) fn keep_notice(&mut self, notice: StandingNotice<A>)
         requires { HasNoticeRoom self.old }
@@ -75,5 +57,30 @@ impl<A: Allocator + Copy> Tables<A> {
     {
         self.nonces.set(NOTICES, notice.nonce);
         self.notices.keep(notice);
+    }
+}
+
+impl<A: Memory + Copy> Tables<A> {
+    /// Makes room for what a Map-Register that sets these rows leaves here.
+    pub(crate) fn prepare(&mut self, rows: &[Row<A>]) -> Result<(), AllocError>
+        ensures same { SameTables self.old self.new }
+        ensures room { OnOk result (HasRoom self.new (length rows.now)) }
+        ensures memory { OnErr result A.may_refuse }
+    {
+        self.rows.prepare(rows)?;
+        self.nonces.prepare()?;
+        self.contacts.prepare()?;
+        Ok(())
+    }
+
+    /// Makes room for one more notice and its nonce.
+    pub(crate) fn prepare_notice(&mut self) -> Result<(), AllocError>
+        ensures same { SameTables self.old self.new }
+        ensures room { OnOk result (HasNoticeRoom self.new) }
+        ensures memory { OnErr result A.may_refuse }
+    {
+        self.nonces.prepare()?;
+        self.notices.prepare()?;
+        Ok(())
     }
 }

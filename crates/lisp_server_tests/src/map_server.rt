@@ -2,6 +2,7 @@
 
 use crate::sent::{FROM, KEY, ROUTER, Sent, WIDE, acknowledgement, block, map_register};
 use lisp_lookup::Answer;
+use lisp_memory::Memory;
 use lisp_messages::authentic;
 use lisp_records::{Addr, Bytes, MapRecord, RouterId, Row};
 use lisp_samples::{LOCATOR, RECORD, SECRET, fields};
@@ -42,13 +43,13 @@ pub(crate) enum Heard {
 /// The Map-Server of the worked site, its store, and where they lie. The methods tell whether what is wanted
 /// comes; times are in ms, and messages come from the worked router at time 0.
 #[derive(Drop)]
-pub(crate) struct MapServer<A: Allocator + Copy = Global> {
+pub(crate) struct MapServer<A: Memory + Copy = Global> {
     server: Server<A>,
     store: MemoryStore<A>,
     alloc: A,
 }
 
-impl<A: Allocator + Copy> MapServer<A> {
+impl<A: Memory + Copy> MapServer<A> {
     /// It holds nothing, and its store keeps nothing.
     pub(crate) fn start(rt: &impl Abort, alloc: A) -> MapServer<A> {
         MapServer {
@@ -150,12 +151,12 @@ impl<A: Allocator + Copy> MapServer<A> {
 }
 
 /// A Map-Server of the worked site that holds nothing.
-fn start<A: Allocator + Copy>(rt: &impl Abort, alloc: A) -> Server<A> {
+fn start<A: Memory + Copy>(rt: &impl Abort, alloc: A) -> Server<A> {
     Server::start(alloc, sites(rt, alloc))
 }
 
 /// The worked site.
-pub(crate) fn sites<A: Allocator + Copy>(rt: &impl Abort, alloc: A) -> Sites<A> {
+pub(crate) fn sites<A: Memory + Copy>(rt: &impl Abort, alloc: A) -> Sites<A> {
     Sites::single(alloc, 1, KEY, SECRET, block(rt, WIDE), true).expect(rt, "the site")
 }
 

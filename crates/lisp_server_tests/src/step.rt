@@ -2,9 +2,10 @@
 
 use crate::map_server::{Heard, MapServer, Who};
 use crate::sent::Sent;
+use lisp_memory::Memory;
 use lisp_server::{NoticeFault, Refused};
 use lisp_store::Fate;
-use std::alloc::{Allocator, Global};
+use std::alloc::Global;
 use std::process::Abort;
 
 /// What the worked router sends or the Map-Server is asked for, and what has to come of it; at time 0
@@ -47,7 +48,7 @@ pub(crate) fn run_all(rt: &impl Abort, alloc: Global, scenarios: &[Scenario<'_>]
 }
 
 /// Takes steps; messages are written in ample memory.
-pub(crate) fn take_all<A: Allocator + Copy>(
+pub(crate) fn take_all<A: Memory + Copy>(
     server: &mut MapServer<A>,
     rt: &impl Abort,
     ample: Global,
@@ -60,7 +61,7 @@ pub(crate) fn take_all<A: Allocator + Copy>(
 }
 
 /// Whether what has to come of a step does.
-pub(crate) fn takes<A: Allocator + Copy>(
+pub(crate) fn takes<A: Memory + Copy>(
     server: &mut MapServer<A>,
     rt: &impl Abort,
     ample: Global,

@@ -11,6 +11,7 @@ use crate::router::{RouterEntry, read_routers};
 use crate::server::{ServerEntry, read_servers};
 use crate::site_entries::read_sites;
 use crate::sites::Sites;
+use lisp_memory::Memory;
 use std::alloc::{Allocator, Global};
 use std::marker::Model;
 use toml::Value;
@@ -65,7 +66,7 @@ impl<A: Allocator> Config<A> {
     }
 }
 
-impl<A: Allocator + Copy> Config<A> {
+impl<A: Memory + Copy> Config<A> {
     /// Reads a configuration file, TOML, into memory of `alloc`; `heap` serves the reading of TOML
     /// alone. The first fault found is the answer: `Toml` if the text is not valid TOML; then sites,
     /// Map-Servers and routers, each entry field by field in the order of [`Field`](crate::Field):
@@ -92,7 +93,7 @@ fn read_document(heap: Global, text: &str) -> Result<Value, ConfigFault>
 }
 
 #[tactic(auto, unfolding(crate::specs::Table::configuration_of))]
-fn read_configuration<A: Allocator + Copy>(
+fn read_configuration<A: Memory + Copy>(
     alloc: A,
     document: &Value,
 ) -> Result<Config<A>, ConfigFault>

@@ -13,6 +13,7 @@ use crate::server::{ServerEntry, has_server, server_place};
 use crate::site::{Site, has_key};
 use crate::sites::Sites;
 use crate::value::{address, array, byte, check_table, flag, name, site_id, tables, xtr};
+use lisp_memory::Memory;
 use lisp_records::{Addr, Database, MapRecord, RouterId};
 use lisp_texts::record_from_text;
 use std::alloc::{Allocator, Global};
@@ -49,7 +50,7 @@ impl<A: Allocator> Model for RouterEntry<A> {
 }
 
 /// The routers of the document, in its order; they name the sites and Map-Servers given.
-pub(crate) fn read_routers<A: Allocator + Copy>(
+pub(crate) fn read_routers<A: Memory + Copy>(
     alloc: A,
     document: &Value,
     sites: &Sites<A>,
@@ -65,7 +66,7 @@ pub(crate) fn read_routers<A: Allocator + Copy>(
     )
 }
 
-fn each_router<A: Allocator + Copy>(
+fn each_router<A: Memory + Copy>(
     alloc: A,
     entries: &[Value],
     sites: &Sites<A>,
@@ -82,7 +83,7 @@ fn each_router<A: Allocator + Copy>(
 }
 
 #[tactic(auto, unfolding(crate::specs::Table::router_at))]
-fn read_router<A: Allocator + Copy>(
+fn read_router<A: Memory + Copy>(
     alloc: A,
     entry: &Value,
     sites: &Sites<A>,
@@ -248,7 +249,7 @@ fn read_flags(entry: &Value) -> Result<(bool, bool), ConfigFault>
 
 // The records.
 #[tactic(auto, unfolding(crate::specs::Table::database_at))]
-fn read_database<A: Allocator + Copy>(alloc: A, entry: &Value) -> Result<Database<A>, ConfigFault>
+fn read_database<A: Memory + Copy>(alloc: A, entry: &Value) -> Result<Database<A>, ConfigFault>
     ensures { Gives (λ d. d) result (database_at (view entry.now)) }
 {
     let texts = tables(entry, "records", Field::RouterRecords)?;
@@ -259,7 +260,7 @@ fn read_database<A: Allocator + Copy>(alloc: A, entry: &Value) -> Result<Databas
     }
 }
 
-fn each_record<A: Allocator + Copy>(
+fn each_record<A: Memory + Copy>(
     alloc: A,
     texts: &[Value],
 ) -> Result<Vec<MapRecord<A>, A>, ConfigFault>
@@ -273,7 +274,7 @@ fn each_record<A: Allocator + Copy>(
     Ok(records)
 }
 
-fn read_record<A: Allocator + Copy>(alloc: A, text: &Value) -> Result<MapRecord<A>, ConfigFault>
+fn read_record<A: Memory + Copy>(alloc: A, text: &Value) -> Result<MapRecord<A>, ConfigFault>
     ensures { Gives (λ r. r) result (record_at [] (view text.now)) }
 {
     let Some(text) = text.as_str() else {

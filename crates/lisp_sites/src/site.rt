@@ -1,10 +1,11 @@
 //! A site of a Map-Server: its secrets, and the prefixes that its routers may register.
 
-ghost use Rattle.std.specs.Prelude.{◌≡◌, ◌↔◌, IsTrue, IfOk};
+ghost use Rattle.std.specs.Prelude.{◌≡◌, ◌↔◌, IsTrue, IfOk, OnErr};
 ghost use Rattle.std.specs.List.{list_any};
 ghost use Rattle.std.specs.Option.{option_map};
 ghost use Rattle.lisp_sites.specs.Site.{Allowed, is_allowed, has_address, lets_in, key_of, has_key, secret_of};
 
+use lisp_memory::{FallibleCopies, FallibleVec, Memory};
 use lisp_records::{Addr, Bytes, Prefix};
 use std::alloc::{AllocError, Allocator, Global};
 use std::marker::Model;
@@ -26,8 +27,9 @@ impl<A: Allocator> Model for SiteKey<A> {
 
 impl<A: Allocator> SiteKey<A> {
     // An equal key, in memory of `alloc`.
-    fn copy<B: Allocator>(&self, alloc: B) -> Result<SiteKey<B>, AllocError>
-        ensures { IfOk result (λ k. k ≡ self.now) }
+    fn copy<B: Memory>(&self, alloc: B) -> Result<SiteKey<B>, AllocError>
+        ensures equal { IfOk result (λ k. k ≡ self.now) }
+        ensures memory { OnErr result B.may_refuse }
     {
         Ok(SiteKey {
             id: self.id,
@@ -122,11 +124,12 @@ impl<A: Allocator> Site<A> {
     }
 
     // An equal site, in memory of `alloc`.
-    pub(crate) fn copy<B: Allocator + Copy>(&self, alloc: B) -> Result<Site<B>, AllocError>
-        ensures { IfOk result (λ s. s ≡ self.now) }
+    pub(crate) fn copy<B: Memory + Copy>(&self, alloc: B) -> Result<Site<B>, AllocError>
+        ensures equal { IfOk result (λ s. s ≡ self.now) }
+        ensures memory { OnErr result B.may_refuse }
     {
         let keys = copy_keys(alloc, &self.keys)?;
-        let prefixes = Vec::from_slice(alloc, &self.prefixes)?;
+        let prefixes = Vec::try_from_slice(alloc, &self.prefixes)?;
         Ok(Site {
             id: self.id,
             keys,
@@ -143,15 +146,16 @@ pub(crate) fn has_key<A: Allocator>(keys: &[SiteKey<A>], id: u8) -> bool
 }
 
 // Equal keys, in memory of `alloc`.
-fn copy_keys<A: Allocator, B: Allocator + Copy>(
+fn copy_keys<A: Allocator, B: Memory + Copy>(
     alloc: B,
     keys: &[SiteKey<A>],
 ) -> Result<Vec<SiteKey<B>, B>, AllocError>
-    ensures { IfOk result (λ copies. copies.items ≡ keys.now) }
+    ensures equal { IfOk result (λ copies. copies.items ≡ keys.now) }
+    ensures memory { OnErr result B.may_refuse }
 {
-    let mut copies = Vec::with_capacity(alloc, keys.len())?;
+    let mut copies = Vec::new(alloc);
     for key in keys {
-        copies.push(key.copy(alloc)?)?;
+        copies.try_push(key.copy(alloc)?)?;
     }
     Ok(copies)
 }

@@ -1,10 +1,11 @@
 //! The sites that a Map-Server serves.
 
-ghost use Rattle.std.specs.Prelude.{◌≡◌, [], ◌∷◌, IfOk};
+ghost use Rattle.std.specs.Prelude.{◌≡◌, [], ◌∷◌, IfOk, OnErr};
 ghost use Rattle.std.specs.Option.{option_map};
 ghost use Rattle.lisp_sites.specs.Site.{site_of, is_configured, single};
 
 use crate::site::{Site, SiteKey, SitePrefix};
+use lisp_memory::{FallibleCopies, FallibleVec, Memory};
 use lisp_records::{Addr, Bytes, Prefix};
 use std::alloc::{AllocError, Allocator, Global};
 use std::marker::Model;
@@ -54,8 +55,9 @@ impl<A: Allocator> Sites<A> {
     }
 
     /// Equal sites, in memory of `alloc`.
-    pub fn copy<B: Allocator + Copy>(&self, alloc: B) -> Result<Sites<B>, AllocError>
-        ensures { IfOk result (λ s. s ≡ self.now) }
+    pub fn copy<B: Memory + Copy>(&self, alloc: B) -> Result<Sites<B>, AllocError>
+        ensures equal { IfOk result (λ s. s ≡ self.now) }
+        ensures memory { OnErr result B.may_refuse }
     {
         Ok(Sites {
             items: copy_sites(alloc, &self.items)?,
@@ -63,7 +65,7 @@ impl<A: Allocator> Sites<A> {
     }
 }
 
-impl<A: Allocator + Copy> Sites<A> {
+impl<A: Memory + Copy> Sites<A> {
     /// One site with one key and one prefix, in memory of `alloc`.
     pub fn single(
         alloc: A,
@@ -73,48 +75,51 @@ impl<A: Allocator + Copy> Sites<A> {
         prefix: Prefix,
         more_specifics: bool,
     ) -> Result<Sites<A>, AllocError>
-        ensures { IfOk result (λ s. s ≡ single id key_id secret.now prefix more_specifics) }
+        ensures single { IfOk result (λ s. s ≡ single id key_id secret.now prefix more_specifics) }
+        ensures memory { OnErr result A.may_refuse }
     {
         let entry = SitePrefix {
             eid: prefix,
             more_specifics,
         };
         let mut items = Vec::new(alloc);
-        items.push(Site {
+        items.try_push(Site {
             id,
             keys: one_key(alloc, key_id, secret)?,
-            prefixes: Vec::from_slice(alloc, &[entry])?,
+            prefixes: Vec::try_from_slice(alloc, &[entry])?,
         })?;
         Ok(Sites { items })
     }
 }
 
 // Equal sites, in memory of `alloc`.
-fn copy_sites<A: Allocator, B: Allocator + Copy>(
+fn copy_sites<A: Allocator, B: Memory + Copy>(
     alloc: B,
     sites: &[Site<A>],
 ) -> Result<Vec<Site<B>, B>, AllocError>
-    ensures { IfOk result (λ copies. copies.items ≡ sites.now) }
+    ensures equal { IfOk result (λ copies. copies.items ≡ sites.now) }
+    ensures memory { OnErr result B.may_refuse }
 {
-    let mut copies = Vec::with_capacity(alloc, sites.len())?;
+    let mut copies = Vec::new(alloc);
     for site in sites {
-        copies.push(site.copy(alloc)?)?;
+        copies.try_push(site.copy(alloc)?)?;
     }
     Ok(copies)
 }
 
 // One key, in memory of `alloc`.
-fn one_key<A: Allocator + Copy>(
+fn one_key<A: Memory + Copy>(
     alloc: A,
     id: u8,
     secret: &[u8],
 ) -> Result<Vec<SiteKey<A>, A>, AllocError>
-    ensures { IfOk result (λ keys. keys.items ≡ record { id = id; secret = secret.now } ∷ []) }
+    ensures key { IfOk result (λ keys. keys.items ≡ record { id = id; secret = secret.now } ∷ []) }
+    ensures memory { OnErr result A.may_refuse }
 {
     let mut keys = Vec::new(alloc);
-    keys.push(SiteKey {
+    keys.try_push(SiteKey {
         id,
-        secret: Bytes::from_vec(Vec::from_slice(alloc, secret)?),
+        secret: Bytes::from_vec(Vec::try_from_slice(alloc, secret)?),
     })?;
     Ok(keys)
 }

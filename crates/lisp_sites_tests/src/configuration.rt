@@ -1,5 +1,6 @@
 //! The worked configuration: its site, Map-Servers and routers.
 
+use lisp_memory::Memory;
 use lisp_records::{Addr, Locator, MapRecord, Prefix, RouterId};
 use lisp_samples::{LOCATOR, SECRET};
 use lisp_sites::{Config, RouterEntry, ServerEntry, Site, Sites};
@@ -85,7 +86,7 @@ fn the_worked_configuration_has_its_values(rt: HostRuntime) {
 }
 
 /// Whether the worked configuration is read into memory of `alloc`, with its values.
-pub fn reads_worked<A: Allocator + Copy>(heap: Global, alloc: A) -> bool {
+pub fn reads_worked<A: Memory + Copy>(heap: Global, alloc: A) -> bool {
     match Config::from_toml(heap, alloc, CONFIGURATION) {
         Ok(config) => is_worked(&config),
         Err(_) => false,

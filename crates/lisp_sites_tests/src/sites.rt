@@ -1,9 +1,10 @@
 //! What a site allows.
 
+use lisp_memory::Memory;
 use lisp_records::{Addr, Prefix};
 use lisp_samples::SECRET;
 use lisp_sites::Sites;
-use std::alloc::{AllocError, Allocator, Global};
+use std::alloc::{AllocError, Global};
 use std::process::Abort;
 
 /// Whether the worked site has more-specifics, a prefix, and whether the site allows it then.
@@ -39,7 +40,7 @@ fn holds(rt: &impl Abort, alloc: Global, row: &Row) -> bool {
 }
 
 /// The worked site alone, with more-specifics or without.
-pub fn worked_sites<A: Allocator + Copy>(
+pub fn worked_sites<A: Memory + Copy>(
     rt: &impl Abort,
     alloc: A,
     more_specifics: bool,

@@ -15,6 +15,7 @@ use crate::fate::Fate;
 use crate::fault::StoreFault;
 use crate::pair::Pair;
 use crate::store::{NonceStore, WorldStore};
+use lisp_memory::{FallibleCopies, FallibleVec, Memory};
 use std::alloc::{AllocError, Allocator, Global};
 use std::marker::Model;
 
@@ -101,8 +102,10 @@ impl<A: Allocator + Copy> MemoryStore<A> {
     }
 }
 
-impl<A: Allocator + Copy> NonceStore for MemoryStore<A> {
+impl<A: Memory + Copy> NonceStore for MemoryStore<A> {
     ghost seen = { memory_state };
+
+    ghost may_refuse = { A.may_refuse };
 
     /// The first of the values that may be kept; `Device` where it is armed with `LoadFails`. Takes no
     /// memory.
@@ -116,6 +119,7 @@ impl<A: Allocator + Copy> NonceStore for MemoryStore<A> {
         ensures same { self.new.kept ≡ self.old.kept }
         ensures cause { IfErr result (λ f. f ≢ StoreFault.OutOfMemory → Rose (memory_state self.old) (memory_state self.new)) }
         ensures refused { IsErrOf result StoreFault.OutOfMemory → memory_state self.new ≡ memory_state self.old }
+        ensures memory { IsErrOf result StoreFault.OutOfMemory → A.may_refuse }
         ensures proceeds { Proceeds (memory_state self.old) (memory_state self.new) }
     {
         if self.fate == Fate::LoadFails {
@@ -141,6 +145,7 @@ impl<A: Allocator + Copy> NonceStore for MemoryStore<A> {
         ensures sound { result ≢ Err StoreFault.Damaged }
         ensures cause { IsErrOf result StoreFault.Device → Rose (memory_state self.old) (memory_state self.new) }
         ensures refused { IsErrOf result StoreFault.OutOfMemory → memory_state self.new ≡ memory_state self.old }
+        ensures memory { IsErrOf result StoreFault.OutOfMemory → A.may_refuse }
         ensures proceeds { Proceeds (memory_state self.old) (memory_state self.new) }
     {
         let values = saved_values(self.alloc, self.fate, values_of(&self.entries, pair), nonce)?;
@@ -153,7 +158,7 @@ impl<A: Allocator + Copy> NonceStore for MemoryStore<A> {
     }
 }
 
-impl<A: Allocator + Copy> WorldStore for MemoryStore<A> {
+impl<A: Memory + Copy> WorldStore for MemoryStore<A> {
     /// Takes no memory.
     fn arm(&mut self, fate: Fate)
         // Exactly.
@@ -222,7 +227,7 @@ fn place<A: Allocator>(entries: &[Entry<A>], pair: &Pair) -> Option<usize>
 }
 
 // The values that a save leaves.
-fn saved_values<A: Allocator>(
+fn saved_values<A: Memory>(
     alloc: A,
     fate: Fate,
     values: &[Option<u64>],
@@ -231,15 +236,16 @@ fn saved_values<A: Allocator>(
     requires { 0 < length values.now }
     ensures values { IfOk result (λ v. v.items ≡ saved fate values.now nonce) }
     ensures some { IfOk result (λ v. 0 < length v.items) }
+    ensures memory { OnErr result A.may_refuse }
 {
     match fate {
         Fate::Doubt => with_value(alloc, values, nonce),
-        Fate::Done | Fate::LoadFails => Vec::from_slice(alloc, &[Some(nonce)]),
+        Fate::Done | Fate::LoadFails => Vec::try_from_slice(alloc, &[Some(nonce)]),
     }
 }
 
 // The values, and the nonce where it is not among them.
-fn with_value<A: Allocator>(
+fn with_value<A: Memory>(
     alloc: A,
     values: &[Option<u64>],
     nonce: u64,
@@ -247,12 +253,13 @@ fn with_value<A: Allocator>(
     requires { 0 < length values.now }
     ensures values { IfOk result (λ v. v.items ≡ with_value values.now nonce) }
     ensures some { IfOk result (λ v. 0 < length v.items) }
+    ensures memory { OnErr result A.may_refuse }
 {
-    let mut kept = Vec::from_slice(alloc, values)?;
+    let mut kept = Vec::try_from_slice(alloc, values)?;
     if has_value(values, nonce) {
         return Ok(kept);
     }
-    kept.push(Some(nonce))?;
+    kept.try_push(Some(nonce))?;
     Ok(kept)
 }
 
@@ -272,7 +279,7 @@ fn is_nonce(value: Option<u64>, nonce: u64) -> bool
 }
 
 // Makes the values those of the pair.
-fn set<A: Allocator>(
+fn set<A: Memory>(
     entries: &mut Vec<Entry<A>, A>,
     pair: Pair,
     values: Vec<Option<u64>, A>,
@@ -281,11 +288,12 @@ fn set<A: Allocator>(
     ensures here { OnOk result (kept_at (kept_of entries.new.items) pair ≡ values.items) }
     ensures others { OnOk result (SameElsewhere (kept_of entries.old.items) (kept_of entries.new.items) pair) }
     ensures err { OnErr result (entries.new.items ≡ entries.old.items) }
+    ensures memory { OnErr result A.may_refuse }
 {
     let entry = Entry { pair, values };
     match place(entries, &pair) {
         Some(i) => entries[i] = entry,
-        None => entries.push(entry)?,
+        None => entries.try_push(entry)?,
     }
     Ok(())
 }

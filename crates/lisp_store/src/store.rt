@@ -18,8 +18,11 @@ use crate::pair::Pair;
 pub trait NonceStore {
     ghost seen: { Self → StoreState };
 
+    /// Whether the store may run out of memory.
+    ghost may_refuse: { Type 0 };
+
     /// The nonce that is kept for the pair, `None` for nothing. `Device` or `Damaged` where the device
-    /// failed, `OutOfMemory`, which changes nothing.
+    /// failed, `OutOfMemory`, which changes nothing and comes only where the store may run out of memory.
     fn load(&mut self, pair: &Pair) -> Result<Option<u64>, StoreFault>
         // The answer is a value that may be kept.
         ensures member { IsTrue (seen self.old).is_honest → IfOk result (λ v. Contains (kept_at (seen self.old).kept pair.now) v) }
@@ -28,10 +31,11 @@ pub trait NonceStore {
         ensures same { IsTrue (seen self.old).is_honest → (seen self.new).kept ≡ (seen self.old).kept }
         ensures cause { IfErr result (λ f. f ≢ StoreFault.OutOfMemory → Rose (seen self.old) (seen self.new)) }
         ensures refused { IsErrOf result StoreFault.OutOfMemory → seen self.new ≡ seen self.old }
+        ensures memory { IsErrOf result StoreFault.OutOfMemory → may_refuse }
         ensures proceeds { Proceeds (seen self.old) (seen self.new) };
 
     /// Keeps the nonce for the pair. `Device` where the device failed: it is open then whether it is
-    /// kept. `OutOfMemory` changes nothing.
+    /// kept. `OutOfMemory` changes nothing, and comes only where the store may run out of memory.
     fn save(&mut self, pair: &Pair, nonce: u64) -> Result<(), StoreFault>
         // Done: this value alone is kept.
         ensures done { IsTrue (seen self.old).is_honest → OnOk result (kept_at (seen self.new).kept pair.now ≡ Some nonce ∷ []) }
@@ -42,6 +46,7 @@ pub trait NonceStore {
         ensures sound { result ≢ Err StoreFault.Damaged }
         ensures cause { IsErrOf result StoreFault.Device → Rose (seen self.old) (seen self.new) }
         ensures refused { IsErrOf result StoreFault.OutOfMemory → seen self.new ≡ seen self.old }
+        ensures memory { IsErrOf result StoreFault.OutOfMemory → may_refuse }
         ensures proceeds { Proceeds (seen self.old) (seen self.new) };
 }
 

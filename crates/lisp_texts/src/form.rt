@@ -29,7 +29,7 @@ pub fn xtr_from_text(text: &str) -> Option<[u8; 16]>
 }
 
 /// The secret of 1 to 256 bytes that hexadecimal digits stand for, in either letter case; `None` for
-/// any other text. It lies in memory of `alloc`.
+/// any other text. It lies in memory of `alloc`, for which the crate `hex` asks.
 pub fn secret_from_text<A: Allocator>(alloc: A, text: &str) -> Result<Option<Bytes<A>>, AllocError>
     ensures { IfOk result (λ secret. secret ≡ secret_text_of text.now) }
 {

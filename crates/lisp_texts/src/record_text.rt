@@ -1,6 +1,6 @@
 //! The texts of records.
 
-ghost use Rattle.std.specs.Prelude.{◌≡◌, ◌<◌, ◌==◌, ◌++◌, ◌∷◌, Some, map, IfSome, IfOk, OnOk, string_bytes};
+ghost use Rattle.std.specs.Prelude.{◌≡◌, ◌<◌, ◌==◌, ◌++◌, ◌∷◌, Some, map, IfSome, IfOk, OnErr, OnOk, string_bytes};
 ghost use Rattle.std.specs.List.{flat_map, slice_split};
 ghost use Rattle.std.specs.Option.{option_map};
 ghost use Rattle.lisp_records.specs.Record.{Mapping, IsMapping};
@@ -10,6 +10,7 @@ ghost use Rattle.lisp_texts.specs.Written.{numbers_text, locator_text, record_te
 
 use crate::number::number_from_text;
 use crate::text::{addr_from_text, prefix_from_text, put_addr, put_prefix};
+use lisp_memory::{FallibleString, FallibleVec, Memory};
 use lisp_records::{Addr, Locator, MapRecord, Prefix};
 use std::alloc::{AllocError, Allocator};
 
@@ -23,13 +24,14 @@ use std::alloc::{AllocError, Allocator};
 /// They are priority, weight, multicast priority and multicast weight, from 0 to 255; left out,
 /// they are 1, 100, 255 and 0. Numbers may have leading zeros. There are at most 255 locators.
 /// ACT and the Map-Version are 0, A is set; of a locator L and R are set, and p is clear.
-pub fn record_from_text<A: Allocator + Copy>(
+pub fn record_from_text<A: Memory + Copy>(
     alloc: A,
     text: &str,
 ) -> Result<Option<MapRecord<A>>, AllocError>
     ensures found { IfOk result (λ r. IfSome r (λ m. IsRecordText text.now m)) }
     ensures only { (m : Mapping) → IsRecordText text.now m → IfOk result (λ r. r ≡ Some m) }
     ensures exact { IfOk result (λ r. r ≡ record_text_of text.now) }
+    ensures memory { OnErr result A.may_refuse }
 {
     let pieces = pieces(alloc, text)?;
     record(alloc, &pieces)
@@ -37,11 +39,12 @@ pub fn record_from_text<A: Allocator + Copy>(
 
 /// The text of a record: its prefix, `=`, its TTL, and for each locator `+`, its address and its
 /// four numbers. ACT, A, the Map-Version and the locators' flags are not shown.
-pub fn record_to_text<A: Allocator, B: Allocator>(
+pub fn record_to_text<A: Memory, B: Allocator>(
     alloc: A,
     entry: &MapRecord<B>,
 ) -> Result<String<A>, AllocError>
     ensures text { IfOk result (λ t. string_bytes t ≡ record_text entry.now) }
+    ensures memory { OnErr result A.may_refuse }
 
     // Every record of the program has this text, so that what is written is read again.
     ensures known { IsMapping entry.now }
@@ -49,25 +52,28 @@ pub fn record_to_text<A: Allocator, B: Allocator>(
     let (ttl, locators) = (entry.ttl(), entry.locators());
     let mut text = String::new(alloc);
     put_prefix(&mut text, entry.eid())?;
-    write!(&mut text, "={ttl}")?;
+    text.try_write(format_args!("={ttl}"))?;
     put_locators(&mut text, locators)?;
     Ok(text)
 }
 
 // The pieces between plus signs.
-fn pieces<A: Allocator>(alloc: A, text: &str) -> Result<Vec<&str, A>, AllocError>
-    ensures { IfOk result (λ v. map (λ x. x.now) v.items ≡ slice_split (λ b. b == 43) text.now) }
+fn pieces<A: Memory>(alloc: A, text: &str) -> Result<Vec<&str, A>, AllocError>
+    ensures value { IfOk result (λ v. map (λ x. x.now) v.items ≡ slice_split (λ b. b == 43) text.now) }
+    ensures memory { OnErr result A.may_refuse }
 {
-    text.split('+').collect(alloc)
+    let mut pieces = Vec::new(alloc);
+    for piece in text.split('+') {
+        pieces.try_push(piece)?;
+    }
+    Ok(pieces)
 }
 
 // A record from its pieces.
 #[tactic(auto, unfolding(crate::specs::Reading::record_of))]
-fn record<A: Allocator + Copy>(
-    alloc: A,
-    pieces: &[&str],
-) -> Result<Option<MapRecord<A>>, AllocError>
-    ensures { IfOk result (λ r. r ≡ record_of (map (λ x. x.now) pieces.now)) }
+fn record<A: Memory + Copy>(alloc: A, pieces: &[&str]) -> Result<Option<MapRecord<A>>, AllocError>
+    ensures value { IfOk result (λ r. r ≡ record_of (map (λ x. x.now) pieces.now)) }
+    ensures memory { OnErr result A.may_refuse }
 {
     let [piece, pieces @ ..] = pieces else {
         return Ok(None);
@@ -93,15 +99,16 @@ fn front(text: &str) -> Option<(Prefix, u32)>
 }
 
 // The locators of pieces, one each.
-fn locators<A: Allocator>(alloc: A, pieces: &[&str]) -> Result<Option<Vec<Locator, A>>, AllocError>
-    ensures { IfOk result (λ r. option_map (λ v. v.items) r ≡ locators_of (map (λ x. x.now) pieces.now)) }
+fn locators<A: Memory>(alloc: A, pieces: &[&str]) -> Result<Option<Vec<Locator, A>>, AllocError>
+    ensures value { IfOk result (λ r. option_map (λ v. v.items) r ≡ locators_of (map (λ x. x.now) pieces.now)) }
+    ensures memory { OnErr result A.may_refuse }
 {
     let mut locators = Vec::new(alloc);
     for piece in pieces {
         let Some(locator) = locator(piece) else {
             return Ok(None);
         };
-        locators.push(locator)?;
+        locators.try_push(locator)?;
     }
     Ok(Some(locators))
 }
@@ -167,11 +174,12 @@ fn parted(text: &str, mark: char) -> Option<(&str, &str)>
 
 // Appends the texts of locators, each after a plus sign. Out of memory, it may leave a part of them.
 #[tactic(auto, using(crate::proofs::Appends::steps))]
-fn put_locators<A: Allocator>(text: &mut String<A>, locators: &[Locator]) -> Result<(), AllocError>
-    ensures { OnOk result (string_bytes text.new ≡ string_bytes text.old ++ flat_map (λ l. 43 ∷ locator_text l) locators.now) }
+fn put_locators<A: Memory>(text: &mut String<A>, locators: &[Locator]) -> Result<(), AllocError>
+    ensures text { OnOk result (string_bytes text.new ≡ string_bytes text.old ++ flat_map (λ l. 43 ∷ locator_text l) locators.now) }
+    ensures memory { OnErr result A.may_refuse }
 {
     for locator in locators {
-        text.push('+')?;
+        text.try_push('+')?;
         put_locator(text, locator)?;
     }
     Ok(())
@@ -179,20 +187,20 @@ fn put_locators<A: Allocator>(text: &mut String<A>, locators: &[Locator]) -> Res
 
 // Appends the text of a locator. Out of memory, it may leave a part of it.
 #[tactic(auto, using(crate::proofs::Appends::steps))]
-fn put_locator<A: Allocator>(text: &mut String<A>, locator: &Locator) -> Result<(), AllocError>
-    ensures { OnOk result (string_bytes text.new ≡ string_bytes text.old ++ locator_text locator.now) }
+fn put_locator<A: Memory>(text: &mut String<A>, locator: &Locator) -> Result<(), AllocError>
+    ensures text { OnOk result (string_bytes text.new ≡ string_bytes text.old ++ locator_text locator.now) }
+    ensures memory { OnErr result A.may_refuse }
 {
     put_addr(text, locator.addr)?;
-    put_numbers(text, locator)?;
-    Ok(())
+    put_numbers(text, locator)
 }
 
 // Appends the numbers of a locator, each after a slash.
-fn put_numbers<A: Allocator>(text: &mut String<A>, locator: &Locator) -> Result<(), AllocError>
-    ensures { OnOk result (string_bytes text.new ≡ string_bytes text.old ++ numbers_text locator.now) }
+fn put_numbers<A: Memory>(text: &mut String<A>, locator: &Locator) -> Result<(), AllocError>
+    ensures text { OnOk result (string_bytes text.new ≡ string_bytes text.old ++ numbers_text locator.now) }
+    ensures memory { OnErr result A.may_refuse }
 {
     let (priority, weight) = (locator.priority, locator.weight);
     let (m_priority, m_weight) = (locator.m_priority, locator.m_weight);
-    write!(text, "/{priority}/{weight}/{m_priority}/{m_weight}")?;
-    Ok(())
+    text.try_write(format_args!("/{priority}/{weight}/{m_priority}/{m_weight}"))
 }

@@ -1,6 +1,6 @@
 //! The texts of addresses and prefixes.
 
-ghost use Rattle.std.specs.Prelude.{◌≡◌, ◌<◌, ◌==◌, ◌++◌, IfSome, IfOk, OnOk, map, position, string_bytes};
+ghost use Rattle.std.specs.Prelude.{◌≡◌, ◌<◌, ◌==◌, ◌++◌, IfSome, IfOk, OnErr, OnOk, map, position, string_bytes};
 ghost use Rattle.std.specs.Fmt.{decimal};
 ghost use Rattle.std.specs.List.{join_with_byte};
 ghost use Rattle.std.specs.Option.{option_map};
@@ -9,8 +9,9 @@ ghost use Rattle.lisp_texts.specs.Text.{IsAddressText, IsPrefixText};
 ghost use Rattle.lisp_texts.specs.Reading.{cut, byte_of, digit_of, group_of, v4_of, v6_of, address_of, prefix_of};
 ghost use Rattle.lisp_texts.specs.Written.{hex_text, groups_text, addr_text, prefix_text};
 
+use lisp_memory::{FallibleString, Memory};
 use lisp_records::{Addr, Prefix};
-use std::alloc::{AllocError, Allocator};
+use std::alloc::AllocError;
 
 /// The address that a text spells, or `None`:
 ///
@@ -41,8 +42,9 @@ pub fn prefix_from_text(text: &str) -> Option<Prefix>
 
 /// The text of an address: for IPv4 four decimal numbers joined by dots, for IPv6 eight groups of
 /// four lower case hexadecimal digits joined by colons.
-pub fn addr_to_text<A: Allocator>(alloc: A, addr: &Addr) -> Result<String<A>, AllocError>
+pub fn addr_to_text<A: Memory>(alloc: A, addr: &Addr) -> Result<String<A>, AllocError>
     ensures text { IfOk result (λ t. string_bytes t ≡ addr_text addr.now) }
+    ensures memory { OnErr result A.may_refuse }
 
     // Every address of the program has this text, so that what is written is read again.
     ensures known { IsWhole addr.now }
@@ -55,8 +57,9 @@ pub fn addr_to_text<A: Allocator>(alloc: A, addr: &Addr) -> Result<String<A>, Al
 }
 
 /// The text of a prefix: its address as for [`addr_to_text`], `/`, and the mask length.
-pub fn prefix_to_text<A: Allocator>(alloc: A, prefix: &Prefix) -> Result<String<A>, AllocError>
+pub fn prefix_to_text<A: Memory>(alloc: A, prefix: &Prefix) -> Result<String<A>, AllocError>
     ensures text { IfOk result (λ t. string_bytes t ≡ prefix_text prefix.now) }
+    ensures memory { OnErr result A.may_refuse }
 
     // Every prefix of the program has this text, so that what is written is read again.
     ensures known { IsWhole prefix.now.addr }
@@ -173,23 +176,21 @@ fn place_of(text: &[u8], mark: u8) -> Option<usize>
 
 /// Appends the text of a prefix. Out of memory, it may leave a part of it.
 #[tactic(auto, using(crate::proofs::Appends::steps))]
-pub(crate) fn put_prefix<A: Allocator>(
-    text: &mut String<A>,
-    prefix: Prefix,
-) -> Result<(), AllocError>
+pub(crate) fn put_prefix<A: Memory>(text: &mut String<A>, prefix: Prefix) -> Result<(), AllocError>
     ensures text { OnOk result (string_bytes text.new ≡ string_bytes text.old ++ prefix_text prefix) }
+    ensures memory { OnErr result A.may_refuse }
     ensures known { IsWhole prefix.addr }
     ensures block { IsBlock prefix }
 {
     let mask_len = prefix.mask_len();
     put_addr(text, prefix.addr())?;
-    write!(text, "/{mask_len}")?;
-    Ok(())
+    text.try_write(format_args!("/{mask_len}"))
 }
 
 /// Appends the text of an address. Out of memory, it may leave a part of it.
-pub(crate) fn put_addr<A: Allocator>(text: &mut String<A>, addr: Addr) -> Result<(), AllocError>
-    ensures { OnOk result (string_bytes text.new ≡ string_bytes text.old ++ addr_text addr) }
+pub(crate) fn put_addr<A: Memory>(text: &mut String<A>, addr: Addr) -> Result<(), AllocError>
+    ensures text { OnOk result (string_bytes text.new ≡ string_bytes text.old ++ addr_text addr) }
+    ensures memory { OnErr result A.may_refuse }
 {
     match addr {
         Addr::V4(octets) => put_v4(text, octets),
@@ -198,21 +199,22 @@ pub(crate) fn put_addr<A: Allocator>(text: &mut String<A>, addr: Addr) -> Result
 }
 
 // Appends four decimal numbers, joined by dots.
-fn put_v4<A: Allocator>(text: &mut String<A>, octets: [u8; 4]) -> Result<(), AllocError>
-    ensures { OnOk result (string_bytes text.new ≡ string_bytes text.old ++ join_with_byte 46 (map decimal octets)) }
+fn put_v4<A: Memory>(text: &mut String<A>, octets: [u8; 4]) -> Result<(), AllocError>
+    ensures text { OnOk result (string_bytes text.new ≡ string_bytes text.old ++ join_with_byte 46 (map decimal octets)) }
+    ensures memory { OnErr result A.may_refuse }
 {
     let [a, b, c, d] = octets;
-    write!(text, "{a}.{b}.{c}.{d}")?;
-    Ok(())
+    text.try_write(format_args!("{a}.{b}.{c}.{d}"))
 }
 
 // Appends eight groups, joined by colons.
-fn put_v6<A: Allocator>(text: &mut String<A>, octets: [u8; 16]) -> Result<(), AllocError>
-    ensures { OnOk result (string_bytes text.new ≡ string_bytes text.old ++ join_with_byte 58 (groups_text octets)) }
+fn put_v6<A: Memory>(text: &mut String<A>, octets: [u8; 16]) -> Result<(), AllocError>
+    ensures text { OnOk result (string_bytes text.new ≡ string_bytes text.old ++ join_with_byte 58 (groups_text octets)) }
+    ensures memory { OnErr result A.may_refuse }
 {
     put_group(text, octets[0], octets[1])?;
     for at in 1..8 {
-        text.push(':')?;
+        text.try_push(':')?;
         put_group(text, octets[2 * at], octets[2 * at + 1])?;
     }
     Ok(())
@@ -220,9 +222,9 @@ fn put_v6<A: Allocator>(text: &mut String<A>, octets: [u8; 16]) -> Result<(), Al
 
 // Appends the four digits of a group.
 #[tactic(auto, using(crate::proofs::Appends::octets))]
-fn put_group<A: Allocator>(text: &mut String<A>, high: u8, low: u8) -> Result<(), AllocError>
-    ensures { OnOk result (string_bytes text.new ≡ string_bytes text.old ++ (hex_text high ++ hex_text low)) }
+fn put_group<A: Memory>(text: &mut String<A>, high: u8, low: u8) -> Result<(), AllocError>
+    ensures text { OnOk result (string_bytes text.new ≡ string_bytes text.old ++ (hex_text high ++ hex_text low)) }
+    ensures memory { OnErr result A.may_refuse }
 {
-    write!(text, "{high:02x}{low:02x}")?;
-    Ok(())
+    text.try_write(format_args!("{high:02x}{low:02x}"))
 }

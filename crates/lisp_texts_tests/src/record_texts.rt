@@ -1,6 +1,7 @@
 //! Texts of records, and what is written of records.
 
 use crate::support::{BOTH, BOTH_WRITTEN, IPV6_LOCATOR, assert_row, is_written};
+use lisp_memory::Memory;
 use lisp_records::{Addr, Locator, MapRecord};
 use lisp_samples::{LOCATOR, fields};
 use lisp_texts::{record_from_text, record_to_text};
@@ -108,7 +109,7 @@ fn records_are_written_with_all_their_numbers(rt: HostRuntime) {
 
 /// Whether the text spells the record of 10.1.0.0/16 with this TTL and these locators, in memory of
 /// `alloc`.
-pub fn spells_record<A: Allocator + Copy>(
+pub fn spells_record<A: Memory + Copy>(
     alloc: A,
     text: &str,
     ttl: u32,
@@ -135,7 +136,7 @@ fn spells_any(rt: &impl Abort, alloc: Global, text: &str) -> bool {
 }
 
 /// Whether this is written of the record that the text spells, in memory of `alloc`.
-pub fn rewrites_record<A: Allocator>(ample: Global, alloc: A, text: &str, wanted: &str) -> bool {
+pub fn rewrites_record<A: Memory>(ample: Global, alloc: A, text: &str, wanted: &str) -> bool {
     match record_from_text(ample, text) {
         Ok(Some(record)) => is_written(record_to_text(alloc, &record), wanted),
         _ => false,

@@ -1,11 +1,11 @@
 //! Texts of numbers, addresses and prefixes.
 
 use crate::support::{IPV6, IPV6_WRITTEN, assert_row, is_written};
+use lisp_memory::Memory;
 use lisp_records::Addr;
 use lisp_texts::{
     addr_from_text, addr_to_text, number_from_text, prefix_from_text, prefix_to_text,
 };
-use std::alloc::Allocator;
 
 /// Texts, and the numbers that they stand for.
 const NUMBERS: [(&str, Option<u64>); 12] = [
@@ -140,7 +140,7 @@ fn spells_prefix(text: &str, wanted: Option<(Addr, u8)>) -> bool {
 }
 
 /// Whether this is written of the prefix that the text spells, in memory of `alloc`.
-pub fn rewrites_prefix<A: Allocator>(alloc: A, text: &str, wanted: &str) -> bool {
+pub fn rewrites_prefix<A: Memory>(alloc: A, text: &str, wanted: &str) -> bool {
     match prefix_from_text(text) {
         Some(prefix) => is_written(prefix_to_text(alloc, &prefix), wanted),
         None => false,

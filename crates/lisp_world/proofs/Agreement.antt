@@ -9,7 +9,8 @@ use Rattle.lisp_records.specs.Record.{Mapping}
 use Rattle.lisp_records.specs.Router.{router_eq}
 use Rattle.lisp_records.specs.Row.{Holding, is_alive}
 use Rattle.lisp_lookup.specs.Table.{is_row_of, if_alive}
-use Rattle.lisp_server.specs.AcceptedRows.{router_of, origin_of, holding, holdings}
+use Rattle.lisp_checks.specs.Pairs.{router_of}
+use Rattle.lisp_server.specs.AcceptedRows.{origin_of, holding, holdings}
 use Rattle.lisp_server.proofs.KnownLaws.{turned}
 use Rattle.lisp_world.specs.Held.{Acceptance, named, held}
 use Rattle.lisp_world.proofs.ListLemmas.{at_head, in_tail}

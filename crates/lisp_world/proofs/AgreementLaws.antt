@@ -8,7 +8,7 @@ use Rattle.lisp_records.specs.declared.router.RouterId.{RouterId}
 use Rattle.lisp_records.specs.Address.{Block}
 use Rattle.lisp_records.specs.Row.{Holding}
 use Rattle.lisp_sites.specs.Configuration.{Configuration}
-use Rattle.lisp_server.specs.AcceptedRows.{router_of}
+use Rattle.lisp_checks.specs.Pairs.{router_of}
 use Rattle.lisp_world.specs.declared.event.Event.TheVariants as events
 use Rattle.lisp_world.specs.declared.line.Line.{Line}
 use Rattle.lisp_world.specs.declared.line.Line.TheVariants as lines

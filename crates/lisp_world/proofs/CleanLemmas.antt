@@ -15,11 +15,11 @@ use Rattle.lisp_sites.specs.Configuration.{Configuration}
 use Rattle.lisp_sites.specs.Site.{SiteEntry, KeyEntry, site_of, secret_of, key_of}
 use Rattle.lisp_messages.specs.Message.{Registration}
 use Rattle.lisp_messages.specs.Authentic.{is_authentic}
-use Rattle.lisp_server.specs.declared.refused.Refused.{Refused}
+use Rattle.lisp_checks.specs.declared.refused.Refused.{Refused}
 use Rattle.std.specs.Prelude.{ok_or, not}
-use Rattle.lisp_server.specs.declared.refused.Refused.TheVariants.{UnknownSite, UnknownKey, BadAuth, MergeAsked}
+use Rattle.lisp_checks.specs.declared.refused.Refused.TheVariants.{UnknownSite, UnknownKey, BadAuth, MergeAsked}
 use Rattle.lisp_records.specs.Result.{◌>>=◌}
-use Rattle.lisp_server.specs.Checks.{check, refused_at, first_not_allowed, secret_under}
+use Rattle.lisp_checks.specs.Checks.{check, refused_at, first_not_allowed, secret_under}
 use Rattle.lisp_world.specs.Trace.{addresses, address_at, node_at, is_server}
 use Rattle.lisp_world.proofs.ListLemmas.{at_head, in_tail, head_or_tail, in_none}
 

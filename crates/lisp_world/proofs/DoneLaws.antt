@@ -11,7 +11,7 @@ use Rattle.lisp_sites.specs.Configuration.{Configuration, HasServers}
 use Rattle.lisp_messages.specs.Message.{Notification}
 use Rattle.lisp_messages.specs.Authentic.{is_authentic}
 use Rattle.lisp_server.specs.Checks.{signed_by}
-use Rattle.lisp_server.specs.Contacts.{secret_at as known_secret}
+use Rattle.lisp_checks.specs.Checks.{secret_at as known_secret}
 use Rattle.lisp_world.specs.declared.line.Line.{Line}
 use Rattle.lisp_world.specs.declared.line.Line.TheVariants as lines
 use Rattle.lisp_world.specs.Trace.{Happening, Step, Opening, Shown, addresses, address_at, is_server, is_router, router_at, settings}

@@ -4,7 +4,7 @@ use Rattle.std.specs.List.{find}
 use Rattle.lisp_records.specs.Address.{block_eq}
 use Rattle.lisp_records.specs.Router.{router_eq}
 use Rattle.lisp_records.specs.Row.{Holding}
-use Rattle.lisp_server.specs.AcceptedRows.{router_of}
+use Rattle.lisp_checks.specs.Pairs.{router_of}
 use Rattle.lisp_world.specs.Trace.{Step, Opening, clock}
 use Rattle.lisp_world.specs.History.{record_for}
 use Rattle.lisp_world.specs.Bag.{since}

@@ -14,8 +14,8 @@ use Rattle.lisp_messages.specs.Reading.{message_at, kind_at}
 use Rattle.std.specs.declared.cmp.Ordering.TheVariants.{Less, Equal, Greater}
 use Rattle.lisp_lookup.specs.Answer.{may_answer, rank_cmp}
 use Rattle.lisp_lookup.specs.declared.answer.Answer.TheVariants.{NoSite, NotRegistered, Reply, Forward}
-use Rattle.lisp_server.specs.declared.notice_fault.NoticeFault.TheVariants as notice_faults
-use Rattle.lisp_server.specs.Checks.{first_not_allowed}
+use Rattle.lisp_checks.specs.declared.notice_fault.NoticeFault.TheVariants as notice_faults
+use Rattle.lisp_checks.specs.Checks.{first_not_allowed}
 use Rattle.lisp_world.specs.Answer.{IsAnswer}
 use Rattle.lisp_world.specs.Receiving.{FailsCheck}
 use Rattle.lisp_records.specs.Record.{Mapping}
@@ -23,8 +23,9 @@ use Rattle.lisp_records.specs.Row.{Holding}
 use Rattle.lisp_store.specs.declared.pair.Pair.{Pair}
 use Rattle.lisp_store.specs.declared.pair.PairKind.TheVariants as kinds
 use Rattle.lisp_store.specs.declared.fate.Fate.TheVariants as fates
-use Rattle.lisp_server.specs.declared.refused.Refused.TheVariants as refuseds
-use Rattle.lisp_server.specs.Notices.{notice_pair, due_after}
+use Rattle.lisp_checks.specs.declared.refused.Refused.TheVariants as refuseds
+use Rattle.lisp_checks.specs.Pairs.{notice_pair}
+use Rattle.lisp_server.specs.Notices.{due_after}
 use Rattle.lisp_etr.specs.declared.send_fault.SendFault.TheVariants as send_faults
 use Rattle.lisp_etr.specs.declared.notify_fault.NotifyFault.TheVariants as notify_faults
 use Rattle.lisp_world.specs.declared.event.Event.TheVariants as events

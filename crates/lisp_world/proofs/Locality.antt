@@ -8,7 +8,7 @@ use Rattle.lisp_world.specs.declared.event.Event.TheVariants as events
 use Rattle.lisp_world.specs.declared.line.Line.{Line}
 use Rattle.lisp_world.specs.declared.line.Line.TheVariants as lines
 use Rattle.lisp_world.specs.declared.refusal.Refusal.TheVariants as refusals
-use Rattle.lisp_server.specs.declared.refused.Refused.TheVariants as refuseds
+use Rattle.lisp_checks.specs.declared.refused.Refused.TheVariants as refuseds
 use Rattle.lisp_world.specs.Trace.{Happening, Step, Opening, shown, clock, time_of, up_after, database_after}
 use Rattle.lisp_world.specs.Held.{Acceptance}
 use Rattle.lisp_world.specs.Timers.{Sends, Notice, round_after, notices_after, last_notice_after}

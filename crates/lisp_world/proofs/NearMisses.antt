@@ -9,19 +9,19 @@ use Rattle.lisp_messages.specs.Message.{Registration, Registers}
 use Rattle.lisp_etr.specs.Hearing.{Heard}
 use Rattle.lisp_etr.specs.Sending.{last_nonce, IsBound}
 use Rattle.lisp_etr.specs.declared.send_fault.SendFault.TheVariants as send_faults
-use Rattle.lisp_server.specs.declared.refused.Refused.{Refused}
+use Rattle.lisp_checks.specs.declared.refused.Refused.{Refused}
 use Rattle.lisp_etr.specs.declared.notify_fault.NotifyFault.{NotifyFault}
-use Rattle.lisp_server.specs.Receiving.{IsBelow}
+use Rattle.lisp_checks.specs.Nonces.{IsBelow, nonce_after}
 use Rattle.lisp_world.specs.Counted.{heard}
-use Rattle.lisp_server.specs.Checks.{secret_under}
-use Rattle.lisp_server.specs.Notices.{notice_pair, nonce_after, due_after}
-use Rattle.lisp_server.specs.declared.notice_fault.NoticeFault.TheVariants as notice_faults
-use Rattle.lisp_server.specs.declared.refused.Refused.TheVariants as refuseds
+use Rattle.lisp_checks.specs.Checks.{secret_under}
+use Rattle.lisp_checks.specs.Pairs.{notice_pair, pair_of}
+use Rattle.lisp_server.specs.Notices.{due_after}
+use Rattle.lisp_checks.specs.declared.notice_fault.NoticeFault.TheVariants as notice_faults
+use Rattle.lisp_checks.specs.declared.refused.Refused.TheVariants as refuseds
 use Rattle.lisp_etr.specs.declared.start_fault.StartFault.TheVariants as start_faults
 use Rattle.lisp_store.specs.declared.fault.StoreFault.TheVariants as stores
 use Rattle.lisp_messages.specs.declared.fault.ReadFault.TheVariants as reads
 use Rattle.lisp_messages.specs.Reading.{kind_at}
-use Rattle.lisp_server.specs.AcceptedRows.{pair_of}
 use Rattle.lisp_world.specs.declared.event.Event.TheVariants as events
 use Rattle.lisp_world.specs.declared.line.Line.TheVariants as lines
 use Rattle.lisp_world.specs.declared.refusal.Refusal.TheVariants as refusals

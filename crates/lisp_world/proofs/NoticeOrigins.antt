@@ -11,11 +11,11 @@ use Rattle.lisp_sites.specs.Configuration.{Configuration}
 use Rattle.lisp_sites.specs.Site.{SiteEntry, site_of, secret_of}
 use Rattle.lisp_messages.specs.Message.{Registration}
 use Rattle.lisp_messages.specs.Authentic.{is_authentic}
-use Rattle.lisp_server.specs.declared.refused.Refused.{Refused}
-use Rattle.lisp_server.specs.declared.refused.Refused.TheVariants.{UnknownSite, UnknownKey, BadAuth, MergeAsked}
+use Rattle.lisp_checks.specs.declared.refused.Refused.{Refused}
+use Rattle.lisp_checks.specs.declared.refused.Refused.TheVariants.{UnknownSite, UnknownKey, BadAuth, MergeAsked}
 use Rattle.lisp_records.specs.Result.{◌>>=◌}
-use Rattle.lisp_server.specs.Checks.{check, refused_at, first_not_allowed, secret_under}
-use Rattle.lisp_server.specs.AcceptedRows.{router_of}
+use Rattle.lisp_checks.specs.Checks.{check, refused_at, first_not_allowed, secret_under}
+use Rattle.lisp_checks.specs.Pairs.{router_of}
 use Rattle.lisp_world.specs.declared.event.Event.TheVariants as events
 use Rattle.lisp_world.specs.declared.line.Line.{Line}
 use Rattle.lisp_world.specs.declared.line.Line.TheVariants as lines

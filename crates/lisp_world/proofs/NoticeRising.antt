@@ -10,11 +10,12 @@ use Rattle.lisp_store.specs.declared.pair.PairKind.TheVariants as kinds
 use Rattle.lisp_store.specs.Kept.{Kept, kept_at, number, InDoubt, NoneBelow}
 use Rattle.lisp_etr.specs.declared.send_fault.SendFault.{SendFault}
 use Rattle.lisp_etr.specs.declared.send_fault.SendFault.TheVariants as sends
-use Rattle.lisp_server.specs.declared.refused.Refused.{Refused}
-use Rattle.lisp_server.specs.declared.refused.Refused.TheVariants as refuseds
-use Rattle.lisp_server.specs.declared.notice_fault.NoticeFault.{NoticeFault}
-use Rattle.lisp_server.specs.declared.notice_fault.NoticeFault.TheVariants as announcements
-use Rattle.lisp_server.specs.Notices.{notice_pair, nonce_after}
+use Rattle.lisp_checks.specs.declared.refused.Refused.{Refused}
+use Rattle.lisp_checks.specs.declared.refused.Refused.TheVariants as refuseds
+use Rattle.lisp_checks.specs.declared.notice_fault.NoticeFault.{NoticeFault}
+use Rattle.lisp_checks.specs.declared.notice_fault.NoticeFault.TheVariants as announcements
+use Rattle.lisp_checks.specs.Pairs.{notice_pair}
+use Rattle.lisp_checks.specs.Nonces.{nonce_after}
 use Rattle.lisp_world.specs.declared.event.Event.TheVariants as events
 use Rattle.lisp_world.specs.declared.line.Line.{Line}
 use Rattle.lisp_world.specs.declared.line.Line.TheVariants as lines

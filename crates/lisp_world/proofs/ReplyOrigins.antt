@@ -8,7 +8,7 @@ use Rattle.lisp_messages.specs.declared.fault.ReadFault.{ReadFault}
 use Rattle.lisp_messages.specs.Message.{Said, Registration, Notification, Registers, Notifies}
 use Rattle.lisp_etr.specs.Hearing.{first_notice, ack_of}
 use Rattle.lisp_server.specs.Checks.{notification_of}
-use Rattle.lisp_server.specs.Notices.{nonce_after}
+use Rattle.lisp_checks.specs.Nonces.{nonce_after}
 use Rattle.lisp_world.specs.declared.event.Event.TheVariants as events
 use Rattle.lisp_world.specs.declared.line.Line.{Line}
 use Rattle.lisp_world.specs.declared.line.Line.TheVariants as lines

@@ -6,7 +6,7 @@ use Rattle.std.specs.Option.{option_map}
 use Rattle.std.proofs.lemmas.List.Elements.{Contains-append_cases}
 use Rattle.lisp_store.specs.declared.pair.Pair.{Pair}
 use Rattle.lisp_store.specs.Kept.{InDoubt}
-use Rattle.lisp_server.specs.Receiving.{IsBelow}
+use Rattle.lisp_checks.specs.Nonces.{IsBelow}
 use Rattle.lisp_world.specs.Held.{Acceptance, is_of_pair, last_of}
 use Rattle.lisp_world.specs.Accepted.{nonces_of}
 use Rattle.lisp_world.specs.Turn.{IsBase}

@@ -10,8 +10,8 @@ use Rattle.lisp_store.specs.declared.pair.PairKind.{PairKind}
 use Rattle.lisp_store.specs.declared.pair.PairKind.TheVariants as kinds
 use Rattle.lisp_store.specs.Pair.{pair_cmp}
 use Rattle.lisp_store.specs.Kept.{kept_at}
-use Rattle.lisp_server.specs.declared.refused.Refused.TheVariants.{Replay}
-use Rattle.lisp_server.specs.AcceptedRows.{pair_of}
+use Rattle.lisp_checks.specs.declared.refused.Refused.TheVariants.{Replay}
+use Rattle.lisp_checks.specs.Pairs.{pair_of}
 use Rattle.lisp_world.specs.declared.event.Event.TheVariants as events
 use Rattle.lisp_world.specs.declared.line.Line.TheVariants as lines
 use Rattle.lisp_world.specs.declared.refusal.Refusal.TheVariants as refusals

@@ -11,12 +11,11 @@ use Rattle.lisp_store.specs.Kept.{Kept, kept_at, InDoubt}
 use Rattle.lisp_messages.specs.Message.{Registration, Registers}
 use Rattle.lisp_etr.specs.declared.send_fault.SendFault.{SendFault}
 use Rattle.lisp_etr.specs.declared.send_fault.SendFault.TheVariants as sends
-use Rattle.lisp_server.specs.declared.refused.Refused.{Refused}
-use Rattle.lisp_server.specs.declared.refused.Refused.TheVariants as refuseds
-use Rattle.lisp_server.specs.declared.notice_fault.NoticeFault.{NoticeFault}
-use Rattle.lisp_server.specs.declared.notice_fault.NoticeFault.TheVariants as announcements
-use Rattle.lisp_server.specs.Notices.{notice_pair}
-use Rattle.lisp_server.specs.AcceptedRows.{pair_of}
+use Rattle.lisp_checks.specs.declared.refused.Refused.{Refused}
+use Rattle.lisp_checks.specs.declared.refused.Refused.TheVariants as refuseds
+use Rattle.lisp_checks.specs.declared.notice_fault.NoticeFault.{NoticeFault}
+use Rattle.lisp_checks.specs.declared.notice_fault.NoticeFault.TheVariants as announcements
+use Rattle.lisp_checks.specs.Pairs.{notice_pair, pair_of}
 use Rattle.lisp_world.specs.declared.event.Event.TheVariants as events
 use Rattle.lisp_world.specs.declared.line.Line.{Line}
 use Rattle.lisp_world.specs.declared.line.Line.TheVariants as lines

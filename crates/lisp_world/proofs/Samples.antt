@@ -15,7 +15,7 @@ use Rattle.lisp_store.specs.declared.pair.PairKind.TheVariants as kinds
 use Rattle.lisp_store.specs.Kept.{kept_at}
 use Rattle.lisp_store.specs.declared.fault.StoreFault.TheVariants as stores
 use Rattle.lisp_etr.specs.declared.send_fault.SendFault.TheVariants as send_faults
-use Rattle.lisp_server.specs.Notices.{notice_pair}
+use Rattle.lisp_checks.specs.Pairs.{notice_pair}
 use Rattle.lisp_world.specs.declared.refusal.Refusal.{Refusal}
 use Rattle.lisp_messages.specs.Message.{Registration}
 use Rattle.lisp_etr.specs.Sending.{registration_of}
@@ -23,7 +23,7 @@ use Rattle.lisp_world.specs.declared.event.Event.TheVariants as events
 use Rattle.lisp_world.specs.declared.line.Line.{Line}
 use Rattle.lisp_world.specs.declared.line.Line.TheVariants as lines
 use Rattle.lisp_world.specs.declared.refusal.Refusal.TheVariants as refusals
-use Rattle.lisp_server.specs.declared.refused.Refused.TheVariants as refuseds
+use Rattle.lisp_checks.specs.declared.refused.Refused.TheVariants as refuseds
 use Rattle.lisp_world.specs.Trace.{Happening, Shown, Step, Opening, settings_of, router_at, shown}
 
 -- the last part of an xTR-ID

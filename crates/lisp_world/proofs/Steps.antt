@@ -11,14 +11,14 @@ use Rattle.lisp_store.specs.declared.pair.Pair.{Pair}
 use Rattle.lisp_store.specs.declared.fate.Fate.TheVariants as fates
 use Rattle.lisp_records.specs.Database.{database_of, repeats as repeats_in}
 use Rattle.lisp_records.specs.Written.{written}
-use Rattle.lisp_server.specs.declared.refused.Refused.TheVariants as refuseds
-use Rattle.lisp_server.specs.Notices.{notice_pair, nonce_after}
-use Rattle.lisp_server.specs.Receiving.{IsBelow}
+use Rattle.lisp_checks.specs.declared.refused.Refused.TheVariants as refuseds
+use Rattle.lisp_checks.specs.Pairs.{notice_pair}
+use Rattle.lisp_checks.specs.Nonces.{nonce_after, IsBelow}
 use Rattle.lisp_world.specs.declared.event.Event.TheVariants as events
 use Rattle.lisp_world.specs.declared.refusal.Refusal.TheVariants as refusals
 use Rattle.lisp_messages.specs.Message.{Said, IsRegistration, AreRecords, Registers, Notifies}
 use Rattle.lisp_messages.specs.Authentic.{is_authentic}
-use Rattle.lisp_server.specs.Checks.{secret_under, first_not_allowed}
+use Rattle.lisp_checks.specs.Checks.{secret_under, first_not_allowed}
 use Rattle.lisp_etr.specs.declared.notify_fault.NotifyFault.TheVariants.{NotMine, BadAuth}
 use Rattle.lisp_records.specs.Result.{◌>>=◌}
 use Rattle.lisp_etr.specs.Hearing.{check, checked, Heard, first_notice, is_latest}

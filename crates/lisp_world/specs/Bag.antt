@@ -7,7 +7,7 @@ use Rattle.lisp_messages.specs.declared.fault.ReadFault.{ReadFault}
 use Rattle.lisp_messages.specs.Message.{Said, Registration, Notification, Registers, Notifies}
 use Rattle.lisp_messages.specs.Authentic.{signed}
 use Rattle.lisp_messages.specs.Written.{written}
-use Rattle.lisp_messages.specs.Reading.{kind_at, message_at}
+use Rattle.lisp_messages.specs.Reading.{message_at}
 use Rattle.lisp_etr.specs.Hearing.{ack_of}
 use Rattle.lisp_etr.specs.Sending.{registration_of}
 use Rattle.lisp_server.specs.Checks.{notification_of}
@@ -47,10 +47,6 @@ abbrev pub arrival_in : List Item → Happening → Option Arrival
 arrival_in bag (events.Deliver k _) = option_map arrival_of (slice_get bag k)
 arrival_in bag (events.Junk _ from bytes) = Some (thrown from bytes)
 arrival_in bag _ = None
-
--- its first bytes are those of a message: before they are read nothing takes memory
-abbrev pub HasHead : Arrival → Type 0
-HasHead a = (fault : ReadFault) → kind_at a.bytes ≢ Err fault
 
 -- the Map-Register, and the Map-Notify or Map-Notify-Ack, that was read
 abbrev pub as_register : Result Said ReadFault → Option Registration

@@ -1,8 +1,8 @@
 -- The numbers of refusals, and of a network's faults.
 use Rattle.std.specs.Prelude.{ℕ}
 use Rattle.lisp_etr.specs.Faults.{start_fault_number, send_fault_number, notify_fault_number}
-use Rattle.lisp_server.specs.Refused.{refused_number}
-use Rattle.lisp_server.specs.NoticeFault.{notice_fault_number}
+use Rattle.lisp_checks.specs.Refused.{refused_number}
+use Rattle.lisp_checks.specs.NoticeFault.{notice_fault_number}
 use Rattle.lisp_world.specs.declared.refusal.Refusal.{Refusal}
 use Rattle.lisp_world.specs.declared.refusal.Refusal.TheVariants as refusals
 use Rattle.lisp_world.specs.declared.fault.WorldFault.{WorldFault}

@@ -3,11 +3,12 @@ use Rattle.std.specs.Prelude.{◌≡◌, ◌⊎◌, ℕ, nat_le, true, length, R
 use Rattle.lisp_etr.specs.declared.notify_fault.NotifyFault.{NotifyFault}
 use Rattle.lisp_etr.specs.declared.notify_fault.NotifyFault.TheVariants.{Stale, OutOfMemory}
 use Rattle.lisp_etr.specs.Hearing.{Heard, first_notice, is_latest}
+use Rattle.lisp_messages.specs.Reading.{HasHead}
 use Rattle.lisp_world.specs.declared.line.Line.{Line}
 use Rattle.lisp_world.specs.declared.line.Line.TheVariants as lines
 use Rattle.lisp_world.specs.declared.refusal.Refusal.TheVariants as refusals
 use Rattle.lisp_world.specs.Trace.{settings}
-use Rattle.lisp_world.specs.Bag.{HasHead, Arrival, bag}
+use Rattle.lisp_world.specs.Bag.{Arrival, bag}
 use Rattle.lisp_world.specs.Counted.{heard, latest}
 use Rattle.lisp_world.specs.Turn.{Turn, IsRouters, Same}
 
@@ -31,4 +32,4 @@ line_of t (Err fault) = refused_with t fault
 pub record Hears (t : Turn) (a : Arrival) (line : Line) : Type 0 where
   pub acts : IsRouters t t.node true
   pub same : Same t
-  pub comes : (line ≡ line_of t (heard t.opening t.past t.node a)) ⊎ (HasHead a × (line ≡ refused_with t OutOfMemory))
+  pub comes : (line ≡ line_of t (heard t.opening t.past t.node a)) ⊎ (HasHead a.bytes × (line ≡ refused_with t OutOfMemory))

@@ -11,9 +11,9 @@ use Rattle.lisp_etr.specs.Hearing.{Heard, first_notice, is_latest}
 use Rattle.lisp_etr.specs.Sending.{last_nonce}
 use Rattle.lisp_etr.specs.declared.notify_fault.NotifyFault.TheVariants as notifies
 use Rattle.lisp_etr.specs.declared.send_fault.SendFault.TheVariants as sends
-use Rattle.lisp_server.specs.declared.refused.Refused.TheVariants as refuseds
-use Rattle.lisp_server.specs.Receiving.{IsBelow}
-use Rattle.lisp_server.specs.AcceptedRows.{pair_of}
+use Rattle.lisp_checks.specs.declared.refused.Refused.TheVariants as refuseds
+use Rattle.lisp_checks.specs.Nonces.{IsBelow}
+use Rattle.lisp_checks.specs.Pairs.{pair_of}
 use Rattle.lisp_world.specs.declared.event.Event.TheVariants as events
 use Rattle.lisp_world.specs.declared.line.Line.{Line}
 use Rattle.lisp_world.specs.declared.line.Line.TheVariants as lines

@@ -4,9 +4,10 @@ use Rattle.lisp_records.specs.Database.{database_of}
 use Rattle.lisp_records.specs.Record.{Mapping}
 use Rattle.lisp_records.specs.declared.database.DatabaseFault.{DatabaseFault}
 use Rattle.lisp_store.specs.Kept.{number}
-use Rattle.lisp_server.specs.declared.notice_fault.NoticeFault.{NoticeFault}
-use Rattle.lisp_server.specs.declared.notice_fault.NoticeFault.TheVariants.{NotRegistered, TooLarge, StoreLoad, NonceSpent, OutOfMemory, StoreSave, NotDue}
-use Rattle.lisp_server.specs.Notices.{notice_pair, nonce_after}
+use Rattle.lisp_checks.specs.declared.notice_fault.NoticeFault.{NoticeFault}
+use Rattle.lisp_checks.specs.declared.notice_fault.NoticeFault.TheVariants.{NotRegistered, TooLarge, StoreLoad, NonceSpent, OutOfMemory, StoreSave, NotDue}
+use Rattle.lisp_checks.specs.Pairs.{notice_pair}
+use Rattle.lisp_checks.specs.Nonces.{nonce_after}
 use Rattle.lisp_world.specs.Trace.{router_at, is_router, clock}
 use Rattle.lisp_world.specs.Held.{Acceptance, heard_last, records_of}
 use Rattle.lisp_world.specs.Timers.{last_notice, notice_to, is_due}

@@ -8,8 +8,8 @@ use Rattle.lisp_records.specs.Row.{Holding}
 use Rattle.lisp_records.specs.declared.router.RouterId.{RouterId}
 use Rattle.lisp_sites.specs.Configuration.{Configuration}
 use Rattle.lisp_store.specs.declared.pair.Pair.{Pair}
-use Rattle.lisp_server.specs.AcceptedRows.{pair_of}
-use Rattle.lisp_server.specs.declared.refused.Refused.TheVariants.{Replay}
+use Rattle.lisp_checks.specs.Pairs.{pair_of}
+use Rattle.lisp_checks.specs.declared.refused.Refused.TheVariants.{Replay}
 use Rattle.lisp_world.specs.declared.event.Event.TheVariants as events
 use Rattle.lisp_world.specs.declared.line.Line.TheVariants as lines
 use Rattle.lisp_world.specs.declared.refusal.Refusal.TheVariants.{Receive}

@@ -8,15 +8,16 @@ use Rattle.lisp_store.specs.declared.pair.Pair.{Pair}
 use Rattle.lisp_store.specs.declared.fault.StoreFault.{StoreFault}
 use Rattle.lisp_messages.specs.declared.fault.ReadFault.{ReadFault}
 use Rattle.lisp_messages.specs.Message.{Said, Registration, Notification, Registers, Notifies}
-use Rattle.lisp_server.specs.declared.refused.Refused.{Refused}
-use Rattle.lisp_server.specs.declared.refused.Refused.TheVariants.{Read, NotMine, BadAuth, StoreLoad, Replay, OutOfMemory, StoreSave, NoNotice}
-use Rattle.lisp_server.specs.Receiving.{IsBelow}
-use Rattle.lisp_server.specs.AcceptedRows.{router_of, pair_of}
-use Rattle.lisp_server.specs.Checks.{secret_under, signed_by}
-use Rattle.lisp_server.specs.Contacts.{secret_at}
+use Rattle.lisp_checks.specs.declared.refused.Refused.{Refused}
+use Rattle.lisp_checks.specs.declared.refused.Refused.TheVariants.{Read, NotMine, BadAuth, StoreLoad, Replay, OutOfMemory, StoreSave, NoNotice}
+use Rattle.lisp_checks.specs.Nonces.{IsBelow}
+use Rattle.lisp_checks.specs.Pairs.{router_of, pair_of}
+use Rattle.lisp_checks.specs.Checks.{secret_under, secret_at}
+use Rattle.lisp_server.specs.Checks.{signed_by}
+use Rattle.lisp_messages.specs.Reading.{HasHead}
 use Rattle.lisp_world.specs.Held.{last_of}
 use Rattle.lisp_world.specs.Timers.{Notice, notices}
-use Rattle.lisp_world.specs.Bag.{HasHead, Item, Arrival, bag, since}
+use Rattle.lisp_world.specs.Bag.{Item, Arrival, bag, since}
 use Rattle.lisp_world.specs.Turn.{Turn, IsServers, values, values_after, Same, SameOthers, LoadFails, SaveFails, IsBase}
 
 -- the last nonce of a pair since the server's start
@@ -119,6 +120,6 @@ pub record NotSaved (t : Turn) (a : Arrival) (fault : StoreFault) : Type 0 where
 abbrev pub RefusesMessage : Turn → Arrival → Refused → Type 0
 RefusesMessage t a (StoreLoad fault) = NotLoaded t a fault
 RefusesMessage t a (Replay saved) = Replays t a saved
-RefusesMessage t a OutOfMemory = HasHead a × Same t
+RefusesMessage t a OutOfMemory = HasHead a.bytes × Same t
 RefusesMessage t a (StoreSave fault) = NotSaved t a fault
 RefusesMessage t a why = FailsCheck t a a.read why × Same t

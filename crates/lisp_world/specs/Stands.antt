@@ -21,7 +21,8 @@ use Rattle.lisp_server.specs.Server.{ServerState}
 use Rattle.lisp_server.specs.LastNonces.{nonce_at}
 use Rattle.lisp_server.specs.Contacts.{contact_at}
 use Rattle.lisp_server.specs.Receiving.{contact_of}
-use Rattle.lisp_server.specs.Notices.{Standing, notice_at, notice_pair}
+use Rattle.lisp_checks.specs.Pairs.{notice_pair}
+use Rattle.lisp_server.specs.Notices.{Standing, notice_at}
 use Rattle.lisp_world.specs.Trace.{Shown, Step, Opening, router_at, settings, address_at, shown, clock, is_up, database}
 use Rattle.lisp_world.specs.Held.{last_of, heard_last, held}
 use Rattle.lisp_world.specs.Timers.{round, Notice, notice_to, last_notice}

@@ -12,7 +12,7 @@ use Rattle.lisp_sites.specs.Site.{SiteEntry}
 use Rattle.lisp_sites.specs.Configuration.{Configuration, Router}
 use Rattle.lisp_store.specs.Kept.{Kept}
 use Rattle.lisp_etr.specs.Config.{Settings}
-use Rattle.lisp_server.specs.Contacts.{secret_at as known_secret}
+use Rattle.lisp_checks.specs.Checks.{secret_at as known_secret}
 use Rattle.lisp_world.specs.declared.event.Event.{Event}
 use Rattle.lisp_world.specs.declared.event.Event.TheVariants as events
 use Rattle.lisp_world.specs.declared.line.Line.{Line}

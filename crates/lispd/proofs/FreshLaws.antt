@@ -14,20 +14,23 @@ use Rattle.lisp_store.specs.Pair.{pair_cmp}
 use Rattle.lisp_store.specs.Kept.{kept_at}
 use Rattle.lisp_store.specs.Memory.{memory_state}
 use Rattle.lisp_store.specs.Store.{StoreState, Rose, Proceeds}
-use Rattle.lisp_messages.specs.Message.{Said, Registers, Notifies, Notification}
+use Rattle.std.specs.Result.{IsErrOf}
+use Rattle.lisp_messages.specs.Message.{Registration, Said, Registers, Notifies, Notification}
+use Rattle.lisp_messages.specs.Reading.{HasHead, message_at}
 use Rattle.lisp_messages.specs.declared.fault.ReadFault.{ReadFault}
-use Rattle.lisp_server.specs.Checks.{Passed, register_checked, RefusesAck}
+use Rattle.lisp_server.specs.Checks.{register_checked, RefusesAck}
 use Rattle.lisp_server.specs.Notices.{Standing, notice_at}
 use Rattle.lisp_server.specs.LastNonces.{nonce_at}
-use Rattle.lisp_server.specs.Receiving.{IsBase, Takes, RefusesRegister, RefusesRead, Refuses, HasCause}
-use Rattle.lisp_server.specs.AcceptedRows.{pair_of}
+use Rattle.lisp_checks.specs.Nonces.{IsBase, HasCause}
+use Rattle.lisp_server.specs.Receiving.{Takes, RefusesRegister, RefusesRead, Refuses}
+use Rattle.lisp_checks.specs.Pairs.{pair_of}
 use Rattle.lisp_server.specs.Server.{ServerState}
 use Rattle.lisp_server.specs.Took.{reply_in}
 use Rattle.lisp_server.specs.declared.took.Took.{Took}
 use Rattle.lisp_server.specs.declared.took.Took.TheVariants.{Accepted, NoticeDone}
-use Rattle.lisp_server.specs.declared.refused.Refused.{Refused}
-use Rattle.lisp_server.specs.declared.refused.Refused.TheVariants as refusals
-use Rattle.lispd.specs.Answer.{answer_to, read_answer, IsOutOfMemory}
+use Rattle.lisp_checks.specs.declared.refused.Refused.{Refused}
+use Rattle.lisp_checks.specs.declared.refused.Refused.TheVariants as refusals
+use Rattle.lispd.specs.Answer.{answer_to, read_answer, answer_of, RanOut}
 
 abbrev fresh_server : List SiteEntry → ServerState
 fresh_server sites = record { sites = sites; rows = []; nonces = empty; contacts = []; notices = [] }
@@ -89,35 +92,45 @@ taken sites (Ok (Notifies m)) from bytes new after (Accepted router key nonce re
 taken sites (Ok (Notifies m)) from bytes new after (NoticeDone router nonce) e = absurd (none_stands e.notice.router e.notice e.acknowledges.awaiting.stands)
 taken sites (Err fault) from bytes new after took never = absurd never
 
-register_refused : (sites : List SiteEntry) (c : Result Passed Refused) (after : StoreState) (why : Refused) → Proceeds fresh_store after → RefusesRegister c (fresh_server sites) fresh_store after why → IsOutOfMemory why ⊎ (answer_to c ≡ Err why)
-register_refused sites c after (refusals.StoreLoad fault) went r = inl (only_memory after fault went r.cause)
-register_refused sites c after (refusals.StoreSave fault) went r = inl (only_memory after fault went r.cause)
-register_refused sites c after refusals.OutOfMemory went r = inl tt
-register_refused sites c after (refusals.Replay saved) went r = absurd (no_base (pair_of r.passed.message) saved r.base)
-register_refused sites c after (refusals.Read _) went r = inr (ap answer_to r.0)
-register_refused sites c after refusals.NotMine went r = inr (ap answer_to r.0)
-register_refused sites c after refusals.UnknownSite went r = inr (ap answer_to r.0)
-register_refused sites c after refusals.UnknownKey went r = inr (ap answer_to r.0)
-register_refused sites c after refusals.BadAuth went r = inr (ap answer_to r.0)
-register_refused sites c after refusals.MergeAsked went r = inr (ap answer_to r.0)
-register_refused sites c after (refusals.NotAllowed _) went r = inr (ap answer_to r.0)
-register_refused sites c after refusals.NoNotice went r = inr (ap answer_to r.0)
+-- what a refusal that is out of memory shows, of the server's own or of its store
+pub record Excuse (T : Type 0) (may : Type 0) (bytes : List ℕ) (why : Refused) : Type 0 where
+  pub own : IsErrOf {T = T} (Err why) refusals.OutOfMemory → may × HasHead bytes
+  pub load : IsErrOf {T = T} (Err why) (refusals.StoreLoad faults.OutOfMemory) → may
+  pub save : IsErrOf {T = T} (Err why) (refusals.StoreSave faults.OutOfMemory) → may
 
-read_refused : (sites : List SiteEntry) (said : Result Said ReadFault) (from : Addr) (bytes : List ℕ) (after : StoreState) (why : Refused) → Proceeds fresh_store after → RefusesRead said from bytes (fresh_server sites) fresh_store after why → IsOutOfMemory why ⊎ (read_answer sites bytes said ≡ Err why)
-read_refused sites (Ok (Registers m)) from bytes after why went r = register_refused sites (register_checked sites bytes m) after why went r
-read_refused sites (Ok (Notifies m)) from bytes after why went r = inr (ap Err (ack_refused sites from bytes m why r.0))
-read_refused sites (Err fault) from bytes after why went r = inr (ap Err (sym r.0))
+register_refused : {T : Type 0} (may : Type 0) (sites : List SiteEntry) (bytes : List ℕ) (m : Registration) (after : StoreState) (why : Refused) → message_at bytes ≡ Ok (Registers m) → Excuse T may bytes why → Proceeds fresh_store after → RefusesRegister (register_checked sites bytes m) (fresh_server sites) fresh_store after why → (may × RanOut sites bytes why) ⊎ (answer_to (register_checked sites bytes m) ≡ Err why)
+register_refused may sites bytes m after (refusals.StoreLoad fault) read out went r =
+    let ran = only_memory after fault went r.cause in
+    inl (out.load (ap (λ (f : StoreFault). Err (refusals.StoreLoad f)) ran), (ran, (m, r.passed, read, r.checks)))
+register_refused may sites bytes m after (refusals.StoreSave fault) read out went r =
+    let ran = only_memory after fault went r.cause in
+    inl (out.save (ap (λ (f : StoreFault). Err (refusals.StoreSave f)) ran), (ran, (m, r.passed, read, r.checks)))
+register_refused may sites bytes m after refusals.OutOfMemory read out went r = inl (out.own refl)
+register_refused may sites bytes m after (refusals.Replay saved) read out went r = absurd (no_base (pair_of r.passed.message) saved r.base)
+register_refused may sites bytes m after (refusals.Read _) read out went r = inr (ap answer_to r.0)
+register_refused may sites bytes m after refusals.NotMine read out went r = inr (ap answer_to r.0)
+register_refused may sites bytes m after refusals.UnknownSite read out went r = inr (ap answer_to r.0)
+register_refused may sites bytes m after refusals.UnknownKey read out went r = inr (ap answer_to r.0)
+register_refused may sites bytes m after refusals.BadAuth read out went r = inr (ap answer_to r.0)
+register_refused may sites bytes m after refusals.MergeAsked read out went r = inr (ap answer_to r.0)
+register_refused may sites bytes m after (refusals.NotAllowed _) read out went r = inr (ap answer_to r.0)
+register_refused may sites bytes m after refusals.NoNotice read out went r = inr (ap answer_to r.0)
 
-pub refused : (sites : List SiteEntry) (said : Result Said ReadFault) (from : Addr) (bytes : List ℕ) (after : StoreState) (why : Refused) → Proceeds fresh_store after → Refuses said from bytes (fresh_server sites) fresh_store after why → IsOutOfMemory why ⊎ (read_answer sites bytes said ≡ Err why)
-refused sites said from bytes after refusals.OutOfMemory went r = inl tt
-refused sites said from bytes after (refusals.StoreLoad x) went r = read_refused sites said from bytes after (refusals.StoreLoad x) went r
-refused sites said from bytes after (refusals.StoreSave x) went r = read_refused sites said from bytes after (refusals.StoreSave x) went r
-refused sites said from bytes after (refusals.Replay x) went r = read_refused sites said from bytes after (refusals.Replay x) went r
-refused sites said from bytes after (refusals.Read x) went r = read_refused sites said from bytes after (refusals.Read x) went r
-refused sites said from bytes after refusals.NotMine went r = read_refused sites said from bytes after refusals.NotMine went r
-refused sites said from bytes after refusals.UnknownSite went r = read_refused sites said from bytes after refusals.UnknownSite went r
-refused sites said from bytes after refusals.UnknownKey went r = read_refused sites said from bytes after refusals.UnknownKey went r
-refused sites said from bytes after refusals.BadAuth went r = read_refused sites said from bytes after refusals.BadAuth went r
-refused sites said from bytes after refusals.MergeAsked went r = read_refused sites said from bytes after refusals.MergeAsked went r
-refused sites said from bytes after (refusals.NotAllowed x) went r = read_refused sites said from bytes after (refusals.NotAllowed x) went r
-refused sites said from bytes after refusals.NoNotice went r = read_refused sites said from bytes after refusals.NoNotice went r
+read_refused : {T : Type 0} (may : Type 0) (sites : List SiteEntry) (said : Result Said ReadFault) (from : Addr) (bytes : List ℕ) (after : StoreState) (why : Refused) → message_at bytes ≡ said → Excuse T may bytes why → Proceeds fresh_store after → RefusesRead said from bytes (fresh_server sites) fresh_store after why → (may × RanOut sites bytes why) ⊎ (read_answer sites bytes said ≡ Err why)
+read_refused may sites (Ok (Registers m)) from bytes after why read out went r = register_refused may sites bytes m after why read out went r
+read_refused may sites (Ok (Notifies m)) from bytes after why read out went r = inr (ap Err (ack_refused sites from bytes m why r.0))
+read_refused may sites (Err fault) from bytes after why read out went r = inr (ap Err (sym r.0))
+
+pub refused : {T : Type 0} (may : Type 0) (sites : List SiteEntry) (from : Addr) (bytes : List ℕ) (after : StoreState) (why : Refused) → Excuse T may bytes why → Proceeds fresh_store after → Refuses (message_at bytes) from bytes (fresh_server sites) fresh_store after why → (may × RanOut sites bytes why) ⊎ (answer_of sites bytes ≡ Err why)
+refused may sites from bytes after refusals.OutOfMemory out went r = inl (out.own refl)
+refused may sites from bytes after (refusals.StoreLoad x) out went r = read_refused may sites (message_at bytes) from bytes after (refusals.StoreLoad x) refl out went r
+refused may sites from bytes after (refusals.StoreSave x) out went r = read_refused may sites (message_at bytes) from bytes after (refusals.StoreSave x) refl out went r
+refused may sites from bytes after (refusals.Replay x) out went r = read_refused may sites (message_at bytes) from bytes after (refusals.Replay x) refl out went r
+refused may sites from bytes after (refusals.Read x) out went r = read_refused may sites (message_at bytes) from bytes after (refusals.Read x) refl out went r
+refused may sites from bytes after refusals.NotMine out went r = read_refused may sites (message_at bytes) from bytes after refusals.NotMine refl out went r
+refused may sites from bytes after refusals.UnknownSite out went r = read_refused may sites (message_at bytes) from bytes after refusals.UnknownSite refl out went r
+refused may sites from bytes after refusals.UnknownKey out went r = read_refused may sites (message_at bytes) from bytes after refusals.UnknownKey refl out went r
+refused may sites from bytes after refusals.BadAuth out went r = read_refused may sites (message_at bytes) from bytes after refusals.BadAuth refl out went r
+refused may sites from bytes after refusals.MergeAsked out went r = read_refused may sites (message_at bytes) from bytes after refusals.MergeAsked refl out went r
+refused may sites from bytes after (refusals.NotAllowed x) out went r = read_refused may sites (message_at bytes) from bytes after (refusals.NotAllowed x) refl out went r
+refused may sites from bytes after refusals.NoNotice out went r = read_refused may sites (message_at bytes) from bytes after refusals.NoNotice refl out went r

@@ -1,13 +1,13 @@
 -- What a fresh server answers to bytes (RFC 9301 section 8.2).
 use Rattle.std.specs.Prelude.{◌≡◌, ◌⊎◌, ℕ, List, Option, Result, Ok, Err, if◌then◌else◌}
-use Rattle.lisp_messages.specs.Message.{Said, Registers, Notifies}
-use Rattle.lisp_messages.specs.Reading.{message_at}
+use Rattle.lisp_messages.specs.Message.{Registration, Said, Registers, Notifies}
+use Rattle.lisp_messages.specs.Reading.{HasHead, message_at}
 use Rattle.lisp_messages.specs.declared.fault.ReadFault.{ReadFault}
 use Rattle.lisp_sites.specs.Site.{SiteEntry}
 use Rattle.lisp_store.specs.declared.fault.StoreFault.TheVariants as faults
 use Rattle.lisp_server.specs.Checks.{Passed, register_checked, reply_of}
-use Rattle.lisp_server.specs.declared.refused.Refused.{Refused}
-use Rattle.lisp_server.specs.declared.refused.Refused.TheVariants.{Read, StoreLoad, OutOfMemory, StoreSave, NoNotice, NotMine}
+use Rattle.lisp_checks.specs.declared.refused.Refused.{Refused}
+use Rattle.lisp_checks.specs.declared.refused.Refused.TheVariants.{Read, StoreLoad, OutOfMemory, StoreSave, NoNotice, NotMine}
 
 -- a Map-Notify, or nothing where none is wanted; or a refusal
 abbrev pub Answer : Type 0
@@ -31,14 +31,18 @@ read_answer sites bytes (Err fault) = Err (Read fault)
 abbrev pub answer_of : List SiteEntry → List ℕ → Answer
 answer_of sites bytes = read_answer sites bytes (message_at bytes)
 
--- memory ran out, here or in the store
-abbrev pub IsOutOfMemory : Refused → Type 0
-IsOutOfMemory OutOfMemory = Unit {0}
-IsOutOfMemory (StoreLoad fault) = fault ≡ faults.OutOfMemory
-IsOutOfMemory (StoreSave fault) = fault ≡ faults.OutOfMemory
-IsOutOfMemory _ = ⊥
+-- the bytes are a Map-Register that passes all checks
+abbrev pub PassesAll : List SiteEntry → List ℕ → Type 0
+PassesAll sites bytes = (m : Registration) × (passed : Passed) × (message_at bytes ≡ Ok (Registers m)) × (register_checked sites bytes m ≡ Ok passed)
 
--- the result is the answer, unless memory ran out
-abbrev pub Answers : Answer → Answer → Type 0
-Answers (Ok reply) answer = answer ≡ Ok reply
-Answers (Err refused) answer = IsOutOfMemory refused ⊎ (answer ≡ Err refused)
+-- memory ran out: here, of a message whose head is read; or in the store, where all checks are passed
+abbrev pub RanOut : List SiteEntry → List ℕ → Refused → Type 0
+RanOut sites bytes OutOfMemory = HasHead bytes
+RanOut sites bytes (StoreLoad fault) = (fault ≡ faults.OutOfMemory) × PassesAll sites bytes
+RanOut sites bytes (StoreSave fault) = (fault ≡ faults.OutOfMemory) × PassesAll sites bytes
+RanOut sites bytes _ = ⊥
+
+-- the result is the answer, unless memory ran out that may be refused
+abbrev pub Answers : Type 0 → List SiteEntry → List ℕ → Answer → Type 0
+Answers may_refuse sites bytes (Ok reply) = answer_of sites bytes ≡ Ok reply
+Answers may_refuse sites bytes (Err refused) = (may_refuse × RanOut sites bytes refused) ⊎ (answer_of sites bytes ≡ Err refused)

@@ -5,6 +5,7 @@ use Rattle.std.specs.Str.{bytes_eq}
 use Rattle.clap.specs.Words.{first_value, found_of}
 use Rattle.clap.specs.declared.parser.matches.ArgMatches.{ArgMatches}
 use denote.Ref.{Bor}
+use Rattle.lisp_records.specs.Address.{Block}
 use Rattle.lisp_records.specs.Result.{◌>>=◌}
 use Rattle.lisp_texts.specs.Number.{number_of}
 use Rattle.lisp_texts.specs.Form.{site_id_of, secret_text_of}
@@ -51,12 +52,25 @@ abbrev pub flag_of : Option (List ℕ) → Bool
 flag_of None = false
 flag_of (Some text) = bytes_eq text (codes "true")
 
+-- the options, one by one
+abbrev pub site_in : Option (Bor ArgMatches) → Result ℕ SetupFault
+site_in matches = or_default Site default_setup.site site_id_of (option_text matches (option_name Site))
+
+abbrev pub key_in : Option (Bor ArgMatches) → Result ℕ SetupFault
+key_in matches = or_default Key default_setup.key key_of (option_text matches (option_name Key))
+
+abbrev pub secret_in : Option (Bor ArgMatches) → Result (List ℕ) SetupFault
+secret_in matches = or_default Secret default_setup.secret secret_text_of (option_text matches (option_name Secret))
+
+abbrev pub prefix_in : Option (Bor ArgMatches) → Result Block SetupFault
+prefix_in matches = or_default Prefix default_setup.prefix prefix_of (option_text matches (option_name Prefix))
+
 unfoldable pub setup_of : Option (Bor ArgMatches) → Result Setup SetupFault
 setup_of matches = do
-  site ← or_default Site default_setup.site site_id_of (option_text matches (option_name Site))
-  key ← or_default Key default_setup.key key_of (option_text matches (option_name Key))
-  secret ← or_default Secret default_setup.secret secret_text_of (option_text matches (option_name Secret))
-  prefix ← or_default Prefix default_setup.prefix prefix_of (option_text matches (option_name Prefix))
+  site ← site_in matches
+  key ← key_in matches
+  secret ← secret_in matches
+  prefix ← prefix_in matches
   Ok (record {
     site = site;
     key = key;

@@ -6,9 +6,9 @@ use Rattle.lisp_messages.specs.Fault.{fault_number as read_fault_number}
 use Rattle.lisp_messages.specs.declared.fault.ReadFault.{ReadFault}
 use Rattle.lisp_messages.specs.declared.fault.ReadFault.TheVariants as reads
 use Rattle.lisp_store.specs.Fault.{fault_number as store_fault_number}
-use Rattle.lisp_server.specs.Refused.{refused_number}
-use Rattle.lisp_server.specs.declared.refused.Refused.{Refused}
-use Rattle.lisp_server.specs.declared.refused.Refused.TheVariants.{Read, NotAllowed, StoreLoad, StoreSave, Replay}
+use Rattle.lisp_checks.specs.Refused.{refused_number}
+use Rattle.lisp_checks.specs.declared.refused.Refused.{Refused}
+use Rattle.lisp_checks.specs.declared.refused.Refused.TheVariants.{Read, NotAllowed, StoreLoad, StoreSave, Replay}
 
 -- a number that is carried, and what it is
 abbrev pub carried : List ℕ → ℕ → List ℕ

@@ -11,6 +11,7 @@ use crate::fault::AnswerFault;
 use crate::input::{content, read_line};
 use crate::line::words_for;
 use crate::site::AnswerSetup;
+use lisp_memory::{FallibleString, Memory};
 use std::alloc::Allocator;
 use std::io::{Read, Write};
 
@@ -26,13 +27,13 @@ use std::io::{Read, Write};
 /// `Read` where a read fails or 2,097,152 reads are not enough, `TooLong`, `OutOfMemory` where memory
 /// runs out for the site, the line or the text of its answer, `Write`. Only at `Write` may a part of
 /// the answer have been written.
-pub fn answer<A: Allocator + Copy, B: Allocator, R: Read, W: Write>(
+pub fn answer<A: Memory + Copy, B: Allocator, R: Read, W: Write>(
     alloc: A,
     setup: &AnswerSetup<B>,
     reader: &mut R,
     writer: &mut W,
 ) -> Result<(), AnswerFault>
-    ensures ok { OnOk result (IfSome (R.remaining reader.old) (λ input. Adds (W.contents writer.old) (W.contents writer.new) setup.now input)) }
+    ensures ok { OnOk result (IfSome (R.remaining reader.old) (λ input. Adds A.may_refuse (W.contents writer.old) (W.contents writer.new) setup.now input)) }
     ensures consumed { OnOk result (IfSome (R.remaining reader.old) (λ input. Consumes (R.remaining reader.old) (R.remaining reader.new) (take_through 10 input))) }
     ensures fits { OnOk result (IfSome (R.remaining reader.old) (λ input. length (take_through 10 input) ≤ most_bytes)) }
     ensures too_long { IsErrOf result AnswerFault.TooLong → IfSome (R.remaining reader.old) (λ input. most_bytes < length (take_through 10 input)) }
@@ -41,7 +42,7 @@ pub fn answer<A: Allocator + Copy, B: Allocator, R: Read, W: Write>(
     let sites = setup.sites(alloc)?;
     let line = read_line(alloc, reader)?;
     let mut text = words_for(alloc, sites, content(&line))?;
-    text.push('\n')?;
+    text.try_push('\n')?;
     match writer.write_all(text.as_bytes()) {
         Ok(()) => Ok(()),
         Err(_) => Err(AnswerFault::Write),

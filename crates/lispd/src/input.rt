@@ -7,7 +7,7 @@ ghost use Rattle.lispd.specs.Input.{content};
 ghost use Rattle.lispd.specs.declared.fault.AnswerFault.{AnswerFault};
 
 use crate::fault::AnswerFault;
-use std::alloc::Allocator;
+use lisp_memory::{FallibleVec, Memory};
 use std::io::{ErrorKind, Read};
 
 /// The most bytes of the line, its line feed among them.
@@ -18,13 +18,14 @@ const MOST_READS: u32 = 2_097_152;
 
 /// The bytes up to the first line feed, and with it, or to the end of the input. `TooLong` where
 /// they are more than 1,048,576; `Read` where a read fails, or 2,097,152 reads are not enough.
-pub(crate) fn read_line<A: Allocator, R: Read>(
+pub(crate) fn read_line<A: Memory, R: Read>(
     alloc: A,
     reader: &mut R,
 ) -> Result<Vec<u8, A>, AnswerFault>
     ensures line { IfOk result (λ line. IfSome (R.remaining reader.old) (λ input. line.items ≡ take_through 10 input)) }
     ensures rest { IfOk result (λ line. Consumes (R.remaining reader.old) (R.remaining reader.new) line.items) }
     ensures short { IfOk result (λ line. vec_len line ≤ MOST_BYTES) }
+    ensures memory { IsErrOf result AnswerFault.OutOfMemory → A.may_refuse }
     ensures too_long { IsErrOf result AnswerFault.TooLong → IfSome (R.remaining reader.old) (λ input. MOST_BYTES < length (take_through 10 input)) }
 {
     let mut line = Vec::new(alloc);
@@ -37,7 +38,7 @@ pub(crate) fn read_line<A: Allocator, R: Read>(
                     return Err(AnswerFault::TooLong);
                 }
                 let [byte] = next;
-                line.push(byte)?;
+                line.try_push(byte)?;
                 if byte == b'\n' {
                     return Ok(line);
                 }

@@ -1,20 +1,19 @@
 //! The options of `answer`.
 
-ghost use Rattle.std.specs.Prelude.{◌≡◌};
+ghost use Rattle.std.specs.Prelude.{◌≡◌, None, IsErrOf, IsOk};
 ghost use Rattle.std.specs.Option.{option_map};
-ghost use Rattle.lisp_texts.specs.Reading.{prefix_of};
-ghost use Rattle.lispd.specs.Setup.{default_setup};
-ghost use Rattle.lisp_texts.specs.Form.{site_id_of, secret_text_of};
-ghost use Rattle.lispd.specs.Options.{Gives, option_name, option_text, or_default, key_of, flag_of, setup_of};
+ghost use Rattle.lisp_records.specs.Result.{Reads};
+ghost use Rattle.lispd.specs.Options.{Gives, option_name, option_text, site_in, key_in, secret_in, prefix_in, flag_of, setup_of};
+ghost use Rattle.lispd.specs.declared.fault.SetupFault.{SetupFault};
 ghost use Rattle.lispd.specs.declared.option.AnswerOption.TheVariants as answer_options;
 
 use crate::fault::SetupFault;
 use crate::option::AnswerOption;
 use crate::site::{AnswerSetup, DEFAULT_KEY, DEFAULT_SECRET, DEFAULT_SITE, default_prefix};
 use clap::ArgMatches;
+use lisp_memory::{FallibleCopies, Memory};
 use lisp_records::{Bytes, Prefix};
 use lisp_texts::{number_from_text, prefix_from_text, secret_from_text, site_id_from_text};
-use std::alloc::Allocator;
 
 /// The setup that the options ask for, in memory of `alloc`: `--site` 16 hexadecimal digits, `--key`
 /// a decimal number 0 to 255, `--secret` hexadecimal text of 1 to 256 bytes, `--prefix` a prefix as
@@ -22,11 +21,15 @@ use std::alloc::Allocator;
 /// has where there are no `matches`. `BadOption` names the first of these options whose value has another
 /// form; `OutOfMemory` where memory runs out for the secret.
 #[tactic(auto, unfolding(crate::specs::Options::setup_of))]
-pub fn setup<A: Allocator>(
+pub fn setup<A: Memory>(
     alloc: A,
     matches: Option<&ArgMatches<'_>>,
 ) -> Result<AnswerSetup<A>, SetupFault>
-    ensures { Gives (λ s. s) result (setup_of matches.entry) }
+    ensures setup { Gives (λ s. s) result (setup_of matches.entry) }
+
+    // Before the secret nothing takes memory; the default secret is out of memory only where its memory may be refused.
+    ensures early { IsErrOf result SetupFault.OutOfMemory → IsOk (site_in matches.entry) × IsOk (key_in matches.entry) }
+    ensures memory { option_text matches.entry (option_name answer_options.Secret) ≡ None → IsErrOf result SetupFault.OutOfMemory → A.may_refuse }
 {
     let site = site(matches)?;
     let key = key(matches)?;
@@ -57,7 +60,7 @@ fn is_given(matches: Option<&ArgMatches<'_>>, id: &str) -> bool
 }
 
 fn site(matches: Option<&ArgMatches<'_>>) -> Result<u64, SetupFault>
-    ensures { Gives (λ n. n) result (or_default answer_options.Site default_setup.site site_id_of (option_text matches.entry (option_name answer_options.Site))) }
+    ensures { Reads (λ n. n) result (site_in matches.entry) }
 {
     let Some(digits) = text(matches, AnswerOption::Site.name()) else {
         return Ok(DEFAULT_SITE);
@@ -66,7 +69,7 @@ fn site(matches: Option<&ArgMatches<'_>>) -> Result<u64, SetupFault>
 }
 
 fn key(matches: Option<&ArgMatches<'_>>) -> Result<u8, SetupFault>
-    ensures { Gives (λ n. n) result (or_default answer_options.Key default_setup.key key_of (option_text matches.entry (option_name answer_options.Key))) }
+    ensures { Reads (λ n. n) result (key_in matches.entry) }
 {
     let Some(digits) = text(matches, AnswerOption::Key.name()) else {
         return Ok(DEFAULT_KEY);
@@ -77,11 +80,12 @@ fn key(matches: Option<&ArgMatches<'_>>) -> Result<u8, SetupFault>
     }
 }
 
-fn secret<A: Allocator>(alloc: A, matches: Option<&ArgMatches<'_>>) -> Result<Bytes<A>, SetupFault>
-    ensures { Gives (λ b. b) result (or_default answer_options.Secret default_setup.secret secret_text_of (option_text matches.entry (option_name answer_options.Secret))) }
+fn secret<A: Memory>(alloc: A, matches: Option<&ArgMatches<'_>>) -> Result<Bytes<A>, SetupFault>
+    ensures secret { Gives (λ b. b) result (secret_in matches.entry) }
+    ensures memory { option_text matches.entry (option_name answer_options.Secret) ≡ None → IsErrOf result SetupFault.OutOfMemory → A.may_refuse }
 {
     let Some(digits) = text(matches, AnswerOption::Secret.name()) else {
-        return Ok(Bytes::from_vec(Vec::from_slice(alloc, DEFAULT_SECRET)?));
+        return Ok(Bytes::from_vec(Vec::try_from_slice(alloc, DEFAULT_SECRET)?));
     };
     match secret_from_text(alloc, digits)? {
         Some(secret) => Ok(secret),
@@ -90,7 +94,7 @@ fn secret<A: Allocator>(alloc: A, matches: Option<&ArgMatches<'_>>) -> Result<By
 }
 
 fn prefix(matches: Option<&ArgMatches<'_>>) -> Result<Prefix, SetupFault>
-    ensures { Gives (λ p. p) result (or_default answer_options.Prefix default_setup.prefix prefix_of (option_text matches.entry (option_name answer_options.Prefix))) }
+    ensures { Reads (λ p. p) result (prefix_in matches.entry) }
 {
     let Some(words) = text(matches, AnswerOption::Prefix.name()) else {
         return Ok(default_prefix());

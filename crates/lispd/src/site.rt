@@ -1,8 +1,9 @@
 //! The one site of the server that `answer` starts afresh.
 
-ghost use Rattle.std.specs.Prelude.{◌≡◌, IfOk};
+ghost use Rattle.std.specs.Prelude.{◌≡◌, IfOk, OnErr};
 ghost use Rattle.lispd.specs.Block.{default_block};
 
+use lisp_memory::{FallibleCopies, Memory};
 use lisp_records::{Addr, Bytes, Prefix};
 use lisp_sites::Sites;
 use std::alloc::{AllocError, Allocator, Global};
@@ -40,15 +41,16 @@ impl<A: Allocator> Model for AnswerSetup<A> {
     ghost view = { λ s. record { site = s.site; key = s.key; secret = s.secret; prefix = s.prefix; more_specifics = s.more_specifics } };
 }
 
-impl<A: Allocator> AnswerSetup<A> {
-    ghost use Rattle.lispd.specs.Setup.{default_setup, sites_of};
+impl<A: Memory> AnswerSetup<A> {
+    ghost use Rattle.lispd.specs.Setup.{default_setup};
 
     /// The setup where nothing else is asked: site 0000000000000001, key 1, the secret `secret`,
     /// prefix 10.1.0.0/16 without more-specifics.
     pub fn defaults(alloc: A) -> Result<AnswerSetup<A>, AllocError>
-        ensures { IfOk result (λ setup. setup ≡ default_setup) }
+        ensures value { IfOk result (λ setup. setup ≡ default_setup) }
+        ensures memory { OnErr result A.may_refuse }
     {
-        let secret = Vec::from_slice(alloc, DEFAULT_SECRET)?;
+        let secret = Vec::try_from_slice(alloc, DEFAULT_SECRET)?;
         Ok(AnswerSetup {
             site: DEFAULT_SITE,
             key: DEFAULT_KEY,
@@ -57,10 +59,15 @@ impl<A: Allocator> AnswerSetup<A> {
             more_specifics: false,
         })
     }
+}
+
+impl<A: Allocator> AnswerSetup<A> {
+    ghost use Rattle.lispd.specs.Setup.{sites_of};
 
     /// The sites of the fresh server: this one alone, in memory of `alloc`.
-    pub(crate) fn sites<B: Allocator + Copy>(&self, alloc: B) -> Result<Sites<B>, AllocError>
-        ensures { IfOk result (λ sites. sites ≡ sites_of self.now) }
+    pub(crate) fn sites<B: Memory + Copy>(&self, alloc: B) -> Result<Sites<B>, AllocError>
+        ensures value { IfOk result (λ sites. sites ≡ sites_of self.now) }
+        ensures memory { OnErr result B.may_refuse }
     {
         Sites::single(
             alloc,

@@ -1,21 +1,23 @@
 //! A refusal in words.
 
-ghost use Rattle.std.specs.Prelude.{◌≡◌, ◌++◌, codes, IfOk};
+ghost use Rattle.std.specs.Prelude.{◌≡◌, ◌++◌, codes, IfOk, OnErr};
 ghost use Rattle.std.specs.String.{string_bytes};
 ghost use Rattle.std.specs.Fmt.{decimal};
 ghost use Rattle.lispd.specs.Words.{refused_words, read_words};
 
+use lisp_memory::{FallibleString, Memory};
 use lisp_messages::ReadFault;
 use lisp_server::Refused;
-use std::alloc::{AllocError, Allocator};
+use std::alloc::AllocError;
 
 /// The refusal in words: `refused`, its number, and what it carries: `read F`, for a record
 /// `read 15 record I fault F`, `record I` for `NotAllowed`, `store F`, or `saved N` for `Replay`.
-pub(crate) fn words_of_refused<A: Allocator>(
+pub(crate) fn words_of_refused<A: Memory>(
     alloc: A,
     refused: &Refused,
 ) -> Result<String<A>, AllocError>
-    ensures { IfOk result (λ words. string_bytes words ≡ refused_words refused.now) }
+    ensures words { IfOk result (λ words. string_bytes words ≡ refused_words refused.now) }
+    ensures memory { OnErr result A.may_refuse }
 {
     let number = refused.number();
     match refused {
@@ -30,31 +32,34 @@ pub(crate) fn words_of_refused<A: Allocator>(
 }
 
 // The words of a refusal that carries nothing.
-fn words_of_number<A: Allocator>(alloc: A, number: u16) -> Result<String<A>, AllocError>
-    ensures { IfOk result (λ words. string_bytes words ≡ codes "refused " ++ decimal number) }
+fn words_of_number<A: Memory>(alloc: A, number: u16) -> Result<String<A>, AllocError>
+    ensures words { IfOk result (λ words. string_bytes words ≡ codes "refused " ++ decimal number) }
+    ensures memory { OnErr result A.may_refuse }
 {
-    format!(in alloc; "refused {number}")
+    String::try_format(alloc, format_args!("refused {number}"))
 }
 
 // The words of a refusal that carries one number, and what that is.
-fn words_with<A: Allocator>(
+fn words_with<A: Memory>(
     alloc: A,
     number: u16,
     what: &str,
     carried: u64,
 ) -> Result<String<A>, AllocError>
-    ensures { IfOk result (λ words. string_bytes words ≡ codes "refused " ++ decimal number ++ (codes " " ++ what.now ++ (codes " " ++ decimal carried))) }
+    ensures words { IfOk result (λ words. string_bytes words ≡ codes "refused " ++ decimal number ++ (codes " " ++ what.now ++ (codes " " ++ decimal carried))) }
+    ensures memory { OnErr result A.may_refuse }
 {
-    format!(in alloc; "refused {number} {what} {carried}")
+    String::try_format(alloc, format_args!("refused {number} {what} {carried}"))
 }
 
 // The words of a refusal that carries the fault of a message.
-fn words_of_read<A: Allocator>(
+fn words_of_read<A: Memory>(
     alloc: A,
     number: u16,
     fault: &ReadFault,
 ) -> Result<String<A>, AllocError>
-    ensures { IfOk result (λ words. string_bytes words ≡ codes "refused " ++ decimal number ++ read_words fault.now) }
+    ensures words { IfOk result (λ words. string_bytes words ≡ codes "refused " ++ decimal number ++ read_words fault.now) }
+    ensures memory { OnErr result A.may_refuse }
 {
     let read = fault.number();
     match fault {
@@ -66,14 +71,18 @@ fn words_of_read<A: Allocator>(
 }
 
 // The words for the fault of a message that is in a record.
-fn words_of_record<A: Allocator>(
+fn words_of_record<A: Memory>(
     alloc: A,
     number: u16,
     read: u16,
     place: u8,
     fault: u16,
 ) -> Result<String<A>, AllocError>
-    ensures { IfOk result (λ words. string_bytes words ≡ codes "refused " ++ decimal number ++ (codes " read " ++ decimal read ++ (codes " record " ++ decimal place ++ (codes " fault " ++ decimal fault)))) }
+    ensures words { IfOk result (λ words. string_bytes words ≡ codes "refused " ++ decimal number ++ (codes " read " ++ decimal read ++ (codes " record " ++ decimal place ++ (codes " fault " ++ decimal fault)))) }
+    ensures memory { OnErr result A.may_refuse }
 {
-    format!(in alloc; "refused {number} read {read} record {place} fault {fault}")
+    String::try_format(
+        alloc,
+        format_args!("refused {number} read {read} record {place} fault {fault}"),
+    )
 }

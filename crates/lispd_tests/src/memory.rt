@@ -3,9 +3,10 @@
 
 use crate::support::{NOTIFY_LINE, REGISTER_DIGITS, assert_at};
 use linked_list_allocator::LocalHeap;
+use lisp_memory::Memory;
 use lisp_samples::{HEAP_LEN, fill, is_refused_then_answers};
 use lispd::{AnswerFault, AnswerSetup, answer, setup};
-use std::alloc::{Allocator, Global};
+use std::alloc::Global;
 use std::process::Abort;
 
 /// What takes memory.
@@ -55,7 +56,7 @@ fn answers_in(rt: &impl Abort, ample: Global, call: Call, blocks: usize) -> bool
     is_answered
 }
 
-fn answers<A: Allocator + Copy>(rt: &impl Abort, ample: Global, call: Call, alloc: A) -> bool {
+fn answers<A: Memory + Copy>(rt: &impl Abort, ample: Global, call: Call, alloc: A) -> bool {
     match call {
         Call::Answer(line, want) => answers_line(rt, ample, alloc, line, want),
         Call::Setup => setup(alloc, None).is_ok(),
@@ -64,7 +65,7 @@ fn answers<A: Allocator + Copy>(rt: &impl Abort, ample: Global, call: Call, allo
 }
 
 /// Out of memory for the line or its answer is a fault; for the server it is a refusal of its own.
-fn answers_line<A: Allocator + Copy>(
+fn answers_line<A: Memory + Copy>(
     rt: &impl Abort,
     ample: Global,
     alloc: A,

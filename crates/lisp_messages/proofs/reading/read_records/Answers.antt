@@ -1,17 +1,19 @@
-use Rattle.std.proofs.Common.{◌+◌, ap}
+use Rattle.std.proofs.Common.{◌+◌, ap, arith}
 use Rattle.std.proofs.lemmas.List.{length-append}
-use Rattle.lisp_messages.proofs.Loop.{goes_on, fails, is_done}
+use Rattle.lisp_messages.proofs.Loop.{goes_on, fails, is_done, ran_out}
 use Rattle.lisp_messages.proofs.reading.read_records.Goals as goal
 
 pub returns-in-Err : goal.returns-in-Err
 returns-in-Err g c = record {
   records = rw c.of_record.ensures (fails c.in-Err.fault c.loop-place.records.items _ c.loop-place.place _ _ c.loop-place-test.true c.in-Err.ensures.exact c.loop-place.invariant.read);
   few = tt;
+  memory = λ out. c.in-Err.ensures.memory (ran_out c.loop-place.place c.in-Err.fault (rw c.of_record.ensures at out));
+  grows = λ _. omega (arith, c.loop-place-test.true);
 }
 
 pub loop-place-preserved : goal.loop-place-preserved
 loop-place-preserved g c =
-    let pushed = c.in_ok-push-in-Ok.ensures.items in
+    let pushed = c.in_ok-try_push-in-Ok.ensures.items in
     let found = c.in-Ok.ensures.found in
     record {
       within = found.1;

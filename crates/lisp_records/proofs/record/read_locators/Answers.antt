@@ -13,7 +13,7 @@ returns-in_err-locator-clause-locators g c =
 
 pub loop-preserved : goal.loop-preserved
 loop-preserved g c =
-    let pushed = c.in_ok-push.ensures.items in
+    let pushed = c.in_ok-try_push.ensures.items in
     record {
       count = rw (pushed, length-append) (ap (λ n. n + 1) c.loop.invariant.count);
       fits = rw pushed (All-push IsLocator c.loop.locators.items c.in_ok-locator.locator c.loop.invariant.fits c.in_ok-locator.ensures.fits);

@@ -1,7 +1,7 @@
 use Rattle.std.proofs.Common.{sym, ap, subst, Option, ℕ, ◌≤◌, ◌∙◌, length}
 use Rattle.lisp_records.specs.declared.router.RouterId.{RouterId}
 use Rattle.lisp_lookup.specs.Records.{live_of}
-use Rattle.lisp_server.specs.SendNotice.{Follows}
+use Rattle.lisp_checks.specs.Nonces.{Follows}
 use Rattle.lisp_server.specs.declared.contacts.Contact.{Contact}
 use Rattle.lisp_server.proofs.ContactLaws.{contact_router}
 use Rattle.lisp_server.proofs.SendNoticeLaws.{few_records, announces}
@@ -16,7 +16,7 @@ notify-requires g c =
 pub returns-clause-announces : goal.returns-clause-announces
 returns-clause-announces g c =
     let found = c.in_ok-recipient.ensures.registered in
-    let bytes = c.in_ok-bytes.ensures in
+    let bytes = c.in_ok-bytes.ensures.notice in
     rw c.into_vec.ensures (announces {mid = c.prepare_notice.new.self} {new = c.keep_notice.new.self} {between = g.S.NonceStore.seen c.next_nonce.new.store} {copy = c.in_ok-copy.field-0} {nonce = c.in_ok-nonce.nonce} {notice = c.notice-notice.result} (record {
       registered = found.0;
       contact_is = found.1;
@@ -26,7 +26,7 @@ returns-clause-announces g c =
       by_prefix = bytes.1;
       datagram = bytes.2;
       fits = bytes.3;
-      copied = c.in_ok-copy.ensures;
+      copied = c.in_ok-copy.ensures.equal;
       notice_is = c.notice-notice.ensures;
       same = c.prepare_notice.ensures.same;
       rows = c.keep_notice.ensures.rows;

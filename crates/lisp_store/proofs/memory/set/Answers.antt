@@ -12,10 +12,10 @@ returns-in-Some-clause-others g c q differ =
     let at = sym (rw c.deref.ensures.value at c.in-Some.ensures) in
     kept_of_entries _ q ∙ set_there q c.args.pair c.args.entries.now.items c.in-Some.i (record { pair = c.args.pair; values = c.args.values.items }) differ at differ ∙ sym (kept_of_entries c.args.entries.now.items q)
 
-pub returns-in_ok-push-in-None-clause-here : goal.returns-in_ok-push-in-None-clause-here
-returns-in_ok-push-in-None-clause-here g c =
+pub returns-in_ok-try_push-in-None-clause-here : goal.returns-in_ok-try_push-in-None-clause-here
+returns-in_ok-try_push-in-None-clause-here g c =
     let at = sym (rw c.deref.ensures.value at c.in-None.ensures) in
-    rw c.in_ok-push-in-None.ensures.items (kept_of_entries _ c.args.pair ∙ push_here c.args.pair c.args.entries.now.items (record { pair = c.args.pair; values = c.args.values.items }) at (is_of_itself c.args.pair c.args.values.items))
+    rw c.in_ok-try_push-in-None.ensures.items (kept_of_entries _ c.args.pair ∙ push_here c.args.pair c.args.entries.now.items (record { pair = c.args.pair; values = c.args.values.items }) at (is_of_itself c.args.pair c.args.values.items))
 
-pub returns-in_ok-push-in-None-clause-others : goal.returns-in_ok-push-in-None-clause-others
-returns-in_ok-push-in-None-clause-others g c q differ = rw c.in_ok-push-in-None.ensures.items (kept_of_entries _ q ∙ push_there q c.args.entries.now.items (record { pair = c.args.pair; values = c.args.values.items }) differ ∙ sym (kept_of_entries c.args.entries.now.items q))
+pub returns-in_ok-try_push-in-None-clause-others : goal.returns-in_ok-try_push-in-None-clause-others
+returns-in_ok-try_push-in-None-clause-others g c q differ = rw c.in_ok-try_push-in-None.ensures.items (kept_of_entries _ q ∙ push_there q c.args.entries.now.items (record { pair = c.args.pair; values = c.args.values.items }) differ ∙ sym (kept_of_entries c.args.entries.now.items q))

@@ -6,7 +6,7 @@ use Rattle.lisp_store.specs.Memory.{Memory, memory_state}
 use Rattle.lisp_store.specs.Store.{Proceeds}
 use Rattle.lisp_server.specs.Receiving.{Takes, Refuses}
 use Rattle.lisp_server.specs.Server.{ServerState}
-use Rattle.lispd.proofs.FreshLaws.{taken, refused}
+use Rattle.lispd.proofs.FreshLaws.{taken, Excuse, refused}
 use Rattle.lispd.proofs.fresh.respond.Goals as goal
 
 abbrev source : Addr
@@ -23,4 +23,5 @@ returns g c =
     let after = memory_state c.receive.new.store in
     let went = subst (λ (m : Memory). Proceeds (memory_state m) after) c.new-store.ensures c.in-Err.ensures.proceeds in
     let why = subst (λ (x : ServerState × Memory). Refuses (message_at c.args.bytes.now) source c.args.bytes.now x.0 (memory_state x.1) after c.in-Err.refused) (λ i. (c.start-server.ensures i, c.new-store.ensures i)) c.in-Err.ensures.refused in
-    refused c.args.sites (message_at c.args.bytes.now) source c.args.bytes.now after c.in-Err.refused went why
+    let out : Excuse _ _ c.args.bytes.now c.in-Err.refused = record { own = λ e. (c.in-Err.ensures.memory e, c.in-Err.ensures.head e); load = c.in-Err.ensures.load_memory; save = c.in-Err.ensures.save_memory } in
+    refused _ c.args.sites source c.args.bytes.now after c.in-Err.refused out went why

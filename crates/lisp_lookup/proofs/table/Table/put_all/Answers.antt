@@ -7,3 +7,9 @@ loop-row-preserved g c = record {
   set = sets_more c.args.self.now.rows c.loop-row.self.rows c.put.new.self.rows c.loop-row.yielded c.in-Some.row c.loop-row.invariant.set c.put.ensures.row;
   room = (let rest = ap length c.in-Some.ensures.steps.0 in omega (arith, rest, c.loop-row.invariant.room, c.put.ensures.room));
 }
+
+pub put-requires : goal.put-requires
+put-requires g c = (let rest = ap length c.in-Some.ensures.steps.0 in omega (arith, rest, c.loop-row.invariant.room))
+
+pub returns-clause-one_each : goal.returns-clause-one_each
+returns-clause-one_each g c = rw (← c.self.view_is) c.self.invariant

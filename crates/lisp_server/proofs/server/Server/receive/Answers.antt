@@ -2,7 +2,7 @@ use Rattle.std.proofs.Common.{ap, ◌∙◌, subst, Ok, Err, arith}
 use Rattle.std.proofs.lemmas.Result.{IfOk-weaker, IfErr-weaker}
 use Rattle.lisp_messages.specs.Meaning.{said}
 use Rattle.lisp_messages.specs.Spelling.{Spells}
-use Rattle.lisp_server.specs.Refused.{refused_of_read}
+use Rattle.lisp_checks.specs.Refused.{refused_of_read}
 use Rattle.lisp_server.proofs.ReceivingLaws.{read_fails, notification_fits, takes_register, takes_notify, refuses_register, refuses_notify}
 use Rattle.lisp_server.proofs.KnownLaws.{known_after}
 use Rattle.lisp_server.proofs.server.Server.receive.Goals as goal

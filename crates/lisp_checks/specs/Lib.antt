@@ -1,0 +1,5 @@
+pub mod Refused
+pub mod NoticeFault
+pub mod Pairs
+pub mod Checks
+pub mod Nonces

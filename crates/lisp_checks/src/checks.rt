@@ -1,0 +1,59 @@
+//! What is checked of a message before any nonce is looked at, and the secrets that it is checked under.
+
+ghost use Rattle.std.specs.Prelude.{◌≡◌, IsErrOf};
+ghost use Rattle.std.specs.Option.{option_map};
+ghost use Rattle.lisp_records.specs.Result.{Reads};
+ghost use Rattle.lisp_store.specs.declared.fault.StoreFault.{StoreFault};
+ghost use Rattle.lisp_checks.specs.Checks.{first_not_allowed, secret_under, secret_at};
+ghost use Rattle.lisp_checks.specs.declared.refused.Refused.{Refused};
+
+use crate::refused::Refused;
+use lisp_messages::{MapRegister, authentic};
+use lisp_records::MapRecord;
+use lisp_sites::{Site, Sites};
+use std::alloc::Allocator;
+
+/// The secret that a Map-Register is authentic under, or the first check that it fails: `UnknownSite`,
+/// `UnknownKey`, `BadAuth`, `MergeAsked`, `NotAllowed`.
+#[tactic(auto, unfolding(crate::specs::Checks::secret_under))]
+pub fn secret_under<'s, A: Allocator, B: Allocator>(
+    sites: &'s Sites<B>,
+    bytes: &[u8],
+    register: &MapRegister<A>,
+) -> Result<&'s [u8], Refused>
+    ensures secret { Reads (λ s. s.now) result (secret_under sites.now bytes.now register.now) }
+    ensures plain { ¬ (IsErrOf result Refused.OutOfMemory) }
+    ensures storeless { (¬ (IsErrOf result (Refused.StoreLoad StoreFault.OutOfMemory))) × (¬ (IsErrOf result (Refused.StoreSave StoreFault.OutOfMemory))) }
+{
+    let site = sites.site(register.site).ok_or(Refused::UnknownSite)?;
+    let secret = site.secret(register.key_id).ok_or(Refused::UnknownKey)?;
+    if !authentic(bytes, secret) {
+        return Err(Refused::BadAuth);
+    }
+    if register.merge {
+        return Err(Refused::MergeAsked);
+    }
+    match first_not_allowed(site, register.records.as_slice()) {
+        Some(place) => Err(Refused::NotAllowed(place)),
+        None => Ok(secret),
+    }
+}
+
+// The place, from 0 on, of the first record whose prefix the site doesn't allow.
+fn first_not_allowed<A: Allocator, B: Allocator>(
+    site: &Site<B>,
+    records: &[MapRecord<A>],
+) -> Option<usize>
+    ensures { result ≡ first_not_allowed site.now records.now }
+{
+    records
+        .iter()
+        .position(|record| !site.allows(&record.eid()))
+}
+
+/// The secret of a key of a site.
+pub fn secret_at<A: Allocator>(sites: &Sites<A>, site: u64, key: u8) -> Option<&[u8]>
+    ensures { option_map (λ s. s.now) result ≡ secret_at sites.now site key }
+{
+    sites.site(site)?.secret(key)
+}

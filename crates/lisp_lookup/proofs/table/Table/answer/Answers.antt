@@ -1,0 +1,28 @@
+use Rattle.std.proofs.Common.{sym, ap, ◌∙◌}
+use Rattle.lisp_records.specs.Row.{Holding}
+use Rattle.lisp_lookup.proofs.AnswerLaws.{best_found, none_found}
+use Rattle.lisp_lookup.proofs.table.Table.answer.Goals as goal
+
+pub returns-in-Some-clause-answers : goal.returns-in-Some-clause-answers
+returns-in-Some-clause-answers g c = rw (← c.self.view_is) (c.in-Some.row.now, best_found (λ row. row.now) _ _ _ _ _ c.deref.ensures.value c.best.ensures c.in-Some.row c.in-Some.is, ap (λ (h : Holding). h.proxy) (sym c.row.view_is) ∙ c.if-row.true, ap (λ (h : Holding). h.mapping) c.row.view_is)
+
+pub returns-in-Some-2-clause-answers : goal.returns-in-Some-2-clause-answers
+returns-in-Some-2-clause-answers g c = rw (← c.self.view_is) (c.in-Some.row.now, best_found (λ row. row.now) _ _ _ _ _ c.deref.ensures.value c.best.ensures c.in-Some.row c.in-Some.is, ap (λ (h : Holding). h.proxy) (sym c.row.view_is) ∙ c.if-row.false, ap (λ (h : Holding). h.from) c.row-in-Some-2.view_is)
+
+pub returns-in-None-clause-answers : goal.returns-in-None-clause-answers
+returns-in-None-clause-answers g c = rw (← c.self.view_is) (none_found (λ row. row.now) _ _ _ _ _ c.deref.ensures.value c.best.ensures c.in-None.is, sym c.configured.ensures ∙ c.if-configured.true)
+
+pub returns-in-None-2-clause-answers : goal.returns-in-None-2-clause-answers
+returns-in-None-2-clause-answers g c = rw (← c.self.view_is) (none_found (λ row. row.now) _ _ _ _ _ c.deref.ensures.value c.best.ensures c.in-None.is, sym c.configured.ensures ∙ c.if-configured.false)
+
+pub returns-in-Some-clause-one_each : goal.returns-in-Some-clause-one_each
+returns-in-Some-clause-one_each g c = rw (← c.self.view_is) c.self.invariant
+
+pub returns-in-Some-2-clause-one_each : goal.returns-in-Some-2-clause-one_each
+returns-in-Some-2-clause-one_each g c = rw (← c.self.view_is) c.self.invariant
+
+pub returns-in-None-clause-one_each : goal.returns-in-None-clause-one_each
+returns-in-None-clause-one_each g c = rw (← c.self.view_is) c.self.invariant
+
+pub returns-in-None-2-clause-one_each : goal.returns-in-None-2-clause-one_each
+returns-in-None-2-clause-one_each g c = rw (← c.self.view_is) c.self.invariant

@@ -1,0 +1,5 @@
+use Rattle.lisp_memory.specs.Refusal.{MachineMayRefuse}
+
+pub it_may : MachineMayRefuse
+unfolding MachineMayRefuse
+it_may = tt

@@ -1,0 +1,55 @@
+//! The calls of `String` that ask for memory.
+
+ghost use Rattle.std.specs.Prelude.{◌≡◌, ◌++◌, if◌then◌else◌, IfOk, IfSome, OnOk, OnErr, is_ok};
+ghost use Rattle.std.specs.String.{string_bytes};
+ghost use Rattle.std.specs.Char.{encode_utf8};
+ghost use Rattle.std.specs.Fmt.{AppendsText};
+
+use crate::memory::{Memory, asked};
+use std::alloc::AllocError;
+use std::fmt::Display;
+
+/// `push`, `write!`, `from_str` and `format!` of a `String`.
+pub trait FallibleString<A>: Sized {
+    fn try_push(&mut self, character: char) -> Result<(), AllocError>;
+
+    fn try_write<D: Display + Drop>(&mut self, value: D) -> Result<(), AllocError>;
+
+    fn try_from_str(alloc: A, text: &str) -> Result<Self, AllocError>;
+
+    fn try_format<D: Display + Drop>(alloc: A, value: D) -> Result<Self, AllocError>;
+}
+
+impl<A: Memory> FallibleString<A> for String<A> {
+    /// As `String::push`.
+    fn try_push(&mut self, character: char) -> Result<(), AllocError>
+        ensures bytes { string_bytes self.new ≡ (if is_ok result then string_bytes self.old ++ encode_utf8 character else string_bytes self.old) }
+        ensures refused { OnErr result A.may_refuse }
+    {
+        asked::<A, _, _>(self.push(character))
+    }
+
+    /// As `write!(text, "{value}")`.
+    fn try_write<D: Display + Drop>(&mut self, value: D) -> Result<(), AllocError>
+        ensures bytes { OnOk result (AppendsText (string_bytes self.old) (string_bytes self.new) (D.output value)) }
+        ensures refused { OnErr result A.may_refuse }
+    {
+        asked::<A, _, _>(self.write(value))
+    }
+
+    /// As `String::from_str`.
+    fn try_from_str(alloc: A, text: &str) -> Result<String<A>, AllocError>
+        ensures ok { IfOk result (λ string. string_bytes string ≡ text.now) }
+        ensures refused { OnErr result A.may_refuse }
+    {
+        asked::<A, _, _>(String::from_str(alloc, text))
+    }
+
+    /// As `format!(in alloc; "{value}")`.
+    fn try_format<D: Display + Drop>(alloc: A, value: D) -> Result<String<A>, AllocError>
+        ensures ok { IfOk result (λ string. IfSome (D.output value) (λ bytes. string_bytes string ≡ bytes)) }
+        ensures refused { OnErr result A.may_refuse }
+    {
+        asked::<A, _, _>(String::format(alloc, value))
+    }
+}
