@@ -1,7 +1,7 @@
 //! The calls of `String` that ask for memory.
 
-ghost use Rattle.std.specs.Prelude.{◌≡◌, ◌++◌, if◌then◌else◌, IfOk, IfSome, OnOk, OnErr, is_ok};
-ghost use Rattle.std.specs.String.{string_bytes};
+ghost use Rattle.std.specs.Prelude.{◌≡◌, ◌≤◌, ◌+◌, ◌++◌, [], if◌then◌else◌, IfOk, IfSome, IsOk, OnOk, OnErr, is_ok, length};
+ghost use Rattle.std.specs.String.{string_bytes, string_len, string_capacity};
 ghost use Rattle.std.specs.Char.{encode_utf8};
 ghost use Rattle.std.specs.Fmt.{AppendsText};
 
@@ -24,12 +24,13 @@ impl<A: Memory> FallibleString<A> for String<A> {
     /// As `String::push`.
     fn try_push(&mut self, character: char) -> Result<(), AllocError>
         ensures bytes { string_bytes self.new ≡ (if is_ok result then string_bytes self.old ++ encode_utf8 character else string_bytes self.old) }
+        ensures succeeds { string_len self.old + length (encode_utf8 character) ≤ string_capacity self.old → IsOk result }
         ensures refused { OnErr result A.may_refuse }
     {
         asked::<A, _, _>(self.push(character))
     }
 
-    /// As `write!(text, "{value}")`.
+    /// As `write!(text, "{value}")`; nothing is said of when it succeeds, since std says nothing of it.
     fn try_write<D: Display + Drop>(&mut self, value: D) -> Result<(), AllocError>
         ensures bytes { OnOk result (AppendsText (string_bytes self.old) (string_bytes self.new) (D.output value)) }
         ensures refused { OnErr result A.may_refuse }
@@ -37,12 +38,15 @@ impl<A: Memory> FallibleString<A> for String<A> {
         asked::<A, _, _>(self.write(value))
     }
 
-    /// As `String::from_str`.
+    /// As `String::from_str`; takes no memory for an empty text.
     fn try_from_str(alloc: A, text: &str) -> Result<String<A>, AllocError>
         ensures ok { IfOk result (λ string. string_bytes string ≡ text.now) }
+        ensures succeeds { text.now ≡ [] → IsOk result }
         ensures refused { OnErr result A.may_refuse }
     {
-        asked::<A, _, _>(String::from_str(alloc, text))
+        let mut string = String::new(alloc);
+        asked::<A, _, _>(string.push_str(text))?;
+        Ok(string)
     }
 
     /// As `format!(in alloc; "{value}")`.
@@ -50,6 +54,8 @@ impl<A: Memory> FallibleString<A> for String<A> {
         ensures ok { IfOk result (λ string. IfSome (D.output value) (λ bytes. string_bytes string ≡ bytes)) }
         ensures refused { OnErr result A.may_refuse }
     {
-        asked::<A, _, _>(String::format(alloc, value))
+        let mut string = String::new(alloc);
+        string.try_write(value)?;
+        Ok(string)
     }
 }

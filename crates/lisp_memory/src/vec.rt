@@ -67,9 +67,12 @@ impl<T: Copy, A: Memory> FallibleCopies<T, A> for Vec<T, A> {
 
     /// As `vec![in alloc; element; count]`; takes no memory where `count` is 0.
     fn try_from_elem(alloc: A, element: T, count: usize) -> Result<Vec<T, A>, AllocError>
-        ensures items { IfOk result (λ v. ((y : T) → T.Clone.is_clone element y → y ≡ element) → v.items ≡ replicate count element) }
+        ensures items { IfOk result (λ v. v.items ≡ replicate count element) }
+        ensures succeeds { count ≡ 0 → IsOk result }
         ensures refused { OnErr result A.may_refuse }
     {
-        asked::<A, _, _>(Vec::from_elem(alloc, element, count))
+        let mut copies = Vec::new(alloc);
+        asked::<A, _, _>(copies.resize(count, element))?;
+        Ok(copies)
     }
 }
