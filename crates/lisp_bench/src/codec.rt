@@ -1,11 +1,9 @@
 //! The codec and the tag, on the 84 byte Map-Register.
 
-use crate::timing::Timing;
-use anyhow::{Result, anyhow};
+use crate::timing::{Work, time};
 use lisp_messages::{MapNotify, Message, authentic, read_message, write_notify};
 use std::alloc::Global;
 use std::rt::Clock;
-use std::time::Instant;
 
 /// A Map-Register with one record of one locator, authentic under `SECRET`.
 static REGISTER: [u8; 84] = [
@@ -17,43 +15,78 @@ static REGISTER: [u8; 84] = [
 
 static SECRET: [u8; 6] = *b"secret";
 
-/// Prints how long a call takes, of so many.
-pub(crate) fn measure<R: Print + Clock + AllocGlobal>(rt: &R, count: u32) -> Result<()> {
-    let alloc = rt.alloc();
-    let notify = worked_notify(alloc)?;
-    time(rt, "read_message", count, || {
-        read_message(alloc, &REGISTER).is_ok()
-    })?;
-    time(rt, "authentic", count, || authentic(&REGISTER, &SECRET))?;
-    time(rt, "write_notify", count, || {
-        write_notify(alloc, &notify, &SECRET).is_ok()
-    })
+/// What is called.
+#[derive(Clone, Copy)]
+enum Call {
+    ReadMessage,
+    Authentic,
+    WriteNotify,
+}
+
+static CALLS: [(&str, Call); 3] = [
+    ("read_message", Call::ReadMessage),
+    ("authentic", Call::Authentic),
+    ("write_notify", Call::WriteNotify),
+];
+
+/// So many calls of one kind.
+#[derive(Drop)]
+struct Calls<'a> {
+    alloc: Global,
+    notify: &'a MapNotify,
+    call: Call,
+    count: u32,
+}
+
+impl Calls<'_> {
+    fn is_answered(&self) -> bool {
+        match self.call {
+            Call::ReadMessage => read_message(self.alloc, &REGISTER).is_ok(),
+            Call::Authentic => authentic(&REGISTER, &SECRET),
+            Call::WriteNotify => write_notify(self.alloc, self.notify, &SECRET).is_ok(),
+        }
+    }
+}
+
+impl Work for Calls<'_> {
+    fn prepare(&mut self) -> Option<()> {
+        Some(())
+    }
+
+    fn run(&mut self) -> bool {
+        for _ in 0..self.count {
+            if !self.is_answered() {
+                return false;
+            }
+        }
+        true
+    }
+}
+
+/// Prints how long a call takes, of so many; `None` where anything fails.
+pub(crate) fn measure<R: Print + Clock + AllocGlobal>(rt: &R, count: u32) -> Option<()> {
+    let notify = worked_notify(rt.alloc())?;
+    for (name, call) in &CALLS {
+        let mut calls = Calls {
+            alloc: rt.alloc(),
+            notify: &notify,
+            call: *call,
+            count,
+        };
+        time(rt, name, count, &mut calls)?;
+    }
+    Some(())
 }
 
 // The Map-Notify that answers the Map-Register.
-fn worked_notify(alloc: Global) -> Result<MapNotify> {
-    let Ok(Message::Register(register)) = read_message(alloc, &REGISTER) else {
-        return Err(anyhow!("the sample is no Map-Register"));
-    };
-    Ok(MapNotify {
-        ack: false,
-        nonce: register.nonce,
-        key_id: register.key_id,
-        records: register.records,
-    })
-}
-
-// Prints how long a call takes, of so many; an error if one is false.
-fn time<R: Print + Clock, F: Fn() -> bool>(rt: &R, name: &str, count: u32, call: F) -> Result<()>
-    requires { F.IsAlwaysCallable call }
-{
-    let start = Instant::now(rt)?;
-    for _ in 0..count {
-        if !call() {
-            return Err(anyhow!("a call gave no answer"));
-        }
+fn worked_notify(alloc: Global) -> Option<MapNotify> {
+    match read_message(alloc, &REGISTER) {
+        Ok(Message::Register(register)) => Some(MapNotify {
+            ack: false,
+            nonce: register.nonce,
+            key_id: register.key_id,
+            records: register.records,
+        }),
+        _ => None,
     }
-    let mut timing = Timing::NONE;
-    timing.add(rt, start, count)?;
-    timing.print(rt, name)
 }

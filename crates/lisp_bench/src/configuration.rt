@@ -1,80 +1,90 @@
 //! Reading configurations: large ones, and long texts that aren't valid TOML.
 
-use crate::timing::{MOST_ROUNDS, Timing};
-use anyhow::{Result, anyhow};
+use crate::timing::{Work, time};
 use lisp_sites::{Config, ConfigFault};
 use std::alloc::{AllocError, Global};
 use std::rt::Clock;
-use std::time::Instant;
 
 /// The bytes of a long text.
 const LONG: usize = 1_048_576;
 
-/// Long texts that are not valid TOML: their names, how they begin, and the letter that follows.
-const NO_TOML: [(&str, &str, char); 3] = [
-    ("a key of 1 MiB", "", 'a'),
-    ("an open string of 1 MiB", "a = \"", 'a'),
-    ("1 MiB of open brackets", "a = ", '['),
+/// A text that is measured.
+enum Text {
+    /// How it begins, and the letter that follows again and again: not valid TOML.
+    Repeated(&'static str, char),
+    /// The configuration of so many sites, and as many routers.
+    Network(u32),
+}
+
+/// The texts, and what is printed of each.
+static TEXTS: [(&str, Text); 6] = [
+    ("a key of 1 MiB", Text::Repeated("", 'a')),
+    ("an open string of 1 MiB", Text::Repeated("a = \"", 'a')),
+    ("1 MiB of open brackets", Text::Repeated("a = ", '[')),
+    (
+        "250 sites and as many routers\nfrom_toml",
+        Text::Network(250),
+    ),
+    (
+        "500 sites and as many routers\nfrom_toml",
+        Text::Network(500),
+    ),
+    (
+        "1000 sites and as many routers\nfrom_toml",
+        Text::Network(1_000),
+    ),
 ];
 
-/// How many sites, and as many routers, the measured networks have.
-const NETWORKS: [u32; 3] = [250, 500, 1_000];
-
-/// Prints how long it takes to refuse texts that are not valid TOML, and to read each network.
-pub(crate) fn measure<R: Print + Clock + AllocGlobal>(rt: &R) -> Result<()> {
-    for (name, front, letter) in NO_TOML {
-        measure_repeated(rt, name, front, letter)?;
-    }
-    for size in NETWORKS {
-        measure_network(rt, size)?;
-    }
-    Ok(())
-}
-
-fn measure_repeated<R: Print + Clock + AllocGlobal>(
-    rt: &R,
-    name: &str,
-    front: &str,
-    letter: char,
-) -> Result<()> {
-    let text = repeated(rt.alloc(), front, letter)?;
-    time(rt, name, &text, false)
-}
-
-fn measure_network<R: Print + Clock + AllocGlobal>(rt: &R, size: u32) -> Result<()> {
-    let text = network(rt.alloc(), size)?;
-    println!(rt; "{size} sites and as many routers")?;
-    time(rt, "from_toml", &text, true)
-}
-
-// Prints how long it takes to read a text, which is a configuration or not valid TOML.
-fn time<R: Print + Clock + AllocGlobal>(
-    rt: &R,
-    name: &str,
-    text: &str,
+/// The reading of a text, which is a configuration or not valid TOML.
+#[derive(Drop)]
+struct Reading<'a> {
+    alloc: Global,
+    text: &'a str,
     is_good: bool,
-) -> Result<()> {
-    let mut timing = Timing::NONE;
-    for _ in 0..MOST_ROUNDS {
-        if timing.is_enough() {
-            break;
-        }
-        let start = Instant::now(rt)?;
-        if is_configuration(rt.alloc(), text) != Some(is_good) {
-            return Err(anyhow!("the text has another answer"));
-        }
-        timing.add(rt, start, 1)?;
-    }
-    timing.print(rt, name)
 }
 
-// Whether a text is a configuration; none where it is TOML, but not one.
-fn is_configuration(alloc: Global, text: &str) -> Option<bool> {
-    match Config::from_toml(alloc, alloc, text) {
-        Ok(_) => Some(true),
-        Err(ConfigFault::Toml) => Some(false),
-        Err(_) => None,
+impl Work for Reading<'_> {
+    fn prepare(&mut self) -> Option<()> {
+        Some(())
     }
+
+    fn run(&mut self) -> bool {
+        match Config::from_toml(self.alloc, self.alloc, self.text) {
+            Ok(_) => self.is_good,
+            Err(ConfigFault::Toml) => !self.is_good,
+            Err(_) => false,
+        }
+    }
+}
+
+impl Text {
+    fn spell(&self, alloc: Global) -> Result<String, AllocError> {
+        match self {
+            Text::Repeated(front, letter) => repeated(alloc, front, *letter),
+            Text::Network(size) => network(alloc, *size),
+        }
+    }
+}
+
+/// Prints how long it takes to refuse texts that are not valid TOML, and to read each network; `None` where
+/// anything fails.
+pub(crate) fn measure<R: Print + Clock + AllocGlobal>(rt: &R) -> Option<()> {
+    for (name, text) in &TEXTS {
+        measure_text(rt, name, text)?;
+    }
+    Some(())
+}
+
+fn measure_text<R: Print + Clock + AllocGlobal>(rt: &R, name: &str, text: &Text) -> Option<()> {
+    let Ok(spelled) = text.spell(rt.alloc()) else {
+        return None;
+    };
+    let mut reading = Reading {
+        alloc: rt.alloc(),
+        text: &spelled,
+        is_good: matches!(text, Text::Network(_)),
+    };
+    time(rt, name, 1, &mut reading)
 }
 
 // The front, and after it the letter again and again.

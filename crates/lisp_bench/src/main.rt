@@ -7,28 +7,34 @@ mod configuration;
 mod registration;
 mod timing;
 
-use anyhow::Result;
-use std::env;
 use std::rt::{Clock, Env};
+use std::{env, io};
 
-fn main(rt: HostRuntime) -> Result<()> {
-    run(&rt)
+fn main(rt: HostRuntime) -> io::Result<()> {
+    match run(&rt) {
+        Some(()) => Ok(()),
+        None => Err(io::Error::other("a call, memory, the clock or the output failed")),
+    }
 }
 
-fn run<R: Env + Print + Clock + AllocGlobal>(rt: &R) -> Result<()> {
+// `None` where anything fails.
+fn run<R: Env + Print + Clock + AllocGlobal>(rt: &R) -> Option<()> {
     let count = count(rt)?;
-    if count > 0 {
-        codec::measure(rt, count)?;
-        configuration::measure(rt)?;
-        registration::measure(rt)?;
+    if count == 0 {
+        return Some(());
     }
-    Ok(())
+    codec::measure(rt, count)?;
+    configuration::measure(rt)?;
+    registration::measure(rt)
 }
 
 // How often each call of the codec is made.
-fn count<R: Env + AllocGlobal>(rt: &R) -> Result<u32> {
-    match env::args(rt)?.nth(1) {
-        Some(word) => Ok(word.as_str().parse::<u32>()?),
-        None => Ok(0),
+fn count<R: Env + AllocGlobal>(rt: &R) -> Option<u32> {
+    let Ok(mut words) = env::args(rt) else {
+        return None;
+    };
+    match words.nth(1) {
+        Some(word) => word.as_str().parse::<u32>().ok(),
+        None => Some(0),
     }
 }

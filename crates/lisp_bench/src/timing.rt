@@ -1,6 +1,5 @@
 //! How long calls take.
 
-use anyhow::Result;
 use std::rt::Clock;
 use std::time::Instant;
 
@@ -9,37 +8,45 @@ const ENOUGH_CALLS: u32 = 1_000;
 
 const ENOUGH_NANOS: u128 = 100_000_000;
 
-/// How many rounds of calls are timed at most.
-pub(crate) const MOST_ROUNDS: u32 = 1_000;
+/// What is timed, in rounds.
+pub(crate) trait Work {
+    /// Makes ready what the next round takes; `None` if memory runs out. This is not timed.
+    fn prepare(&mut self) -> Option<()>;
 
-/// Calls, and the nanoseconds that they took together.
-#[derive(Clone, Copy)]
-pub(crate) struct Timing {
-    calls: u32,
-    nanos: u128,
+    /// The calls of a round: whether each gives the answer that it should.
+    fn run(&mut self) -> bool;
 }
 
-impl Timing {
-    /// No calls so far.
-    pub(crate) const NONE: Timing = Timing { calls: 0, nanos: 0 };
-
-    /// Adds so many calls, which began at `start` and end now.
-    pub(crate) fn add<R: Clock>(&mut self, rt: &R, start: Instant, calls: u32) -> Result<()> {
-        let nanos = start.elapsed(rt)?.as_nanos();
-        self.calls = self.calls.saturating_add(calls);
-        self.nanos = self.nanos.saturating_add(nanos);
-        Ok(())
+/// Prints how long a call takes, of rounds with so many calls each; `None` where anything fails.
+pub(crate) fn time<R: Print + Clock, W: Work>(
+    rt: &R,
+    name: &str,
+    round_calls: u32,
+    work: &mut W,
+) -> Option<()> {
+    let (mut calls, mut nanos) = (0_u32, 0_u128);
+    for _ in 0..ENOUGH_CALLS {
+        if calls >= ENOUGH_CALLS || nanos >= ENOUGH_NANOS {
+            break;
+        }
+        calls = calls.saturating_add(round_calls);
+        nanos = nanos.saturating_add(round_nanos(rt, work)?);
     }
+    let mean = nanos / u128::from(calls.max(1));
+    println!(rt; "{name}: {mean} ns, the mean of {calls} calls").ok()
+}
 
-    /// Whether the calls are enough for a mean.
-    pub(crate) fn is_enough(&self) -> bool {
-        self.calls >= ENOUGH_CALLS || self.nanos >= ENOUGH_NANOS
+// The nanoseconds of one round; `None` if a call gives another answer.
+fn round_nanos<R: Clock, W: Work>(rt: &R, work: &mut W) -> Option<u128> {
+    work.prepare()?;
+    let Ok(start) = Instant::now(rt) else {
+        return None;
+    };
+    if !work.run() {
+        return None;
     }
-
-    /// Prints the mean of a call.
-    pub(crate) fn print<R: Print>(&self, rt: &R, name: &str) -> Result<()> {
-        let mean = self.nanos / u128::from(self.calls.max(1));
-        println!(rt; "{name}: {mean} ns, the mean of {} calls", self.calls)?;
-        Ok(())
+    match start.elapsed(rt) {
+        Ok(time) => Some(time.as_nanos()),
+        Err(_) => None,
     }
 }

@@ -10,7 +10,7 @@ use std::alloc::{Allocator, Global};
 use std::marker::Model;
 
 /// The configuration of a router, given before it starts.
-#[derive(Debug, Drop)]
+#[derive(Drop)]
 pub struct EtrConfig<A: Allocator = Global> {
     /// Its site and xTR-ID.
     pub me: RouterId,

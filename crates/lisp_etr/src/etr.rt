@@ -35,7 +35,7 @@ use std::alloc::{Allocator, Global};
 use std::marker::Model;
 
 /// A site router: what it registers, its last nonce, and how it stands with its Map-Servers.
-#[derive(Debug, Drop)]
+#[derive(Drop)]
 pub struct Etr<A: Allocator = Global> {
     alloc: A,
     config: EtrConfig<A>,

@@ -12,7 +12,7 @@ const MINUTE: u64 = 60_000;
 const MOST_SENDS: u8 = 6;
 
 /// How a router stands with one of its Map-Servers. Times are in ms.
-#[derive(Clone, Copy, Debug, Drop)]
+#[derive(Clone, Copy, Drop)]
 pub(crate) struct Round {
     /// When the next Map-Register is due.
     pub(crate) due: u64,

@@ -33,7 +33,7 @@ impl StartFault {
 }
 
 /// A router that didn't start: why, and what it was given.
-#[derive(Debug, Drop)]
+#[derive(Drop)]
 pub struct StartRefused<A: Allocator = Global> {
     /// Why it didn't start.
     pub fault: StartFault,

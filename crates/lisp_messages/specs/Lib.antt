@@ -5,3 +5,4 @@ pub mod Spelling
 pub mod Written
 pub mod Authentic
 pub mod Reading
+pub mod Head

@@ -4,6 +4,7 @@
 
 mod authentication;
 mod fault;
+mod head;
 mod kind;
 pub mod laws;
 mod message;
@@ -14,6 +15,7 @@ mod writing;
 
 pub use authentication::authentic;
 pub use fault::ReadFault;
+pub use head::Head;
 pub use message::Message;
 pub use notify::{MapNotify, write_notify};
 pub use reading::read_message;

@@ -19,7 +19,7 @@ const THREE_MINUTES: u64 = 180_000;
 const MINUTE: u64 = 60_000;
 
 /// What all rows of one Map-Register have alike.
-#[derive(Clone, Copy, Debug)]
+#[derive(Clone, Copy)]
 struct Origin {
     router: RouterId,
     key: u8,

@@ -10,7 +10,7 @@ use std::alloc::{AllocError, Allocator};
 use std::marker::Model;
 
 /// Where a router was heard last: the source of its last accepted Map-Register, and the key of it.
-#[derive(Clone, Copy, Debug, PartialEq, Eq)]
+#[derive(Clone, Copy)]
 pub(crate) struct Contact {
     pub(crate) router: RouterId,
     pub(crate) key: u8,
@@ -18,7 +18,7 @@ pub(crate) struct Contact {
 }
 
 /// The contacts of routers, and room for more.
-#[derive(Debug, Drop)]
+#[derive(Drop)]
 pub(crate) struct Contacts<A: Allocator> {
     items: Vec<Contact, A>,
 }

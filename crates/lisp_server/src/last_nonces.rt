@@ -12,14 +12,14 @@ use std::alloc::{AllocError, Allocator};
 use std::marker::Model;
 
 /// A pair, and its last nonce.
-#[derive(Clone, Copy, Debug, PartialEq, Eq)]
+#[derive(Clone, Copy)]
 pub(crate) struct LastNonce {
     pub(crate) pair: Pair,
     pub(crate) nonce: u64,
 }
 
 /// The last nonce of each pair, and room for more.
-#[derive(Debug, Drop)]
+#[derive(Drop)]
 pub(crate) struct LastNonces<A: Allocator> {
     items: Vec<LastNonce, A>,
 }

@@ -38,7 +38,7 @@ use std::marker::Model;
 
 /// A Map-Server: its sites, what it learnt of their routers since its start, and the unsolicited Map-Notifies
 /// (notices) that it sent them and that are not yet acknowledged.
-#[derive(Debug, Drop)]
+#[derive(Drop)]
 pub struct Server<A: Allocator = Global> {
     alloc: A,
     sites: Sites<A>,

@@ -10,7 +10,7 @@ use std::alloc::{AllocError, Allocator};
 use std::marker::Model;
 
 /// What a Map-Server keeps of a notice until it is acknowledged.
-#[derive(Debug, Drop)]
+#[derive(Drop)]
 pub(crate) struct StandingNotice<A: Allocator> {
     /// The router that it is for.
     pub(crate) router: RouterId,

@@ -15,7 +15,7 @@ use std::alloc::{AllocError, Allocator};
 use std::marker::Model;
 
 /// The notices that stand, and room for more.
-#[derive(Debug, Drop)]
+#[derive(Drop)]
 pub(crate) struct StandingNotices<A: Allocator> {
     items: Vec<StandingNotice<A>, A>,
 }

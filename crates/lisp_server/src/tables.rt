@@ -21,7 +21,7 @@ use std::alloc::{AllocError, Allocator};
 
 /// The rows that are held, the last nonces, where each router was heard last, and the unsolicited
 /// Map-Notifies (notices) that stand.
-#[derive(Debug, Drop)]
+#[derive(Drop)]
 pub(crate) struct Tables<A: Allocator> {
     pub(crate) rows: Table<A>,
     pub(crate) nonces: LastNonces<A>,

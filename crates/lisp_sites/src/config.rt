@@ -23,7 +23,7 @@ use toml::Value;
 /// - No two nodes, Map-Servers or routers, have the same name.
 /// - A router is of a site that is there, and uses one of its keys. It registers with Map-Servers that
 ///   are there, with none of them twice. Its records make a database.
-#[derive(Debug, Drop)]
+#[derive(Drop)]
 pub struct Config<A: Allocator = Global> {
     sites: Sites<A>,
     servers: Vec<ServerEntry<A>, A>,

@@ -11,7 +11,7 @@ use std::alloc::{AllocError, Allocator, Global};
 use std::marker::Model;
 
 /// A pre-shared secret of a site, under its Key ID (RFC 9301 section 5.6).
-#[derive(Debug, Drop)]
+#[derive(Drop)]
 pub(crate) struct SiteKey<A: Allocator = Global> {
     pub(crate) id: u8,
     pub(crate) secret: Bytes<A>,
@@ -57,7 +57,7 @@ impl SitePrefix {
 }
 
 /// A site (RFC 9301 section 8.2): its Site-ID, its keys and its prefixes.
-#[derive(Debug, Drop)]
+#[derive(Drop)]
 pub struct Site<A: Allocator = Global> {
     pub(crate) id: u64,
     pub(crate) keys: Vec<SiteKey<A>, A>,

@@ -11,7 +11,7 @@ use std::alloc::{AllocError, Allocator, Global};
 use std::marker::Model;
 
 /// Sites, in the order of the configuration.
-#[derive(Debug, Drop)]
+#[derive(Drop)]
 pub struct Sites<A: Allocator = Global> {
     items: Vec<Site<A>, A>,
 }

@@ -1,19 +1,7 @@
--- The numbers of refusals, and of a network's faults.
+-- The numbers of a network's faults.
 use Rattle.std.specs.Prelude.{ℕ}
-use Rattle.lisp_etr.specs.Faults.{start_fault_number, send_fault_number, notify_fault_number}
-use Rattle.lisp_checks.specs.Refused.{refused_number}
-use Rattle.lisp_checks.specs.NoticeFault.{notice_fault_number}
-use Rattle.lisp_world.specs.declared.refusal.Refusal.{Refusal}
-use Rattle.lisp_world.specs.declared.refusal.Refusal.TheVariants as refusals
 use Rattle.lisp_world.specs.declared.fault.WorldFault.{WorldFault}
 use Rattle.lisp_world.specs.declared.fault.WorldFault.TheVariants as faults
-
-abbrev pub refusal_number : Refusal → ℕ
-refusal_number (refusals.Send fault) = send_fault_number fault
-refusal_number (refusals.Notify fault) = notify_fault_number fault
-refusal_number (refusals.Receive refused) = refused_number refused
-refusal_number (refusals.Notice fault) = notice_fault_number fault
-refusal_number (refusals.Start fault) = start_fault_number fault
 
 abbrev pub world_fault_number : WorldFault → ℕ
 world_fault_number faults.NoNode = 70

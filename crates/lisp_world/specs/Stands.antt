@@ -1,63 +1,33 @@
 -- What a network stands for a trace means.
 use Rattle.std.specs.Prelude.{◌≡◌, ◌≢◌, ℕ, ◌+◌, ◌≤◌, IsTrue, true, false, List, ◌∷◌, length, slice_get, Option, Some, None}
 use Rattle.std.specs.Option.{option_map, option_and_then}
-use Rattle.lisp_records.specs.declared.address.Addr.{Addr}
 use Rattle.lisp_records.specs.declared.router.RouterId.{RouterId}
 use Rattle.lisp_records.specs.Address.{Block}
 use Rattle.lisp_records.specs.Moment.{max_moment}
-use Rattle.lisp_records.specs.Record.{Mapping}
 use Rattle.lisp_records.specs.Row.{Holding}
 use Rattle.lisp_store.specs.declared.pair.Pair.{Pair}
 use Rattle.lisp_store.specs.Kept.{kept_at, number, NoneBelow}
 use Rattle.lisp_store.specs.Store.{StoreState}
-use Rattle.lisp_sites.specs.Configuration.{Configuration}
 use Rattle.lisp_messages.specs.Message.{IsSaid}
 use Rattle.lisp_lookup.specs.Table.{row_at, if_alive}
-use Rattle.lisp_etr.specs.Config.{Settings}
 use Rattle.lisp_etr.specs.Etr.{EtrState}
 use Rattle.lisp_etr.specs.Round.{Keeps}
 use Rattle.lisp_etr.specs.declared.round.Round.{Round}
-use Rattle.lisp_server.specs.Server.{ServerState}
 use Rattle.lisp_server.specs.LastNonces.{nonce_at}
 use Rattle.lisp_server.specs.Contacts.{contact_at}
 use Rattle.lisp_server.specs.Receiving.{contact_of}
 use Rattle.lisp_checks.specs.Pairs.{notice_pair}
 use Rattle.lisp_server.specs.Notices.{Standing, notice_at}
-use Rattle.lisp_world.specs.Trace.{Shown, Step, Opening, router_at, settings, address_at, shown, clock, is_up, database}
-use Rattle.lisp_world.specs.Held.{last_of, heard_last, held}
-use Rattle.lisp_world.specs.Timers.{round, Notice, notice_to, last_notice}
-use Rattle.lisp_world.specs.Bag.{Item, bytes_of, bag, since}
-use Rattle.lisp_world.specs.Counted.{latest, acked}
-use Rattle.lisp_world.specs.Sending.{pair_at, CountsFrom}
-use Rattle.lisp_world.specs.Legal.{LegalTrace}
-use Rattle.lisp_world.specs.Network.{IsNetwork}
-
--- a datagram as it is kept
-pub record Posted : Type 0 where
-  pub from : Addr
-  pub to : Addr
-  pub bytes : List ℕ
-
--- a server with its store
-pub record ServerNode : Type 0 where
-  pub core : ServerState
-  pub store : StoreState
-
--- a router with its store: up, or down with its configuration and its database
-pub data RouterCore : Type 0 where
-  Up : EtrState → RouterCore
-  Down : Settings → List Mapping → RouterCore
-
-pub record RouterNode : Type 0 where
-  pub core : RouterCore
-  pub store : StoreState
-
-pub record WorldState : Type 0 where
-  pub config : Configuration
-  pub clock : ℕ
-  pub bag : List Posted
-  pub servers : List ServerNode
-  pub routers : List RouterNode
+use Rattle.lisp_schedules.specs.Trace.{Shown, Happening, Step, Opening, addresses, router_at, settings, address_at, shown, clock, is_up, database}
+use Rattle.lisp_schedules.specs.declared.line.Line.{Line}
+use Rattle.lisp_schedules.specs.Held.{last_of, heard_last, held}
+use Rattle.lisp_schedules.specs.Timers.{round, Notice, notice_to, last_notice}
+use Rattle.lisp_schedules.specs.Bag.{Item, bytes_of, bag, since}
+use Rattle.lisp_schedules.specs.Counted.{latest, acked}
+use Rattle.lisp_schedules.specs.Sending.{pair_at, CountsFrom}
+use Rattle.lisp_schedules.specs.Legal.{LegalTrace}
+use Rattle.lisp_schedules.specs.Network.{IsNetwork}
+use Rattle.lisp_world.specs.World.{Posted, ServerNode, RouterCore, Up, Down, RouterNode, WorldState}
 
 -- an honest store shows what the trace says
 pub record Shows (store : StoreState) (s : Shown) : Type 0 where
@@ -65,9 +35,9 @@ pub record Shows (store : StoreState) (s : Shown) : Type 0 where
   pub kept : store.kept ≡ s.kept
   pub faults : store.faults ≡ s.faults
 
--- configuration, steps and stores
+-- what is kept of the configuration, steps and stores
 pub record StandsInSteps (w : WorldState) (o : Opening) (T : List Step) : Type 0 where
-  pub config : w.config ≡ o.config
+  pub addresses : w.addresses ≡ addresses o.config
   pub network : IsNetwork o.config
   pub legal : LegalTrace o T
   pub servers : length w.servers ≡ length o.config.servers
@@ -104,10 +74,15 @@ pub record StandsForEtr (o : Opening) (T : List Step) (router : ℕ) (e : EtrSta
   pub count : length e.rounds ≡ length (router_at o.config router).servers
   pub rounds : (i server : ℕ) (r : Round) → slice_get (router_at o.config router).servers i ≡ Some server → slice_get e.rounds i ≡ Some r → StandsForRound T router server r
 
+abbrev pub StandsForCore : Opening → List Step → ℕ → RouterCore → Type 0
+StandsForCore o T router (Up e) = StandsForEtr o T router e
+StandsForCore o T router (Down config db) = (is_up T router ≡ false) × (config ≡ settings o T router) × (db ≡ database o T router)
+
 -- a router
-abbrev pub StandsForRouter : Opening → List Step → ℕ → RouterCore → Type 0
-StandsForRouter o T router (Up e) = StandsForEtr o T router e
-StandsForRouter o T router (Down config db) = (is_up T router ≡ false) × (config ≡ settings o T router) × (db ≡ database o T router)
+pub record StandsForRouter (o : Opening) (T : List Step) (router : ℕ) (n : RouterNode) : Type 0 where
+  pub me : n.me ≡ (router_at o.config router).me
+  pub servers : n.servers ≡ (router_at o.config router).servers
+  pub core : StandsForCore o T router n.core
 
 -- a notice as a server keeps it
 pub record IsStanding (o : Opening) (T : List Step) (server : ℕ) (n : Notice) (kept : Standing) : Type 0 where
@@ -143,4 +118,9 @@ pub record Stands (w : WorldState) (o : Opening) (T : List Step) : Type 0 where
   pub steps : StandsInSteps w o T
   pub bag : StandsInBag w o T
   pub servers : (k : ℕ) (n : ServerNode) → slice_get w.servers k ≡ Some n → StandsForServer o T k n
-  pub routers : (k : ℕ) (n : RouterNode) → slice_get w.routers k ≡ Some n → StandsForRouter o T (length o.config.servers + k) n.core
+  pub routers : (k : ℕ) (n : RouterNode) → slice_get w.routers k ≡ Some n → StandsForRouter o T (length o.config.servers + k) n
+
+-- the network stands for the trace followed by one step more: the event, its line, and what the store of a node shows
+abbrev pub StandsAfter : WorldState → WorldState → Happening → Line → Type 0
+StandsAfter old new event line = (o : Opening) (T : List Step) → Stands old o T
+    → (actor : ℕ) × (s : Shown) × Stands new o (record { event = event; line = line; actor = actor; shown = s } ∷ T)

@@ -2,6 +2,7 @@
 
 use lisp_records::{Addr, Bytes};
 use std::alloc::{Allocator, Global};
+use std::marker::Model;
 
 /// A datagram that a node sent.
 #[derive(Debug, Drop)]
@@ -12,4 +13,12 @@ pub struct Datagram<A: Allocator = Global> {
     pub to: Addr,
     /// The message.
     pub bytes: Bytes<A>,
+}
+
+impl<A: Allocator> Model for Datagram<A> {
+    ghost use Rattle.lisp_world.specs.World.{Posted};
+
+    ghost Value = { Posted };
+
+    ghost view = { λ d. record { from = d.from; to = d.to; bytes = d.bytes } };
 }

@@ -1,88 +1,77 @@
-//! What holds of legal traces: each function's contract is a law, and its body is empty.
+//! A network that stands for a trace, and makes a turn, stands for the trace followed by that step: each function's
+//! contract is this law for one kind of event, and its body is empty.
 
-ghost use Rattle.std.specs.Prelude.{ℕ, List, ◌∷◌};
-ghost use Rattle.lisp_lookup.specs.Table.{IsHeld};
-ghost use Rattle.lisp_world.specs.Trace.{Opening, Step};
-ghost use Rattle.lisp_world.specs.Held.{Acceptance, named, rows};
-ghost use Rattle.lisp_world.specs.Legal.{Legal, LegalTrace};
-ghost use Rattle.lisp_world.specs.Must.{Must};
-ghost use Rattle.lisp_world.specs.Clean.{Clean};
-ghost use Rattle.lisp_world.specs.Promises.{NoncesRise, ReplaysAreTried, NoticeNoncesRise, NoticesDiffer, LeavesOthers, AcceptedWasSent, HeldWasSent, HeldAgree, CountedWasAccepted, DoneWasNoticed};
-ghost use Rattle.lisp_world.specs.Network.{IsNetwork};
+ghost use Rattle.std.specs.Prelude.{◌≡◌, ℕ, List, Option, Some, None, slice_get};
+ghost use Rattle.lisp_records.specs.Record.{Mapping};
+ghost use Rattle.lisp_records.specs.declared.address.Addr.{Addr};
+ghost use Rattle.lisp_store.specs.declared.fate.Fate.{Fate};
+ghost use Rattle.lisp_store.specs.declared.fate.Fate.TheVariants.{Done};
+ghost use Rattle.lisp_schedules.specs.declared.event.Event.TheVariants as events;
+ghost use Rattle.lisp_schedules.specs.declared.line.Line.{Line};
+ghost use Rattle.lisp_schedules.specs.declared.line.Line.TheVariants as lines;
+ghost use Rattle.lisp_schedules.specs.Legal.{Fits};
+ghost use Rattle.lisp_world.specs.World.{Posted, WorldState};
+ghost use Rattle.lisp_world.specs.Turns.{node_with, Ticks, Changes, SendsFrom, ArrivesAtServer, ArrivesAtRouter, RestartsServer, RestartsAt, NoticesFrom, ResendsFrom};
+ghost use Rattle.lisp_world.specs.Stands.{StandsAfter};
 
-/// The nonces that a Map-Server accepts of a router under a key rise, over its restarts too (RFC 9301
-/// section 5.6).
-#[tactic(auto, using(crate::proofs::RisingLaws::nonces_rise))]
-pub fn nonces_rise()
-    ensures { (o : Opening) (T : List Step) → LegalTrace o T → NoncesRise o T }
+use std::alloc::Allocator;
+
+/// Time passes, and each Map-Server drops its dead rows.
+pub fn ticks_stand()
+    ensures { (old new : WorldState) (ms : ℕ) (line : Line) → Ticks old new ms line → StandsAfter old new (events.Tick ms) line }
 {}
 
-/// A replay is refused with a number that the Map-Server tried before, or that its store kept at the opening.
-#[tactic(auto, using(crate::proofs::RisingLaws::replays_tried))]
-pub fn replays_are_tried()
-    ensures { (o : Opening) (T : List Step) (s : Step) → LegalTrace o T → Legal o T s → ReplaysAreTried o T s }
+/// A router is given another database (RFC 9301 section 8.2).
+pub fn changes_stand()
+    ensures { (old new : WorldState) (router : ℕ) (db : List Mapping) (line : Line) → Changes old new router db line → StandsAfter old new (events.Change router db) line }
 {}
 
-/// The nonces of a Map-Server's notices rise, over its restarts too (RFC 9301 section 5.7).
-#[tactic(auto, using(crate::proofs::NoticeRising::notice_nonces_rise))]
-pub fn notice_nonces_rise()
-    ensures { (o : Opening) (T : List Step) → LegalTrace o T → NoticeNoncesRise T }
+/// A router sends a Map-Register to a Map-Server (RFC 9301 section 5.6).
+pub fn sends_stand()
+    ensures { (old new : WorldState) (router server : ℕ) (fate : Fate) (line : Line) → SendsFrom old new router server fate line → StandsAfter old new (events.Send router server fate) line }
 {}
 
-/// No two standing notices of a Map-Server have one nonce, so that a Map-Notify-Ack ends at most one.
-pub fn notices_differ()
-    ensures { (o : Opening) (T : List Step) → LegalTrace o T → NoticesDiffer o T }
+/// A datagram that was sent arrives at a Map-Server (RFC 9301 sections 5.6, 5.7 and 8.2).
+pub fn deliveries_to_servers_stand<A: Allocator>()
+    ensures { (old new : WorldState) (node : ℕ) (fate : Fate) (line : Line) (k : ℕ) (d : Posted) → slice_get old.bag k ≡ Some d → node_with old d.to ≡ Some node → ArrivesAtServer A old new node fate d.from d.bytes line → StandsAfter old new (events.Deliver k fate) line }
 {}
 
-/// A legal step leaves the part of each node that doesn't act as it was.
-#[tactic(auto, using(crate::proofs::Locality::leaves_others))]
-pub fn others_stay()
-    ensures { (o : Opening) (T : List Step) (s : Step) → Legal o T s → LeavesOthers o T s }
+/// A datagram that was sent arrives at a router (RFC 9301 sections 5.7 and 8.2).
+pub fn deliveries_to_routers_stand<A: Allocator>()
+    ensures { (old new : WorldState) (node : ℕ) (fate : Fate) (line : Line) (k : ℕ) (d : Posted) → slice_get old.bag k ≡ Some d → node_with old d.to ≡ Some node → ArrivesAtRouter A old new node fate d.from d.bytes line → StandsAfter old new (events.Deliver k fate) line }
 {}
 
-/// What meets its conditions is sent, accepted, counted, answered or done, save where memory or a store's device
-/// failed.
-#[tactic(auto, using(crate::proofs::MustLaws::must))]
-pub fn must_be_done()
-    ensures { (o : Opening) (T : List Step) (s : Step) → LegalTrace o T → Legal o T s → Must o T s }
+/// A datagram that was sent arrives nowhere: no node has its address.
+pub fn deliveries_to_nobody_stand()
+    ensures { (old : WorldState) (fate : Fate) (k : ℕ) (d : Posted) → slice_get old.bag k ≡ Some d → node_with old d.to ≡ None → StandsAfter old old (events.Deliver k fate) (lines.Nowhere k) }
 {}
 
-/// What is held at a moment is listed by router, then prefix: exactly the live records, each once (RFC 9301 section
-/// 8.2).
-pub fn rows_are_held()
-    ensures { (since : List Acceptance) (now : ℕ) → IsHeld (named since) now (rows since now) }
+/// Bytes from outside arrive at a Map-Server.
+pub fn junk_at_servers_stands<A: Allocator>()
+    ensures { (old new : WorldState) (node : ℕ) (line : Line) (from : Addr) (bytes : List ℕ) → ArrivesAtServer A old new node Done from bytes line → StandsAfter old new (events.Junk node from bytes) line }
 {}
 
-/// Over a clean trace each accepted message is that of exactly one entry: it was sent to that Map-Server, from
-/// its router's address. Nodes have different addresses, routers different identities, and each router's list names
-/// Map-Servers, here and below.
-#[tactic(auto, using(crate::proofs::CleanLaws::accepted_was_sent))]
-pub fn accepted_messages_were_sent()
-    ensures { (o : Opening) (T : List Step) → IsNetwork o.config → LegalTrace o T → Clean o T → AcceptedWasSent o T }
+/// Bytes from outside arrive at a router.
+pub fn junk_at_routers_stands<A: Allocator>()
+    ensures { (old new : WorldState) (node : ℕ) (from : Addr) (bytes : List ℕ) (line : Line) → ArrivesAtRouter A old new node Done from bytes line → StandsAfter old new (events.Junk node from bytes) line }
 {}
 
-/// Over a clean trace each record that is held is one of an entry that was sent to that Map-Server: what its
-/// database has for the prefix.
-#[tactic(auto, using(crate::proofs::CleanLaws::held_was_sent))]
-pub fn held_records_were_sent()
-    ensures { (o : Opening) (T : List Step) → IsNetwork o.config → LegalTrace o T → Clean o T → HeldWasSent o T }
+/// A Map-Server stops, its store crashes, and it starts with its sites alone.
+pub fn server_restarts_stand()
+    ensures { (old new : WorldState) (node pick : ℕ) (line : Line) → RestartsServer old new node line → StandsAfter old new (events.Restart node pick None) line }
 {}
 
-/// Over a clean trace Map-Servers that hold a prefix of a router, from entries with no change between them,
-/// hold equal records.
-#[tactic(auto, using(crate::proofs::CleanLaws::held_agree))]
-pub fn held_records_agree()
-    ensures { (o : Opening) (T : List Step) → IsNetwork o.config → LegalTrace o T → Clean o T → HeldAgree o T }
+/// A router stops, its store crashes, and it starts again, or is down.
+pub fn router_restarts_stand()
+    ensures { (old new : WorldState) (node pick : ℕ) (db : Option (List Mapping)) (line : Line) → Fits db → RestartsAt old new node db line → StandsAfter old new (events.Restart node pick db) line }
 {}
 
-/// Over a clean trace each nonce that a router counts is that of a Map-Register that it sent to that Map-Server,
-/// under its key, and that the Map-Server accepted.
-#[tactic(auto, using(crate::proofs::CleanLaws::counted_was_accepted))]
-pub fn counted_messages_were_accepted()
-    ensures { (o : Opening) (T : List Step) → IsNetwork o.config → LegalTrace o T → Clean o T → CountedWasAccepted o T }
+/// A Map-Server sends a router an unsolicited Map-Notify (notice) of what it holds of it (RFC 9301 section 5.7).
+pub fn notices_stand()
+    ensures { (old new : WorldState) (server router : ℕ) (fate : Fate) (line : Line) → NoticesFrom old new server router fate line → StandsAfter old new (events.Notice server router fate) line }
 {}
 
-/// Over a clean trace a notice that is done was noticed by its router before.
-pub fn done_notices_were_noticed()
-    ensures { (o : Opening) (T : List Step) (s : Step) → IsNetwork o.config → LegalTrace o (s ∷ T) → Clean o (s ∷ T) → DoneWasNoticed o T s }
+/// A Map-Server sends a notice again that is due (RFC 9301 section 5.7).
+pub fn resends_stand()
+    ensures { (old new : WorldState) (server router : ℕ) (line : Line) → ResendsFrom old new server router line → StandsAfter old new (events.Resend server router) line }
 {}

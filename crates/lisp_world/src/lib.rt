@@ -1,16 +1,11 @@
-//! A network of Map-Servers and site routers that takes one event at a time: what such a network may do
-//! (RFC 9301 sections 5.6, 5.7, 8.2 and 8.3), and what it promises.
+//! A network of Map-Servers and site routers that takes one event at a time (RFC 9301 sections 5.6, 5.7, 8.2 and 8.3):
+//! what its state is, what a turn makes of it, and that a network which makes such turns stands for a legal trace.
 #![tactic(auto)]
 
 mod datagram;
-mod event;
 mod fault;
 pub mod laws;
-mod line;
-mod refusal;
 
 pub use datagram::Datagram;
-pub use event::Event;
 pub use fault::WorldFault;
-pub use line::Line;
-pub use refusal::Refusal;
+pub use lisp_schedules::{Event, Line, Refusal};

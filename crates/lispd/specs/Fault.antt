@@ -1,18 +1,11 @@
 -- The numbers of the program's faults, and its exit statuses: 1 where files, streams or memory failed, 2 for the
 -- words of the command line.
 use Rattle.std.specs.Prelude.{ℕ}
-use Rattle.lispd.specs.declared.fault.AnswerFault.{AnswerFault}
-use Rattle.lispd.specs.declared.fault.AnswerFault.TheVariants.{Read, Write, TooLong, OutOfMemory}
+use Rattle.lisp_answer.specs.Fault.{fault_number}
 use Rattle.lispd.specs.declared.fault.SetupFault.{SetupFault}
 use Rattle.lispd.specs.declared.fault.SetupFault.TheVariants as setup_faults
 use Rattle.lispd.specs.declared.fault.ProgramFault.{ProgramFault}
 use Rattle.lispd.specs.declared.fault.ProgramFault.TheVariants.{Words, Setup, Answer}
-
-abbrev pub fault_number : AnswerFault → ℕ
-fault_number Read = 87
-fault_number Write = 88
-fault_number TooLong = 89
-fault_number OutOfMemory = 97
 
 abbrev pub setup_fault_number : SetupFault → ℕ
 setup_fault_number (setup_faults.BadOption _) = 98

@@ -1,8 +1,2 @@
-pub mod Block
-pub mod Setup
-pub mod Words
-pub mod Answer
-pub mod Line
 pub mod Fault
 pub mod Options
-pub mod Input

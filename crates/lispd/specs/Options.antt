@@ -14,7 +14,7 @@ use Rattle.lispd.specs.declared.option.AnswerOption.{AnswerOption}
 use Rattle.lispd.specs.declared.option.AnswerOption.TheVariants.{Site, Key, Secret, Prefix}
 use Rattle.lispd.specs.declared.fault.SetupFault.{SetupFault}
 use Rattle.lispd.specs.declared.fault.SetupFault.TheVariants.{BadOption, OutOfMemory}
-use Rattle.lispd.specs.Setup.{Setup, default_setup}
+use Rattle.lisp_answer.specs.Setup.{Setup, default_setup}
 
 -- an option's name on the command line, without its dashes
 abbrev pub option_name : AnswerOption → List ℕ

@@ -32,7 +32,7 @@ impl AnswerOption {
     }
 
     /// What its value is and in which form, with an example: for the help, and for a bad value.
-    pub(crate) const fn form<'a>(self) -> &'a str {
+    pub const fn form<'a>(self) -> &'a str {
         match self {
             AnswerOption::Site => {
                 "Site-ID: 16 hexadecimal digits, such as 0000000000000001 (the default)"

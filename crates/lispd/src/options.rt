@@ -9,8 +9,8 @@ ghost use Rattle.lispd.specs.declared.option.AnswerOption.TheVariants as answer_
 
 use crate::fault::SetupFault;
 use crate::option::AnswerOption;
-use crate::site::{AnswerSetup, DEFAULT_KEY, DEFAULT_SECRET, DEFAULT_SITE, default_prefix};
 use clap::ArgMatches;
+use lisp_answer::{AnswerSetup, DEFAULT_KEY, DEFAULT_SECRET, DEFAULT_SITE, default_prefix};
 use lisp_memory::{FallibleCopies, Memory};
 use lisp_records::{Bytes, Prefix};
 use lisp_texts::{number_from_text, prefix_from_text, secret_from_text, site_id_from_text};

@@ -1,8 +1,12 @@
 //! The program `lispd`: reads its words, runs the subcommand, and reports a fault on standard error.
 #![tactic(auto)]
 
+mod command_line;
+
+use crate::command_line::command;
+use clap::ArgMatches;
 use clap::error::ErrorKind as WordsErrorKind;
-use lispd::{AnswerFault, ProgramFault, SetupFault, answer, command, setup};
+use lispd::{AnswerFault, ProgramFault, SetupFault, answer, setup};
 use std::io::{self, ErrorKind, IsTerminal};
 use std::process::ExitCode;
 use std::rt::Env;
@@ -46,13 +50,19 @@ fn run_words<R: Print + Eprint + Input + AllocGlobal>(
         return Err(OUT_OF_MEMORY);
     };
     match command.try_get_matches_from(words) {
-        Ok(matches) => {
-            let setup = setup(rt.alloc(), matches.subcommand_matches("answer"))?;
-            answer(rt.alloc(), &setup, &mut rt.reader(), &mut io::writer(rt))?;
-            Ok(ExitCode::SUCCESS)
-        }
+        Ok(matches) => run_answer(rt, matches.subcommand_matches("answer")),
         Err(error) => print_words_error(rt, &error),
     }
+}
+
+// Answers the line on standard input, with the options that were given.
+fn run_answer<R: Print + Input + AllocGlobal>(
+    rt: &R,
+    matches: Option<&ArgMatches<'_>>,
+) -> Result<ExitCode, ProgramFault> {
+    let setup = setup(rt.alloc(), matches)?;
+    answer(rt.alloc(), &setup, &mut rt.reader(), &mut io::writer(rt))?;
+    Ok(ExitCode::SUCCESS)
 }
 
 // Prints the help or the version that was asked for, or why `clap` refuses the words.

@@ -1,0 +1,3 @@
+pub mod AnsweringLemmas
+pub mod InputLemmas
+pub mod FreshLaws

@@ -1,0 +1,66 @@
+//! The subcommand `answer`.
+
+ghost use Rattle.std.specs.Prelude.{◌≢◌, ◌<◌, ◌≤◌, length, IfOk, IfSome, OnOk, IfErr, IsErrOf};
+ghost use Rattle.std.specs.String.{string_bytes};
+ghost use Rattle.std.specs.Io.BufRead.{take_through};
+ghost use Rattle.std.specs.Io.KnownBytes.{Consumes, Keeps};
+ghost use Rattle.lisp_answer.specs.Line.{Adds, IsLine};
+ghost use Rattle.lisp_answer.specs.Input.{most_bytes};
+ghost use Rattle.lisp_answer.specs.declared.fault.AnswerFault.{AnswerFault};
+
+use crate::fault::AnswerFault;
+use crate::input::{content, read_line};
+use crate::line::words_for;
+use crate::site::AnswerSetup;
+use lisp_memory::{FallibleString, Memory};
+use std::alloc::Allocator;
+use std::io::{Read, Write};
+
+/// Reads one line of hexadecimal digits, the bytes of a message, and writes one line: what a fresh
+/// Map-Server with this setup answers. To a Map-Register that is the Map-Notify in lower case digits,
+/// `accepted` where bit M is clear, or `refused` with the number of the refusal and what it carries. A
+/// Map-Notify is `refused 61`. A Map-Notify-Ack is `refused 60`, since no unsolicited Map-Notify (notice)
+/// waits for it. A line that isn't hexadecimal is `refused 94`. Out of memory in the server is
+/// `refused 58`, in its store `refused 59 store 32`.
+///
+/// The line ends with a line feed, before which a carriage return is dropped, or with the input; it
+/// has at most 1,048,576 bytes, its line feed among them, and nothing after it is read. Faults:
+/// `Read` where a read fails or 2,097,152 reads are not enough, `TooLong`, `OutOfMemory` where memory
+/// runs out for the site, the line or the text of its answer, `Write`. Only at `Write` may a part of
+/// the answer have been written.
+pub fn answer<A: Memory + Copy, B: Allocator, R: Read, W: Write>(
+    alloc: A,
+    setup: &AnswerSetup<B>,
+    reader: &mut R,
+    writer: &mut W,
+) -> Result<(), AnswerFault>
+    ensures ok { OnOk result (IfSome (R.remaining reader.old) (λ input. Adds A.may_refuse (W.contents writer.old) (W.contents writer.new) setup.now input)) }
+    ensures consumed { OnOk result (IfSome (R.remaining reader.old) (λ input. Consumes (R.remaining reader.old) (R.remaining reader.new) (take_through 10 input))) }
+    ensures fits { OnOk result (IfSome (R.remaining reader.old) (λ input. length (take_through 10 input) ≤ most_bytes)) }
+    ensures too_long { IsErrOf result AnswerFault.TooLong → IfSome (R.remaining reader.old) (λ input. most_bytes < length (take_through 10 input)) }
+    ensures err { IfErr result (λ e. e ≢ AnswerFault.Write → Keeps (W.contents writer.old) (W.contents writer.new)) }
+{
+    let line = answer_line(alloc, setup, reader)?;
+    match writer.write_all(line.as_bytes()) {
+        Ok(()) => Ok(()),
+        Err(_) => Err(AnswerFault::Write),
+    }
+}
+
+// Reads one line, and gives the line that answers it.
+fn answer_line<A: Memory + Copy, B: Allocator, R: Read>(
+    alloc: A,
+    setup: &AnswerSetup<B>,
+    reader: &mut R,
+) -> Result<String<A>, AnswerFault>
+    ensures line { IfOk result (λ line. IfSome (R.remaining reader.old) (λ input. IsLine A.may_refuse setup.now input (string_bytes line))) }
+    ensures consumed { OnOk result (IfSome (R.remaining reader.old) (λ input. Consumes (R.remaining reader.old) (R.remaining reader.new) (take_through 10 input))) }
+    ensures fits { OnOk result (IfSome (R.remaining reader.old) (λ input. length (take_through 10 input) ≤ most_bytes)) }
+    ensures too_long { IsErrOf result AnswerFault.TooLong → IfSome (R.remaining reader.old) (λ input. most_bytes < length (take_through 10 input)) }
+{
+    let sites = setup.sites(alloc)?;
+    let line = read_line(alloc, reader)?;
+    let mut text = words_for(alloc, sites, content(&line))?;
+    text.try_push('\n')?;
+    Ok(text)
+}

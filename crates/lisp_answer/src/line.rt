@@ -1,0 +1,47 @@
+//! The line that answers a line of hexadecimal digits.
+
+ghost use Rattle.std.specs.Prelude.{◌≡◌, IfOk};
+ghost use Rattle.std.specs.String.{string_bytes};
+ghost use Rattle.hex.specs.Hex.{decode_of};
+ghost use Rattle.lisp_answer.specs.Line.{answer_words, AreWords};
+
+use crate::fresh::respond;
+use crate::words::words_of_refused;
+use hex::FromHexError;
+use lisp_memory::{FallibleString, Memory};
+use lisp_records::Bytes;
+use lisp_server::Refused;
+use lisp_sites::Sites;
+use std::alloc::AllocError;
+
+/// The number of a line that isn't hexadecimal.
+const NOT_HEXADECIMAL: u16 = 94;
+
+/// The words that answer a line of digits: the Map-Notify in lower case digits, `accepted`, or the
+/// refusal; `refused 94` where the line isn't hexadecimal.
+pub(crate) fn words_for<A: Memory + Copy>(
+    alloc: A,
+    sites: Sites<A>,
+    digits: &[u8],
+) -> Result<String<A>, AllocError>
+    ensures { IfOk result (λ words. AreWords A.may_refuse sites (decode_of digits.now) (string_bytes words)) }
+{
+    match hex::decode(alloc, digits) {
+        Ok(bytes) => words_of(alloc, respond(alloc, sites, &bytes)),
+        Err(FromHexError::OutOfMemory) => Err(AllocError),
+        Err(_) => String::try_format(alloc, format_args!("refused {NOT_HEXADECIMAL}")),
+    }
+}
+
+fn words_of<A: Memory>(
+    alloc: A,
+    answer: Result<Option<Bytes<A>>, Refused>,
+) -> Result<String<A>, AllocError>
+    ensures { IfOk result (λ words. string_bytes words ≡ answer_words answer) }
+{
+    match answer {
+        Ok(Some(notify)) => hex::encode(alloc, notify.as_slice()),
+        Ok(None) => String::try_from_str(alloc, "accepted"),
+        Err(refused) => words_of_refused(alloc, &refused),
+    }
+}

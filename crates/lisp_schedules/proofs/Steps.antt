@@ -1,0 +1,314 @@
+-- Legal steps of the small network.
+use Rattle.std.proofs.Common.{rules, ◌≡◌, ℕ, ◌+◌, ◌≤◌, Bool, true, false, List, [], ◌∷◌, length, Option, Some, None, Ok, refl, sym, ap, subst, inl, inr, arith}
+use Rattle.std.specs.Prelude.{◌≢◌, ◌⊎◌, ◌-◌, ◌<◌, ◌^◌, slice_get, nat_le, ok_or}
+use Rattle.std.specs.List.{Contains}
+use Rattle.std.proofs.lemmas.Bool.{leb-true, le-leb}
+use Rattle.lisp_records.specs.Moment.{max_moment}
+use Rattle.lisp_records.specs.Address.{masked}
+use Rattle.lisp_records.specs.Record.{Mapping}
+use Rattle.lisp_store.specs.Kept.{kept_at, number}
+use Rattle.lisp_store.specs.declared.pair.Pair.{Pair}
+use Rattle.lisp_store.specs.declared.fate.Fate.TheVariants as fates
+use Rattle.lisp_records.specs.Database.{database_of, repeats as repeats_in}
+use Rattle.lisp_records.specs.Written.{written}
+use Rattle.lisp_checks.specs.declared.refused.Refused.TheVariants as refuseds
+use Rattle.lisp_checks.specs.Pairs.{notice_pair}
+use Rattle.lisp_checks.specs.Nonces.{nonce_after, IsBelow}
+use Rattle.lisp_schedules.specs.declared.event.Event.TheVariants as events
+use Rattle.lisp_schedules.specs.declared.refusal.Refusal.TheVariants as refusals
+use Rattle.lisp_messages.specs.Message.{Said, IsRegistration, AreRecords, Registers, Notifies}
+use Rattle.lisp_messages.specs.Authentic.{is_authentic}
+use Rattle.lisp_checks.specs.Checks.{secret_under, first_not_allowed}
+use Rattle.lisp_etr.specs.declared.notify_fault.NotifyFault.TheVariants.{NotMine, BadAuth}
+use Rattle.lisp_records.specs.Result.{◌>>=◌}
+use Rattle.lisp_etr.specs.Hearing.{check, checked, Heard, first_notice, is_latest}
+use Rattle.lisp_etr.specs.Sending.{last_nonce, IsBound}
+use Rattle.lisp_records.specs.declared.address.Addr.{Addr}
+use Rattle.lisp_schedules.specs.Trace.{Step, clock, is_up, is_server, is_router, is_listed, node_at, database}
+use Rattle.lisp_schedules.specs.Held.{Acceptance, last_of, heard_last, records_of}
+use Rattle.lisp_schedules.specs.Timers.{Notice, notice_to, is_due, last_notice}
+use Rattle.lisp_schedules.specs.Bag.{Item, bytes_of, arrival_of, bag, since}
+use Rattle.lisp_schedules.specs.Counted.{heard, server_from, latest}
+use Rattle.lisp_schedules.specs.Turn.{IsBase}
+use Rattle.lisp_schedules.specs.Sending.{CountsFrom}
+use Rattle.lisp_schedules.specs.Receiving.{FailsCheck, awaiting}
+use Rattle.lisp_schedules.specs.Legal.{Legal, turn_of}
+use Rattle.lisp_schedules.proofs.KeptLemmas.{set_here, set_others, IsFull, stays, narrows}
+use Rattle.lisp_schedules.proofs.TurnLemmas.{saved, in_doubt}
+use Rattle.lisp_schedules.proofs.ItemLemmas.{item_authentic, passes, is_not_allowed}
+use Rattle.lisp_schedules.proofs.Samples.{opening, network, site, secret, one, wide, mapping, registers, sent_by, got_from, local_at, at, sends, takes, replays, counts, changes, ticks, restarts, doubts_send, doubts_take, fails_load, restarts_to, tells, repeats, notices, ends, refuses}
+
+-- messages of a few records fit
+pub fits : (db : List Mapping) (nonce : ℕ) → nonce < 2 ^ 64 → AreRecords db → IsRegistration (registers db nonce)
+fits db nonce low records = record { nonce = low; key = omega arith; records = records; xtr = refl; xtr_bytes = search rules; site = omega arith }
+
+pub no_records : AreRecords []
+no_records = (omega arith, tt)
+
+pub wide_record : (ttl : ℕ) → ttl < 2 ^ 32 → AreRecords (mapping wide ttl ∷ [])
+unfolding masked
+wide_record ttl low = (omega arith, (record { ttl = low; act = omega arith; version = omega arith; block = (omega arith, refl); eid = record { width = refl; bytes = (omega arith, (omega arith, (omega arith, (omega arith, tt)))) }; count = omega arith; locators = tt }, tt))
+
+pub sends_legal : (T : List Step) (server nonce datagram : ℕ) (base : Option ℕ) → is_up T 2 ≡ true → is_server network server ≡ true → is_listed network 2 server ≡ true → CountsFrom opening T 2 base → nonce ≡ number base + 1 → nonce < 2 ^ 63
+    → AreRecords (database opening T 2) → datagram ≡ length (bag opening T) → Legal opening T (sends T server nonce datagram)
+sends_legal T server nonce datagram base up kind listed counts next low records place = record {
+  faults = omega arith;
+  row = (
+    refl,
+    refl,
+    record {
+      acts = record { kind = refl; acts = refl; state = up };
+      kind = kind;
+      listed = listed;
+      under = refl;
+      base = base;
+      counts = counts;
+      next = next;
+      within = omega (arith, low);
+      message = fits (database opening T 2) nonce (omega (arith, low)) records;
+      place = place;
+      saves = saved _ (sent_by one) nonce last_nonce (omega (arith, low)) refl;
+    },
+  );
+}
+
+-- a Map-Register of the first router passes the checks
+admitted : (i : Item) (db : List Mapping) (nonce : ℕ) → i.secret ≡ secret → first_not_allowed site db ≡ None → secret_under network.sites (bytes_of i) (registers db nonce) ≡ Ok secret
+admitted i db nonce key allowed = passes network.sites (bytes_of i) (registers db nonce) site secret refl refl (subst (λ (s : List ℕ). is_authentic (bytes_of i) s ≡ true) key (item_authentic i)) refl allowed
+
+pub takes_legal : (T : List Step) (k server nonce datagram : ℕ) (i : Item) (db : List Mapping) (base : Option ℕ) → slice_get (bag opening T) k ≡ Some i → node_at network i.to ≡ Some server → is_server network server ≡ true
+    → i.message ≡ Registers (registers db nonce) → i.secret ≡ secret → first_not_allowed site db ≡ None
+    → IsBase (last_of (got_from one) (since opening T server)) (kept_at (at T server).kept (got_from one)) base → IsBelow base nonce → datagram ≡ length (bag opening T) → Legal opening T (takes T k server nonce datagram)
+takes_legal T k server nonce datagram i db base sent there kind says key allowed counts below place = record {
+  faults = omega arith;
+  row = record {
+    item = i;
+    sent = sent;
+    there = there;
+    arrives = record {
+      acts = record { kind = kind; acts = refl };
+      message = registers db nonce;
+      admits = record { read = ap Ok says; secret = secret; checks = admitted i db nonce key allowed };
+      who = refl;
+      under = refl;
+      number = refl;
+      fresh = record { base = base; counts = counts; above = below };
+      kept = set_here (at T server).kept (got_from one) (Some nonce ∷ []);
+      others = set_others (at T server).kept (got_from one) (Some nonce ∷ []);
+      reply = ap Some place;
+    };
+  };
+}
+
+pub replays_legal : (T : List Step) (k server nonce saved : ℕ) (i : Item) (db : List Mapping) → slice_get (bag opening T) k ≡ Some i → node_at network i.to ≡ Some server → is_server network server ≡ true
+    → i.message ≡ Registers (registers db nonce) → i.secret ≡ secret → first_not_allowed site db ≡ None
+    → IsBase (last_of (got_from one) (since opening T server)) (kept_at (at T server).kept (got_from one)) (Some saved) → nonce ≤ saved → Legal opening T (replays T k server saved)
+replays_legal T k server nonce saved i db sent there kind says key allowed counts stale = record {
+  faults = omega arith;
+  row = record {
+    item = i;
+    sent = sent;
+    there = there;
+    arrives = (
+      record { kind = kind; acts = refl },
+      record {
+        message = registers db nonce;
+        admits = record { read = ap Ok says; secret = secret; checks = admitted i db nonce key allowed };
+        counts = counts;
+        stale = stale;
+        same = refl;
+      },
+    );
+  };
+}
+
+-- a Map-Notify under the network's key
+abbrev pub told : Addr → Addr → ℕ → List Mapping → Item
+told from to nonce records = record { from = from; to = to; secret = secret; message = Notifies (record { ack = false; nonce = nonce; key_id = 1; records = records }) }
+
+abbrev pub heard_of : ℕ → ℕ → List Mapping → Heard
+heard_of server nonce records = record { server = server; message = record { ack = false; nonce = nonce; key_id = 1; records = records } }
+
+passed : (s : Option ℕ) (server nonce : ℕ) (records : List Mapping) (b : Bool) → s ≡ Some server → b ≡ true
+    → ok_or s NotMine >>= (λ n. check b BadAuth >>= λ _. Ok (heard_of n nonce records)) ≡ Ok (heard_of server nonce records)
+passed s server nonce records b from tag = rw (from, tag) refl
+
+-- from a server it passes the checks of the first router
+pub hears : (from to : Addr) (nonce : ℕ) (records : List Mapping) (server : ℕ) → server_from network 2 from ≡ Some server → (T : List Step) → heard opening T 2 (arrival_of (told from to nonce records)) ≡ Ok (heard_of server nonce records)
+unfolding checked
+hears from to nonce records server is T = passed _ server nonce records _ is (item_authentic (told from to nonce records))
+
+-- a number below another isn't above it
+pub not_above : (m n : ℕ) → n < m → nat_le m n ≡ false
+not_above m n low = at (nat_le m n) refl
+  where
+    at : (b : Bool) → nat_le m n ≡ b → nat_le m n ≡ false
+    at false is = is
+    at true is = let above = leb-true m n is in absurd (omega (arith, low, above))
+
+pub counts_legal : (T : List Step) (k server nonce : ℕ) (from : Addr) (records : List Mapping) → is_up T 2 ≡ true → slice_get (bag opening T) k ≡ Some (told from (local_at 21) nonce records)
+    → server_from network 2 from ≡ Some server → nonce < first_notice → is_latest nonce (latest T 2 server) ≡ true → Legal opening T (counts T k server nonce)
+counts_legal T k server nonce from records up sent is low last = record {
+  faults = omega arith;
+  row = record {
+    item = told from (local_at 21) nonce records;
+    sent = sent;
+    there = refl;
+    arrives = record { acts = record { kind = refl; acts = refl; state = up }; same = refl; comes = inl (rw (hears from (local_at 21) nonce records server is T, not_above first_notice nonce low, last) refl) };
+  };
+}
+
+pub changes_legal : (T : List Step) (db : List Mapping) → database_of db ≡ Ok db → is_up T 2 ≡ true → Legal opening T (changes T db)
+changes_legal T db fits up = record { faults = omega arith; row = record { acts = record { kind = refl; acts = refl; state = up }; names = refl; fits = fits; count = refl; same = refl } }
+
+pub ticks_legal : (T : List Step) (ms now : ℕ) → now ≡ clock T + ms → now ≤ max_moment → Legal opening T (ticks T ms now)
+ticks_legal T ms now is low = record { faults = omega arith; row = record { names = refl; clock = is; bound = low; idle = record { server = refl; router = refl; same = refl } } }
+
+pub doubts_send_legal : (T : List Step) (server nonce : ℕ) (base : Option ℕ) → is_up T 2 ≡ true → is_server network server ≡ true → is_listed network 2 server ≡ true → CountsFrom opening T 2 base → IsBound (number base + 1) last_nonce nonce
+    → Legal opening T (doubts_send T server nonce)
+doubts_send_legal T server nonce base up kind listed counts fits = record {
+  faults = omega arith;
+  row = (refl, kind, record { kind = refl; acts = refl; state = up }, (listed, record { base = base; counts = counts; bound = nonce; fits = fits; fails = in_doubt _ (sent_by one) nonce refl (omega arith) }));
+}
+
+pub doubts_take_legal : (T : List Step) (k server nonce : ℕ) (i : Item) (db : List Mapping) (base : Option ℕ) → slice_get (bag opening T) k ≡ Some i → node_at network i.to ≡ Some server → is_server network server ≡ true
+    → i.message ≡ Registers (registers db nonce) → i.secret ≡ secret → first_not_allowed site db ≡ None
+    → IsBase (last_of (got_from one) (since opening T server)) (kept_at (at T server).kept (got_from one)) base → IsBelow base nonce → Legal opening T (doubts_take T k server nonce)
+doubts_take_legal T k server nonce i db base sent there kind says key allowed counts below = record {
+  faults = omega arith;
+  row = record {
+    item = i;
+    sent = sent;
+    there = there;
+    arrives = (
+      record { kind = kind; acts = refl },
+      record {
+        message = registers db nonce;
+        admits = record { read = ap Ok says; secret = secret; checks = admitted i db nonce key allowed };
+        fresh = record { base = base; counts = counts; above = below };
+        fails = in_doubt _ (got_from one) nonce refl (omega arith);
+      },
+    );
+  };
+}
+
+pub fails_load_legal : (T : List Step) (k server nonce : ℕ) (i : Item) (db : List Mapping) → slice_get (bag opening T) k ≡ Some i → node_at network i.to ≡ Some server → is_server network server ≡ true
+    → i.message ≡ Registers (registers db nonce) → i.secret ≡ secret → first_not_allowed site db ≡ None → last_of (got_from one) (since opening T server) ≡ None → Legal opening T (fails_load T k server)
+fails_load_legal T k server nonce i db sent there kind says key allowed unknown = record {
+  faults = omega arith;
+  row = record {
+    item = i;
+    sent = sent;
+    there = there;
+    arrives = (
+      record { kind = kind; acts = refl },
+      record {
+        message = registers db nonce;
+        admits = record { read = ap Ok says; secret = secret; checks = admitted i db nonce key allowed };
+        unknown = unknown;
+        fails = record { same = refl; cause = λ other. inl (omega arith) };
+      },
+    );
+  };
+}
+
+-- a record that the site doesn't have is refused
+pub refuses_record : (T : List Step) (k server nonce place : ℕ) (i : Item) (db : List Mapping) → slice_get (bag opening T) k ≡ Some i → node_at network i.to ≡ Some server → is_server network server ≡ true
+    → i.message ≡ Registers (registers db nonce) → i.secret ≡ secret → first_not_allowed site db ≡ Some place → Legal opening T (refuses T (events.Deliver k fates.Done) server (refusals.Receive (refuseds.NotAllowed place)))
+refuses_record T k server nonce place i db sent there kind says key bad = record {
+  faults = omega arith;
+  row = record {
+    item = i;
+    sent = sent;
+    there = there;
+    arrives = (
+      record { kind = kind; acts = refl },
+      (
+        subst (λ (x : Said). FailsCheck (turn_of opening T (refuses T (events.Deliver k fates.Done) server (refusals.Receive (refuseds.NotAllowed place)))) (arrival_of i) (Ok x) (refuseds.NotAllowed place)) (sym says)
+            (is_not_allowed network.sites (bytes_of i) (registers db nonce) site secret place refl refl (subst (λ (s : List ℕ). is_authentic (bytes_of i) s ≡ true) key (item_authentic i)) refl bad),
+        refl,
+      ),
+    );
+  };
+}
+
+pub restarts_legal : (T : List Step) (node : ℕ) → ((is_server network node ≡ true) ⊎ (is_router network node ≡ true)) → IsFull (at T node).kept → Legal opening T (restarts T node)
+restarts_legal T node (inl server) full = record { faults = omega arith; row = record { names = refl; acts = refl; kind = inl (server, refl); fits = tt; narrows = stays (at T node).kept full } }
+restarts_legal T node (inr router) full = record { faults = omega arith; row = record { names = refl; acts = refl; kind = inr router; fits = tt; narrows = stays (at T node).kept full } }
+
+pub restarts_to_legal : (T : List Step) (node : ℕ) (pair : Pair) (v : Option ℕ) → ((is_server network node ≡ true) ⊎ (is_router network node ≡ true)) → Contains (kept_at (at T node).kept pair) v → IsFull (at T node).kept → Legal opening T (restarts_to T node pair v)
+restarts_to_legal T node pair v (inl server) has full = record { faults = omega arith; row = record { names = refl; acts = refl; kind = inl (server, refl); fits = tt; narrows = narrows (at T node).kept pair v has full } }
+restarts_to_legal T node pair v (inr router) has full = record { faults = omega arith; row = record { names = refl; acts = refl; kind = inr router; fits = tt; narrows = narrows (at T node).kept pair v has full } }
+
+-- the record of the first router, told
+wide_fits : database_of (mapping wide 1440 ∷ []) ≡ Ok (mapping wide 1440 ∷ [])
+unfolding written repeats_in
+wide_fits = refl
+
+wide_some : (mapping wide 1440 ∷ []) ≢ []
+wide_some e = absurd cc
+
+pub tells_legal : (T : List Step) (nonce datagram : ℕ) (last : Acceptance) (base : Option ℕ) → records_of (since opening T 0) one (clock T) ≡ mapping wide 1440 ∷ [] → heard_last one (since opening T 0) ≡ Some last → last.message.key_id ≡ 1
+    → IsBase (last_notice T 0) (kept_at (at T 0).kept notice_pair) base → nonce ≡ nonce_after base → nonce < 2 ^ 64 → datagram ≡ length (bag opening T) → Legal opening T (tells T nonce datagram)
+tells_legal T nonce datagram last base held heard key counts next bound place = record {
+  faults = omega arith;
+  row = (
+    refl,
+    refl,
+    record {
+      acts = record { kind = refl; acts = refl };
+      kind = refl;
+      tells = record { some = subst (λ (rs : List Mapping). rs ≢ []) (sym held) wide_some; fits = subst (λ (rs : List Mapping). database_of rs ≡ Ok rs) (sym held) wide_fits };
+      last = last;
+      heard = heard;
+      under = sym key;
+      base = base;
+      counts = counts;
+      next = next;
+      bound = bound;
+      place = place;
+      saves = saved _ notice_pair nonce (2 ^ 64 - 1) (omega (arith, bound)) refl;
+    },
+  );
+}
+
+pub repeats_legal : (T : List Step) (datagram : ℕ) → is_due (notice_to opening T 0 one) (clock T) ≡ true → datagram ≡ length (bag opening T) → Legal opening T (repeats T datagram)
+repeats_legal T datagram due place = record { faults = omega arith; row = (refl, refl, record { acts = record { kind = refl; acts = refl }; kind = refl; due = due; place = place; same = refl }) }
+
+pub notices_legal : (T : List Step) (k nonce datagram : ℕ) (records : List Mapping) → is_up T 2 ≡ true → slice_get (bag opening T) k ≡ Some (told (local_at 11) (local_at 21) nonce records) → first_notice ≤ nonce → datagram ≡ length (bag opening T) → Legal opening T (notices T k nonce datagram)
+notices_legal T k nonce datagram records up sent high place = record {
+  faults = omega arith;
+  row = record {
+    item = told (local_at 11) (local_at 21) nonce records;
+    sent = sent;
+    there = refl;
+    arrives = record { acts = record { kind = refl; acts = refl; state = up }; same = refl; comes = inl (rw (hears (local_at 11) (local_at 21) nonce records 0 refl T, le-leb first_notice nonce high, place) refl) };
+  };
+}
+
+-- the Map-Notify-Ack of the first router
+abbrev pub answered : ℕ → List Mapping → Item
+answered nonce records = record { from = local_at 21; to = local_at 11; secret = secret; message = Notifies (record { ack = true; nonce = nonce; key_id = 1; records = records }) }
+
+pub ends_legal : (T : List Step) (k nonce : ℕ) (records : List Mapping) (n : Notice) → slice_get (bag opening T) k ≡ Some (answered nonce records)
+    → awaiting (turn_of opening T (ends T k nonce)) (local_at 21) (record { ack = true; nonce = nonce; key_id = 1; records = records }) ≡ Some n → n.router ≡ one → n.key ≡ 1 → nonce ≡ n.nonce → Legal opening T (ends T k nonce)
+ends_legal T k nonce records n sent stands router key number = record {
+  faults = omega arith;
+  row = record {
+    item = answered nonce records;
+    sent = sent;
+    there = refl;
+    arrives = record {
+      acts = record { kind = refl; acts = refl };
+      message = _;
+      read = refl;
+      ack = refl;
+      notice = n;
+      stands = stands;
+      authentic = rw (router, key) (item_authentic (answered nonce records));
+      who = sym router;
+      number = number;
+      same = refl;
+    };
+  };
+}

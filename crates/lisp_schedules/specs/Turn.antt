@@ -1,0 +1,85 @@
+-- A turn: one node acts, and what that may leave of its store.
+use Rattle.std.specs.Prelude.{◌≡◌, ◌≢◌, ◌⊎◌, ℕ, ◌-◌, ◌^◌, ◌<◌, Bool, true, false, List, Option, Some, None}
+use Rattle.std.specs.List.{Contains}
+use Rattle.lisp_store.specs.declared.pair.Pair.{Pair}
+use Rattle.lisp_store.specs.declared.fault.StoreFault.{StoreFault}
+use Rattle.lisp_store.specs.declared.fault.StoreFault.TheVariants as faults
+use Rattle.lisp_store.specs.Kept.{kept_at, NoneBelow, SameElsewhere, InDoubt, Narrows}
+use Rattle.lisp_etr.specs.Sending.{Settles}
+use Rattle.lisp_schedules.specs.Trace.{Shown, Step, Opening, is_server, is_router, is_up}
+
+-- what went before; which node acts; what its store shows before and after
+pub record Turn : Type 0 where
+  pub opening : Opening
+  pub past : List Step
+  pub node : ℕ
+  pub before : Shown
+  pub after : Shown
+
+-- it is that server's; that router's, which is up, or down
+pub record IsServers (t : Turn) (server : ℕ) : Type 0 where
+  pub kind : is_server t.opening.config server ≡ true
+  pub acts : t.node ≡ server
+
+pub record IsRouters (t : Turn) (router : ℕ) (up : Bool) : Type 0 where
+  pub kind : is_router t.opening.config router ≡ true
+  pub acts : t.node ≡ router
+  pub state : is_up t.past router ≡ up
+
+-- what the store keeps for a pair before, and after
+abbrev pub values : Turn → Pair → List (Option ℕ)
+values t pair = kept_at t.before.kept pair
+
+abbrev pub values_after : Turn → Pair → List (Option ℕ)
+values_after t pair = kept_at t.after.kept pair
+
+-- no list changed
+abbrev pub Same : Turn → Type 0
+Same t = t.after.kept ≡ t.before.kept
+
+-- no list of another pair changed
+abbrev pub SameOthers : Turn → Pair → Type 0
+SameOthers t pair = SameElsewhere t.before.kept t.after.kept pair
+
+-- a device failed; the count stops at its end. Only then does a store answer a fault other than out of memory
+abbrev pub Rose : Turn → Type 0
+Rose t = (t.before.faults < t.after.faults) ⊎ (t.after.faults ≡ 2 ^ 64 - 1)
+
+abbrev pub HasCause : Turn → StoreFault → Type 0
+HasCause t fault = fault ≢ faults.OutOfMemory → Rose t
+
+-- what was saved, if anything was, is a bound for the nonce, which that pair alone keeps then; and from now on
+-- no value of it is below the nonce
+pub record Saves (t : Turn) (pair : Pair) (nonce last : ℕ) : Type 0 where
+  pub here : Settles (values t pair) (values_after t pair) nonce last
+  pub none_below : NoneBelow nonce (values_after t pair)
+  pub others : SameOthers t pair
+
+-- a load failed
+pub record LoadFails (t : Turn) (fault : StoreFault) : Type 0 where
+  pub same : Same t
+  pub cause : HasCause t fault
+
+-- a save of a number for a pair failed, and it is open whether it is kept; not where memory ran out
+pub record SaveFails (t : Turn) (pair : Pair) (nonce : ℕ) (fault : StoreFault) : Type 0 where
+  pub here : InDoubt (values t pair) (values_after t pair) nonce
+  pub others : SameOthers t pair
+  pub memory : fault ≡ faults.OutOfMemory → Same t
+  pub sound : fault ≢ faults.Damaged
+  pub cause : HasCause t fault
+
+-- a restart leaves some value of each pair, and adds none
+abbrev pub Restarts : Turn → Type 0
+Restarts t = (pair : Pair) → Narrows (values t pair) (values_after t pair)
+
+-- no node's turn
+pub record IsNobodys (t : Turn) : Type 0 where
+  pub server : is_server t.opening.config t.node ≡ false
+  pub router : is_router t.opening.config t.node ≡ false
+  pub same : t.after ≡ t.before
+
+-- the number that a nonce counts from, or has to be above: the last one, or where there is none a value
+-- that is kept
+abbrev pub IsBase : Option ℕ → List (Option ℕ) → Option ℕ → Type 0
+IsBase (Some last) kept base = base ≡ Some last
+IsBase None kept base = Contains kept base

@@ -1,2 +1,0 @@
-pub mod InputLemmas
-pub mod FreshLaws
