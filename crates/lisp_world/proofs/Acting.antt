@@ -7,7 +7,7 @@ use Rattle.lisp_records.specs.declared.address.Addr.{Addr}
 use Rattle.lisp_records.specs.declared.address.Addr.TheVariants.{V4}
 use Rattle.lisp_store.specs.Store.{StoreState}
 use Rattle.lisp_store.specs.declared.fate.Fate.{Fate}
-use Rattle.lisp_schedules.specs.Trace.{Shown, Step, Opening, address_at, is_server, is_router, shown, clock}
+use Rattle.lisp_schedules.specs.Trace.{Shown, Step, Opening, address_at, is_server, is_router, shown}
 use Rattle.lisp_schedules.specs.Bag.{Item, bag}
 use Rattle.lisp_schedules.specs.Legal.{Legal}
 use Rattle.lisp_schedules.specs.Promises.{is_timeless, LeavesOthers}

@@ -1,5 +1,5 @@
 -- A router is given another database: if it is up, new rounds begin; if it is down, nothing changes.
-use Rattle.std.proofs.Common.{◌≡◌, ℕ, ◌+◌, true, false, List, [], ◌∷◌, ◌++◌, length, map, Some, refl, sym, ap, subst, ◌∙◌, arith}
+use Rattle.std.proofs.Common.{◌≡◌, ℕ, true, false, List, [], ◌∷◌, ◌++◌, length, map, Some, refl, sym, ap, subst, ◌∙◌, arith}
 use Rattle.std.specs.Prelude.{slice_get}
 use Rattle.std.proofs.lemmas.List.{length-map}
 use Rattle.lisp_records.specs.Record.{Mapping}
@@ -11,7 +11,7 @@ use Rattle.lisp_etr.proofs.TimerLaws.{rounds_keep_time}
 use Rattle.lisp_schedules.specs.declared.event.Event.TheVariants as events
 use Rattle.lisp_schedules.specs.declared.line.Line.{Line}
 use Rattle.lisp_schedules.specs.declared.line.Line.TheVariants as lines
-use Rattle.lisp_schedules.specs.Trace.{Shown, Step, Opening, is_router, router_at, shown, clock, is_up}
+use Rattle.lisp_schedules.specs.Trace.{Shown, Step, Opening, is_router, router_at, shown, is_up}
 use Rattle.lisp_schedules.specs.Bag.{bag}
 use Rattle.lisp_schedules.specs.Timers.{Sends, round}
 use Rattle.lisp_schedules.specs.Sending.{pair_at}

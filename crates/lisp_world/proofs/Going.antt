@@ -1,5 +1,5 @@
 -- What goes on to stand for a node whose part of the trace a step leaves as it was.
-use Rattle.std.proofs.Common.{◌≡◌, ℕ, refl, ◌+◌, List, ◌++◌, Option, Some, None, sym, ap, subst, ◌∙◌}
+use Rattle.std.proofs.Common.{◌≡◌, ℕ, refl, List, ◌++◌, Option, Some, None, sym, ap, subst, ◌∙◌}
 use Rattle.std.specs.Prelude.{◌==◌, if◌then◌else◌, slice_get}
 use Rattle.std.specs.List.{find}
 use Rattle.std.specs.Option.{option_map, option_and_then}
@@ -17,9 +17,9 @@ use Rattle.lisp_checks.specs.Pairs.{notice_pair}
 use Rattle.lisp_server.specs.LastNonces.{nonce_at}
 use Rattle.lisp_server.specs.Contacts.{contact_at}
 use Rattle.lisp_server.specs.Notices.{Standing, notice_at}
-use Rattle.lisp_schedules.specs.Trace.{Shown, Step, Opening, shown, clock, is_up, database}
+use Rattle.lisp_schedules.specs.Trace.{Shown, Step, Opening, clock}
 use Rattle.lisp_schedules.specs.Held.{Acceptance, last_of, heard_last, held}
-use Rattle.lisp_schedules.specs.Timers.{Sends, round, Notice, notice_to}
+use Rattle.lisp_schedules.specs.Timers.{Sends, Notice, notice_to}
 use Rattle.lisp_schedules.specs.Bag.{Item, bag, since}
 use Rattle.lisp_schedules.specs.Sending.{CountsFrom, pair_at}
 use Rattle.lisp_schedules.specs.Turn.{IsBase}

@@ -1,5 +1,5 @@
 -- The notices that a Map-Server keeps, after one was sent or sent again; and the rest of its part, which stays.
-use Rattle.std.proofs.Common.{◌≡◌, ◌≢◌, ℕ, ◌+◌, Bool, true, false, cond, not, List, [], ◌∷◌, ◌++◌, length, map, Option, Some, None, refl, sym, ap, subst, ◌∙◌, inl, inr}
+use Rattle.std.proofs.Common.{◌≡◌, ◌≢◌, ℕ, ◌+◌, Bool, true, false, cond, not, List, [], ◌∷◌, length, map, Option, Some, None, refl, sym, ap, subst, ◌∙◌, inl, inr}
 use Rattle.std.specs.Prelude.{◌⊎◌, slice_get}
 use Rattle.std.specs.List.{find}
 use Rattle.std.specs.Option.{option_map, option_and_then}
@@ -19,11 +19,10 @@ use Rattle.lisp_server.specs.Notices.{Standing, notice_at}
 use Rattle.lisp_schedules.specs.Trace.{Step, Opening, router_at, is_router, clock}
 use Rattle.lisp_schedules.specs.Held.{held, last_of, heard_last}
 use Rattle.lisp_schedules.specs.Timers.{Notice, notice_to, last_notice, sent_again, without}
-use Rattle.lisp_schedules.specs.Bag.{Item, bag, since}
+use Rattle.lisp_schedules.specs.Bag.{since}
 use Rattle.lisp_world.specs.World.{ServerNode, RouterNode, WorldState}
 use Rattle.lisp_world.specs.Stands.{IsStanding, SameNotice, StandsForServer, Stands}
 use Rattle.lisp_world.proofs.Acting.{router_is, router_stands}
-use Rattle.lisp_world.proofs.Gets.{get_before}
 
 -- two routers are one, or they differ
 pub same_or_other : (a b : RouterId) → (a ≡ b) ⊎ (a ≢ b)
@@ -86,25 +85,6 @@ found_without me router (x ∷ xs) differ = by (router_eq x.router me) refl (fou
         let own : x.router ≡ me = (router_eq-Decides x.router me).0 is in
         rest ∙ ap (λ (t : Bool). cond t (Some x) (found router xs)) (sym (router_other x.router router (λ same. differ (sym same ∙ own))))
     by false is rest = ap (λ (o : Option Notice). cond (router_eq x.router router) (Some x) o) rest
-
--- a notice that stands goes on to stand
-pub still_stands : (o : Opening) (T : List Step) (s : Step) (more : List Item) (server : ℕ) → bag o (s ∷ T) ≡ bag o T ++ more → (n : Option Notice) (kept : Option Standing) → SameNotice o T server n kept → SameNotice o (s ∷ T) server n kept
-still_stands o T s more server added (Some n) (Some kept) is = record {
-  router = is.router;
-  key = is.key;
-  nonce = is.nonce;
-  item = is.item;
-  sent = ap (λ (items : List Item). slice_get items n.datagram) added ∙ get_before (bag o T) more n.datagram is.item is.sent;
-  from = is.from;
-  to = is.to;
-  bytes = is.bytes;
-  earlier = is.earlier;
-  moments = is.moments;
-  resends = is.resends;
-}
-still_stands o T s more server added None None is = tt
-still_stands o T s more server added (Some n) None is = absurd is
-still_stands o T s more server added None (Some kept) is = absurd is
 
 -- the notice of the trace where the server keeps one
 pub kept_stands : (o : Opening) (T : List Step) (server : ℕ) (n : Option Notice) (k : Option Standing) (kept : Standing) → SameNotice o T server n k → k ≡ Some kept → (x : Notice) × (n ≡ Some x) × IsStanding o T server x kept

@@ -55,7 +55,8 @@ use Rattle.lisp_world.specs.Stands.{IsStanding, SameNotice, StandsForServer, Sta
 use Rattle.lisp_world.proofs.Heads.{head_written}
 use Rattle.lisp_world.proofs.Acting.{Adds, adds_none, adds_one, Shown-in, uses_shown, server_is, address_is, server_acts}
 use Rattle.lisp_world.proofs.LiveRows as live_rows
-use Rattle.lisp_world.proofs.NoticeParts.{its_me, known_router, same_or_other, found, found_without, router_itself, router_other, still_stands, part_after}
+use Rattle.lisp_world.proofs.Going.{notice_goes}
+use Rattle.lisp_world.proofs.NoticeParts.{its_me, known_router, same_or_other, found, found_without, router_itself, router_other, part_after}
 
 -- the last of a list
 at_end : {X : Type 0} (xs : List X) (x : X) (k : ℕ) → k ≡ length xs → slice_get (xs ++ x ∷ []) k ≡ Some x
@@ -265,7 +266,7 @@ module _ (old new : WorldState) (server router : ℕ) (fate : Fate) (line : Line
     other_notice : (other : RouterId) → other ≢ me → SameNotice o (step sent ∷ T) server (notice_to o (step sent ∷ T) server other) (notice_at after.notices other)
     other_notice other differ =
         let here = after_is other ∙ ap (λ (b : Bool). cond b (Some notice) (found other (without me (notices o T server)))) (router_other me other (λ same. differ (sym same))) ∙ found_without me other (notices o T server) differ in
-        rw (here, announced.stands.others other differ) (still_stands o T (step sent) (item ∷ []) server sent_bag (notice_to o T server other) (notice_at core.notices other) (part.notices other))
+        rw (here, announced.stands.others other differ) (notice_goes o T (step sent ∷ T) server ((item ∷ []), sent_bag) (notice_to o T server other) (notice_at core.notices other) (part.notices other))
 
     -- so each router's does
     each_notice : (other : RouterId) → (other ≡ me) ⊎ (other ≢ me) → SameNotice o (step sent ∷ T) server (notice_to o (step sent ∷ T) server other) (notice_at after.notices other)
@@ -373,7 +374,7 @@ module _ (old new : WorldState) (server router : ℕ) (fate : Fate) (line : Line
     refused_part : StandsForServer o (step refused ∷ T) server turn.acts.after
     refused_part = part_after o T (step refused) server turn.acts.before turn.acts.after part (time refused) refl its_core
         (λ pair differ. ap (λ (c : ServerState). nonce_at c.nonces pair) same) (ap (λ (c : ServerState). nonce_at c.nonces notice_pair) same ∙ part.notice_nonce)
-        (λ other. subst (λ (c : ServerState). SameNotice o (step refused ∷ T) server (notice_to o T server other) (notice_at c.notices other)) (sym same) (still_stands o T (step refused) [] server refused_bag (notice_to o T server other) (notice_at core.notices other) (part.notices other)))
+        (λ other. subst (λ (c : ServerState). SameNotice o (step refused ∷ T) server (notice_to o T server other) (notice_at c.notices other)) (sym same) (notice_goes o T (step refused ∷ T) server ([], refused_bag) (notice_to o T server other) (notice_at core.notices other) (part.notices other)))
 
     -- and so does the network
     refused_stands : turn.more ≡ [] → Stands new o (step refused ∷ T)

@@ -47,7 +47,8 @@ use Rattle.lisp_world.proofs.Acting.{Adds, adds_none, adds_one}
 use Rattle.lisp_world.proofs.Acceptances.{not_notices, nonces_after, rows_after, contacts_after}
 use Rattle.lisp_world.proofs.Checked.{is_passed, its_secret}
 use Rattle.lisp_world.proofs.Refusing.{arriving, turn_at, admits, is_fresh, same_store, refuses}
-use Rattle.lisp_world.proofs.StandingNotices.{still_same, awaited, signed_same, ended_same}
+use Rattle.lisp_world.proofs.Going.{notice_goes}
+use Rattle.lisp_world.proofs.StandingNotices.{awaited, signed_same, ended_same}
 
 -- what a step of a Map-Server at which something arrives leaves
 pub record Received (o : Opening) (T : List Step) (s : Step) (a : Arrival) (node : ℕ) (after : ServerNode) (more : List Posted) : Type 0 where
@@ -116,7 +117,7 @@ module _ (o : Opening) (T : List Step) (node : ℕ) (kind : is_server o.config n
     adds = adds_none o T (step (lines.Refused node (refusals.Receive why))) refl;
     part = stays (lines.Refused node (refusals.Receive why)) refl refl (ap (λ (c : ServerState). record c { notices = after.core.notices }) core)
         (λ router. subst (λ (c : ServerState). SameNotice o (step (lines.Refused node (refusals.Receive why)) ∷ T) node (notice_to o T node router) (notice_at c.notices router)) (sym core)
-        (still_same o T (step (lines.Refused node (refusals.Receive why)) ∷ T) node [] refl (notice_to o T node router) (notice_at before.core.notices router) (part.notices router)));
+        (notice_goes o T (step (lines.Refused node (refusals.Receive why)) ∷ T) node ([], refl) (notice_to o T node router) (notice_at before.core.notices router) (part.notices router)));
   }
 
   -- a Map-Notify-Ack ends a notice
@@ -224,7 +225,7 @@ module _ (o : Opening) (T : List Step) (node : ℕ) (kind : is_server o.config n
       contacts = λ q eid h is. contacts_after message from (clock T) (since o T node) q eid before.core.contacts after.core.contacts a.contacts (part.contacts q eid) h ((λ i. held (sym since_is i) q eid (sym still i)) ∙ is)
           ∙ ap (λ (xs : List Acceptance). option_map (λ x. contact_of x.message x.from) (heard_last q xs)) (sym since_is);
       notices = λ q. subst (λ (ns : List Standing). SameNotice o (step (said reply) ∷ T) node (notice_to o T node q) (notice_at ns q)) (sym a.notices)
-          (still_same o T (step (said reply) ∷ T) node adds.items adds.added (notice_to o T node q) (notice_at before.core.notices q) (part.notices q));
+          (notice_goes o T (step (said reply) ∷ T) node (adds.items, adds.added) (notice_to o T node q) (notice_at before.core.notices q) (part.notices q));
     }
 
     accepted : Received o T (step (said reply)) (arriving from bytes (Ok (Registers m))) node after (replies {A = A} (address_at o.config node) from (Ok (Accepted router key nonce reply)))

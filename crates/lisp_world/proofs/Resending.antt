@@ -28,7 +28,8 @@ use Rattle.lisp_world.specs.Turns.{address_of, ResendsTo, SaysResend, ResendsFro
 use Rattle.lisp_world.specs.Stands.{Shows, IsStanding, SameNotice, StandsForServer, Stands, StandsAfter}
 use Rattle.lisp_world.proofs.Acting.{Adds, adds_none, adds_one, server_is, address_is, server_acts}
 use Rattle.lisp_world.proofs.Gets.{get_before}
-use Rattle.lisp_world.proofs.NoticeParts.{its_me, known_router, same_or_other, found, found_again, its_router, sent_again_own, others_again, still_stands, kept_stands, part_after}
+use Rattle.lisp_world.proofs.Going.{notice_goes}
+use Rattle.lisp_world.proofs.NoticeParts.{its_me, known_router, same_or_other, found, found_again, its_router, sent_again_own, others_again, kept_stands, part_after}
 
 -- the trace's notice is due where the server's is
 same_due : (o : Opening) (T : List Step) (server now : ℕ) (n : Option Notice) (kept : Option Standing) → SameNotice o T server n kept → is_due n now ≡ is_due_at now kept
@@ -160,7 +161,7 @@ module _ (old new : WorldState) (server router : ℕ) (line : Line) (turn : Rese
     other_notice other differ =
         let here = after_is other ∙ others_again me other (clock T) (notices o T server) differ in
         let there = resends.after.others other (λ same. differ (same ∙ kept.2.router ∙ own_router)) in
-        rw (here, there) (still_stands o T (step sent) (kept.2.item ∷ []) server sent_bag (notice_to o T server other) (notice_at turn.acts.before.core.notices other) (part.notices other))
+        rw (here, there) (notice_goes o T (step sent ∷ T) server ((kept.2.item ∷ []), sent_bag) (notice_to o T server other) (notice_at turn.acts.before.core.notices other) (part.notices other))
 
     -- so each router's does
     each_notice : (other : RouterId) → (other ≡ me) ⊎ (other ≢ me) → SameNotice o (step sent ∷ T) server (notice_to o (step sent ∷ T) server other) (notice_at turn.acts.after.core.notices other)
@@ -204,7 +205,7 @@ module _ (old new : WorldState) (server router : ℕ) (line : Line) (turn : Rese
     refused_part : StandsForServer o (step refused ∷ T) server turn.acts.after
     refused_part = part_after o T (step refused) server turn.acts.before turn.acts.after part (time refused) refl its_core
         (λ pair differ. ap (λ nonces. nonce_at nonces pair) its_nonces) (ap (λ nonces. nonce_at nonces notice_pair) its_nonces ∙ part.notice_nonce)
-        (λ other. subst (λ (n : ServerNode). SameNotice o (step refused ∷ T) server (notice_to o T server other) (notice_at n.core.notices other)) (sym same) (still_stands o T (step refused) [] server refused_bag (notice_to o T server other) (notice_at turn.acts.before.core.notices other) (part.notices other)))
+        (λ other. subst (λ (n : ServerNode). SameNotice o (step refused ∷ T) server (notice_to o T server other) (notice_at n.core.notices other)) (sym same) (notice_goes o T (step refused ∷ T) server ([], refused_bag) (notice_to o T server other) (notice_at turn.acts.before.core.notices other) (part.notices other)))
 
     -- and so does the network
     refused_stands : turn.more ≡ [] → Stands new o (step refused ∷ T)

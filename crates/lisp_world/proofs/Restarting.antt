@@ -1,5 +1,5 @@
 -- A node stops and starts again: a Map-Server with its sites alone, a router with what its store has kept, or not at all.
-use Rattle.std.proofs.Common.{◌≡◌, ℕ, ◌+◌, true, false, Bool, List, [], ◌∷◌, ◌++◌, length, Option, Some, None, Result, Ok, Err, refl, sym, ap, subst, inl, inr, ◌∙◌, arith}
+use Rattle.std.proofs.Common.{◌≡◌, ℕ, true, false, Bool, List, [], ◌∷◌, ◌++◌, length, Option, Some, None, Result, Ok, Err, refl, sym, ap, subst, inl, inr, ◌∙◌, arith}
 use Rattle.std.specs.Prelude.{◌≤◌, slice_get, IsTrue}
 use Rattle.std.specs.Option.{unwrap_or, option_and_then}
 use Rattle.std.specs.FinMap.{empty, get-empty}
@@ -11,7 +11,6 @@ use Rattle.lisp_records.specs.Router.{router_eq}
 use Rattle.lisp_records.specs.Record.{Mapping}
 use Rattle.lisp_lookup.specs.Table.{row_at, if_alive}
 use Rattle.lisp_store.specs.declared.pair.Pair.{Pair}
-use Rattle.lisp_store.specs.declared.fault.StoreFault.TheVariants as faults
 use Rattle.lisp_store.specs.Pair.{pair_cmp}
 use Rattle.lisp_store.specs.Store.{StoreState, Rose as Rises}
 use Rattle.lisp_store.specs.Kept.{Kept, kept_at, Narrows}

@@ -23,27 +23,9 @@ use Rattle.lisp_schedules.specs.Legal.{LegalTrace}
 use Rattle.lisp_schedules.proofs.CleanLemmas.{in_find}
 use Rattle.lisp_schedules.proofs.NoticeNonces.{notices_differ}
 use Rattle.lisp_world.specs.Stands.{IsStanding, SameNotice}
-use Rattle.lisp_world.proofs.Gets.{none_is_some, get_before}
+use Rattle.lisp_world.proofs.Gets.{none_is_some}
+use Rattle.lisp_world.proofs.Going.{notice_goes}
 use Rattle.lisp_world.proofs.OneNotice.{find_only, find_nothing, find_filter, not_its, one_each}
-
--- notices stand on when datagrams come to the bag
-pub still_same : (o : Opening) (T U : List Step) (server : ℕ) (more : List Item) → bag o U ≡ bag o T ++ more → (a : Option Notice) (b : Option Standing) → SameNotice o T server a b → SameNotice o U server a b
-still_same o T U server more grown (Some n) (Some kept) is = record {
-  router = is.router;
-  key = is.key;
-  nonce = is.nonce;
-  item = is.item;
-  sent = ap (λ (items : List Item). slice_get items n.datagram) grown ∙ get_before (bag o T) more n.datagram is.item is.sent;
-  from = is.from;
-  to = is.to;
-  bytes = is.bytes;
-  earlier = is.earlier;
-  moments = is.moments;
-  resends = is.resends;
-}
-still_same o T U server more grown None None is = tt
-still_same o T U server more grown (Some n) None is = absurd is
-still_same o T U server more grown None (Some kept) is = absurd is
 
 module _ (o : Opening) (T : List Step) (node : ℕ) (kept : List Standing) (same : (router : RouterId) → SameNotice o T node (notice_to o T node router) (notice_at kept router)) where
   -- a notice that is kept stands
@@ -160,4 +142,4 @@ module _ (o : Opening) (T : List Step) (node : ℕ) (kept : List Standing) (same
 
           elsewhere : SameNotice o U node (find (λ x. router_eq x.router router) (without ended (notices o T node))) (notice_at new router)
           elsewhere = subst (λ (a : Option Notice). SameNotice o U node a (notice_at new router)) (sym (find_filter others (λ x. router_eq x.router router) (notices o T node) leaves))
-              (subst (λ (b : Option Standing). SameNotice o U node (notice_to o T node router) b) (sym (ends.others router differs)) (still_same o T U node [] grown (notice_to o T node router) (notice_at kept router) (same router)))
+              (subst (λ (b : Option Standing). SameNotice o U node (notice_to o T node router) b) (sym (ends.others router differs)) (notice_goes o T U node ([], grown) (notice_to o T node router) (notice_at kept router) (same router)))

@@ -1,6 +1,6 @@
 -- What one call of a node comes to, in its core's words: its store is armed with the event's fate, the core is called,
 -- and the store is armed with `Done` again.
-use Rattle.std.specs.Prelude.{◌≡◌, ◌≢◌, ◌⊎◌, ℕ, ◌+◌, ◌<◌, ◌≤◌, List, [], ◌∷◌, length, map, Option, Some, None, Result, Ok, Err, IfOk, IfErr, OnErr, IsErrOf, IsTrue}
+use Rattle.std.specs.Prelude.{◌≡◌, ◌≢◌, ℕ, ◌+◌, ◌<◌, ◌≤◌, List, length, Option, Result, Ok, Err, IfOk, IfErr, OnErr, IsErrOf, IsTrue}
 use Rattle.std.specs.Option.{unwrap_or}
 use Rattle.lisp_records.specs.declared.address.Addr.{Addr}
 use Rattle.lisp_records.specs.declared.router.RouterId.{RouterId}
@@ -17,7 +17,6 @@ use Rattle.lisp_store.specs.Store.{StoreState, Rose, Proceeds}
 use Rattle.lisp_etr.specs.Config.{Settings, sent_pair}
 use Rattle.lisp_etr.specs.Etr.{EtrState, etr_started}
 use Rattle.lisp_etr.specs.Hearing.{Gives, AnswerFits, seen_at, after}
-use Rattle.lisp_etr.specs.Round.{begun}
 use Rattle.lisp_etr.specs.Sending.{last_nonce, registration_of, datagram_of, Sends, Settles, LeavesPair}
 use Rattle.lisp_etr.specs.declared.notify_fault.NotifyFault.{NotifyFault}
 use Rattle.lisp_etr.specs.declared.notify_fault.NotifyFault.TheVariants as notify_faults
@@ -33,7 +32,6 @@ use Rattle.lisp_lookup.specs.Table.{OneEach}
 use Rattle.lisp_server.specs.declared.took.Took.{Took}
 use Rattle.lisp_server.specs.Receiving.{Takes, Refuses}
 use Rattle.lisp_server.specs.SendNotice.{Announces, RefusesNotice}
-use Rattle.lisp_server.specs.Server.{ServerState}
 use Rattle.lisp_world.specs.World.{ServerNode, RouterNode, RouterCore, Up, Down}
 
 -- a store was armed with a fate, and nothing else changed; with `Done` an obedient one fails no more
