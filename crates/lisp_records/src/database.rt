@@ -1,6 +1,6 @@
 //! What a router registers: its records, as one message carries them.
 
-ghost use Rattle.std.specs.Prelude.{◌≡◌, ◌<◌, ◌≤◌, length, IfOk, OnErr};
+ghost use Rattle.std.specs.Prelude.{◌≡◌, ◌<◌, ◌≤◌, length, IfOk, OnOk, OnErr};
 ghost use Rattle.lisp_records.specs.Fault.{database_fault_number};
 ghost use Rattle.lisp_records.specs.Database.{has_prefix, repeats, size, database_of};
 
@@ -92,6 +92,7 @@ impl<A: Allocator> Database<A> {
     /// An equal database, in memory of `alloc`.
     pub fn copy<B: Memory + Copy>(&self, alloc: B) -> Result<Database<B>, AllocError>
         ensures equal { IfOk result (λ d. d ≡ self.now) }
+        ensures fits { OnOk result (database_of self.now ≡ Ok self.now) }
         ensures memory { OnErr result B.may_refuse }
     {
         let records = copy_records(&self.records, alloc)?;

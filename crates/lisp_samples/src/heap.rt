@@ -7,7 +7,7 @@ use std::alloc::{AllocError, Global};
 pub const HEAP_LEN: usize = 8192;
 
 /// So many blocks are room enough for each call.
-pub const MOST_BLOCKS: usize = 256;
+pub const MOST_BLOCKS: usize = 384;
 
 /// The heap's smallest block, by which its free room grows.
 const BLOCK_LEN: usize = 16;

@@ -1,9 +1,11 @@
-//! What the crates of tests share: the worked record and its secret, what a record holds, and a heap of
+//! What the crates of tests share: the worked configuration, the worked record and its secret, what a record holds, and a heap of
 //! which a test leaves a part. Nothing here is part of the program.
 #![tactic(auto)]
 
+mod configuration;
 mod heap;
 
+pub use configuration::CONFIGURATION;
 pub use heap::{HEAP_LEN, MOST_BLOCKS, fill, is_refused_then_answers};
 use lisp_records::{Addr, Locator, MapRecord, Prefix};
 use std::alloc::Allocator;

@@ -15,6 +15,7 @@ pub mod OwnValues
 pub mod HeardLines
 pub mod MustLemmas
 pub mod MustLaws
+pub mod MemoryLaws
 pub mod Sound
 pub mod CleanLemmas
 pub mod ReadingLemmas

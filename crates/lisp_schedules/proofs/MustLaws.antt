@@ -63,7 +63,7 @@ module _ (t : Turn) (reached_here : is_up t.past t.node ≡ true → Reached (va
     sends_row fate (lines.Refused named (refusals.Send why)) row = inr (sends_or_excused named why row.2.acts row.3)
     sends_row fate _ row = absurd row
 
-  must_send : (e : Happening) (line : Line) → MayCome t e line → MustSend t e line
+  must_send : (e : Happening) (line : Line) → MayCome t e line → MustSend IsExcused t e line
   must_send e line row router server fate is up listed below = sends_row router server up listed below fate line (subst (λ (x : Happening). MayCome t x line) is row)
 
 -- a Map-Register that passes all checks with a fresh nonce
@@ -202,7 +202,7 @@ module _ (t : Turn) (kind : is_router t.opening.config t.node ≡ true) (a : Arr
       clash e = absurd cc
 
 -- legal steps do what they must
-pub must : (o : Opening) (T : List Step) (s : Step) → LegalTrace o T → Legal o T s → Must o T s
+pub must : (o : Opening) (T : List Step) (s : Step) → LegalTrace o T → Legal o T s → Must IsExcused o T s
 must o T s legal l = record {
   send = must_send (turn_of o T s) (reached o T legal s.actor) s.event s.line l.row;
   accept = λ a m is kind admits above. accept_arrives (turn_of o T s) kind a m admits above s.line (arrived (turn_of o T s) kind a s.event s.line is l.row);

@@ -13,6 +13,7 @@ pub mod Hearing
 pub mod Notifying
 pub mod Legal
 pub mod Must
+pub mod Memory
 pub mod Change
 pub mod Answer
 pub mod Clean

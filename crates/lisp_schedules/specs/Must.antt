@@ -1,7 +1,8 @@
--- The must side of legal steps: what meets its conditions is sent, accepted, counted, answered or done, save where
--- memory or a store's device failed.
-use Rattle.std.specs.Prelude.{◌≡◌, ◌⊎◌, ℕ, ◌<◌, ◌≤◌, Bool, true, false, List, Option, Some, None, Ok}
+-- The must side of legal steps: what meets its conditions is sent, accepted, counted, answered or done, unless it is
+-- excused: memory was refused or a store's device failed; where no memory may be refused, a device failed.
+use Rattle.std.specs.Prelude.{◌≡◌, ◌≢◌, ◌⊎◌, ℕ, ◌<◌, ◌≤◌, Bool, true, false, List, Option, Some, None, Ok}
 use Rattle.std.specs.List.{Contains}
+use Rattle.std.specs.Option.{IsSomeAnd}
 use Rattle.lisp_store.specs.declared.fault.StoreFault.{StoreFault}
 use Rattle.lisp_store.specs.declared.fault.StoreFault.TheVariants as stores
 use Rattle.lisp_store.specs.declared.fate.Fate.{Fate}
@@ -38,13 +39,22 @@ cause_of (refusals.Receive (refuseds.StoreLoad fault)) = Some fault
 cause_of (refusals.Receive (refuseds.StoreSave fault)) = Some fault
 cause_of _ = None
 
-abbrev pub Has : Turn → Option StoreFault → Type 0
-Has t None = ⊥
-Has t (Some fault) = HasCause t fault
+-- a line is a refusal with a cause of that kind
+abbrev pub IsRefusedFor : (StoreFault → Type 0) → Line → Type 0
+IsRefusedFor Such (lines.Refused _ why) = IsSomeAnd (cause_of why) Such
+IsRefusedFor Such _ = ⊥
 
-abbrev pub IsExcused : Turn → Line → Type 0
-IsExcused t (lines.Refused _ why) = Has t (cause_of why)
-IsExcused t _ = ⊥
+-- what excuses a line
+abbrev pub Excuse : Type 1
+Excuse = Turn → Line → Type 0
+
+-- memory was refused, or a store's device failed
+abbrev pub IsExcused : Excuse
+IsExcused t line = IsRefusedFor (HasCause t) line
+
+-- a store's device failed
+abbrev pub DeviceFailed : Excuse
+DeviceFailed t line = IsRefusedFor (λ fault. (fault ≢ stores.OutOfMemory) × HasCause t fault) line
 
 abbrev pub is_sent : Line → Bool
 is_sent (lines.Sent _ _ _ _ _) = true
@@ -64,19 +74,22 @@ IsAbove (Some last) kept nonce = last < nonce
 IsAbove None kept nonce = (v : Option ℕ) → Contains kept v → IsBelow v nonce
 
 -- a router that is up sends to a server of its list, where every value that is kept is below 2^63 - 1
-abbrev pub MustSend : Turn → Happening → Line → Type 0
-MustSend t event line = (router server : ℕ) (fate : Fate) → event ≡ events.Send router server fate → is_up t.past router ≡ true → is_listed t.opening.config router server ≡ true
-    → ((v : Option ℕ) → Contains (values t (pair_at t.opening t.past router)) v → number v < last_nonce) → (is_sent line ≡ true) ⊎ IsExcused t line
+abbrev pub MustSend : Excuse → Turn → Happening → Line → Type 0
+MustSend Excused t event line = (router server : ℕ) (fate : Fate) → event ≡ events.Send router server fate
+    → is_up t.past router ≡ true → is_listed t.opening.config router server ≡ true
+    → ((v : Option ℕ) → Contains (values t (pair_at t.opening t.past router)) v → number v < last_nonce) → (is_sent line ≡ true) ⊎ Excused t line
 
 -- a server accepts a Map-Register that passes all checks, with such a nonce
-abbrev pub MustAccept : Turn → Happening → Line → Type 0
-MustAccept t event line = (a : Arrival) (m : Registration) → arrival_in (bag t.opening t.past) event ≡ Some a → is_server t.opening.config t.node ≡ true → Admits t a m
-    → IsAbove (last_in t (pair_of m)) (values t (pair_of m)) m.nonce → (is_accepted line ≡ true) ⊎ IsExcused t line
+abbrev pub MustAccept : Excuse → Turn → Happening → Line → Type 0
+MustAccept Excused t event line = (a : Arrival) (m : Registration)
+    → arrival_in (bag t.opening t.past) event ≡ Some a → is_server t.opening.config t.node ≡ true → Admits t a m
+    → IsAbove (last_in t (pair_of m)) (values t (pair_of m)) m.nonce → (is_accepted line ≡ true) ⊎ Excused t line
 
 -- a Map-Notify-Ack ends the notice that waits for it
-abbrev pub MustEnd : Turn → Happening → Line → Type 0
-MustEnd t event line = (a : Arrival) (m : Notification) (n : Notice) → arrival_in (bag t.opening t.past) event ≡ Some a → is_server t.opening.config t.node ≡ true
-    → a.read ≡ Ok (Notifies m) → m.ack ≡ true → awaiting t a.from m ≡ Some n → has_tag_for t a n ≡ true → (is_done line ≡ true) ⊎ IsExcused t line
+abbrev pub MustEnd : Excuse → Turn → Happening → Line → Type 0
+MustEnd Excused t event line = (a : Arrival) (m : Notification) (n : Notice)
+    → arrival_in (bag t.opening t.past) event ≡ Some a → is_server t.opening.config t.node ≡ true
+    → a.read ≡ Ok (Notifies m) → m.ack ≡ true → awaiting t a.from m ≡ Some n → has_tag_for t a n ≡ true → (is_done line ≡ true) ⊎ Excused t line
 
 abbrev pub is_counted : Line → Bool
 is_counted (lines.Counted _ _ _ _) = true
@@ -87,17 +100,20 @@ is_noticed (lines.Noticed _ _ _ _) = true
 is_noticed _ = false
 
 -- a router that is up counts a Map-Notify for its last Map-Register to that server, and answers a notice
-abbrev pub MustCount : Turn → Happening → Line → Type 0
-MustCount t event line = (a : Arrival) (h : Heard) → arrival_in (bag t.opening t.past) event ≡ Some a → is_router t.opening.config t.node ≡ true → is_up t.past t.node ≡ true → heard t.opening t.past t.node a ≡ Ok h
-    → h.message.nonce < first_notice → is_latest h.message.nonce (latest t.past t.node h.server) ≡ true → (is_counted line ≡ true) ⊎ IsExcused t line
+abbrev pub MustCount : Excuse → Turn → Happening → Line → Type 0
+MustCount Excused t event line = (a : Arrival) (h : Heard)
+    → arrival_in (bag t.opening t.past) event ≡ Some a → is_router t.opening.config t.node ≡ true → is_up t.past t.node ≡ true
+    → heard t.opening t.past t.node a ≡ Ok h → h.message.nonce < first_notice → is_latest h.message.nonce (latest t.past t.node h.server) ≡ true
+    → (is_counted line ≡ true) ⊎ Excused t line
 
-abbrev pub MustNotice : Turn → Happening → Line → Type 0
-MustNotice t event line = (a : Arrival) (h : Heard) → arrival_in (bag t.opening t.past) event ≡ Some a → is_router t.opening.config t.node ≡ true → is_up t.past t.node ≡ true → heard t.opening t.past t.node a ≡ Ok h
-    → first_notice ≤ h.message.nonce → (is_noticed line ≡ true) ⊎ IsExcused t line
+abbrev pub MustNotice : Excuse → Turn → Happening → Line → Type 0
+MustNotice Excused t event line = (a : Arrival) (h : Heard)
+    → arrival_in (bag t.opening t.past) event ≡ Some a → is_router t.opening.config t.node ≡ true → is_up t.past t.node ≡ true
+    → heard t.opening t.past t.node a ≡ Ok h → first_notice ≤ h.message.nonce → (is_noticed line ≡ true) ⊎ Excused t line
 
-pub record Must (o : Opening) (T : List Step) (s : Step) : Type 0 where
-  pub send : MustSend (turn_of o T s) s.event s.line
-  pub accept : MustAccept (turn_of o T s) s.event s.line
-  pub done : MustEnd (turn_of o T s) s.event s.line
-  pub counted : MustCount (turn_of o T s) s.event s.line
-  pub noticed : MustNotice (turn_of o T s) s.event s.line
+pub record Must (Excused : Excuse) (o : Opening) (T : List Step) (s : Step) : Type 0 where
+  pub send : MustSend Excused (turn_of o T s) s.event s.line
+  pub accept : MustAccept Excused (turn_of o T s) s.event s.line
+  pub done : MustEnd Excused (turn_of o T s) s.event s.line
+  pub counted : MustCount Excused (turn_of o T s) s.event s.line
+  pub noticed : MustNotice Excused (turn_of o T s) s.event s.line

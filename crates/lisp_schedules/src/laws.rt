@@ -5,7 +5,8 @@ ghost use Rattle.lisp_lookup.specs.Table.{IsHeld};
 ghost use Rattle.lisp_schedules.specs.Trace.{Opening, Step};
 ghost use Rattle.lisp_schedules.specs.Held.{Acceptance, named, rows};
 ghost use Rattle.lisp_schedules.specs.Legal.{Legal, LegalTrace};
-ghost use Rattle.lisp_schedules.specs.Must.{Must};
+ghost use Rattle.lisp_schedules.specs.Must.{Must, IsExcused, DeviceFailed};
+ghost use Rattle.lisp_schedules.specs.Memory.{MayTell};
 ghost use Rattle.lisp_schedules.specs.Clean.{Clean};
 ghost use Rattle.lisp_schedules.specs.Promises.{NoncesRise, ReplaysAreTried, NoticeNoncesRise, NoticesDiffer, LeavesOthers, AcceptedWasSent, HeldWasSent, HeldAgree, CountedWasAccepted, DoneWasNoticed};
 ghost use Rattle.lisp_schedules.specs.Network.{IsNetwork};
@@ -44,7 +45,13 @@ pub fn others_stay()
 /// failed.
 #[tactic(auto, using(crate::proofs::MustLaws::must))]
 pub fn must_be_done()
-    ensures { (o : Opening) (T : List Step) (s : Step) → LegalTrace o T → Legal o T s → Must o T s }
+    ensures { (o : Opening) (T : List Step) (s : Step) → LegalTrace o T → Legal o T s → Must IsExcused o T s }
+{}
+
+/// Where neither a node's memory nor its store's may be refused, only a store's device that failed excuses what must
+/// be done.
+pub fn must_be_done_with_memory()
+    ensures { (o : Opening) (T : List Step) (s : Step) → LegalTrace o T → Legal o T s → MayTell ⊥ ⊥ s.line → Must DeviceFailed o T s }
 {}
 
 /// What is held at a moment is listed by router, then prefix: exactly the live records, each once (RFC 9301 section

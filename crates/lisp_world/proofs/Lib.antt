@@ -2,6 +2,14 @@ pub mod Gets
 pub mod Going
 pub mod Acting
 pub mod Heads
+pub mod NodeCalls
+pub mod Loops
+pub mod RouterCalls
+pub mod ServerCalls
+pub mod ArrivalCalls
+pub mod Calm
+pub mod Steps
+pub mod Running
 pub mod Places
 pub mod RouterTurns
 pub mod RouterRounds
@@ -23,3 +31,8 @@ pub mod NoticeParts
 pub mod Resending
 pub mod LiveRows
 pub mod Noticing
+pub mod HeldLists
+pub mod Asking
+pub mod MakingChecks
+pub mod MakingNodes
+pub mod Making

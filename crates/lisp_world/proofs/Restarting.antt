@@ -62,17 +62,17 @@ crash_narrows : (old new : StoreState) (before : Shown) → Crashes old new → 
 crash_narrows old new before crashes shows q = subst (λ (k : Kept). Narrows (kept_at k q) (kept_at new.kept q)) shows.kept (crashes.narrows shows.honest q)
 
 -- a server that has just started holds nothing
-no_row : (now : ℕ) (router : RouterId) (eid : Block) → option_and_then (if_alive now) (row_at [] router eid) ≡ None
+pub no_row : (now : ℕ) (router : RouterId) (eid : Block) → option_and_then (if_alive now) (row_at [] router eid) ≡ None
 unfolding row_at
 no_row now router eid = refl
 
 -- nor any nonce
-no_nonce : (pair : Pair) → nonce_at empty pair ≡ None
+pub no_nonce : (pair : Pair) → nonce_at empty pair ≡ None
 unfolding nonce_at
 no_nonce pair = get-empty pair_cmp pair
 
 -- nor any notice
-no_notice : (o : Opening) (T : List Step) (node : ℕ) (router : RouterId) → SameNotice o T node None (notice_at [] router)
+pub no_notice : (o : Opening) (T : List Step) (node : ℕ) (router : RouterId) → SameNotice o T node None (notice_at [] router)
 unfolding notice_at
 no_notice o T node router = tt
 

@@ -1,5 +1,9 @@
--- The numbers of a network's faults.
-use Rattle.std.specs.Prelude.{ℕ}
+-- A network's faults: what keeps it from taking an event, and their numbers.
+use Rattle.std.specs.Prelude.{◌≡◌, ℕ, ◌+◌, ◌&&◌, ◌||◌, nat_le, nat_lt, not, is_some, Bool, length, Option, Some, None, Result, Ok, Err, IfErr, if◌then◌else◌}
+use Rattle.lisp_records.specs.Moment.{max_moment}
+use Rattle.lisp_schedules.specs.Trace.{Happening}
+use Rattle.lisp_schedules.specs.declared.event.Event.TheVariants as events
+use Rattle.lisp_world.specs.World.{WorldState}
 use Rattle.lisp_world.specs.declared.fault.WorldFault.{WorldFault}
 use Rattle.lisp_world.specs.declared.fault.WorldFault.TheVariants as faults
 
@@ -11,3 +15,52 @@ world_fault_number faults.Clock = 73
 world_fault_number faults.Repeated = 74
 world_fault_number faults.OutOfMemory = 75
 world_fault_number (faults.Start _ _) = 76
+
+-- no node has the number; a Map-Server has it
+abbrev pub is_missing : WorldState → ℕ → Bool
+is_missing w node = nat_le (length w.addresses) node
+
+abbrev pub is_server : WorldState → ℕ → Bool
+is_server w node = nat_lt node (length w.servers)
+
+-- the fault of an event: of one node; of a router; of a router and a Map-Server; of a restart; of a datagram; of time
+abbrev pub node_fault : WorldState → ℕ → Option WorldFault
+node_fault w node = if is_missing w node then Some faults.NoNode else None
+
+abbrev pub router_fault : WorldState → ℕ → Option WorldFault
+router_fault w router = if is_missing w router then Some faults.NoNode else if is_server w router then Some faults.WrongKind else None
+
+abbrev pub pair_fault : WorldState → ℕ → ℕ → Option WorldFault
+pair_fault w router server =
+    if is_missing w router || is_missing w server then Some faults.NoNode
+    else if is_server w router || not (is_server w server) then Some faults.WrongKind
+    else None
+
+abbrev pub restart_fault : {X : Type 0} → WorldState → ℕ → Option X → Option WorldFault
+restart_fault w node db = if is_missing w node then Some faults.NoNode else if is_server w node && is_some db then Some faults.WrongKind else None
+
+abbrev pub datagram_fault : WorldState → ℕ → Option WorldFault
+datagram_fault w k = if nat_le (length w.bag) k then Some faults.NoDatagram else None
+
+abbrev pub tick_fault : WorldState → ℕ → Option WorldFault
+tick_fault w ms = if nat_lt max_moment (w.clock + ms) then Some faults.Clock else None
+
+abbrev pub fault_of : WorldState → Happening → Option WorldFault
+fault_of w (events.Change router db) = router_fault w router
+fault_of w (events.Send router server fate) = pair_fault w router server
+fault_of w (events.Deliver k fate) = datagram_fault w k
+fault_of w (events.Junk to from bytes) = node_fault w to
+fault_of w (events.Tick ms) = tick_fault w ms
+fault_of w (events.Restart node pick db) = restart_fault w node db
+fault_of w (events.Notice server router fate) = pair_fault w router server
+fault_of w (events.Resend server router) = pair_fault w router server
+
+-- an event that has a fault is refused with it; another may be refused for want of memory alone
+abbrev pub Faults : {X : Type 0} → Option WorldFault → Result X WorldFault → Type 0
+Faults (Some fault) result = result ≡ Err fault
+Faults None result = IfErr result (λ fault. fault ≡ faults.OutOfMemory)
+
+-- the refusal of a call that takes no memory
+abbrev pub refusal_of : {X : Type 0} → Result X WorldFault → Option WorldFault
+refusal_of (Ok x) = None
+refusal_of (Err fault) = Some fault

@@ -1,5 +1,5 @@
 -- Turns: what an event makes of the network, by the call of the node that acts.
-use Rattle.std.specs.Prelude.{◌≡◌, ℕ, ◌+◌, ◌<◌, ◌≤◌, ◌==◌, Bool, true, false, List, [], ◌∷◌, ◌++◌, length, map, position, slice_get, slice_set, slice_index_or, Option, Some, None, Result, Ok, Err}
+use Rattle.std.specs.Prelude.{◌≡◌, ◌⊎◌, ℕ, ◌+◌, ◌<◌, ◌≤◌, ◌==◌, Bool, true, false, List, [], ◌∷◌, ◌++◌, length, map, position, slice_get, slice_set, slice_index_or, Option, Some, None, Result, Ok, Err}
 use Rattle.std.specs.FinMap.{empty}
 use Rattle.std.specs.Option.{option_map, option_to_list, unwrap_or}
 use Rattle.lisp_records.specs.Database.{database_of as checked_database}
@@ -60,10 +60,13 @@ pub record ExpiresNode (old new : ServerNode) (now : ℕ) : Type 0 where
   pub rows : Expires old.core.rows new.core.rows now
   pub rest : new ≡ record old { core = record old.core { rows = new.core.rows } }
 
+abbrev pub ExpiresEach : List ServerNode → List ServerNode → ℕ → Type 0
+ExpiresEach old new now = (k : ℕ) (n m : ServerNode) → slice_get old k ≡ Some n → slice_get new k ≡ Some m → ExpiresNode n m now
+
 pub record Ticks (old new : WorldState) (ms : ℕ) (line : Line) : Type 0 where
   pub bound : old.clock + ms ≤ max_moment
   pub count : length new.servers ≡ length old.servers
-  pub each : (k : ℕ) (n m : ServerNode) → slice_get old.servers k ≡ Some n → slice_get new.servers k ≡ Some m → ExpiresNode n m (old.clock + ms)
+  pub each : ExpiresEach old.servers new.servers (old.clock + ms)
   pub left : new ≡ record old { clock = old.clock + ms; servers = new.servers }
   pub said : line ≡ lines.Ticked ms (old.clock + ms)
 
@@ -75,10 +78,6 @@ changed_core db now (Down config database) = Down config database
 abbrev pub is_up : RouterCore → Bool
 is_up (Up e) = true
 is_up (Down config database) = false
-
-abbrev pub up_in : RouterCore → Option EtrState
-up_in (Up e) = Some e
-up_in (Down config database) = None
 
 abbrev pub change_line : ℕ → List Mapping → RouterCore → Line
 change_line router db (Up e) = lines.Changed router (length db)
@@ -93,6 +92,14 @@ pub record Changes (old new : WorldState) (router : ℕ) (db : List Mapping) (li
 -- the place of a Map-Server in a router's list; where it isn't listed, the list's length
 abbrev pub place_of : List ℕ → ℕ → ℕ
 place_of servers server = unwrap_or (position (λ s. s == server) servers) (length servers)
+
+-- a router that is up was asked to send to the Map-Server with a number
+pub record SendsWhileUp (before after : RouterNode) (server : ℕ) (fate : Fate) (now : ℕ) (answer : Result (List ℕ) SendFault) : Type 0 where
+  pub etr : EtrState
+  pub was : before.core ≡ Up etr
+  pub left : EtrState
+  pub is : after ≡ record before { core = Up left; store = after.store }
+  pub call : SendsOver etr left before.store after.store fate (place_of before.servers server) now answer
 
 -- a router sent a Map-Register: its line has the Key ID and the nonce that stand in the datagram
 pub record SaysSent (old : WorldState) (router server : ℕ) (bytes : List ℕ) (line : Line) (more : List Posted) : Type 0 where
@@ -121,6 +128,10 @@ pub record SendsFrom (old new : WorldState) (router server : ℕ) (fate : Fate) 
   pub more : List Posted
   pub acts : RouterActs old new router more
   pub sends : SendsAt old router server fate acts.before acts.after acts.before.core line more
+
+-- an answer from an address to another, if there is one
+abbrev pub posted : Addr → Addr → Option (List ℕ) → List Posted
+posted from to reply = option_to_list (option_map (λ bytes. record { from = from; to = to; bytes = bytes }) reply)
 
 -- what arrives at a Map-Server, and what it answers
 abbrev pub reply_number : {A : Type 0} → ℕ → Option A → Option ℕ
@@ -164,6 +175,16 @@ pub record HearsUp (A : Type 0) (old : WorldState) (node : ℕ) (before after : 
   pub said : line ≡ router_line node (length old.bag) before.servers e answer
   pub posts : more ≡ acknowledges (address_of old node) from answer
 
+-- a router that is up was given bytes from an address
+pub record HearsWhileUp {A : Type 0} (before after : RouterNode) (fate : Fate) (from : Addr) (bytes : List ℕ) (answer : Result (Seen A) NotifyFault) : Type 0 where
+  pub etr : EtrState
+  pub was : before.core ≡ Up etr
+  pub left : EtrState
+  pub is : after ≡ record before { core = Up left; store = after.store }
+  pub armed : StoreState
+  pub uses : Uses before.store fate armed armed after.store
+  pub call : Hears etr left from bytes answer
+
 abbrev pub HearsAt : Type 0 → WorldState → ℕ → RouterNode → RouterNode → Fate → Addr → List ℕ → RouterCore → Line → List Posted → Type 0
 HearsAt A old node before after fate from bytes (Up e) line more = HearsUp A old node before after fate from bytes e line more
 HearsAt A old node before after fate from bytes (Down config database) line more = (after ≡ before) × (line ≡ lines.Down node) × (more ≡ [])
@@ -172,6 +193,19 @@ pub record ArrivesAtRouter (A : Type 0) (old new : WorldState) (node : ℕ) (fat
   pub more : List Posted
   pub acts : RouterActs old new node more
   pub hears : HearsAt A old node acts.before acts.after fate from bytes acts.before.core line more
+
+-- bytes arrive at a node, of either kind; a datagram that was sent arrives where it was sent to, or nowhere
+abbrev pub Arrives : Type 0 → WorldState → WorldState → ℕ → Fate → Addr → List ℕ → Line → Type 0
+Arrives A old new node fate from bytes line = ArrivesAtServer A old new node fate from bytes line ⊎ ArrivesAtRouter A old new node fate from bytes line
+
+abbrev pub ArrivesWhere : Type 0 → WorldState → WorldState → ℕ → Fate → Posted → Option ℕ → Line → Type 0
+ArrivesWhere A old new k fate d (Some node) line = Arrives A old new node fate d.from d.bytes line
+ArrivesWhere A old new k fate d None line = (new ≡ old) × (line ≡ lines.Nowhere k)
+
+pub record Delivers (A : Type 0) (old new : WorldState) (k : ℕ) (fate : Fate) (line : Line) : Type 0 where
+  pub datagram : Posted
+  pub sent : slice_get old.bag k ≡ Some datagram
+  pub arrives : ArrivesWhere A old new k fate datagram (node_with old datagram.to) line
 
 -- a Map-Server stops, its store crashes, and it starts with its sites alone
 pub record RestartsServer (old new : WorldState) (node : ℕ) (line : Line) : Type 0 where
@@ -190,6 +224,10 @@ pub record RestartsAt (old new : WorldState) (node : ℕ) (db : Option (List Map
   pub answer : Result (Unit {0}) StartFault
   pub restarts : RestartsRouter acts.before acts.after db old.clock answer
   pub said : line ≡ start_line node answer
+
+-- a node, of either kind; a Map-Server is given no database
+abbrev pub RestartsNode : WorldState → WorldState → ℕ → Option (List Mapping) → Line → Type 0
+RestartsNode old new node db line = ((db ≡ None) × RestartsServer old new node line) ⊎ RestartsAt old new node db line
 
 -- a Map-Server sends a router a notice: its line has the Key ID and the nonce that stand in the datagram
 pub record SaysNoticed (old : WorldState) (server router : ℕ) (to : Addr) (bytes : List ℕ) (line : Line) (more : List Posted) : Type 0 where

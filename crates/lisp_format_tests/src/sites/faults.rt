@@ -1,6 +1,6 @@
 //! The worked configuration with a part of its text replaced: the first fault of it, or none.
 
-use crate::sites::configuration::CONFIGURATION;
+use lisp_samples::CONFIGURATION;
 use lisp_sites::ConfigFault::{self, BadValue, Missing, Repeated, Toml};
 use lisp_sites::{Config, Field};
 use std::alloc::Global;

@@ -1,0 +1,187 @@
+-- The nodes of a network: made one after the other, each over its store, and then the routers started one after the other.
+use Rattle.std.proofs.Common.{◌≡◌, ◌⊎◌, inl, inr, ℕ, suc, zero, ◌+◌, ◌<◌, ◌≤◌, List, [], ◌∷◌, ◌++◌, length, map, get_or, take, drop, Some, refl, sym, ap, subst, ◌∙◌, add-one, arith, length-append, length-set, append-nil}
+use Rattle.std.specs.Prelude.{◌≢◌, slice_get, slice_set}
+use Rattle.std.proofs.Math.Seq.{take-suc, take-length}
+use Rattle.std.proofs.Math.ListN.{drop_of_length-le}
+use Rattle.std.proofs.lemmas.List.{map-append, append_assoc}
+use Rattle.std.proofs.lemmas.Option.{slice_get-get_or, slice_get_within}
+use Rattle.lisp_sites.specs.Configuration.{Configuration}
+use Rattle.lisp_store.specs.Store.{StoreState}
+use Rattle.lisp_world.specs.World.{ServerNode, RouterNode}
+use Rattle.lisp_world.specs.Making.{server_over, IsRouterOver, AreServers, AreRouters, AreNodes, HasStarted, HaveStarted}
+use Rattle.lisp_world.proofs.Gets.{none_is_some, same_some, get_set, get_before}
+
+module _ {X Y : Type 0} where
+  -- one more element is mapped behind others
+  pub more_mapped : (before : List Y) (f : X → Y) (xs : List X) (made next : List Y) (i : ℕ) (x : X) → i < length xs → x ≡ get_or xs i x
+      → made ≡ before ++ map f (take i xs) → next ≡ made ++ f x ∷ [] → next ≡ before ++ map f (take (i + 1) xs)
+  more_mapped before f xs made next i x low at so_far pushed =
+      let taken : take (i + 1) xs ≡ take i xs ++ x ∷ [] = ap (λ n. take n xs) (add-one i) ∙ take-suc xs i x low ∙ ap (λ (y : X). take i xs ++ y ∷ []) (sym at) in
+      let mapped : map f (take (i + 1) xs) ≡ map f (take i xs) ++ f x ∷ [] = ap (map f) taken ∙ map-append f (take i xs) (x ∷ []) in
+      pushed ∙ ap (λ (l : List Y). l ++ f x ∷ []) so_far ∙ append_assoc before (map f (take i xs)) (f x ∷ []) ∙ ap (λ (l : List Y). before ++ l) (sym mapped)
+
+module _ {X : Type 0} where
+  -- what stands in a list with one more at its end stood there, or is that one
+  pub get_push : (xs : List X) (y : X) (k : ℕ) (x : X) → slice_get (xs ++ y ∷ []) k ≡ Some x → (slice_get xs k ≡ Some x) ⊎ ((k ≡ length xs) × (x ≡ y))
+  get_push [] y zero x e = inr (refl, sym (same_some y x e))
+  get_push [] y (suc k) x e = absurd (none_is_some e)
+  get_push (a ∷ xs) y zero x e = inl e
+  get_push (a ∷ xs) y (suc k) x e = further (get_push xs y k x e)
+    where
+      further : (slice_get xs k ≡ Some x) ⊎ ((k ≡ length xs) × (x ≡ y)) → (slice_get xs k ≡ Some x) ⊎ ((suc k ≡ suc (length xs)) × (x ≡ y))
+      further (inl is) = inl is
+      further (inr (same, is)) = inr (ap suc same, is)
+
+  -- that one stands at the end
+  pub get_end : (xs : List X) (y : X) → slice_get (xs ++ y ∷ []) (length xs) ≡ Some y
+  get_end [] y = refl
+  get_end (a ∷ xs) y = get_end xs y
+
+  -- a list is one longer
+  pub one_longer : (xs : List X) (y : X) → length (xs ++ y ∷ []) ≡ length xs + 1
+  one_longer xs y = length-append xs (y ∷ [])
+
+  -- a list that was written whole in place of another one
+  pub written_whole : (old new : List X) (count : ℕ) → count ≡ length old → length new ≡ length old → take count (new ++ drop (length new) old) ≡ new
+  written_whole old new count all same =
+      let none : drop (length new) old ≡ [] = drop_of_length-le old (omega (arith, same)) in
+      (λ i. take ((all ∙ sym same) i) (new ++ none i)) ∙ ap (take (length new)) (append-nil new) ∙ take-length new
+
+-- the nodes over the stores so far: Map-Servers first
+pub record SoFar (c : Configuration) (stores : List StoreState) (made : List ServerNode) (down : List RouterNode) : Type 0 where
+  pub count : length stores ≡ length made + length down
+  pub few : length made ≤ length c.servers
+  pub first : (length down ≡ 0) ⊎ (length made ≡ length c.servers)
+  pub are_servers : AreServers c stores made
+  pub are_routers : AreRouters c stores down
+
+-- none yet
+pub none_so_far : (c : Configuration) → SoFar c [] [] []
+none_so_far c = record {
+  count = refl;
+  few = omega arith;
+  first = inl refl;
+  are_servers = λ k n at. absurd (none_is_some at);
+  are_routers = λ k n at. absurd (none_is_some at);
+}
+
+module _ (c : Configuration) (stores : List StoreState) (made : List ServerNode) (down : List RouterNode) (so_far : SoFar c stores made down) (s : StoreState) where
+  abbrev stores_now : List StoreState
+  stores_now = stores ++ s ∷ []
+
+  -- one more Map-Server
+  module _ (n : ServerNode) (low : length made < length c.servers) (is : n ≡ server_over c s) where
+    no_router : (length down ≡ 0) ⊎ (length made ≡ length c.servers) → length down ≡ 0
+    no_router (inl none) = none
+    no_router (inr all) = absurd (omega (arith, low, all))
+
+    servers_now : AreServers c stores_now (made ++ n ∷ [])
+    servers_now k m at = here (get_push made n k m at)
+      where
+        here : (slice_get made k ≡ Some m) ⊎ ((k ≡ length made) × (m ≡ n)) → (x : StoreState) × (slice_get stores_now k ≡ Some x) × (m ≡ server_over c x)
+        here (inl was) = (let old = so_far.are_servers k m was in (old.0, get_before stores (s ∷ []) k old.0 old.1, old.2))
+        here (inr (same, new)) =
+            let none : length down ≡ 0 = no_router so_far.first in
+            let place : k ≡ length stores = omega (arith, same, none, so_far.count) in
+            (s, ap (slice_get stores_now) place ∙ get_end stores s, new ∙ is)
+
+    routers_still : AreRouters c stores_now down
+    routers_still k m at = (let old = so_far.are_routers k m at in (old.0, get_before stores (s ∷ []) (length c.servers + k) old.0 old.1, old.2))
+
+    pub server_more : SoFar c stores_now (made ++ n ∷ []) down
+    server_more = record {
+      count = (let a = one_longer stores s in let b = one_longer made n in omega (arith, a, b, so_far.count));
+      few = (let b = one_longer made n in omega (arith, b, low));
+      first = inl (no_router so_far.first);
+      are_servers = servers_now;
+      are_routers = routers_still;
+    }
+
+  -- one more router
+  module _ (n : RouterNode) (high : length c.servers ≤ length made) (is : IsRouterOver c (length down) s n) where
+    all_servers : length made ≡ length c.servers
+    all_servers = omega (arith, high, so_far.few)
+
+    servers_still : AreServers c stores_now made
+    servers_still k m at = (let old = so_far.are_servers k m at in (old.0, get_before stores (s ∷ []) k old.0 old.1, old.2))
+
+    routers_now : AreRouters c stores_now (down ++ n ∷ [])
+    routers_now k m at = here (get_push down n k m at)
+      where
+        here : (slice_get down k ≡ Some m) ⊎ ((k ≡ length down) × (m ≡ n)) → (x : StoreState) × (slice_get stores_now (length c.servers + k) ≡ Some x) × IsRouterOver c k x m
+        here (inl was) = (let old = so_far.are_routers k m was in (old.0, get_before stores (s ∷ []) (length c.servers + k) old.0 old.1, old.2))
+        here (inr (same, new)) =
+            let place : length c.servers + k ≡ length stores = omega (arith, same, all_servers, so_far.count) in
+            (s, ap (slice_get stores_now) place ∙ get_end stores s, (is.0, ap (slice_get c.routers) same ∙ is.1, new ∙ is.2))
+
+    pub router_more : SoFar c stores_now made (down ++ n ∷ [])
+    router_more = record {
+      count = (let a = one_longer stores s in let b = one_longer down n in omega (arith, a, b, so_far.count));
+      few = so_far.few;
+      first = inr all_servers;
+      are_servers = servers_still;
+      are_routers = routers_now;
+    }
+
+-- all of them
+pub all_made : (c : Configuration) (stores : List StoreState) (made : List ServerNode) (down : List RouterNode) → length stores ≡ length c.servers + length c.routers
+    → SoFar c stores made down → AreNodes c stores made down
+all_made c stores made down count so_far = record {
+  server_count = servers so_far.first;
+  router_count = (let all = servers so_far.first in omega (arith, all, count, so_far.count));
+  are_servers = so_far.are_servers;
+  are_routers = so_far.are_routers;
+}
+  where
+    servers : (length down ≡ 0) ⊎ (length made ≡ length c.servers) → length made ≡ length c.servers
+    servers (inl none) = omega (arith, none, count, so_far.count, so_far.few)
+    servers (inr all) = all
+
+-- the routers before a place have started, those from it on are as they were
+pub record StartedTo (old new : List RouterNode) (i : ℕ) : Type 0 where
+  pub count : length new ≡ length old
+  pub each : (k : ℕ) (n : RouterNode) → slice_get new k ≡ Some n → ((k < i) × ((m : RouterNode) × (slice_get old k ≡ Some m) × HasStarted m n)) ⊎ ((i ≤ k) × (slice_get old k ≡ Some n))
+
+-- none yet
+pub started_to_none : (routers : List RouterNode) → StartedTo routers routers 0
+started_to_none routers = record { count = refl; each = λ k n at. inr (omega arith, at) }
+
+module _ (old new : List RouterNode) (i : ℕ) (to : StartedTo old new i) where
+  abbrev Was : ℕ → RouterNode → Type 0
+  Was k n = (m : RouterNode) × (slice_get old k ≡ Some m) × HasStarted m n
+
+  -- one more
+  pub started_more : (x y : RouterNode) → i < length new → x ≡ get_or new i x → HasStarted x y → StartedTo old (slice_set new i y) (i + 1)
+  started_more x y low is starts = record { count = same_length ∙ to.count; each = λ k n at. each_now k n (get_set new i k y n at) }
+    where
+      same_length : length (slice_set new i y) ≡ length new
+      same_length = length-set new i y
+
+      was : slice_get new i ≡ Some x
+      was = slice_get-get_or new i x low ∙ ap Some (sym is)
+
+      first_was : ((i < i) × Was i x) ⊎ ((i ≤ i) × (slice_get old i ≡ Some x)) → slice_get old i ≡ Some x
+      first_was (inl (less, _)) = absurd (omega (arith, less))
+      first_was (inr (_, at)) = at
+
+      further : (k : ℕ) (n : RouterNode) → k ≢ i → ((k < i) × Was k n) ⊎ ((i ≤ k) × (slice_get old k ≡ Some n)) → ((k < i + 1) × Was k n) ⊎ ((i + 1 ≤ k) × (slice_get old k ≡ Some n))
+      further k n other (inl (less, done)) = inl (omega (arith, less), done)
+      further k n other (inr (more, at)) = inr (omega (arith, more, other), at)
+
+      each_now : (k : ℕ) (n : RouterNode) → ((k ≡ i) × (y ≡ n)) ⊎ ((k ≢ i) × (slice_get new k ≡ Some n)) → ((k < i + 1) × Was k n) ⊎ ((i + 1 ≤ k) × (slice_get old k ≡ Some n))
+      each_now k n (inl (same, that)) = inl (omega (arith, same), (x, ap (slice_get old) same ∙ first_was (to.each i x was), subst (λ m. HasStarted x m) that starts))
+      each_now k n (inr (other, at)) = further k n other (to.each k n at)
+
+  -- all
+  pub all_started : length new ≤ i → HaveStarted old new
+  all_started high = record { count = to.count; each = λ k n at. done k n at (to.each k n at) }
+    where
+      done : (k : ℕ) (n : RouterNode) → slice_get new k ≡ Some n → ((k < i) × Was k n) ⊎ ((i ≤ k) × (slice_get old k ≡ Some n)) → Was k n
+      done k n at (inl (less, was)) = was
+      done k n at (inr (more, _)) = (let low = slice_get_within new k n at in absurd (omega (arith, low, more, high)))
+
+-- the same of lists that are equal to these
+pub moved_nodes : (c : Configuration) (stores known : List StoreState) (made servers : List ServerNode) (down routers : List RouterNode)
+    → stores ≡ known → made ≡ servers → down ≡ routers → SoFar c known servers routers → SoFar c stores made down
+moved_nodes c stores known made servers down routers same_stores same_servers same_routers so_far =
+    subst (λ (p : List StoreState × List ServerNode × List RouterNode). SoFar c p.0 p.1 p.2) {x = (known, servers, routers)} {y = (stores, made, down)} (λ i. (sym same_stores i, sym same_servers i, sym same_routers i)) so_far

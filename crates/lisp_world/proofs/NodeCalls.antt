@@ -1,0 +1,112 @@
+-- What the contracts of a router's calls come to, as a turn of a network wants it.
+use Rattle.std.proofs.Common.{◌≡◌, ℕ, ◌<◌, ◌≤◌, Bool, true, false, List, length, Result, Ok, Err, inl, inr, arith, ◌⊎◌, refl, ap, subst}
+use Rattle.std.specs.Prelude.{◌↔◌, ◌≢◌, ◌==◌, ◌/◌, slice_index, IsErrAnd, IsErrOf, nat_lt, drop, if◌then◌else◌}
+use Rattle.lisp_records.specs.Reading.{number_at}
+use Rattle.lisp_records.specs.Result.{◌>>=◌}
+use Rattle.lisp_messages.specs.declared.kind.Kind.{Kind}
+use Rattle.lisp_messages.specs.declared.kind.Kind.TheVariants as kinds
+use Rattle.lisp_store.specs.Store.{StoreState, Proceeds}
+use Rattle.std.proofs.lemmas.Bool.{cases_lt}
+use Rattle.lisp_messages.specs.Reading.{HasHead, kind_at, after, require, kind_of}
+use Rattle.lisp_messages.specs.declared.fault.ReadFault.{ReadFault}
+use Rattle.lisp_messages.specs.declared.fault.ReadFault.TheVariants as reads
+use Rattle.lisp_etr.specs.Etr.{EtrState}
+use Rattle.lisp_etr.specs.Faults.{fault_of_read}
+use Rattle.lisp_etr.specs.Sending.{last_nonce}
+use Rattle.lisp_etr.specs.declared.notify_fault.NotifyFault.{NotifyFault}
+use Rattle.lisp_etr.specs.declared.notify_fault.NotifyFault.TheVariants as notify_faults
+use Rattle.lisp_etr.specs.declared.send_fault.SendFault.{SendFault}
+use Rattle.lisp_etr.specs.declared.send_fault.SendFault.TheVariants.{NoServer, NonceSpent, OutOfMemory, Store}
+use Rattle.lisp_world.specs.Calls.{IsWhy}
+
+-- a call that isn't refused as `NoServer` is for a Map-Server that is there
+pub server_there : {X : Type 0} (r : Result X SendFault) (count place : ℕ) → r ≢ Err NoServer → ((r ≡ Err NoServer) ↔ (count ≤ place)) → place < count
+server_there r count place other refused = here (cases_lt place count)
+  where
+    here : (place < count) ⊎ (count ≤ place) → place < count
+    here (inl below) = below
+    here (inr above) = absurd (other (refused.1 above))
+
+-- and one that isn't refused as `NonceSpent` either has a nonce left
+pub nonce_left : {X : Type 0} (r : Result X SendFault) (count place last : ℕ) → r ≢ Err NonceSpent → place < count → ((r ≡ Err NonceSpent) ↔ ((place < count) × (last_nonce ≤ last))) → last < last_nonce
+nonce_left r count place last other there refused = here (cases_lt last last_nonce)
+  where
+    here : (last < last_nonce) ⊎ (last_nonce ≤ last) → last < last_nonce
+    here (inl below) = below
+    here (inr above) = absurd (other (refused.1 (there, above)))
+
+-- why a router didn't send
+module _ (X : Type 0) (e : EtrState) (place : ℕ) where
+  abbrev pub refused_as : SendFault → Result X SendFault
+  refused_as fault = Err fault
+
+  pub why_not_sent : (fault : SendFault) → ((refused_as fault ≡ Err NoServer) ↔ (length e.config.servers ≤ place))
+      → ((refused_as fault ≡ Err NonceSpent) ↔ ((place < length e.config.servers) × (last_nonce ≤ e.last))) → IsWhy e place fault
+  why_not_sent NoServer none spent = none.0 refl
+  why_not_sent NonceSpent none spent = spent.0 refl
+  why_not_sent OutOfMemory none spent =
+      let there : place < length e.config.servers = server_there (refused_as OutOfMemory) _ _ (λ clash. absurd cc) none in
+      (there, nonce_left (refused_as OutOfMemory) _ _ _ (λ clash. absurd cc) there spent)
+  why_not_sent (Store f) none spent =
+      let there : place < length e.config.servers = server_there (refused_as (Store f)) _ _ (λ clash. absurd cc) none in
+      (there, nonce_left (refused_as (Store f)) _ _ _ (λ clash. absurd cc) there spent)
+
+-- a check that isn't refused for want of memory
+abbrev Plain : {X : Type 0} → Result X ReadFault → Type 0
+Plain (Ok x) = Unit {0}
+Plain (Err fault) = fault ≢ reads.OutOfMemory
+
+-- a chain of them
+then_plain : {X Y : Type 0} (r : Result X ReadFault) (k : X → Result Y ReadFault) → Plain r → ((x : X) → Plain (k x)) → Plain (r >>= k)
+then_plain (Ok x) k first others = others x
+then_plain (Err fault) k first others = first
+
+plain_after : (n : ℕ) (bytes : List ℕ) → Plain (after n bytes)
+plain_after n bytes = here (nat_lt (length bytes) n)
+  where
+    here : (b : Bool) → Plain (if b then Err reads.Short else Ok (drop n bytes))
+    here true = λ e. absurd cc
+    here false = tt
+
+plain_require : (fault : ReadFault) (holds : Bool) → fault ≢ reads.OutOfMemory → Plain (require fault holds)
+plain_require fault true other = tt
+plain_require fault false other = other
+
+plain_kind : (number : ℕ) → Plain (kind_of number)
+plain_kind number = here (number == 3) (number == 4) (number == 5)
+  where
+    here : (a b c : Bool) → Plain (if a then Ok kinds.Register else (if b then Ok kinds.Notify else (if c then Ok kinds.NotifyAck else Err reads.Kind)))
+    here true b c = tt
+    here false true c = tt
+    here false false true = tt
+    here false false false = λ e. absurd cc
+
+-- so is the reading of the bytes before the records
+plain_head : (bytes : List ℕ) → Plain (kind_at bytes)
+unfolding kind_at
+plain_head bytes =
+    then_plain (after 16 bytes) _ (plain_after 16 bytes) (λ _.
+    then_plain (kind_of (slice_index bytes 0 / 16)) _ (plain_kind (slice_index bytes 0 / 16)) (λ kind.
+    then_plain (require reads.Algorithm (slice_index bytes 13 == 2)) _ (plain_require reads.Algorithm _ (λ e. absurd cc)) (λ _.
+    then_plain (require reads.AuthLength (number_at bytes 14 == 16)) _ (plain_require reads.AuthLength _ (λ e. absurd cc)) (λ _.
+    then_plain (after 32 bytes) _ (plain_after 32 bytes) (λ _. tt)))))
+
+-- a fault of those bytes is told as one of reading
+told : (X : Type 0) (fault : ReadFault) → fault ≢ reads.OutOfMemory → IsErrOf {T = X} (Err (fault_of_read fault)) notify_faults.OutOfMemory → ⊥
+told X reads.OutOfMemory other = λ e. other refl
+told X fault other = λ e. absurd cc
+
+-- a router is out of memory only after them
+pub has_head : (X : Type 0) (r : Result X NotifyFault) (bytes : List ℕ) → ((fault : ReadFault) → kind_at bytes ≡ Err fault → r ≡ Err (fault_of_read fault)) → IsErrOf r notify_faults.OutOfMemory → HasHead bytes
+has_head X r bytes early out fault is =
+    let plain : fault ≢ reads.OutOfMemory = subst (λ (r : Result Kind ReadFault). Plain r) is (plain_head bytes) in
+    told X fault plain (subst (λ (r : Result X NotifyFault). IsErrOf r notify_faults.OutOfMemory) (early fault is) out)
+
+-- a store that wasn't used
+pub unused : (store : StoreState) → Proceeds store store
+unused store = record { honest = refl; obedient = refl; count = omega arith; quiet = λ quiet. (quiet, refl) }
+
+-- a result that is refused as a fault, in two spellings
+pub err_is : {X E : Type 0} (r : Result X E) (fault : E) → IsErrAnd r (λ e. e ≡ fault) → r ≡ Err fault
+err_is (Ok x) fault is = absurd is
+err_is (Err e) fault is = ap Err is

@@ -1,0 +1,18 @@
+use Rattle.std.proofs.Common.{◌∙◌, [], append-nil, sym}
+use Rattle.lisp_world.proofs.RouterCalls.{acted, same_bag, line_up, line_down}
+use Rattle.lisp_world.proofs.world.World.change.Goals as goal
+use Rattle.lisp_world.proofs.world.World.change.Goals.{then-change, else-change}
+
+pub returns-clause-changes : goal.returns-clause-changes
+returns-clause-changes g c =
+    let there = rw (← c.self.view_is) at c.in_ok-place.ensures.place in
+    rw (← c.self.view_is)
+    (record {
+      acts = acted _ _ _ c.in_ok-place.place [] c.index_mut.result.now c.change.new.self there c.index_mut.ensures.value (same_bag _ _ (sym (append-nil c.self.inside.bag.items)));
+      fits = c.records-records.ensures.fits;
+      changes = rw (← c.in_ok-copy.ensures.equal) c.change.ensures.0;
+      said = elim c.if-change.branch [
+        | then-change w ↦ rw (w.line-is, c.records-records.ensures.value) (line_up c.args.router c.args.db.now c.index_mut.result.now.core (sym c.change.ensures.1 ∙ w.if-change.true))
+        | else-change w ↦ rw w.line-is (line_down c.args.router c.args.db.now c.index_mut.result.now.core (sym c.change.ensures.1 ∙ w.if-change.false))
+      ];
+    })

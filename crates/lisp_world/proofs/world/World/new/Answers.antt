@@ -1,0 +1,69 @@
+use Rattle.std.proofs.Common.{◌≡◌, ◌+◌, ◌++◌, List, length, map, take, drop, arith, refl, sym, ap, subst, ◌∙◌}
+use Rattle.std.proofs.lemmas.List.{length-append, length-map}
+use Rattle.lisp_store.specs.Store.{StoreState}
+use Rattle.lisp_world.specs.World.{RouterNode, WorldState}
+use Rattle.lisp_world.specs.Making.{HaveStarted}
+use Rattle.lisp_world.proofs.MakingNodes.{written_whole}
+use Rattle.lisp_world.proofs.Making.{IsMade, lists_same, stays_calm, made_stands}
+use Rattle.lisp_world.proofs.world.World.new.Goals as goal
+
+module _ (g : _) (c : goal.After-new g) where
+  -- the routers started
+  started : HaveStarted c.in_ok-servers.routers.items c.start_all.new.routers
+  started = subst (λ (l : List RouterNode). HaveStarted l c.start_all.new.routers) c.deref_mut.ensures.value c.in_ok-start_all.ensures.started
+
+  -- and their list was written whole
+  abbrev routers_left : List RouterNode
+  routers_left = take c.in_ok-servers.routers.len (c.start_all.new.routers ++ drop (length c.start_all.new.routers) c.in_ok-servers.routers.items)
+
+  routers_now : routers_left ≡ c.start_all.new.routers
+  routers_now = written_whole c.in_ok-servers.routers.items c.start_all.new.routers _ c.in_ok-servers.routers.ok.0 started.count
+
+  -- the stores as they were given
+  abbrev stores : List StoreState
+  stores = map g.S.NonceStore.seen c.args.stores.items
+
+  -- the network
+  abbrev world : WorldState
+  world = record {
+    addresses = c.in_ok-addresses.addresses.items;
+    clock = 0;
+    bag = c.new.result.items;
+    servers = c.in_ok-servers.servers.items;
+    routers = routers_left;
+  }
+
+  -- its nodes are those of the configuration
+  made : IsMade c.args.config.now stores world
+  made = record {
+    addresses_are = c.in_ok-addresses.ensures.addresses;
+    moment = refl;
+    empty_bag = c.new.ensures.items;
+    down = c.in_ok-servers.routers.items;
+    nodes = c.in_ok-servers.ensures.nodes;
+    started_all = subst (λ (l : List RouterNode). HaveStarted c.in_ok-servers.routers.items l) (sym routers_now) started;
+  }
+
+  -- as many stores as nodes
+  stores_count : length stores ≡ length c.args.config.now.servers + length c.args.config.now.routers
+  stores_count = length-map c.args.stores.items g.S.NonceStore.seen ∙ c.requires
+
+pub invariant_of-result : goal.invariant_of-result
+invariant_of-result g c =
+    let nodes = c.in_ok-servers.ensures.nodes in
+    let known = ap length c.in_ok-addresses.ensures.addresses in
+    let both = length-append (map (λ s. s.address) c.args.config.now.servers) (map (λ r. r.address) c.args.config.now.routers) in
+    let one = length-map c.args.config.now.servers (λ s. s.address) in
+    let other = length-map c.args.config.now.routers (λ r. r.address) in
+    let written = ap length (routers_now g c) in
+    let starts = started g c in
+    (omega arith, omega (arith, known, both, one, other, written, starts.count, nodes.server_count, nodes.router_count))
+
+pub returns-clause-stands : goal.returns-clause-stands
+returns-clause-stands g c = λ honest. made_stands c.args.config.now (stores g c) (world g c) (stores_count g c) (made g c) (c.repeats.ensures.network c.if-repeats.false) honest
+
+pub returns-clause-lists : goal.returns-clause-lists
+returns-clause-lists g c = λ honest. lists_same c.args.config.now (stores g c) (world g c) (stores_count g c) (made g c) honest
+
+pub returns-clause-calm : goal.returns-clause-calm
+returns-clause-calm g c = λ calm. stays_calm c.args.config.now (stores g c) (world g c) (stores_count g c) (made g c) calm

@@ -1,0 +1,51 @@
+use Rattle.std.proofs.Common.{ℕ, List, refl, sym, ap, ◌∙◌, [], ◌∷◌, ◌++◌, Some, Ok, Err}
+use Rattle.std.proofs.lemmas.List.{append-nil}
+use Rattle.std.proofs.lemmas.Option.{slice_get_read}
+use Rattle.lisp_records.specs.declared.address.Addr.{Addr}
+use Rattle.lisp_schedules.specs.declared.line.Line.TheVariants as lines
+use Rattle.lisp_world.specs.World.{Posted}
+use Rattle.lisp_world.proofs.ServerCalls.{server_acted}
+use Rattle.lisp_world.proofs.world.World.resend.Goals as goal
+
+pub returns-in-Ok-clause-resends : goal.returns-in-Ok-clause-resends
+returns-in-Ok-clause-resends g c =
+    let router = rw (← c.self.view_is) at c.in_ok-place.ensures.place in
+    let server = rw (← c.self.view_is) at c.in_ok-place.ensures.server in
+    let count = c.len-datagram.ensures ∙ c.make_room.ensures.len ∙ c.self.inside.bag.ok.0 in
+    let more : List Posted = record { from = c.address-from.result; to = c.in-Ok.to; bytes = c.in-Ok.bytes } ∷ [] in
+    let posts = c.post.ensures ∙ ap (λ (bag : List Posted). bag ++ more) c.make_room.ensures.items in
+    rw (← c.self.view_is)
+    (record {
+      place = c.in_ok-place.place;
+      number = router.0;
+      node = _;
+      there = slice_get_read c.self.inside.routers.items _ _ _ refl router.1 c.index.ensures ∙ ap Some (sym c.behind-self.view_is);
+      more = more;
+      acts = server_acted _ c.args.server c.index_mut.result.now c.resend.new.self c.post.new.bag.items more server c.index_mut.ensures.value posts;
+      rest = c.resend.ensures.rest;
+      answer = Ok (c.in-Ok.to, c.in-Ok.bytes);
+      resends = c.in-Ok.ensures.resends;
+      says = (
+        ap (λ (k : ℕ). lines.Resent c.args.server c.args.router k) count,
+        ap (λ (from : Addr). record { from = from; to = c.in-Ok.to; bytes = c.in-Ok.bytes } ∷ []) c.address-from.ensures,
+      );
+    })
+
+pub returns-in-Err-clause-resends : goal.returns-in-Err-clause-resends
+returns-in-Err-clause-resends g c =
+    let router = rw (← c.self.view_is) at c.in_ok-place.ensures.place in
+    let server = rw (← c.self.view_is) at c.in_ok-place.ensures.server in
+    let bag = c.make_room.ensures.items ∙ sym (append-nil c.self.inside.bag.items) in
+    rw (← c.self.view_is)
+    (record {
+      place = c.in_ok-place.place;
+      number = router.0;
+      node = _;
+      there = slice_get_read c.self.inside.routers.items _ _ _ refl router.1 c.index.ensures ∙ ap Some (sym c.behind-self.view_is);
+      more = [];
+      acts = server_acted _ c.args.server c.index_mut.result.now c.resend.new.self c.make_room.new.self.items [] server c.index_mut.ensures.value bag;
+      rest = c.resend.ensures.rest;
+      answer = Err c.in-Err.fault;
+      resends = c.in-Err.ensures.resends;
+      says = (refl, refl);
+    })

@@ -1,0 +1,27 @@
+use Rattle.std.proofs.Common.{ap, ◌∙◌, sym, arith, ◌-◌, ◌+◌, ◌<◌, ◌≡◌, ℕ, length}
+use Rattle.lisp_world.specs.Turns.{start_line}
+use Rattle.lisp_world.proofs.RouterCalls.{router_changed}
+use Rattle.lisp_world.proofs.world.World.restart_router.Goals as goal
+use Rattle.lisp_world.proofs.world.World.restart_router.Goals.{in-Ok, in-Err}
+
+pub returns-clause-restarts : goal.returns-clause-restarts
+returns-clause-restarts g c =
+    let router = rw (← c.self.view_is) at c.requires in
+    let least = router.0 in
+    let most = router.1 in
+    let servers = c.self.inside.servers.ok.0 in
+    let nodes = c.self.invariant.1 in
+    let count = c.len.ensures in
+    let place : ℕ = c.args.node - c.len.result in
+    let number : c.args.node ≡ length c.self.inside.servers.items + place = omega (arith, least, servers, count) in
+    let within : place < length c.self.inside.routers.items = omega (arith, least, most, servers, nodes, count) in
+    rw (← c.self.view_is)
+    (record {
+      acts = router_changed _ c.args.node place c.index_mut.result.now c.restart.new.self number within c.index_mut.ensures.value;
+      answer = c.restart.result;
+      restarts = c.restart.ensures.restarts;
+      said = elim c.match-restart.branch [
+        | in-Ok w ↦ w.result-is ∙ ap (start_line c.args.node) (sym w.in-Ok.is)
+        | in-Err w ↦ w.result-is ∙ ap (start_line c.args.node) (sym w.in-Err.is)
+      ];
+    })

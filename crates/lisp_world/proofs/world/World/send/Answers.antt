@@ -1,0 +1,58 @@
+use Rattle.std.proofs.Common.{◌∙◌, ◌++◌, ◌∷◌, [], List, append-nil, ap, sym, refl}
+use Rattle.std.proofs.lemmas.List.{length-set}
+use Rattle.lisp_schedules.specs.declared.line.Line.TheVariants as lines
+use Rattle.lisp_world.specs.World.{Posted}
+use Rattle.lisp_world.proofs.RouterCalls.{acted, same_bag, sent_head, sends_up, sends_down}
+use Rattle.lisp_world.proofs.world.World.send.Goals as goal
+
+pub returns-in_default-clause-sends : goal.returns-in_default-clause-sends
+returns-in_default-clause-sends g c =
+    let there = rw (← c.self.view_is) at c.in_ok-place.ensures.place in
+    let down = c.in_default.ensures.down refl in
+    rw (← c.self.view_is)
+    (record {
+      kind = rw (← c.self.view_is) at c.in_ok-place.ensures.server;
+      more = [];
+      acts = acted _ _ _ c.in_ok-place.place [] c.index_mut.result.now c.send.new.self there c.index_mut.ensures.value
+          (same_bag _ _ (c.make_room.ensures.items ∙ sym (append-nil c.self.inside.bag.items)));
+      sends = sends_down _ c.args.router c.args.server c.args.fate _ _ c.index_mut.result.now.core down.0 down.1;
+    })
+
+pub post_message-head-requires-clause-head : goal.post_message-head-requires-clause-head
+post_message-head-requires-clause-head g c =
+    let up = rw c.in-Ok.is at c.in-Some.ensures.up in
+    sent_head _ _ _ _ _ _ _ up.call.call
+
+pub invariant_of-self-in-Err : goal.invariant_of-self-in-Err
+invariant_of-self-in-Err g c = rw (length-set c.self.inside.routers.items c.in_ok-place.place c.send.new.self) c.self.invariant
+
+pub returns-in-Ok-clause-sends : goal.returns-in-Ok-clause-sends
+returns-in-Ok-clause-sends g c =
+    let there = rw (← c.self.view_is) at c.in_ok-place.ensures.place in
+    let sent : List Posted = record { from = c.address-from.result; to = c.address-to.result; bytes = c.in-Ok.bytes } ∷ [] in
+    rw (← c.self.view_is)
+    (record {
+      kind = rw (← c.self.view_is) at c.in_ok-place.ensures.server;
+      more = sent;
+      acts = acted _ _ _ c.in_ok-place.place sent c.index_mut.result.now c.send.new.self there c.index_mut.ensures.value
+          (same_bag _ _ (c.post_message-head.ensures.bag ∙ ap (λ (bag : List Posted). bag ++ sent) c.make_room.ensures.items));
+      sends = sends_up _ c.args.router c.args.server c.args.fate _ _ c.in-Some.answer _ sent c.in-Some.ensures.up (rw c.in-Ok.is (record {
+        head = c.post_message-head.result;
+        read = c.post_message-head.ensures.head;
+        said = ap (lines.Sent c.args.router c.args.server c.post_message-head.result.key_id c.post_message-head.result.nonce)
+            (c.len-datagram.ensures ∙ c.make_room.ensures.len ∙ c.self.inside.bag.ok.0);
+        posts = λ i. record { from = c.address-from.ensures i; to = c.address-to.ensures i; bytes = c.in-Ok.bytes } ∷ [];
+      }));
+    })
+
+pub returns-in-Err-clause-sends : goal.returns-in-Err-clause-sends
+returns-in-Err-clause-sends g c =
+    let there = rw (← c.self.view_is) at c.in_ok-place.ensures.place in
+    rw (← c.self.view_is)
+    (record {
+      kind = rw (← c.self.view_is) at c.in_ok-place.ensures.server;
+      more = [];
+      acts = acted _ _ _ c.in_ok-place.place [] c.index_mut.result.now c.send.new.self there c.index_mut.ensures.value
+          (same_bag _ _ (c.make_room.ensures.items ∙ sym (append-nil c.self.inside.bag.items)));
+      sends = sends_up _ c.args.router c.args.server c.args.fate _ _ c.in-Some.answer _ [] c.in-Some.ensures.up (rw c.in-Err.is (refl, refl));
+    })

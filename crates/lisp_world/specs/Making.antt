@@ -1,0 +1,61 @@
+-- How a network is made: its nodes over their stores before the routers start, and routers that start.
+use Rattle.std.specs.Prelude.{◌≡◌, ℕ, ◌+◌, List, [], length, slice_get, Some, Ok}
+use Rattle.std.specs.FinMap.{empty}
+use Rattle.lisp_sites.specs.Configuration.{Configuration, Router}
+use Rattle.lisp_store.specs.Store.{StoreState}
+use Rattle.lisp_store.specs.declared.fault.StoreFault.TheVariants as faults
+use Rattle.lisp_etr.specs.declared.start_fault.StartFault.{StartFault}
+use Rattle.lisp_etr.specs.declared.start_fault.StartFault.TheVariants as start_faults
+use Rattle.lisp_schedules.specs.Trace.{settings_of}
+use Rattle.lisp_world.specs.World.{ServerNode, RouterNode, Down}
+use Rattle.lisp_world.specs.Calls.{StartsOver, config_of, database_of}
+use Rattle.lisp_world.specs.declared.fault.WorldFault.{WorldFault}
+use Rattle.lisp_world.specs.declared.fault.WorldFault.TheVariants.{Start}
+
+-- a Map-Server of a configuration that holds nothing, over its store
+abbrev pub server_over : Configuration → StoreState → ServerNode
+server_over c store = record { core = record { sites = c.sites; rows = []; nonces = empty; contacts = []; notices = [] }; store = store }
+
+-- a router of a configuration that is down, over its store
+abbrev pub router_over : Configuration → Router → StoreState → RouterNode
+router_over c r store = record { me = r.me; servers = r.servers; core = Down (settings_of c r) r.database; store = store }
+
+-- so is the one at a place of the configuration
+abbrev pub IsRouterOver : Configuration → ℕ → StoreState → RouterNode → Type 0
+IsRouterOver c place store n = (r : Router) × (slice_get c.routers place ≡ Some r) × (n ≡ router_over c r store)
+
+-- each Map-Server holds nothing, over its store
+abbrev pub AreServers : Configuration → List StoreState → List ServerNode → Type 0
+AreServers c stores servers = (k : ℕ) (n : ServerNode) → slice_get servers k ≡ Some n
+    → (s : StoreState) × (slice_get stores k ≡ Some s) × (n ≡ server_over c s)
+
+-- each router is down, over its store
+abbrev pub AreRouters : Configuration → List StoreState → List RouterNode → Type 0
+AreRouters c stores routers = (k : ℕ) (n : RouterNode) → slice_get routers k ≡ Some n
+    → (s : StoreState) × (slice_get stores (length c.servers + k) ≡ Some s) × IsRouterOver c k s n
+
+-- the nodes of a configuration before the routers start
+pub record AreNodes (c : Configuration) (stores : List StoreState) (servers : List ServerNode) (routers : List RouterNode) : Type 0 where
+  pub server_count : length servers ≡ length c.servers
+  pub router_count : length routers ≡ length c.routers
+  pub are_servers : AreServers c stores servers
+  pub are_routers : AreRouters c stores routers
+
+-- a router started at the moment 0
+pub record HasStarted (old new : RouterNode) : Type 0 where
+  pub me : new.me ≡ old.me
+  pub servers : new.servers ≡ old.servers
+  pub starts : StartsOver (config_of old.core) (database_of old.core) 0 old.store new.store new.core (Ok tt)
+
+-- so did each router
+pub record HaveStarted (old new : List RouterNode) : Type 0 where
+  pub count : length new ≡ length old
+  pub each : (k : ℕ) (n : RouterNode) → slice_get new k ≡ Some n → (m : RouterNode) × (slice_get old k ≡ Some m) × HasStarted m n
+
+-- a router didn't start, for want of memory only where memory, or that of its store, may be refused
+pub record IsStartFault (fault : WorldFault) (Refused StoreRefused : Type 0) : Type 0 where
+  pub node : ℕ
+  pub why : StartFault
+  pub is : fault ≡ Start node why
+  pub memory : why ≡ start_faults.OutOfMemory → Refused
+  pub store_memory : why ≡ start_faults.Store faults.OutOfMemory → StoreRefused

@@ -1,0 +1,39 @@
+//! Bytes from outside arrive.
+
+ghost use Rattle.std.specs.Prelude.{◌≡◌, IfOk, OnErr, IsErrOf};
+ghost use Rattle.lisp_store.specs.declared.fate.Fate.TheVariants.{Done};
+ghost use Rattle.lisp_schedules.specs.Memory.{MayTell};
+ghost use Rattle.lisp_world.specs.Faults.{Faults, node_fault};
+ghost use Rattle.lisp_world.specs.Turns.{Arrives};
+
+use crate::arrival::{Arrival, hear, post_reply};
+use crate::fault::WorldFault;
+use crate::world::World;
+use lisp_memory::{FallibleVec, Memory};
+use lisp_records::Addr;
+use lisp_schedules::Line;
+use lisp_store::{Fate, WorldStore};
+
+impl<S: WorldStore, A: Memory + Copy> World<S, A> {
+    // Bytes that no node sent arrive at a node, as if they came from an address.
+    pub(crate) fn junk(&mut self, to: usize, from: Addr, bytes: &[u8]) -> Result<Line, WorldFault>
+        ensures arrives { IfOk result (λ line. Arrives A self.old self.new to Done from bytes.now line) }
+        ensures fault { Faults (node_fault self.old to) result }
+        ensures err { OnErr result (self.new ≡ self.old) }
+        ensures memory { IsErrOf result WorldFault.OutOfMemory → A.may_refuse }
+        ensures tells { IfOk result (MayTell A.may_refuse S.may_refuse) }
+    {
+        self.check_node(to)?;
+        self.bag.make_room(1)?;
+        let address = self.address(to);
+        let how = Arrival {
+            fate: Fate::Done,
+            from,
+            now: self.clock,
+            next: self.bag.len(),
+        };
+        let (line, reply) = hear(&mut self.servers, &mut self.routers, to, how, bytes);
+        post_reply(&mut self.bag, address, from, reply);
+        Ok(line)
+    }
+}

@@ -1,0 +1,344 @@
+//! A network is made.
+
+ghost use Rattle.std.specs.Prelude.{◌≡◌, ◌↔◌, ◌+◌, ◌^◌, ◌<◌, ◌||◌, ◌++◌, ℕ, true, false, [], Err, IfOk, IfErr, IsErrOf, OnOk, OnErr, length, map, slice_index_or};
+ghost use Rattle.std.specs.List.{AllByRecursion, list_any};
+ghost use Rattle.lisp_records.specs.Address.{addr_eq};
+ghost use Rattle.lisp_records.specs.Router.{router_eq};
+ghost use Rattle.lisp_records.specs.declared.address.Addr.TheVariants.{V4};
+ghost use Rattle.lisp_sites.specs.Configuration.{HasServers};
+ghost use Rattle.lisp_store.specs.declared.fault.StoreFault.{StoreFault};
+ghost use Rattle.lisp_etr.specs.declared.start_fault.StartFault.{StartFault};
+ghost use Rattle.lisp_world.specs.declared.fault.WorldFault.{WorldFault};
+ghost use Rattle.lisp_schedules.specs.Trace.{addresses as addresses_of, settings_of, secret_at};
+ghost use Rattle.lisp_schedules.specs.Network.{IsNetwork};
+ghost use Rattle.lisp_world.specs.Making.{server_over, router_over, IsRouterOver, AreNodes, HasStarted, HaveStarted, IsStartFault};
+ghost use Rattle.lisp_world.specs.Openings.{has_twice, repeats, opening, lists_of};
+ghost use Rattle.lisp_world.specs.Quiet.{AllHonest, AllCalm, stores_of, failures};
+ghost use Rattle.lisp_world.specs.Stands.{Stands};
+
+use crate::fault::WorldFault;
+use crate::router_core::RouterCore;
+use crate::router_node::{RouterNode, Start};
+use crate::server_node::ServerNode;
+use crate::world::World;
+use core::mem::replace_with;
+use lisp_checks::secret_at;
+use lisp_etr::{EtrConfig, Servers, StartFault};
+use lisp_memory::{FallibleCopies, FallibleVec, Memory};
+use lisp_records::{Addr, Bytes, RouterId};
+use lisp_sites::{Config, Places, RouterEntry, ServerEntry};
+use lisp_store::WorldStore;
+use std::alloc::{AllocError, Allocator};
+
+impl<S: WorldStore, A: Memory + Copy> World<S, A> {
+    /// A network of the nodes of a configuration, each over a store of its own in their order, all started at the
+    /// moment 0. What it makes lies in memory of `alloc`.
+    ///
+    /// It refuses in this order, and drops the stores: `Repeated` (two nodes have one address, or two routers
+    /// one identity), `OutOfMemory`, `Start` (the first router that doesn't start, and why).
+    pub fn new<E: Allocator>(
+        alloc: A,
+        config: &Config<E>,
+        stores: Vec<S, A>,
+    ) -> Result<World<S, A>, WorldFault>
+    where
+        S: Drop,
+        requires { length stores.items ≡ length config.now.servers + length config.now.routers }
+
+        // Over honest stores it stands for its opening.
+        ensures stands { AllHonest (map S.seen stores.items) → IfOk result (λ w. Stands w (opening config.now w) []) }
+        ensures lists { AllHonest (map S.seen stores.items) → IfOk result (λ w. lists_of (stores_of w) ≡ lists_of (map S.seen stores.items)) }
+        ensures repeated { (result ≡ Err WorldFault.Repeated) ↔ (repeats config.now ≡ true) }
+        ensures memory { IsErrOf result WorldFault.OutOfMemory → A.may_refuse }
+        ensures start_memory { (node : ℕ) → IsErrOf result (WorldFault.Start node StartFault.OutOfMemory) → A.may_refuse }
+        ensures store_memory { (node : ℕ) → IsErrOf result (WorldFault.Start node (StartFault.Store StoreFault.OutOfMemory)) → S.may_refuse }
+
+        // Stores that obey and fail no more are so again, and none has failed.
+        ensures calm { AllCalm (map S.seen stores.items) → IfOk result (λ w. AllCalm (stores_of w) × (failures (stores_of w) ≡ failures (map S.seen stores.items))) }
+    {
+        if repeats(config) {
+            return Err(WorldFault::Repeated);
+        }
+        let addresses = addresses(alloc, config)?;
+        let (servers, mut routers) = nodes(alloc, config, &addresses, stores)?;
+        start_all(alloc, &mut routers, servers.len())?;
+        Ok(World {
+            alloc,
+            addresses,
+            clock: 0,
+            bag: Vec::new(alloc),
+            servers,
+            routers,
+        })
+    }
+}
+
+// Whether two nodes have one address, or two routers one identity.
+fn repeats<E: Allocator>(config: &Config<E>) -> bool
+    ensures exact { result ≡ repeats config.now }
+    ensures network { result ≡ false → IsNetwork config.now }
+{
+    let (servers, routers) = (config.servers(), config.routers());
+    servers_repeat(servers, routers) || routers_repeat(routers)
+}
+
+// Whether a Map-Server has the address of another one behind it, or of a router.
+fn servers_repeat<E: Allocator>(servers: &[ServerEntry<E>], routers: &[RouterEntry<E>]) -> bool
+    ensures { (result || has_twice (λ a b. addr_eq a.address b.address) routers.now) ≡ has_twice addr_eq (map (λ s. s.address) servers.now ++ map (λ r. r.address) routers.now) }
+{
+    for (i, server) in servers.iter().enumerate() {
+        if is_server_at(&servers[i + 1..], server.address)
+            || is_router_at(routers, server.address)
+        {
+            return true;
+        }
+    }
+    false
+}
+
+// Whether a router has the address or the identity of another one behind it.
+fn routers_repeat<E: Allocator>(routers: &[RouterEntry<E>]) -> bool
+    ensures { result ≡ (has_twice (λ a b. addr_eq a.address b.address) routers.now || has_twice (λ a b. router_eq a.me b.me) routers.now) }
+{
+    for (i, router) in routers.iter().enumerate() {
+        if is_router_at(&routers[i + 1..], router.address)
+            || is_router(&routers[i + 1..], router.me)
+        {
+            return true;
+        }
+    }
+    false
+}
+
+// Whether a Map-Server has the address.
+fn is_server_at<E: Allocator>(servers: &[ServerEntry<E>], address: Addr) -> bool
+    ensures { result ≡ list_any (λ s. addr_eq address s.address) servers.now }
+{
+    servers.iter().any(|server| address == server.address)
+}
+
+// Whether a router has the address.
+fn is_router_at<E: Allocator>(routers: &[RouterEntry<E>], address: Addr) -> bool
+    ensures { result ≡ list_any (λ r. addr_eq address r.address) routers.now }
+{
+    routers.iter().any(|router| is_at(router, address))
+}
+
+// Whether it is the router's.
+fn is_at<E: Allocator>(router: &RouterEntry<E>, address: Addr) -> bool
+    ensures { result ≡ addr_eq address router.now.address }
+{
+    address == router.address
+}
+
+// Whether a router has the identity.
+fn is_router<E: Allocator>(routers: &[RouterEntry<E>], me: RouterId) -> bool
+    ensures { result ≡ list_any (λ r. router_eq me r.me) routers.now }
+{
+    routers.iter().any(|router| me == router.me)
+}
+
+// The addresses of the nodes, in their order.
+fn addresses<A: Memory, E: Allocator>(
+    alloc: A,
+    config: &Config<E>,
+) -> Result<Vec<Addr, A>, AllocError>
+    ensures addresses { IfOk result (λ v. v.items ≡ addresses_of config.now) }
+    ensures memory { OnErr result A.may_refuse }
+{
+    let mut addresses = Vec::new(alloc);
+    for server in config.servers() {
+        addresses.try_push(server.address)?;
+    }
+    for router in config.routers() {
+        addresses.try_push(router.address)?;
+    }
+    Ok(addresses)
+}
+
+/// The Map-Servers and the routers of a network.
+type Nodes<S, A> = (Vec<ServerNode<S, A>, A>, Vec<RouterNode<S, A>, A>);
+
+// The nodes of a configuration, each over its store: Map-Servers that hold nothing, and routers that are down.
+fn nodes<S: WorldStore, A: Memory + Copy, E: Allocator>(
+    alloc: A,
+    config: &Config<E>,
+    addresses: &[Addr],
+    stores: Vec<S, A>,
+) -> Result<Nodes<S, A>, AllocError>
+where
+    S: Drop,
+    requires count { length stores.items ≡ length config.now.servers + length config.now.routers }
+    requires addresses { addresses.now ≡ addresses_of config.now }
+    ensures nodes { IfOk result (λ n. AreNodes config.now (map S.seen stores.items) n.0.items n.1.items) }
+    ensures memory { OnErr result A.may_refuse }
+{
+    let count = config.servers().len();
+    let mut servers = Vec::new(alloc);
+    let mut routers = Vec::new(alloc);
+    for store in stores {
+        if servers.len() < count {
+            servers.try_push(server(alloc, config, store)?)?;
+        } else {
+            let place = routers.len();
+            routers.try_push(router(alloc, config, addresses, place, store)?)?;
+        }
+    }
+    Ok((servers, routers))
+}
+
+// A Map-Server of the configuration over its store, which holds nothing.
+fn server<S: WorldStore, A: Memory + Copy, E: Allocator>(
+    alloc: A,
+    config: &Config<E>,
+    store: S,
+) -> Result<ServerNode<S, A>, AllocError>
+where
+    S: Drop,
+    ensures server { IfOk result (λ n. n ≡ server_over config.now (S.seen store)) }
+    ensures memory { OnErr result A.may_refuse }
+{
+    let sites = config.sites().copy(alloc)?;
+    Ok(ServerNode::start(alloc, sites, store))
+}
+
+// The router at a place of the configuration over its store, not yet started.
+fn router<S: WorldStore, A: Memory + Copy, E: Allocator>(
+    alloc: A,
+    config: &Config<E>,
+    addresses: &[Addr],
+    place: usize,
+    store: S,
+) -> Result<RouterNode<S, A>, AllocError>
+where
+    S: Drop,
+    requires addresses { addresses.now ≡ addresses_of config.now }
+    requires place { place < length config.now.routers }
+    ensures router { IfOk result (λ n. IsRouterOver config.now place (S.seen store) n) }
+    ensures memory { OnErr result A.may_refuse }
+{
+    let entry = &config.routers()[place];
+    down(alloc, config, addresses, entry, store)
+}
+
+// A router over its store, not yet started.
+fn down<S: WorldStore, A: Memory + Copy, E: Allocator>(
+    alloc: A,
+    config: &Config<E>,
+    addresses: &[Addr],
+    entry: &RouterEntry<E>,
+    store: S,
+) -> Result<RouterNode<S, A>, AllocError>
+where
+    S: Drop,
+    requires addresses { addresses.now ≡ addresses_of config.now }
+    requires servers { HasServers config.now.servers entry.now }
+    ensures router { IfOk result (λ n. n ≡ router_over config.now entry.now (S.seen store)) }
+    ensures memory { OnErr result A.may_refuse }
+{
+    let servers = Vec::try_from_slice(alloc, entry.servers.as_slice())?;
+    let settings = settings(alloc, config, addresses, entry)?;
+    let database = entry.database.copy(alloc)?;
+    Ok(RouterNode {
+        me: entry.me,
+        key_id: entry.key_id,
+        servers: Places::from_vec(servers),
+        core: RouterCore::Down {
+            config: settings,
+            database,
+        },
+        store,
+    })
+}
+
+// What a router is configured with: the secret of its key, and the addresses of its Map-Servers.
+fn settings<A: Memory + Copy, E: Allocator>(
+    alloc: A,
+    config: &Config<E>,
+    addresses: &[Addr],
+    entry: &RouterEntry<E>,
+) -> Result<EtrConfig<A>, AllocError>
+    requires addresses { addresses.now ≡ addresses_of config.now }
+    requires servers { HasServers config.now.servers entry.now }
+    ensures settings { IfOk result (λ s. s ≡ settings_of config.now entry.now) }
+    ensures memory { OnErr result A.may_refuse }
+{
+    let secret = secret(alloc, config, entry)?;
+    let servers = each_address(alloc, addresses, entry.servers.as_slice())?;
+    Ok(EtrConfig {
+        me: entry.me,
+        key_id: entry.key_id,
+        secret: Bytes::from_vec(secret),
+        servers: Servers::from_vec(servers),
+        proxy: entry.proxy,
+        use_ttl: entry.use_ttl,
+    })
+}
+
+// The secret of a router's key; no bytes where its site has no such key.
+fn secret<A: Memory + Copy, E: Allocator>(
+    alloc: A,
+    config: &Config<E>,
+    entry: &RouterEntry<E>,
+) -> Result<Vec<u8, A>, AllocError>
+    ensures secret { IfOk result (λ v. v.items ≡ secret_at config.now.sites entry.now.me.site entry.now.key_id) }
+    ensures memory { OnErr result A.may_refuse }
+{
+    match secret_at(config.sites(), entry.me.site, entry.key_id) {
+        Some(secret) => Vec::try_from_slice(alloc, secret),
+        None => Ok(Vec::new(alloc)),
+    }
+}
+
+// The addresses at these places.
+fn each_address<A: Memory + Copy>(
+    alloc: A,
+    addresses: &[Addr],
+    places: &[usize],
+) -> Result<Vec<Addr, A>, AllocError>
+    requires { AllByRecursion (λ place. place < length addresses.now) places.now }
+    ensures addresses { IfOk result (λ v. v.items ≡ map (λ place. slice_index_or addresses.now place (V4 [])) places.now) }
+    ensures memory { OnErr result A.may_refuse }
+{
+    let mut found = Vec::new(alloc);
+    for place in places {
+        found.try_push(addresses[*place])?;
+    }
+    Ok(found)
+}
+
+// Starts each router at the moment 0; the number of the first that doesn't start, and why.
+fn start_all<S: WorldStore, A: Memory + Copy>(
+    alloc: A,
+    routers: &mut [RouterNode<S, A>],
+    first: usize,
+) -> Result<(), WorldFault>
+    requires { first + length routers.old < 2 ^ 64 }
+    ensures started { OnOk result (HaveStarted routers.old routers.new) }
+    ensures faults { IfErr result (λ fault. IsStartFault fault A.may_refuse S.may_refuse) }
+{
+    for i in 0..routers.len() {
+        if let Err(fault) = start(alloc, &mut routers[i]) {
+            let node = first + i;
+            return Err(WorldFault::Start { node, fault });
+        }
+    }
+    Ok(())
+}
+
+// Starts a router at the moment 0.
+fn start<S: WorldStore, A: Memory + Copy>(
+    alloc: A,
+    router: &mut RouterNode<S, A>,
+) -> Result<(), StartFault>
+    ensures started { OnOk result (HasStarted router.old router.new) }
+    ensures memory { IsErrOf result StartFault.OutOfMemory → A.may_refuse }
+    ensures store_memory { IsErrOf result (StartFault.Store StoreFault.OutOfMemory) → S.may_refuse }
+{
+    let how = Start {
+        alloc,
+        now: 0,
+        db: None,
+    };
+    replace_with(router, how, RouterNode::start)
+}

@@ -1,0 +1,78 @@
+//! The nodes of a network by their numbers and addresses.
+
+ghost use Rattle.std.specs.Prelude.{◌≡◌, ◌+◌, ◌<◌, IfOk, length, slice_index_or};
+ghost use Rattle.lisp_world.specs.Faults.{is_missing, is_server, node_fault, router_fault, pair_fault, refusal_of};
+ghost use Rattle.lisp_world.specs.Turns.{address_of, node_with};
+
+use crate::fault::WorldFault;
+use crate::world::World;
+use lisp_records::Addr;
+use lisp_store::WorldStore;
+use std::alloc::Allocator;
+
+impl<S: WorldStore, A: Allocator> World<S, A> {
+    // The address of a node.
+    pub(crate) fn address(&self, node: usize) -> Addr
+        requires { node < length self.now.addresses }
+        ensures { result ≡ address_of self.now node }
+    {
+        self.addresses[node]
+    }
+
+    // The first node with an address.
+    pub(crate) fn node_with(&self, address: &Addr) -> Option<usize>
+        ensures { result ≡ node_with self.now address.now }
+    {
+        self.addresses.iter().position(|other| other == address)
+    }
+
+    fn is_missing(&self, node: usize) -> bool
+        ensures { result ≡ is_missing self.now node }
+    {
+        self.addresses.len() <= node
+    }
+
+    // Whether the node is a Map-Server.
+    pub(crate) fn is_server(&self, node: usize) -> bool
+        ensures { result ≡ is_server self.now node }
+    {
+        node < self.servers.len()
+    }
+
+    // Refuses the number of no node.
+    pub(crate) fn check_node(&self, node: usize) -> Result<(), WorldFault>
+        ensures { refusal_of result ≡ node_fault self.now node }
+    {
+        if self.is_missing(node) {
+            return Err(WorldFault::NoNode);
+        }
+        Ok(())
+    }
+
+    // The place of a router among the routers.
+    pub(crate) fn router_place(&self, router: usize) -> Result<usize, WorldFault>
+        ensures place { IfOk result (λ place. (router ≡ length self.now.servers + place) × (place < length self.now.routers)) }
+        ensures fault { refusal_of result ≡ router_fault self.now router }
+    {
+        self.check_node(router)?;
+        if self.is_server(router) {
+            return Err(WorldFault::WrongKind);
+        }
+        Ok(router - self.servers.len())
+    }
+
+    // The place of a router among the routers, beside a Map-Server.
+    pub(crate) fn place_beside(&self, server: usize, router: usize) -> Result<usize, WorldFault>
+        ensures place { IfOk result (λ place. (router ≡ length self.now.servers + place) × (place < length self.now.routers)) }
+        ensures server { IfOk result (λ place. server < length self.now.servers) }
+        ensures fault { refusal_of result ≡ pair_fault self.now router server }
+    {
+        if self.is_missing(router) || self.is_missing(server) {
+            return Err(WorldFault::NoNode);
+        }
+        if self.is_server(router) || !self.is_server(server) {
+            return Err(WorldFault::WrongKind);
+        }
+        Ok(router - self.servers.len())
+    }
+}

@@ -1,0 +1,44 @@
+//! A Map-Server sends a notice again.
+
+ghost use Rattle.std.specs.Prelude.{◌≡◌, IfOk, OnErr, IsErrOf};
+ghost use Rattle.lisp_schedules.specs.Memory.{MayTell};
+ghost use Rattle.lisp_world.specs.Faults.{Faults, pair_fault};
+ghost use Rattle.lisp_world.specs.Turns.{ResendsFrom};
+
+use crate::datagram::{Datagram, post};
+use crate::fault::WorldFault;
+use crate::world::World;
+use lisp_memory::{FallibleVec, Memory};
+use lisp_schedules::{Line, Refusal};
+use lisp_store::WorldStore;
+
+impl<S: WorldStore, A: Memory + Copy> World<S, A> {
+    // A Map-Server sends a router a notice again that is due.
+    pub(crate) fn resend(&mut self, server: usize, router: usize) -> Result<Line, WorldFault>
+        ensures resends { IfOk result (λ line. ResendsFrom self.old self.new server router line) }
+        ensures fault { Faults (pair_fault self.old router server) result }
+        ensures err { OnErr result (self.new ≡ self.old) }
+        ensures memory { IsErrOf result WorldFault.OutOfMemory → A.may_refuse }
+        ensures tells { IfOk result (MayTell A.may_refuse S.may_refuse) }
+    {
+        let place = self.place_beside(server, router)?;
+        self.bag.make_room(1)?;
+        let (from, me) = (self.address(server), self.routers[place].me);
+        let datagram = self.bag.len();
+        let clock = self.clock;
+        Ok(match self.servers[server].resend(&me, clock) {
+            Ok((to, bytes)) => {
+                post(&mut self.bag, Datagram { from, to, bytes });
+                Line::Resent {
+                    server,
+                    router,
+                    datagram,
+                }
+            }
+            Err(fault) => Line::Refused {
+                node: server,
+                what: Refusal::Notice(fault),
+            },
+        })
+    }
+}

@@ -1,0 +1,75 @@
+//! A node stops and starts again.
+
+ghost use Rattle.std.specs.Prelude.{◌≡◌, ◌≤◌, ◌<◌, IfOk, OnOk, OnErr, IsErrOf, length};
+ghost use Rattle.lisp_schedules.specs.Memory.{MayTell};
+ghost use Rattle.lisp_schedules.specs.Legal.{Fits};
+ghost use Rattle.lisp_world.specs.Faults.{Faults, restart_fault};
+ghost use Rattle.lisp_world.specs.Turns.{RestartsServer, RestartsAt, RestartsNode};
+
+use crate::fault::WorldFault;
+use crate::router_node::Start;
+use crate::world::World;
+use lisp_memory::Memory;
+use lisp_records::Database;
+use lisp_schedules::{Line, Refusal};
+use lisp_store::WorldStore;
+use std::alloc::Allocator;
+
+impl<S: WorldStore, A: Memory + Copy> World<S, A> {
+    // A node stops, its store crashes, and it starts again, a router with another database where one is given.
+    pub(crate) fn restart<E: Allocator>(
+        &mut self,
+        node: usize,
+        pick: u64,
+        db: &Option<Database<E>>,
+    ) -> Result<Line, WorldFault>
+        ensures restarts { IfOk result (λ line. RestartsNode self.old self.new node db.now line) }
+        ensures fits { OnOk result (Fits db.now) }
+        ensures fault { Faults (restart_fault self.old node db.now) result }
+        ensures err { OnErr result (self.new ≡ self.old) }
+        ensures memory { IsErrOf result WorldFault.OutOfMemory → A.may_refuse }
+        ensures tells { IfOk result (MayTell A.may_refuse S.may_refuse) }
+    {
+        self.check_node(node)?;
+        if self.is_server(node) {
+            return match db {
+                None => Ok(self.restart_server(node, pick)),
+                Some(_) => Err(WorldFault::WrongKind),
+            };
+        }
+        let db = match db {
+            None => None,
+            Some(db) => Some(db.copy(self.alloc)?),
+        };
+        Ok(self.restart_router(node, pick, db))
+    }
+
+    fn restart_server(&mut self, node: usize, pick: u64) -> Line
+        requires { node < length self.old.servers }
+        ensures { RestartsServer self.old self.new node result }
+    {
+        let alloc = self.alloc;
+        self.servers[node].restart(alloc, pick);
+        Line::Restarted { node }
+    }
+
+    fn restart_router(&mut self, node: usize, pick: u64, db: Option<Database<A>>) -> Line
+        requires { (length self.old.servers ≤ node) × (node < length self.old.addresses) }
+        ensures restarts { RestartsAt self.old self.new node db result }
+        ensures tells { MayTell A.may_refuse S.may_refuse result }
+    {
+        let how = Start {
+            alloc: self.alloc,
+            now: self.clock,
+            db,
+        };
+        let place = node - self.servers.len();
+        match self.routers[place].restart(pick, how) {
+            Ok(()) => Line::Restarted { node },
+            Err(fault) => Line::Refused {
+                node,
+                what: Refusal::Start(fault),
+            },
+        }
+    }
+}

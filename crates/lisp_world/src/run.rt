@@ -1,0 +1,49 @@
+//! A network takes events, one after another.
+
+ghost use Rattle.std.specs.Prelude.{◌≡◌, ◌<◌, ◌++◌, ◌∷◌, [], MatchResult, IfErr, map};
+ghost use Rattle.std.specs.Vec.{vec_len, vec_capacity};
+ghost use Rattle.lisp_schedules.specs.Trace.{happening};
+ghost use Rattle.lisp_world.specs.Quiet.{AllCalm, stores_of};
+ghost use Rattle.lisp_world.specs.Runs.{RunsOn, StopsAt};
+ghost use Rattle.lisp_world.specs.declared.fault.WorldFault.TheVariants.{OutOfMemory};
+
+use crate::fault::WorldFault;
+use crate::world::World;
+use lisp_memory::{FallibleVec, Memory};
+use lisp_schedules::{Event, Line};
+use lisp_store::WorldStore;
+use std::alloc::Allocator;
+
+impl<S: WorldStore, A: Memory + Copy> World<S, A> {
+    /// Takes events in their order, and appends the line of each. It stops at the first that it doesn't take: the
+    /// place of that event, from 0 on, and why; `OutOfMemory` also where there is no room for its line. The
+    /// events before it were taken, and their lines stand.
+    pub fn run<E: Allocator>(
+        &mut self,
+        events: &[Event<E>],
+        lines: &mut Vec<Line, A>,
+    ) -> Result<(), (usize, WorldFault)>
+        ensures runs { MatchResult result (λ done. RunsOn self.old self.new lines.old.items lines.new.items (map happening events.now)) (λ at. StopsAt self.old self.new lines.old.items lines.new.items (map happening events.now) at.0 at.1) }
+        ensures memory { IfErr result (λ at. at.1 ≡ OutOfMemory → A.may_refuse) }
+        ensures calm { AllCalm (stores_of self.old) → AllCalm (stores_of self.new) }
+    {
+        for (i, event) in events.iter().enumerate() {
+            if lines.make_room(1).is_err() {
+                return Err((i, WorldFault::OutOfMemory));
+            }
+            match self.step(event) {
+                Ok(line) => add(lines, line),
+                Err(fault) => return Err((i, fault)),
+            }
+        }
+        Ok(())
+    }
+}
+
+// A line goes to the end, where there is room.
+fn add<A: Memory>(lines: &mut Vec<Line, A>, line: Line)
+    requires { vec_len lines.old < vec_capacity lines.old }
+    ensures { lines.new.items ≡ lines.old.items ++ line ∷ [] }
+{
+    let _ = lines.try_push(line);
+}

@@ -1,0 +1,56 @@
+//! A network takes an event.
+
+ghost use Rattle.std.specs.Prelude.{◌≡◌, IfOk, OnErr, IsErrOf};
+ghost use Rattle.lisp_schedules.specs.Memory.{MayTell};
+ghost use Rattle.lisp_schedules.specs.Trace.{happening};
+ghost use Rattle.lisp_world.specs.Faults.{Faults, fault_of};
+ghost use Rattle.lisp_world.specs.Quiet.{KeepsCalm, fate_of};
+ghost use Rattle.lisp_world.specs.Stands.{StandsAfter};
+
+use crate::fault::WorldFault;
+use crate::world::World;
+use lisp_memory::Memory;
+use lisp_schedules::{Event, Line};
+use lisp_store::WorldStore;
+use std::alloc::Allocator;
+
+impl<S: WorldStore, A: Memory + Copy> World<S, A> {
+    /// Takes one event, and says what it came to. The store of the node that acts is armed with the event's
+    /// fate for the one call that is made, and with `Done` after it; a node's refusal is a line.
+    ///
+    /// What keeps it from taking the event is found before the call, in this order, and changes nothing:
+    /// `NoNode`, `WrongKind`, `NoDatagram`, `Clock` (the moment would be above 2^62 ms), `OutOfMemory` (for a
+    /// datagram or a database; every other event takes no memory).
+    pub fn step<E: Allocator>(&mut self, event: &Event<E>) -> Result<Line, WorldFault>
+        // It stands for each trace that it stood for, followed by this event with its line.
+        ensures stands { IfOk result (λ line. StandsAfter self.old self.new (happening event.now) line) }
+        ensures fault { Faults (fault_of self.old (happening event.now)) result }
+        ensures err { OnErr result (self.new ≡ self.old) }
+
+        // Only where memory may be refused, or a store's memory, a fault or a line says so.
+        ensures memory { IsErrOf result WorldFault.OutOfMemory → A.may_refuse }
+        ensures tells { IfOk result (MayTell A.may_refuse S.may_refuse) }
+
+        // Stores that obey and fail no more are so again, and none fails unless the event makes it.
+        ensures calm { KeepsCalm self.old self.new (fate_of (happening event.now)) }
+    {
+        match event {
+            Event::Change { router, db } => self.change(*router, db),
+            Event::Send {
+                router,
+                server,
+                fate,
+            } => self.send(*router, *server, *fate),
+            Event::Deliver { k, fate } => self.deliver(*k, *fate),
+            Event::Junk { to, from, bytes } => self.junk(*to, *from, bytes.as_slice()),
+            Event::Tick(ms) => self.tick(*ms),
+            Event::Restart { node, pick, db } => self.restart(*node, *pick, db),
+            Event::Notice {
+                server,
+                router,
+                fate,
+            } => self.notice(*server, *router, *fate),
+            Event::Resend { server, router } => self.resend(*server, *router),
+        }
+    }
+}

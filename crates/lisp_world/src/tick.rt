@@ -1,0 +1,44 @@
+//! Time passes.
+
+ghost use Rattle.std.specs.Prelude.{◌≡◌, ◌≤◌, IfOk, OnErr, length};
+ghost use Rattle.lisp_records.specs.Moment.{max_moment};
+ghost use Rattle.lisp_world.specs.Faults.{tick_fault, refusal_of};
+ghost use Rattle.lisp_world.specs.Turns.{Ticks, ExpiresEach};
+
+use crate::fault::WorldFault;
+use crate::server_node::ServerNode;
+use crate::world::World;
+use lisp_memory::Memory;
+use lisp_records::MAX_MOMENT;
+use lisp_schedules::Line;
+use lisp_store::WorldStore;
+
+impl<S: WorldStore, A: Memory + Copy> World<S, A> {
+    // Time passes, in ms, and each Map-Server drops its dead rows.
+    pub(crate) fn tick(&mut self, ms: u64) -> Result<Line, WorldFault>
+        ensures ticks { IfOk result (λ line. Ticks self.old self.new ms line) }
+        ensures fault { refusal_of result ≡ tick_fault self.old ms }
+        ensures err { OnErr result (self.new ≡ self.old) }
+    {
+        if MAX_MOMENT - self.clock < ms {
+            return Err(WorldFault::Clock);
+        }
+        self.clock += ms;
+        expire_all(&mut self.servers, self.clock);
+        Ok(Line::Ticked {
+            ms,
+            now: self.clock,
+        })
+    }
+}
+
+// Each Map-Server drops the rows that are dead at a time, in ms.
+fn expire_all<S: WorldStore, A: Memory + Copy>(servers: &mut [ServerNode<S, A>], now: u64)
+    requires { now ≤ max_moment }
+    ensures count { length servers.new ≡ length servers.old }
+    ensures each { ExpiresEach servers.old servers.new now }
+{
+    for server in servers.iter_mut() {
+        server.expire(now);
+    }
+}
