@@ -8,13 +8,13 @@ use std::alloc::Global;
 use std::process::Abort;
 
 /// The numbers of the nodes of the worked configuration.
-pub(crate) const S1: usize = 0;
+pub(crate) const SERVER_ONE: usize = 0;
 
-pub(crate) const S2: usize = 1;
+pub(crate) const SERVER_TWO: usize = 1;
 
-pub(crate) const R1: usize = 2;
+pub(crate) const ROUTER_ONE: usize = 2;
 
-pub(crate) const R2: usize = 3;
+pub(crate) const ROUTER_TWO: usize = 3;
 
 /// The identity of a router of the worked site, by the last byte of its xTR-ID.
 pub(crate) fn router_id(last: u8) -> RouterId {

@@ -1,7 +1,7 @@
 //! Each fault of a network, which leaves it as it was.
 
 use crate::deed::Deed::{Change, Deliver, Junk, Notice, Resend, Restart, RestartWith, Send, Tick};
-use crate::deed::{R1, S1};
+use crate::deed::{ROUTER_ONE, SERVER_ONE};
 use crate::step::Step::{Does, Fails, Stands};
 use crate::step::{Schedule, run_all};
 use crate::told::Told::Ticked;
@@ -17,17 +17,17 @@ const FAULTS: [Schedule<'static>; 1] = [(
     "each fault",
     &[
         Fails(Change(NOBODY, &[]), WorldFault::NoNode),
-        Fails(Change(S1, &[]), WorldFault::WrongKind),
-        Fails(Send(R1, NOBODY), WorldFault::NoNode),
-        Fails(Send(NOBODY, R1), WorldFault::NoNode),
-        Fails(Send(S1, R1), WorldFault::WrongKind),
-        Fails(Send(R1, R1), WorldFault::WrongKind),
+        Fails(Change(SERVER_ONE, &[]), WorldFault::WrongKind),
+        Fails(Send(ROUTER_ONE, NOBODY), WorldFault::NoNode),
+        Fails(Send(NOBODY, ROUTER_ONE), WorldFault::NoNode),
+        Fails(Send(SERVER_ONE, ROUTER_ONE), WorldFault::WrongKind),
+        Fails(Send(ROUTER_ONE, ROUTER_ONE), WorldFault::WrongKind),
         Fails(Deliver(0), WorldFault::NoDatagram),
         Fails(Junk(NOBODY, [127, 0, 0, 1], &[]), WorldFault::NoNode),
         Fails(Restart(NOBODY, 0), WorldFault::NoNode),
-        Fails(RestartWith(S1, &[]), WorldFault::WrongKind),
-        Fails(Notice(R1, S1), WorldFault::WrongKind),
-        Fails(Resend(S1, NOBODY), WorldFault::NoNode),
+        Fails(RestartWith(SERVER_ONE, &[]), WorldFault::WrongKind),
+        Fails(Notice(ROUTER_ONE, SERVER_ONE), WorldFault::WrongKind),
+        Fails(Resend(SERVER_ONE, NOBODY), WorldFault::NoNode),
         Does(Tick(LAST_MOMENT), Ticked(LAST_MOMENT, LAST_MOMENT)),
         Fails(Tick(1), WorldFault::Clock),
         Fails(Tick(u64::MAX), WorldFault::Clock),

@@ -1,8 +1,8 @@
-//! Refused memory in a network: an event is taken, or it is refused for want of memory, changes nothing, and is taken
+//! Refused memory in a network: an event is taken, or it is refused because memory ran out, changes nothing, and is taken
 //! when it comes again; so is a question for the rows of a Map-Server.
 
 use crate::deed::Deed::{Change, Deliver, Notice, Resend, RestartWith, Send, SendInDoubt, Tick};
-use crate::deed::{Deed, R1, S1};
+use crate::deed::{Deed, ROUTER_ONE, SERVER_ONE};
 use crate::network::{Network, configuration, network};
 use crate::step::Step::{self, Does, Holds};
 use crate::step::{take_all, takes};
@@ -23,20 +23,35 @@ const FIRST_NOTICE: u64 = 0x8000_0000_0000_0000;
 
 /// Each event after those before it.
 const EVENTS: [Step<'static>; 12] = [
-    Does(Change(R1, &["10.1.0.0/16=7"]), Changed(R1, 1)),
-    Does(Send(R1, S1), Sent(R1, S1, 1, 0)),
-    Does(Deliver(0), Accepted(S1, 0x0a, 1, 1)),
-    Holds(S1, &[(0x0a, "10.1.0.0/16=7", 1, 0)]),
-    Does(Deliver(1), Counted(R1, S1, 1)),
-    Does(Notice(S1, R1), Announced(S1, R1, FIRST_NOTICE, 2)),
-    Does(Deliver(2), Noticed(R1, S1, FIRST_NOTICE, 3)),
-    Does(Tick(3_000), Ticked(3_000, 3_000)),
-    Does(Resend(S1, R1), Resent(S1, R1, 4)),
-    Does(Deliver(3), Ended(S1, 0x0a, FIRST_NOTICE)),
-    Does(RestartWith(R1, &["10.1.0.0/16=7"]), Restarted(R1)),
     Does(
-        SendInDoubt(R1, S1),
-        Sends(R1, SendFault::Store(StoreFault::Device)),
+        Change(ROUTER_ONE, &["10.1.0.0/16=7"]),
+        Changed(ROUTER_ONE, 1),
+    ),
+    Does(
+        Send(ROUTER_ONE, SERVER_ONE),
+        Sent(ROUTER_ONE, SERVER_ONE, 1, 0),
+    ),
+    Does(Deliver(0), Accepted(SERVER_ONE, 0x0a, 1, 1)),
+    Holds(SERVER_ONE, &[(0x0a, "10.1.0.0/16=7", 1, 0)]),
+    Does(Deliver(1), Counted(ROUTER_ONE, SERVER_ONE, 1)),
+    Does(
+        Notice(SERVER_ONE, ROUTER_ONE),
+        Announced(SERVER_ONE, ROUTER_ONE, FIRST_NOTICE, 2),
+    ),
+    Does(Deliver(2), Noticed(ROUTER_ONE, SERVER_ONE, FIRST_NOTICE, 3)),
+    Does(Tick(3_000), Ticked(3_000, 3_000)),
+    Does(
+        Resend(SERVER_ONE, ROUTER_ONE),
+        Resent(SERVER_ONE, ROUTER_ONE, 4),
+    ),
+    Does(Deliver(3), Ended(SERVER_ONE, 0x0a, FIRST_NOTICE)),
+    Does(
+        RestartWith(ROUTER_ONE, &["10.1.0.0/16=7"]),
+        Restarted(ROUTER_ONE),
+    ),
+    Does(
+        SendInDoubt(ROUTER_ONE, SERVER_ONE),
+        Sends(ROUTER_ONE, SendFault::Store(StoreFault::Device)),
     ),
 ];
 

@@ -4,7 +4,7 @@ use crate::deed::Deed::{
     Change, Deliver, DeliverWith, Junk, Notice, NoticeInDoubt, Resend, Restart, RestartWith, Send,
     SendInDoubt, Tick,
 };
-use crate::deed::{R1, R2, S1, S2};
+use crate::deed::{ROUTER_ONE, ROUTER_TWO, SERVER_ONE, SERVER_TWO};
 use crate::messages::{NOTIFY, REGISTER};
 use crate::step::Step::{self, Acked, Answers, Datagram, Does, HasNoticeDue, Holds, IsDue, Stands};
 use crate::step::{Schedule, Who, run_all};
@@ -40,78 +40,123 @@ const EXCHANGES: [Schedule<'static>; 6] = [
     (
         "an empty database",
         &[
-            Does(Change(R1, &[]), Changed(R1, 0)),
-            Does(Send(R1, S1), Sent(R1, S1, 1, 0)),
+            Does(Change(ROUTER_ONE, &[]), Changed(ROUTER_ONE, 0)),
+            Does(
+                Send(ROUTER_ONE, SERVER_ONE),
+                Sent(ROUTER_ONE, SERVER_ONE, 1, 0),
+            ),
             Datagram(0, 56, &[0x3a, 0, 1, 0]),
-            Does(Deliver(0), Accepted(S1, ONE, 1, 1)),
+            Does(Deliver(0), Accepted(SERVER_ONE, ONE, 1, 1)),
             Datagram(1, 32, &[0x40, 0, 0, 0]),
-            Holds(S1, &[]),
+            Holds(SERVER_ONE, &[]),
         ],
     ),
     (
         "the worked exchange, and a replay",
         &[
-            Does(Send(R1, S1), Sent(R1, S1, 1, 0)),
+            Does(
+                Send(ROUTER_ONE, SERVER_ONE),
+                Sent(ROUTER_ONE, SERVER_ONE, 1, 0),
+            ),
             Datagram(0, 84, &REGISTER),
-            Does(Deliver(0), Accepted(S1, ONE, 1, 1)),
+            Does(Deliver(0), Accepted(SERVER_ONE, ONE, 1, 1)),
             Datagram(1, 60, &NOTIFY),
-            Does(Deliver(1), Counted(R1, S1, 1)),
-            Holds(S1, &[(0x0a, RECORD, 1, 0)]),
-            Acked(R1, 0, Some((1, 1))),
-            Acked(R1, 1, None),
-            Does(Deliver(0), Receives(S1, Refused::Replay { saved: 1 })),
+            Does(Deliver(1), Counted(ROUTER_ONE, SERVER_ONE, 1)),
+            Holds(SERVER_ONE, &[(0x0a, RECORD, 1, 0)]),
+            Acked(ROUTER_ONE, 0, Some((1, 1))),
+            Acked(ROUTER_ONE, 1, None),
+            Does(
+                Deliver(0),
+                Receives(SERVER_ONE, Refused::Replay { saved: 1 }),
+            ),
             Stands(2, 0),
         ],
     ),
     (
         "an older Map-Register after a newer one",
         &[
-            Does(Send(R1, S1), Sent(R1, S1, 1, 0)),
-            Does(Change(R1, &["10.1.0.0/16=60+192.0.2.9"]), Changed(R1, 1)),
-            Does(Send(R1, S1), Sent(R1, S1, 2, 1)),
-            Does(Deliver(1), Accepted(S1, ONE, 2, 2)),
-            Does(Deliver(0), Receives(S1, Refused::Replay { saved: 2 })),
-            Holds(S1, &[(0x0a, "10.1.0.0/16=60+192.0.2.9", 2, 0)]),
+            Does(
+                Send(ROUTER_ONE, SERVER_ONE),
+                Sent(ROUTER_ONE, SERVER_ONE, 1, 0),
+            ),
+            Does(
+                Change(ROUTER_ONE, &["10.1.0.0/16=60+192.0.2.9"]),
+                Changed(ROUTER_ONE, 1),
+            ),
+            Does(
+                Send(ROUTER_ONE, SERVER_ONE),
+                Sent(ROUTER_ONE, SERVER_ONE, 2, 1),
+            ),
+            Does(Deliver(1), Accepted(SERVER_ONE, ONE, 2, 2)),
+            Does(
+                Deliver(0),
+                Receives(SERVER_ONE, Refused::Replay { saved: 2 }),
+            ),
+            Holds(SERVER_ONE, &[(0x0a, "10.1.0.0/16=60+192.0.2.9", 2, 0)]),
         ],
     ),
     (
         "only the last Map-Register is counted",
         &[
-            Does(Send(R1, S1), Sent(R1, S1, 1, 0)),
-            Does(Deliver(0), Accepted(S1, ONE, 1, 1)),
+            Does(
+                Send(ROUTER_ONE, SERVER_ONE),
+                Sent(ROUTER_ONE, SERVER_ONE, 1, 0),
+            ),
+            Does(Deliver(0), Accepted(SERVER_ONE, ONE, 1, 1)),
             Does(Tick(1_000), Ticked(1_000, 1_000)),
-            IsDue(R1, Some(0)),
-            Does(Send(R1, S1), Sent(R1, S1, 2, 2)),
-            Does(Deliver(2), Accepted(S1, ONE, 2, 3)),
-            Does(Deliver(3), Counted(R1, S1, 2)),
-            Does(Deliver(1), Hears(R1, NotifyFault::Stale { latest: 2 })),
+            IsDue(ROUTER_ONE, Some(0)),
+            Does(
+                Send(ROUTER_ONE, SERVER_ONE),
+                Sent(ROUTER_ONE, SERVER_ONE, 2, 2),
+            ),
+            Does(Deliver(2), Accepted(SERVER_ONE, ONE, 2, 3)),
+            Does(Deliver(3), Counted(ROUTER_ONE, SERVER_ONE, 2)),
+            Does(
+                Deliver(1),
+                Hears(ROUTER_ONE, NotifyFault::Stale { latest: 2 }),
+            ),
         ],
     ),
     (
         "a Map-Notify counts from its own Map-Server alone",
         &[
-            Does(Send(R1, S1), Sent(R1, S1, 1, 0)),
             Does(
-                Junk(R1, [127, 0, 0, 12], &NOTIFY),
-                Hears(R1, NotifyFault::Stale { latest: 0 }),
+                Send(ROUTER_ONE, SERVER_ONE),
+                Sent(ROUTER_ONE, SERVER_ONE, 1, 0),
             ),
             Does(
-                Junk(R1, [127, 0, 0, 99], &NOTIFY),
-                Hears(R1, NotifyFault::NotMine),
+                Junk(ROUTER_ONE, [127, 0, 0, 12], &NOTIFY),
+                Hears(ROUTER_ONE, NotifyFault::Stale { latest: 0 }),
             ),
-            Does(Junk(R1, [127, 0, 0, 11], &NOTIFY), Counted(R1, S1, 1)),
+            Does(
+                Junk(ROUTER_ONE, [127, 0, 0, 99], &NOTIFY),
+                Hears(ROUTER_ONE, NotifyFault::NotMine),
+            ),
+            Does(
+                Junk(ROUTER_ONE, [127, 0, 0, 11], &NOTIFY),
+                Counted(ROUTER_ONE, SERVER_ONE, 1),
+            ),
         ],
     ),
     (
         "two Map-Servers, and a change between them",
         &[
-            Does(Send(R1, S1), Sent(R1, S1, 1, 0)),
-            Does(Deliver(0), Accepted(S1, ONE, 1, 1)),
-            Does(Change(R1, &["10.1.0.0/16=7"]), Changed(R1, 1)),
-            Does(Send(R1, S2), Sent(R1, S2, 2, 2)),
-            Does(Deliver(2), Accepted(S2, ONE, 2, 3)),
-            Holds(S1, &[(0x0a, RECORD, 1, 0)]),
-            Holds(S2, &[(0x0a, "10.1.0.0/16=7", 2, 0)]),
+            Does(
+                Send(ROUTER_ONE, SERVER_ONE),
+                Sent(ROUTER_ONE, SERVER_ONE, 1, 0),
+            ),
+            Does(Deliver(0), Accepted(SERVER_ONE, ONE, 1, 1)),
+            Does(
+                Change(ROUTER_ONE, &["10.1.0.0/16=7"]),
+                Changed(ROUTER_ONE, 1),
+            ),
+            Does(
+                Send(ROUTER_ONE, SERVER_TWO),
+                Sent(ROUTER_ONE, SERVER_TWO, 2, 2),
+            ),
+            Does(Deliver(2), Accepted(SERVER_TWO, ONE, 2, 3)),
+            Holds(SERVER_ONE, &[(0x0a, RECORD, 1, 0)]),
+            Holds(SERVER_TWO, &[(0x0a, "10.1.0.0/16=7", 2, 0)]),
         ],
     ),
 ];
@@ -120,108 +165,174 @@ const RESTARTS: [Schedule<'static>; 8] = [
     (
         "a Map-Server that restarts holds nothing and remembers its nonces",
         &[
-            Does(Send(R1, S1), Sent(R1, S1, 1, 0)),
-            Does(Send(R1, S1), Sent(R1, S1, 2, 1)),
-            Does(Send(R1, S1), Sent(R1, S1, 3, 2)),
-            Does(Deliver(2), Accepted(S1, ONE, 3, 3)),
-            Does(Restart(S1, 0), Restarted(S1)),
-            Holds(S1, &[]),
-            Does(Deliver(2), Receives(S1, Refused::Replay { saved: 3 })),
-            Does(Send(R1, S1), Sent(R1, S1, 4, 4)),
-            Does(Deliver(4), Accepted(S1, ONE, 4, 5)),
+            Does(
+                Send(ROUTER_ONE, SERVER_ONE),
+                Sent(ROUTER_ONE, SERVER_ONE, 1, 0),
+            ),
+            Does(
+                Send(ROUTER_ONE, SERVER_ONE),
+                Sent(ROUTER_ONE, SERVER_ONE, 2, 1),
+            ),
+            Does(
+                Send(ROUTER_ONE, SERVER_ONE),
+                Sent(ROUTER_ONE, SERVER_ONE, 3, 2),
+            ),
+            Does(Deliver(2), Accepted(SERVER_ONE, ONE, 3, 3)),
+            Does(Restart(SERVER_ONE, 0), Restarted(SERVER_ONE)),
+            Holds(SERVER_ONE, &[]),
+            Does(
+                Deliver(2),
+                Receives(SERVER_ONE, Refused::Replay { saved: 3 }),
+            ),
+            Does(
+                Send(ROUTER_ONE, SERVER_ONE),
+                Sent(ROUTER_ONE, SERVER_ONE, 4, 4),
+            ),
+            Does(Deliver(4), Accepted(SERVER_ONE, ONE, 4, 5)),
         ],
     ),
     (
         "a router's save in doubt that is lost",
         &[
-            Does(Send(R1, S1), Sent(R1, S1, 1, 0)),
             Does(
-                SendInDoubt(R1, S1),
-                Sends(R1, SendFault::Store(StoreFault::Device)),
+                Send(ROUTER_ONE, SERVER_ONE),
+                Sent(ROUTER_ONE, SERVER_ONE, 1, 0),
             ),
-            Does(Restart(R1, 0), Restarted(R1)),
-            Does(Send(R1, S1), Sent(R1, S1, 2, 1)),
+            Does(
+                SendInDoubt(ROUTER_ONE, SERVER_ONE),
+                Sends(ROUTER_ONE, SendFault::Store(StoreFault::Device)),
+            ),
+            Does(Restart(ROUTER_ONE, 0), Restarted(ROUTER_ONE)),
+            Does(
+                Send(ROUTER_ONE, SERVER_ONE),
+                Sent(ROUTER_ONE, SERVER_ONE, 2, 1),
+            ),
         ],
     ),
     (
         "a router's save in doubt that is kept",
         &[
-            Does(Send(R1, S1), Sent(R1, S1, 1, 0)),
             Does(
-                SendInDoubt(R1, S1),
-                Sends(R1, SendFault::Store(StoreFault::Device)),
+                Send(ROUTER_ONE, SERVER_ONE),
+                Sent(ROUTER_ONE, SERVER_ONE, 1, 0),
             ),
-            Does(Restart(R1, 1), Restarted(R1)),
-            Does(Send(R1, S1), Sent(R1, S1, 3, 1)),
+            Does(
+                SendInDoubt(ROUTER_ONE, SERVER_ONE),
+                Sends(ROUTER_ONE, SendFault::Store(StoreFault::Device)),
+            ),
+            Does(Restart(ROUTER_ONE, 1), Restarted(ROUTER_ONE)),
+            Does(
+                Send(ROUTER_ONE, SERVER_ONE),
+                Sent(ROUTER_ONE, SERVER_ONE, 3, 1),
+            ),
         ],
     ),
     (
         "a Map-Server's save in doubt that is lost",
         &[
-            Does(Send(R1, S1), Sent(R1, S1, 1, 0)),
-            Does(Send(R1, S1), Sent(R1, S1, 2, 1)),
-            Does(Deliver(0), Accepted(S1, ONE, 1, 2)),
+            Does(
+                Send(ROUTER_ONE, SERVER_ONE),
+                Sent(ROUTER_ONE, SERVER_ONE, 1, 0),
+            ),
+            Does(
+                Send(ROUTER_ONE, SERVER_ONE),
+                Sent(ROUTER_ONE, SERVER_ONE, 2, 1),
+            ),
+            Does(Deliver(0), Accepted(SERVER_ONE, ONE, 1, 2)),
             Does(
                 DeliverWith(1, Fate::Doubt),
-                Receives(S1, Refused::StoreSave(StoreFault::Device)),
+                Receives(SERVER_ONE, Refused::StoreSave(StoreFault::Device)),
             ),
-            Does(Restart(S1, 0), Restarted(S1)),
-            Does(Deliver(1), Accepted(S1, ONE, 2, 3)),
+            Does(Restart(SERVER_ONE, 0), Restarted(SERVER_ONE)),
+            Does(Deliver(1), Accepted(SERVER_ONE, ONE, 2, 3)),
         ],
     ),
     (
         "a Map-Server's save in doubt that is kept, and a load that fails",
         &[
-            Does(Send(R1, S1), Sent(R1, S1, 1, 0)),
+            Does(
+                Send(ROUTER_ONE, SERVER_ONE),
+                Sent(ROUTER_ONE, SERVER_ONE, 1, 0),
+            ),
             Does(
                 DeliverWith(0, Fate::LoadFails),
-                Receives(S1, Refused::StoreLoad(StoreFault::Device)),
+                Receives(SERVER_ONE, Refused::StoreLoad(StoreFault::Device)),
             ),
             Does(
                 DeliverWith(0, Fate::Doubt),
-                Receives(S1, Refused::StoreSave(StoreFault::Device)),
+                Receives(SERVER_ONE, Refused::StoreSave(StoreFault::Device)),
             ),
-            Does(Restart(S1, 1), Restarted(S1)),
-            Does(Deliver(0), Receives(S1, Refused::Replay { saved: 1 })),
+            Does(Restart(SERVER_ONE, 1), Restarted(SERVER_ONE)),
+            Does(
+                Deliver(0),
+                Receives(SERVER_ONE, Refused::Replay { saved: 1 }),
+            ),
         ],
     ),
     (
         "a Map-Server that restarts forgets its notices and remembers their nonces",
         &[
-            Does(Send(R1, S1), Sent(R1, S1, 1, 0)),
-            Does(Deliver(0), Accepted(S1, ONE, 1, 1)),
-            Does(Notice(S1, R1), Announced(S1, R1, FIRST_NOTICE, 2)),
-            Does(Restart(S1, 0), Restarted(S1)),
-            Does(Notice(S1, R1), Notifies(S1, NoticeFault::NotRegistered)),
-            Does(Send(R1, S1), Sent(R1, S1, 2, 3)),
-            Does(Deliver(3), Accepted(S1, ONE, 2, 4)),
-            Does(Notice(S1, R1), Announced(S1, R1, SECOND_NOTICE, 5)),
-            Does(Deliver(2), Noticed(R1, S1, FIRST_NOTICE, 6)),
-            Does(Deliver(6), Receives(S1, Refused::NoNotice)),
-            Does(Deliver(5), Noticed(R1, S1, SECOND_NOTICE, 7)),
-            Does(Deliver(7), Ended(S1, ONE, SECOND_NOTICE)),
+            Does(
+                Send(ROUTER_ONE, SERVER_ONE),
+                Sent(ROUTER_ONE, SERVER_ONE, 1, 0),
+            ),
+            Does(Deliver(0), Accepted(SERVER_ONE, ONE, 1, 1)),
+            Does(
+                Notice(SERVER_ONE, ROUTER_ONE),
+                Announced(SERVER_ONE, ROUTER_ONE, FIRST_NOTICE, 2),
+            ),
+            Does(Restart(SERVER_ONE, 0), Restarted(SERVER_ONE)),
+            Does(
+                Notice(SERVER_ONE, ROUTER_ONE),
+                Notifies(SERVER_ONE, NoticeFault::NotRegistered),
+            ),
+            Does(
+                Send(ROUTER_ONE, SERVER_ONE),
+                Sent(ROUTER_ONE, SERVER_ONE, 2, 3),
+            ),
+            Does(Deliver(3), Accepted(SERVER_ONE, ONE, 2, 4)),
+            Does(
+                Notice(SERVER_ONE, ROUTER_ONE),
+                Announced(SERVER_ONE, ROUTER_ONE, SECOND_NOTICE, 5),
+            ),
+            Does(Deliver(2), Noticed(ROUTER_ONE, SERVER_ONE, FIRST_NOTICE, 6)),
+            Does(Deliver(6), Receives(SERVER_ONE, Refused::NoNotice)),
+            Does(
+                Deliver(5),
+                Noticed(ROUTER_ONE, SERVER_ONE, SECOND_NOTICE, 7),
+            ),
+            Does(Deliver(7), Ended(SERVER_ONE, ONE, SECOND_NOTICE)),
         ],
     ),
     (
         "a notice whose nonce is in doubt does not stand",
         &[
-            Does(Send(R1, S1), Sent(R1, S1, 1, 0)),
-            Does(Deliver(0), Accepted(S1, ONE, 1, 1)),
             Does(
-                NoticeInDoubt(S1, R1),
-                Notifies(S1, NoticeFault::StoreSave(StoreFault::Device)),
+                Send(ROUTER_ONE, SERVER_ONE),
+                Sent(ROUTER_ONE, SERVER_ONE, 1, 0),
+            ),
+            Does(Deliver(0), Accepted(SERVER_ONE, ONE, 1, 1)),
+            Does(
+                NoticeInDoubt(SERVER_ONE, ROUTER_ONE),
+                Notifies(SERVER_ONE, NoticeFault::StoreSave(StoreFault::Device)),
             ),
             Does(Tick(3_000), Ticked(3_000, 3_000)),
-            HasNoticeDue(S1, false),
-            Does(Notice(S1, R1), Announced(S1, R1, FIRST_NOTICE, 2)),
+            HasNoticeDue(SERVER_ONE, false),
+            Does(
+                Notice(SERVER_ONE, ROUTER_ONE),
+                Announced(SERVER_ONE, ROUTER_ONE, FIRST_NOTICE, 2),
+            ),
         ],
     ),
     (
         "a router restarts with another database",
         &[
-            Does(Restart(R1, 0), Restarted(R1)),
-            Does(RestartWith(R1, &[]), Restarted(R1)),
-            Does(Send(R1, S1), Sent(R1, S1, 1, 0)),
+            Does(Restart(ROUTER_ONE, 0), Restarted(ROUTER_ONE)),
+            Does(RestartWith(ROUTER_ONE, &[]), Restarted(ROUTER_ONE)),
+            Does(
+                Send(ROUTER_ONE, SERVER_ONE),
+                Sent(ROUTER_ONE, SERVER_ONE, 1, 0),
+            ),
             Datagram(0, 56, &[0x3a, 0, 1, 0]),
         ],
     ),
@@ -231,48 +342,72 @@ const ANSWERS: [Schedule<'static>; 2] = [
     (
         "who answers for an address",
         &[
-            Answers(S1, [11, 0, 0, 1], Who::NoSite),
-            Answers(S1, [10, 1, 2, 3], Who::NotRegistered),
-            Does(Send(R1, S1), Sent(R1, S1, 1, 0)),
-            Does(Deliver(0), Accepted(S1, ONE, 1, 1)),
-            Answers(S1, [10, 1, 2, 3], Who::Reply(1440)),
-            Does(Send(R2, S1), Sent(R2, S1, 1, 2)),
-            Does(Deliver(2), Accepted(S1, TWO, 1, 3)),
-            Answers(S1, [10, 1, 2, 3], Who::Forward([127, 0, 0, 22])),
+            Answers(SERVER_ONE, [11, 0, 0, 1], Who::NoSite),
+            Answers(SERVER_ONE, [10, 1, 2, 3], Who::NotRegistered),
+            Does(
+                Send(ROUTER_ONE, SERVER_ONE),
+                Sent(ROUTER_ONE, SERVER_ONE, 1, 0),
+            ),
+            Does(Deliver(0), Accepted(SERVER_ONE, ONE, 1, 1)),
+            Answers(SERVER_ONE, [10, 1, 2, 3], Who::Reply(1440)),
+            Does(
+                Send(ROUTER_TWO, SERVER_ONE),
+                Sent(ROUTER_TWO, SERVER_ONE, 1, 2),
+            ),
+            Does(Deliver(2), Accepted(SERVER_ONE, TWO, 1, 3)),
+            Answers(SERVER_ONE, [10, 1, 2, 3], Who::Forward([127, 0, 0, 22])),
         ],
     ),
     (
         "a record dies at its life",
         &[
-            Does(Send(R1, S1), Sent(R1, S1, 1, 0)),
-            Does(Deliver(0), Accepted(S1, ONE, 1, 1)),
+            Does(
+                Send(ROUTER_ONE, SERVER_ONE),
+                Sent(ROUTER_ONE, SERVER_ONE, 1, 0),
+            ),
+            Does(Deliver(0), Accepted(SERVER_ONE, ONE, 1, 1)),
             Does(Tick(179_999), Ticked(179_999, 179_999)),
-            Holds(S1, &[(0x0a, RECORD, 1, 0)]),
-            Answers(S1, [10, 1, 2, 3], Who::Reply(1440)),
+            Holds(SERVER_ONE, &[(0x0a, RECORD, 1, 0)]),
+            Answers(SERVER_ONE, [10, 1, 2, 3], Who::Reply(1440)),
             Does(Tick(1), Ticked(1, 180_000)),
-            Holds(S1, &[]),
-            Answers(S1, [10, 1, 2, 3], Who::NotRegistered),
+            Holds(SERVER_ONE, &[]),
+            Answers(SERVER_ONE, [10, 1, 2, 3], Who::NotRegistered),
         ],
     ),
 ];
 
 const NOTICES: [Step<'static>; 16] = [
-    Does(Send(R1, S1), Sent(R1, S1, 1, 0)),
-    Does(Deliver(0), Accepted(S1, ONE, 1, 1)),
-    Does(Notice(S1, R1), Announced(S1, R1, FIRST_NOTICE, 2)),
+    Does(
+        Send(ROUTER_ONE, SERVER_ONE),
+        Sent(ROUTER_ONE, SERVER_ONE, 1, 0),
+    ),
+    Does(Deliver(0), Accepted(SERVER_ONE, ONE, 1, 1)),
+    Does(
+        Notice(SERVER_ONE, ROUTER_ONE),
+        Announced(SERVER_ONE, ROUTER_ONE, FIRST_NOTICE, 2),
+    ),
     Datagram(2, 60, &NOTICE),
     Does(Tick(2_999), Ticked(2_999, 2_999)),
-    HasNoticeDue(S1, false),
-    Does(Resend(S1, R1), Notifies(S1, NoticeFault::NotDue)),
+    HasNoticeDue(SERVER_ONE, false),
+    Does(
+        Resend(SERVER_ONE, ROUTER_ONE),
+        Notifies(SERVER_ONE, NoticeFault::NotDue),
+    ),
     Does(Tick(1), Ticked(1, 3_000)),
-    HasNoticeDue(S1, true),
-    Does(Resend(S1, R1), Resent(S1, R1, 3)),
-    Does(Deliver(3), Noticed(R1, S1, FIRST_NOTICE, 4)),
+    HasNoticeDue(SERVER_ONE, true),
+    Does(
+        Resend(SERVER_ONE, ROUTER_ONE),
+        Resent(SERVER_ONE, ROUTER_ONE, 3),
+    ),
+    Does(Deliver(3), Noticed(ROUTER_ONE, SERVER_ONE, FIRST_NOTICE, 4)),
     Datagram(4, 60, &ACK),
-    Does(Deliver(4), Ended(S1, ONE, FIRST_NOTICE)),
-    HasNoticeDue(S1, false),
-    Does(Resend(S1, R1), Notifies(S1, NoticeFault::NotDue)),
-    Does(Deliver(4), Receives(S1, Refused::NoNotice)),
+    Does(Deliver(4), Ended(SERVER_ONE, ONE, FIRST_NOTICE)),
+    HasNoticeDue(SERVER_ONE, false),
+    Does(
+        Resend(SERVER_ONE, ROUTER_ONE),
+        Notifies(SERVER_ONE, NoticeFault::NotDue),
+    ),
+    Does(Deliver(4), Receives(SERVER_ONE, Refused::NoNotice)),
 ];
 
 const REFUSALS: [Schedule<'static>; 2] = [
@@ -280,10 +415,13 @@ const REFUSALS: [Schedule<'static>; 2] = [
     (
         "what nodes refuse",
         &[
-            Does(Send(R2, S2), Sends(R2, SendFault::NoServer)),
             Does(
-                Junk(S1, [127, 0, 0, 21], &[]),
-                Receives(S1, Refused::Read(ReadFault::Short)),
+                Send(ROUTER_TWO, SERVER_TWO),
+                Sends(ROUTER_TWO, SendFault::NoServer),
+            ),
+            Does(
+                Junk(SERVER_ONE, [127, 0, 0, 21], &[]),
+                Receives(SERVER_ONE, Refused::Read(ReadFault::Short)),
             ),
             Stands(0, 0),
         ],
