@@ -7,14 +7,14 @@ use Rattle.hex.specs.Hex.{decode_of, encode_lower}
 use Rattle.hex.specs.declared.error.FromHexError.{FromHexError}
 use Rattle.lisp_sites.specs.Site.{SiteEntry}
 use Rattle.lisp_answer.specs.Setup.{Setup, sites_of}
-use Rattle.lisp_answer.specs.Words.{refused_words}
+use Rattle.lisp_answer.specs.Words.{refusal_words}
 use Rattle.lisp_answer.specs.Answer.{Answer, Answers}
 
 -- an answer in words: the Map-Notify in digits, or why there is none
 abbrev pub answer_words : Answer → List ℕ
 answer_words (Ok (Some notify)) = encode_lower notify
 answer_words (Ok None) = codes "accepted"
-answer_words (Err refused) = refused_words refused
+answer_words (Err refused) = refusal_words refused
 
 -- the words for bytes that were decoded, where memory that may be refused may have run out; or for a text that
 -- is not hexadecimal

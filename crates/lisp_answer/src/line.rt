@@ -42,6 +42,6 @@ fn words_of<A: Memory>(
     match answer {
         Ok(Some(notify)) => hex::encode(alloc, notify.as_slice()),
         Ok(None) => String::try_from_str(alloc, "accepted"),
-        Err(refused) => words_of_refused(alloc, &refused),
+        Err(refused) => words_of_refused(alloc, refused),
     }
 }

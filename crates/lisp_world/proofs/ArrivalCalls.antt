@@ -23,9 +23,9 @@ use Rattle.lisp_server.specs.declared.took.Took.TheVariants.{Accepted, NoticeDon
 use Rattle.lisp_schedules.specs.declared.line.Line.{Line}
 use Rattle.lisp_schedules.specs.declared.refusal.Refusal.TheVariants as refusals
 use Rattle.lisp_schedules.specs.Memory.{MayTell, is_node_memory, is_store_memory}
-use Rattle.lisp_world.specs.World.{Posted, ServerNode, RouterNode, RouterCore, WorldState}
-use Rattle.lisp_world.specs.Calls.{config_of}
-use Rattle.lisp_world.specs.Turns.{address_of, node_with, server_line, router_line, acknowledges, posted, Arrives, ArrivesWhere, Delivers, HearsWhileUp, HearsAt}
+use Rattle.lisp_turns.specs.World.{Posted, ServerNode, RouterNode, RouterCore, WorldState}
+use Rattle.lisp_turns.specs.Calls.{config_of}
+use Rattle.lisp_turns.specs.Turns.{address_of, node_with, server_line, router_line, acknowledges, posted, Arrives, ArrivesWhere, Delivers, HearsWhileUp, HearsAt}
 use Rattle.lisp_world.specs.Faults.{datagram_fault, node_fault}
 use Rattle.lisp_world.specs.declared.fault.WorldFault.{WorldFault}
 use Rattle.lisp_world.proofs.Loops.{rewritten}

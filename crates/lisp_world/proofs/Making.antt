@@ -17,15 +17,15 @@ use Rattle.lisp_etr.proofs.TimerLaws.{rounds_keep_time}
 use Rattle.lisp_schedules.specs.Trace.{Shown, Opening, addresses, address_at, router_at, settings_of, shown}
 use Rattle.lisp_schedules.specs.Network.{IsNetwork}
 use Rattle.lisp_schedules.specs.Sending.{CountsFrom}
-use Rattle.lisp_world.specs.World.{Posted, ServerNode, RouterNode, RouterCore, WorldState}
-use Rattle.lisp_world.specs.Calls.{IsStarted}
+use Rattle.lisp_turns.specs.World.{Posted, ServerNode, RouterNode, RouterCore, WorldState}
+use Rattle.lisp_turns.specs.Calls.{IsStarted}
 use Rattle.lisp_world.specs.Making.{server_over, router_over, AreNodes, HasStarted, HaveStarted}
 use Rattle.lisp_world.specs.Openings.{opening, lists_of}
 use Rattle.lisp_world.specs.Quiet.{AllHonest, AllCalm, stores_of, failures}
-use Rattle.lisp_world.specs.Stands.{Shows, StandsForRound, StandsForEtr, StandsForCore, StandsForServer, StandsForRouter, Stands}
-use Rattle.lisp_world.proofs.Gets.{none_is_some, same_some, get_before, get_replicate, get_mapped}
+use Rattle.lisp_turns.specs.Stands.{Shows, StandsForRound, StandsForEtr, StandsForCore, StandsForServer, StandsForRouter, Stands}
+use Rattle.lisp_turns.proofs.Gets.{none_is_some, same_some, get_before, get_replicate, get_mapped}
 use Rattle.lisp_world.proofs.NodeCalls.{unused}
-use Rattle.lisp_world.proofs.Restarting.{no_row, no_nonce, no_notice}
+use Rattle.lisp_turns.proofs.Restarting.{no_row, no_nonce, no_notice}
 
 module _ {X : Type 0} where
   -- what stands in two lists, one behind the other, stands in the first one or in the second one

@@ -13,10 +13,10 @@ use Rattle.lisp_etr.specs.Sending.{registration_of}
 use Rattle.lisp_etr.specs.declared.send_fault.SendFault.{SendFault}
 use Rattle.lisp_schedules.specs.declared.line.Line.{Line}
 use Rattle.lisp_schedules.specs.declared.line.Line.TheVariants as lines
-use Rattle.lisp_world.specs.World.{Posted, RouterNode, RouterCore, Up, Down, WorldState}
-use Rattle.lisp_world.specs.Calls.{IsSentTo}
-use Rattle.lisp_world.specs.Turns.{RouterActs, is_up, change_line, SendsWhileUp, SaysSend, SendsAt}
-use Rattle.lisp_world.proofs.Heads.{head_written}
+use Rattle.lisp_turns.specs.World.{Posted, RouterNode, RouterCore, Up, Down, WorldState}
+use Rattle.lisp_turns.specs.Calls.{IsSentTo}
+use Rattle.lisp_turns.specs.Turns.{RouterActs, is_up, change_line, SendsWhileUp, SaysSend, SendsAt}
+use Rattle.lisp_turns.proofs.Heads.{head_written}
 
 -- a network with a bag is itself where that is its bag
 pub same_bag : (w : WorldState) (bag : List Posted) → w.bag ≡ bag → w ≡ record w { bag = bag }

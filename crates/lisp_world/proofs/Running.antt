@@ -9,9 +9,9 @@ use Rattle.std.proofs.Math.Seq.{take-suc}
 use Rattle.lisp_schedules.specs.Trace.{Happening, happening, Step, Opening}
 use Rattle.lisp_schedules.specs.declared.event.Event.{Event}
 use Rattle.lisp_schedules.specs.declared.line.Line.{Line}
-use Rattle.lisp_world.specs.World.{WorldState}
+use Rattle.lisp_turns.specs.World.{WorldState}
 use Rattle.lisp_world.specs.Faults.{Faults, fault_of}
-use Rattle.lisp_world.specs.Stands.{StandsAfter}
+use Rattle.lisp_turns.specs.Stands.{StandsAfter}
 use Rattle.lisp_world.specs.Runs.{Follows, RunsOn, StopsAt}
 use Rattle.lisp_world.specs.declared.fault.WorldFault.{WorldFault}
 use Rattle.lisp_world.specs.declared.fault.WorldFault.TheVariants.{OutOfMemory}

@@ -11,9 +11,9 @@ use Rattle.lisp_store.specs.Store.{StoreState}
 use Rattle.lisp_checks.specs.Nonces.{nonce_after}
 use Rattle.lisp_server.specs.SendNotice.{Announces, notice_of}
 use Rattle.lisp_server.specs.Server.{ServerState}
-use Rattle.lisp_world.specs.World.{Posted, ServerNode, WorldState}
-use Rattle.lisp_world.specs.Turns.{ServerActs}
-use Rattle.lisp_world.proofs.Heads.{head_written}
+use Rattle.lisp_turns.specs.World.{Posted, ServerNode, WorldState}
+use Rattle.lisp_turns.specs.Turns.{ServerActs}
+use Rattle.lisp_turns.proofs.Heads.{head_written}
 
 -- the Map-Server with a number changed, and these datagrams went to the end of the bag
 abbrev pub server_acted : (old : WorldState) (node : ℕ) (before after : ServerNode) (bag more : List Posted)

@@ -3,7 +3,7 @@ use Rattle.std.specs.Prelude.{◌≡◌, ℕ, ◌+◌, ◌&&◌, ◌||◌, nat_l
 use Rattle.lisp_records.specs.Moment.{max_moment}
 use Rattle.lisp_schedules.specs.Trace.{Happening}
 use Rattle.lisp_schedules.specs.declared.event.Event.TheVariants as events
-use Rattle.lisp_world.specs.World.{WorldState}
+use Rattle.lisp_turns.specs.World.{WorldState}
 use Rattle.lisp_world.specs.declared.fault.WorldFault.{WorldFault}
 use Rattle.lisp_world.specs.declared.fault.WorldFault.TheVariants as faults
 

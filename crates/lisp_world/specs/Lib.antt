@@ -1,12 +1,6 @@
 pub mod Faults
-pub mod World
 pub mod Cores
-pub mod Nodes
-pub mod Calls
-pub mod Turns
-pub mod Stands
 pub mod Runs
 pub mod Quiet
 pub mod Openings
 pub mod Making
-pub mod Asked

@@ -7,8 +7,8 @@ use Rattle.lisp_store.specs.declared.fault.StoreFault.TheVariants as faults
 use Rattle.lisp_etr.specs.declared.start_fault.StartFault.{StartFault}
 use Rattle.lisp_etr.specs.declared.start_fault.StartFault.TheVariants as start_faults
 use Rattle.lisp_schedules.specs.Trace.{settings_of}
-use Rattle.lisp_world.specs.World.{ServerNode, RouterNode, Down}
-use Rattle.lisp_world.specs.Calls.{StartsOver, config_of, database_of}
+use Rattle.lisp_turns.specs.World.{ServerNode, RouterNode, Down}
+use Rattle.lisp_turns.specs.Calls.{StartsOver, config_of, database_of}
 use Rattle.lisp_world.specs.declared.fault.WorldFault.{WorldFault}
 use Rattle.lisp_world.specs.declared.fault.WorldFault.TheVariants.{Start}
 

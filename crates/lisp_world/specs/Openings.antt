@@ -7,7 +7,7 @@ use Rattle.lisp_sites.specs.Configuration.{Configuration}
 use Rattle.lisp_store.specs.Kept.{Kept}
 use Rattle.lisp_store.specs.Store.{StoreState}
 use Rattle.lisp_schedules.specs.Trace.{Opening, addresses}
-use Rattle.lisp_world.specs.World.{WorldState}
+use Rattle.lisp_turns.specs.World.{WorldState}
 use Rattle.lisp_world.specs.Quiet.{stores_of}
 
 -- two of a list are alike

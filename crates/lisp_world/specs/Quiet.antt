@@ -5,7 +5,7 @@ use Rattle.lisp_store.specs.declared.fate.Fate.{Fate}
 use Rattle.lisp_store.specs.declared.fate.Fate.TheVariants.{Done}
 use Rattle.lisp_schedules.specs.Trace.{Happening}
 use Rattle.lisp_schedules.specs.declared.event.Event.TheVariants as events
-use Rattle.lisp_world.specs.World.{WorldState}
+use Rattle.lisp_turns.specs.World.{WorldState}
 
 -- the stores of the nodes, Map-Servers first
 abbrev pub stores_of : WorldState → List StoreState

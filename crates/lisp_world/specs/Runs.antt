@@ -2,9 +2,9 @@
 use Rattle.std.specs.Prelude.{◌≡◌, ◌⊎◌, ◌<◌, ℕ, List, ◌++◌, length, map, reverse, take, slice_get, Some}
 use Rattle.lisp_schedules.specs.Trace.{Happening, Step, Opening}
 use Rattle.lisp_schedules.specs.declared.line.Line.{Line}
-use Rattle.lisp_world.specs.World.{WorldState}
+use Rattle.lisp_turns.specs.World.{WorldState}
 use Rattle.lisp_world.specs.Faults.{fault_of}
-use Rattle.lisp_world.specs.Stands.{Stands}
+use Rattle.lisp_turns.specs.Stands.{Stands}
 use Rattle.lisp_world.specs.declared.fault.WorldFault.{WorldFault}
 use Rattle.lisp_world.specs.declared.fault.WorldFault.TheVariants.{OutOfMemory}
 

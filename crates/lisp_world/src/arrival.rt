@@ -5,8 +5,8 @@ ghost use Rattle.std.specs.Vec.{vec_len, vec_capacity};
 ghost use Rattle.lisp_etr.specs.Etr.{EtrState};
 ghost use Rattle.lisp_records.specs.declared.address.Addr.{Addr};
 ghost use Rattle.lisp_schedules.specs.Memory.{MayTell};
-ghost use Rattle.lisp_world.specs.World.{WorldState};
-ghost use Rattle.lisp_world.specs.Turns.{server_line, server_number, replies, router_line, acknowledges, posted, address_of, Arrives, HearsAt};
+ghost use Rattle.lisp_turns.specs.World.{WorldState};
+ghost use Rattle.lisp_turns.specs.Turns.{server_line, server_number, replies, router_line, acknowledges, posted, address_of, Arrives, HearsAt};
 
 use crate::datagram::{Datagram, post};
 use crate::router_node::RouterNode;

@@ -2,7 +2,7 @@
 
 ghost use Rattle.std.specs.Prelude.{◌≡◌, IfOk, OnErr, IsErrOf};
 ghost use Rattle.lisp_world.specs.Faults.{Faults, router_fault};
-ghost use Rattle.lisp_world.specs.Turns.{Changes};
+ghost use Rattle.lisp_turns.specs.Turns.{Changes};
 
 use crate::fault::WorldFault;
 use crate::world::World;

@@ -3,7 +3,7 @@
 ghost use Rattle.std.specs.Prelude.{◌≡◌, IfOk, OnErr, IsErrOf};
 ghost use Rattle.lisp_schedules.specs.Memory.{MayTell};
 ghost use Rattle.lisp_world.specs.Faults.{Faults, datagram_fault, refusal_of};
-ghost use Rattle.lisp_world.specs.Turns.{Delivers};
+ghost use Rattle.lisp_turns.specs.Turns.{Delivers};
 
 use crate::arrival::{Arrival, hear, post_reply};
 use crate::fault::WorldFault;

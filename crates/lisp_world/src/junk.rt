@@ -4,7 +4,7 @@ ghost use Rattle.std.specs.Prelude.{◌≡◌, IfOk, OnErr, IsErrOf};
 ghost use Rattle.lisp_store.specs.declared.fate.Fate.TheVariants.{Done};
 ghost use Rattle.lisp_schedules.specs.Memory.{MayTell};
 ghost use Rattle.lisp_world.specs.Faults.{Faults, node_fault};
-ghost use Rattle.lisp_world.specs.Turns.{Arrives};
+ghost use Rattle.lisp_turns.specs.Turns.{Arrives};
 
 use crate::arrival::{Arrival, hear, post_reply};
 use crate::fault::WorldFault;

@@ -4,13 +4,11 @@
 
 mod arming;
 mod arrival;
-pub mod asked;
 mod change;
 mod datagram;
 mod deliver;
 mod fault;
 mod junk;
-pub mod laws;
 mod new;
 mod nodes;
 mod notice;

@@ -14,7 +14,8 @@ ghost use Rattle.lisp_schedules.specs.Network.{IsNetwork};
 ghost use Rattle.lisp_world.specs.Making.{server_over, router_over, IsRouterOver, AreNodes, HasStarted, HaveStarted, IsStartFault};
 ghost use Rattle.lisp_world.specs.Openings.{has_twice, repeats, opening, lists_of};
 ghost use Rattle.lisp_world.specs.Quiet.{AllHonest, AllCalm, stores_of, failures};
-ghost use Rattle.lisp_world.specs.Stands.{Stands};
+ghost use Rattle.lisp_turns.specs.Headline.{Promises};
+ghost use Rattle.lisp_turns.specs.Stands.{Stands};
 
 use crate::fault::WorldFault;
 use crate::router_core::RouterCore;
@@ -47,6 +48,7 @@ impl<S: WorldStore, A: Memory + Copy> World<S, A> {
 
         // Over honest stores it stands for its opening.
         ensures stands { AllHonest (map S.seen stores.items) → IfOk result (λ w. Stands w (opening config.now w) []) }
+        ensures headline { IfOk result (λ w. Promises w) }
         ensures lists { AllHonest (map S.seen stores.items) → IfOk result (λ w. lists_of (stores_of w) ≡ lists_of (map S.seen stores.items)) }
         ensures repeated { (result ≡ Err WorldFault.Repeated) ↔ (repeats config.now ≡ true) }
         ensures memory { IsErrOf result WorldFault.OutOfMemory → A.may_refuse }

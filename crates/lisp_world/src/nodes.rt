@@ -2,7 +2,7 @@
 
 ghost use Rattle.std.specs.Prelude.{◌≡◌, ◌+◌, ◌<◌, IfOk, length, slice_index_or};
 ghost use Rattle.lisp_world.specs.Faults.{is_missing, is_server, node_fault, router_fault, pair_fault, refusal_of};
-ghost use Rattle.lisp_world.specs.Turns.{address_of, node_with};
+ghost use Rattle.lisp_turns.specs.Turns.{address_of, node_with};
 
 use crate::fault::WorldFault;
 use crate::world::World;

@@ -3,7 +3,7 @@
 ghost use Rattle.std.specs.Prelude.{◌≡◌, IfOk, OnErr, IsErrOf};
 ghost use Rattle.lisp_schedules.specs.Memory.{MayTell};
 ghost use Rattle.lisp_world.specs.Faults.{Faults, pair_fault};
-ghost use Rattle.lisp_world.specs.Turns.{NoticesFrom};
+ghost use Rattle.lisp_turns.specs.Turns.{NoticesFrom};
 
 use crate::datagram::{Datagram, post_message};
 use crate::fault::WorldFault;

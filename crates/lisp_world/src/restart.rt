@@ -4,7 +4,7 @@ ghost use Rattle.std.specs.Prelude.{◌≡◌, ◌≤◌, ◌<◌, IfOk, OnOk, O
 ghost use Rattle.lisp_schedules.specs.Memory.{MayTell};
 ghost use Rattle.lisp_schedules.specs.Legal.{Fits};
 ghost use Rattle.lisp_world.specs.Faults.{Faults, restart_fault};
-ghost use Rattle.lisp_world.specs.Turns.{RestartsServer, RestartsAt, RestartsNode};
+ghost use Rattle.lisp_turns.specs.Turns.{RestartsServer, RestartsAt, RestartsNode};
 
 use crate::fault::WorldFault;
 use crate::router_node::Start;

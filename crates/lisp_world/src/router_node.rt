@@ -7,10 +7,10 @@ ghost use Rattle.lisp_store.specs.declared.fault.StoreFault.{StoreFault};
 ghost use Rattle.lisp_etr.specs.declared.notify_fault.NotifyFault.{NotifyFault};
 ghost use Rattle.lisp_etr.specs.declared.send_fault.SendFault.{SendFault};
 ghost use Rattle.lisp_etr.specs.declared.start_fault.StartFault.{StartFault};
-ghost use Rattle.lisp_world.specs.Calls.{config_of, database_of, StartsOver, RestartsRouter};
+ghost use Rattle.lisp_turns.specs.Calls.{config_of, database_of, StartsOver, RestartsRouter};
 ghost use Rattle.lisp_world.specs.Cores.{core_of};
-ghost use Rattle.lisp_world.specs.Turns.{changed_core, is_up, place_of, SendsWhileUp, HearsWhileUp};
-ghost use Rattle.lisp_world.specs.Nodes.{up_in};
+ghost use Rattle.lisp_turns.specs.Turns.{changed_core, is_up, place_of, SendsWhileUp, HearsWhileUp};
+ghost use Rattle.lisp_turns.specs.Nodes.{up_in};
 
 use crate::arming::arm;
 use crate::router_core::RouterCore;
@@ -46,9 +46,9 @@ impl<S: WorldStore, A: Allocator> Model for RouterNode<S, A> {
     ghost use Rattle.std.specs.Prelude.{◌≡◌};
     ghost use Rattle.std.specs.Coded.{codes};
     ghost use Rattle.lisp_store.specs.Kept.{kept_code};
-    ghost use Rattle.lisp_world.specs.Calls.{config_of};
+    ghost use Rattle.lisp_turns.specs.Calls.{config_of};
     ghost use Rattle.lisp_world.specs.Cores.{core_of};
-    ghost use Rattle.lisp_world.specs.World.{RouterNode};
+    ghost use Rattle.lisp_turns.specs.World.{RouterNode};
 
     ghost Value = { RouterNode };
 

@@ -6,6 +6,7 @@ ghost use Rattle.lisp_schedules.specs.Trace.{happening};
 ghost use Rattle.lisp_world.specs.Quiet.{AllCalm, stores_of};
 ghost use Rattle.lisp_world.specs.Runs.{RunsOn, StopsAt};
 ghost use Rattle.lisp_world.specs.declared.fault.WorldFault.TheVariants.{OutOfMemory};
+ghost use Rattle.lisp_turns.specs.Headline.{Promises};
 
 use crate::fault::WorldFault;
 use crate::world::World;
@@ -24,6 +25,7 @@ impl<S: WorldStore, A: Memory + Copy> World<S, A> {
         lines: &mut Vec<Line, A>,
     ) -> Result<(), (usize, WorldFault)>
         ensures runs { MatchResult result (λ done. RunsOn self.old self.new lines.old.items lines.new.items (map happening events.now)) (λ at. StopsAt self.old self.new lines.old.items lines.new.items (map happening events.now) at.0 at.1) }
+        ensures headline { Promises self.new }
         ensures memory { IfErr result (λ at. at.1 ≡ OutOfMemory → A.may_refuse) }
         ensures calm { AllCalm (stores_of self.old) → AllCalm (stores_of self.new) }
     {

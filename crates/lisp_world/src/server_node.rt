@@ -6,8 +6,8 @@ ghost use Rattle.lisp_records.specs.Moment.{max_moment};
 ghost use Rattle.lisp_store.specs.declared.fault.StoreFault.{StoreFault};
 ghost use Rattle.lisp_checks.specs.declared.refused.Refused.{Refused};
 ghost use Rattle.lisp_checks.specs.declared.notice_fault.NoticeFault.{NoticeFault};
-ghost use Rattle.lisp_world.specs.Calls.{Receives, Notifies, Restarts};
-ghost use Rattle.lisp_world.specs.Turns.{ExpiresNode, ResendsTo};
+ghost use Rattle.lisp_turns.specs.Calls.{Receives, Notifies, Restarts};
+ghost use Rattle.lisp_turns.specs.Turns.{ExpiresNode, ResendsTo};
 
 use crate::arming::arm;
 use core::mem::replace_with;
@@ -30,7 +30,7 @@ impl<S: WorldStore, A: Allocator> Model for ServerNode<S, A> {
     ghost use Rattle.std.specs.Coded.{codes};
     ghost use Rattle.lisp_store.specs.Kept.{kept_code};
     ghost use Rattle.lisp_server.specs.LastNonces.{nonces_code};
-    ghost use Rattle.lisp_world.specs.World.{ServerNode};
+    ghost use Rattle.lisp_turns.specs.World.{ServerNode};
 
     ghost Value = { ServerNode };
 

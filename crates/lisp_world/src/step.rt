@@ -5,7 +5,8 @@ ghost use Rattle.lisp_schedules.specs.Memory.{MayTell};
 ghost use Rattle.lisp_schedules.specs.Trace.{happening};
 ghost use Rattle.lisp_world.specs.Faults.{Faults, fault_of};
 ghost use Rattle.lisp_world.specs.Quiet.{KeepsCalm, fate_of};
-ghost use Rattle.lisp_world.specs.Stands.{StandsAfter};
+ghost use Rattle.lisp_turns.specs.Headline.{Promises};
+ghost use Rattle.lisp_turns.specs.Stands.{StandsAfter};
 
 use crate::fault::WorldFault;
 use crate::world::World;
@@ -24,6 +25,7 @@ impl<S: WorldStore, A: Memory + Copy> World<S, A> {
     pub fn step<E: Allocator>(&mut self, event: &Event<E>) -> Result<Line, WorldFault>
         // It stands for each trace that it stood for, followed by this event with its line.
         ensures stands { IfOk result (λ line. StandsAfter self.old self.new (happening event.now) line) }
+        ensures headline { Promises self.new }
         ensures fault { Faults (fault_of self.old (happening event.now)) result }
         ensures err { OnErr result (self.new ≡ self.old) }
 

@@ -3,7 +3,7 @@
 ghost use Rattle.std.specs.Prelude.{◌≡◌, ◌≤◌, IfOk, OnErr, length};
 ghost use Rattle.lisp_records.specs.Moment.{max_moment};
 ghost use Rattle.lisp_world.specs.Faults.{tick_fault, refusal_of};
-ghost use Rattle.lisp_world.specs.Turns.{Ticks, ExpiresEach};
+ghost use Rattle.lisp_turns.specs.Turns.{Ticks, ExpiresEach};
 
 use crate::fault::WorldFault;
 use crate::server_node::ServerNode;

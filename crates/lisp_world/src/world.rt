@@ -2,7 +2,7 @@
 
 ghost use Rattle.std.specs.Prelude.{◌≡◌, length, slice_get};
 ghost use Rattle.std.specs.Option.{option_map};
-ghost use Rattle.lisp_world.specs.Nodes.{server_at, etr_at};
+ghost use Rattle.lisp_turns.specs.Nodes.{server_at, etr_at};
 
 use crate::datagram::Datagram;
 use crate::router_node::RouterNode;
@@ -33,7 +33,7 @@ impl<S: WorldStore, A: Allocator> Model for World<S, A> {
     ghost use Rattle.lisp_records.specs.Moment.{max_moment};
     ghost use Rattle.lisp_store.specs.Kept.{kept_code};
     ghost use Rattle.lisp_server.specs.LastNonces.{nonces_code};
-    ghost use Rattle.lisp_world.specs.World.{WorldState};
+    ghost use Rattle.lisp_turns.specs.World.{WorldState};
 
     ghost Value = { WorldState };
 

@@ -26,6 +26,9 @@ const SECOND_NOTICE: u64 = 0x8000_0000_0000_0001;
 /// The records that the routers register at first.
 const RECORD: &str = "10.1.0.0/16=1440+192.0.2.1";
 
+/// The record that r1 registers after a change.
+const OTHER: &str = "10.1.0.0/16=30+192.0.2.3";
+
 /// The last bytes of the routers' xTR-IDs.
 const ONE: u8 = 0x0a;
 
@@ -36,15 +39,36 @@ const NOTICE: [u8; 16] = [0x40, 0, 0, 1, 0x80, 0, 0, 0, 0, 0, 0, 0, 1, 2, 0, 16]
 
 const ACK: [u8; 16] = [0x50, 0, 0, 1, 0x80, 0, 0, 0, 0, 0, 0, 0, 1, 2, 0, 16];
 
+/// The first Map-Register of r1, to s1.
+const FIRST_SEND: Step<'static> = Does(
+    Send(ROUTER_ONE, SERVER_ONE),
+    Sent(ROUTER_ONE, SERVER_ONE, 1, 0),
+);
+
+/// A send of r1 whose save is in doubt, so that it is refused.
+const SEND_IN_DOUBT: Step<'static> = Does(
+    SendInDoubt(ROUTER_ONE, SERVER_ONE),
+    Sends(ROUTER_ONE, SendFault::Store(StoreFault::Device)),
+);
+
+/// The arrival of datagram 1 at s1 with a save in doubt, so that it is refused.
+const ARRIVAL_IN_DOUBT: Step<'static> = Does(
+    DeliverWith(1, Fate::Doubt),
+    Receives(SERVER_ONE, Refused::StoreSave(StoreFault::Device)),
+);
+
+/// The next send of r1 where the nonce in doubt was kept.
+const SEND_AFTER_DOUBT: Step<'static> = Does(
+    Send(ROUTER_ONE, SERVER_ONE),
+    Sent(ROUTER_ONE, SERVER_ONE, 3, 1),
+);
+
 const EXCHANGES: [Schedule<'static>; 6] = [
     (
         "an empty database",
         &[
             Does(Change(ROUTER_ONE, &[]), Changed(ROUTER_ONE, 0)),
-            Does(
-                Send(ROUTER_ONE, SERVER_ONE),
-                Sent(ROUTER_ONE, SERVER_ONE, 1, 0),
-            ),
+            FIRST_SEND,
             Datagram(0, 56, &[0x3a, 0, 1, 0]),
             Does(Deliver(0), Accepted(SERVER_ONE, ONE, 1, 1)),
             Datagram(1, 32, &[0x40, 0, 0, 0]),
@@ -54,10 +78,7 @@ const EXCHANGES: [Schedule<'static>; 6] = [
     (
         "the worked exchange, and a replay",
         &[
-            Does(
-                Send(ROUTER_ONE, SERVER_ONE),
-                Sent(ROUTER_ONE, SERVER_ONE, 1, 0),
-            ),
+            FIRST_SEND,
             Datagram(0, 84, &REGISTER),
             Does(Deliver(0), Accepted(SERVER_ONE, ONE, 1, 1)),
             Datagram(1, 60, &NOTIFY),
@@ -75,10 +96,7 @@ const EXCHANGES: [Schedule<'static>; 6] = [
     (
         "an older Map-Register after a newer one",
         &[
-            Does(
-                Send(ROUTER_ONE, SERVER_ONE),
-                Sent(ROUTER_ONE, SERVER_ONE, 1, 0),
-            ),
+            FIRST_SEND,
             Does(
                 Change(ROUTER_ONE, &["10.1.0.0/16=60+192.0.2.9"]),
                 Changed(ROUTER_ONE, 1),
@@ -98,10 +116,7 @@ const EXCHANGES: [Schedule<'static>; 6] = [
     (
         "only the last Map-Register is counted",
         &[
-            Does(
-                Send(ROUTER_ONE, SERVER_ONE),
-                Sent(ROUTER_ONE, SERVER_ONE, 1, 0),
-            ),
+            FIRST_SEND,
             Does(Deliver(0), Accepted(SERVER_ONE, ONE, 1, 1)),
             Does(Tick(1_000), Ticked(1_000, 1_000)),
             IsDue(ROUTER_ONE, Some(0)),
@@ -120,10 +135,7 @@ const EXCHANGES: [Schedule<'static>; 6] = [
     (
         "a Map-Notify counts from its own Map-Server alone",
         &[
-            Does(
-                Send(ROUTER_ONE, SERVER_ONE),
-                Sent(ROUTER_ONE, SERVER_ONE, 1, 0),
-            ),
+            FIRST_SEND,
             Does(
                 Junk(ROUTER_ONE, [127, 0, 0, 12], &NOTIFY),
                 Hears(ROUTER_ONE, NotifyFault::Stale { latest: 0 }),
@@ -141,10 +153,7 @@ const EXCHANGES: [Schedule<'static>; 6] = [
     (
         "two Map-Servers, and a change between them",
         &[
-            Does(
-                Send(ROUTER_ONE, SERVER_ONE),
-                Sent(ROUTER_ONE, SERVER_ONE, 1, 0),
-            ),
+            FIRST_SEND,
             Does(Deliver(0), Accepted(SERVER_ONE, ONE, 1, 1)),
             Does(
                 Change(ROUTER_ONE, &["10.1.0.0/16=7"]),
@@ -161,14 +170,11 @@ const EXCHANGES: [Schedule<'static>; 6] = [
     ),
 ];
 
-const RESTARTS: [Schedule<'static>; 8] = [
+const RESTARTS: [Schedule<'static>; 10] = [
     (
         "a Map-Server that restarts holds nothing and remembers its nonces",
         &[
-            Does(
-                Send(ROUTER_ONE, SERVER_ONE),
-                Sent(ROUTER_ONE, SERVER_ONE, 1, 0),
-            ),
+            FIRST_SEND,
             Does(
                 Send(ROUTER_ONE, SERVER_ONE),
                 Sent(ROUTER_ONE, SERVER_ONE, 2, 1),
@@ -194,14 +200,8 @@ const RESTARTS: [Schedule<'static>; 8] = [
     (
         "a router's save in doubt that is lost",
         &[
-            Does(
-                Send(ROUTER_ONE, SERVER_ONE),
-                Sent(ROUTER_ONE, SERVER_ONE, 1, 0),
-            ),
-            Does(
-                SendInDoubt(ROUTER_ONE, SERVER_ONE),
-                Sends(ROUTER_ONE, SendFault::Store(StoreFault::Device)),
-            ),
+            FIRST_SEND,
+            SEND_IN_DOUBT,
             Does(Restart(ROUTER_ONE, 0), Restarted(ROUTER_ONE)),
             Does(
                 Send(ROUTER_ONE, SERVER_ONE),
@@ -212,37 +212,22 @@ const RESTARTS: [Schedule<'static>; 8] = [
     (
         "a router's save in doubt that is kept",
         &[
-            Does(
-                Send(ROUTER_ONE, SERVER_ONE),
-                Sent(ROUTER_ONE, SERVER_ONE, 1, 0),
-            ),
-            Does(
-                SendInDoubt(ROUTER_ONE, SERVER_ONE),
-                Sends(ROUTER_ONE, SendFault::Store(StoreFault::Device)),
-            ),
+            FIRST_SEND,
+            SEND_IN_DOUBT,
             Does(Restart(ROUTER_ONE, 1), Restarted(ROUTER_ONE)),
-            Does(
-                Send(ROUTER_ONE, SERVER_ONE),
-                Sent(ROUTER_ONE, SERVER_ONE, 3, 1),
-            ),
+            SEND_AFTER_DOUBT,
         ],
     ),
     (
         "a Map-Server's save in doubt that is lost",
         &[
-            Does(
-                Send(ROUTER_ONE, SERVER_ONE),
-                Sent(ROUTER_ONE, SERVER_ONE, 1, 0),
-            ),
+            FIRST_SEND,
             Does(
                 Send(ROUTER_ONE, SERVER_ONE),
                 Sent(ROUTER_ONE, SERVER_ONE, 2, 1),
             ),
             Does(Deliver(0), Accepted(SERVER_ONE, ONE, 1, 2)),
-            Does(
-                DeliverWith(1, Fate::Doubt),
-                Receives(SERVER_ONE, Refused::StoreSave(StoreFault::Device)),
-            ),
+            ARRIVAL_IN_DOUBT,
             Does(Restart(SERVER_ONE, 0), Restarted(SERVER_ONE)),
             Does(Deliver(1), Accepted(SERVER_ONE, ONE, 2, 3)),
         ],
@@ -250,10 +235,7 @@ const RESTARTS: [Schedule<'static>; 8] = [
     (
         "a Map-Server's save in doubt that is kept, and a load that fails",
         &[
-            Does(
-                Send(ROUTER_ONE, SERVER_ONE),
-                Sent(ROUTER_ONE, SERVER_ONE, 1, 0),
-            ),
+            FIRST_SEND,
             Does(
                 DeliverWith(0, Fate::LoadFails),
                 Receives(SERVER_ONE, Refused::StoreLoad(StoreFault::Device)),
@@ -270,12 +252,50 @@ const RESTARTS: [Schedule<'static>; 8] = [
         ],
     ),
     (
+        "saves in doubt on both sides: kept by the router, lost by the Map-Server, and a wrong order of arrival",
+        &[
+            FIRST_SEND,
+            SEND_IN_DOUBT,
+            Does(Restart(ROUTER_ONE, 1), Restarted(ROUTER_ONE)),
+            Does(Change(ROUTER_ONE, &[OTHER]), Changed(ROUTER_ONE, 1)),
+            SEND_AFTER_DOUBT,
+            ARRIVAL_IN_DOUBT,
+            Does(Restart(SERVER_ONE, 0), Restarted(SERVER_ONE)),
+            Does(Deliver(0), Accepted(SERVER_ONE, ONE, 1, 2)),
+            Does(Deliver(1), Accepted(SERVER_ONE, ONE, 3, 3)),
+            Does(Deliver(3), Counted(ROUTER_ONE, SERVER_ONE, 3)),
+            Does(
+                Deliver(2),
+                Hears(ROUTER_ONE, NotifyFault::Stale { latest: 3 }),
+            ),
+            Holds(SERVER_ONE, &[(0x0a, OTHER, 3, 0)]),
+        ],
+    ),
+    (
+        "saves in doubt on both sides, both kept",
+        &[
+            FIRST_SEND,
+            SEND_IN_DOUBT,
+            Does(Restart(ROUTER_ONE, 1), Restarted(ROUTER_ONE)),
+            Does(Change(ROUTER_ONE, &[OTHER]), Changed(ROUTER_ONE, 1)),
+            SEND_AFTER_DOUBT,
+            ARRIVAL_IN_DOUBT,
+            Does(Restart(SERVER_ONE, 1), Restarted(SERVER_ONE)),
+            Does(
+                Deliver(0),
+                Receives(SERVER_ONE, Refused::Replay { saved: 3 }),
+            ),
+            Does(
+                Deliver(1),
+                Receives(SERVER_ONE, Refused::Replay { saved: 3 }),
+            ),
+            Holds(SERVER_ONE, &[]),
+        ],
+    ),
+    (
         "a Map-Server that restarts forgets its notices and remembers their nonces",
         &[
-            Does(
-                Send(ROUTER_ONE, SERVER_ONE),
-                Sent(ROUTER_ONE, SERVER_ONE, 1, 0),
-            ),
+            FIRST_SEND,
             Does(Deliver(0), Accepted(SERVER_ONE, ONE, 1, 1)),
             Does(
                 Notice(SERVER_ONE, ROUTER_ONE),
@@ -307,10 +327,7 @@ const RESTARTS: [Schedule<'static>; 8] = [
     (
         "a notice whose nonce is in doubt does not stand",
         &[
-            Does(
-                Send(ROUTER_ONE, SERVER_ONE),
-                Sent(ROUTER_ONE, SERVER_ONE, 1, 0),
-            ),
+            FIRST_SEND,
             Does(Deliver(0), Accepted(SERVER_ONE, ONE, 1, 1)),
             Does(
                 NoticeInDoubt(SERVER_ONE, ROUTER_ONE),
@@ -329,10 +346,7 @@ const RESTARTS: [Schedule<'static>; 8] = [
         &[
             Does(Restart(ROUTER_ONE, 0), Restarted(ROUTER_ONE)),
             Does(RestartWith(ROUTER_ONE, &[]), Restarted(ROUTER_ONE)),
-            Does(
-                Send(ROUTER_ONE, SERVER_ONE),
-                Sent(ROUTER_ONE, SERVER_ONE, 1, 0),
-            ),
+            FIRST_SEND,
             Datagram(0, 56, &[0x3a, 0, 1, 0]),
         ],
     ),
@@ -344,10 +358,7 @@ const ANSWERS: [Schedule<'static>; 2] = [
         &[
             Answers(SERVER_ONE, [11, 0, 0, 1], Who::NoSite),
             Answers(SERVER_ONE, [10, 1, 2, 3], Who::NotRegistered),
-            Does(
-                Send(ROUTER_ONE, SERVER_ONE),
-                Sent(ROUTER_ONE, SERVER_ONE, 1, 0),
-            ),
+            FIRST_SEND,
             Does(Deliver(0), Accepted(SERVER_ONE, ONE, 1, 1)),
             Answers(SERVER_ONE, [10, 1, 2, 3], Who::Reply(1440)),
             Does(
@@ -361,10 +372,7 @@ const ANSWERS: [Schedule<'static>; 2] = [
     (
         "a record dies at its life",
         &[
-            Does(
-                Send(ROUTER_ONE, SERVER_ONE),
-                Sent(ROUTER_ONE, SERVER_ONE, 1, 0),
-            ),
+            FIRST_SEND,
             Does(Deliver(0), Accepted(SERVER_ONE, ONE, 1, 1)),
             Does(Tick(179_999), Ticked(179_999, 179_999)),
             Holds(SERVER_ONE, &[(0x0a, RECORD, 1, 0)]),

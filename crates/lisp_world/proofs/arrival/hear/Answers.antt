@@ -1,9 +1,9 @@
 use Rattle.std.proofs.Common.{ℕ, ◌-◌, ◌<◌, List, length, get_or, ◌++◌, rules, arith, inl, inr, sym, subst, ap, ◌∙◌}
 use Rattle.std.specs.Prelude.{slice_get, slice_set}
 use Rattle.std.proofs.lemmas.Option.{slice_get-get_or}
-use Rattle.lisp_world.specs.Calls.{Receives}
-use Rattle.lisp_world.specs.Turns.{address_of, posted, server_line}
-use Rattle.lisp_world.specs.World.{ServerNode, RouterNode}
+use Rattle.lisp_turns.specs.Calls.{Receives}
+use Rattle.lisp_turns.specs.Turns.{address_of, posted, server_line}
+use Rattle.lisp_turns.specs.World.{ServerNode, RouterNode}
 use Rattle.lisp_world.proofs.ArrivalCalls.{server_tells}
 use Rattle.lisp_world.proofs.arrival.hear.Goals as goal
 

@@ -3,7 +3,7 @@ use Rattle.std.specs.Prelude.{slice_get}
 use Rattle.std.proofs.lemmas.Option.{slice_get-get_or}
 use Rattle.std.proofs.lemmas.Result.{IfOk-weaker}
 use Rattle.lisp_sites.specs.Configuration.{Router, IsRouter, HasServers}
-use Rattle.lisp_world.proofs.Places.{all_at}
+use Rattle.lisp_turns.proofs.Places.{all_at}
 use Rattle.lisp_world.proofs.new.router.Goals as goal
 
 pub down-requires-clause-servers : goal.down-requires-clause-servers

@@ -1,5 +1,5 @@
 use Rattle.std.proofs.Common.{◌+◌, ◌<◌, length, Err, arith, refl, sym, ap, subst}
-use Rattle.lisp_world.specs.World.{RouterNode}
+use Rattle.lisp_turns.specs.World.{RouterNode}
 use Rattle.lisp_world.specs.Making.{HasStarted}
 use Rattle.lisp_world.proofs.MakingNodes.{started_to_none, started_more, all_started}
 use Rattle.lisp_world.proofs.new.start_all.Goals as goal

@@ -1,6 +1,6 @@
 use Rattle.std.proofs.Common.{arith}
 use Rattle.std.proofs.lemmas.Option.{slice_get_within}
-use Rattle.lisp_world.specs.Turns.{ExpiresNode}
+use Rattle.lisp_turns.specs.Turns.{ExpiresNode}
 use Rattle.lisp_world.proofs.Loops.{done_more, same_more}
 use Rattle.lisp_world.proofs.tick.expire_all.Goals as goal
 

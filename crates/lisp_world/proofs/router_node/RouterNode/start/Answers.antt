@@ -2,8 +2,8 @@ use Rattle.std.proofs.Common.{List, ap, refl, subst, ◌∙◌}
 use Rattle.std.specs.Option.{unwrap_or}
 use Rattle.lisp_records.specs.Record.{Mapping}
 use Rattle.lisp_etr.specs.Config.{Settings}
-use Rattle.lisp_world.specs.World.{Down}
-use Rattle.lisp_world.specs.Calls.{Starts}
+use Rattle.lisp_turns.specs.World.{Down}
+use Rattle.lisp_turns.specs.Calls.{Starts}
 use Rattle.lisp_world.specs.Cores.{core_of}
 use Rattle.lisp_world.proofs.router_node.RouterNode.start.Goals as goal
 use Rattle.lisp_world.proofs.router_node.RouterNode.start.Goals.{in-Ok, in-Err}

@@ -1,8 +1,8 @@
 use Rattle.std.proofs.Common.{◌≡◌, ◌<◌, ◌++◌, length, Some, None, refl, sym, ap, ◌∙◌, arith}
 use Rattle.std.specs.List.{length_refill}
 use Rattle.std.proofs.lemmas.Option.{slice_get-get_or}
-use Rattle.lisp_world.specs.World.{Posted, WorldState}
-use Rattle.lisp_world.specs.Turns.{node_with, posted}
+use Rattle.lisp_turns.specs.World.{Posted, WorldState}
+use Rattle.lisp_turns.specs.Turns.{node_with, posted}
 use Rattle.lisp_world.proofs.ArrivalCalls.{addressed_there, arrived, datagram_there, delivered, read_again}
 use Rattle.lisp_world.proofs.world.World.deliver.Goals as goal
 

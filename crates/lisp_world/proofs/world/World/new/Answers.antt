@@ -1,10 +1,11 @@
 use Rattle.std.proofs.Common.{◌≡◌, ◌+◌, ◌++◌, List, length, map, take, drop, arith, refl, sym, ap, subst, ◌∙◌}
 use Rattle.std.proofs.lemmas.List.{length-append, length-map}
 use Rattle.lisp_store.specs.Store.{StoreState}
-use Rattle.lisp_world.specs.World.{RouterNode, WorldState}
+use Rattle.lisp_turns.specs.World.{RouterNode, WorldState}
 use Rattle.lisp_world.specs.Making.{HaveStarted}
 use Rattle.lisp_world.proofs.MakingNodes.{written_whole}
 use Rattle.lisp_world.proofs.Making.{IsMade, lists_same, stays_calm, made_stands}
+use Rattle.lisp_turns.proofs.Headlines.{networks_promise}
 use Rattle.lisp_world.proofs.world.World.new.Goals as goal
 
 module _ (g : _) (c : goal.After-new g) where
@@ -67,3 +68,6 @@ returns-clause-lists g c = λ honest. lists_same c.args.config.now (stores g c) 
 
 pub returns-clause-calm : goal.returns-clause-calm
 returns-clause-calm g c = λ calm. stays_calm c.args.config.now (stores g c) (world g c) (stores_count g c) (made g c) calm
+
+pub returns-clause-headline : goal.returns-clause-headline
+returns-clause-headline g c = networks_promise _

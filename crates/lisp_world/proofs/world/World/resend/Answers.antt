@@ -3,7 +3,7 @@ use Rattle.std.proofs.lemmas.List.{append-nil}
 use Rattle.std.proofs.lemmas.Option.{slice_get_read}
 use Rattle.lisp_records.specs.declared.address.Addr.{Addr}
 use Rattle.lisp_schedules.specs.declared.line.Line.TheVariants as lines
-use Rattle.lisp_world.specs.World.{Posted}
+use Rattle.lisp_turns.specs.World.{Posted}
 use Rattle.lisp_world.proofs.ServerCalls.{server_acted}
 use Rattle.lisp_world.proofs.world.World.resend.Goals as goal
 

@@ -4,6 +4,7 @@ use Rattle.lisp_schedules.specs.Trace.{happening}
 use Rattle.lisp_schedules.specs.declared.line.Line.{Line}
 use Rattle.lisp_world.specs.declared.fault.WorldFault.{WorldFault}
 use Rattle.lisp_world.proofs.Running.{event_there, runs_none, runs_all, runs_next, stops_here, why_refused, at_error, at_value}
+use Rattle.lisp_turns.proofs.Headlines.{networks_promise}
 use Rattle.lisp_world.proofs.world.World.run.Goals as goal
 
 pub loop-i-init : goal.loop-i-init
@@ -52,3 +53,12 @@ returns-clause-runs g c =
 
 pub returns-clause-calm : goal.returns-clause-calm
 returns-clause-calm g c = c.loop-i.invariant.1
+
+pub returns-then-is_err-clause-headline : goal.returns-then-is_err-clause-headline
+returns-then-is_err-clause-headline g c = networks_promise _
+
+pub returns-in-Err-clause-headline : goal.returns-in-Err-clause-headline
+returns-in-Err-clause-headline g c = networks_promise _
+
+pub returns-clause-headline : goal.returns-clause-headline
+returns-clause-headline g c = networks_promise _

@@ -1,11 +1,12 @@
 use Rattle.std.proofs.lemmas.Result.{IfOk-weaker}
 use Rattle.lisp_world.proofs.Calm.{taken_or_not, ticks_calm, changes_calm, sends_calm, delivers_calm, arrives_calm, restarts_calm, notices_calm, resends_calm}
-use Rattle.lisp_world.proofs.Changing.{change_stands}
-use Rattle.lisp_world.proofs.Noticing.{notice_stands}
-use Rattle.lisp_world.proofs.Resending.{resend_stands}
-use Rattle.lisp_world.proofs.Sending.{send_stands}
+use Rattle.lisp_turns.proofs.Changing.{change_stands}
+use Rattle.lisp_turns.proofs.Noticing.{notice_stands}
+use Rattle.lisp_turns.proofs.Resending.{resend_stands}
+use Rattle.lisp_turns.proofs.Sending.{send_stands}
 use Rattle.lisp_world.proofs.Steps.{delivers_stand, junk_stands, taken_restarts}
-use Rattle.lisp_world.proofs.Ticking.{tick_stands}
+use Rattle.lisp_turns.proofs.Ticking.{tick_stands}
+use Rattle.lisp_turns.proofs.Headlines.{networks_promise}
 use Rattle.lisp_world.proofs.world.World.step.Goals as goal
 
 pub returns-in-Change-clause-stands : goal.returns-in-Change-clause-stands
@@ -55,3 +56,27 @@ returns-in-Resend-clause-stands g c = rw c.in-Resend.is (IfOk-weaker c.resend.re
 
 pub returns-in-Resend-clause-calm : goal.returns-in-Resend-clause-calm
 returns-in-Resend-clause-calm g c = rw c.in-Resend.is (taken_or_not c.resend.result _ _ _ (IfOk-weaker c.resend.result _ _ (λ line turn. resends_calm _ _ _ _ line turn) c.resend.ensures.resends) c.resend.ensures.err)
+
+pub returns-in-Change-clause-headline : goal.returns-in-Change-clause-headline
+returns-in-Change-clause-headline g c = networks_promise _
+
+pub returns-in-Send-clause-headline : goal.returns-in-Send-clause-headline
+returns-in-Send-clause-headline g c = networks_promise _
+
+pub returns-in-Deliver-clause-headline : goal.returns-in-Deliver-clause-headline
+returns-in-Deliver-clause-headline g c = networks_promise _
+
+pub returns-in-Junk-clause-headline : goal.returns-in-Junk-clause-headline
+returns-in-Junk-clause-headline g c = networks_promise _
+
+pub returns-in-Tick-clause-headline : goal.returns-in-Tick-clause-headline
+returns-in-Tick-clause-headline g c = networks_promise _
+
+pub returns-in-Restart-clause-headline : goal.returns-in-Restart-clause-headline
+returns-in-Restart-clause-headline g c = networks_promise _
+
+pub returns-in-Notice-clause-headline : goal.returns-in-Notice-clause-headline
+returns-in-Notice-clause-headline g c = networks_promise _
+
+pub returns-in-Resend-clause-headline : goal.returns-in-Resend-clause-headline
+returns-in-Resend-clause-headline g c = networks_promise _

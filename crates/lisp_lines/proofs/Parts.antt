@@ -1,0 +1,35 @@
+-- A line is its parts.
+use Rattle.std.proofs.Common.{◌≡◌, ℕ, Bool, true, false, List, [], ◌++◌, None, refl, ap, ◌∙◌, codes, append_assoc}
+use Rattle.std.proofs.lemmas.List.{append-nil}
+use Rattle.std.specs.Fmt.{decimal}
+use Rattle.lisp_sites.specs.Configuration.{Configuration}
+use Rattle.lisp_schedules.specs.Faults.{refusal_number}
+use Rattle.lisp_schedules.specs.declared.line.Line.{Line}
+use Rattle.lisp_schedules.specs.declared.line.Line.TheVariants as lines
+use Rattle.lisp_lines.specs.Name.{node_name, router_name}
+use Rattle.lisp_lines.specs.Carried.{carried_words}
+use Rattle.lisp_lines.specs.Line.{datagram_text, line_words}
+use Rattle.lisp_lines.specs.Parts.{verb, nodes_text, details_text, datagram_of}
+
+-- where there is no datagram, nothing is added
+alone : (place : Bool) (text : List ℕ) → text ++ datagram_text place None ≡ text
+alone true text = append-nil text
+alone false text = append-nil text
+
+-- the words of a line, part by part
+pub line_parts : (c : Configuration) (place : Bool) (line : Line) → verb line ++ nodes_text c line ++ details_text line ++ datagram_text place (datagram_of line) ≡ line_words c place line
+line_parts c place (lines.Changed router records) = simp append_assoc (ap (λ (t : List ℕ). codes "change " ++ (node_name c router ++ t)) (alone place (codes " records " ++ decimal records)))
+line_parts c place (lines.Sent router server key nonce datagram) = simp append_assoc refl
+line_parts c place (lines.Accepted server router key nonce datagram) = simp append_assoc refl
+line_parts c place (lines.Done server router nonce) = simp append_assoc (ap (λ (t : List ℕ). codes "done " ++ (node_name c server ++ (codes " " ++ (router_name c router ++ t)))) (alone place (codes " nonce " ++ decimal nonce)))
+line_parts c place (lines.Counted router server key nonce) = simp append_assoc (ap (λ (t : List ℕ). codes "counted " ++ (node_name c router ++ (codes " " ++ (node_name c server ++ (codes " key " ++ (decimal key ++ t)))))) (alone place (codes " nonce " ++ decimal nonce)))
+line_parts c place (lines.Noticed router server nonce datagram) = simp append_assoc refl
+line_parts c place (lines.Nowhere datagram) = ap (λ (t : List ℕ). codes "nowhere " ++ t) (alone place (decimal datagram))
+line_parts c place (lines.Ticked ms now) = ap (λ (t : List ℕ). codes "tick " ++ t) (alone place (decimal ms ++ codes " now " ++ decimal now))
+line_parts c place (lines.Restarted node) = ap (λ (t : List ℕ). codes "restarted " ++ t) (alone place (node_name c node ++ []) ∙ append-nil (node_name c node))
+line_parts c place (lines.Notice server router key nonce datagram) = simp append_assoc refl
+line_parts c place (lines.Resent server router datagram) = simp append_assoc refl
+line_parts c place (lines.Down router) = ap (λ (t : List ℕ). codes "down " ++ t) (alone place (node_name c router ++ []) ∙ append-nil (node_name c router))
+line_parts c place (lines.Refused node what) = simp append_assoc (ap (λ (t : List ℕ). codes "refused " ++ t) (alone place (node_name c node ++ (codes " " ++ (decimal (refusal_number what) ++ carried_words what)))))
+
+pub ruleset steps = (append_assoc, line_parts)

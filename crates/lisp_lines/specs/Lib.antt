@@ -1,0 +1,5 @@
+pub mod Name
+pub mod Carried
+pub mod Line
+pub mod Parts
+pub mod Query

@@ -1,0 +1,41 @@
+-- The text of the line of each event.
+use Rattle.std.specs.Prelude.{ℕ, Bool, true, List, [], ◌∷◌, ◌++◌, codes, Option, Some}
+use Rattle.std.specs.Fmt.{decimal}
+use Rattle.lisp_sites.specs.Configuration.{Configuration}
+use Rattle.lisp_schedules.specs.Faults.{refusal_number}
+use Rattle.lisp_schedules.specs.declared.line.Line.{Line}
+use Rattle.lisp_schedules.specs.declared.line.Line.TheVariants as lines
+use Rattle.lisp_lines.specs.Name.{node_name, router_name}
+use Rattle.lisp_lines.specs.Carried.{carried_words}
+
+-- two nodes
+abbrev pub pair_text : List ℕ → List ℕ → List ℕ
+pair_text one other = one ++ codes " " ++ other
+
+-- a Key ID and a nonce
+abbrev pub keyed_text : ℕ → ℕ → List ℕ
+keyed_text key nonce = codes " key " ++ decimal key ++ codes " nonce " ++ decimal nonce
+
+-- a datagram, where its place is shown
+abbrev pub datagram_text : Bool → Option ℕ → List ℕ
+datagram_text true (Some datagram) = codes " datagram " ++ decimal datagram
+datagram_text _ _ = []
+
+abbrev pub line_words : Configuration → Bool → Line → List ℕ
+line_words c place (lines.Changed router records) = codes "change " ++ node_name c router ++ codes " records " ++ decimal records
+line_words c place (lines.Sent router server key nonce datagram) = codes "sent " ++ pair_text (node_name c router) (node_name c server) ++ keyed_text key nonce ++ datagram_text place (Some datagram)
+line_words c place (lines.Accepted server router key nonce datagram) = codes "accepted " ++ pair_text (node_name c server) (router_name c router) ++ keyed_text key nonce ++ datagram_text place datagram
+line_words c place (lines.Done server router nonce) = codes "done " ++ pair_text (node_name c server) (router_name c router) ++ codes " nonce " ++ decimal nonce
+line_words c place (lines.Counted router server key nonce) = codes "counted " ++ pair_text (node_name c router) (node_name c server) ++ keyed_text key nonce
+line_words c place (lines.Noticed router server nonce datagram) = codes "noticed " ++ pair_text (node_name c router) (node_name c server) ++ codes " nonce " ++ decimal nonce ++ datagram_text place (Some datagram)
+line_words c place (lines.Nowhere datagram) = codes "nowhere " ++ decimal datagram
+line_words c place (lines.Ticked ms now) = codes "tick " ++ decimal ms ++ codes " now " ++ decimal now
+line_words c place (lines.Restarted node) = codes "restarted " ++ node_name c node
+line_words c place (lines.Notice server router key nonce datagram) = codes "notice " ++ pair_text (node_name c server) (node_name c router) ++ keyed_text key nonce ++ datagram_text place (Some datagram)
+line_words c place (lines.Resent server router datagram) = codes "resent " ++ pair_text (node_name c server) (node_name c router) ++ datagram_text place (Some datagram)
+line_words c place (lines.Down router) = codes "down " ++ node_name c router
+line_words c place (lines.Refused node what) = codes "refused " ++ node_name c node ++ codes " " ++ decimal (refusal_number what) ++ carried_words what
+
+-- with its line feed
+abbrev pub line_text : Configuration → Bool → Line → List ℕ
+line_text c place line = line_words c place line ++ 10 ∷ []

@@ -1,0 +1,69 @@
+-- The parts of a line: its verb, its nodes, what else it tells, and its datagram.
+use Rattle.std.specs.Prelude.{ℕ, List, [], ◌++◌, codes, Option, Some, None}
+use Rattle.std.specs.Fmt.{decimal}
+use Rattle.lisp_sites.specs.Configuration.{Configuration}
+use Rattle.lisp_schedules.specs.Faults.{refusal_number}
+use Rattle.lisp_schedules.specs.declared.refusal.Refusal.{Refusal}
+use Rattle.lisp_schedules.specs.declared.line.Line.{Line}
+use Rattle.lisp_schedules.specs.declared.line.Line.TheVariants as lines
+use Rattle.lisp_lines.specs.Name.{node_name, router_name}
+use Rattle.lisp_lines.specs.Carried.{carried_words}
+use Rattle.lisp_lines.specs.Line.{pair_text, keyed_text}
+
+-- the first word
+abbrev pub verb : Line → List ℕ
+verb (lines.Changed _ _) = codes "change"
+verb (lines.Sent _ _ _ _ _) = codes "sent"
+verb (lines.Accepted _ _ _ _ _) = codes "accepted"
+verb (lines.Done _ _ _) = codes "done"
+verb (lines.Counted _ _ _ _) = codes "counted"
+verb (lines.Noticed _ _ _ _) = codes "noticed"
+verb (lines.Nowhere _) = codes "nowhere"
+verb (lines.Ticked _ _) = codes "tick"
+verb (lines.Restarted _) = codes "restarted"
+verb (lines.Notice _ _ _ _ _) = codes "notice"
+verb (lines.Resent _ _ _) = codes "resent"
+verb (lines.Down _) = codes "down"
+verb (lines.Refused _ _) = codes "refused"
+
+-- the nodes, each after a space
+abbrev pub nodes_text : Configuration → Line → List ℕ
+nodes_text c (lines.Changed router _) = codes " " ++ node_name c router
+nodes_text c (lines.Sent router server _ _ _) = codes " " ++ pair_text (node_name c router) (node_name c server)
+nodes_text c (lines.Accepted server router _ _ _) = codes " " ++ pair_text (node_name c server) (router_name c router)
+nodes_text c (lines.Done server router _) = codes " " ++ pair_text (node_name c server) (router_name c router)
+nodes_text c (lines.Counted router server _ _) = codes " " ++ pair_text (node_name c router) (node_name c server)
+nodes_text c (lines.Noticed router server _ _) = codes " " ++ pair_text (node_name c router) (node_name c server)
+nodes_text c (lines.Restarted node) = codes " " ++ node_name c node
+nodes_text c (lines.Notice server router _ _ _) = codes " " ++ pair_text (node_name c server) (node_name c router)
+nodes_text c (lines.Resent server router _) = codes " " ++ pair_text (node_name c server) (node_name c router)
+nodes_text c (lines.Down router) = codes " " ++ node_name c router
+nodes_text c (lines.Refused node _) = codes " " ++ node_name c node
+nodes_text c _ = []
+
+-- a refusal: its number, and what it carries
+abbrev pub refusal_text : Refusal → List ℕ
+refusal_text what = codes " " ++ decimal (refusal_number what) ++ carried_words what
+
+-- what else is told
+abbrev pub details_text : Line → List ℕ
+details_text (lines.Changed _ records) = codes " records " ++ decimal records
+details_text (lines.Sent _ _ key nonce _) = keyed_text key nonce
+details_text (lines.Accepted _ _ key nonce _) = keyed_text key nonce
+details_text (lines.Done _ _ nonce) = codes " nonce " ++ decimal nonce
+details_text (lines.Counted _ _ key nonce) = keyed_text key nonce
+details_text (lines.Noticed _ _ nonce _) = codes " nonce " ++ decimal nonce
+details_text (lines.Nowhere datagram) = codes " " ++ decimal datagram
+details_text (lines.Ticked ms now) = codes " " ++ decimal ms ++ codes " now " ++ decimal now
+details_text (lines.Notice _ _ key nonce _) = keyed_text key nonce
+details_text (lines.Refused _ what) = refusal_text what
+details_text _ = []
+
+-- the datagram whose place may be shown
+abbrev pub datagram_of : Line → Option ℕ
+datagram_of (lines.Sent _ _ _ _ datagram) = Some datagram
+datagram_of (lines.Accepted _ _ _ _ datagram) = datagram
+datagram_of (lines.Noticed _ _ _ datagram) = Some datagram
+datagram_of (lines.Notice _ _ _ _ datagram) = Some datagram
+datagram_of (lines.Resent _ _ datagram) = Some datagram
+datagram_of _ = None

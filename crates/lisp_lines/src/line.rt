@@ -1,0 +1,198 @@
+//! The text of the line of each event.
+
+ghost use Rattle.std.specs.Prelude.{◌≡◌, ◌++◌, codes, IfOk, OnOk, OnErr};
+ghost use Rattle.std.specs.String.{string_bytes};
+ghost use Rattle.lisp_lines.specs.Line.{pair_text, keyed_text, datagram_text, line_words, line_text};
+ghost use Rattle.lisp_lines.specs.Parts.{verb, nodes_text, refusal_text, details_text, datagram_of};
+
+use crate::carried::put_carried;
+use crate::name::{node_name, router_name};
+use lisp_memory::{FallibleString, Memory};
+use lisp_schedules::{Line, Refusal};
+use lisp_sites::Config;
+use std::alloc::{AllocError, Allocator};
+
+/// The line of an event, with its line feed, by the names of the configuration; without the place of its datagram
+/// unless `place`. A node or a router that the configuration doesn't have is `other`.
+pub fn line_text<A: Memory, E: Allocator>(
+    alloc: A,
+    config: &Config<E>,
+    line: &Line,
+    place: bool,
+) -> Result<String<A>, AllocError>
+    ensures text { IfOk result (λ text. string_bytes text ≡ line_text config.now place line.now) }
+    ensures memory { OnErr result A.may_refuse }
+{
+    let mut text = String::new(alloc);
+    put_line(&mut text, config, line, place)?;
+    text.try_push('\n')?;
+    Ok(text)
+}
+
+// Appends the words of a line: its verb, its nodes, what else it tells, and the place of its datagram. Out of memory,
+// it may leave a part of them.
+#[tactic(auto, using(crate::proofs::Parts::steps))]
+fn put_line<A: Memory, E: Allocator>(
+    text: &mut String<A>,
+    config: &Config<E>,
+    line: &Line,
+    place: bool,
+) -> Result<(), AllocError>
+    ensures text { OnOk result (string_bytes text.new ≡ string_bytes text.old ++ line_words config.now place line.now) }
+    ensures memory { OnErr result A.may_refuse }
+{
+    text.try_write(verb(line))?;
+    put_nodes(text, config, line)?;
+    put_details(text, line)?;
+    put_datagram(text, place, datagram(line))
+}
+
+// The first word of a line.
+fn verb(line: &Line) -> &'static str
+    ensures { result.now ≡ verb line.now }
+{
+    match line {
+        Line::Changed { .. } => "change",
+        Line::Sent { .. } => "sent",
+        Line::Accepted { .. } => "accepted",
+        Line::Done { .. } => "done",
+        Line::Counted { .. } => "counted",
+        Line::Noticed { .. } => "noticed",
+        Line::Nowhere { .. } => "nowhere",
+        Line::Ticked { .. } => "tick",
+        Line::Restarted { .. } => "restarted",
+        Line::Notice { .. } => "notice",
+        Line::Resent { .. } => "resent",
+        Line::Down { .. } => "down",
+        Line::Refused { .. } => "refused",
+    }
+}
+
+// Appends the nodes of a line, each after a space. Out of memory, it may leave a part of them.
+fn put_nodes<A: Memory, E: Allocator>(
+    text: &mut String<A>,
+    config: &Config<E>,
+    line: &Line,
+) -> Result<(), AllocError>
+    ensures text { OnOk result (string_bytes text.new ≡ string_bytes text.old ++ nodes_text config.now line.now) }
+    ensures memory { OnErr result A.may_refuse }
+{
+    match *line {
+        Line::Changed { router: node, .. }
+        | Line::Restarted { node }
+        | Line::Down { router: node }
+        | Line::Refused { node, .. } => put_node(text, node_name(config, node)),
+        Line::Sent { router, server, .. }
+        | Line::Counted { router, server, .. }
+        | Line::Noticed { router, server, .. } => {
+            put_pair(text, node_name(config, router), node_name(config, server))
+        }
+        Line::Notice { server, router, .. } | Line::Resent { server, router, .. } => {
+            put_pair(text, node_name(config, server), node_name(config, router))
+        }
+        Line::Accepted {
+            server,
+            ref router,
+            ..
+        }
+        | Line::Done {
+            server,
+            ref router,
+            ..
+        } => { put_pair(text, node_name(config, server), router_name(config, router)) }
+        Line::Nowhere { .. } | Line::Ticked { .. } => Ok(()),
+    }
+}
+
+// Appends what a line tells besides its nodes and its datagram. Out of memory, it may leave a part of it.
+fn put_details<A: Memory>(text: &mut String<A>, line: &Line) -> Result<(), AllocError>
+    ensures text { OnOk result (string_bytes text.new ≡ string_bytes text.old ++ details_text line.now) }
+    ensures memory { OnErr result A.may_refuse }
+{
+    match line {
+        Line::Changed { records, .. } => text.try_write(format_args!(" records {records}")),
+        Line::Sent { key, nonce, .. }
+        | Line::Accepted { key, nonce, .. }
+        | Line::Counted { key, nonce, .. }
+        | Line::Notice { key, nonce, .. } => put_keyed(text, *key, *nonce),
+        Line::Done { nonce, .. } | Line::Noticed { nonce, .. } => {
+            text.try_write(format_args!(" nonce {nonce}"))
+        }
+        Line::Nowhere { datagram } => text.try_write(format_args!(" {datagram}")),
+        Line::Ticked { ms, now } => text.try_write(format_args!(" {ms} now {now}")),
+        Line::Refused { what, .. } => put_refusal(text, what),
+        Line::Restarted { .. } | Line::Resent { .. } | Line::Down { .. } => Ok(()),
+    }
+}
+
+// The datagram of a line whose place may be shown.
+fn datagram(line: &Line) -> Option<usize>
+    ensures { result ≡ datagram_of line.now }
+{
+    match line {
+        Line::Sent { datagram, .. }
+        | Line::Noticed { datagram, .. }
+        | Line::Notice { datagram, .. }
+        | Line::Resent { datagram, .. } => Some(*datagram),
+        Line::Accepted { datagram, .. } => *datagram,
+        _ => None,
+    }
+}
+
+// Appends the place of a datagram, where it is to be shown. Out of memory, it may leave a part of it.
+fn put_datagram<A: Memory>(
+    text: &mut String<A>,
+    place: bool,
+    datagram: Option<usize>,
+) -> Result<(), AllocError>
+    ensures text { OnOk result (string_bytes text.new ≡ string_bytes text.old ++ datagram_text place datagram) }
+    ensures memory { OnErr result A.may_refuse }
+{
+    match datagram {
+        Some(datagram) if place => text.try_write(format_args!(" datagram {datagram}")),
+        _ => Ok(()),
+    }
+}
+
+// Appends a refusal: its number, and what it carries. Out of memory, it may leave a part of it.
+#[tactic(auto, using(crate::proofs::Appends::steps))]
+fn put_refusal<A: Memory>(text: &mut String<A>, refusal: &Refusal) -> Result<(), AllocError>
+    ensures text { OnOk result (string_bytes text.new ≡ string_bytes text.old ++ refusal_text refusal.now) }
+    ensures memory { OnErr result A.may_refuse }
+{
+    let number = refusal.number();
+    text.try_write(format_args!(" {number}"))?;
+    put_carried(text, refusal)
+}
+
+// Appends the name of a node after a space. Out of memory, it may leave a part of it.
+fn put_node<A: Memory>(text: &mut String<A>, name: &str) -> Result<(), AllocError>
+    ensures text { OnOk result (string_bytes text.new ≡ string_bytes text.old ++ codes " " ++ name.now) }
+    ensures memory { OnErr result A.may_refuse }
+{
+    text.try_write(format_args!(" {name}"))
+}
+
+/// Appends the names of two nodes, each after a space. Out of memory, it may leave a part of them.
+pub(crate) fn put_pair<A: Memory>(
+    text: &mut String<A>,
+    one: &str,
+    other: &str,
+) -> Result<(), AllocError>
+    ensures text { OnOk result (string_bytes text.new ≡ string_bytes text.old ++ codes " " ++ pair_text one.now other.now) }
+    ensures memory { OnErr result A.may_refuse }
+{
+    text.try_write(format_args!(" {one} {other}"))
+}
+
+/// Appends a Key ID and a nonce. Out of memory, it may leave a part of them.
+pub(crate) fn put_keyed<A: Memory>(
+    text: &mut String<A>,
+    key: u8,
+    nonce: u64,
+) -> Result<(), AllocError>
+    ensures text { OnOk result (string_bytes text.new ≡ string_bytes text.old ++ keyed_text key nonce) }
+    ensures memory { OnErr result A.may_refuse }
+{
+    text.try_write(format_args!(" key {key} nonce {nonce}"))
+}

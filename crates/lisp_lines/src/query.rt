@@ -1,0 +1,202 @@
+//! The text of what is asked of a node.
+
+ghost use Rattle.std.specs.Prelude.{◌≡◌, ◌++◌, ◌∷◌, [], codes, IfOk, OnOk, OnErr};
+ghost use Rattle.std.specs.Fmt.{decimal};
+ghost use Rattle.std.specs.String.{string_bytes};
+ghost use Rattle.lisp_lines.specs.Query.{row_text, hold_text, counted_words, ack_text, answer_words, ask_text, due_text, due_server, due_router};
+ghost use Rattle.lisp_lines.specs.Line.{pair_text};
+ghost use Rattle.lisp_texts.specs.Written.{addr_text};
+
+use crate::line::{put_keyed, put_pair};
+use crate::name::{node_name, router_name};
+use lisp_lookup::Answer;
+use lisp_memory::{FallibleString, Memory};
+use lisp_records::{Addr, RouterId, Row};
+use lisp_sites::Config;
+use lisp_texts::{addr_to_text, record_to_text};
+use std::alloc::{AllocError, Allocator};
+
+/// What is said where nobody is due.
+const NONE: &str = "none";
+
+/// The rows that a Map-Server holds at a moment, in ms: a line with their number, then one for each.
+pub fn hold_text<A: Memory + Copy, E: Allocator, F: Allocator>(
+    alloc: A,
+    config: &Config<E>,
+    server: usize,
+    now: u64,
+    rows: &[Row<F>],
+) -> Result<String<A>, AllocError>
+    ensures text { IfOk result (λ text. string_bytes text ≡ hold_text config.now server now rows.now) }
+    ensures memory { OnErr result A.may_refuse }
+{
+    let mut text = String::new(alloc);
+    put_head(&mut text, node_name(config, server), rows.len())?;
+    for row in rows {
+        put_row(alloc, &mut text, config, now, row)?;
+    }
+    Ok(text)
+}
+
+// Appends the line before the rows of a Map-Server: how many they are. Out of memory, it may leave a part of it.
+#[tactic(auto, using(crate::proofs::Appends::steps))]
+fn put_head<A: Memory>(text: &mut String<A>, server: &str, rows: usize) -> Result<(), AllocError>
+    ensures text { OnOk result (string_bytes text.new ≡ string_bytes text.old ++ codes "hold " ++ server.now ++ codes " " ++ decimal rows ++ 10 ∷ []) }
+    ensures memory { OnErr result A.may_refuse }
+{
+    text.try_write(format_args!("hold {server} {rows}\n"))
+}
+
+// Appends the line of a row at a moment. Out of memory, it may leave a part of it.
+#[tactic(auto, using(crate::proofs::Appends::steps))]
+fn put_row<A: Memory + Copy, E: Allocator, F: Allocator>(
+    alloc: A,
+    text: &mut String<A>,
+    config: &Config<E>,
+    now: u64,
+    row: &Row<F>,
+) -> Result<(), AllocError>
+    ensures text { OnOk result (string_bytes text.new ≡ string_bytes text.old ++ row_text config.now now row.now) }
+    ensures memory { OnErr result A.may_refuse }
+{
+    let router = router_name(config, &row.router);
+    let record = record_to_text(alloc, &row.mapping)?;
+    text.try_write(format_args!("row {router} {record}"))?;
+    put_keyed(text, row.key, row.nonce)?;
+    let age = now.saturating_sub(row.accepted);
+    text.try_write(format_args!(" age {age}\n"))
+}
+
+/// Appends the line of what a router counted last from a Map-Server: its Key ID and nonce. Out of memory, it may leave a
+/// part of it.
+pub fn put_ack<A: Memory, E: Allocator>(
+    text: &mut String<A>,
+    config: &Config<E>,
+    router: usize,
+    server: usize,
+    counted: Option<(u8, u64)>,
+) -> Result<(), AllocError>
+    ensures text { OnOk result (string_bytes text.new ≡ string_bytes text.old ++ ack_text config.now router server counted) }
+    ensures memory { OnErr result A.may_refuse }
+{
+    let router = node_name(config, router);
+    text.try_write("acks")?;
+    put_pair(text, router, node_name(config, server))?;
+    put_counted(text, counted)?;
+    text.try_push('\n')
+}
+
+// Appends a Key ID and a nonce that were counted, or that there are none. Out of memory, it may leave a part of it.
+fn put_counted<A: Memory>(
+    text: &mut String<A>,
+    counted: Option<(u8, u64)>,
+) -> Result<(), AllocError>
+    ensures text { OnOk result (string_bytes text.new ≡ string_bytes text.old ++ counted_words counted) }
+    ensures memory { OnErr result A.may_refuse }
+{
+    match counted {
+        Some((key, nonce)) => put_keyed(text, key, nonce),
+        None => text.try_write(" none"),
+    }
+}
+
+/// Who answers for an address at a Map-Server.
+pub fn ask_text<A: Memory + Copy, E: Allocator, F: Allocator>(
+    alloc: A,
+    config: &Config<E>,
+    server: usize,
+    addr: &Addr,
+    answer: &Answer<'_, F>,
+) -> Result<String<A>, AllocError>
+    ensures text { IfOk result (λ text. string_bytes text ≡ ask_text config.now server addr.now answer.now) }
+    ensures memory { OnErr result A.may_refuse }
+{
+    let mut text = String::new(alloc);
+    put_question(alloc, &mut text, node_name(config, server), addr)?;
+    put_answer(alloc, &mut text, answer)?;
+    text.try_push('\n')?;
+    Ok(text)
+}
+
+// Appends for which address a Map-Server was asked. Out of memory, it may leave a part of it.
+#[tactic(auto, using(crate::proofs::Appends::steps))]
+fn put_question<A: Memory>(
+    alloc: A,
+    text: &mut String<A>,
+    server: &str,
+    addr: &Addr,
+) -> Result<(), AllocError>
+    ensures text { OnOk result (string_bytes text.new ≡ string_bytes text.old ++ codes "ask " ++ server.now ++ codes " " ++ addr_text addr.now ++ codes " ") }
+    ensures memory { OnErr result A.may_refuse }
+{
+    let addr = addr_to_text(alloc, addr)?;
+    text.try_write(format_args!("ask {server} {addr} "))
+}
+
+// Appends who answers. Out of memory, it may leave a part of it.
+fn put_answer<A: Memory, F: Allocator>(
+    alloc: A,
+    text: &mut String<A>,
+    answer: &Answer<'_, F>,
+) -> Result<(), AllocError>
+    ensures text { OnOk result (string_bytes text.new ≡ string_bytes text.old ++ answer_words answer.now) }
+    ensures memory { OnErr result A.may_refuse }
+{
+    match answer {
+        Answer::NoSite => text.try_write("nosite 15"),
+        Answer::NotRegistered => text.try_write("unregistered 1"),
+        Answer::Reply(entry) => {
+            let record = record_to_text(alloc, entry)?;
+            text.try_write(format_args!("reply {record}"))
+        }
+        Answer::Forward(addr) => {
+            let addr = addr_to_text(alloc, addr)?;
+            text.try_write(format_args!("forward {addr}"))
+        }
+    }
+}
+
+/// Which Map-Server is due to a router.
+pub fn due_server_text<A: Memory, E: Allocator>(
+    alloc: A,
+    config: &Config<E>,
+    router: usize,
+    server: Option<usize>,
+) -> Result<String<A>, AllocError>
+    ensures text { IfOk result (λ text. string_bytes text ≡ due_text config.now router (due_server config.now server)) }
+    ensures memory { OnErr result A.may_refuse }
+{
+    let router = node_name(config, router);
+    match server {
+        Some(server) => due_text(alloc, router, node_name(config, server)),
+        None => due_text(alloc, router, NONE),
+    }
+}
+
+/// To which router a notice of a Map-Server is due.
+pub fn due_router_text<A: Memory, E: Allocator>(
+    alloc: A,
+    config: &Config<E>,
+    server: usize,
+    router: Option<RouterId>,
+) -> Result<String<A>, AllocError>
+    ensures text { IfOk result (λ text. string_bytes text ≡ due_text config.now server (due_router config.now router)) }
+    ensures memory { OnErr result A.may_refuse }
+{
+    let server = node_name(config, server);
+    match router {
+        Some(router) => due_text(alloc, server, router_name(config, &router)),
+        None => due_text(alloc, server, NONE),
+    }
+}
+
+// Who is due to a node.
+#[tactic(auto, using(crate::proofs::Appends::steps))]
+fn due_text<A: Memory>(alloc: A, node: &str, whom: &str) -> Result<String<A>, AllocError>
+    ensures text { IfOk result (λ text. string_bytes text ≡ codes "due " ++ pair_text node.now whom.now ++ 10 ∷ []) }
+    ensures memory { OnErr result A.may_refuse }
+{
+    let mut text = String::new(alloc);
+    text.try_write(format_args!("due {node} {whom}\n"))?;
+    Ok(text)
+}

@@ -1,0 +1,5 @@
+mod Filled
+mod Places
+mod Verbs
+mod Records
+mod Lines

@@ -1,0 +1,135 @@
+-- Reading lines one after the other, as a loop does.
+use Rattle.std.proofs.Common.{◌≡◌, ◌≢◌, ℕ, ◌+◌, ◌<◌, List, [], ◌∷◌, ◌++◌, length, get_or, map, take, drop, Option, Some, None, Result, Ok, Err, Bor, refl, sym, ap, ◌∙◌, arith, add-one, drop-cons}
+use Rattle.std.specs.List.{enumerate_from}
+use Rattle.std.specs.Option.{option_to_list}
+use Rattle.std.proofs.lemmas.List.{length-map, map-append, take-map, take-append-drop}
+use Rattle.std.proofs.lemmas.List.FromFn.{length-enumerate_from, get_or-enumerate_from}
+use Rattle.lisp_records.specs.Result.{◌>>=◌}
+use Rattle.lisp_sites.specs.Configuration.{Configuration}
+use Rattle.lisp_script.specs.declared.fault.ScriptFault.{ScriptFault}
+use Rattle.lisp_script.specs.declared.fault.ScriptWhat.{ScriptWhat}
+use Rattle.lisp_script.specs.declared.fault.ScriptWhat.TheVariants.{Memory}
+use Rattle.lisp_script.specs.Fault.{Gives}
+use Rattle.lisp_script.specs.Order.{Order}
+use Rattle.lisp_script.specs.Spelling.{and_more, at_line, in_line, in_lines, with_line}
+use Rattle.lisp_script.proofs.Records.{with_front}
+
+-- ---- numbered lines
+
+-- a numbered line as a value
+abbrev pub shown : ℕ × Bor (List ℕ) → ℕ × List ℕ
+shown x = (x.0, x.1.now)
+
+-- the texts of numbered lines
+abbrev pub texts : List (ℕ × Bor (List ℕ)) → List (List ℕ)
+texts xs = map (λ x. x.1.now) xs
+
+-- the texts of numbered lines, by their values
+texts_shown : (xs : List (ℕ × Bor (List ℕ))) → texts xs ≡ map (λ p. p.1) (map shown xs)
+texts_shown [] = refl
+texts_shown (x ∷ xs) = ap (λ (t : List (List ℕ)). x.1.now ∷ t) (texts_shown xs)
+
+-- lines without the numbers that they were given
+unnumbered : (n : ℕ) (lines : List (List ℕ)) → map (λ p. p.1) (enumerate_from n lines) ≡ lines
+unnumbered n [] = refl
+unnumbered n (line ∷ lines) = ap (λ (t : List (List ℕ)). line ∷ t) (unnumbered (n + 1) lines)
+
+-- all lines were yielded
+pub all_yielded : (lines : List (List ℕ)) (xs : List (ℕ × Bor (List ℕ))) → map shown xs ≡ enumerate_from 0 lines → texts xs ≡ lines
+all_yielded lines xs all = texts_shown xs ∙ ap (λ (t : List (ℕ × List ℕ)). map (λ p. p.1) t) all ∙ unnumbered 0 lines
+
+-- where a line stands, and what stands around it
+pub record IsNext (lines : List (List ℕ)) (xs : List (ℕ × Bor (List ℕ))) (x : ℕ × Bor (List ℕ)) : Type 0 where
+  pub number : x.0 ≡ length xs
+  pub parts : lines ≡ texts xs ++ x.1.now ∷ drop (length xs + 1) lines
+
+-- the line that an iterator over numbered lines yields next
+pub next_line : (lines : List (List ℕ)) (xs : List (ℕ × Bor (List ℕ))) (x : ℕ × Bor (List ℕ)) → map shown xs ≡ take (length xs) (enumerate_from 0 lines)
+    → (length xs < length (enumerate_from 0 lines)) × (shown x ≡ get_or (enumerate_from 0 lines) (length xs) (shown x)) → IsNext lines xs x
+next_line lines xs x so_far turn =
+    let k : ℕ = length xs in
+    let inside : k < length lines = rw (length-enumerate_from 0 lines) at turn.0 in
+    let here : shown x ≡ (0 + k, get_or lines k x.1.now) = turn.1 ∙ get_or-enumerate_from 0 lines k (shown x) inside in
+    let line : x.1.now ≡ get_or lines k x.1.now = ap (λ (p : ℕ × List ℕ). p.1) here in
+    let number : x.0 ≡ 0 + k = ap (λ (p : ℕ × List ℕ). p.0) here in
+    let front : texts xs ≡ take k lines =
+    texts_shown xs ∙ ap (λ (t : List (ℕ × List ℕ)). map (λ p. p.1) t) so_far ∙ sym (take-map (λ p. p.1) k (enumerate_from 0 lines)) ∙ ap (λ (t : List (List ℕ)). take k t) (unnumbered 0 lines) in
+    let behind : drop k lines ≡ get_or lines k x.1.now ∷ drop (k + 1) lines = rw add-one (drop-cons lines k x.1.now inside) in
+    let whole : lines ≡ texts xs ++ x.1.now ∷ drop (k + 1) lines =
+    sym (take-append-drop k lines) ∙ ap (λ (t : List (List ℕ)). t ++ drop k lines) (sym front) ∙ ap (λ (t : List (List ℕ)). texts xs ++ t) (behind ∙ ap (λ (l : List ℕ). l ∷ drop (k + 1) lines) (sym line)) in
+    record { number = omega (arith, number); parts = whole }
+
+-- ---- reading lines
+
+-- no lines, no commands
+pub in_none : (c : Configuration) (n : ℕ) → in_lines c n [] ≡ Ok []
+unfolding in_lines
+in_none c n = refl
+
+-- nothing was read before
+front_none : {E : Type 0} (read : Result (List Order) E) → read ≡ with_front [] read
+front_none (Ok orders) = refl
+front_none (Err fault) = refl
+
+-- a line moves from what is read to the front
+regrouped : {E : Type 0} (one : Result (Option Order) E) (front behind : Result (List Order) E)
+    → (one >>= λ first. (front >>= λ orders. with_front orders behind) >>= λ others. Ok (and_more first others)) ≡ ((one >>= λ first. front >>= λ others. Ok (and_more first others)) >>= λ orders. with_front orders behind)
+regrouped (Err fault) front behind = refl
+regrouped (Ok first) (Err fault) behind = refl
+regrouped (Ok first) (Ok orders) (Err fault) = refl
+regrouped (Ok None) (Ok orders) (Ok more) = refl
+regrouped (Ok (Some one)) (Ok orders) (Ok more) = refl
+
+-- lines in two parts
+in_both : (c : Configuration) (n : ℕ) (xs ys : List (List ℕ)) → in_lines c n (xs ++ ys) ≡ (in_lines c n xs >>= λ orders. with_front orders (in_lines c (n + length xs) ys))
+unfolding in_lines
+in_both c n [] ys = front_none (in_lines c n ys) ∙ ap (λ (k : ℕ). with_front [] (in_lines c k ys)) (omega arith)
+in_both c n (x ∷ xs) ys =
+    let behind : in_lines c (n + 1) (xs ++ ys) ≡ (in_lines c (n + 1) xs >>= λ orders. with_front orders (in_lines c (n + length (x ∷ xs)) ys)) =
+    in_both c (n + 1) xs ys ∙ ap (λ (k : ℕ). in_lines c (n + 1) xs >>= λ orders. with_front orders (in_lines c k ys)) (omega arith) in
+    ap (λ (read : Result (List Order) ScriptFault). at_line n (in_line c x) >>= λ first. read >>= λ others. Ok (and_more first others)) behind
+    ∙ regrouped (at_line n (in_line c x)) (in_lines c (n + 1) xs) (in_lines c (n + length (x ∷ xs)) ys)
+
+-- the last line that was read, behind the commands before
+last_line : (before : List Order) (n : ℕ) (read : Result (Option Order) ScriptWhat) → with_front before (at_line n read >>= λ first. Ok (and_more first [])) ≡ at_line n (read >>= λ found. Ok (before ++ option_to_list found))
+last_line before n (Ok None) = refl
+last_line before n (Ok (Some one)) = refl
+last_line before n (Err what) = refl
+
+-- one more line
+in_one_more : (c : Configuration) (xs : List (List ℕ)) (x : List ℕ) (before : List Order) → in_lines c 1 xs ≡ Ok before → in_lines c 1 (xs ++ x ∷ []) ≡ at_line (1 + length xs) (with_line c before x)
+unfolding in_lines
+in_one_more c xs x before so_far = in_both c 1 xs (x ∷ []) ∙ rw so_far (last_line before (1 + length xs) (in_line c x))
+
+-- a line that was read
+pub goes_on : (c : Configuration) (xs : List (ℕ × Bor (List ℕ))) (x : ℕ × Bor (List ℕ)) (before after : List Order) (n : ℕ) (read : Result (Unit {0}) ScriptWhat)
+    → in_lines c 1 (texts xs) ≡ Ok before → Gives (λ _. after) read (with_line c before x.1.now) → Ok tt ≡ at_line n read → in_lines c 1 (texts (xs ++ x ∷ [])) ≡ Ok after
+goes_on c xs x before after n (Ok _) so_far gives is =
+    ap (λ (t : List (List ℕ)). in_lines c 1 t) (map-append (λ y. y.1.now) xs (x ∷ [])) ∙ in_one_more c (texts xs) x.1.now before so_far ∙ ap (λ (r : Result (List Order) ScriptWhat). at_line (1 + length (texts xs)) r) gives
+goes_on c xs x before after n (Err what) so_far gives is = absurd cc
+
+-- a fault of a line and the commands before is the line's
+first_fault : (before : List Order) (read : Result (Option Order) ScriptWhat) (what : ScriptWhat) → (read >>= λ found. Ok (before ++ option_to_list found)) ≡ Err what → read ≡ Err what
+first_fault before (Ok found) what e = absurd cc
+first_fault before (Err other) what e = cc
+
+-- lines up to a faulty one
+in_faulty : (c : Configuration) (xs : List (List ℕ)) (x : List ℕ) (more : List (List ℕ)) (before : List Order) (what : ScriptWhat) → in_lines c 1 xs ≡ Ok before → with_line c before x ≡ Err what
+    → in_lines c 1 (xs ++ x ∷ more) ≡ Err (record { line = 1 + length xs; what = what })
+unfolding in_lines
+in_faulty c xs x more before what so_far wrong =
+    let line : in_line c x ≡ Err what = first_fault before (in_line c x) what wrong in
+    in_both c 1 xs (x ∷ more) ∙ rw (so_far, line) refl
+
+-- a line that is faulty
+pub stops : (c : Configuration) (lines : List (List ℕ)) (xs : List (ℕ × Bor (List ℕ))) (x : ℕ × Bor (List ℕ)) (before after : List Order) (fault : ScriptFault) (read : Result (Unit {0}) ScriptWhat)
+    → in_lines c 1 (texts xs) ≡ Ok before → Gives (λ _. after) read (with_line c before x.1.now) → Err fault ≡ at_line (x.0 + 1) read → IsNext lines xs x → fault.what ≢ Memory → in_lines c 1 lines ≡ Err fault
+stops c lines xs x before after fault (Ok _) so_far gives is next other = absurd cc
+stops c lines xs x before after fault (Err what) so_far gives is next other =
+    let same : fault ≡ record { line = x.0 + 1; what = what } = cc in
+    let wrong : with_line c before x.1.now ≡ Err what = gives (λ e. other (ap (λ (f : ScriptFault). f.what) same ∙ e)) in
+    let number : 1 + length (texts xs) ≡ x.0 + 1 = omega (arith, next.number, length-map xs (λ (y : ℕ × Bor (List ℕ)). y.1.now)) in
+    ap (λ (t : List (List ℕ)). in_lines c 1 t) next.parts
+    ∙ in_faulty c (texts xs) x.1.now (drop (length xs + 1) lines) before what so_far wrong
+    ∙ ap (λ (n : ℕ). Err (record { line = n; what = what })) number
+    ∙ ap Err (sym same)

@@ -1,0 +1,4 @@
+pub mod Order
+pub mod Words
+pub mod Spelling
+pub mod Fault

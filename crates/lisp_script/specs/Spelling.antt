@@ -1,0 +1,165 @@
+-- Which commands the lines of a script spell, or its first faulty line: the first word is looked at first, then the
+-- number of words, then the words from left to right.
+use Rattle.std.specs.Prelude.{ℕ, ◌+◌, ◌==◌, Bool, false, nat_lt, List, [], ◌∷◌, ◌++◌, length, codes, Option, Some, None, Result, Ok, Err, if◌then◌else◌}
+use Rattle.std.specs.List.{find}
+use Rattle.std.specs.Option.{option_map, option_to_list, ok_or}
+use Rattle.std.specs.Str.Lines.{lines}
+use Rattle.lisp_records.specs.Result.{◌>>=◌}
+use Rattle.lisp_store.specs.declared.fate.Fate.{Fate}
+use Rattle.lisp_store.specs.declared.fate.Fate.TheVariants.{Done}
+use Rattle.lisp_sites.specs.Configuration.{Configuration}
+use Rattle.lisp_schedules.specs.declared.event.Event.TheVariants as events
+use Rattle.lisp_script.specs.declared.command.Command.TheVariants.{Act, Hold, Acks, Ask, Due}
+use Rattle.lisp_script.specs.declared.verb.Verb.{Verb}
+use Rattle.lisp_script.specs.declared.verb.Verb.TheVariants as verbs
+use Rattle.lisp_script.specs.declared.fault.ScriptWhat.{ScriptWhat}
+use Rattle.lisp_script.specs.declared.fault.ScriptWhat.TheVariants as whats
+use Rattle.lisp_script.specs.declared.fault.ScriptFault.{ScriptFault}
+use Rattle.lisp_script.specs.Order.{Order}
+use Rattle.lisp_script.specs.Words.{words_of, is_word, node_of, server_of, router_of, number_in, address_in, bytes_in, doubt_in, fate_in, database_in}
+
+-- the first words
+abbrev pub first_words : List (List ℕ × Verb)
+first_words =
+    (codes "change", verbs.Change) ∷ (codes "send", verbs.Send) ∷ (codes "deliver", verbs.Deliver) ∷ (codes "junk", verbs.Junk)
+    ∷ (codes "tick", verbs.Tick) ∷ (codes "restart", verbs.Restart) ∷ (codes "notice", verbs.Notice) ∷ (codes "resend", verbs.Resend)
+    ∷ (codes "hold", verbs.Hold) ∷ (codes "acks", verbs.Acks) ∷ (codes "ask", verbs.Ask) ∷ (codes "due", verbs.Due) ∷ []
+
+abbrev pub verb_of : List ℕ → Result Verb ScriptWhat
+verb_of word = ok_or (option_map (λ p. p.1) (find (λ p. is_word p.0 word) first_words)) whats.Word
+
+-- change R, with a database
+unfoldable pub change_of : Configuration → List ℕ → List (List ℕ) → Result Order ScriptWhat
+change_of c r records = do
+  router ← router_of c r
+  db ← database_in records
+  Ok (Act (events.Change router db))
+
+-- send R S
+unfoldable pub send_of : Configuration → List ℕ → List ℕ → Result Fate ScriptWhat → Result Order ScriptWhat
+send_of c r s becomes = do
+  router ← router_of c r
+  server ← server_of c s
+  fate ← becomes
+  Ok (Act (events.Send router server fate))
+
+-- deliver D
+unfoldable pub deliver_of : List ℕ → Result Fate ScriptWhat → Result Order ScriptWhat
+deliver_of d becomes = do
+  k ← number_in d
+  fate ← becomes
+  Ok (Act (events.Deliver k fate))
+
+-- notice S R
+unfoldable pub notice_of : Configuration → List ℕ → List ℕ → Result Fate ScriptWhat → Result Order ScriptWhat
+notice_of c s r becomes = do
+  server ← server_of c s
+  router ← router_of c r
+  fate ← becomes
+  Ok (Act (events.Notice server router fate))
+
+-- a database is given to a router alone
+abbrev pub given_to : Configuration → ℕ → Result ℕ ScriptWhat
+given_to c node = if nat_lt node (length c.servers) then Err whats.Name else Ok node
+
+-- restart N P
+unfoldable pub restart_of : Configuration → List ℕ → List ℕ → Result Order ScriptWhat
+restart_of c n p = do
+  node ← node_of c n
+  pick ← number_in p
+  Ok (Act (events.Restart node pick None))
+
+-- restart N P, with a database
+unfoldable pub restart_with : Configuration → List ℕ → List ℕ → List (List ℕ) → Result Order ScriptWhat
+restart_with c n p records = do
+  node ← node_of c n
+  pick ← number_in p
+  router ← given_to c node
+  db ← database_in records
+  Ok (Act (events.Restart router pick (Some db)))
+
+-- a line of the table for each form of a command: what its words stand for
+unfoldable pub spelt : Configuration → Verb → List (List ℕ) → Result Order ScriptWhat
+spelt c verbs.Change (r ∷ first ∷ more) = change_of c r (first ∷ more)
+spelt c verbs.Send (r ∷ s ∷ []) = send_of c r s (Ok Done)
+spelt c verbs.Send (r ∷ s ∷ doubt ∷ []) = send_of c r s (doubt_in doubt)
+spelt c verbs.Deliver (d ∷ []) = deliver_of d (Ok Done)
+spelt c verbs.Deliver (d ∷ fate ∷ []) = deliver_of d (fate_in fate)
+spelt c verbs.Junk (n ∷ a ∷ h ∷ []) = do
+  to ← node_of c n
+  from ← address_in a
+  bytes ← bytes_in h
+  Ok (Act (events.Junk to from bytes))
+spelt c verbs.Tick (m ∷ []) = do
+  ms ← number_in m
+  Ok (Act (events.Tick ms))
+spelt c verbs.Restart (n ∷ p ∷ []) = restart_of c n p
+spelt c verbs.Restart (n ∷ p ∷ first ∷ more) = restart_with c n p (first ∷ more)
+spelt c verbs.Notice (s ∷ r ∷ []) = notice_of c s r (Ok Done)
+spelt c verbs.Notice (s ∷ r ∷ fate ∷ []) = notice_of c s r (fate_in fate)
+spelt c verbs.Resend (s ∷ r ∷ []) = do
+  server ← server_of c s
+  router ← router_of c r
+  Ok (Act (events.Resend server router))
+spelt c verbs.Hold (s ∷ []) = do
+  server ← server_of c s
+  Ok (Hold server)
+spelt c verbs.Acks (r ∷ []) = do
+  router ← router_of c r
+  Ok (Acks router)
+spelt c verbs.Ask (s ∷ a ∷ []) = do
+  server ← server_of c s
+  addr ← address_in a
+  Ok (Ask server addr)
+spelt c verbs.Due (n ∷ []) = do
+  node ← node_of c n
+  Ok (Due node)
+spelt c _ _ = Err whats.Count
+
+-- a command by its first word and the words behind it
+abbrev pub command_of : Configuration → List ℕ → List (List ℕ) → Result Order ScriptWhat
+command_of c word words = do
+  verb ← verb_of word
+  spelt c verb words
+
+-- a comment begins with '#' (35)
+abbrev pub is_comment : List ℕ → Bool
+is_comment [] = false
+is_comment (b ∷ line) = b == 35
+
+-- a line has a command, or none where it is a comment or blank
+abbrev pub in_words : Configuration → List (List ℕ) → Result (Option Order) ScriptWhat
+in_words c [] = Ok None
+in_words c (word ∷ words) = do
+  found ← command_of c word words
+  Ok (Some found)
+
+abbrev pub in_line : Configuration → List ℕ → Result (Option Order) ScriptWhat
+in_line c line = if is_comment line then Ok None else in_words c (words_of line)
+
+-- commands, and behind them that of a line
+abbrev pub with_line : Configuration → List Order → List ℕ → Result (List Order) ScriptWhat
+with_line c before line = do
+  found ← in_line c line
+  Ok (before ++ option_to_list found)
+
+-- the fault of a line, with its number
+abbrev pub at_line : {X : Type 0} → ℕ → Result X ScriptWhat → Result X ScriptFault
+at_line number (Ok x) = Ok x
+at_line number (Err what) = Err (record { line = number; what = what })
+
+-- the commands of lines, numbered from a number on
+abbrev pub and_more : Option Order → List Order → List Order
+and_more None orders = orders
+and_more (Some first) orders = first ∷ orders
+
+unfoldable pub in_lines : Configuration → ℕ → List (List ℕ) → Result (List Order) ScriptFault
+in_lines c number [] = Ok []
+in_lines c number (line ∷ more) = do
+  first ← at_line number (in_line c line)
+  others ← in_lines c (number + 1) more
+  Ok (and_more first others)
+
+-- the commands of a script
+abbrev pub script_of : Configuration → List ℕ → Result (List Order) ScriptFault
+script_of c text = in_lines c 1 (lines text)

@@ -1,0 +1,26 @@
+//! The commands of a script.
+
+use lisp_records::Addr;
+use lisp_schedules::Event;
+use std::alloc::{Allocator, Global};
+
+/// A command: an event, or what is asked of a node. Nodes are named by their numbers: Map-Servers, then routers, in the
+/// order of the configuration.
+#[derive(Debug, Drop)]
+pub enum Command<A: Allocator = Global> {
+    /// An event.
+    Act(Event<A>),
+    /// Which rows a Map-Server holds.
+    Hold(usize),
+    /// What a router counted last from each of its Map-Servers.
+    Acks(usize),
+    /// Who answers for an address at a Map-Server.
+    Ask {
+        /// The Map-Server.
+        server: usize,
+        /// The address.
+        addr: Addr,
+    },
+    /// Which Map-Server is due to a router, or to which router a notice of a Map-Server is.
+    Due(usize),
+}

@@ -1,0 +1,84 @@
+//! Scripts.
+
+ghost use Rattle.std.specs.Prelude.{◌≡◌, ◌≢◌, map, Ok, Err, IfOk, IfErr};
+ghost use Rattle.std.specs.Option.{option_map};
+ghost use Rattle.lisp_script.specs.Fault.{Gives};
+ghost use Rattle.lisp_script.specs.Order.{order};
+ghost use Rattle.lisp_script.specs.Spelling.{script_of, in_line, with_line, is_comment, at_line};
+ghost use Rattle.lisp_script.specs.declared.fault.ScriptWhat.TheVariants.{Memory};
+
+use crate::command::Command;
+use crate::fault::{ScriptFault, ScriptWhat};
+use crate::spelling::command;
+use crate::words::words;
+use lisp_memory::{FallibleVec, Memory};
+use lisp_sites::Config;
+use std::alloc::Allocator;
+
+/// The commands of a script, by the names of a configuration: a line each, whose words are separated by spaces. Lines end
+/// with a line feed; a carriage return before it is dropped. Blank lines, and lines that begin with `#`, are skipped.
+///
+/// The first faulty line is the fault, with its number, from 1 on; `Memory` where memory runs out in a line.
+pub fn parse_script<A: Memory + Copy, E: Allocator>(
+    alloc: A,
+    config: &Config<E>,
+    text: &str,
+) -> Result<Vec<Command<A>, A>, ScriptFault>
+    ensures commands { IfOk result (λ commands. script_of config.now text.now ≡ Ok (map order commands.items)) }
+    ensures fault { IfErr result (λ fault. fault.what ≢ ScriptWhat.Memory → script_of config.now text.now ≡ Err fault) }
+    ensures memory { IfErr result (λ fault. fault.what ≡ ScriptWhat.Memory → A.may_refuse) }
+{
+    let mut commands = Vec::new(alloc);
+    for (place, line) in text.lines().enumerate() {
+        at_line(place + 1, read_line(alloc, config, line, &mut commands))?;
+    }
+    Ok(commands)
+}
+
+// Appends the command of a line, where it has one.
+fn read_line<A: Memory + Copy, E: Allocator>(
+    alloc: A,
+    config: &Config<E>,
+    line: &str,
+    commands: &mut Vec<Command<A>, A>,
+) -> Result<(), ScriptWhat>
+    ensures value { Gives (λ _. map order commands.new.items) result (with_line config.now (map order commands.old.items) line.now) }
+    ensures memory { IfErr result (λ what. what ≡ ScriptWhat.Memory → A.may_refuse) }
+{
+    if let Some(command) = line_command(alloc, config, line)? {
+        commands.try_push(command)?;
+    }
+    Ok(())
+}
+
+// The command of a line, or `None` where it has none.
+fn line_command<A: Memory + Copy, E: Allocator>(
+    alloc: A,
+    config: &Config<E>,
+    line: &str,
+) -> Result<Option<Command<A>>, ScriptWhat>
+    ensures value { Gives (λ command. option_map order command) result (in_line config.now line.now) }
+    ensures memory { IfErr result (λ what. what ≡ ScriptWhat.Memory → A.may_refuse) }
+{
+    if is_comment(line) {
+        return Ok(None);
+    }
+    let words = words(alloc, line)?;
+    command(alloc, config, &words)
+}
+
+fn is_comment(line: &str) -> bool
+    ensures { result ≡ is_comment line.now }
+{
+    matches!(line.as_bytes(), [b'#', ..])
+}
+
+// What a line gave; a fault with the line's number.
+fn at_line<X: Drop>(line: usize, read: Result<X, ScriptWhat>) -> Result<X, ScriptFault>
+    ensures { result ≡ at_line line read }
+{
+    match read {
+        Ok(value) => Ok(value),
+        Err(what) => Err(ScriptFault { line, what }),
+    }
+}

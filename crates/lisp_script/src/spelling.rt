@@ -1,0 +1,376 @@
+//! What the words of a line spell: a command.
+
+ghost use Rattle.std.specs.Prelude.{◌≡◌, ◌≢◌, map, IfErr};
+ghost use Rattle.std.specs.Option.{option_map};
+ghost use Rattle.lisp_records.specs.Result.{Reads};
+ghost use Rattle.lisp_sites.specs.Configuration.{Configuration};
+ghost use Rattle.lisp_script.specs.Fault.{Gives};
+ghost use Rattle.lisp_script.specs.Order.{order};
+ghost use Rattle.lisp_script.specs.Spelling.{change_of, send_of, deliver_of, restart_of, restart_with, notice_of, given_to, spelt, in_words};
+ghost use Rattle.lisp_script.specs.declared.fault.ScriptWhat.TheVariants.{Memory};
+ghost use Rattle.lisp_script.specs.declared.verb.Verb.TheVariants as verbs;
+
+use crate::command::Command;
+use crate::fault::ScriptWhat;
+use crate::verb::Verb;
+use crate::words::{address, bytes, database, doubt, fate, node, number, router, server};
+use lisp_memory::Memory;
+use lisp_schedules::Event;
+use lisp_sites::Config;
+use lisp_store::Fate;
+use std::alloc::Allocator;
+
+/// The command of a line's words, or `None` where it has none.
+pub(crate) fn command<A: Memory + Copy, E: Allocator>(
+    alloc: A,
+    config: &Config<E>,
+    words: &[&str],
+) -> Result<Option<Command<A>>, ScriptWhat>
+    ensures value { Gives (λ command. option_map order command) result (in_words config.now (map (λ w. w.now) words.now)) }
+    ensures memory { IfErr result (λ what. what ≡ ScriptWhat.Memory → A.may_refuse) }
+{
+    let [word, words @ ..] = words else {
+        return Ok(None);
+    };
+    let verb = Verb::from_word(word)?;
+    Ok(Some(spelt(alloc, config, verb, words)?))
+}
+
+// The command of a verb and the words behind it.
+fn spelt<A: Memory + Copy, E: Allocator>(
+    alloc: A,
+    config: &Config<E>,
+    verb: Verb,
+    words: &[&str],
+) -> Result<Command<A>, ScriptWhat>
+    ensures value { Gives order result (spelt config.now verb (map (λ w. w.now) words.now)) }
+    ensures memory { IfErr result (λ what. what ≡ ScriptWhat.Memory → A.may_refuse) }
+{
+    match verb {
+        Verb::Change => change(alloc, config, words),
+        Verb::Send => send(config, words),
+        Verb::Deliver => deliver(words),
+        Verb::Junk => junk(alloc, config, words),
+        Verb::Tick => tick(words),
+        Verb::Restart => restart(alloc, config, words),
+        Verb::Notice => notice(config, words),
+        Verb::Resend => resend(config, words),
+        Verb::Hold => hold(config, words),
+        Verb::Acks => acks(config, words),
+        Verb::Ask => ask(config, words),
+        Verb::Due => due(config, words),
+    }
+}
+
+// change R, with a database
+#[tactic(auto, unfolding(crate::specs::Spelling::spelt))]
+fn change<A: Memory + Copy, E: Allocator>(
+    alloc: A,
+    config: &Config<E>,
+    words: &[&str],
+) -> Result<Command<A>, ScriptWhat>
+    ensures value { Gives order result (spelt config.now verbs.Change (map (λ w. w.now) words.now)) }
+    ensures memory { IfErr result (λ what. what ≡ ScriptWhat.Memory → A.may_refuse) }
+{
+    match words {
+        [] | [_] => Err(ScriptWhat::Count),
+        [router, records @ ..] => changed(alloc, config, router, records),
+    }
+}
+
+// send R S, and perhaps what becomes of the save
+#[tactic(auto, unfolding(crate::specs::Spelling::spelt))]
+fn send<A: Allocator, E: Allocator>(
+    config: &Config<E>,
+    words: &[&str],
+) -> Result<Command<A>, ScriptWhat>
+    ensures value { Reads order result (spelt config.now verbs.Send (map (λ w. w.now) words.now)) }
+    ensures plain { IfErr result (λ what. what ≢ ScriptWhat.Memory) }
+{
+    match words {
+        [router, server] => sent(config, router, server, Ok(Fate::Done)),
+        [router, server, becomes] => sent(config, router, server, doubt(becomes)),
+        _ => Err(ScriptWhat::Count),
+    }
+}
+
+// deliver D, and perhaps what becomes of a load or a save
+#[tactic(auto, unfolding(crate::specs::Spelling::spelt))]
+fn deliver<A: Allocator>(words: &[&str]) -> Result<Command<A>, ScriptWhat>
+    ensures value { (c : Configuration) → Reads order result (spelt c verbs.Deliver (map (λ w. w.now) words.now)) }
+    ensures plain { IfErr result (λ what. what ≢ ScriptWhat.Memory) }
+{
+    match words {
+        [datagram] => delivered(datagram, Ok(Fate::Done)),
+        [datagram, becomes] => delivered(datagram, fate(becomes)),
+        _ => Err(ScriptWhat::Count),
+    }
+}
+
+// junk N A H
+#[tactic(auto, unfolding(crate::specs::Spelling::spelt))]
+fn junk<A: Memory + Copy, E: Allocator>(
+    alloc: A,
+    config: &Config<E>,
+    words: &[&str],
+) -> Result<Command<A>, ScriptWhat>
+    ensures value { Gives order result (spelt config.now verbs.Junk (map (λ w. w.now) words.now)) }
+    ensures memory { IfErr result (λ what. what ≡ ScriptWhat.Memory → A.may_refuse) }
+{
+    let [to, from, digits] = words else {
+        return Err(ScriptWhat::Count);
+    };
+    let to = node(config, to)?;
+    let from = address(from)?;
+    let bytes = bytes(alloc, digits)?;
+    Ok(Command::Act(Event::Junk { to, from, bytes }))
+}
+
+// tick M
+#[tactic(auto, unfolding(crate::specs::Spelling::spelt))]
+fn tick<A: Allocator>(words: &[&str]) -> Result<Command<A>, ScriptWhat>
+    ensures value { (c : Configuration) → Reads order result (spelt c verbs.Tick (map (λ w. w.now) words.now)) }
+    ensures plain { IfErr result (λ what. what ≢ ScriptWhat.Memory) }
+{
+    let [ms] = words else {
+        return Err(ScriptWhat::Count);
+    };
+    Ok(Command::Act(Event::Tick(number(ms)?)))
+}
+
+// restart N P, and perhaps with a database
+#[tactic(auto, unfolding(crate::specs::Spelling::spelt))]
+fn restart<A: Memory + Copy, E: Allocator>(
+    alloc: A,
+    config: &Config<E>,
+    words: &[&str],
+) -> Result<Command<A>, ScriptWhat>
+    ensures value { Gives order result (spelt config.now verbs.Restart (map (λ w. w.now) words.now)) }
+    ensures memory { IfErr result (λ what. what ≡ ScriptWhat.Memory → A.may_refuse) }
+{
+    match words {
+        [] | [_] => Err(ScriptWhat::Count),
+        [node, pick] => restarted(config, node, pick),
+        [node, pick, records @ ..] => restarted_with(alloc, config, node, pick, records),
+    }
+}
+
+// notice S R, and perhaps what becomes of a load or a save
+#[tactic(auto, unfolding(crate::specs::Spelling::spelt))]
+fn notice<A: Allocator, E: Allocator>(
+    config: &Config<E>,
+    words: &[&str],
+) -> Result<Command<A>, ScriptWhat>
+    ensures value { Reads order result (spelt config.now verbs.Notice (map (λ w. w.now) words.now)) }
+    ensures plain { IfErr result (λ what. what ≢ ScriptWhat.Memory) }
+{
+    match words {
+        [server, router] => noticed(config, server, router, Ok(Fate::Done)),
+        [server, router, becomes] => noticed(config, server, router, fate(becomes)),
+        _ => Err(ScriptWhat::Count),
+    }
+}
+
+// resend S R
+#[tactic(auto, unfolding(crate::specs::Spelling::spelt))]
+fn resend<A: Allocator, E: Allocator>(
+    config: &Config<E>,
+    words: &[&str],
+) -> Result<Command<A>, ScriptWhat>
+    ensures value { Reads order result (spelt config.now verbs.Resend (map (λ w. w.now) words.now)) }
+    ensures plain { IfErr result (λ what. what ≢ ScriptWhat.Memory) }
+{
+    let [from, to] = words else {
+        return Err(ScriptWhat::Count);
+    };
+    let server = server(config, from)?;
+    let router = router(config, to)?;
+    Ok(Command::Act(Event::Resend { server, router }))
+}
+
+// hold S
+#[tactic(auto, unfolding(crate::specs::Spelling::spelt))]
+fn hold<A: Allocator, E: Allocator>(
+    config: &Config<E>,
+    words: &[&str],
+) -> Result<Command<A>, ScriptWhat>
+    ensures value { Reads order result (spelt config.now verbs.Hold (map (λ w. w.now) words.now)) }
+    ensures plain { IfErr result (λ what. what ≢ ScriptWhat.Memory) }
+{
+    let [name] = words else {
+        return Err(ScriptWhat::Count);
+    };
+    Ok(Command::Hold(server(config, name)?))
+}
+
+// acks R
+#[tactic(auto, unfolding(crate::specs::Spelling::spelt))]
+fn acks<A: Allocator, E: Allocator>(
+    config: &Config<E>,
+    words: &[&str],
+) -> Result<Command<A>, ScriptWhat>
+    ensures value { Reads order result (spelt config.now verbs.Acks (map (λ w. w.now) words.now)) }
+    ensures plain { IfErr result (λ what. what ≢ ScriptWhat.Memory) }
+{
+    let [name] = words else {
+        return Err(ScriptWhat::Count);
+    };
+    Ok(Command::Acks(router(config, name)?))
+}
+
+// ask S A
+#[tactic(auto, unfolding(crate::specs::Spelling::spelt))]
+fn ask<A: Allocator, E: Allocator>(
+    config: &Config<E>,
+    words: &[&str],
+) -> Result<Command<A>, ScriptWhat>
+    ensures value { Reads order result (spelt config.now verbs.Ask (map (λ w. w.now) words.now)) }
+    ensures plain { IfErr result (λ what. what ≢ ScriptWhat.Memory) }
+{
+    let [name, addr] = words else {
+        return Err(ScriptWhat::Count);
+    };
+    let server = server(config, name)?;
+    let addr = address(addr)?;
+    Ok(Command::Ask { server, addr })
+}
+
+// due N
+#[tactic(auto, unfolding(crate::specs::Spelling::spelt))]
+fn due<A: Allocator, E: Allocator>(
+    config: &Config<E>,
+    words: &[&str],
+) -> Result<Command<A>, ScriptWhat>
+    ensures value { Reads order result (spelt config.now verbs.Due (map (λ w. w.now) words.now)) }
+    ensures plain { IfErr result (λ what. what ≢ ScriptWhat.Memory) }
+{
+    let [name] = words else {
+        return Err(ScriptWhat::Count);
+    };
+    Ok(Command::Due(node(config, name)?))
+}
+
+// A router is given a database.
+#[tactic(auto, unfolding(crate::specs::Spelling::change_of))]
+fn changed<A: Memory + Copy, E: Allocator>(
+    alloc: A,
+    config: &Config<E>,
+    name: &str,
+    records: &[&str],
+) -> Result<Command<A>, ScriptWhat>
+    ensures value { Gives order result (change_of config.now name.now (map (λ w. w.now) records.now)) }
+    ensures memory { IfErr result (λ what. what ≡ ScriptWhat.Memory → A.may_refuse) }
+{
+    let router = router(config, name)?;
+    let db = database(alloc, records)?;
+    Ok(Command::Act(Event::Change { router, db }))
+}
+
+// A router sends a Map-Register.
+#[tactic(auto, unfolding(crate::specs::Spelling::send_of))]
+fn sent<A: Allocator, E: Allocator>(
+    config: &Config<E>,
+    from: &str,
+    to: &str,
+    becomes: Result<Fate, ScriptWhat>,
+) -> Result<Command<A>, ScriptWhat>
+    requires { IfErr becomes (λ what. what ≢ ScriptWhat.Memory) }
+    ensures value { Reads order result (send_of config.now from.now to.now becomes) }
+    ensures plain { IfErr result (λ what. what ≢ ScriptWhat.Memory) }
+{
+    let router = router(config, from)?;
+    let server = server(config, to)?;
+    let fate = becomes?;
+    Ok(Command::Act(Event::Send {
+        router,
+        server,
+        fate,
+    }))
+}
+
+// A datagram arrives.
+#[tactic(auto, unfolding(crate::specs::Spelling::deliver_of))]
+fn delivered<A: Allocator>(
+    datagram: &str,
+    becomes: Result<Fate, ScriptWhat>,
+) -> Result<Command<A>, ScriptWhat>
+    requires { IfErr becomes (λ what. what ≢ ScriptWhat.Memory) }
+    ensures value { Reads order result (deliver_of datagram.now becomes) }
+    ensures plain { IfErr result (λ what. what ≢ ScriptWhat.Memory) }
+{
+    let k = number(datagram)? as usize;
+    let fate = becomes?;
+    Ok(Command::Act(Event::Deliver { k, fate }))
+}
+
+// A node restarts.
+#[tactic(auto, unfolding(crate::specs::Spelling::restart_of))]
+fn restarted<A: Allocator, E: Allocator>(
+    config: &Config<E>,
+    name: &str,
+    pick: &str,
+) -> Result<Command<A>, ScriptWhat>
+    ensures value { Reads order result (restart_of config.now name.now pick.now) }
+    ensures plain { IfErr result (λ what. what ≢ ScriptWhat.Memory) }
+{
+    let node = node(config, name)?;
+    let pick = number(pick)?;
+    Ok(Command::Act(Event::Restart {
+        node,
+        pick,
+        db: None,
+    }))
+}
+
+// A router restarts with another database.
+#[tactic(auto, unfolding(crate::specs::Spelling::restart_with))]
+fn restarted_with<A: Memory + Copy, E: Allocator>(
+    alloc: A,
+    config: &Config<E>,
+    name: &str,
+    pick: &str,
+    records: &[&str],
+) -> Result<Command<A>, ScriptWhat>
+    ensures value { Gives order result (restart_with config.now name.now pick.now (map (λ w. w.now) records.now)) }
+    ensures memory { IfErr result (λ what. what ≡ ScriptWhat.Memory → A.may_refuse) }
+{
+    let node = node(config, name)?;
+    let pick = number(pick)?;
+    let node = given_to(config, node)?;
+    let db = Some(database(alloc, records)?);
+    Ok(Command::Act(Event::Restart { node, pick, db }))
+}
+
+// A database is given to a router alone.
+fn given_to<E: Allocator>(config: &Config<E>, node: usize) -> Result<usize, ScriptWhat>
+    ensures value { result ≡ given_to config.now node }
+    ensures plain { IfErr result (λ what. what ≢ ScriptWhat.Memory) }
+{
+    if node < config.servers().len() {
+        Err(ScriptWhat::Name)
+    } else {
+        Ok(node)
+    }
+}
+
+// A Map-Server sends a notice.
+#[tactic(auto, unfolding(crate::specs::Spelling::notice_of))]
+fn noticed<A: Allocator, E: Allocator>(
+    config: &Config<E>,
+    from: &str,
+    to: &str,
+    becomes: Result<Fate, ScriptWhat>,
+) -> Result<Command<A>, ScriptWhat>
+    requires { IfErr becomes (λ what. what ≢ ScriptWhat.Memory) }
+    ensures value { Reads order result (notice_of config.now from.now to.now becomes) }
+    ensures plain { IfErr result (λ what. what ≢ ScriptWhat.Memory) }
+{
+    let server = server(config, from)?;
+    let router = router(config, to)?;
+    let fate = becomes?;
+    Ok(Command::Act(Event::Notice {
+        server,
+        router,
+        fate,
+    }))
+}

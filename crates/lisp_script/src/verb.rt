@@ -1,0 +1,48 @@
+//! The first word of a command.
+
+ghost use Rattle.std.specs.Prelude.{◌≡◌, ◌≢◌, IfErr};
+ghost use Rattle.lisp_script.specs.Spelling.{verb_of};
+ghost use Rattle.lisp_script.specs.declared.fault.ScriptWhat.TheVariants.{Memory};
+
+use crate::fault::ScriptWhat;
+
+/// What a command does, by its first word.
+#[derive(Clone, Copy, Debug, PartialEq, Eq)]
+pub(crate) enum Verb {
+    Change,
+    Send,
+    Deliver,
+    Junk,
+    Tick,
+    Restart,
+    Notice,
+    Resend,
+    Hold,
+    Acks,
+    Ask,
+    Due,
+}
+
+impl Verb {
+    /// The verb of a command's first word.
+    pub(crate) fn from_word(word: &str) -> Result<Verb, ScriptWhat>
+        ensures value { result ≡ verb_of word.now }
+        ensures plain { IfErr result (λ what. what ≢ ScriptWhat.Memory) }
+    {
+        match word {
+            "change" => Ok(Verb::Change),
+            "send" => Ok(Verb::Send),
+            "deliver" => Ok(Verb::Deliver),
+            "junk" => Ok(Verb::Junk),
+            "tick" => Ok(Verb::Tick),
+            "restart" => Ok(Verb::Restart),
+            "notice" => Ok(Verb::Notice),
+            "resend" => Ok(Verb::Resend),
+            "hold" => Ok(Verb::Hold),
+            "acks" => Ok(Verb::Acks),
+            "ask" => Ok(Verb::Ask),
+            "due" => Ok(Verb::Due),
+            _ => Err(ScriptWhat::Word),
+        }
+    }
+}

@@ -1,0 +1,172 @@
+//! The words of a line, and what single words stand for.
+
+ghost use Rattle.std.specs.Prelude.{◌≡◌, ◌≢◌, map, position, IfOk, IfErr, OnErr};
+ghost use Rattle.lisp_script.specs.Fault.{Gives};
+ghost use Rattle.lisp_script.specs.Words.{words_of, is_word, node_of, server_of, router_of, number_in, address_in, bytes_in, doubt_in, fate_in, records_in, some_records, database_in};
+ghost use Rattle.lisp_script.specs.declared.fault.ScriptWhat.TheVariants.{Memory};
+
+use crate::fault::ScriptWhat;
+use lisp_memory::{FallibleCopies, FallibleVec, Memory};
+use lisp_records::{Addr, Bytes, Database, MapRecord};
+use lisp_sites::{Config, RouterEntry, ServerEntry};
+use lisp_store::Fate;
+use lisp_texts::{addr_from_text, number_from_text, record_from_text};
+use std::alloc::{AllocError, Allocator};
+
+/// The words of a line, which spaces separate.
+pub(crate) fn words<A: Memory>(alloc: A, line: &str) -> Result<Vec<&str, A>, AllocError>
+    ensures value { IfOk result (λ words. map (λ w. w.now) words.items ≡ words_of line.now) }
+    ensures memory { OnErr result A.may_refuse }
+{
+    let mut words = Vec::new(alloc);
+    for word in line.split(' ') {
+        if !word.is_empty() {
+            words.try_push(word)?;
+        }
+    }
+    Ok(words)
+}
+
+/// The Map-Server or router with a name, by its number.
+#[tactic(auto, using(crate::proofs::Places::node_by_kind))]
+pub(crate) fn node<E: Allocator>(config: &Config<E>, word: &str) -> Result<usize, ScriptWhat>
+    ensures value { result ≡ node_of config.now word.now }
+    ensures plain { IfErr result (λ what. what ≢ ScriptWhat.Memory) }
+{
+    match server(config, word) {
+        Ok(server) => Ok(server),
+        Err(_) => router(config, word),
+    }
+}
+
+/// The Map-Server with a name.
+#[tactic(auto, unfolding(crate::specs::Words::server_of))]
+pub(crate) fn server<E: Allocator>(config: &Config<E>, word: &str) -> Result<usize, ScriptWhat>
+    ensures value { result ≡ server_of config.now word.now }
+    ensures plain { IfErr result (λ what. what ≢ ScriptWhat.Memory) }
+{
+    server_place(config.servers(), word).ok_or(ScriptWhat::Name)
+}
+
+/// The router with a name, by its number.
+#[tactic(auto, unfolding(crate::specs::Words::router_of))]
+pub(crate) fn router<E: Allocator>(config: &Config<E>, word: &str) -> Result<usize, ScriptWhat>
+    ensures value { result ≡ router_of config.now word.now }
+    ensures plain { IfErr result (λ what. what ≢ ScriptWhat.Memory) }
+{
+    match router_place(config.routers(), word) {
+        Some(place) => Ok(config.servers().len() + place),
+        None => Err(ScriptWhat::Name),
+    }
+}
+
+fn server_place<E: Allocator>(servers: &[ServerEntry<E>], word: &str) -> Option<usize>
+    ensures { result ≡ position (λ s. is_word s.name word.now) servers.now }
+{
+    servers
+        .iter()
+        .position(|server| server.name.as_str() == word)
+}
+
+fn router_place<E: Allocator>(routers: &[RouterEntry<E>], word: &str) -> Option<usize>
+    ensures { result ≡ position (λ r. is_word r.name word.now) routers.now }
+{
+    routers
+        .iter()
+        .position(|router| router.name.as_str() == word)
+}
+
+/// A decimal number.
+pub(crate) fn number(word: &str) -> Result<u64, ScriptWhat>
+    ensures value { result ≡ number_in word.now }
+    ensures plain { IfErr result (λ what. what ≢ ScriptWhat.Memory) }
+{
+    number_from_text(word).ok_or(ScriptWhat::Number)
+}
+
+/// An address.
+pub(crate) fn address(word: &str) -> Result<Addr, ScriptWhat>
+    ensures value { result ≡ address_in word.now }
+    ensures plain { IfErr result (λ what. what ≢ ScriptWhat.Memory) }
+{
+    addr_from_text(word).ok_or(ScriptWhat::Record)
+}
+
+/// The bytes that hexadecimal digits stand for; none for `-`.
+pub(crate) fn bytes<A: Memory>(alloc: A, word: &str) -> Result<Bytes<A>, ScriptWhat>
+    ensures value { Gives (λ bytes. bytes) result (bytes_in word.now) }
+    ensures memory { IfErr result (λ what. what ≡ ScriptWhat.Memory → A.may_refuse) }
+{
+    if word == "-" {
+        return Ok(Bytes::from_vec(Vec::new(alloc)));
+    }
+    let mut bytes = Vec::try_from_elem(alloc, 0, word.len() / 2)?;
+    match hex::decode_to_slice(word, &mut bytes) {
+        Ok(()) => Ok(Bytes::from_vec(bytes)),
+        Err(_) => Err(ScriptWhat::Hex),
+    }
+}
+
+/// What becomes of a save.
+pub(crate) fn doubt(word: &str) -> Result<Fate, ScriptWhat>
+    ensures value { result ≡ doubt_in word.now }
+    ensures plain { IfErr result (λ what. what ≢ ScriptWhat.Memory) }
+{
+    if word == "doubt" {
+        Ok(Fate::Doubt)
+    } else {
+        Err(ScriptWhat::Word)
+    }
+}
+
+/// What becomes of a load, or of a save.
+pub(crate) fn fate(word: &str) -> Result<Fate, ScriptWhat>
+    ensures value { result ≡ fate_in word.now }
+    ensures plain { IfErr result (λ what. what ≢ ScriptWhat.Memory) }
+{
+    if word == "loadfails" {
+        Ok(Fate::LoadFails)
+    } else {
+        doubt(word)
+    }
+}
+
+/// The database of records, a word each, or of none where the only word is `empty`.
+pub(crate) fn database<A: Memory + Copy>(
+    alloc: A,
+    words: &[&str],
+) -> Result<Database<A>, ScriptWhat>
+    ensures value { Gives (λ db. db) result (database_in (map (λ w. w.now) words.now)) }
+    ensures memory { IfErr result (λ what. what ≡ ScriptWhat.Memory → A.may_refuse) }
+{
+    match words {
+        [word] if *word == "empty" => some_records(alloc, &[]),
+        _ => some_records(alloc, words),
+    }
+}
+
+// The database of records, a word each.
+fn some_records<A: Memory + Copy>(alloc: A, words: &[&str]) -> Result<Database<A>, ScriptWhat>
+    ensures value { Gives (λ db. db) result (some_records (map (λ w. w.now) words.now)) }
+    ensures memory { IfErr result (λ what. what ≡ ScriptWhat.Memory → A.may_refuse) }
+{
+    match Database::new(records(alloc, words)?) {
+        Ok(db) => Ok(db),
+        Err(_) => Err(ScriptWhat::Record),
+    }
+}
+
+// Records, a word each.
+fn records<A: Memory + Copy>(alloc: A, words: &[&str]) -> Result<Vec<MapRecord<A>, A>, ScriptWhat>
+    ensures value { Gives (λ records. records.items) result (records_in (map (λ w. w.now) words.now)) }
+    ensures memory { IfErr result (λ what. what ≡ ScriptWhat.Memory → A.may_refuse) }
+{
+    let mut records = Vec::new(alloc);
+    for word in words {
+        let Some(record) = record_from_text(alloc, word)? else {
+            return Err(ScriptWhat::Record);
+        };
+        records.try_push(record)?;
+    }
+    Ok(records)
+}
