@@ -1,0 +1,4 @@
+mod InputLemmas
+mod PartsLemmas
+mod Queries
+mod Turning

@@ -1,0 +1,80 @@
+//! Why a play ends before its end.
+
+ghost use Rattle.std.specs.Prelude.{◌≡◌};
+ghost use Rattle.lisp_player.specs.Fault.{play_fault_number};
+ghost use Rattle.lisp_player.specs.declared.fault.PlayFault.TheVariants.{OutOfMemory};
+
+use lisp_script::ScriptFault;
+use lisp_sites::ConfigFault;
+use lisp_world::WorldFault;
+use std::alloc::{AllocError, AllocFailed};
+use thiserror::Error;
+
+/// What keeps a play from its end, in this order, `Write` and `OutOfMemory` aside: at `Read`, `TooLong`, `NotUtf8`,
+/// `NoScript`, `Config`, `Script` and `World` nothing was written.
+#[derive(Clone, Copy, Debug, PartialEq, Eq, Error)]
+pub enum PlayFault {
+    /// The input could not be read, or took more than 2,097,152 reads.
+    #[error("the input can't be read")]
+    Read,
+    /// The output could not be written; a part of it may have been.
+    #[error("the output can't be written")]
+    Write,
+    /// The input has more than 1,048,576 bytes.
+    #[error("the input has more than 1,048,576 bytes")]
+    TooLong,
+    /// The input is not UTF-8.
+    #[error("the input is not UTF-8")]
+    NotUtf8,
+    /// No line of the input is `---`.
+    #[error("no line --- parts the configuration from the script")]
+    NoScript,
+    /// The text before that line is no configuration.
+    #[error("{0}")]
+    Config(ConfigFault),
+    /// The text behind that line is no script.
+    #[error("{0}")]
+    Script(ScriptFault),
+    /// No network can be made of the configuration.
+    #[error("{0}")]
+    World(WorldFault),
+    /// Out of memory.
+    #[error("out of memory: free some and try again")]
+    OutOfMemory,
+}
+
+impl PlayFault {
+    /// The number that operators see: `Read` 87, `Write` 88, `TooLong` 89, `NotUtf8` 95, `NoScript` 96, `OutOfMemory` 97;
+    /// of `Config`, `Script` and `World` that of the fault inside.
+    pub const fn number(&self) -> u16
+        ensures { result ≡ play_fault_number self.now }
+    {
+        match self {
+            PlayFault::Read => 87,
+            PlayFault::Write => 88,
+            PlayFault::TooLong => 89,
+            PlayFault::NotUtf8 => 95,
+            PlayFault::NoScript => 96,
+            PlayFault::Config(fault) => fault.number(),
+            PlayFault::Script(fault) => fault.number(),
+            PlayFault::World(fault) => fault.number(),
+            PlayFault::OutOfMemory => 97,
+        }
+    }
+}
+
+impl From<AllocError> for PlayFault {
+    ghost from_gives = { λ _ fault. fault ≡ OutOfMemory };
+
+    fn from(_error: AllocError) -> PlayFault {
+        PlayFault::OutOfMemory
+    }
+}
+
+impl<T: Drop> From<AllocFailed<T>> for PlayFault {
+    ghost from_gives = { λ _ fault. fault ≡ OutOfMemory };
+
+    fn from(_failed: AllocFailed<T>) -> PlayFault {
+        PlayFault::OutOfMemory
+    }
+}
