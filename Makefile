@@ -2,7 +2,7 @@
 # make lispd    proves the program and builds it as out/lispd
 # make test     the gate: proves everything from nothing, tries the wrong bodies, runs the tests and the samples
 # make mutants  tries further wrong bodies; NAME=lisp_server those of one crate
-# make bench    measures the codec, the tag, the reading of configurations and registrations
+# make bench    measures the codec, the tag, the reading of configurations, registrations, and plays (of these out/lispd)
 # make clean    removes what was built
 .PHONY: run lispd test mutants bench clean
 
@@ -13,18 +13,20 @@ lispd:
 	@tools/build
 
 # No crate may use lisp_memory's own proof that the machine's memory may be refused: grep prints the files that do.
-# One processor for each crate: several for one crate would take half as much processor time again.
+# One processor for each crate: several for one crate would take half as much processor time again. Of four
+# processors one is left free: they are often two to a core, and the chain of crates is what takes the time.
 test:
 	@! grep -rlE 'Rattle\.lisp_memory|lisp_memory::(specs|proofs)' crates --include=*.antt --include=*.rt | grep -v '^crates/lisp_memory/'
-	RT_JOBS=$$(nproc) rt ci
+	RT_JOBS=$$(($$(nproc) - $$(nproc) / 4)) rt ci
 	@examples/check.sh crates/lispd_main/out/lispd_main
 
 mutants:
 	@tools/mutants $(NAME)
 
-bench:
+bench: lispd
 	@mkdir -p out
 	@cd crates/lisp_bench && rt run -- 200000 2> ../../out/bench.log || { cat ../../out/bench.log >&2; exit 1; }
+	@tools/bench_play
 
 clean:
 	rm -rf out crates/*/out

@@ -1,7 +1,8 @@
 #!/bin/sh
 # check.sh [PROGRAM]
-# Runs the program (out/lispd, where none is named) over the cases of answers.txt, and over files that can't be
-# read or written. Prints each run that differs from what is wanted, and ends with 1 where one does.
+# Runs the program (out/lispd, where none is named) over the cases of answers.txt, the schedules, the lines of
+# refused.txt, and files that can't be read or written. Prints each run that differs from what is wanted, and ends with 1
+# where one does.
 case ${1-} in
     '') program=../out/lispd ;;
     /*) program=$1 ;;
@@ -15,6 +16,15 @@ failed=0
 differs() {
     echo "$1: status $status, '$(cat ../out/stdout)', '$(cat ../out/stderr)'; wanted $2"
     failed=1
+}
+
+# plays SCHEDULE: plays a schedule, and shows where its lines differ from those of the file beside it.
+plays() {
+    "$program" play "$1" > ../out/stdout 2> ../out/stderr
+    status=$?
+    runs=$((runs + 1))
+    [ $status = 0 ] && [ ! -s ../out/stderr ] && diff -u "${1%.schedule}.out" ../out/stdout ||
+        differs "$1" "0, '$(cat "${1%.schedule}.out")', ''"
 }
 
 # holds FILE TEXT: whether the file is this line, nothing where TEXT is empty, any text where it is *, and the
@@ -76,6 +86,26 @@ done < answers.txt
 run_case
 [ $runs -gt 0 ] || failed=1
 
+for schedule in schedules/*.schedule; do
+    plays "$schedule"
+done
+
+# Each line of refused.txt, in a schedule of the configuration.
+while IFS='|' read -r part fault text; do
+    case $part in
+        '#'* | '') continue ;;
+        script) cat configuration.toml && printf -- '---\n%b\n' "$text" ;;
+        configuration) sed "$text" configuration.toml && echo --- ;;
+        whole) printf '%b' "$text" ;;
+    esac > ../out/schedule
+    expect "refused.txt: $text" 2 '' "lispd: fault $fault" play ../out/schedule
+done < refused.txt
+
+expect 'a schedule on standard input' 0 @schedules/01-exchange.out '' play - < schedules/01-exchange.schedule
+expect 'a schedule that is not there' 1 '' 'lispd: fault 93' play no-such.schedule
+expect 'a directory as a schedule' 1 '' 'lispd: fault 87' play .
+head -c 1048577 /dev/zero | tr '\0' '#' > ../out/long
+expect 'a schedule of 1,048,577 bytes' 1 '' 'lispd: fault 89' play ../out/long
 expect 'a directory as input' 1 '' 'lispd: fault 87' < .
 head -c 1048577 /dev/zero | tr '\0' 0 > ../out/long
 expect 'a line of 1,048,577 bytes' 1 '' 'lispd: fault 89' < ../out/long
@@ -90,6 +120,7 @@ fills() {
 }
 
 fills
+fills play schedules/01-exchange.schedule
 fills --help
 fills --version
 

@@ -94,7 +94,7 @@ fn answers(rt: &impl Abort, ample: Global, call: &Call, heap: &LocalHeap) -> boo
         Call::CopyDatabase => copies_database(heap),
         Call::PassRegister => passes_message(heap, &MAP_REGISTER),
         Call::PassNotify => passes_message(heap, &MAP_NOTIFY),
-        Call::ReadRecord => spells_record(heap, BOTH, 1440, &[LOCATOR, IPV6_LOCATOR]),
+        Call::ReadRecord => spells_record(heap, BOTH, Some((1440, &[LOCATOR, IPV6_LOCATOR]))),
         Call::ReadSecret => spells_secret(heap, "736563726574", Some(SECRET)),
         Call::WriteRecord => rewrites_record(ample, heap, BOTH, BOTH_WRITTEN),
         Call::WritePrefix => rewrites_prefix(heap, "10.1.0.0/16", "10.1.0.0/16"),

@@ -2,5 +2,4 @@
 
 pub mod allowed;
 pub mod configuration;
-mod faults;
 pub mod memory;

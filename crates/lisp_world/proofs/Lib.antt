@@ -1,8 +1,5 @@
-pub mod NodeCalls
 pub mod Loops
-pub mod RouterCalls
-pub mod ServerCalls
-pub mod ArrivalCalls
+pub mod Arrivals
 pub mod Calm
 pub mod Steps
 pub mod Running

@@ -24,7 +24,7 @@ use Rattle.lisp_world.specs.Openings.{opening, lists_of}
 use Rattle.lisp_world.specs.Quiet.{AllHonest, AllCalm, stores_of, failures}
 use Rattle.lisp_turns.specs.Stands.{Shows, StandsForRound, StandsForEtr, StandsForCore, StandsForServer, StandsForRouter, Stands}
 use Rattle.lisp_turns.proofs.Gets.{none_is_some, same_some, get_before, get_replicate, get_mapped}
-use Rattle.lisp_world.proofs.NodeCalls.{unused}
+use Rattle.lisp_nodes.proofs.NodeCalls.{unused}
 use Rattle.lisp_turns.proofs.Restarting.{no_row, no_nonce, no_notice}
 
 module _ {X : Type 0} where

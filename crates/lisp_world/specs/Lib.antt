@@ -1,5 +1,4 @@
 pub mod Faults
-pub mod Cores
 pub mod Runs
 pub mod Quiet
 pub mod Openings

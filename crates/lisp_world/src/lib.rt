@@ -2,10 +2,7 @@
 //! what its state is, what a turn makes of it, and that a network which makes such turns stands for a legal trace.
 #![tactic(auto)]
 
-mod arming;
-mod arrival;
 mod change;
-mod datagram;
 mod deliver;
 mod fault;
 mod junk;
@@ -14,16 +11,13 @@ mod nodes;
 mod notice;
 mod resend;
 mod restart;
-mod router_core;
-mod router_node;
 mod run;
 mod send;
-mod server_node;
 mod step;
 mod tick;
 mod world;
 
-pub use datagram::Datagram;
 pub use fault::WorldFault;
+pub use lisp_nodes::Datagram;
 pub use lisp_schedules::{Event, Line, Refusal};
 pub use world::World;

@@ -18,14 +18,12 @@ ghost use Rattle.lisp_turns.specs.Headline.{Promises};
 ghost use Rattle.lisp_turns.specs.Stands.{Stands};
 
 use crate::fault::WorldFault;
-use crate::router_core::RouterCore;
-use crate::router_node::{RouterNode, Start};
-use crate::server_node::ServerNode;
 use crate::world::World;
 use core::mem::replace_with;
 use lisp_checks::secret_at;
 use lisp_etr::{EtrConfig, Servers, StartFault};
 use lisp_memory::{FallibleCopies, FallibleVec, Memory};
+use lisp_nodes::{RouterNode, ServerNode, Start};
 use lisp_records::{Addr, Bytes, RouterId};
 use lisp_sites::{Config, Places, RouterEntry, ServerEntry};
 use lisp_store::WorldStore;
@@ -241,16 +239,7 @@ where
     let servers = Vec::try_from_slice(alloc, entry.servers.as_slice())?;
     let settings = settings(alloc, config, addresses, entry)?;
     let database = entry.database.copy(alloc)?;
-    Ok(RouterNode {
-        me: entry.me,
-        key_id: entry.key_id,
-        servers: Places::from_vec(servers),
-        core: RouterCore::Down {
-            config: settings,
-            database,
-        },
-        store,
-    })
+    Ok(RouterNode::down(Places::from_vec(servers), settings, database, store))
 }
 
 // What a router is configured with: the secret of its key, and the addresses of its Map-Servers.

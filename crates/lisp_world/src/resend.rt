@@ -5,10 +5,10 @@ ghost use Rattle.lisp_schedules.specs.Memory.{MayTell};
 ghost use Rattle.lisp_world.specs.Faults.{Faults, pair_fault};
 ghost use Rattle.lisp_turns.specs.Turns.{ResendsFrom};
 
-use crate::datagram::{Datagram, post};
 use crate::fault::WorldFault;
 use crate::world::World;
 use lisp_memory::{FallibleVec, Memory};
+use lisp_nodes::{Datagram, post};
 use lisp_schedules::{Line, Refusal};
 use lisp_store::WorldStore;
 
@@ -23,7 +23,7 @@ impl<S: WorldStore, A: Memory + Copy> World<S, A> {
     {
         let place = self.place_beside(server, router)?;
         self.bag.make_room(1)?;
-        let (from, me) = (self.address(server), self.routers[place].me);
+        let (from, me) = (self.address(server), self.routers[place].me());
         let datagram = self.bag.len();
         let clock = self.clock;
         Ok(match self.servers[server].resend(&me, clock) {

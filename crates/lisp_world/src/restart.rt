@@ -7,9 +7,9 @@ ghost use Rattle.lisp_world.specs.Faults.{Faults, restart_fault};
 ghost use Rattle.lisp_turns.specs.Turns.{RestartsServer, RestartsAt, RestartsNode};
 
 use crate::fault::WorldFault;
-use crate::router_node::Start;
 use crate::world::World;
 use lisp_memory::Memory;
+use lisp_nodes::Start;
 use lisp_records::Database;
 use lisp_schedules::{Line, Refusal};
 use lisp_store::WorldStore;

@@ -5,10 +5,10 @@ ghost use Rattle.lisp_schedules.specs.Memory.{MayTell};
 ghost use Rattle.lisp_world.specs.Faults.{Faults, pair_fault};
 ghost use Rattle.lisp_turns.specs.Turns.{SendsFrom};
 
-use crate::datagram::{Datagram, post_message};
 use crate::fault::WorldFault;
 use crate::world::World;
 use lisp_memory::{FallibleVec, Memory};
+use lisp_nodes::{Datagram, post_message};
 use lisp_schedules::{Line, Refusal};
 use lisp_store::{Fate, WorldStore};
 

@@ -6,9 +6,9 @@ ghost use Rattle.lisp_world.specs.Faults.{tick_fault, refusal_of};
 ghost use Rattle.lisp_turns.specs.Turns.{Ticks, ExpiresEach};
 
 use crate::fault::WorldFault;
-use crate::server_node::ServerNode;
 use crate::world::World;
 use lisp_memory::Memory;
+use lisp_nodes::ServerNode;
 use lisp_records::MAX_MOMENT;
 use lisp_schedules::Line;
 use lisp_store::WorldStore;

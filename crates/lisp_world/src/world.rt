@@ -4,10 +4,8 @@ ghost use Rattle.std.specs.Prelude.{◌≡◌, length, slice_get};
 ghost use Rattle.std.specs.Option.{option_map};
 ghost use Rattle.lisp_turns.specs.Nodes.{server_at, etr_at};
 
-use crate::datagram::Datagram;
-use crate::router_node::RouterNode;
-use crate::server_node::ServerNode;
 use lisp_etr::Etr;
+use lisp_nodes::{Datagram, RouterNode, ServerNode};
 use lisp_records::Addr;
 use lisp_server::Server;
 use lisp_store::WorldStore;

@@ -1,41 +1,51 @@
-//! Each fault of a network, which leaves it as it was.
+//! The faults of events that no script can name, which leave a network as it was.
 
-use crate::deed::Deed::{Change, Deliver, Junk, Notice, Resend, Restart, RestartWith, Send, Tick};
-use crate::deed::{ROUTER_ONE, SERVER_ONE};
-use crate::step::Step::{Does, Fails, Stands};
-use crate::step::{Schedule, run_all};
-use crate::told::Told::Ticked;
-use lisp_world::WorldFault;
+use crate::network::{configuration, network};
+use lisp_records::{Addr, Bytes};
+use lisp_store::Fate;
+use lisp_world::{Event, WorldFault};
+use std::alloc::Global;
 
 /// The number of no node.
 const NOBODY: usize = 4;
 
-/// 2^62 ms.
-const LAST_MOMENT: u64 = 0x4000_0000_0000_0000;
+/// The numbers of nodes of the worked configuration.
+const SERVER: usize = 0;
 
-const FAULTS: [Schedule<'static>; 1] = [(
-    "each fault",
-    &[
-        Fails(Change(NOBODY, &[]), WorldFault::NoNode),
-        Fails(Change(SERVER_ONE, &[]), WorldFault::WrongKind),
-        Fails(Send(ROUTER_ONE, NOBODY), WorldFault::NoNode),
-        Fails(Send(NOBODY, ROUTER_ONE), WorldFault::NoNode),
-        Fails(Send(SERVER_ONE, ROUTER_ONE), WorldFault::WrongKind),
-        Fails(Send(ROUTER_ONE, ROUTER_ONE), WorldFault::WrongKind),
-        Fails(Deliver(0), WorldFault::NoDatagram),
-        Fails(Junk(NOBODY, [127, 0, 0, 1], &[]), WorldFault::NoNode),
-        Fails(Restart(NOBODY, 0), WorldFault::NoNode),
-        Fails(RestartWith(SERVER_ONE, &[]), WorldFault::WrongKind),
-        Fails(Notice(ROUTER_ONE, SERVER_ONE), WorldFault::WrongKind),
-        Fails(Resend(SERVER_ONE, NOBODY), WorldFault::NoNode),
-        Does(Tick(LAST_MOMENT), Ticked(LAST_MOMENT, LAST_MOMENT)),
-        Fails(Tick(1), WorldFault::Clock),
-        Fails(Tick(u64::MAX), WorldFault::Clock),
-        Stands(0, LAST_MOMENT),
-    ],
-)];
+const ROUTER: usize = 2;
+
+/// A router and a Map-Server of a send, and its fault.
+const SENDS: [(usize, usize, WorldFault); 4] = [
+    (ROUTER, NOBODY, WorldFault::NoNode),
+    (NOBODY, ROUTER, WorldFault::NoNode),
+    (SERVER, ROUTER, WorldFault::WrongKind),
+    (ROUTER, ROUTER, WorldFault::WrongKind),
+];
 
 #[test]
-fn faults(rt: HostRuntime) {
-    run_all(&rt, rt.alloc(), &FAULTS);
+fn an_event_of_no_node_is_a_fault(rt: HostRuntime) {
+    let config = configuration(&rt, rt.alloc());
+    let mut network = network(rt.alloc(), &config).expect(&rt, "the network");
+    for (router, server, fault) in &SENDS {
+        let answered = network.step(&send(*router, *server));
+        assert!(rt; answered == Err(*fault), "send {router} {server}");
+    }
+    assert!(rt; network.step(&junk(rt.alloc())) == Err(WorldFault::NoNode));
+    assert!(rt; network.sent() == 0 && network.clock() == 0);
+}
+
+fn send(router: usize, server: usize) -> Event {
+    Event::Send {
+        router,
+        server,
+        fate: Fate::Done,
+    }
+}
+
+fn junk(alloc: Global) -> Event {
+    Event::Junk {
+        to: NOBODY,
+        from: Addr::V4([127, 0, 0, 1]),
+        bytes: Bytes::from_vec(Vec::new(alloc)),
+    }
 }

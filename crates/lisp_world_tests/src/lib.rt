@@ -1,22 +1,12 @@
-//! Tests of the network: the worked schedules, each fault, and refused memory. This crate has no function of its
-//! own.
+//! Tests of the network that no stored schedule shows: the bytes of datagrams, faults of numbers that no node has, and
+//! refused memory. This crate has no function of its own.
 #![tactic(auto)]
 
 #[cfg(test)]
-mod deed;
+mod datagrams;
 #[cfg(test)]
 mod faults;
-#[cfg(test)]
-mod messages;
 #[cfg(test)]
 mod network;
 #[cfg(test)]
 mod refused_memory;
-#[cfg(test)]
-mod schedules;
-#[cfg(test)]
-mod step;
-#[cfg(test)]
-mod times;
-#[cfg(test)]
-mod told;

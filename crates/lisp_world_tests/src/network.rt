@@ -4,9 +4,10 @@ ghost use Rattle.std.specs.Prelude.{◌≡◌, IfOk, length};
 
 use lisp_memory::Memory;
 use lisp_samples::CONFIGURATION;
+use lisp_script::{Command, parse_script};
 use lisp_sites::Config;
 use lisp_store::MemoryStore;
-use lisp_world::{World, WorldFault};
+use lisp_world::{Line, World, WorldFault};
 use std::alloc::{AllocError, Global};
 use std::process::Abort;
 
@@ -35,4 +36,33 @@ fn stores<A: Memory + Copy>(alloc: A, count: usize) -> Result<Vec<MemoryStore<A>
         stores.push(MemoryStore::new(alloc))?;
     }
     Ok(stores)
+}
+
+/// The commands of a script.
+pub(crate) fn commands(
+    rt: &impl Abort,
+    alloc: Global,
+    config: &Config,
+    script: &str,
+) -> Vec<Command> {
+    parse_script(alloc, config, script).expect(rt, "the script")
+}
+
+/// The line of an event; `None` where it isn't taken.
+pub(crate) fn take<A: Memory + Copy>(network: &mut Network<A>, command: &Command) -> Option<Line> {
+    match command {
+        Command::Act(event) => network.step(event).ok(),
+        _ => None,
+    }
+}
+
+/// Takes events, one after another.
+pub(crate) fn take_all<A: Memory + Copy>(
+    network: &mut Network<A>,
+    rt: &impl Abort,
+    commands: &[Command],
+) {
+    for command in commands {
+        assert!(rt; take(network, command).is_some());
+    }
 }

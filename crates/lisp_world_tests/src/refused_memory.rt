@@ -1,107 +1,141 @@
 //! Refused memory in a network: an event is taken, or it is refused because memory ran out, changes nothing, and is taken
 //! when it comes again; so is a question for the rows of a Map-Server.
 
-use crate::deed::Deed::{Change, Deliver, Notice, Resend, RestartWith, Send, SendInDoubt, Tick};
-use crate::deed::{Deed, ROUTER_ONE, SERVER_ONE};
-use crate::network::{Network, configuration, network};
-use crate::step::Step::{self, Does, Holds};
-use crate::step::{take_all, takes};
-use crate::told::Told::{
-    Accepted, Announced, Changed, Counted, Ended, Noticed, Resent, Restarted, Sends, Sent, Ticked,
-};
+use crate::network::{Network, commands, configuration, network, take, take_all};
 use linked_list_allocator::LocalHeap;
-use lisp_etr::{SendFault, StartFault};
+use lisp_etr::StartFault;
+use lisp_lines::line_text;
 use lisp_samples::{HEAP_LEN, fill, is_refused_then_answers};
+use lisp_script::Command;
 use lisp_sites::Config;
-use lisp_store::StoreFault;
-use lisp_world::WorldFault;
+use lisp_world::{Line, WorldFault};
 use std::alloc::Global;
 use std::process::Abort;
 
-/// The nonce of a Map-Server's first notice: 2^63.
-const FIRST_NOTICE: u64 = 0x8000_0000_0000_0000;
+/// The number of a Map-Server of the worked configuration.
+const SERVER: usize = 0;
 
-/// Each event after those before it.
-const EVENTS: [Step<'static>; 12] = [
-    Does(
-        Change(ROUTER_ONE, &["10.1.0.0/16=7"]),
-        Changed(ROUTER_ONE, 1),
-    ),
-    Does(
-        Send(ROUTER_ONE, SERVER_ONE),
-        Sent(ROUTER_ONE, SERVER_ONE, 1, 0),
-    ),
-    Does(Deliver(0), Accepted(SERVER_ONE, 0x0a, 1, 1)),
-    Holds(SERVER_ONE, &[(0x0a, "10.1.0.0/16=7", 1, 0)]),
-    Does(Deliver(1), Counted(ROUTER_ONE, SERVER_ONE, 1)),
-    Does(
-        Notice(SERVER_ONE, ROUTER_ONE),
-        Announced(SERVER_ONE, ROUTER_ONE, FIRST_NOTICE, 2),
-    ),
-    Does(Deliver(2), Noticed(ROUTER_ONE, SERVER_ONE, FIRST_NOTICE, 3)),
-    Does(Tick(3_000), Ticked(3_000, 3_000)),
-    Does(
-        Resend(SERVER_ONE, ROUTER_ONE),
-        Resent(SERVER_ONE, ROUTER_ONE, 4),
-    ),
-    Does(Deliver(3), Ended(SERVER_ONE, 0x0a, FIRST_NOTICE)),
-    Does(
-        RestartWith(ROUTER_ONE, &["10.1.0.0/16=7"]),
-        Restarted(ROUTER_ONE),
-    ),
-    Does(
-        SendInDoubt(ROUTER_ONE, SERVER_ONE),
-        Sends(ROUTER_ONE, SendFault::Store(StoreFault::Device)),
-    ),
+/// Events, each after those before it.
+const SCRIPT: &str = "\
+change r1 10.1.0.0/16=7
+send r1 s1
+deliver 0
+deliver 1
+notice s1 r1
+deliver 2
+tick 3000
+resend s1 r1
+deliver 3
+restart r1 0 10.1.0.0/16=7
+send r1 s1 doubt";
+
+/// Their lines.
+const LINES: [&str; 11] = [
+    "change r1 records 1\n",
+    "sent r1 s1 key 1 nonce 1 datagram 0\n",
+    "accepted s1 r1 key 1 nonce 1 datagram 1\n",
+    "counted r1 s1 key 1 nonce 1\n",
+    "notice s1 r1 key 1 nonce 9223372036854775808 datagram 2\n",
+    "noticed r1 s1 nonce 9223372036854775808 datagram 3\n",
+    "tick 3000 now 3000\n",
+    "resent s1 r1 datagram 4\n",
+    "done s1 r1 nonce 9223372036854775808\n",
+    "restarted r1\n",
+    "refused r1 42 store 30\n",
 ];
+
+/// The place of the one event that takes no memory.
+const TICK: usize = 6;
 
 #[test]
 fn each_event_is_refused_memory_or_taken(rt: HostRuntime) {
     let config = configuration(&rt, rt.alloc());
     let heap = LocalHeap::new(rt.alloc(), HEAP_LEN).expect(&rt, "the heap");
-    for (place, event) in EVENTS.iter().enumerate() {
-        if let Does(Deed::Tick(_), _) = event {
-            continue;
-        }
-        let earlier = &EVENTS[..place];
+    let events = commands(&rt, rt.alloc(), &config, SCRIPT);
+    for (place, (event, text)) in events.iter().zip(&LINES).enumerate() {
+        let earlier = events.get(..place).unwrap_or(&[]);
+        let line = line_of(&rt, rt.alloc(), &config, (earlier, event), text);
         assert!(rt;
-            is_refused_then_answers(|blocks| {
-                is_taken(&rt, rt.alloc(), (&heap, &config), earlier, event, blocks)
-            }),
+            place == TICK
+                || is_refused_then_answers(|blocks| {
+                    let steps = (earlier, event, &line);
+                    is_taken(&rt, rt.alloc(), (&heap, &config), steps, blocks)
+                }),
             "event {place}"
         );
     }
 }
 
-/// Gives an event with so many blocks of memory, after the earlier ones.
+/// The line of an event after the earlier ones, in ample memory; its text is this.
+fn line_of(
+    rt: &impl Abort,
+    ample: Global,
+    config: &Config,
+    (earlier, event): (&[Command], &Command),
+    text: &str,
+) -> Line {
+    let mut network = network(ample, config).expect(rt, "the network");
+    take_all(&mut network, rt, earlier);
+    let line = take(&mut network, event).expect(rt, "the line");
+    let words = line_text(ample, config, &line, true).expect(rt, "the words");
+    assert!(rt; words.as_str() == text, "{text}");
+    line
+}
+
+/// Gives an event with so many blocks of memory, after the earlier ones; and again with all of it where it is refused.
 fn is_taken(
     rt: &impl Abort,
     ample: Global,
     (heap, config): (&LocalHeap, &Config),
-    earlier: &[Step<'_>],
-    event: &Step<'_>,
+    (earlier, event, line): (&[Command], &Command, &Line),
     blocks: usize,
 ) -> bool {
     let mut network = network(heap, config).expect(rt, "the network");
-    take_all(&mut network, rt, ample, "earlier", earlier);
-    tries(&mut network, rt, ample, heap, event, blocks)
-}
-
-/// Gives an event with so many blocks of memory, and again with all of it where it is refused.
-fn tries<'h>(
-    network: &mut Network<&'h LocalHeap>,
-    rt: &impl Abort,
-    ample: Global,
-    heap: &'h LocalHeap,
-    event: &Step<'_>,
-    blocks: usize,
-) -> bool {
+    take_all(&mut network, rt, earlier);
     let sent = network.sent();
     let ballast = fill(ample, heap, blocks).expect(rt, "the ballast");
-    let is_taken = takes(network, rt, ample, event);
+    let is_taken = take(&mut network, event) == Some(*line);
     drop(ballast);
-    assert!(rt; is_taken || network.sent() == sent && takes(network, rt, ample, event));
+    assert!(rt; is_taken || network.sent() == sent && take(&mut network, event) == Some(*line));
     is_taken
+}
+
+#[test]
+fn a_question_for_rows_is_refused_memory_or_answered(rt: HostRuntime) {
+    let config = configuration(&rt, rt.alloc());
+    let heap = LocalHeap::new(rt.alloc(), HEAP_LEN).expect(&rt, "the heap");
+    let events = commands(&rt, rt.alloc(), &config, "send r1 s1\ndeliver 0");
+    assert!(rt;
+        is_refused_then_answers(|blocks| {
+            is_answered(&rt, rt.alloc(), (&heap, &config), &events, blocks)
+        })
+    );
+}
+
+/// Asks for rows with so many blocks of memory, after events.
+fn is_answered(
+    rt: &impl Abort,
+    ample: Global,
+    (heap, config): (&LocalHeap, &Config),
+    events: &[Command],
+    blocks: usize,
+) -> bool {
+    let mut network = network(heap, config).expect(rt, "the network");
+    take_all(&mut network, rt, events);
+    let ballast = fill(ample, heap, blocks).expect(rt, "the ballast");
+    let is_answered = holds(&network);
+    drop(ballast);
+    is_answered
+}
+
+/// Whether the Map-Server lists a row.
+fn holds(network: &Network<&LocalHeap>) -> bool {
+    match network.server(SERVER) {
+        Some(server) => server
+            .held(network.clock())
+            .is_ok_and(|rows| rows.len() == 1),
+        None => false,
+    }
 }
 
 #[test]

@@ -1,11 +1,12 @@
 -- The numbers of the program's faults, and its exit statuses: 1 where files, streams or memory failed, 2 for the
 -- words of the command line.
-use Rattle.std.specs.Prelude.{ℕ}
+use Rattle.std.specs.Prelude.{ℕ, Option, Some, None}
 use Rattle.lisp_answer.specs.Fault.{fault_number}
+use Rattle.lisp_player.specs.Fault.{play_fault_number, play_fault_status, play_fault_line}
 use Rattle.lispd.specs.declared.fault.SetupFault.{SetupFault}
 use Rattle.lispd.specs.declared.fault.SetupFault.TheVariants as setup_faults
 use Rattle.lispd.specs.declared.fault.ProgramFault.{ProgramFault}
-use Rattle.lispd.specs.declared.fault.ProgramFault.TheVariants.{Words, Setup, Answer}
+use Rattle.lispd.specs.declared.fault.ProgramFault.TheVariants.{Words, Setup, Answer, File, Play}
 
 abbrev pub setup_fault_number : SetupFault → ℕ
 setup_fault_number (setup_faults.BadOption _) = 98
@@ -19,8 +20,17 @@ abbrev pub program_fault_number : ProgramFault → ℕ
 program_fault_number Words = 98
 program_fault_number (Setup fault) = setup_fault_number fault
 program_fault_number (Answer fault) = fault_number fault
+program_fault_number File = 93
+program_fault_number (Play fault) = play_fault_number fault
 
 abbrev pub program_fault_status : ProgramFault → ℕ
 program_fault_status Words = 2
 program_fault_status (Setup fault) = setup_fault_status fault
 program_fault_status (Answer _) = 1
+program_fault_status File = 1
+program_fault_status (Play fault) = play_fault_status fault
+
+-- the faulty line of a script
+abbrev pub program_fault_line : ProgramFault → Option ℕ
+program_fault_line (Play fault) = play_fault_line fault
+program_fault_line _ = None

@@ -2,10 +2,11 @@
 //! status, 1 where files, streams or memory fail and 2 for the words of the command line.
 
 ghost use Rattle.std.specs.Prelude.{◌≡◌};
-ghost use Rattle.lispd.specs.Fault.{setup_fault_number, setup_fault_status, program_fault_number, program_fault_status};
+ghost use Rattle.lispd.specs.Fault.{setup_fault_number, setup_fault_status, program_fault_number, program_fault_status, program_fault_line};
 
 use crate::option::AnswerOption;
 use lisp_answer::AnswerFault;
+use lisp_player::PlayFault;
 use std::alloc::AllocError;
 use thiserror::Error;
 
@@ -64,10 +65,16 @@ pub enum ProgramFault {
     /// The line was not answered.
     #[error(transparent)]
     Answer(#[from] AnswerFault),
+    /// The file can't be opened.
+    #[error("the file can't be opened")]
+    File,
+    /// The schedule was not played to its end.
+    #[error(transparent)]
+    Play(#[from] PlayFault),
 }
 
 impl ProgramFault {
-    /// The number that operators see: `Words` 98, or that of the fault inside.
+    /// The number that operators see: `Words` 98, `File` 93, or that of the fault inside.
     pub const fn number(&self) -> u16
         ensures { result ≡ program_fault_number self.now }
     {
@@ -75,10 +82,12 @@ impl ProgramFault {
             ProgramFault::Words => 98,
             ProgramFault::Setup(fault) => fault.number(),
             ProgramFault::Answer(fault) => fault.number(),
+            ProgramFault::File => 93,
+            ProgramFault::Play(fault) => fault.number(),
         }
     }
 
-    /// The exit status: `Words` 2, or that of the fault inside.
+    /// The exit status: `Words` 2, `File` 1, or that of the fault inside.
     pub const fn status(&self) -> u8
         ensures { result ≡ program_fault_status self.now }
     {
@@ -86,6 +95,18 @@ impl ProgramFault {
             ProgramFault::Words => 2,
             ProgramFault::Setup(fault) => fault.status(),
             ProgramFault::Answer(fault) => fault.status(),
+            ProgramFault::File => 1,
+            ProgramFault::Play(fault) => fault.status(),
+        }
+    }
+
+    /// The line of the script that is faulty, from 1 on; `None` where the fault is elsewhere.
+    pub const fn line(&self) -> Option<usize>
+        ensures { result ≡ program_fault_line self.now }
+    {
+        match self {
+            ProgramFault::Play(fault) => fault.line(),
+            _ => None,
         }
     }
 }

@@ -3,16 +3,21 @@
 
 mod command_line;
 
-use crate::command_line::command;
+use crate::command_line::{FILE, command};
 use clap::ArgMatches;
 use clap::error::ErrorKind as WordsErrorKind;
-use lispd::{AnswerFault, ProgramFault, SetupFault, answer, setup};
-use std::io::{self, ErrorKind, IsTerminal};
+use lisp_player::{PlayFault, play};
+use lispd::{AnswerFault, ProgramFault, SetupFault, advice, answer, setup};
+use std::fs;
+use std::io::{self, BufReader, ErrorKind, IsTerminal, Read};
 use std::process::ExitCode;
-use std::rt::Env;
+use std::rt::{Env, Files};
 
 /// Out of memory before a subcommand runs.
 const OUT_OF_MEMORY: ProgramFault = ProgramFault::Setup(SetupFault::OutOfMemory);
+
+/// The name of standard input.
+const STANDARD_INPUT: &str = "-";
 
 /// The exit status for words that `clap` refuses.
 const MISUSED: u8 = 2;
@@ -29,7 +34,9 @@ fn main(rt: HostRuntime) -> ExitCode {
 }
 
 // Collects the words, and runs what they ask for.
-fn run<R: Print + Eprint + Input + Env + AllocGlobal>(rt: &R) -> Result<ExitCode, ProgramFault> {
+fn run<R: Print + Eprint + Input + Files + Env + AllocGlobal>(
+    rt: &R,
+) -> Result<ExitCode, ProgramFault> {
     let words = match std::env::args(rt) {
         Ok(words) => words,
         Err(error) if error.kind() == ErrorKind::OutOfMemory => return Err(OUT_OF_MEMORY),
@@ -42,7 +49,7 @@ fn run<R: Print + Eprint + Input + Env + AllocGlobal>(rt: &R) -> Result<ExitCode
     }
 }
 
-fn run_words<R: Print + Eprint + Input + AllocGlobal>(
+fn run_words<R: Print + Eprint + Input + Files + AllocGlobal>(
     rt: &R,
     words: &[String],
 ) -> Result<ExitCode, ProgramFault> {
@@ -50,7 +57,10 @@ fn run_words<R: Print + Eprint + Input + AllocGlobal>(
         return Err(OUT_OF_MEMORY);
     };
     match command.try_get_matches_from(words) {
-        Ok(matches) => run_answer(rt, matches.subcommand_matches("answer")),
+        Ok(matches) => match matches.subcommand_matches("play") {
+            Some(words) => run_play(rt, words.get_str(FILE).unwrap_or(STANDARD_INPUT)),
+            None => run_answer(rt, matches.subcommand_matches("answer")),
+        },
         Err(error) => print_words_error(rt, &error),
     }
 }
@@ -62,6 +72,31 @@ fn run_answer<R: Print + Input + AllocGlobal>(
 ) -> Result<ExitCode, ProgramFault> {
     let setup = setup(rt.alloc(), matches)?;
     answer(rt.alloc(), &setup, &mut rt.reader(), &mut io::writer(rt))?;
+    Ok(ExitCode::SUCCESS)
+}
+
+// Plays the schedule of a file.
+fn run_play<R: Print + Input + Files + AllocGlobal>(
+    rt: &R,
+    name: &str,
+) -> Result<ExitCode, ProgramFault> {
+    if name == STANDARD_INPUT {
+        return play_from(rt, &mut rt.reader());
+    }
+    let Ok(file) = fs::open(rt, name) else {
+        return Err(ProgramFault::File);
+    };
+    match BufReader::new(rt.alloc(), file) {
+        Ok(mut reader) => play_from(rt, &mut reader),
+        Err(_) => Err(ProgramFault::Play(PlayFault::OutOfMemory)),
+    }
+}
+
+fn play_from<R: Print + AllocGlobal, T: Read>(
+    rt: &R,
+    reader: &mut T,
+) -> Result<ExitCode, ProgramFault> {
+    play(rt.alloc(), rt.alloc(), reader, &mut io::writer(rt))?;
     Ok(ExitCode::SUCCESS)
 }
 
@@ -83,11 +118,25 @@ fn print_words_error<R: Print + Eprint>(
     }
 }
 
-// Prints the fault's number; to a terminal also what is wrong, in words.
+// Prints the fault's number, and the line of a script; to a terminal also what is wrong, in words.
 fn report<R: Eprint + AllocGlobal>(rt: &R, fault: &ProgramFault, is_terminal: bool) {
     let number = fault.number();
-    let _ = eprintln!(rt; "lispd: fault {number}");
+    let _ = match fault.line() {
+        Some(line) => eprintln!(rt; "lispd: fault {number} line {line}"),
+        None => eprintln!(rt; "lispd: fault {number}"),
+    };
     if is_terminal {
-        let _ = eprintln!(rt; "lispd: {fault}");
+        let _ = match fault {
+            ProgramFault::Play(fault) => print_words(rt, fault),
+            _ => eprintln!(rt; "lispd: {fault}"),
+        };
+    }
+}
+
+// Prints what is wrong with a schedule, and what would be right.
+fn print_words<R: Eprint + AllocGlobal>(rt: &R, fault: &PlayFault) -> io::Result<()> {
+    match advice(fault) {
+        Some(words) => eprintln!(rt; "lispd: {fault}: {words}"),
+        None => eprintln!(rt; "lispd: {fault}"),
     }
 }

@@ -1,9 +1,10 @@
 //! `answer` over readers and writers that fail, and what it leaves of its input.
 
+use crate::streams::{Narrow, Stumbling};
 use crate::support::{NOTIFY_LINE, REGISTER_DIGITS, assert_at};
 use lispd::{AnswerFault, AnswerSetup, answer};
 use std::alloc::{AllocError, Global};
-use std::io::{self, ErrorKind, Read, Write};
+use std::io::ErrorKind;
 
 /// The most bytes of a line, its line feed among them.
 const MOST_BYTES: usize = 1_048_576;
@@ -121,56 +122,4 @@ fn ends_so(
     let mut writer = Narrow { taken, room };
     let ended = answer(alloc, &setup, reader, &mut writer).err();
     Ok(ended == fault && writer.taken.as_slice() == written.as_bytes())
-}
-
-/// Gives one byte a read; behind so many bytes, so many reads fail.
-#[derive(Drop)]
-struct Stumbling<'a> {
-    bytes: &'a [u8],
-    before: usize,
-    failures: u32,
-    error: ErrorKind,
-}
-
-impl Read for Stumbling<'_> {
-    fn read(&mut self, buf: &mut [u8]) -> io::Result<usize> {
-        if self.before == 0 && self.failures > 0 {
-            self.failures -= 1;
-            return Err(self.error.into());
-        }
-        self.before = self.before.saturating_sub(1);
-        let Some((byte, rest)) = self.bytes.split_first() else {
-            return Ok(0);
-        };
-        let Some(room) = buf.first_mut() else {
-            return Ok(0);
-        };
-        *room = *byte;
-        self.bytes = rest;
-        Ok(1)
-    }
-}
-
-/// Takes one byte a write, and fails where it has no more room.
-#[derive(Drop)]
-struct Narrow {
-    taken: Vec<u8>,
-    room: usize,
-}
-
-impl Write for Narrow {
-    fn write(&mut self, buf: &[u8]) -> io::Result<usize> {
-        if self.taken.len() >= self.room {
-            return Err(ErrorKind::Other.into());
-        }
-        let Some(byte) = buf.first() else {
-            return Ok(0);
-        };
-        self.taken.push(*byte)?;
-        Ok(1)
-    }
-
-    fn flush(&mut self) -> io::Result<()> {
-        Ok(())
-    }
 }

@@ -7,9 +7,8 @@ use std::process::Abort;
 
 /// Records of 10.0.0.0/24, 10.0.1.0/24 and so on: how many, the greatest number, which all behind it
 /// have too, and the fault.
-const NUMBERED: [(u16, u16, Option<DatabaseFault>); 4] = [
+const NUMBERED: [(u16, u16, Option<DatabaseFault>); 3] = [
     (255, 254, None),
-    (256, 255, Some(DatabaseFault::TooLarge)),
     // The count comes before a repeated prefix.
     (256, 254, Some(DatabaseFault::TooLarge)),
     (2, 0, Some(DatabaseFault::RepeatedPrefix)),

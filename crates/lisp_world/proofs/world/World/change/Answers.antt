@@ -1,5 +1,5 @@
 use Rattle.std.proofs.Common.{◌∙◌, [], append-nil, sym}
-use Rattle.lisp_world.proofs.RouterCalls.{acted, same_bag, line_up, line_down}
+use Rattle.lisp_nodes.proofs.RouterCalls.{acted, same_bag, line_up, line_down}
 use Rattle.lisp_world.proofs.world.World.change.Goals as goal
 use Rattle.lisp_world.proofs.world.World.change.Goals.{then-change, else-change}
 

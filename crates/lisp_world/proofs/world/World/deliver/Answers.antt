@@ -3,7 +3,7 @@ use Rattle.std.specs.List.{length_refill}
 use Rattle.std.proofs.lemmas.Option.{slice_get-get_or}
 use Rattle.lisp_turns.specs.World.{Posted, WorldState}
 use Rattle.lisp_turns.specs.Turns.{node_with, posted}
-use Rattle.lisp_world.proofs.ArrivalCalls.{addressed_there, arrived, datagram_there, delivered, read_again}
+use Rattle.lisp_world.proofs.Arrivals.{addressed_there, arrived, datagram_there, delivered, read_again}
 use Rattle.lisp_world.proofs.world.World.deliver.Goals as goal
 
 pub index-datagram-requires : goal.index-datagram-requires

@@ -2,7 +2,7 @@ use Rattle.std.proofs.Common.{◌≡◌, ◌<◌, ◌++◌, length, refl, sym, a
 use Rattle.std.specs.List.{length_refill}
 use Rattle.lisp_store.specs.declared.fate.Fate.TheVariants.{Done}
 use Rattle.lisp_turns.specs.Turns.{posted}
-use Rattle.lisp_world.proofs.ArrivalCalls.{arrived, node_there}
+use Rattle.lisp_world.proofs.Arrivals.{arrived, node_there}
 use Rattle.lisp_world.proofs.world.World.junk.Goals as goal
 
 pub address-address-requires : goal.address-address-requires

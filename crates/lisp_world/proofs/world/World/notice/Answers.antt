@@ -1,10 +1,10 @@
-use Rattle.std.proofs.Common.{ℕ, List, refl, sym, ap, ◌∙◌, [], ◌∷◌, ◌++◌, Some, Ok, Err}
+use Rattle.std.proofs.Common.{ℕ, List, refl, sym, ap, ◌∙◌, [], ◌∷◌, ◌++◌, Ok, Err}
 use Rattle.std.proofs.lemmas.List.{append-nil, length-set}
 use Rattle.std.proofs.lemmas.Option.{slice_get_read}
 use Rattle.lisp_records.specs.declared.address.Addr.{Addr}
 use Rattle.lisp_schedules.specs.declared.line.Line.TheVariants as lines
 use Rattle.lisp_turns.specs.World.{Posted}
-use Rattle.lisp_world.proofs.ServerCalls.{server_acted, notice_head}
+use Rattle.lisp_nodes.proofs.ServerCalls.{server_acted, notice_head}
 use Rattle.lisp_world.proofs.world.World.notice.Goals as goal
 
 pub post_message-head-requires-clause-head : goal.post_message-head-requires-clause-head
@@ -25,12 +25,12 @@ returns-in-Ok-clause-notices g c =
     (record {
       place = c.in_ok-place.place;
       number = router.0;
-      node = _;
-      there = slice_get_read c.self.inside.routers.items _ _ _ refl router.1 c.index.ensures ∙ ap Some (sym c.behind-self.view_is);
+      node = c.index.result.now;
+      there = slice_get_read c.self.inside.routers.items _ _ _ refl router.1 c.index.ensures;
       more = more;
       acts = server_acted _ c.args.server c.index_mut.result.now c.notify.new.self c.post_message-head.new.bag.items more server c.index_mut.ensures.value posts;
       answer = Ok (c.in-Ok.to, c.in-Ok.bytes);
-      notifies = c.in-Ok.ensures.notifies;
+      notifies = rw (← c.me-me.ensures) c.in-Ok.ensures.notifies;
       says = record {
         head = head;
         read = c.post_message-head.ensures.head;
@@ -48,11 +48,11 @@ returns-in-Err-clause-notices g c =
     (record {
       place = c.in_ok-place.place;
       number = router.0;
-      node = _;
-      there = slice_get_read c.self.inside.routers.items _ _ _ refl router.1 c.index.ensures ∙ ap Some (sym c.behind-self.view_is);
+      node = c.index.result.now;
+      there = slice_get_read c.self.inside.routers.items _ _ _ refl router.1 c.index.ensures;
       more = [];
       acts = server_acted _ c.args.server c.index_mut.result.now c.notify.new.self c.make_room.new.self.items [] server c.index_mut.ensures.value bag;
       answer = Err c.in-Err.fault;
-      notifies = c.in-Err.ensures.notifies;
+      notifies = rw (← c.me-me.ensures) c.in-Err.ensures.notifies;
       says = (refl, refl);
     })

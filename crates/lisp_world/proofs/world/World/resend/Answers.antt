@@ -1,10 +1,10 @@
-use Rattle.std.proofs.Common.{ℕ, List, refl, sym, ap, ◌∙◌, [], ◌∷◌, ◌++◌, Some, Ok, Err}
+use Rattle.std.proofs.Common.{ℕ, List, refl, sym, ap, ◌∙◌, [], ◌∷◌, ◌++◌, Ok, Err}
 use Rattle.std.proofs.lemmas.List.{append-nil}
 use Rattle.std.proofs.lemmas.Option.{slice_get_read}
 use Rattle.lisp_records.specs.declared.address.Addr.{Addr}
 use Rattle.lisp_schedules.specs.declared.line.Line.TheVariants as lines
 use Rattle.lisp_turns.specs.World.{Posted}
-use Rattle.lisp_world.proofs.ServerCalls.{server_acted}
+use Rattle.lisp_nodes.proofs.ServerCalls.{server_acted}
 use Rattle.lisp_world.proofs.world.World.resend.Goals as goal
 
 pub returns-in-Ok-clause-resends : goal.returns-in-Ok-clause-resends
@@ -18,13 +18,13 @@ returns-in-Ok-clause-resends g c =
     (record {
       place = c.in_ok-place.place;
       number = router.0;
-      node = _;
-      there = slice_get_read c.self.inside.routers.items _ _ _ refl router.1 c.index.ensures ∙ ap Some (sym c.behind-self.view_is);
+      node = c.index.result.now;
+      there = slice_get_read c.self.inside.routers.items _ _ _ refl router.1 c.index.ensures;
       more = more;
       acts = server_acted _ c.args.server c.index_mut.result.now c.resend.new.self c.post.new.bag.items more server c.index_mut.ensures.value posts;
       rest = c.resend.ensures.rest;
       answer = Ok (c.in-Ok.to, c.in-Ok.bytes);
-      resends = c.in-Ok.ensures.resends;
+      resends = rw (← c.me-me.ensures) c.in-Ok.ensures.resends;
       says = (
         ap (λ (k : ℕ). lines.Resent c.args.server c.args.router k) count,
         ap (λ (from : Addr). record { from = from; to = c.in-Ok.to; bytes = c.in-Ok.bytes } ∷ []) c.address-from.ensures,
@@ -40,12 +40,12 @@ returns-in-Err-clause-resends g c =
     (record {
       place = c.in_ok-place.place;
       number = router.0;
-      node = _;
-      there = slice_get_read c.self.inside.routers.items _ _ _ refl router.1 c.index.ensures ∙ ap Some (sym c.behind-self.view_is);
+      node = c.index.result.now;
+      there = slice_get_read c.self.inside.routers.items _ _ _ refl router.1 c.index.ensures;
       more = [];
       acts = server_acted _ c.args.server c.index_mut.result.now c.resend.new.self c.make_room.new.self.items [] server c.index_mut.ensures.value bag;
       rest = c.resend.ensures.rest;
       answer = Err c.in-Err.fault;
-      resends = c.in-Err.ensures.resends;
+      resends = rw (← c.me-me.ensures) c.in-Err.ensures.resends;
       says = (refl, refl);
     })

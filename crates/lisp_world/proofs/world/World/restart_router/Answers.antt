@@ -1,6 +1,6 @@
 use Rattle.std.proofs.Common.{ap, ◌∙◌, sym, arith, ◌-◌, ◌+◌, ◌<◌, ◌≡◌, ℕ, length}
 use Rattle.lisp_turns.specs.Turns.{start_line}
-use Rattle.lisp_world.proofs.RouterCalls.{router_changed}
+use Rattle.lisp_nodes.proofs.RouterCalls.{router_changed}
 use Rattle.lisp_world.proofs.world.World.restart_router.Goals as goal
 use Rattle.lisp_world.proofs.world.World.restart_router.Goals.{in-Ok, in-Err}
 

@@ -1,6 +1,6 @@
 use Rattle.std.proofs.Common.{refl, sym, []}
 use Rattle.std.proofs.lemmas.List.{append-nil}
-use Rattle.lisp_world.proofs.ServerCalls.{server_acted}
+use Rattle.lisp_nodes.proofs.ServerCalls.{server_acted}
 use Rattle.lisp_world.proofs.world.World.restart_server.Goals as goal
 
 pub returns : goal.returns

@@ -2,7 +2,7 @@ use Rattle.std.proofs.Common.{◌∙◌, ◌++◌, ◌∷◌, [], List, append-n
 use Rattle.std.proofs.lemmas.List.{length-set}
 use Rattle.lisp_schedules.specs.declared.line.Line.TheVariants as lines
 use Rattle.lisp_turns.specs.World.{Posted}
-use Rattle.lisp_world.proofs.RouterCalls.{acted, same_bag, sent_head, sends_up, sends_down}
+use Rattle.lisp_nodes.proofs.RouterCalls.{acted, same_bag, sent_head, sends_up, sends_down}
 use Rattle.lisp_world.proofs.world.World.send.Goals as goal
 
 pub returns-in_default-clause-sends : goal.returns-in_default-clause-sends

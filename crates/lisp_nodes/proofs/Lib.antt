@@ -1,0 +1,4 @@
+pub mod NodeCalls
+pub mod RouterCalls
+pub mod ServerCalls
+pub mod ArrivalCalls

@@ -1,0 +1,58 @@
+use Rattle.std.proofs.Common.{ℕ, ◌-◌, ◌<◌, List, length, get_or, ◌++◌, rules, arith, inl, inr, sym, subst, ap, ◌∙◌}
+use Rattle.std.specs.Prelude.{slice_get, slice_set}
+use Rattle.std.proofs.lemmas.Option.{slice_get-get_or}
+use Rattle.lisp_turns.specs.Calls.{Receives}
+use Rattle.lisp_turns.specs.Turns.{address_of, posted, server_line}
+use Rattle.lisp_turns.specs.World.{ServerNode, RouterNode}
+use Rattle.lisp_nodes.proofs.ArrivalCalls.{server_tells}
+use Rattle.lisp_nodes.proofs.arrival.hear.Goals as goal
+
+pub offset_bounds-routers-node : goal.offset_bounds-routers-node
+offset_bounds-routers-node g c =
+    let within : c.args.node - length c.args.servers.now < length c.args.routers.now = omega (arith, c.requires, c.if-node-servers.true) in
+    search rules
+
+pub returns-then-node-servers-clause-hears : goal.returns-then-node-servers-clause-hears
+returns-then-node-servers-clause-hears g c = λ w servers routers clock next.
+    let place = c.args.node - length c.args.servers.now in
+    let within : place < length c.args.routers.now = omega (arith, c.requires, c.if-node-servers.true) in
+    let more = posted (address_of w c.args.node) c.args.how.from c.router_hears.result.1 in
+    inr (record {
+      more = more;
+      acts = record {
+        place = place;
+        number = let long = ap length servers in omega (arith, long, c.if-node-servers.true);
+        before = get_or c.args.routers.now place c.index-routers-node.result;
+        after = c.router_hears.new.router;
+        was = ap (λ (nodes : List RouterNode). slice_get nodes place) routers ∙ slice_get-get_or _ _ _ within;
+        left = λ i. record w { bag = w.bag ++ more; servers = sym servers i; routers = slice_set (sym routers i) place c.router_hears.new.router };
+      };
+      hears = c.router_hears.ensures.hears w next;
+    })
+
+pub returns-clause-hears : goal.returns-clause-hears
+returns-clause-hears g c = λ w servers routers clock next.
+    let before = get_or c.args.servers.now c.args.node c.index-servers-node.result in
+    let after = c.receive-answer.new.self in
+    let how = c.args.how in
+    let answer = c.receive-answer.result in
+    inl (record {
+      answer = answer;
+      acts = record {
+        before = before;
+        after = after;
+        was = ap (λ (nodes : List ServerNode). slice_get nodes c.args.node) servers ∙ slice_get-get_or _ _ _ c.if-node-servers.false;
+        left = λ i. record w {
+          bag = w.bag ++ sym (c.server_reply.ensures (address_of w c.args.node) how.from) i;
+          servers = slice_set (sym servers i) c.args.node after;
+          routers = sym routers i;
+        };
+      };
+      receives = subst (λ (now : ℕ). Receives before after how.fate how.from c.args.bytes.now now answer) (sym clock) c.receive-answer.ensures.receives;
+      said = c.server_line.ensures ∙ ap (λ (number : ℕ). server_line c.args.node number answer) (sym next);
+    })
+
+pub returns-clause-tells : goal.returns-clause-tells
+returns-clause-tells g c =
+    let e = c.receive-answer.ensures in
+    server_tells _ _ _ _ _ c.receive-answer.result c.server_line.ensures e.memory e.load_memory e.save_memory

@@ -1,0 +1,23 @@
+use Rattle.std.proofs.Common.{List, ap, refl, subst, ◌∙◌}
+use Rattle.std.specs.Option.{unwrap_or}
+use Rattle.lisp_records.specs.Record.{Mapping}
+use Rattle.lisp_etr.specs.Config.{Settings}
+use Rattle.lisp_turns.specs.World.{Down}
+use Rattle.lisp_turns.specs.Calls.{Starts}
+use Rattle.lisp_nodes.specs.Cores.{core_of}
+use Rattle.lisp_nodes.proofs.router_node.RouterNode.start.Goals as goal
+use Rattle.lisp_nodes.proofs.router_node.RouterNode.start.Goals.{in-Ok, in-Err}
+
+pub returns-clause-starts : goal.returns-clause-starts
+returns-clause-starts g c =
+    rw (← c.self.view_is)
+    (record {
+      starts = subst (λ (from : Settings × List Mapping). Starts from.0 from.1 c.args.how.now (g.S.NonceStore.seen c.self.inside.store) (g.S.NonceStore.seen c.start.new.store) (core_of c.match-start.core.0) c.match-start.core.1)
+          (λ i. (c.stopped-config.ensures.config i, (c.unwrap_or-database.ensures ∙ ap (unwrap_or c.args.how.db) c.stopped-config.ensures.database) i))
+          (elim c.match-start.branch [
+            | in-Ok w ↦ rw w.core-is (record { etr = w.in-Ok.etr; up = refl; starts = w.in-Ok.ensures.started; last = w.in-Ok.ensures.last })
+            | in-Err w ↦ rw w.core-is (record { down = λ i. Down (w.in-Err.ensures.back.0 i) (w.in-Err.ensures.back.1 i); cause = w.in-Err.ensures.cause })
+          ]);
+      same = c.start.ensures.same;
+      proceeds = c.start.ensures.proceeds;
+    })

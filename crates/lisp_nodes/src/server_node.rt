@@ -1,0 +1,139 @@
+//! A Map-Server of a network, with its store.
+
+ghost use Rattle.std.specs.Prelude.{◌≡◌, ◌≤◌, [], IsErrOf};
+ghost use Rattle.std.specs.FinMap.{empty};
+ghost use Rattle.lisp_records.specs.Moment.{max_moment};
+ghost use Rattle.lisp_store.specs.declared.fault.StoreFault.{StoreFault};
+ghost use Rattle.lisp_checks.specs.declared.refused.Refused.{Refused};
+ghost use Rattle.lisp_checks.specs.declared.notice_fault.NoticeFault.{NoticeFault};
+ghost use Rattle.lisp_turns.specs.Calls.{Receives, Notifies, Restarts};
+ghost use Rattle.lisp_turns.specs.Turns.{ExpiresNode, ResendsTo};
+
+use crate::arming::arm;
+use core::mem::replace_with;
+use lisp_memory::Memory;
+use lisp_records::{Addr, Bytes, RouterId};
+use lisp_server::{NoticeFault, Refused, Server, Took};
+use lisp_sites::Sites;
+use lisp_store::{Fate, WorldStore};
+use std::alloc::{Allocator, Global};
+use std::marker::Model;
+
+/// A Map-Server with its store.
+#[derive(Drop)]
+pub struct ServerNode<S: WorldStore, A: Allocator = Global> {
+    core: Server<A>,
+    store: S,
+}
+
+impl<S: WorldStore, A: Allocator> Model for ServerNode<S, A> {
+    ghost use Rattle.std.specs.Coded.{codes};
+    ghost use Rattle.lisp_store.specs.Kept.{kept_code};
+    ghost use Rattle.lisp_server.specs.LastNonces.{nonces_code};
+    ghost use Rattle.lisp_turns.specs.World.{ServerNode};
+
+    ghost Value = { ServerNode };
+
+    ghost coded = { Prim.hlevel (codes, nonces_code, kept_code) };
+
+    ghost view = { λ n. record { core = n.core; store = S.seen n.store } };
+}
+
+impl<S: WorldStore, A: Allocator> ServerNode<S, A> {
+    /// The Map-Server. Takes no memory.
+    pub fn core(&self) -> &Server<A>
+        ensures { result.now ≡ self.now.core }
+    {
+        &self.core
+    }
+}
+
+impl<S: WorldStore, A: Memory + Copy> ServerNode<S, A> {
+    /// A Map-Server of these sites that holds nothing, over its store. Takes no memory; what it holds later lies in
+    /// memory of `alloc`.
+    pub fn start(alloc: A, sites: Sites<A>, store: S) -> ServerNode<S, A>
+        ensures { result ≡ record { core = record { sites = sites; rows = []; nonces = empty; contacts = []; notices = [] }; store = S.seen store } }
+    {
+        ServerNode {
+            core: Server::start(alloc, sites),
+            store,
+        }
+    }
+
+    /// It stops, its store crashes, and it starts with its sites alone. Takes no memory.
+    pub fn restart(&mut self, alloc: A, pick: u64)
+        ensures core { self.new.core ≡ record { sites = self.old.core.sites; rows = []; nonces = empty; contacts = []; notices = [] } }
+        ensures crashes { Restarts self.old.store self.new.store }
+    {
+        self.store.restart(pick);
+        replace_with(&mut self.core, alloc, started_again);
+    }
+
+    /// It drops the rows that are dead at a moment, in ms; the rest is left unchanged, its store too. Takes no memory.
+    pub fn expire(&mut self, now: u64)
+        requires { now ≤ max_moment }
+        ensures expires { ExpiresNode self.old self.new now }
+    {
+        self.core.expire(now);
+    }
+
+    /// It receives bytes from an address, its store's calls as the fate says.
+    pub(crate) fn receive(
+        &mut self,
+        fate: Fate,
+        from: Addr,
+        bytes: &[u8],
+        now: u64,
+    ) -> Result<Took<A>, Refused>
+        ensures receives { Receives self.old self.new fate from bytes.now now result }
+        ensures memory { IsErrOf result Refused.OutOfMemory → A.may_refuse }
+        ensures load_memory { IsErrOf result (Refused.StoreLoad StoreFault.OutOfMemory) → S.may_refuse }
+        ensures save_memory { IsErrOf result (Refused.StoreSave StoreFault.OutOfMemory) → S.may_refuse }
+    {
+        arm(&mut self.store, fate);
+        let answer = self.core.receive(&mut self.store, from, bytes, now);
+        arm(&mut self.store, Fate::Done);
+        answer
+    }
+
+    /// It makes a router an unsolicited Map-Notify (notice) of what it holds of it at a moment, in ms, its store armed with
+    /// the fate for the call and with `Done` after it: the address to send it to and its bytes, or why there is none, and
+    /// then nothing but its store may have changed.
+    pub fn notify(
+        &mut self,
+        fate: Fate,
+        router: &RouterId,
+        now: u64,
+    ) -> Result<(Addr, Bytes<A>), NoticeFault>
+        requires { now ≤ max_moment }
+        ensures notifies { Notifies self.old self.new fate router.now now result }
+        ensures memory { IsErrOf result NoticeFault.OutOfMemory → A.may_refuse }
+        ensures load_memory { IsErrOf result (NoticeFault.StoreLoad StoreFault.OutOfMemory) → S.may_refuse }
+        ensures save_memory { IsErrOf result (NoticeFault.StoreSave StoreFault.OutOfMemory) → S.may_refuse }
+    {
+        arm(&mut self.store, fate);
+        let answer = self.core.notify(&mut self.store, router, now);
+        arm(&mut self.store, Fate::Done);
+        let (to, bytes) = answer?;
+        Ok((to, Bytes::from_vec(bytes)))
+    }
+
+    /// It gives a router's notice again, where that is due at a moment, in ms: the address to send it to and its bytes, or
+    /// why there is none. Its store is not used, and nothing but the count of that notice changes.
+    pub fn resend(&mut self, router: &RouterId, now: u64) -> Result<(Addr, Bytes<A>), NoticeFault>
+        requires { now ≤ max_moment }
+        ensures resends { ResendsTo self.old self.new now router.now result }
+        ensures rest { self.new ≡ record self.old { core = record self.old.core { notices = self.new.core.notices } } }
+        ensures memory { IsErrOf result NoticeFault.OutOfMemory → A.may_refuse }
+    {
+        let (to, bytes) = self.core.resend(router, now)?;
+        Ok((to, Bytes::from_vec(bytes)))
+    }
+}
+
+// A Map-Server that stopped and starts with its sites alone.
+fn started_again<A: Allocator + Copy>(server: Server<A>, alloc: A) -> (Server<A>, ())
+    ensures { result.0 ≡ record { sites = server.sites; rows = []; nonces = empty; contacts = []; notices = [] } }
+{
+    (Server::start(alloc, server.stop()), ())
+}

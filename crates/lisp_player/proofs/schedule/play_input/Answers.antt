@@ -1,0 +1,16 @@
+use Rattle.std.proofs.Common.{map}
+use Rattle.lisp_script.specs.Order.{order}
+use Rattle.lisp_player.proofs.Turning.{at_ok}
+use Rattle.lisp_player.proofs.Beginning.{played, stopped, ended_refuses}
+use Rattle.lisp_player.proofs.schedule.play_input.Goals as goal
+
+pub returns-clause-plays : goal.returns-clause-plays
+returns-clause-plays g c = at_ok c.play_commands.result _ _
+    (λ from. played _ _ c.args.input.now c.in_ok-config.config (map order c.in_ok-config.commands.items) _ _ c.in_ok-config.ensures.schedule (λ orders. orders) (rw c.deref.ensures.value at from)) c.play_commands.ensures.plays
+
+pub returns-clause-stops : goal.returns-clause-stops
+returns-clause-stops g c = λ memory.
+    stopped _ _ c.args.input.now c.in_ok-config.config (map order c.in_ok-config.commands.items) _ _ c.in_ok-config.ensures.schedule (rw c.deref.ensures.value at (c.play_commands.ensures.stops memory))
+
+pub returns-clause-refuses : goal.returns-clause-refuses
+returns-clause-refuses g c = ended_refuses c.args.input.now c.in_ok-config.config (map order c.in_ok-config.commands.items) c.play_commands.result c.in_ok-config.ensures.schedule c.play_commands.ensures.faults c.play_commands.ensures.repeated

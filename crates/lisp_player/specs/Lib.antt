@@ -1,0 +1,5 @@
+pub mod Fault
+pub mod Asked
+pub mod Input
+pub mod Playing
+pub mod Schedule

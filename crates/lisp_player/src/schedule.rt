@@ -1,0 +1,130 @@
+//! A schedule: a configuration and a script, parted by a line `---`.
+
+ghost use Rattle.std.specs.Prelude.{◌≡◌, ◌≢◌, ◌⊎◌, ◌↔◌, ℕ, true, false, take, map, replicate, Ok, Err, OnOk, OnErr, IfOk, IfErr, IfSome, IsErrOf};
+ghost use Rattle.std.specs.FinMap.{empty};
+ghost use Rattle.std.specs.Io.KnownBytes.{Keeps};
+ghost use Rattle.lisp_store.specs.declared.fate.Fate.TheVariants.{Done};
+ghost use Rattle.lisp_world.specs.Openings.{repeats};
+ghost use Rattle.lisp_world.specs.declared.fault.WorldFault.{WorldFault};
+ghost use Rattle.lisp_script.specs.Order.{order};
+ghost use Rattle.lisp_player.specs.Schedule.{schedule_of, Refuses, IsSilent, Begins, PlayedFrom, Played, Stopped};
+ghost use Rattle.lisp_player.specs.declared.fault.PlayFault.TheVariants as faults;
+
+use crate::fault::PlayFault;
+use crate::input::read_to_end;
+use crate::parts::parted;
+use crate::playing::play_on;
+use lisp_memory::{FallibleVec, Memory};
+use lisp_script::{Command, parse_script};
+use lisp_sites::Config;
+use lisp_store::MemoryStore;
+use lisp_world::World;
+use std::alloc::{AllocError, Allocator, Global};
+use std::io::{Read, Write};
+use std::str;
+
+/// Reads a configuration, a line `---` and a script, and plays the script over a network of the configuration, with stores
+/// in memory that open empty and fail only where an event says so: writes one line for each event, `fault N` for one that
+/// the network doesn't take, the lines of each query, and nothing else. `heap` serves the reading of TOML alone.
+///
+/// It reads at most 1,048,576 bytes (`TooLong`) in at most 2,097,152 reads (`Read`); then come `NotUtf8`, `NoScript`,
+/// `Config`, `Script` and `World`, in this order. At these nothing was written; at `OutOfMemory` whole lines of the
+/// commands before; at `Write` it is open how much went out.
+pub fn play<A: Memory + Copy, R: Read, W: Write>(
+    heap: Global,
+    alloc: A,
+    reader: &mut R,
+    writer: &mut W,
+) -> Result<(), PlayFault>
+    ensures plays { OnOk result (IfSome (R.remaining reader.old) (λ input. Played A A.may_refuse input (λ orders. orders) (W.contents writer.old) (W.contents writer.new))) }
+    ensures stops { IsErrOf result PlayFault.OutOfMemory → IfSome (R.remaining reader.old) (λ input. Stopped A A.may_refuse input (W.contents writer.old) (W.contents writer.new)) }
+    ensures refuses { IfErr result (λ fault. IfSome (R.remaining reader.old) (λ input. Refuses input fault)) }
+    ensures silent { IfErr result (λ fault. IsSilent fault (W.contents writer.old) (W.contents writer.new)) }
+    ensures memory { IsErrOf result PlayFault.OutOfMemory → A.may_refuse }
+{
+    let input = read_to_end(alloc, reader)?;
+    play_input(heap, alloc, &input, writer)
+}
+
+// Plays the schedule that an input is.
+fn play_input<A: Memory + Copy, W: Write>(
+    heap: Global,
+    alloc: A,
+    input: &[u8],
+    writer: &mut W,
+) -> Result<(), PlayFault>
+    ensures plays { OnOk result (Played A A.may_refuse input.now (λ orders. orders) (W.contents writer.old) (W.contents writer.new)) }
+    ensures stops { IsErrOf result PlayFault.OutOfMemory → Stopped A A.may_refuse input.now (W.contents writer.old) (W.contents writer.new) }
+    ensures refuses { IfErr result (λ fault. Refuses input.now fault) }
+    ensures silent { IfErr result (λ fault. IsSilent fault (W.contents writer.old) (W.contents writer.new)) }
+    ensures memory { IsErrOf result PlayFault.OutOfMemory → A.may_refuse }
+{
+    let (config, commands) = read_schedule(heap, alloc, input)?;
+    play_commands(alloc, &config, &commands, writer)
+}
+
+// Plays commands from the beginning of a network of the configuration.
+fn play_commands<A: Memory + Copy, E: Allocator, F: Allocator, W: Write>(
+    alloc: A,
+    config: &Config<E>,
+    commands: &[Command<F>],
+    writer: &mut W,
+) -> Result<(), PlayFault>
+    ensures plays { OnOk result (PlayedFrom A A.may_refuse config.now (map order commands.now) (W.contents writer.old) (W.contents writer.new)) }
+    ensures stops { IsErrOf result PlayFault.OutOfMemory → Keeps (W.contents writer.old) (W.contents writer.new) ⊎ ((count : ℕ) × PlayedFrom A A.may_refuse config.now (take count (map order commands.now)) (W.contents writer.old) (W.contents writer.new)) }
+    ensures silent { IfErr result (λ fault. IsSilent fault (W.contents writer.old) (W.contents writer.new)) }
+    ensures repeated { IsErrOf result (faults.World WorldFault.Repeated) → repeats config.now ≡ true }
+    ensures memory { IsErrOf result PlayFault.OutOfMemory → A.may_refuse }
+    ensures faults { IfErr result (λ fault. (fault ≡ PlayFault.OutOfMemory) ⊎ (fault ≡ faults.Write) ⊎ ((why : WorldFault) × (fault ≡ faults.World why))) }
+{
+    let mut world = begin(alloc, config)?;
+    play_on(alloc, &mut world, config, commands, writer)
+}
+
+// The configuration and the commands of an input.
+fn read_schedule<A: Memory + Copy>(
+    heap: Global,
+    alloc: A,
+    input: &[u8],
+) -> Result<(Config<A>, Vec<Command<A>, A>), PlayFault>
+    ensures schedule { IfOk result (λ s. schedule_of input.now ≡ Ok (s.0, map order s.1.items)) }
+    ensures refuses { IfErr result (λ fault. Refuses input.now fault) }
+    ensures known { IfErr result (λ fault. (fault ≢ faults.Write) × (fault ≢ PlayFault.OutOfMemory)) }
+{
+    let Ok(text) = str::from_utf8(input) else {
+        return Err(PlayFault::NotUtf8);
+    };
+    let Some((configuration, script)) = parted(text) else {
+        return Err(PlayFault::NoScript);
+    };
+    let config = Config::from_toml(heap, alloc, configuration)?;
+    let commands = parse_script(alloc, &config, script)?;
+    Ok((config, commands))
+}
+
+// A network of a configuration, over stores that keep nothing.
+fn begin<A: Memory + Copy, E: Allocator>(
+    alloc: A,
+    config: &Config<E>,
+) -> Result<World<MemoryStore<A>, A>, PlayFault>
+    ensures begins { IfOk result (λ w. Begins config.now w) }
+    ensures repeats { IfOk result (λ w. repeats config.now ≡ false) }
+    ensures repeated { IsErrOf result (faults.World WorldFault.Repeated) → repeats config.now ≡ true }
+    ensures memory { IsErrOf result PlayFault.OutOfMemory → A.may_refuse }
+    ensures faults { IfErr result (λ fault. (fault ≡ PlayFault.OutOfMemory) ⊎ ((why : WorldFault) × (fault ≡ faults.World why))) }
+{
+    let stores = stores(alloc, config.servers().len() + config.routers().len())?;
+    Ok(World::new(alloc, config, stores)?)
+}
+
+// So many stores that keep nothing.
+fn stores<A: Memory + Copy>(alloc: A, count: usize) -> Result<Vec<MemoryStore<A>, A>, AllocError>
+    ensures empty { IfOk result (λ stores. stores.items ≡ replicate count (record { kept = empty; faults = 0; fate = Done })) }
+    ensures memory { OnErr result A.may_refuse }
+{
+    let mut stores = Vec::new(alloc);
+    for _ in 0..count {
+        stores.try_push(MemoryStore::new(alloc))?;
+    }
+    Ok(stores)
+}

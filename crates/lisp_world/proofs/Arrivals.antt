@@ -1,0 +1,67 @@
+-- What arrives at a network: the node and the datagram that are meant are there, and the nodes that it leaves are written over
+-- those that were there.
+use Rattle.std.proofs.Common.{◌≡◌, ℕ, ◌<◌, Bool, true, false, List, take, drop, get_or, ◌++◌, Option, Some, None, refl, sym, ap, subst, ◌∙◌, length}
+use Rattle.std.specs.Prelude.{slice_get, if◌then◌else◌}
+use Rattle.std.proofs.lemmas.Bool.{leb-false}
+use Rattle.std.proofs.lemmas.List.{get_or_read}
+use Rattle.std.proofs.lemmas.List.Quantifiers.{position-Some}
+use Rattle.lisp_records.specs.Address.{addr_eq}
+use Rattle.lisp_records.specs.declared.address.Addr.{Addr}
+use Rattle.lisp_store.specs.declared.fate.Fate.{Fate}
+use Rattle.lisp_schedules.specs.declared.line.Line.{Line}
+use Rattle.lisp_turns.specs.World.{Posted, ServerNode, RouterNode, WorldState}
+use Rattle.lisp_turns.specs.Turns.{address_of, node_with, posted, Arrives, ArrivesWhere, Delivers}
+use Rattle.lisp_world.specs.Faults.{datagram_fault, node_fault}
+use Rattle.lisp_world.specs.declared.fault.WorldFault.{WorldFault}
+use Rattle.lisp_world.proofs.Loops.{rewritten}
+
+-- a test that a check lets through fails
+passed : (fault : WorldFault) (b : Bool) → None ≡ (if b then Some fault else None) → b ≡ false
+passed fault true clash = absurd cc
+passed fault false passes = refl
+
+-- a node that the check of its number lets through is there, a datagram too, and a node that has an address; with the network
+-- as the call has it, and as it is seen
+module _ (seen w : WorldState) (same : seen ≡ w) where
+  pub node_there : (node : ℕ) → None ≡ node_fault w node → node < length seen.addresses
+  node_there node passes =
+      leb-false (length seen.addresses) node (passed _ _ (passes ∙ ap (λ (v : WorldState). node_fault v node) (sym same)))
+
+  pub datagram_there : (k : ℕ) → None ≡ datagram_fault w k → k < length seen.bag
+  datagram_there k passes =
+      leb-false (length seen.bag) k (passed _ _ (passes ∙ ap (λ (v : WorldState). datagram_fault v k) (sym same)))
+
+  pub addressed_there : (address : Addr) (node : ℕ) → Some node ≡ node_with w address → node < length seen.addresses
+  addressed_there address node found =
+      (position-Some (λ a. addr_eq a address) seen.addresses node address (sym (found ∙ ap (λ (v : WorldState). node_with v address) (sym same)))).0
+
+-- bytes arrived at a node: so they do in the network where its nodes are written over the old ones, and the answer went to
+-- the end of the bag
+module _ (A : Type 0) (w : WorldState) (node : ℕ) (fate : Fate) (from : Addr) (bytes : List ℕ) (line : Line) (reply : Option (List ℕ))
+    (servers : List ServerNode) (routers : List RouterNode) where
+  pub arrived : (servers_long routers_long : ℕ) (bag : List Posted) → servers_long ≡ length servers → routers_long ≡ length routers
+      → bag ≡ w.bag ++ posted (address_of w node) from reply
+      → Arrives A w (record w { bag = w.bag ++ posted (address_of w node) from reply; servers = servers; routers = routers }) node fate from bytes line
+      → Arrives A w (record w {
+        bag = bag;
+        servers = take servers_long (servers ++ drop (length servers) w.servers);
+        routers = take routers_long (routers ++ drop (length routers) w.routers);
+      }) node fate from bytes line
+  arrived servers_long routers_long bag all_servers all_routers same =
+      subst (λ (new : WorldState). Arrives A w new node fate from bytes line)
+      (λ i. record w {
+        bag = sym same i;
+        servers = sym (rewritten servers_long w.servers servers all_servers) i;
+        routers = sym (rewritten routers_long w.routers routers all_routers) i;
+      })
+
+-- a datagram that was sent, and what becomes of it at the node that has its address, or at none
+pub delivered : {A : Type 0} {old new : WorldState} {k : ℕ} {fate : Fate} {line : Line} (d : Posted) (to : Option ℕ)
+    → slice_get old.bag k ≡ Some d → to ≡ node_with old d.to → ArrivesWhere A old new k fate d to line → Delivers A old new k fate line
+delivered {A = A} {old = old} {new = new} {k = k} {fate = fate} {line = line} d to sent found arrives =
+    record { datagram = d; sent = sent; arrives = subst (λ (at : Option ℕ). ArrivesWhere A old new k fate d at line) found arrives }
+
+-- an element that is read twice, the second time once there is room for more, is the same
+pub read_again : {X : Type 0} (xs ys : List X) (k : ℕ) (x y : X) → k < length xs → ys ≡ xs → x ≡ get_or xs k x → y ≡ get_or ys k y → y ≡ x
+read_again {X = X} xs ys k x y within same first second =
+    get_or_read xs k y within (second ∙ ap (λ (zs : List X). get_or zs k y) same) x ∙ sym first
