@@ -13,11 +13,10 @@ lispd:
 	@tools/build
 
 # No crate may use lisp_memory's own proof that the machine's memory may be refused: grep prints the files that do.
-# One processor for each crate: several for one crate would take half as much processor time again. Of four
-# processors one is left free: they are often two to a core, and the chain of crates is what takes the time.
+# One processor for each crate: several for one crate would take half as much processor time again.
 test:
 	@! grep -rlE 'Rattle\.lisp_memory|lisp_memory::(specs|proofs)' crates --include=*.antt --include=*.rt | grep -v '^crates/lisp_memory/'
-	RT_JOBS=$$(($$(nproc) - $$(nproc) / 4)) rt ci
+	RT_JOBS=$$(nproc) rt ci
 	@examples/check.sh crates/lispd_main/out/lispd_main
 
 mutants:
