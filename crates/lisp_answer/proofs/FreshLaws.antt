@@ -5,7 +5,7 @@ use Rattle.std.specs.Option.{unwrap_or}
 use Rattle.std.specs.List.{Contains}
 use Rattle.lisp_records.specs.declared.address.Addr.{Addr}
 use Rattle.lisp_records.specs.declared.router.RouterId.{RouterId}
-use Rattle.lisp_sites.specs.Site.{SiteEntry}
+use Rattle.lisp_served.specs.Site.{SiteEntry}
 use Rattle.lisp_store.specs.declared.fault.StoreFault.{StoreFault}
 use Rattle.lisp_store.specs.declared.fault.StoreFault.TheVariants as faults
 use Rattle.lisp_store.specs.declared.fate.Fate.TheVariants.{Done}

@@ -3,7 +3,7 @@ use Rattle.std.specs.Prelude.{◌≡◌, ◌⊎◌, ℕ, List, Option, Result, O
 use Rattle.lisp_messages.specs.Message.{Registration, Said, Registers, Notifies}
 use Rattle.lisp_messages.specs.Reading.{HasHead, message_at}
 use Rattle.lisp_messages.specs.declared.fault.ReadFault.{ReadFault}
-use Rattle.lisp_sites.specs.Site.{SiteEntry}
+use Rattle.lisp_served.specs.Site.{SiteEntry}
 use Rattle.lisp_store.specs.declared.fault.StoreFault.TheVariants as faults
 use Rattle.lisp_server.specs.Checks.{Passed, register_checked, reply_of}
 use Rattle.lisp_checks.specs.declared.refused.Refused.{Refused}

@@ -11,7 +11,7 @@ use hex::FromHexError;
 use lisp_memory::{FallibleString, Memory};
 use lisp_records::Bytes;
 use lisp_server::Refused;
-use lisp_sites::Sites;
+use lisp_served::Sites;
 use std::alloc::AllocError;
 
 /// The number of a line that isn't hexadecimal.

@@ -4,7 +4,7 @@ use crate::timing::{Work, time};
 use lisp_messages::{MapRegister, write_register};
 use lisp_records::{Addr, MapRecord, Prefix, Records};
 use lisp_server::Server;
-use lisp_sites::Sites;
+use lisp_served::Sites;
 use lisp_store::MemoryStore;
 use std::alloc::{AllocError, Global};
 use std::rt::Clock;

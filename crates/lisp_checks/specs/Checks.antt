@@ -5,7 +5,7 @@ use Rattle.lisp_records.specs.Record.{Mapping}
 use Rattle.lisp_records.specs.Result.{◌>>=◌}
 use Rattle.lisp_messages.specs.Message.{Registration}
 use Rattle.lisp_messages.specs.Authentic.{is_authentic}
-use Rattle.lisp_sites.specs.Site.{SiteEntry, is_allowed, site_of, secret_of}
+use Rattle.lisp_served.specs.Site.{SiteEntry, is_allowed, site_of, secret_of}
 use Rattle.lisp_checks.specs.declared.refused.Refused.{Refused}
 use Rattle.lisp_checks.specs.declared.refused.Refused.TheVariants.{UnknownSite, UnknownKey, BadAuth, MergeAsked, NotAllowed}
 

@@ -10,7 +10,7 @@ ghost use Rattle.lisp_checks.specs.declared.refused.Refused.{Refused};
 use crate::refused::Refused;
 use lisp_messages::{MapRegister, authentic};
 use lisp_records::MapRecord;
-use lisp_sites::{Site, Sites};
+use lisp_served::{Site, Sites};
 use std::alloc::Allocator;
 
 /// The secret that a Map-Register is authentic under, or the first check that it fails: `UnknownSite`,

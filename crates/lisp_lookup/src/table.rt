@@ -16,7 +16,7 @@ use crate::best::best;
 use crate::live::{copy_live, count_live};
 use lisp_memory::{FallibleVec, Memory};
 use lisp_records::{Addr, DatabaseFault, MapRecord, Prefix, RouterId, Row};
-use lisp_sites::Sites;
+use lisp_served::Sites;
 use std::alloc::{AllocError, Allocator, Global};
 use std::cmp::Ordering;
 use std::marker::Model;

@@ -14,7 +14,7 @@ use core::mem::replace_with;
 use lisp_memory::Memory;
 use lisp_records::{Addr, Bytes, RouterId};
 use lisp_server::{NoticeFault, Refused, Server, Took};
-use lisp_sites::Sites;
+use lisp_served::Sites;
 use lisp_store::{Fate, WorldStore};
 use std::alloc::{Allocator, Global};
 use std::marker::Model;

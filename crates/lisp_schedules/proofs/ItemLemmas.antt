@@ -6,7 +6,7 @@ use Rattle.lisp_messages.specs.Message.{Said, Registration, Registers, Notifies}
 use Rattle.lisp_messages.specs.Authentic.{IsAuthentic, is_authentic, signed}
 use Rattle.lisp_messages.specs.Written.{written}
 use Rattle.lisp_messages.proofs.AuthenticLaws.{signed_is_authentic, signed_register_is_authentic}
-use Rattle.lisp_sites.specs.Site.{SiteEntry, site_of, secret_of}
+use Rattle.lisp_served.specs.Site.{SiteEntry, site_of, secret_of}
 use Rattle.lisp_checks.specs.declared.refused.Refused.TheVariants as refuseds
 use Rattle.lisp_checks.specs.Checks.{secret_under, first_not_allowed}
 use Rattle.lisp_schedules.specs.Bag.{Item, bytes_of}

@@ -7,7 +7,7 @@ use Rattle.lisp_records.specs.declared.address.Addr.TheVariants.{V4}
 use Rattle.lisp_records.specs.declared.router.RouterId.{RouterId}
 use Rattle.lisp_records.specs.Address.{Block}
 use Rattle.lisp_records.specs.Record.{Mapping}
-use Rattle.lisp_sites.specs.Site.{SiteEntry}
+use Rattle.lisp_served.specs.Site.{SiteEntry}
 use Rattle.lisp_sites.specs.Configuration.{Configuration}
 use Rattle.lisp_store.specs.declared.fate.Fate.TheVariants as fates
 use Rattle.lisp_store.specs.declared.pair.Pair.{Pair}

@@ -10,7 +10,7 @@ use Rattle.lisp_records.specs.Spelling.{IsBytes}
 use Rattle.lisp_messages.specs.declared.fault.ReadFault.{ReadFault}
 use Rattle.lisp_messages.specs.declared.fault.ReadFault.TheVariants as reads
 use Rattle.lisp_messages.specs.Authentic.{is_authentic}
-use Rattle.lisp_sites.specs.Site.{SiteEntry, site_of, secret_of}
+use Rattle.lisp_served.specs.Site.{SiteEntry, site_of, secret_of}
 use Rattle.lisp_store.specs.declared.pair.Pair.{Pair}
 use Rattle.lisp_store.specs.declared.fault.StoreFault.{StoreFault}
 use Rattle.lisp_store.specs.Kept.{Kept, kept_at, SameElsewhere, InDoubt}

@@ -13,7 +13,7 @@ use Rattle.lisp_records.specs.Row.{Holding}
 use Rattle.lisp_messages.specs.Message.{IsNotification}
 use Rattle.lisp_messages.specs.Authentic.{signed}
 use Rattle.lisp_messages.specs.Written.{written_notify}
-use Rattle.lisp_sites.specs.Site.{SiteEntry}
+use Rattle.lisp_served.specs.Site.{SiteEntry}
 use Rattle.lisp_store.specs.Kept.{Kept, kept_at, SameElsewhere}
 use Rattle.lisp_store.specs.Store.{StoreState}
 use Rattle.lisp_lookup.specs.Records.{live_of, ByPrefix}

@@ -5,7 +5,7 @@ use Rattle.lisp_messages.specs.Message.{Registration, Notification}
 use Rattle.lisp_records.specs.declared.address.Addr.{Addr}
 use Rattle.lisp_messages.specs.Authentic.{is_authentic, signed}
 use Rattle.lisp_messages.specs.Written.{written_notify}
-use Rattle.lisp_sites.specs.Site.{SiteEntry}
+use Rattle.lisp_served.specs.Site.{SiteEntry}
 use Rattle.lisp_checks.specs.declared.refused.Refused.{Refused}
 use Rattle.lisp_checks.specs.declared.refused.Refused.TheVariants.{BadAuth, NoNotice, NotMine}
 use Rattle.lisp_checks.specs.Checks.{secret_under, secret_at}

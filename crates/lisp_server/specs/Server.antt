@@ -1,7 +1,7 @@
 -- What a Map-Server is (RFC 9301 section 8.2).
 use Rattle.std.specs.Prelude.{◌≡◌, ◌<◌, ◌≤◌, ℕ, List}
 use Rattle.lisp_records.specs.Row.{Holding}
-use Rattle.lisp_sites.specs.Site.{SiteEntry}
+use Rattle.lisp_served.specs.Site.{SiteEntry}
 use Rattle.lisp_server.specs.declared.contacts.Contact.{Contact}
 use Rattle.lisp_server.specs.declared.tables.Tables.{Tables}
 use Rattle.lisp_server.specs.LastNonces.{Nonces}

@@ -12,7 +12,7 @@ use crate::standing_notices::StandingNotices;
 use crate::took::Took;
 use lisp_checks::{Refused, secret_at};
 use lisp_messages::{MapNotify, authentic};
-use lisp_sites::Sites;
+use lisp_served::Sites;
 use std::alloc::Allocator;
 
 /// Receives a Map-Notify-Ack that was read from the bytes of an arrival, and ends the notice that it

@@ -17,7 +17,7 @@ use crate::took::Took;
 use lisp_checks::{Refused, check_nonce, pair_of, save_nonce, secret_under};
 use lisp_memory::Memory;
 use lisp_messages::MapRegister;
-use lisp_sites::Sites;
+use lisp_served::Sites;
 use lisp_store::{NonceStore, Pair, PairKind};
 use std::alloc::Allocator;
 

@@ -23,7 +23,7 @@ use lisp_lookup::Table;
 use lisp_memory::Memory;
 use lisp_messages::{MapNotify, write_notify};
 use lisp_records::{Addr, Bytes, Records, RouterId};
-use lisp_sites::Sites;
+use lisp_served::Sites;
 use lisp_store::NonceStore;
 use std::alloc::{AllocError, Allocator};
 

@@ -31,7 +31,7 @@ use lisp_lookup::{Answer, Table};
 use lisp_memory::Memory;
 use lisp_messages::{Message, read_message};
 use lisp_records::{Addr, RouterId, Row};
-use lisp_sites::Sites;
+use lisp_served::Sites;
 use lisp_store::{NonceStore, Pair};
 use std::alloc::{AllocError, Allocator, Global};
 use std::marker::Model;

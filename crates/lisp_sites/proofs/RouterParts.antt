@@ -18,7 +18,7 @@ use Rattle.lisp_texts.specs.Form.{site_id_of, xtr_of}
 use Rattle.lisp_texts.proofs.Options.{bind_some}
 use Rattle.lisp_sites.specs.declared.field.Field.TheVariants as fields
 use Rattle.lisp_sites.specs.declared.fault.ConfigFault.TheVariants.{BadValue}
-use Rattle.lisp_sites.specs.Site.{SiteEntry, site_of, has_key}
+use Rattle.lisp_served.specs.Site.{SiteEntry, site_of, has_key}
 use Rattle.lisp_sites.specs.Configuration.{Server}
 use Rattle.lisp_sites.specs.Form.{text_as, byte_as}
 use Rattle.lisp_sites.specs.Table.{required, items, each, router_site, router_key, router_identity, server_place, place_of, place_at, places_of, record_at, database_at}

@@ -7,9 +7,9 @@ use Rattle.lisp_records.specs.declared.router.RouterId.{RouterId}
 use Rattle.lisp_records.specs.Address.{IsBlock, IsWhole}
 use Rattle.lisp_records.specs.Record.{Mapping, IsMapping}
 use Rattle.lisp_records.specs.Database.{database_of}
-use Rattle.lisp_sites.specs.declared.site.SitePrefix.{SitePrefix}
+use Rattle.lisp_served.specs.declared.site.SitePrefix.{SitePrefix}
 use Rattle.lisp_sites.specs.Form.{is_name}
-use Rattle.lisp_sites.specs.Site.{KeyEntry, SiteEntry, site_of, has_key}
+use Rattle.lisp_served.specs.Site.{KeyEntry, SiteEntry, site_of, has_key}
 
 -- a Map-Server
 pub record Server : Type 0 where

@@ -17,8 +17,8 @@ use Rattle.lisp_sites.specs.declared.field.Field.{Field}
 use Rattle.lisp_sites.specs.declared.field.Field.TheVariants as fields
 use Rattle.lisp_sites.specs.declared.fault.ConfigFault.{ConfigFault}
 use Rattle.lisp_sites.specs.declared.fault.ConfigFault.TheVariants.{Toml, Missing, BadValue, Repeated, OutOfMemory}
-use Rattle.lisp_sites.specs.declared.site.SitePrefix.{SitePrefix}
-use Rattle.lisp_sites.specs.Site.{KeyEntry, SiteEntry, site_of, has_key}
+use Rattle.lisp_served.specs.declared.site.SitePrefix.{SitePrefix}
+use Rattle.lisp_served.specs.Site.{KeyEntry, SiteEntry, site_of, has_key}
 use Rattle.lisp_sites.specs.Configuration.{Server, Router, Configuration}
 use Rattle.lisp_sites.specs.Form.{name_of, text_as, byte_as}
 

@@ -1,5 +1,5 @@
 //! The configuration of a network: sites with their keys and prefixes, Map-Servers and site routers,
-//! as an operator writes them. The texts of `lisp_texts` are passed on.
+//! as an operator writes them. The sites of `lisp_served` and the texts of `lisp_texts` are passed on.
 #![tactic(auto)]
 
 mod config;
@@ -9,14 +9,13 @@ mod name;
 mod places;
 mod router;
 mod server;
-mod site;
 mod site_entries;
-mod sites;
 mod value;
 
 pub use config::Config;
 pub use fault::ConfigFault;
 pub use field::Field;
+pub use lisp_served::{Site, SitePrefix, Sites};
 pub use lisp_texts::{
     MAX_SECRET, addr_from_text, addr_to_text, number_from_text, prefix_from_text, prefix_to_text,
     record_from_text, record_to_text, secret_from_text, site_id_from_text, xtr_from_text,
@@ -25,5 +24,3 @@ pub use name::Name;
 pub use places::Places;
 pub use router::RouterEntry;
 pub use server::ServerEntry;
-pub use site::{Site, SitePrefix};
-pub use sites::Sites;

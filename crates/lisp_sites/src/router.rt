@@ -10,8 +10,7 @@ use crate::field::Field;
 use crate::name::Name;
 use crate::places::Places;
 use crate::server::{ServerEntry, has_server, server_place};
-use crate::site::{Site, has_key};
-use crate::sites::Sites;
+use crate::site_entries::has_key;
 use crate::value::{address, array, byte, check_table, flag, name, site_id, tables, xtr};
 use lisp_memory::Memory;
 use lisp_records::{Addr, Database, MapRecord, RouterId};
@@ -179,7 +178,7 @@ fn read_key<A: Allocator>(entry: &Value, site: &Site<A>) -> Result<u8, ConfigFau
     ensures { result ≡ router_key site.now (view entry.now) }
 {
     let id = byte(entry, "key", Field::RouterKey)?;
-    if !has_key(&site.keys, id) {
+    if !has_key(site.keys(), id) {
         return Err(ConfigFault::BadValue(Field::RouterKey));
     }
     Ok(id)

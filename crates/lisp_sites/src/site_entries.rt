@@ -2,13 +2,14 @@
 
 ghost use Rattle.std.specs.Prelude.{◌≡◌, [], is_some};
 ghost use Rattle.toml.specs.View.{view, items_view};
+ghost use Rattle.lisp_served.specs.Site.{has_key};
 ghost use Rattle.lisp_sites.specs.Table.{Gives, each, fresh_key_id, key_at, keys_of, has_eid, fresh_eid, prefix_at, prefixes_of, has_site, fresh_site_id, site_at, sites_of};
 
 use crate::fault::ConfigFault;
 use crate::field::Field;
-use crate::site::{Site, SiteKey, SitePrefix, has_key};
 use crate::value::{byte, check_table, flag, prefix, secret, site_id, tables};
 use lisp_records::Prefix;
+use lisp_served::{Site, SiteKey, SitePrefix};
 use std::alloc::Allocator;
 use toml::Value;
 
@@ -49,7 +50,7 @@ fn read_site<A: Allocator + Copy>(
     let id = fresh_site_id(entry, before)?;
     let keys = read_keys(alloc, entry)?;
     let prefixes = read_prefixes(alloc, entry)?;
-    Ok(Site { id, keys, prefixes })
+    Ok(Site::new(id, keys, prefixes))
 }
 
 fn fresh_site_id<A: Allocator>(entry: &Value, before: &[Site<A>]) -> Result<u64, ConfigFault>
@@ -114,6 +115,13 @@ fn fresh_key_id<A: Allocator>(entry: &Value, before: &[SiteKey<A>]) -> Result<u8
         return Err(ConfigFault::Repeated(Field::SiteKeyId));
     }
     Ok(id)
+}
+
+/// Whether one of the keys has the Key ID.
+pub(crate) fn has_key<A: Allocator>(keys: &[SiteKey<A>], id: u8) -> bool
+    ensures { result ≡ has_key keys.now id }
+{
+    keys.iter().any(|key| key.id == id)
 }
 
 // The prefixes of a site.

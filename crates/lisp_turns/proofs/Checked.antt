@@ -5,7 +5,7 @@ use Rattle.std.specs.Option.{option_and_then}
 use Rattle.lisp_records.specs.Result.{◌>>=◌}
 use Rattle.lisp_messages.specs.Message.{Registration}
 use Rattle.lisp_messages.specs.Authentic.{is_authentic}
-use Rattle.lisp_sites.specs.Site.{SiteEntry, site_of, secret_of}
+use Rattle.lisp_served.specs.Site.{SiteEntry, site_of, secret_of}
 use Rattle.lisp_store.specs.declared.pair.Pair.{Pair}
 use Rattle.lisp_store.specs.Kept.{Kept, kept_at}
 use Rattle.lisp_store.specs.Store.{StoreState}

@@ -14,7 +14,7 @@ use Rattle.lisp_records.specs.declared.address.Addr.{Addr}
 use Rattle.lisp_records.specs.declared.router.RouterId.{RouterId}
 use Rattle.lisp_records.specs.Address.{Block, holds}
 use Rattle.lisp_records.specs.Row.{Holding, IsAlive, is_alive}
-use Rattle.lisp_sites.specs.Site.{SiteEntry}
+use Rattle.lisp_served.specs.Site.{SiteEntry}
 use Rattle.lisp_lookup.specs.declared.answer.Answer.{Answer}
 use Rattle.lisp_lookup.specs.declared.answer.Answer.TheVariants.{NoSite, NotRegistered, Reply, Forward}
 use Rattle.lisp_lookup.specs.Answer.{may_answer, IsBest, NoneAnswers, Answers}

@@ -2,7 +2,7 @@
 use Rattle.std.proofs.Common.{◌≡◌, ℕ, Bool, List, Option, Some, Ok, Err, refl, sym, ap, subst, inl, inr, ◌∙◌}
 use Rattle.std.specs.Prelude.{◌<◌, ◌⊎◌, ◌-◌, ◌^◌, Result}
 use Rattle.lisp_records.specs.declared.address.Addr.{Addr}
-use Rattle.lisp_sites.specs.Site.{SiteEntry}
+use Rattle.lisp_served.specs.Site.{SiteEntry}
 use Rattle.lisp_messages.specs.declared.fault.ReadFault.{ReadFault}
 use Rattle.lisp_messages.specs.Message.{Said, Registration, Notification, Registers, Notifies}
 use Rattle.lisp_messages.specs.Reading.{HasHead}

@@ -9,7 +9,7 @@ use Rattle.lisp_records.specs.declared.router.RouterId.{RouterId}
 use Rattle.lisp_records.specs.Address.{addr_eq}
 use Rattle.lisp_records.specs.Router.{router_eq}
 use Rattle.lisp_records.proofs.RouterLaws.{router_eq-Decides}
-use Rattle.lisp_sites.specs.Site.{SiteEntry}
+use Rattle.lisp_served.specs.Site.{SiteEntry}
 use Rattle.lisp_messages.specs.Message.{Notification}
 use Rattle.lisp_checks.specs.Checks.{secret_at}
 use Rattle.lisp_server.specs.Checks.{signed_by, answers_under}

@@ -3,7 +3,7 @@
 use crate::support::{EID, Eid, assert_at, block};
 use lisp_memory::Memory;
 use lisp_samples::SECRET;
-use lisp_sites::Sites;
+use lisp_served::Sites;
 use std::alloc::{AllocError, Global};
 use std::process::Abort;
 

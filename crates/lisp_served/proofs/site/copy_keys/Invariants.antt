@@ -1,5 +1,5 @@
 use Rattle.std.proofs.Common.{◌≡◌, take}
-use Rattle.lisp_sites.proofs.site.copy_keys.Given as goal
+use Rattle.lisp_served.proofs.site.copy_keys.Given as goal
 
 -- the keys so far are copied
 abbrev pub invariant-loop-key : goal.invariant-loop-key

@@ -3,7 +3,7 @@
 ghost use Rattle.std.specs.Prelude.{◌≡◌, ◌↔◌, IsTrue, IfOk, OnErr};
 ghost use Rattle.std.specs.List.{list_any};
 ghost use Rattle.std.specs.Option.{option_map};
-ghost use Rattle.lisp_sites.specs.Site.{Allowed, is_allowed, has_address, lets_in, key_of, has_key, secret_of};
+ghost use Rattle.lisp_served.specs.Site.{Allowed, is_allowed, has_address, lets_in, key_of, secret_of};
 
 use lisp_memory::{FallibleCopies, FallibleVec, Memory};
 use lisp_records::{Addr, Bytes, Prefix};
@@ -12,13 +12,15 @@ use std::marker::Model;
 
 /// A pre-shared secret of a site, under its Key ID (RFC 9301 section 5.6).
 #[derive(Drop)]
-pub(crate) struct SiteKey<A: Allocator = Global> {
-    pub(crate) id: u8,
-    pub(crate) secret: Bytes<A>,
+pub struct SiteKey<A: Allocator = Global> {
+    /// Its Key ID.
+    pub id: u8,
+    /// The secret itself.
+    pub secret: Bytes<A>,
 }
 
 impl<A: Allocator> Model for SiteKey<A> {
-    ghost use Rattle.lisp_sites.specs.Site.{KeyEntry};
+    ghost use Rattle.lisp_served.specs.Site.{KeyEntry};
 
     ghost Value = { KeyEntry };
 
@@ -59,13 +61,13 @@ impl SitePrefix {
 /// A site (RFC 9301 section 8.2): its Site-ID, its keys and its prefixes.
 #[derive(Drop)]
 pub struct Site<A: Allocator = Global> {
-    pub(crate) id: u64,
-    pub(crate) keys: Vec<SiteKey<A>, A>,
-    pub(crate) prefixes: Vec<SitePrefix, A>,
+    id: u64,
+    keys: Vec<SiteKey<A>, A>,
+    prefixes: Vec<SitePrefix, A>,
 }
 
 impl<A: Allocator> Model for Site<A> {
-    ghost use Rattle.lisp_sites.specs.Site.{SiteEntry};
+    ghost use Rattle.lisp_served.specs.Site.{SiteEntry};
 
     ghost Value = { SiteEntry };
 
@@ -73,11 +75,25 @@ impl<A: Allocator> Model for Site<A> {
 }
 
 impl<A: Allocator> Site<A> {
+    /// The site of a Site-ID, keys and prefixes; takes no memory.
+    pub fn new(id: u64, keys: Vec<SiteKey<A>, A>, prefixes: Vec<SitePrefix, A>) -> Site<A>
+        ensures { result ≡ record { id = id; keys = keys.items; prefixes = prefixes.items } }
+    {
+        Site { id, keys, prefixes }
+    }
+
     /// The Site-ID.
     pub fn id(&self) -> u64
         ensures { result ≡ self.now.id }
     {
         self.id
+    }
+
+    /// The site's keys, in the order of the configuration.
+    pub fn keys(&self) -> &[SiteKey<A>]
+        ensures { result.now ≡ self.now.keys }
+    {
+        &self.keys
     }
 
     /// The prefixes that the site's routers may register, in the order of the configuration.
@@ -130,19 +146,8 @@ impl<A: Allocator> Site<A> {
     {
         let keys = copy_keys(alloc, &self.keys)?;
         let prefixes = Vec::try_from_slice(alloc, &self.prefixes)?;
-        Ok(Site {
-            id: self.id,
-            keys,
-            prefixes,
-        })
+        Ok(Site::new(self.id, keys, prefixes))
     }
-}
-
-/// Whether one of the keys has the Key ID.
-pub(crate) fn has_key<A: Allocator>(keys: &[SiteKey<A>], id: u8) -> bool
-    ensures { result ≡ has_key keys.now id }
-{
-    keys.iter().any(|key| key.id == id)
 }
 
 // Equal keys, in memory of `alloc`.

@@ -8,8 +8,8 @@ use Rattle.std.proofs.lemmas.Slice.Eq.{bytes_eq-Decides}
 use Rattle.lisp_records.specs.declared.address.Addr.{Addr}
 use Rattle.lisp_records.specs.declared.address.Addr.TheVariants.{V4, V6}
 use Rattle.lisp_records.specs.Address.{Block, Covers, addr_eq, block_eq, covers, cleared, octets}
-use Rattle.lisp_sites.specs.declared.site.SitePrefix.{SitePrefix}
-use Rattle.lisp_sites.specs.Site.{SiteEntry, LetsIn, lets_in, Allowed, is_allowed}
+use Rattle.lisp_served.specs.declared.site.SitePrefix.{SitePrefix}
+use Rattle.lisp_served.specs.Site.{SiteEntry, LetsIn, lets_in, Allowed, is_allowed}
 
 addr_decided : (a b : Addr) → Decides (addr_eq a b) (a ≡ b)
 addr_decided (V4 a) (V4 b) = (λ t. ap V4 ((bytes_eq-Decides a b).0 t), λ e. (bytes_eq-Decides a b).1 (ap octets e))

@@ -4,7 +4,7 @@ use Rattle.std.specs.List.{Any, find, list_any}
 use Rattle.std.specs.Option.{option_map}
 use Rattle.lisp_records.specs.declared.address.Addr.{Addr}
 use Rattle.lisp_records.specs.Address.{Block, Covers, block_eq, covers, holds}
-use Rattle.lisp_sites.specs.declared.site.SitePrefix.{SitePrefix}
+use Rattle.lisp_served.specs.declared.site.SitePrefix.{SitePrefix}
 
 -- a pre-shared secret under its Key ID
 pub record KeyEntry : Type 0 where

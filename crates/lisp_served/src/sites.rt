@@ -2,7 +2,7 @@
 
 ghost use Rattle.std.specs.Prelude.{◌≡◌, [], ◌∷◌, IfOk, OnErr};
 ghost use Rattle.std.specs.Option.{option_map};
-ghost use Rattle.lisp_sites.specs.Site.{site_of, is_configured, single};
+ghost use Rattle.lisp_served.specs.Site.{site_of, is_configured, single};
 
 use crate::site::{Site, SiteKey, SitePrefix};
 use lisp_memory::{FallibleCopies, FallibleVec, Memory};
@@ -18,7 +18,7 @@ pub struct Sites<A: Allocator = Global> {
 
 impl<A: Allocator> Model for Sites<A> {
     ghost use Rattle.std.specs.Prelude.{List};
-    ghost use Rattle.lisp_sites.specs.Site.{SiteEntry};
+    ghost use Rattle.lisp_served.specs.Site.{SiteEntry};
 
     ghost Value = { List SiteEntry };
 
@@ -27,7 +27,7 @@ impl<A: Allocator> Model for Sites<A> {
 
 impl<A: Allocator> Sites<A> {
     /// The sites of a `Vec`; takes no memory.
-    pub(crate) fn from_vec(items: Vec<Site<A>, A>) -> Sites<A>
+    pub fn from_vec(items: Vec<Site<A>, A>) -> Sites<A>
         ensures { result ≡ items.items }
     {
         Sites { items }
@@ -83,11 +83,11 @@ impl<A: Memory + Copy> Sites<A> {
             more_specifics,
         };
         let mut items = Vec::new(alloc);
-        items.try_push(Site {
+        items.try_push(Site::new(
             id,
-            keys: one_key(alloc, key_id, secret)?,
-            prefixes: Vec::try_from_slice(alloc, &[entry])?,
-        })?;
+            one_key(alloc, key_id, secret)?,
+            Vec::try_from_slice(alloc, &[entry])?,
+        ))?;
         Ok(Sites { items })
     }
 }

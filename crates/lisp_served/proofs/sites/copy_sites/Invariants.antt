@@ -1,5 +1,5 @@
 use Rattle.std.proofs.Common.{◌≡◌, take}
-use Rattle.lisp_sites.proofs.sites.copy_sites.Given as goal
+use Rattle.lisp_served.proofs.sites.copy_sites.Given as goal
 
 -- the sites so far are copied
 abbrev pub invariant-loop-site : goal.invariant-loop-site
