@@ -4,8 +4,8 @@ ghost use Rattle.lisp_answer.specs.Answer.{Answers};
 
 use lisp_memory::Memory;
 use lisp_records::{Addr, Bytes};
-use lisp_server::{Refused, Server};
 use lisp_served::Sites;
+use lisp_server::{Refused, Server};
 use lisp_store::MemoryStore;
 
 /// Where the datagram is said to come from: no answer shows it.

@@ -10,8 +10,8 @@ use crate::words::words_of_refused;
 use hex::FromHexError;
 use lisp_memory::{FallibleString, Memory};
 use lisp_records::Bytes;
-use lisp_server::Refused;
 use lisp_served::Sites;
+use lisp_server::Refused;
 use std::alloc::AllocError;
 
 /// The number of a line that isn't hexadecimal.

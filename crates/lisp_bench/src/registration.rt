@@ -3,8 +3,8 @@
 use crate::timing::{Work, time};
 use lisp_messages::{MapRegister, write_register};
 use lisp_records::{Addr, MapRecord, Prefix, Records};
-use lisp_server::Server;
 use lisp_served::Sites;
+use lisp_server::Server;
 use lisp_store::MemoryStore;
 use std::alloc::{AllocError, Global};
 use std::rt::Clock;

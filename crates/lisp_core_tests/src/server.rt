@@ -3,8 +3,8 @@
 use crate::worked::{KEY, ROUTER, prefix};
 use lisp_records::Addr;
 use lisp_samples::SECRET;
-use lisp_server::{Refused, Server};
 use lisp_served::Sites;
+use lisp_server::{Refused, Server};
 use lisp_store::{MemoryStore, Pair, PairKind};
 use std::alloc::Global;
 use std::process::Abort;
