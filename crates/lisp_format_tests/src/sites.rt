@@ -1,4 +1,4 @@
-//! Tests of the configuration (`lisp_sites`).
+//! Tests of sites (`lisp_served`) and of the configuration (`lisp_sites`).
 
 pub mod allowed;
 pub mod configuration;

@@ -14,6 +14,7 @@ use crate::site_entries::has_key;
 use crate::value::{address, array, byte, check_table, flag, name, site_id, tables, xtr};
 use lisp_memory::Memory;
 use lisp_records::{Addr, Database, MapRecord, RouterId};
+use lisp_served::{Site, Sites};
 use lisp_texts::record_from_text;
 use std::alloc::{Allocator, Global};
 use std::marker::Model;
