@@ -1,4 +1,3 @@
-pub mod Allowed
 pub mod ConfigLaws
 pub mod Each
 pub mod Fields

@@ -1,4 +1,3 @@
-pub mod Site
 pub mod Form
 pub mod Configuration
 pub mod Field
