@@ -9,6 +9,7 @@ mod memory;
 mod nonce;
 mod pair;
 mod store;
+mod text;
 
 pub use fate::Fate;
 pub use fault::StoreFault;
@@ -16,3 +17,4 @@ pub use memory::MemoryStore;
 pub use nonce::{FIRST_NOTICE_NONCE, LAST_ROUTER_NONCE};
 pub use pair::{Pair, PairKind};
 pub use store::{NonceStore, WorldStore};
+pub use text::{nonce_from_text, nonce_text};
