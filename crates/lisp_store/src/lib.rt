@@ -4,6 +4,7 @@
 
 mod fate;
 mod fault;
+mod file;
 pub mod laws;
 mod memory;
 mod nonce;
@@ -13,6 +14,7 @@ mod text;
 
 pub use fate::Fate;
 pub use fault::StoreFault;
+pub use file::FileStore;
 pub use memory::MemoryStore;
 pub use nonce::{FIRST_NOTICE_NONCE, LAST_ROUTER_NONCE};
 pub use pair::{Pair, PairKind};
