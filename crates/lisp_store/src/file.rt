@@ -17,9 +17,22 @@ use std::io::{ErrorKind, Read, Write};
 use std::rt::Files;
 use std::{fs, io};
 
-/// What is read of a file: one byte more than a text has, so that a longer file is no text.
+/// How many bytes of a file are read: one more than a text has, so that a longer file is no text.
 const ROOM: usize = 28;
 
+/// A store of one file for each pair, in a folder. The file is named `K-SITE-XTR-KEY.nonce`, where K is `s`
+/// (sent), `r` (received) or `n` (notice), and site, xTR-ID and Key ID are 16, 32 and 2 lower case hexadecimal
+/// digits. It holds the text of the pair's nonce, as `nonce_text` writes it; a pair that has no file keeps
+/// nothing.
+///
+/// A save writes a new file, named with `.new` added, and syncs it; then it renames it over the old one, and
+/// syncs the folder. So a crash leaves the old text or the new one. After a save that failed it is open which
+/// of them is there, and a new file may be left; the next save writes over it.
+///
+/// That the disk returns what was synced, and that nobody else writes the folder or takes it away, is a
+/// premise: of the nonces that are kept nothing is proved, so the store isn't called honest. What is proved is
+/// the count of faults: no call lowers it, and one that answers `Device` or `Damaged` raises it, up to
+/// 2^64 - 1.
 #[derive(Drop)]
 pub struct FileStore<R> {
     rt: R,
@@ -30,7 +43,7 @@ pub struct FileStore<R> {
 impl<R: Files + AllocGlobal + Clone + Drop> FileStore<R> {
     /// A store over the folder `dir`, which must be there; touches no file.
     pub fn open(rt: &R, dir: &str) -> Result<FileStore<R>, AllocError>
-        ensures faults { IfOk result (λ store. store.faults ≡ 0) }
+        ensures faults { IfOk result (λ store. (⟦<FileStore<R> as NonceStore>⟧.seen store).faults ≡ 0) }
         ensures memory { R.is_infallible rt.now → OnErr result ⟦<Global as Memory>⟧.may_refuse }
     {
         Ok(FileStore {
@@ -41,8 +54,39 @@ impl<R: Files + AllocGlobal + Clone + Drop> FileStore<R> {
     }
 }
 
+impl<R: Files + AllocGlobal> NonceStore for FileStore<R> {
+    ghost seen = { λ s. record { kept = empty; faults = s.faults; is_honest = false; is_quiet = false; is_obedient = false } };
+
+    ghost may_refuse = { ⟦<Global as Memory>⟧.may_refuse };
+
+    /// `Damaged` where the file holds no text of a nonce, `Device` where reading failed. Memory is taken for
+    /// its path alone.
+    fn load(&mut self, pair: &Pair) -> Result<Option<u64>, StoreFault> {
+        let path = self.path(pair)?;
+        let answer = read_nonce(&self.rt, path.as_str());
+        self.counted(answer)
+    }
+
+    /// `Device` where any step failed. Memory is taken for the two paths alone, before anything is written.
+    fn save(&mut self, pair: &Pair, nonce: u64) -> Result<(), StoreFault> {
+        let path = self.path(pair)?;
+        let path = path.as_str();
+        let new = String::try_format(self.rt.alloc(), format_args!("{path}.new"))?;
+        let answer = write_nonce(&self.rt, self.dir.as_str(), path, new.as_str(), nonce);
+        self.counted(answer.map_err(|_| StoreFault::Device))
+    }
+}
+
+impl<R: Files + AllocGlobal> WorldStore for FileStore<R> {
+    /// Does nothing: what becomes of its calls is the disk's affair.
+    fn arm(&mut self, _fate: Fate) {}
+
+    /// Does nothing: the files are what a crash left.
+    fn restart(&mut self, _pick: u64) {}
+}
+
 impl<R: Files + AllocGlobal> FileStore<R> {
-    // The file of a pair.
+    // The path of a pair's file.
     fn path(&self, pair: &Pair) -> Result<String, AllocError>
         ensures memory { OnErr result ⟦<Global as Memory>⟧.may_refuse }
     {
@@ -63,7 +107,7 @@ impl<R: Files + AllocGlobal> FileStore<R> {
 }
 
 impl<R> FileStore<R> {
-    // The answer, counted where it is a fault.
+    // The answer, which is counted if it is a fault.
     fn counted<T>(&mut self, answer: Result<T, StoreFault>) -> Result<T, StoreFault>
         ensures same { result ≡ answer }
         ensures done { OnOk result (self.new.faults ≡ self.old.faults) }
@@ -77,50 +121,26 @@ impl<R> FileStore<R> {
     }
 }
 
-impl<R: Files + AllocGlobal> NonceStore for FileStore<R> {
-    ghost seen = { λ s. record { kept = empty; faults = s.faults; is_honest = false; is_quiet = false; is_obedient = false } };
-
-    ghost may_refuse = { ⟦<Global as Memory>⟧.may_refuse };
-
-    fn load(&mut self, pair: &Pair) -> Result<Option<u64>, StoreFault> {
-        let path = self.path(pair)?;
-        let answer = read_nonce(&self.rt, path.as_str());
-        self.counted(answer)
-    }
-
-    fn save(&mut self, pair: &Pair, nonce: u64) -> Result<(), StoreFault> {
-        let path = self.path(pair)?;
-        let path = path.as_str();
-        let new = String::try_format(self.rt.alloc(), format_args!("{path}.new"))?;
-        let answer = write_nonce(&self.rt, self.dir.as_str(), path, new.as_str(), nonce);
-        self.counted(answer.map_err(|_| StoreFault::Device))
-    }
-}
-
-impl<R: Files + AllocGlobal> WorldStore for FileStore<R> {
-    fn arm(&mut self, _fate: Fate) {}
-
-    fn restart(&mut self, _pick: u64) {}
-}
-
-// The nonce of a file, `None` where the file is not there.
+// The nonce of a file, `None` where there is no file.
 fn read_nonce<R: Files>(files: &R, path: &str) -> Result<Option<u64>, StoreFault>
     ensures plain { result ≢ Err StoreFault.OutOfMemory }
 {
-    let mut text = [0; ROOM];
-    let count = match fs::open(files, path) {
-        Ok(file) => read_text(file, &mut text),
+    let mut file = match fs::open(files, path) {
+        Ok(file) => file,
         Err(error) if error.kind() == ErrorKind::NotFound => return Ok(None),
-        Err(error) => Err(error),
+        Err(_) => return Err(StoreFault::Device),
     };
-    let Ok(count) = count else {
+    let mut text = [0; ROOM];
+    let Ok(count) = read_text(&mut file, &mut text) else {
         return Err(StoreFault::Device);
     };
-    nonce_from_text(&text[..count]).ok_or(StoreFault::Damaged).map(Some)
+    nonce_from_text(&text[..count])
+        .ok_or(StoreFault::Damaged)
+        .map(Some)
 }
 
-// Reads until the file ends or the text is full, and says how many bytes that were.
-fn read_text<F: Read + Drop>(mut file: F, text: &mut [u8]) -> io::Result<usize>
+// Reads until the file ends or the text is full, and says how many bytes it has.
+fn read_text<F: Read>(file: &mut F, text: &mut [u8]) -> io::Result<usize>
     ensures { IfOk result (λ count. count ≤ length text.new) }
 {
     let mut count = 0;
@@ -135,8 +155,8 @@ fn read_text<F: Read + Drop>(mut file: F, text: &mut [u8]) -> io::Result<usize>
     Err(io::Error::from(ErrorKind::Interrupted))
 }
 
-// Writes a nonce beside a file and then puts it in the file's place, so that a crash leaves the one or the
-// other whole. The file is synced before it is renamed, and its folder after.
+// Writes a nonce into a new file, and puts that in the place of the old one. A crash leaves one of them whole
+// only in this order: the file is synced before it is renamed, and the folder after.
 fn write_nonce<R: Files>(
     files: &R,
     dir: &str,

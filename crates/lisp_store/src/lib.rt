@@ -1,5 +1,5 @@
-//! Where routers and Map-Servers keep their nonces: what every store promises, and a store in memory for
-//! worlds and tests.
+//! Where routers and Map-Servers keep their nonces: what every store promises, a store in files, and one in
+//! memory for worlds and tests.
 #![tactic(auto)]
 
 mod fate;
