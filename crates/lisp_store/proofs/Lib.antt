@@ -1,3 +1,4 @@
 pub mod Pairs
 pub mod Entries
 pub mod Restart
+pub mod Digits

@@ -4,3 +4,4 @@ pub mod Store
 pub mod Fault
 pub mod Memory
 pub mod Entries
+pub mod NonceText

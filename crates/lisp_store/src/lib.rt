@@ -1,18 +1,22 @@
-//! Where routers and Map-Servers keep their nonces: what every store promises, and a store in memory for
-//! worlds and tests.
+//! Where routers and Map-Servers keep their nonces: what every store promises, a store in files, and one in
+//! memory for worlds and tests.
 #![tactic(auto)]
 
 mod fate;
 mod fault;
+mod file;
 pub mod laws;
 mod memory;
 mod nonce;
 mod pair;
 mod store;
+mod text;
 
 pub use fate::Fate;
 pub use fault::StoreFault;
+pub use file::FileStore;
 pub use memory::MemoryStore;
 pub use nonce::{FIRST_NOTICE_NONCE, LAST_ROUTER_NONCE};
 pub use pair::{Pair, PairKind};
 pub use store::{NonceStore, WorldStore};
+pub use text::{nonce_from_text, nonce_text};
