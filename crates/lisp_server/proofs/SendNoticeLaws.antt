@@ -21,7 +21,7 @@ use Rattle.lisp_lookup.proofs.LiveLaws.{some_row}
 use Rattle.lisp_server.specs.declared.contacts.Contact.{Contact}
 use Rattle.lisp_server.specs.declared.tables.Tables.{Tables}
 use Rattle.lisp_checks.specs.Nonces.{Follows, nonce_after, KeepsLists}
-use Rattle.lisp_server.specs.SendNotice.{IsRegistered, Announces, notice_of}
+use Rattle.lisp_server.specs.SendNotice.{IsRegistered, Announces, IsNotice, notice_of}
 use Rattle.lisp_server.specs.Contacts.{IsHeard, Knows}
 use Rattle.lisp_server.specs.LastNonces.{Nonces, nonce_at, SetsNonce}
 use Rattle.lisp_checks.specs.Pairs.{notice_pair}
@@ -57,17 +57,13 @@ no_fault None fault Q never = absurd (never refl)
 no_fault (Some x) fault Q never = tt
 
 -- what is known once a notice was sent
-pub record Sent {A : Type 0} (sites : List SiteEntry) (old mid new : Tables A) (before between after : StoreState) (router : RouterId) (now : ℕ) (contact : Contact) (secret bytes copy : List ℕ) (nonce : ℕ) (notice : Standing) : Type 0 where
+pub record Sent {A : Type 0} (sites : List SiteEntry) (old mid new : Tables A) (before between after : StoreState) (router : RouterId) (now : ℕ) (contact : Contact) (secret bytes : List ℕ) (nonce : ℕ) (notice : Standing) : Type 0 where
   pub registered : IsRegistered (state_of sites old) router now
   pub contact_is : contact ≡ registered.heard.contact
   pub secret_is : secret ≡ registered.heard.secret
   pub next : Follows (nonce_at old.nonces.nonces notice_pair) before nonce
-  pub records : List Mapping
-  pub by_prefix : ByPrefix (live_of old.rows.rows contact.router now) records
-  pub datagram : bytes ≡ signed secret (written_notify (notice_of contact.key nonce records))
-  pub fits : IsNotification (notice_of contact.key nonce records)
-  pub copied : copy ≡ bytes
-  pub notice_is : notice ≡ record { router = contact.router; to = contact.from; key = contact.key; nonce = nonce; bytes = copy; resends = 0; last = now }
+  pub tells : IsNotice (live_of old.rows.rows contact.router now) contact.key nonce secret bytes
+  pub notice_is : notice ≡ record { router = contact.router; to = contact.from; key = contact.key; nonce = nonce; bytes = bytes; resends = 0; last = now }
   pub same : SameTables old mid
   pub rows : new.rows.rows ≡ mid.rows.rows
   pub nonces : SetsNonce mid.nonces.nonces new.nonces.nonces notice_pair notice.nonce
@@ -78,18 +74,18 @@ pub record Sent {A : Type 0} (sites : List SiteEntry) (old mid new : Tables A) (
   pub done : IsTrue between.is_honest → kept_at after.kept notice_pair ≡ Some nonce ∷ []
   pub others : IsTrue between.is_honest → SameElsewhere between.kept after.kept notice_pair
 
-module _ {A : Type 0} {sites : List SiteEntry} {old mid new : Tables A} {before between after : StoreState} {router : RouterId} {now : ℕ} {contact : Contact} {secret bytes copy : List ℕ} {nonce : ℕ} {notice : Standing} where
-  pub announces : Sent sites old mid new before between after router now contact secret bytes copy nonce notice → Announces (state_of sites old) (state_of sites new) before after router now contact.from bytes
+module _ {A : Type 0} {sites : List SiteEntry} {old mid new : Tables A} {before between after : StoreState} {router : RouterId} {now : ℕ} {contact : Contact} {secret bytes : List ℕ} {nonce : ℕ} {notice : Standing} where
+  pub announces : Sent sites old mid new before between after router now contact secret bytes nonce notice → Announces (state_of sites old) (state_of sites new) before after router now contact.from bytes
   announces s = record {
     registered = s.registered;
     last = s.next.0;
     counts = s.next.1;
     unspent = s.next.2;
-    records = s.records;
-    by_prefix = subst (λ (q : RouterId). ByPrefix (live_of old.rows.rows q now) s.records) own s.by_prefix;
+    records = s.tells.records;
+    by_prefix = subst (λ (q : RouterId). ByPrefix (live_of old.rows.rows q now) s.tells.records) own s.tells.by_prefix;
     address = ap (λ (c : Contact). c.from) s.contact_is;
-    datagram = s.datagram ∙ (λ i. signed (s.secret_is i) (written_notify (notice_of (s.contact_is i).key (s.next.3 i) s.records)));
-    fits = subst (λ (x : ℕ × ℕ). IsNotification (notice_of x.0 x.1 s.records)) (λ i. ((s.contact_is i).key, s.next.3 i)) s.fits;
+    datagram = s.tells.datagram ∙ (λ i. signed (s.secret_is i) (written_notify (notice_of (s.contact_is i).key (s.next.3 i) s.tells.records)));
+    fits = subst (λ (x : ℕ × ℕ). IsNotification (notice_of x.0 x.1 s.tells.records)) (λ i. ((s.contact_is i).key, s.next.3 i)) s.tells.fits;
     stands = subst (λ (x : List Standing × Standing). SetsNotice x.0 new.notices.notices x.1) (λ i. (s.same.notices i, standing i)) s.notices;
     nonces = subst (λ (x : Nonces × ℕ). SetsNonce x.0 new.nonces.nonces notice_pair x.1) (λ i. (s.same.nonces i, saved i)) s.nonces;
     rest = λ i. record { sites = sites; rows = rows_are i; nonces = new.nonces.nonces; contacts = contacts_are i; notices = new.notices.notices };
@@ -104,7 +100,7 @@ module _ {A : Type 0} {sites : List SiteEntry} {old mid new : Tables A} {before 
       saved = ap (λ (n : Standing). n.nonce) s.notice_is ∙ s.next.3
 
       standing : notice ≡ record { router = router; to = contact.from; key = s.registered.heard.contact.key; nonce = nonce_after s.next.0; bytes = bytes; resends = 0; last = now }
-      standing = s.notice_is ∙ (λ i. record { router = own i; to = contact.from; key = (s.contact_is i).key; nonce = s.next.3 i; bytes = s.copied i; resends = 0; last = now })
+      standing = s.notice_is ∙ (λ i. record { router = own i; to = contact.from; key = (s.contact_is i).key; nonce = s.next.3 i; bytes = bytes; resends = 0; last = now })
 
       rows_are : new.rows.rows ≡ old.rows.rows
       rows_are = s.rows ∙ s.same.rows

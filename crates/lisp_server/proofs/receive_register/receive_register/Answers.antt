@@ -17,13 +17,6 @@ returns-in_err-rows-clause-refused g c =
     let unasked = subst (λ (last : Option ℕ). Unasked last (g.S.NonceStore.seen c.args.store.now) (g.S.NonceStore.seen c.check_nonce.new.store)) c.get.ensures c.check_nonce.ensures.unasked in
     rw (p.1, p.2) (no_room c.args.sites.now c.args.arrival.bytes.now c.args.register c.in_ok-secret.secret.now (state_of c.args.sites.now c.args.tables.now) _ _ c.pair_of-pair.result c.nonce_of-nonce.result c.pair_of-pair.ensures c.nonce_of-nonce.ensures c.in_ok-secret.ensures.secret fresh unasked c.check_nonce.ensures.same)
 
-pub returns-in_err-prepare-clause-refused : goal.returns-in_err-prepare-clause-refused
-returns-in_err-prepare-clause-refused g c =
-    let p = err_from_is_err_and c.from_residual-in_err-prepare.result c.from_residual-in_err-prepare.ensures.1 in
-    let fresh = subst (λ (last : Option ℕ). IsFresh last (g.S.NonceStore.seen c.args.store.now) c.pair_of-pair.result c.nonce_of-nonce.result) c.get.ensures c.in_ok-check_nonce.ensures.fresh in
-    let unasked = subst (λ (last : Option ℕ). Unasked last (g.S.NonceStore.seen c.args.store.now) (g.S.NonceStore.seen c.check_nonce.new.store)) c.get.ensures c.check_nonce.ensures.unasked in
-    rw (p.1, p.2) (no_room c.args.sites.now c.args.arrival.bytes.now c.args.register c.in_ok-secret.secret.now (state_of c.args.sites.now c.args.tables.now) _ _ c.pair_of-pair.result c.nonce_of-nonce.result c.pair_of-pair.ensures c.nonce_of-nonce.ensures c.in_ok-secret.ensures.secret fresh unasked c.check_nonce.ensures.same)
-
 pub returns-in_err-save_nonce-clause-refused : goal.returns-in_err-save_nonce-clause-refused
 returns-in_err-save_nonce-clause-refused g c =
     let p = err_from_is_err_and c.from_residual-in_err-save_nonce.result c.from_residual-in_err-save_nonce.ensures.1 in
@@ -45,7 +38,7 @@ returns-clause-accepted g c = accepts {new = c.accept.new.self} {between = g.S.N
   fresh = subst (λ (last : Option ℕ). IsFresh last (g.S.NonceStore.seen c.args.store.now) c.pair_of-pair.result c.nonce_of-nonce.result) c.get.ensures c.in_ok-check_nonce.ensures.fresh;
   loaded = c.check_nonce.ensures.same;
   honest = c.check_nonce.ensures.proceeds.honest;
-  same = c.prepare.ensures.same;
+  same = c.prepared.ensures.same;
   brings = c.in_ok-rows.ensures.rows;
   replies = c.in_ok-rows.ensures.reply;
   sets = c.accept.ensures.rows;
