@@ -3,8 +3,10 @@ use Rattle.lisp_records.specs.declared.router.RouterId.{RouterId}
 use Rattle.lisp_lookup.specs.Records.{live_of}
 use Rattle.lisp_checks.specs.Nonces.{Follows}
 use Rattle.lisp_server.specs.declared.contacts.Contact.{Contact}
+use Rattle.lisp_server.specs.Server.{state_of}
 use Rattle.lisp_server.proofs.ContactLaws.{contact_router}
-use Rattle.lisp_server.proofs.SendNoticeLaws.{few_records, announces}
+use Rattle.lisp_server.proofs.SendNoticeLaws.{few_records, announces, refuses_unregistered, refuses_unfollowed, without_room, refuses_unsaved}
+use Rattle.std.proofs.lemmas.Result.{err_from_is_err_and}
 use Rattle.lisp_server.proofs.send_notice.send_notice.Goals as goal
 
 pub prepare-requires : goal.prepare-requires
@@ -33,3 +35,23 @@ returns-clause-announces g c =
       done = c.in_ok-save_notice.ensures.done;
       others = c.save_notice.ensures.others;
     })
+
+pub returns-in_err-recipient-clause-refused : goal.returns-in_err-recipient-clause-refused
+returns-in_err-recipient-clause-refused g c =
+    let p = err_from_is_err_and c.from_residual.result c.from_residual.ensures.1 in
+    rw (p.1, p.2) (refuses_unregistered (state_of c.args.sites.now c.args.tables.now) c.args.router.now c.args.now c.in_err-recipient.field-0.0 (g.S.NonceStore.seen c.args.store.now) c.in_err-recipient.ensures.refused)
+
+pub returns-in_err-nonce-clause-refused : goal.returns-in_err-nonce-clause-refused
+returns-in_err-nonce-clause-refused g c =
+    let p = err_from_is_err_and c.from_residual-in_err-nonce.result c.from_residual-in_err-nonce.ensures.1 in
+    rw (p.1, p.2) (refuses_unfollowed (state_of c.args.sites.now c.args.tables.now) c.args.router.now c.args.now c.in_err-nonce.field-0.0 _ _ _ c.get.ensures c.in_ok-recipient.ensures.registered.0 c.next_nonce.ensures.unasked c.next_nonce.ensures.same c.in_err-nonce.ensures.refused)
+
+pub returns-in_err-notice-clause-refused : goal.returns-in_err-notice-clause-refused
+returns-in_err-notice-clause-refused g c =
+    let p = err_from_is_err_and c.from_residual-in_err-notice.result c.from_residual-in_err-notice.ensures.1 in
+    rw (p.1, p.2) (without_room (state_of c.args.sites.now c.args.tables.now) c.args.router.now c.args.now _ _ _ c.in_ok-nonce.nonce c.get.ensures c.in_ok-recipient.ensures.registered.0 c.in_ok-nonce.ensures.next c.next_nonce.ensures.unasked c.next_nonce.ensures.same)
+
+pub returns-in_err-save_notice-clause-refused : goal.returns-in_err-save_notice-clause-refused
+returns-in_err-save_notice-clause-refused g c =
+    let p = err_from_is_err_and c.from_residual-in_err-save_notice.result c.from_residual-in_err-save_notice.ensures.1 in
+    rw (p.1, p.2) (refuses_unsaved (state_of c.args.sites.now c.args.tables.now) c.args.router.now c.args.now c.in_err-save_notice.field-0.0 _ _ _ _ c.in_ok-nonce.nonce c.get.ensures c.in_ok-recipient.ensures.registered.0 c.in_ok-nonce.ensures.next c.next_nonce.ensures.proceeds c.next_nonce.ensures.same c.save_notice.ensures.others c.in_err-save_notice.ensures.refused)
