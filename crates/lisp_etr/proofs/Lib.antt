@@ -1,2 +1,3 @@
 pub mod TimerLaws
 pub mod SafeLaws
+pub mod HearingLaws

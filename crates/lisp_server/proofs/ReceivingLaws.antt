@@ -1,5 +1,6 @@
 -- What a Map-Register that is taken, or refused, amounts to.
 use Rattle.std.proofs.Common.{◌≡◌, ◌≤◌, ℕ, Bool, true, false, List, [], ◌∷◌, Option, Some, None, Result, Ok, Err, ok_or, IsTrue, not, refl, sym, ap, ◌∙◌, subst, inl, inr, arith}
+use Rattle.std.specs.Result.{IfErr}
 use Rattle.lisp_records.specs.declared.address.Addr.{Addr}
 use Rattle.lisp_records.specs.Row.{Holding}
 use Rattle.lisp_messages.specs.Message.{Registration, Registers, Notification, IsNotification, Notifies, Said}
@@ -89,7 +90,7 @@ module _ {A : Type 0} {sites : List SiteEntry} {bytes : List ℕ} {m : Registrat
   accepts pair nonce p n = subst (λ (x : Pair × ℕ). Saved sites bytes m from now old mid new before between after rows reply x.0 x.1 → Accepts {A = A} (register_checked sites bytes m) (state_of sites old) (state_of sites new) before after from now (Accepted x.0.router x.0.key x.1 reply)) (λ i. (sym p i, sym n i)) accepts_own
 
 -- a fault's cause lies later than where the store was before
-cause_later : (fault : StoreFault) (a b c : StoreState) → a.faults ≤ b.faults → HasCause fault b c → HasCause fault a c
+pub cause_later : (fault : StoreFault) (a b c : StoreState) → a.faults ≤ b.faults → HasCause fault b c → HasCause fault a c
 cause_later fault a b c up cause other = rose_later a b c up (cause other)
 
 -- what is known where the save failed, for a pair and nonce
@@ -258,6 +259,17 @@ takes_notify {A = A} said m from bytes old left before now took at (n, acknowled
   rest = refl;
   store = refl;
 })
+
+-- where nothing but room changed, nothing changed that callers see
+pub same_state : {A : Type 0} (sites : List SiteEntry) (old new : Tables A) → SameTables old new → state_of sites new ≡ state_of sites old
+same_state sites old new same = λ i. record { sites = sites; rows = same.rows i; nonces = same.nonces i; contacts = same.contacts i; notices = same.notices i }
+
+pub same_notices : (s : ServerState) (left : List Standing) → left ≡ s.notices → record s { notices = left } ≡ s
+same_notices s left same = λ i. record s { notices = same i }
+
+-- what an answer is refused for
+pub err_of : {X : Type 0} (r : Result X Refused) (why : Refused) (P : Refused → Type 0) → IfErr r P → r ≡ Err why → P why
+err_of {X = X} r why P refused is = subst (λ (r : Result X Refused). IfErr r P) is refused
 
 -- what a Map-Register was refused for
 pub refuses_register : (said : Result Said ReadFault) (m : Registration) (from : Addr) (bytes : List ℕ) (old : ServerState) (before after : StoreState) (why : Refused) → said ≡ Ok (Registers m) → RefusesRegister (register_checked old.sites bytes m) old before after why → Refuses said from bytes old before after why

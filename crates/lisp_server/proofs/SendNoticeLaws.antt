@@ -14,20 +14,23 @@ use Rattle.lisp_messages.specs.Message.{IsNotification}
 use Rattle.lisp_messages.specs.Authentic.{signed}
 use Rattle.lisp_messages.specs.Written.{written_notify}
 use Rattle.lisp_served.specs.Site.{SiteEntry}
-use Rattle.lisp_store.specs.Kept.{Kept, kept_at, SameElsewhere}
-use Rattle.lisp_store.specs.Store.{StoreState}
+use Rattle.lisp_store.specs.Kept.{Kept, kept_at, SameElsewhere, InDoubt}
+use Rattle.lisp_store.specs.Store.{StoreState, Proceeds}
 use Rattle.lisp_lookup.specs.Records.{live_of, ByPrefix}
 use Rattle.lisp_lookup.proofs.LiveLaws.{some_row}
 use Rattle.lisp_server.specs.declared.contacts.Contact.{Contact}
 use Rattle.lisp_server.specs.declared.tables.Tables.{Tables}
-use Rattle.lisp_checks.specs.Nonces.{Follows, nonce_after, KeepsLists}
-use Rattle.lisp_server.specs.SendNotice.{IsRegistered, Announces, notice_of}
+use Rattle.lisp_checks.specs.declared.notice_fault.NoticeFault.{NoticeFault}
+use Rattle.lisp_checks.specs.declared.notice_fault.NoticeFault.TheVariants as faults
+use Rattle.lisp_checks.specs.Nonces.{IsBase, Follows, FollowsNone, NoticeNotKept, nonce_after, KeepsLists, Unasked}
+use Rattle.lisp_server.specs.SendNotice.{IsRegistered, Announces, IsNotice, NoticeWithoutRoom, RefusesNotice, Unregistered, notice_of}
 use Rattle.lisp_server.specs.Contacts.{IsHeard, Knows}
 use Rattle.lisp_server.specs.LastNonces.{Nonces, nonce_at, SetsNonce}
 use Rattle.lisp_checks.specs.Pairs.{notice_pair}
 use Rattle.lisp_server.specs.Notices.{Standing, SetsNotice}
-use Rattle.lisp_server.specs.Server.{SameTables, state_of}
+use Rattle.lisp_server.specs.Server.{ServerState, SameTables, state_of}
 use Rattle.lisp_server.proofs.ContactLaws.{contact_router}
+use Rattle.lisp_server.proofs.ReceivingLaws.{cause_later}
 
 -- what one message can carry stays so when it is sorted
 pub few_left : (given records : List Mapping) → ByPrefix given records → length given ≤ 255 → length records < 256
@@ -57,17 +60,13 @@ no_fault None fault Q never = absurd (never refl)
 no_fault (Some x) fault Q never = tt
 
 -- what is known once a notice was sent
-pub record Sent {A : Type 0} (sites : List SiteEntry) (old mid new : Tables A) (before between after : StoreState) (router : RouterId) (now : ℕ) (contact : Contact) (secret bytes copy : List ℕ) (nonce : ℕ) (notice : Standing) : Type 0 where
+pub record Sent {A : Type 0} (sites : List SiteEntry) (old mid new : Tables A) (before between after : StoreState) (router : RouterId) (now : ℕ) (contact : Contact) (secret bytes : List ℕ) (nonce : ℕ) (notice : Standing) : Type 0 where
   pub registered : IsRegistered (state_of sites old) router now
   pub contact_is : contact ≡ registered.heard.contact
   pub secret_is : secret ≡ registered.heard.secret
   pub next : Follows (nonce_at old.nonces.nonces notice_pair) before nonce
-  pub records : List Mapping
-  pub by_prefix : ByPrefix (live_of old.rows.rows contact.router now) records
-  pub datagram : bytes ≡ signed secret (written_notify (notice_of contact.key nonce records))
-  pub fits : IsNotification (notice_of contact.key nonce records)
-  pub copied : copy ≡ bytes
-  pub notice_is : notice ≡ record { router = contact.router; to = contact.from; key = contact.key; nonce = nonce; bytes = copy; resends = 0; last = now }
+  pub tells : IsNotice (live_of old.rows.rows contact.router now) contact.key nonce secret bytes
+  pub notice_is : notice ≡ record { router = contact.router; to = contact.from; key = contact.key; nonce = nonce; bytes = bytes; resends = 0; last = now }
   pub same : SameTables old mid
   pub rows : new.rows.rows ≡ mid.rows.rows
   pub nonces : SetsNonce mid.nonces.nonces new.nonces.nonces notice_pair notice.nonce
@@ -78,18 +77,18 @@ pub record Sent {A : Type 0} (sites : List SiteEntry) (old mid new : Tables A) (
   pub done : IsTrue between.is_honest → kept_at after.kept notice_pair ≡ Some nonce ∷ []
   pub others : IsTrue between.is_honest → SameElsewhere between.kept after.kept notice_pair
 
-module _ {A : Type 0} {sites : List SiteEntry} {old mid new : Tables A} {before between after : StoreState} {router : RouterId} {now : ℕ} {contact : Contact} {secret bytes copy : List ℕ} {nonce : ℕ} {notice : Standing} where
-  pub announces : Sent sites old mid new before between after router now contact secret bytes copy nonce notice → Announces (state_of sites old) (state_of sites new) before after router now contact.from bytes
+module _ {A : Type 0} {sites : List SiteEntry} {old mid new : Tables A} {before between after : StoreState} {router : RouterId} {now : ℕ} {contact : Contact} {secret bytes : List ℕ} {nonce : ℕ} {notice : Standing} where
+  pub announces : Sent sites old mid new before between after router now contact secret bytes nonce notice → Announces (state_of sites old) (state_of sites new) before after router now contact.from bytes
   announces s = record {
     registered = s.registered;
     last = s.next.0;
     counts = s.next.1;
     unspent = s.next.2;
-    records = s.records;
-    by_prefix = subst (λ (q : RouterId). ByPrefix (live_of old.rows.rows q now) s.records) own s.by_prefix;
+    records = s.tells.records;
+    by_prefix = subst (λ (q : RouterId). ByPrefix (live_of old.rows.rows q now) s.tells.records) own s.tells.by_prefix;
     address = ap (λ (c : Contact). c.from) s.contact_is;
-    datagram = s.datagram ∙ (λ i. signed (s.secret_is i) (written_notify (notice_of (s.contact_is i).key (s.next.3 i) s.records)));
-    fits = subst (λ (x : ℕ × ℕ). IsNotification (notice_of x.0 x.1 s.records)) (λ i. ((s.contact_is i).key, s.next.3 i)) s.fits;
+    datagram = s.tells.datagram ∙ (λ i. signed (s.secret_is i) (written_notify (notice_of (s.contact_is i).key (s.next.3 i) s.tells.records)));
+    fits = subst (λ (x : ℕ × ℕ). IsNotification (notice_of x.0 x.1 s.tells.records)) (λ i. ((s.contact_is i).key, s.next.3 i)) s.tells.fits;
     stands = subst (λ (x : List Standing × Standing). SetsNotice x.0 new.notices.notices x.1) (λ i. (s.same.notices i, standing i)) s.notices;
     nonces = subst (λ (x : Nonces × ℕ). SetsNonce x.0 new.nonces.nonces notice_pair x.1) (λ i. (s.same.nonces i, saved i)) s.nonces;
     rest = λ i. record { sites = sites; rows = rows_are i; nonces = new.nonces.nonces; contacts = contacts_are i; notices = new.notices.notices };
@@ -104,10 +103,62 @@ module _ {A : Type 0} {sites : List SiteEntry} {old mid new : Tables A} {before 
       saved = ap (λ (n : Standing). n.nonce) s.notice_is ∙ s.next.3
 
       standing : notice ≡ record { router = router; to = contact.from; key = s.registered.heard.contact.key; nonce = nonce_after s.next.0; bytes = bytes; resends = 0; last = now }
-      standing = s.notice_is ∙ (λ i. record { router = own i; to = contact.from; key = (s.contact_is i).key; nonce = s.next.3 i; bytes = s.copied i; resends = 0; last = now })
+      standing = s.notice_is ∙ (λ i. record { router = own i; to = contact.from; key = (s.contact_is i).key; nonce = s.next.3 i; bytes = bytes; resends = 0; last = now })
 
       rows_are : new.rows.rows ≡ old.rows.rows
       rows_are = s.rows ∙ s.same.rows
 
       contacts_are : new.contacts.contacts ≡ old.contacts.contacts
       contacts_are = s.contacts ∙ s.same.contacts
+
+-- no notice was sent
+module _ (s : ServerState) (router : RouterId) (now : ℕ) where
+  pub refuses_unregistered : (fault : NoticeFault) (before : StoreState) → Unregistered (live_of s.rows router now) fault → RefusesNotice s before before router now fault
+  refuses_unregistered faults.NotRegistered before why = (why, refl)
+  refuses_unregistered faults.TooLarge before why = (why, refl)
+  refuses_unregistered (faults.StoreLoad _) before why = absurd why
+  refuses_unregistered faults.NonceSpent before why = absurd why
+  refuses_unregistered faults.OutOfMemory before why = absurd why
+  refuses_unregistered (faults.StoreSave _) before why = absurd why
+  refuses_unregistered faults.NotDue before why = absurd why
+
+  pub refuses_unfollowed : (fault : NoticeFault) (before after : StoreState) (known : Option ℕ) → known ≡ nonce_at s.nonces notice_pair → IsRegistered s router now → Unasked known before after → KeepsLists before after → FollowsNone known before after fault → RefusesNotice s before after router now fault
+  refuses_unfollowed fault before after known is registered unasked same = subst (λ (last : Option ℕ). Unasked last before after → FollowsNone last before after fault → RefusesNotice s before after router now fault) (sym is) (own fault) unasked
+    where
+      own : (fault : NoticeFault) → Unasked (nonce_at s.nonces notice_pair) before after → FollowsNone (nonce_at s.nonces notice_pair) before after fault → RefusesNotice s before after router now fault
+      own (faults.StoreLoad fault) unasked (unknown, cause, memory) = record { registered = registered; unknown = unknown; cause = cause; memory = memory; same = same }
+      own faults.NonceSpent unasked spent = record { registered = registered; spent = spent; unasked = unasked; same = same }
+      own faults.NotRegistered unasked never = absurd never
+      own faults.TooLarge unasked never = absurd never
+      own faults.OutOfMemory unasked never = absurd never
+      own (faults.StoreSave _) unasked never = absurd never
+      own faults.NotDue unasked never = absurd never
+
+  pub without_room : (before after : StoreState) (known : Option ℕ) (nonce : ℕ) → known ≡ nonce_at s.nonces notice_pair → IsRegistered s router now → Follows known before nonce → Unasked known before after → KeepsLists before after → NoticeWithoutRoom s before after router now
+  without_room before after known nonce is registered next unasked same = record {
+    registered = registered;
+    last = next.0;
+    counts = subst (λ (last : Option ℕ). IsBase last before notice_pair next.0) is next.1;
+    unspent = next.2;
+    unasked = subst (λ (last : Option ℕ). Unasked last before after) is unasked;
+    same = same;
+  }
+
+  pub refuses_unsaved : (fault : NoticeFault) (before between after : StoreState) (known : Option ℕ) (nonce : ℕ) → known ≡ nonce_at s.nonces notice_pair → IsRegistered s router now → Follows known before nonce → Proceeds before between → KeepsLists before between → (IsTrue between.is_honest → SameElsewhere between.kept after.kept notice_pair) → NoticeNotKept between after nonce fault → RefusesNotice s before after router now fault
+  refuses_unsaved (faults.StoreSave fault) before between after known nonce is registered next went loaded others not_kept = record {
+    registered = registered;
+    last = next.0;
+    counts = subst (λ (last : Option ℕ). IsBase last before notice_pair next.0) is next.1;
+    unspent = next.2;
+    cause = cause_later fault before between after went.count not_kept.0;
+    sound = not_kept.1;
+    memory = λ want honest. ap (λ (x : StoreState). x.kept) (not_kept.3 want) ∙ loaded honest;
+    doubt = λ honest. subst (λ (x : Kept × ℕ). InDoubt (kept_at x.0 notice_pair) (kept_at after.kept notice_pair) x.1) (λ i. (loaded honest i, next.3 i)) (not_kept.2 (subst (λ (b : Bool). IsTrue b) (sym went.honest) honest));
+    others = λ honest. subst (λ (was : Kept). SameElsewhere was after.kept notice_pair) (loaded honest) (others (subst (λ (b : Bool). IsTrue b) (sym went.honest) honest));
+  }
+  refuses_unsaved faults.NotRegistered before between after known nonce is registered next went loaded others never = absurd never
+  refuses_unsaved faults.TooLarge before between after known nonce is registered next went loaded others never = absurd never
+  refuses_unsaved (faults.StoreLoad _) before between after known nonce is registered next went loaded others never = absurd never
+  refuses_unsaved faults.NonceSpent before between after known nonce is registered next went loaded others never = absurd never
+  refuses_unsaved faults.OutOfMemory before between after known nonce is registered next went loaded others never = absurd never
+  refuses_unsaved faults.NotDue before between after known nonce is registered next went loaded others never = absurd never

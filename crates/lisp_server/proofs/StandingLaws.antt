@@ -1,8 +1,10 @@
 -- Looking up, setting and ending the notices that stand, one for each router.
-use Rattle.std.proofs.Common.{◌≡◌, ◌≢◌, ℕ, get_or, Bool, true, false, cond, not, List, [], ◌∷◌, ◌++◌, slice_set, Option, Some, None, refl, sym, ap, ◌∙◌, subst}
+use Rattle.std.proofs.Common.{◌≡◌, ◌≢◌, ℕ, ◌+◌, ◌<◌, ◌≤◌, ◌⊎◌, inl, inr, true≢false, get_or, Bool, true, false, cond, not, List, [], ◌∷◌, ◌++◌, slice_set, Option, Some, None, refl, sym, ap, ◌∙◌, subst}
 use Rattle.std.specs.Bool.{Decides}
 use Rattle.std.specs.List.{Contains, find, filter, position}
-use Rattle.std.specs.Option.{option_or}
+use Rattle.std.specs.Option.{option_map, option_or}
+use Rattle.std.proofs.lemmas.Bool.{cases_lt}
+use Rattle.std.proofs.lemmas.Option.{slice_get_past}
 use Rattle.std.proofs.lemmas.List.{set-get_or}
 use Rattle.std.proofs.lemmas.List.Kept.{AllPairs-filter}
 use Rattle.std.proofs.lemmas.List.Quantifiers.{position-Some}
@@ -13,7 +15,7 @@ use Rattle.lisp_records.specs.Router.{router_eq}
 use Rattle.lisp_lookup.proofs.Apart.{found, apart_set, apart_push, own_found}
 use Rattle.lisp_lookup.proofs.Found.{not_true, nowhere, at_place, put_set, put_push, has_own, has_no_other}
 use Rattle.lisp_lookup.proofs.TableLaws.{found_holds, some_inj}
-use Rattle.lisp_server.specs.Notices.{Standing, is_notice_of, notice_at, OneForEach, SetsNotice, EndsNotice, awaits, Awaited, is_due, is_due_at, resent, Resends}
+use Rattle.lisp_server.specs.Notices.{Standing, is_notice_of, notice_at, OneForEach, SetsNotice, EndsNotice, awaits, Awaited, gaps, has_come, is_due, is_due_at, resent, Resends}
 
 decides : (q : RouterId) (n : Standing) → Decides (is_notice_of q n) (n.router ≡ q)
 decides q n = router_eq-Decides n.router q
@@ -101,6 +103,14 @@ own_place : (ns : List Standing) (q : RouterId) (i : ℕ) (n d : Standing) → p
 own_place ns q i n d at is =
     let own : n.router ≡ q = (decides q n).0 (ap (is_notice_of q) is ∙ (position-Some (is_notice_of q) ns i d at).1) in
     subst (λ (r : RouterId). position (is_notice_of r) ns ≡ Some i) (sym own) at
+
+-- a notice that is due was sent again less than six times
+pub due_seldom : (now : ℕ) (n : Standing) → is_due now n ≡ true → n.resends < 6
+due_seldom now n due = by (cases_lt n.resends 6)
+  where
+    by : (n.resends < 6) ⊎ (6 ≤ n.resends) → n.resends < 6
+    by (inl few) = few
+    by (inr many) = absurd (true≢false (sym due ∙ ap (λ (o : Option ℕ). has_come now (option_map (λ gap. n.last + gap) o)) (slice_get_past gaps n.resends many)))
 
 -- the notice that is read there twice is one
 pub same_there : (ns : List Standing) (q : RouterId) (i : ℕ) (n m d e : Standing) → position (is_notice_of q) ns ≡ Some i → n ≡ get_or ns i d → m ≡ get_or ns i e → n ≡ m

@@ -42,6 +42,13 @@ Unregistered live _ = ⊥
 abbrev pub notice_of : ℕ → ℕ → List Mapping → Notification
 notice_of key nonce records = record { ack = false; nonce = nonce; key_id = key; records = records }
 
+-- the bytes are a notice of these live records, by prefix, and it fits the format
+pub record IsNotice (live : List Mapping) (key nonce : ℕ) (secret bytes : List ℕ) : Type 0 where
+  pub records : List Mapping
+  pub by_prefix : ByPrefix live records
+  pub datagram : bytes ≡ signed secret (written_notify (notice_of key nonce records))
+  pub fits : IsNotification (notice_of key nonce records)
+
 -- a notice was sent: of the router's live records, by prefix, under the key and to the address that it
 -- was heard under last, with the next nonce, which an honest store keeps alone for notices from now on; it
 -- fits the format, and stands

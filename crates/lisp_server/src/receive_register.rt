@@ -1,13 +1,14 @@
 //! Receiving a Map-Register.
 
-ghost use Rattle.std.specs.Prelude.{◌≡◌, IfOk, IfErr, IsErrOf, OnErr};
+ghost use Rattle.std.specs.Prelude.{◌≡◌, length, IfOk, IfErr, IsErrOf, OnErr};
 ghost use Rattle.lisp_store.specs.declared.fault.StoreFault.{StoreFault};
 ghost use Rattle.lisp_store.specs.Store.{Proceeds};
 ghost use Rattle.lisp_checks.specs.Pairs.{pair_of};
 ghost use Rattle.lisp_messages.specs.Message.{IsNotification};
-ghost use Rattle.lisp_server.specs.Checks.{register_checked, notification_of};
+ghost use Rattle.lisp_server.specs.AcceptedRows.{holdings};
+ghost use Rattle.lisp_server.specs.Checks.{register_checked, notification_of, reply_of};
 ghost use Rattle.lisp_server.specs.Receiving.{Accepts, RefusesRegister};
-ghost use Rattle.lisp_server.specs.Server.{SameTables, state_of};
+ghost use Rattle.lisp_server.specs.Server.{SameTables, HasRoom, state_of};
 ghost use Rattle.lisp_checks.specs.declared.refused.Refused.{Refused};
 
 use crate::accepted_rows::rows_and_reply;
@@ -17,9 +18,10 @@ use crate::took::Took;
 use lisp_checks::{Refused, check_nonce, pair_of, save_nonce, secret_under};
 use lisp_memory::Memory;
 use lisp_messages::MapRegister;
+use lisp_records::{Bytes, Row};
 use lisp_served::Sites;
 use lisp_store::{NonceStore, Pair, PairKind};
-use std::alloc::Allocator;
+use std::alloc::{AllocError, Allocator};
 
 /// Receives a Map-Register that was read from the bytes of an arrival. All that takes memory comes before
 /// its nonce is saved; what the tables hold changes only after that.
@@ -44,8 +46,7 @@ pub(crate) fn receive_register<S: NonceStore, A: Memory + Copy>(
     let pair = pair_of(&register);
     let nonce = nonce_of(&register);
     check_nonce(store, &pair, tables.nonces.get(&pair), nonce)?;
-    let (rows, reply) = rows_and_reply(alloc, secret, register, arrival.from, arrival.now)?;
-    tables.prepare(&rows)?;
+    let (rows, reply) = prepared(alloc, tables, secret, arrival, register)?;
     save_nonce(store, &pair, nonce)?;
     tables.accept(rows, pair, nonce, arrival.from);
     Ok(Took::Accepted {
@@ -54,6 +55,26 @@ pub(crate) fn receive_register<S: NonceStore, A: Memory + Copy>(
         nonce,
         reply,
     })
+}
+
+// The rows of a Map-Register that is to be accepted, and the Map-Notify that answers it, where it wants one; with
+// room for what it leaves.
+fn prepared<A: Memory + Copy>(
+    alloc: A,
+    tables: &mut Tables<A>,
+    secret: &[u8],
+    arrival: Arrival<'_>,
+    register: MapRegister<A>,
+) -> Result<(Vec<Row<A>, A>, Option<Bytes<A>>), AllocError>
+    ensures rows { IfOk result (λ x. x.0.items ≡ holdings register arrival.entry.from arrival.entry.now) }
+    ensures reply { IfOk result (λ x. x.1 ≡ reply_of secret.now register) }
+    ensures room { IfOk result (λ x. HasRoom tables.new (length x.0.items)) }
+    ensures same { SameTables tables.old tables.new }
+    ensures memory { OnErr result A.may_refuse }
+{
+    let (rows, reply) = rows_and_reply(alloc, secret, register, arrival.from, arrival.now)?;
+    tables.prepare(&rows)?;
+    Ok((rows, reply))
 }
 
 fn nonce_of<A: Allocator>(register: &MapRegister<A>) -> u64

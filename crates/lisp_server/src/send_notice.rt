@@ -1,18 +1,14 @@
 //! Sending a router an unsolicited Map-Notify (notice) of what is held for it.
 
-ghost use Rattle.std.specs.Prelude.{◌≡◌, ◌≤◌, List, None, length, IfOk, IfErr, IfSome, IsErrOf, OnErr};
+ghost use Rattle.std.specs.Prelude.{◌≡◌, ◌≤◌, None, length, IfOk, IfErr, IfSome, IsErrOf, OnOk, OnErr};
 ghost use Rattle.lisp_records.specs.Moment.{max_moment};
 ghost use Rattle.lisp_store.specs.declared.fault.StoreFault.{StoreFault};
 ghost use Rattle.lisp_store.specs.Store.{Proceeds};
 ghost use Rattle.lisp_lookup.specs.Table.{OneEach};
-ghost use Rattle.lisp_lookup.specs.Records.{live_of, ByPrefix};
-ghost use Rattle.lisp_messages.specs.Message.{IsNotification};
-ghost use Rattle.lisp_messages.specs.Authentic.{signed};
-ghost use Rattle.lisp_messages.specs.Written.{written_notify};
-ghost use Rattle.lisp_server.specs.SendNotice.{IsRegistered, Announces, RefusesNotice, notice_of, Unregistered};
-ghost use Rattle.lisp_records.specs.Record.{Mapping};
+ghost use Rattle.lisp_lookup.specs.Records.{live_of};
+ghost use Rattle.lisp_server.specs.SendNotice.{IsRegistered, Announces, RefusesNotice, IsNotice, Unregistered};
 ghost use Rattle.lisp_server.specs.Contacts.{IsHeard, Knows};
-ghost use Rattle.lisp_server.specs.Server.{SameTables, state_of};
+ghost use Rattle.lisp_server.specs.Server.{SameTables, HasNoticeRoom, state_of};
 ghost use Rattle.lisp_checks.specs.declared.notice_fault.NoticeFault.{NoticeFault};
 
 use crate::contacts::{Contact, Contacts};
@@ -52,12 +48,10 @@ pub(crate) fn send_notice<S: NonceStore, A: Memory + Copy>(
 {
     let recipient = recipient_of(sites, tables, router, now)?;
     let nonce = next_nonce(store, tables.nonces.get(&NOTICES))?;
-    let bytes = recipient.notify(alloc, &tables.rows, now, nonce)?;
-    let notice = recipient.notice(nonce, bytes.copy(alloc)?, now);
-    tables.prepare_notice()?;
+    let (notice, bytes) = recipient.prepare(alloc, tables, now, nonce)?;
     save_notice(store, nonce)?;
     tables.keep_notice(notice);
-    Ok((recipient.contact.from, bytes.into_vec()))
+    Ok((recipient.contact.from, bytes))
 }
 
 /// Where a router was heard last, and the secret that its notices are sent under.
@@ -68,6 +62,28 @@ struct Recipient<'s> {
 }
 
 impl Recipient<'_> {
+    // The notice that stands once its nonce is saved, room for it, and its bytes.
+    fn prepare<A: Memory + Copy>(
+        &self,
+        alloc: A,
+        tables: &mut Tables<A>,
+        now: u64,
+        nonce: u64,
+    ) -> Result<(StandingNotice<A>, Vec<u8, A>), AllocError>
+        requires moment { now ≤ max_moment }
+        requires few { length (live_of tables.old.rows.rows self.now.contact.router now) ≤ 255 }
+        ensures notice { IfOk result (λ x. x.0 ≡ record { router = self.now.contact.router; to = self.now.contact.from; key = self.now.contact.key; nonce = nonce; bytes = x.1.items; resends = 0; last = now }) }
+        ensures bytes { IfOk result (λ x. IsNotice (live_of tables.old.rows.rows self.now.contact.router now) self.now.contact.key nonce self.now.secret.now x.1.items) }
+        ensures room { OnOk result (HasNoticeRoom tables.new) }
+        ensures same { SameTables tables.old tables.new }
+        ensures memory { OnErr result A.may_refuse }
+    {
+        let bytes = self.notify(alloc, &tables.rows, now, nonce)?;
+        let notice = self.notice(nonce, bytes.copy(alloc)?, now);
+        tables.prepare_notice()?;
+        Ok((notice, bytes.into_vec()))
+    }
+
     // The Map-Notify of the router's live records.
     fn notify<A: Memory + Copy>(
         &self,
@@ -77,7 +93,7 @@ impl Recipient<'_> {
         nonce: u64,
     ) -> Result<Bytes<A>, AllocError>
         requires few { length (live_of rows.now.rows self.now.contact.router now) ≤ 255 }
-        ensures notice { IfOk result (λ bytes. (records : List Mapping) × ByPrefix (live_of rows.now.rows self.now.contact.router now) records × (bytes ≡ signed self.now.secret.now (written_notify (notice_of self.now.contact.key nonce records))) × IsNotification (notice_of self.now.contact.key nonce records)) }
+        ensures notice { IfOk result (λ bytes. IsNotice (live_of rows.now.rows self.now.contact.router now) self.now.contact.key nonce self.now.secret.now bytes) }
         ensures memory { OnErr result A.may_refuse }
     {
         let notify = MapNotify {

@@ -1,4 +1,12 @@
-use Rattle.std.proofs.Common.{ap, is_ok, true≢false}
+use Rattle.std.proofs.Common.{ℕ, sym, ap, ◌∙◌, is_ok, true≢false}
+use Rattle.std.proofs.lemmas.Result.{err_from_is_err_and}
+use Rattle.lisp_messages.specs.Authentic.{is_authentic}
+use Rattle.lisp_messages.specs.Message.{Notification}
+use Rattle.lisp_messages.specs.Reading.{message_at}
+use Rattle.lisp_messages.specs.declared.notify.MapNotify.{MapNotify}
+use Rattle.lisp_etr.specs.Config.{Settings}
+use Rattle.lisp_etr.specs.Hearing.{server_at}
+use Rattle.lisp_etr.proofs.HearingLaws.{found, unread, wrong_key, bad_auth, passes}
 use Rattle.lisp_etr.proofs.hearing.hear.Goals as goal
 
 pub returns-in_err-server-clause-early : goal.returns-in_err-server-clause-early
@@ -12,3 +20,34 @@ returns-then-not-authentic-clause-early g c fault kind = absurd (true≢false (a
 
 pub returns-clause-early : goal.returns-clause-early
 returns-clause-early g c fault kind = absurd (true≢false (ap is_ok (c.in_ok-notify.ensures.early fault kind)))
+
+pub returns-in_err-notify-clause-exact : goal.returns-in_err-notify-clause-exact
+returns-in_err-notify-clause-exact g c =
+    let p = err_from_is_err_and c.from_residual.result c.from_residual.ensures.1 in
+    rw (p.1, p.2) (unread c.args.config.now c.args.bytes.now (message_at c.args.bytes.now) (server_at c.args.config.now.servers c.args.from) {X = ℕ × MapNotify g.row.A.Denot} (λ x. record { server = x.0; message = x.1 }) c.in_err-notify.field-0.0 c.in_err-notify.ensures.exact)
+
+pub returns-then-notify-config-clause-exact : goal.returns-then-notify-config-clause-exact
+returns-then-notify-config-clause-exact g c =
+    let config = c.config.view_is in
+    let its = found c.args.from c.in_ok-server.server (c.as_slice.ensures ∙ ap (λ (s : Settings). s.servers) config) c.server_at.ensures c.ok_or.ensures.value c.in_ok-server.was in
+    let own = ap (λ (m : Notification). m.key_id) c.notify.view_is in
+    wrong_key c.args.config.now c.args.bytes.now (message_at c.args.bytes.now) (server_at c.args.config.now.servers c.args.from) c.in_ok-notify.notify c.in_ok-notify.ensures.exact c.in_ok-server.server its
+    (λ same. c.if-notify-config.true (own ∙ same ∙ sym (ap (λ (s : Settings). s.key_id) config)))
+
+pub returns-then-not-authentic-clause-exact : goal.returns-then-not-authentic-clause-exact
+returns-then-not-authentic-clause-exact g c =
+    let config = c.config.view_is in
+    let its = found c.args.from c.in_ok-server.server (c.as_slice.ensures ∙ ap (λ (s : Settings). s.servers) config) c.server_at.ensures c.ok_or.ensures.value c.in_ok-server.was in
+    let key = sym (ap (λ (m : Notification). m.key_id) c.notify.view_is) ∙ c.if-notify-config.false ∙ ap (λ (s : Settings). s.key_id) config in
+    let secret = c.as_slice-2.ensures ∙ ap (λ (s : Settings). s.secret) config in
+    bad_auth c.args.config.now c.args.bytes.now (message_at c.args.bytes.now) (server_at c.args.config.now.servers c.args.from) c.in_ok-notify.notify c.in_ok-notify.ensures.exact c.in_ok-server.server its key
+    (ap (is_authentic c.args.bytes.now) (sym secret) ∙ sym c.authentic.ensures.test ∙ c.if-not-authentic.true)
+
+pub returns-clause-exact : goal.returns-clause-exact
+returns-clause-exact g c =
+    let config = c.config.view_is in
+    let its = found c.args.from c.in_ok-server.server (c.as_slice.ensures ∙ ap (λ (s : Settings). s.servers) config) c.server_at.ensures c.ok_or.ensures.value c.in_ok-server.was in
+    let key = sym (ap (λ (m : Notification). m.key_id) c.notify.view_is) ∙ c.if-notify-config.false ∙ ap (λ (s : Settings). s.key_id) config in
+    let secret = c.as_slice-2.ensures ∙ ap (λ (s : Settings). s.secret) config in
+    passes c.args.config.now c.args.bytes.now (message_at c.args.bytes.now) (server_at c.args.config.now.servers c.args.from) c.in_ok-notify.notify c.in_ok-notify.ensures.exact c.in_ok-server.server its key
+    (ap (is_authentic c.args.bytes.now) (sym secret) ∙ sym c.authentic.ensures.test ∙ c.if-not-authentic.false)

@@ -3,32 +3,29 @@ use Rattle.lisp_records.specs.declared.router.RouterId.{RouterId}
 use Rattle.lisp_lookup.specs.Records.{live_of}
 use Rattle.lisp_checks.specs.Nonces.{Follows}
 use Rattle.lisp_server.specs.declared.contacts.Contact.{Contact}
+use Rattle.lisp_server.specs.Server.{state_of}
 use Rattle.lisp_server.proofs.ContactLaws.{contact_router}
-use Rattle.lisp_server.proofs.SendNoticeLaws.{few_records, announces}
+use Rattle.lisp_server.proofs.SendNoticeLaws.{few_records, announces, refuses_unregistered, refuses_unfollowed, without_room, refuses_unsaved}
+use Rattle.std.proofs.lemmas.Result.{err_from_is_err_and}
 use Rattle.lisp_server.proofs.send_notice.send_notice.Goals as goal
 
-pub notify-requires : goal.notify-requires
-notify-requires g c =
+pub prepare-requires : goal.prepare-requires
+prepare-requires g c =
     let found = c.in_ok-recipient.ensures.registered in
     let own = ap (λ (k : Contact). k.router) found.1 ∙ contact_router c.args.tables.now.contacts.contacts c.args.router.now found.0.heard.contact found.0.heard.heard in
-    record { few = subst (λ (q : RouterId). length (live_of c.args.tables.now.rows.rows q c.args.now) ≤ 255) (sym own) (few_records _ found.0.fits) }
+    record { moment = c.requires.moment; few = subst (λ (q : RouterId). length (live_of c.args.tables.now.rows.rows q c.args.now) ≤ 255) (sym own) (few_records _ found.0.fits) }
 
 pub returns-clause-announces : goal.returns-clause-announces
 returns-clause-announces g c =
     let found = c.in_ok-recipient.ensures.registered in
-    let bytes = c.in_ok-bytes.ensures.notice in
-    rw c.into_vec.ensures (announces {mid = c.prepare_notice.new.self} {new = c.keep_notice.new.self} {between = g.S.NonceStore.seen c.next_nonce.new.store} {copy = c.in_ok-copy.field-0} {nonce = c.in_ok-nonce.nonce} {notice = c.notice-notice.result} (record {
+    announces {mid = c.prepare.new.tables} {new = c.keep_notice.new.self} {between = g.S.NonceStore.seen c.next_nonce.new.store} {nonce = c.in_ok-nonce.nonce} {notice = c.in_ok-notice.notice} (record {
       registered = found.0;
       contact_is = found.1;
       secret_is = found.2;
       next = subst (λ (last : Option ℕ). Follows last (g.S.NonceStore.seen c.args.store.now) c.in_ok-nonce.nonce) c.get.ensures c.in_ok-nonce.ensures.next;
-      records = bytes.0;
-      by_prefix = bytes.1;
-      datagram = bytes.2;
-      fits = bytes.3;
-      copied = c.in_ok-copy.ensures.equal;
-      notice_is = c.notice-notice.ensures;
-      same = c.prepare_notice.ensures.same;
+      tells = c.in_ok-notice.ensures.bytes;
+      notice_is = c.in_ok-notice.ensures.notice;
+      same = c.prepare.ensures.same;
       rows = c.keep_notice.ensures.rows;
       nonces = c.keep_notice.ensures.nonces;
       contacts = c.keep_notice.ensures.contacts;
@@ -37,4 +34,24 @@ returns-clause-announces g c =
       honest = c.next_nonce.ensures.proceeds.honest;
       done = c.in_ok-save_notice.ensures.done;
       others = c.save_notice.ensures.others;
-    }))
+    })
+
+pub returns-in_err-recipient-clause-refused : goal.returns-in_err-recipient-clause-refused
+returns-in_err-recipient-clause-refused g c =
+    let p = err_from_is_err_and c.from_residual.result c.from_residual.ensures.1 in
+    rw (p.1, p.2) (refuses_unregistered (state_of c.args.sites.now c.args.tables.now) c.args.router.now c.args.now c.in_err-recipient.field-0.0 (g.S.NonceStore.seen c.args.store.now) c.in_err-recipient.ensures.refused)
+
+pub returns-in_err-nonce-clause-refused : goal.returns-in_err-nonce-clause-refused
+returns-in_err-nonce-clause-refused g c =
+    let p = err_from_is_err_and c.from_residual-in_err-nonce.result c.from_residual-in_err-nonce.ensures.1 in
+    rw (p.1, p.2) (refuses_unfollowed (state_of c.args.sites.now c.args.tables.now) c.args.router.now c.args.now c.in_err-nonce.field-0.0 _ _ _ c.get.ensures c.in_ok-recipient.ensures.registered.0 c.next_nonce.ensures.unasked c.next_nonce.ensures.same c.in_err-nonce.ensures.refused)
+
+pub returns-in_err-notice-clause-refused : goal.returns-in_err-notice-clause-refused
+returns-in_err-notice-clause-refused g c =
+    let p = err_from_is_err_and c.from_residual-in_err-notice.result c.from_residual-in_err-notice.ensures.1 in
+    rw (p.1, p.2) (without_room (state_of c.args.sites.now c.args.tables.now) c.args.router.now c.args.now _ _ _ c.in_ok-nonce.nonce c.get.ensures c.in_ok-recipient.ensures.registered.0 c.in_ok-nonce.ensures.next c.next_nonce.ensures.unasked c.next_nonce.ensures.same)
+
+pub returns-in_err-save_notice-clause-refused : goal.returns-in_err-save_notice-clause-refused
+returns-in_err-save_notice-clause-refused g c =
+    let p = err_from_is_err_and c.from_residual-in_err-save_notice.result c.from_residual-in_err-save_notice.ensures.1 in
+    rw (p.1, p.2) (refuses_unsaved (state_of c.args.sites.now c.args.tables.now) c.args.router.now c.args.now c.in_err-save_notice.field-0.0 _ _ _ _ c.in_ok-nonce.nonce c.get.ensures c.in_ok-recipient.ensures.registered.0 c.in_ok-nonce.ensures.next c.next_nonce.ensures.proceeds c.next_nonce.ensures.same c.save_notice.ensures.others c.in_err-save_notice.ensures.refused)

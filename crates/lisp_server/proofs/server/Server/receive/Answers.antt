@@ -1,9 +1,10 @@
-use Rattle.std.proofs.Common.{ap, ◌∙◌, subst, Ok, Err, arith}
-use Rattle.std.proofs.lemmas.Result.{IfOk-weaker, IfErr-weaker}
+use Rattle.std.proofs.Common.{ap, ◌∙◌, subst, Ok, Err, is_ok, true≢false, arith}
+use Rattle.std.proofs.lemmas.Result.{IfOk-weaker, IfErr-weaker, on_err_weaker}
 use Rattle.lisp_messages.specs.Meaning.{said}
 use Rattle.lisp_messages.specs.Spelling.{Spells}
 use Rattle.lisp_checks.specs.Refused.{refused_of_read}
-use Rattle.lisp_server.proofs.ReceivingLaws.{read_fails, notification_fits, takes_register, takes_notify, refuses_register, refuses_notify}
+use Rattle.lisp_server.proofs.ReceivingLaws.{read_fails, notification_fits, takes_register, takes_notify, refuses_register, refuses_notify, same_state, same_notices, err_of}
+use Rattle.lisp_server.specs.Server.{state_of}
 use Rattle.lisp_server.proofs.KnownLaws.{known_after}
 use Rattle.lisp_server.proofs.server.Server.receive.Goals as goal
 
@@ -30,3 +31,30 @@ returns-in-Err-clause-early g c = λ fault at. ap Err (c.of_read.ensures ∙ ap 
 
 pub invariant_of-self : goal.invariant_of-self
 invariant_of-self g c = known_after c.self.inside.sites c.args.bytes.now c.in-Ok-Register.message c.self.inside.tables c.receive_register.new.tables _ _ c.args.from c.args.now c.receive_register.result c.receive_register.ensures.accepted c.receive_register.ensures.err c.self.invariant
+
+pub returns-in-Ok-Register-clause-err : goal.returns-in-Ok-Register-clause-err
+returns-in-Ok-Register-clause-err g c = rw (← c.self.view_is) (on_err_weaker c.receive_register.result (same_state c.self.inside.sites c.self.inside.tables c.receive_register.new.tables) c.receive_register.ensures.err)
+
+pub returns-in-Ok-Register-clause-early : goal.returns-in-Ok-Register-clause-early
+returns-in-Ok-Register-clause-early g c fault at = absurd (true≢false (ap is_ok (c.in-Ok-Register.ensures.early fault at)))
+
+pub returns-in-Ok-Register-clause-head : goal.returns-in-Ok-Register-clause-head
+returns-in-Ok-Register-clause-head g c out fault at = true≢false (ap is_ok (c.in-Ok-Register.ensures.early fault at))
+
+pub returns-in-Ok-Notify-clause-err : goal.returns-in-Ok-Notify-clause-err
+returns-in-Ok-Notify-clause-err g c = rw (← c.self.view_is) (on_err_weaker c.receive_ack.result (same_notices (state_of c.self.inside.sites c.self.inside.tables) c.receive_ack.new.notices.notices) c.receive_ack.ensures.err)
+
+pub returns-in-Ok-Notify-clause-load_memory : goal.returns-in-Ok-Notify-clause-load_memory
+returns-in-Ok-Notify-clause-load_memory g c out = absurd (err_of c.receive_ack.result _ _ c.receive_ack.ensures.refused out)
+
+pub returns-in-Ok-Notify-clause-save_memory : goal.returns-in-Ok-Notify-clause-save_memory
+returns-in-Ok-Notify-clause-save_memory g c out = absurd (err_of c.receive_ack.result _ _ c.receive_ack.ensures.refused out)
+
+pub returns-in-Ok-Notify-clause-early : goal.returns-in-Ok-Notify-clause-early
+returns-in-Ok-Notify-clause-early g c fault at = absurd (true≢false (ap is_ok (c.in-Ok-Notify.ensures.early fault at)))
+
+pub returns-in-Ok-Notify-clause-head : goal.returns-in-Ok-Notify-clause-head
+returns-in-Ok-Notify-clause-head g c out fault at = true≢false (ap is_ok (c.in-Ok-Notify.ensures.early fault at))
+
+pub invariant_of-self-in-Ok-Notify : goal.invariant_of-self-in-Ok-Notify
+invariant_of-self-in-Ok-Notify g c = c.self.invariant

@@ -1,7 +1,7 @@
 use Rattle.std.proofs.Common.{refl, sym, ap, ◌∙◌, true, false}
 use Rattle.std.proofs.lemmas.Result.{err_from_is_err_and}
 use Rattle.lisp_server.specs.Notices.{Standing, is_due}
-use Rattle.lisp_server.proofs.StandingLaws.{its_place, none_due, due_there, same_there, same_set, one_stays, resends}
+use Rattle.lisp_server.proofs.StandingLaws.{its_place, none_due, due_there, same_there, same_set, one_stays, due_seldom, resends}
 use Rattle.lisp_server.proofs.standing_notices.StandingNotices.resend.Goals as goal
 
 pub returns-in_default-clause-refused : goal.returns-in_default-clause-refused
@@ -31,3 +31,9 @@ returns-clause-resends g c =
     let at = its_place _ _ _ _ _ _ refl c.deref.ensures.value c.place.ensures c.in-Some.is in
     let due = ap (is_due c.args.now) (same_there c.self.inside.items.items c.args.router.now c.in-Some.place c.index_mut.result.now c.index.result.now _ _ at c.index_mut.ensures.value c.index.ensures) ∙ sym c.is_due.ensures ∙ c.if-not-is_due.false in
     rw (← c.self.view_is) (resends c.self.inside.items.items c.args.router.now c.args.now c.in-Some.place c.index_mut.result.now _ c.resend.new.self c.in_ok-resend.field-0.0 c.in_ok-resend.field-0.1.items at c.index_mut.ensures.value due c.in_ok-resend.ensures.resent c.in_ok-resend.ensures.datagram.0 c.in_ok-resend.ensures.datagram.1)
+
+pub resend-requires : goal.resend-requires
+resend-requires g c =
+    let at = its_place _ _ _ _ _ _ refl c.deref.ensures.value c.place.ensures c.in-Some.is in
+    let due = ap (is_due c.args.now) (same_there c.self.inside.items.items c.args.router.now c.in-Some.place c.index_mut.result.now c.index.result.now _ _ at c.index_mut.ensures.value c.index.ensures) ∙ sym c.is_due.ensures ∙ c.if-not-is_due.false in
+    record { moment = c.requires; seldom = due_seldom c.args.now c.index_mut.result.now due }
