@@ -1,18 +1,9 @@
-//! Plays a schedule: a script's commands, one after another, over a network, and the text of what each came to.
+//! Plays a schedule: a configuration and a script, over a network that begins with stores that keep nothing.
 #![tactic(auto)]
 
-mod asked;
-mod command;
-mod event_line;
-mod fault;
 mod input;
-mod output;
 mod parts;
-mod playing;
 mod schedule;
 
-pub use event_line::write_line;
-pub use fault::PlayFault;
-pub use lisp_script::{Command, ScriptFault, ScriptWhat};
-pub use playing::play_on;
+pub use lisp_playing::{Command, PlayFault, ScriptFault, ScriptWhat, play_on, write_line};
 pub use schedule::play;

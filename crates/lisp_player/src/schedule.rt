@@ -8,14 +8,13 @@ ghost use Rattle.lisp_world.specs.Openings.{repeats};
 ghost use Rattle.lisp_world.specs.declared.fault.WorldFault.{WorldFault};
 ghost use Rattle.lisp_script.specs.Order.{order};
 ghost use Rattle.lisp_player.specs.Schedule.{schedule_of, Refuses, IsSilent, Begins, PlayedFrom, Played, Stopped};
-ghost use Rattle.lisp_player.specs.declared.fault.PlayFault.TheVariants as faults;
+ghost use Rattle.lisp_playing.specs.declared.fault.PlayFault.TheVariants as faults;
 
-use crate::fault::PlayFault;
 use crate::input::read_to_end;
 use crate::parts::parted;
-use crate::playing::play_on;
 use lisp_memory::{FallibleVec, Memory};
-use lisp_script::{Command, parse_script};
+use lisp_playing::{Command, PlayFault, play_on};
+use lisp_script::parse_script;
 use lisp_sites::Config;
 use lisp_store::MemoryStore;
 use lisp_world::World;

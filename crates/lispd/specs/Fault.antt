@@ -2,7 +2,7 @@
 -- words of the command line.
 use Rattle.std.specs.Prelude.{ℕ, Option, Some, None}
 use Rattle.lisp_answer.specs.Fault.{fault_number}
-use Rattle.lisp_player.specs.Fault.{play_fault_number, play_fault_status, play_fault_line}
+use Rattle.lisp_playing.specs.Fault.{play_fault_number, play_fault_status, play_fault_line}
 use Rattle.lispd.specs.declared.fault.SetupFault.{SetupFault}
 use Rattle.lispd.specs.declared.fault.SetupFault.TheVariants as setup_faults
 use Rattle.lispd.specs.declared.fault.ProgramFault.{ProgramFault}

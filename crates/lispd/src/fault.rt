@@ -6,7 +6,7 @@ ghost use Rattle.lispd.specs.Fault.{setup_fault_number, setup_fault_status, prog
 
 use crate::option::AnswerOption;
 use lisp_answer::AnswerFault;
-use lisp_player::PlayFault;
+use lisp_playing::PlayFault;
 use std::alloc::AllocError;
 use thiserror::Error;
 

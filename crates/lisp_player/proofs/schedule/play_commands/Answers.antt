@@ -1,7 +1,7 @@
 use Rattle.std.proofs.Common.{map, inr}
 use Rattle.std.proofs.lemmas.Result.{err_from_is_err_and, IfErr-weaker}
 use Rattle.lisp_script.specs.Order.{order}
-use Rattle.lisp_player.proofs.Turning.{at_ok}
+use Rattle.lisp_playing.proofs.Turning.{at_ok}
 use Rattle.lisp_player.proofs.Beginning.{played_from, stopped_from, neither, begun_ends, played_ends, no_world}
 use Rattle.lisp_player.proofs.schedule.play_commands.Goals as goal
 

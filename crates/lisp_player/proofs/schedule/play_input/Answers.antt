@@ -1,6 +1,6 @@
 use Rattle.std.proofs.Common.{map}
 use Rattle.lisp_script.specs.Order.{order}
-use Rattle.lisp_player.proofs.Turning.{at_ok}
+use Rattle.lisp_playing.proofs.Turning.{at_ok}
 use Rattle.lisp_player.proofs.Beginning.{played, stopped, ended_refuses}
 use Rattle.lisp_player.proofs.schedule.play_input.Goals as goal
 

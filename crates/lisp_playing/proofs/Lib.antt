@@ -1,0 +1,4 @@
+mod Queries
+mod Failures
+pub mod Turning
+mod Leading

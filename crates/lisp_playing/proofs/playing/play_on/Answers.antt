@@ -1,0 +1,22 @@
+use Rattle.std.proofs.lemmas.Result.{err_from_is_err_and}
+use Rattle.lisp_playing.proofs.Leading.{wrote_none, wrote_next, stops_next, breaks_next}
+use Rattle.lisp_playing.proofs.playing.play_on.Goals as goal
+
+pub loop-command-init : goal.loop-command-init
+loop-command-init g c = wrote_none _ _ _ _ _
+
+pub returns-in_err-play_one-clause-stops : goal.returns-in_err-play_one-clause-stops
+returns-in_err-play_one-clause-stops g c =
+    let p = err_from_is_err_and c.from_residual.result c.from_residual.ensures.1 in
+    rw (p.1, p.2) (λ is. stops_next _ _ _ _ _ _ c.args.commands.now c.loop-command.command-index c.command-item.result _ _ _ c.loop-command-test.true c.command-item.is c.loop-command.invariant (c.in_err-play_one.ensures.keeps is) (c.in_err-play_one.ensures.lost is))
+
+pub returns-in_err-play_one-clause-breaks : goal.returns-in_err-play_one-clause-breaks
+returns-in_err-play_one-clause-breaks g c =
+    let p = err_from_is_err_and c.from_residual.result c.from_residual.ensures.1 in
+    rw (p.1, p.2) (λ is.
+    let turned = c.in_err-play_one.ensures.breaks is in
+    breaks_next _ _ _ _ _ _ c.args.commands.now c.loop-command.command-index c.command-item.result _ _ (g.W.Write.contents c.play_one.new.writer) c.loop-command-test.true c.command-item.is c.loop-command.invariant turned.0 turned.1)
+
+pub loop-command-preserved : goal.loop-command-preserved
+loop-command-preserved g c =
+    wrote_next _ _ _ _ _ _ c.args.commands.now c.loop-command.command-index c.command-item.result _ _ _ c.loop-command-test.true c.command-item.is c.loop-command.invariant c.in_ok-play_one.ensures.plays
