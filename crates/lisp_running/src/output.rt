@@ -1,0 +1,51 @@
+//! The lines that a node prints.
+
+use crate::fault::RunFault;
+use lisp_player::{PlayFault, write_line};
+use lisp_schedules::Line;
+use lisp_sites::Config;
+use std::alloc::Global;
+use std::io::Write;
+
+/// What a socket refused, by the number that operators see.
+#[derive(Clone, Copy)]
+pub(crate) enum Call {
+    Receive,
+    Send,
+}
+
+impl Call {
+    const fn number(self) -> u16 {
+        match self {
+            Call::Receive => 90,
+            Call::Send => 91,
+        }
+    }
+}
+
+/// Prints the line of an event, at once.
+pub(crate) fn print<W: Write>(
+    alloc: Global,
+    config: &Config,
+    line: &Line,
+    writer: &mut W,
+) -> Result<(), RunFault> {
+    write_line(alloc, config, line, false, writer)?;
+    flush(writer)
+}
+
+/// Prints that a node's socket failed, at once; the program goes on.
+pub(crate) fn print_failed<W: Write>(name: &str, call: Call, writer: &mut W) -> Result<(), RunFault> {
+    let number = call.number();
+    match writeln!(writer, "refused {name} {number}") {
+        Ok(()) => flush(writer),
+        Err(_) => Err(RunFault::from(PlayFault::Write)),
+    }
+}
+
+fn flush<W: Write>(writer: &mut W) -> Result<(), RunFault> {
+    match writer.flush() {
+        Ok(()) => Ok(()),
+        Err(_) => Err(RunFault::from(PlayFault::Write)),
+    }
+}
