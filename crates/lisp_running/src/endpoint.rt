@@ -9,8 +9,11 @@ use std::time::Duration;
 /// The UDP port of LISP control messages (RFC 9301 section 4).
 const PORT: u16 = 4342;
 
-/// How long a turn waits for a datagram, in ms.
-const PATIENCE: u64 = 100;
+/// How long a turn of a node waits for a datagram, in ms.
+pub(crate) const TURN: u64 = 100;
+
+/// How long a delivery waits for its datagram, in ms.
+pub(crate) const DELIVERY: u64 = 1_000;
 
 /// The most bytes of a datagram.
 pub(crate) const MOST_BYTES: usize = 65_535;
@@ -22,12 +25,12 @@ pub(crate) struct Endpoint {
 }
 
 impl Endpoint {
-    /// A socket at the address, UDP port 4342, which waits at most 100 ms for a datagram. Fault: 92.
-    pub(crate) fn bind<R: Net>(rt: &R, address: &Addr) -> Result<Endpoint, RunFault> {
+    /// A socket at the address, UDP port 4342, which waits so long for a datagram, in ms. Fault: 92.
+    pub(crate) fn bind<R: Net>(rt: &R, address: &Addr, patience: u64) -> Result<Endpoint, RunFault> {
         let Ok(socket) = UdpSocket::bind(rt, at(address)) else {
             return Err(RunFault::BIND);
         };
-        match socket.set_read_timeout(Some(Duration::from_millis(PATIENCE))) {
+        match socket.set_read_timeout(Some(Duration::from_millis(patience))) {
             Ok(()) => Ok(Endpoint { socket }),
             Err(_) => Err(RunFault::BIND),
         }

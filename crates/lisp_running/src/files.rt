@@ -2,7 +2,8 @@
 
 use crate::fault::RunFault;
 use lisp_memory::FallibleString;
-use lisp_player::{PlayFault, read_to_end};
+use lisp_player::{Command, PlayFault, read_to_end};
+use lisp_script::parse_script;
 use lisp_sites::Config;
 use lisp_store::FileStore;
 use std::fs;
@@ -13,17 +14,39 @@ use std::str;
 /// The configuration of a file. Faults: 93 where it can't be opened, 87 and 89 by the two bounds of an input, 95 where it is
 /// not UTF-8, then its own.
 pub(crate) fn read_config<R: Files + AllocGlobal>(rt: &R, path: &str) -> Result<Config, RunFault> {
+    let bytes = read_file(rt, path)?;
+    Ok(Config::from_toml(rt.alloc(), rt.alloc(), text(&bytes)?)?)
+}
+
+/// The commands of a file, a script. Faults: 93, 87, 89 and 95 as of a configuration, then that of its first faulty line.
+pub(crate) fn read_script<R: Files + AllocGlobal>(
+    rt: &R,
+    config: &Config,
+    path: &str,
+) -> Result<Vec<Command>, RunFault> {
+    let bytes = read_file(rt, path)?;
+    match parse_script(rt.alloc(), config, text(&bytes)?) {
+        Ok(commands) => Ok(commands),
+        Err(fault) => Err(RunFault::from(PlayFault::Script(fault))),
+    }
+}
+
+// The bytes of a file, by the two bounds of an input.
+fn read_file<R: Files + AllocGlobal>(rt: &R, path: &str) -> Result<Vec<u8>, RunFault> {
     let Ok(file) = fs::open(rt, path) else {
         return Err(RunFault::FILE);
     };
     let Ok(mut reader) = BufReader::new(rt.alloc(), file) else {
         return Err(RunFault::MEMORY);
     };
-    let bytes = read_to_end(rt.alloc(), &mut reader)?;
-    let Ok(text) = str::from_utf8(&bytes) else {
-        return Err(RunFault::from(PlayFault::NotUtf8));
-    };
-    Ok(Config::from_toml(rt.alloc(), rt.alloc(), text)?)
+    Ok(read_to_end(rt.alloc(), &mut reader)?)
+}
+
+fn text(bytes: &[u8]) -> Result<&str, RunFault> {
+    match str::from_utf8(bytes) {
+        Ok(text) => Ok(text),
+        Err(_) => Err(RunFault::from(PlayFault::NotUtf8)),
+    }
 }
 
 /// A store in the folder of a node, which is made where it isn't there. Fault: 93 where it can't be made.

@@ -7,9 +7,11 @@ mod endpoint;
 mod fault;
 mod files;
 mod output;
+mod network;
 mod router;
 mod server;
 
 pub use fault::RunFault;
+pub use network::run_loop;
 pub use router::run_router;
 pub use server::run_server;

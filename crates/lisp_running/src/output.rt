@@ -34,6 +34,14 @@ pub(crate) fn print<W: Write>(
     flush(writer)
 }
 
+/// Prints that a datagram didn't arrive, at once.
+pub(crate) fn print_lost<W: Write>(datagram: usize, writer: &mut W) -> Result<(), RunFault> {
+    match writeln!(writer, "lost {datagram}") {
+        Ok(()) => flush(writer),
+        Err(_) => Err(RunFault::from(PlayFault::Write)),
+    }
+}
+
 /// Prints that a node's socket failed, at once; the program goes on.
 pub(crate) fn print_failed<W: Write>(name: &str, call: Call, writer: &mut W) -> Result<(), RunFault> {
     let number = call.number();
@@ -43,7 +51,8 @@ pub(crate) fn print_failed<W: Write>(name: &str, call: Call, writer: &mut W) -> 
     }
 }
 
-fn flush<W: Write>(writer: &mut W) -> Result<(), RunFault> {
+/// What was printed goes out.
+pub(crate) fn flush<W: Write>(writer: &mut W) -> Result<(), RunFault> {
     match writer.flush() {
         Ok(()) => Ok(()),
         Err(_) => Err(RunFault::from(PlayFault::Write)),

@@ -3,7 +3,7 @@
 ghost use Rattle.std.specs.Prelude.{◌<◌, IfOk, length};
 
 use crate::clock::Stopwatch;
-use crate::endpoint::{Endpoint, MOST_BYTES};
+use crate::endpoint::{Endpoint, MOST_BYTES, TURN};
 use crate::fault::RunFault;
 use crate::files::{open_store, read_config};
 use crate::output::{Call, print, print_failed};
@@ -49,7 +49,7 @@ pub fn run_router<R: Files + Net + Clock + AllocGlobal + Clone + Drop, W: Write>
         config: &config,
         place,
         node,
-        endpoint: Endpoint::bind(rt, &config.routers()[place].address)?,
+        endpoint: Endpoint::bind(rt, &config.routers()[place].address, TURN)?,
     };
     let mut buffer = Vec::try_from_elem(rt.alloc(), 0, MOST_BYTES)?;
     for _ in 0..turns {
