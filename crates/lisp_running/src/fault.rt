@@ -34,6 +34,15 @@ impl RunFault {
         line: 0,
     };
 
+    /// The exit status: 1 where files, sockets, reading, writing or memory fail, 2 for the configuration, the script and the
+    /// name of a node.
+    pub const fn status(&self) -> u8 {
+        match self.number {
+            35 | 36 | 75 | 76 | 86..=93 | 97 => 1,
+            _ => 2,
+        }
+    }
+
     const fn new(number: u16) -> RunFault {
         RunFault { number, line: 0 }
     }

@@ -7,6 +7,7 @@ ghost use Rattle.lispd.specs.Fault.{setup_fault_number, setup_fault_status, prog
 use crate::option::AnswerOption;
 use lisp_answer::AnswerFault;
 use lisp_playing::PlayFault;
+use lisp_running::RunFault;
 use std::alloc::AllocError;
 use thiserror::Error;
 
@@ -71,6 +72,12 @@ pub enum ProgramFault {
     /// The schedule was not played to its end.
     #[error(transparent)]
     Play(#[from] PlayFault),
+    /// `--turns` has another form than it takes.
+    #[error("--turns takes a whole number from 0 to 4294967295")]
+    Turns,
+    /// A node on sockets and files stopped.
+    #[error("the node stopped")]
+    Run(RunFault),
 }
 
 impl ProgramFault {
@@ -79,11 +86,12 @@ impl ProgramFault {
         ensures { result ≡ program_fault_number self.now }
     {
         match self {
-            ProgramFault::Words => 98,
+            ProgramFault::Words | ProgramFault::Turns => 98,
             ProgramFault::Setup(fault) => fault.number(),
             ProgramFault::Answer(fault) => fault.number(),
             ProgramFault::File => 93,
             ProgramFault::Play(fault) => fault.number(),
+            ProgramFault::Run(fault) => fault.number,
         }
     }
 
@@ -92,11 +100,12 @@ impl ProgramFault {
         ensures { result ≡ program_fault_status self.now }
     {
         match self {
-            ProgramFault::Words => 2,
+            ProgramFault::Words | ProgramFault::Turns => 2,
             ProgramFault::Setup(fault) => fault.status(),
             ProgramFault::Answer(fault) => fault.status(),
             ProgramFault::File => 1,
             ProgramFault::Play(fault) => fault.status(),
+            ProgramFault::Run(fault) => fault.status(),
         }
     }
 
@@ -106,6 +115,7 @@ impl ProgramFault {
     {
         match self {
             ProgramFault::Play(fault) => fault.line(),
+            ProgramFault::Run(RunFault { line, .. }) if *line > 0 => Some(*line),
             _ => None,
         }
     }

@@ -9,6 +9,7 @@ mod remedy;
 
 pub use fault::{ProgramFault, SetupFault};
 pub use lisp_answer::{AnswerFault, AnswerSetup, answer};
+pub use lisp_running::{RunFault, run_loop, run_router, run_server};
 pub use option::AnswerOption;
 pub use options::setup;
 pub use remedy::advice;

@@ -36,8 +36,32 @@ const PLAY_FORM: &str =
 Example:
   lispd play examples/schedules/01-exchange.schedule";
 
-/// The argument of `play`.
+/// What `server` does, for its help.
+const SERVER_ABOUT: &str = "Run a Map-Server of a configuration at its address, UDP port 4342, and print what each datagram \
+comes to, a line for each";
+
+/// What `router` does, for its help.
+const ROUTER_ABOUT: &str = "Run a site router (ETR) of a configuration at its address, UDP port 4342: it sends \
+Map-Registers when they are due, and prints a line for each event";
+
+/// What `loop` does, for its help.
+const LOOP_ABOUT: &str = "Play a script over a network of a configuration whose datagrams go over UDP, and whose nodes keep \
+their nonces in files";
+
+/// The argument of `play` and `loop`.
 pub(crate) const FILE: &str = "FILE";
+
+/// The configuration of a node or network.
+pub(crate) const CONFIG: &str = "CONFIG";
+
+/// The name of a node.
+pub(crate) const NAME: &str = "NAME";
+
+/// The option for the folder of the nonces.
+pub(crate) const STORE: &str = "store";
+
+/// The option for the number of turns.
+pub(crate) const TURNS: &str = "turns";
 
 /// The options of `answer` that have a value, each with the letter that stands for it.
 const OPTIONS: [(AnswerOption, &str); 4] = [
@@ -56,7 +80,10 @@ pub(crate) fn command<'a>(alloc: Global) -> Result<Command<'a>, AllocError> {
         .version("0.1.0")
         .about("Map-Server registration of LISP (RFC 9301); with no words, `answer`")
         .subcommand(answer)?
-        .subcommand(play)
+        .subcommand(play)?
+        .subcommand(node_command(alloc, "server", SERVER_ABOUT)?)?
+        .subcommand(node_command(alloc, "router", ROUTER_ABOUT)?)?
+        .subcommand(loop_command(alloc)?)
 }
 
 fn answer_command<'a>(alloc: Global) -> Result<Command<'a>, AllocError> {
@@ -72,6 +99,48 @@ fn play_command<'a>(alloc: Global) -> Result<Command<'a>, AllocError> {
         .about(PLAY_ABOUT)
         .after_help(PLAY_FORM)
         .arg(file(alloc))
+}
+
+// `server` or `router`.
+fn node_command<'a>(alloc: Global, name: &'a str, about: &'a str) -> Result<Command<'a>, AllocError> {
+    Command::new(alloc, name)
+        .about(about)
+        .arg(required(alloc, CONFIG, "The configuration, TOML"))?
+        .arg(required(alloc, NAME, "The node's name in it"))?
+        .arg(store(alloc))?
+        .arg(turns(alloc))
+}
+
+fn loop_command<'a>(alloc: Global) -> Result<Command<'a>, AllocError> {
+    Command::new(alloc, "loop")
+        .about(LOOP_ABOUT)
+        .arg(required(alloc, CONFIG, "The configuration, TOML"))?
+        .arg(required(alloc, FILE, "The script: see `lispd play --help`"))?
+        .arg(store(alloc))
+}
+
+fn required<'a>(alloc: Global, name: &'a str, help: &'a str) -> Arg<'a> {
+    Arg::new(alloc, name)
+        .required(true)
+        .action(ArgAction::Set)
+        .help(help)
+}
+
+fn store<'a>(alloc: Global) -> Arg<'a> {
+    Arg::new(alloc, STORE)
+        .long(STORE)
+        .value_name("DIR")
+        .required(true)
+        .action(ArgAction::Set)
+        .help("The folder of the nonces, made if it isn't there; each node has a folder of its name in it")
+}
+
+fn turns<'a>(alloc: Global) -> Arg<'a> {
+    Arg::new(alloc, TURNS)
+        .long(TURNS)
+        .value_name("N")
+        .action(ArgAction::Set)
+        .help("How many turns it takes, each of which waits at most 100 ms for a datagram; left out, it runs until it is killed")
 }
 
 fn file<'a>(alloc: Global) -> Arg<'a> {

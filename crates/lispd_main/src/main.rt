@@ -3,15 +3,18 @@
 
 mod command_line;
 
-use crate::command_line::{FILE, command};
+use crate::command_line::{CONFIG, FILE, NAME, STORE, TURNS, command};
 use clap::ArgMatches;
 use clap::error::ErrorKind as WordsErrorKind;
 use lisp_player::{PlayFault, play};
-use lispd::{AnswerFault, ProgramFault, SetupFault, advice, answer, setup};
+use lisp_texts::number_from_text;
+use lispd::{AnswerFault, ProgramFault, RunFault, SetupFault, advice, answer, run_loop, run_router, run_server, setup};
 use std::fs;
 use std::io::{self, BufReader, ErrorKind, IsTerminal, Read};
 use std::process::ExitCode;
+use std::net::Net;
 use std::rt::{Env, Files};
+use std::time::Clock;
 
 /// Out of memory before a subcommand runs.
 const OUT_OF_MEMORY: ProgramFault = ProgramFault::Setup(SetupFault::OutOfMemory);
@@ -34,7 +37,7 @@ fn main(rt: HostRuntime) -> ExitCode {
 }
 
 // Collects the words, and runs what they ask for.
-fn run<R: Print + Eprint + Input + Files + Env + AllocGlobal>(
+fn run<R: Print + Eprint + Input + Files + Env + Net + Clock + AllocGlobal + Clone + Drop>(
     rt: &R,
 ) -> Result<ExitCode, ProgramFault> {
     let words = match std::env::args(rt) {
@@ -49,7 +52,7 @@ fn run<R: Print + Eprint + Input + Files + Env + AllocGlobal>(
     }
 }
 
-fn run_words<R: Print + Eprint + Input + Files + AllocGlobal>(
+fn run_words<R: Print + Eprint + Input + Files + Net + Clock + AllocGlobal + Clone + Drop>(
     rt: &R,
     words: &[String],
 ) -> Result<ExitCode, ProgramFault> {
@@ -57,11 +60,53 @@ fn run_words<R: Print + Eprint + Input + Files + AllocGlobal>(
         return Err(OUT_OF_MEMORY);
     };
     match command.try_get_matches_from(words) {
-        Ok(matches) => match matches.subcommand_matches("play") {
-            Some(words) => run_play(rt, words.get_str(FILE).unwrap_or(STANDARD_INPUT)),
-            None => run_answer(rt, matches.subcommand_matches("answer")),
-        },
+        Ok(matches) => run_subcommand(rt, &matches),
         Err(error) => print_words_error(rt, &error),
+    }
+}
+
+// Runs the subcommand that the words name; with none, `answer`.
+fn run_subcommand<R: Print + Input + Files + Net + Clock + AllocGlobal + Clone + Drop>(
+    rt: &R,
+    matches: &ArgMatches<'_>,
+) -> Result<ExitCode, ProgramFault> {
+    if let Some(words) = matches.subcommand_matches("play") {
+        return run_play(rt, words.get_str(FILE).unwrap_or(STANDARD_INPUT));
+    }
+    if let Some(words) = matches.subcommand_matches("server") {
+        let turns = turns(words)?;
+        return ended(run_server(rt, word(words, CONFIG), word(words, NAME), word(words, STORE), turns, &mut io::writer(rt)));
+    }
+    if let Some(words) = matches.subcommand_matches("router") {
+        let turns = turns(words)?;
+        return ended(run_router(rt, word(words, CONFIG), word(words, NAME), word(words, STORE), turns, &mut io::writer(rt)));
+    }
+    if let Some(words) = matches.subcommand_matches("loop") {
+        return ended(run_loop(rt, word(words, CONFIG), word(words, FILE), word(words, STORE), &mut io::writer(rt)));
+    }
+    run_answer(rt, matches.subcommand_matches("answer"))
+}
+
+// A word that the subcommand requires.
+fn word<'a>(matches: &'a ArgMatches<'_>, name: &str) -> &'a str {
+    matches.get_str(name).unwrap_or("")
+}
+
+// How many turns a node takes; left out, as many as there can be.
+fn turns(matches: &ArgMatches<'_>) -> Result<u32, ProgramFault> {
+    let Some(text) = matches.get_str(TURNS) else {
+        return Ok(u32::MAX);
+    };
+    let Some(Ok(turns)) = number_from_text(text).map(u32::try_from) else {
+        return Err(ProgramFault::Turns);
+    };
+    Ok(turns)
+}
+
+fn ended(answer: Result<(), RunFault>) -> Result<ExitCode, ProgramFault> {
+    match answer {
+        Ok(()) => Ok(ExitCode::SUCCESS),
+        Err(fault) => Err(ProgramFault::Run(fault)),
     }
 }
 
