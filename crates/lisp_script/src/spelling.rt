@@ -1,6 +1,6 @@
 //! What the words of a line spell: a command.
 
-ghost use Rattle.std.specs.Prelude.{◌≡◌, ◌≢◌, map, IfErr};
+ghost use Rattle.std.specs.Prelude.{◌≡◌, ◌≢◌, [], ◌∷◌, map, IfErr};
 ghost use Rattle.std.specs.Option.{option_map};
 ghost use Rattle.lisp_records.specs.Result.{Reads};
 ghost use Rattle.lisp_sites.specs.Configuration.{Configuration};
@@ -108,7 +108,7 @@ fn deliver<A: Allocator>(words: &[&str]) -> Result<Command<A>, ScriptWhat>
 }
 
 // junk N A H
-#[tactic(auto, unfolding(crate::specs::Spelling::spelt))]
+#[tactic(auto, using(crate::proofs::Counts::three, crate::proofs::Counts::junk_count))]
 fn junk<A: Memory + Copy, E: Allocator>(
     alloc: A,
     config: &Config<E>,
@@ -117,13 +117,10 @@ fn junk<A: Memory + Copy, E: Allocator>(
     ensures value { Gives order result (spelt config.now verbs.Junk (map (λ w. w.now) words.now)) }
     ensures memory { IfErr result (λ what. what ≡ ScriptWhat.Memory → A.may_refuse) }
 {
-    let [to, from, digits] = words else {
-        return Err(ScriptWhat::Count);
-    };
-    let to = node(config, to)?;
-    let from = address(from)?;
-    let bytes = bytes(alloc, digits)?;
-    Ok(Command::Act(Event::Junk { to, from, bytes }))
+    match words {
+        [to, from, digits] => arrived(alloc, config, to, from, digits),
+        _ => Err(ScriptWhat::Count),
+    }
 }
 
 // tick M
@@ -373,4 +370,22 @@ fn noticed<A: Allocator, E: Allocator>(
         router,
         fate,
     }))
+}
+
+// Bytes of nobody's arrive.
+#[tactic(auto, unfolding(crate::specs::Spelling::spelt))]
+fn arrived<A: Memory + Copy, E: Allocator>(
+    alloc: A,
+    config: &Config<E>,
+    to: &str,
+    from: &str,
+    digits: &str,
+) -> Result<Command<A>, ScriptWhat>
+    ensures value { Gives order result (spelt config.now verbs.Junk (to.now ∷ from.now ∷ digits.now ∷ [])) }
+    ensures memory { IfErr result (λ what. what ≡ ScriptWhat.Memory → A.may_refuse) }
+{
+    let to = node(config, to)?;
+    let from = address(from)?;
+    let bytes = bytes(alloc, digits)?;
+    Ok(Command::Act(Event::Junk { to, from, bytes }))
 }
