@@ -235,10 +235,7 @@ fn acks<A: Allocator, E: Allocator>(
 
 // due N
 #[tactic(auto, unfolding(crate::specs::Spelling::spelt))]
-fn due<A: Allocator, E: Allocator>(
-    config: &Config<E>,
-    name: &str,
-) -> Result<Command<A>, ScriptWhat>
+fn due<A: Allocator, E: Allocator>(config: &Config<E>, name: &str) -> Result<Command<A>, ScriptWhat>
     ensures value { Reads order result (spelt config.now verbs.Due (name.now ∷ [])) }
     ensures plain { IfErr result (λ what. what ≢ ScriptWhat.Memory) }
 {
