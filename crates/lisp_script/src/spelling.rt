@@ -53,7 +53,7 @@ fn spelt<A: Memory + Copy, E: Allocator>(
     }
 }
 
-// The command of a verb that no records follow.
+// The command of a verb that no records follow, and the words behind it.
 #[tactic(auto, using(crate::proofs::Counts::one, crate::proofs::Counts::two, crate::proofs::Counts::three, crate::proofs::Counts::miscounted))]
 fn counted<A: Memory + Copy, E: Allocator>(
     alloc: A,
@@ -72,14 +72,14 @@ fn counted<A: Memory + Copy, E: Allocator>(
     }
 }
 
-// The command of a verb that no records follow, and of one word.
+// The command of a verb and one word.
 #[tactic(auto, unfolding(crate::specs::Spelling::spelt))]
 fn with_one<A: Allocator, E: Allocator>(
     config: &Config<E>,
     verb: Verb,
     first: &str,
 ) -> Result<Command<A>, ScriptWhat>
-    ensures value { verb ≢ verbs.Change → verb ≢ verbs.Restart → Reads order result (spelt config.now verb (first.now ∷ [])) }
+    ensures value { Reads order result (spelt config.now verb (first.now ∷ [])) }
     ensures plain { IfErr result (λ what. what ≢ ScriptWhat.Memory) }
 {
     match verb {
@@ -92,7 +92,7 @@ fn with_one<A: Allocator, E: Allocator>(
     }
 }
 
-// The command of a verb that no records follow, and of two words.
+// The command of a verb that no records follow, and two words.
 #[tactic(auto, unfolding(crate::specs::Spelling::spelt))]
 fn with_two<A: Allocator, E: Allocator>(
     config: &Config<E>,
@@ -113,7 +113,7 @@ fn with_two<A: Allocator, E: Allocator>(
     }
 }
 
-// The command of a verb that no records follow, and of three words.
+// The command of a verb that no records follow, and three words.
 #[tactic(auto, unfolding(crate::specs::Spelling::spelt))]
 fn with_three<A: Memory + Copy, E: Allocator>(
     alloc: A,

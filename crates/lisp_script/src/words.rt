@@ -68,6 +68,7 @@ fn server_place<E: Allocator>(servers: &[ServerEntry<E>], word: &str) -> Option<
         .position(|server| server.name.as_str() == word)
 }
 
+// The place of the router with a name among the routers, of which memory holds fewer than 2^63.
 fn router_place<E: Allocator>(config: &Config<E>, word: &str) -> Option<usize>
     ensures value { result ≡ position (λ r. is_word r.name word.now) config.now.routers }
     ensures within { IfSome result (λ place. place < 2 ^ 63) }
