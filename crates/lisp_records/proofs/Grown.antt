@@ -1,5 +1,6 @@
 -- What a buffer that only grows still begins with.
-use Rattle.std.proofs.Common.{◌≡◌, ℕ, List, [], ◌++◌, length, take, refl, sym, ap, ◌∙◌, append_assoc}
+use Rattle.std.proofs.Common.{◌≡◌, ℕ, List, [], ◌++◌, length, take, Result, Ok, Err, refl, sym, ap, ◌∙◌, append_assoc}
+use Rattle.std.specs.Prelude.{OnErr}
 use Rattle.std.proofs.lemmas.List.{append-nil}
 use Rattle.std.proofs.Math.Seq.{take-append_seam}
 use Rattle.lisp_records.specs.Grown.{Grew}
@@ -12,6 +13,11 @@ Grew-by old new more parts = record { more = more; parts = parts }
 
 pub Grew-step : (old mid new more : List ℕ) → mid ≡ old ++ more → Grew mid new → Grew old new
 Grew-step old mid new more e g = record { more = more ++ g.more; parts = g.parts ∙ ap (λ (xs : List ℕ). xs ++ g.more) e ∙ append_assoc old more g.more }
+
+-- what holds, holds where an answer is an error
+pub on_err : {T E P : Type 0} (r : Result T E) → P → OnErr r P
+on_err (Ok x) holds = tt
+on_err (Err e) holds = holds
 
 -- cutting a buffer back to its old length gives the old bytes
 pub take-Grew : (old new : List ℕ) (n : ℕ) → n ≡ length old → Grew old new → take n new ≡ old

@@ -331,7 +331,6 @@ pub fn write_record<A: Allocator, B: Memory>(
 }
 
 // As `write_record`, but out of memory it may leave a part of the record.
-#[tactic(auto, using(crate::proofs::Grown::steps))]
 fn put_record<A: Allocator, B: Memory>(
     out: &mut Vec<u8, B>,
     entry: &MapRecord<A>,
@@ -377,7 +376,6 @@ fn counts_and_flags<A: Allocator>(entry: &MapRecord<A>) -> [u8; 6]
     ]
 }
 
-#[tactic(auto, using(crate::proofs::Grown::steps))]
 fn put_locators<A: Memory>(out: &mut Vec<u8, A>, locators: &[Locator]) -> Result<(), AllocError>
     ensures ok { OnOk result (out.new.items ≡ out.old.items ++ written_locators locators.now) }
     ensures err { OnErr result (Grew out.old.items out.new.items) }
