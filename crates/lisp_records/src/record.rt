@@ -347,7 +347,6 @@ fn put_record<A: Allocator, B: Memory>(
     Ok(())
 }
 
-#[tactic(auto, using(crate::proofs::Grown::steps))]
 fn put_head<A: Allocator, B: Memory>(
     out: &mut Vec<u8, B>,
     entry: &MapRecord<A>,
