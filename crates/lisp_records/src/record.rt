@@ -236,7 +236,6 @@ fn read_at<A: Memory>(
 }
 
 // The record at the front of the bytes, and the bytes after it.
-#[tactic(auto, unfolding(crate::specs::Reading::record_at))]
 fn read_front<A: Memory>(alloc: A, bytes: &[u8]) -> Result<(MapRecord<A>, &[u8]), RecordFault>
     ensures read { Gives (λ x. (x.0, x.1.now)) result (record_at bytes.now) }
     ensures early { (fault : RecordFault) → start_at bytes.now ≡ Err fault → result ≡ Err fault }
