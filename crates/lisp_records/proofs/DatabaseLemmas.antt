@@ -1,12 +1,15 @@
 -- Records whose EID-Prefixes are compared with those of the later ones, one after the other.
-use Rattle.std.proofs.Common.{◌≡◌, ℕ, ◌+◌, ◌-◌, ◌<◌, ◌≤◌, Bool, true, false, ◌||◌, List, [], ◌∷◌, ◌++◌, length, get_or, take, drop, refl, sym, ap, ◌∙◌, add-one, arith}
+use Rattle.std.proofs.Common.{◌≡◌, ℕ, ◌+◌, ◌-◌, ◌<◌, ◌≤◌, Bool, true, false, ◌||◌, List, [], ◌∷◌, ◌++◌, length, get_or, take, drop, Result, Ok, Err, cond, ltb, refl, sym, ap, ◌∙◌, add-one, arith}
 use Rattle.std.proofs.Math.Seq.{drop-cons}
 use Rattle.std.proofs.Math.ListN.{drop_of_length-le}
+use Rattle.std.proofs.lemmas.Bool.{ltb-false}
 use Rattle.std.proofs.lemmas.List.{take_all, take_more, length-drop}
 use Rattle.std.proofs.lemmas.List.Sums.{sum_by_more}
 use Rattle.lisp_records.specs.Address.{Block}
 use Rattle.lisp_records.specs.Record.{Mapping}
-use Rattle.lisp_records.specs.Database.{has_prefix, repeats, size}
+use Rattle.lisp_records.specs.declared.database.DatabaseFault.{DatabaseFault}
+use Rattle.lisp_records.specs.declared.database.DatabaseFault.TheVariants.{TooLarge}
+use Rattle.lisp_records.specs.Database.{has_prefix, repeats, size, database_of}
 use Rattle.lisp_records.specs.Written.{written}
 
 -- the records behind a place
@@ -51,3 +54,12 @@ pub copy_goes_on : (ms copies more : List Mapping) (i : ℕ) (m copy : Mapping) 
 copy_goes_on ms copies more i m copy lt at same so_far pushed =
     let here : copy ≡ get_or ms i m = same ∙ at in
     pushed ∙ rw (so_far, here, take_more ms i m lt) refl
+
+-- a test that refuses was not passed
+not_refused : (b : Bool) (d : DatabaseFault) (other : Result (List Mapping) DatabaseFault) (ms : List Mapping) → cond b (Err d) other ≡ Ok ms → b ≡ false
+not_refused true d other ms e = absurd cc
+not_refused false d other ms e = refl
+
+-- a database has at most 255 records
+pub database_few : (ms : List Mapping) → database_of ms ≡ Ok ms → length ms < 256
+database_few ms e = omega (arith, ltb-false _ _ (not_refused (ltb 255 (length ms)) TooLarge _ ms e))

@@ -19,11 +19,20 @@ unfolding written
 written_from m a b c d to_b to_c to_d =
     to_d ∙ rw (to_c, to_b, append_assoc, append_assoc) refl
 
--- one more locator is appended
+-- one more locator is written behind those before it
+written_more : (ls : List Locator) (i : ℕ) (d : Locator) → i < length ls → written_locators (take (i + 1) ls) ≡ written_locators (take i ls) ++ written_locator (get_or ls i d)
+written_more ls i d lt =
+    ap written_locators (take_more ls i d lt) ∙ flat_map-append written_locator (take i ls) (get_or ls i d ∷ []) ∙ ap (λ (t : List ℕ). written_locators (take i ls) ++ t) (append-nil (written_locator (get_or ls i d)))
+
+-- and counted
+pub length_goes_on : (base sum one : ℕ) (ls : List Locator) (i : ℕ) (d : Locator) → i < length ls → sum ≡ base + length (written_locators (take i ls)) → one ≡ length (written_locator (get_or ls i d)) → sum + one ≡ base + length (written_locators (take (i + 1) ls))
+length_goes_on base sum one ls i d lt so_far next =
+    let more = ap length (written_more ls i d lt) ∙ length-append (written_locators (take i ls)) (written_locator (get_or ls i d)) in
+    omega (arith, so_far, next, more)
+
+-- and appended
 pub written_goes_on : (old out new : List ℕ) (ls : List Locator) (i : ℕ) (d : Locator) → i < length ls → out ≡ old ++ written_locators (take i ls) → new ≡ out ++ written_locator (get_or ls i d) → new ≡ old ++ written_locators (take (i + 1) ls)
 written_goes_on old out new ls i d lt so_far appended =
     let front = written_locators (take i ls) in
     let next = written_locator (get_or ls i d) in
-    let parts : written_locators (take (i + 1) ls) ≡ front ++ next =
-    ap written_locators (take_more ls i d lt) ∙ flat_map-append written_locator (take i ls) (get_or ls i d ∷ []) ∙ ap (λ (t : List ℕ). front ++ t) (append-nil next) in
-    appended ∙ ap (λ (t : List ℕ). t ++ next) so_far ∙ append_assoc old front next ∙ ap (λ (t : List ℕ). old ++ t) (sym parts)
+    appended ∙ ap (λ (t : List ℕ). t ++ next) so_far ∙ append_assoc old front next ∙ ap (λ (t : List ℕ). old ++ t) (sym (written_more ls i d lt))

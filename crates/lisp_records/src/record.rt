@@ -309,7 +309,7 @@ fn read_locators<A: Memory>(
 
 /// Appends the written spelling of a record: all reserved bits 0. Out of memory, it leaves `out` as
 /// it was.
-#[tactic(auto, using(crate::proofs::Grown::steps))]
+#[tactic(auto, using(crate::proofs::Grown::cut_back))]
 pub fn write_record<A: Allocator, B: Memory>(
     entry: &MapRecord<A>,
     out: &mut Vec<u8, B>,
