@@ -1,4 +1,4 @@
-use Rattle.std.proofs.Common.{Err, sym, ap, ◌∙◌, arith}
+use Rattle.std.proofs.Common.{Err, rules, sym, ap, ◌∙◌, arith}
 use Rattle.std.proofs.lemmas.Result.{err_from_is_err_and}
 use Rattle.std.specs.Prelude.{slice_index}
 use Rattle.lisp_records.proofs.Steps.{word_at, version_at, start_fault, start_holds, record_is, record_stops, record_fails}
@@ -17,7 +17,7 @@ returns-in_err-addr-clause-early g c fault fails =
 pub returns-in_err-locators-clause-read : goal.returns-in_err-locators-clause-read
 returns-in_err-locators-clause-read g c =
     let p = err_from_is_err_and c.from_residual-in_err-locators.result c.from_residual-in_err-locators.ensures.1 in
-    rw (p.1, p.2) (record_fails c.args.bytes.now c.in_ok-addr.rest.now c.in_ok-addr.addr c.in_err-locators.field-0.0 c.in_ok-addr.ensures.start c.in_err-locators.ensures.locators)
+    rw (p.1, p.2) (search (rules, record_fails))
 
 pub returns-in_err-locators-clause-early : goal.returns-in_err-locators-clause-early
 returns-in_err-locators-clause-early g c fault fails = absurd (start_holds c.args.bytes.now (c.in_ok-addr.addr, c.in_ok-addr.rest.now) fault c.in_ok-addr.ensures.start fails)
