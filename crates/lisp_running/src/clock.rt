@@ -28,8 +28,8 @@ impl Stopwatch {
         ensures { result ≤ max_moment }
     {
         if let Ok(passed) = self.start.elapsed(rt) {
-            self.last = u64::try_from(passed.as_millis()).unwrap_or(MAX_MOMENT).min(MAX_MOMENT);
+            self.last = u64::try_from(passed.as_millis()).unwrap_or(MAX_MOMENT);
         }
-        self.last
+        self.last.min(MAX_MOMENT)
     }
 }
