@@ -1,6 +1,6 @@
 //! What nodes are called in lines.
 
-ghost use Rattle.std.specs.Prelude.{◌≡◌};
+ghost use Rattle.std.specs.Prelude.{◌≡◌, codes, map, slice_index_or};
 ghost use Rattle.std.specs.Option.{option_map};
 ghost use Rattle.lisp_lines.specs.Name.{node_name, router_of, router_name};
 
@@ -19,7 +19,14 @@ pub(crate) fn node_name<E: Allocator>(config: &Config<E>, node: usize) -> &str
     if let Some(server) = servers.get(node) {
         return server.name.as_str();
     }
-    match config.routers().get(node - servers.len()) {
+    name_at(config, node - servers.len())
+}
+
+// The name of the router with a place among the routers.
+fn name_at<E: Allocator>(config: &Config<E>, place: usize) -> &str
+    ensures { result.now ≡ slice_index_or (map (λ r. r.name) config.now.routers) place (codes "other") }
+{
+    match config.routers().get(place) {
         Some(router) => router.name.as_str(),
         None => OTHER,
     }

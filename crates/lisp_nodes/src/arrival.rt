@@ -1,10 +1,13 @@
 //! Bytes arrive at a node: the event's line, and what the node answers, if anything.
 
-ghost use Rattle.std.specs.Prelude.{◌≡◌, ◌<◌, ◌+◌, ◌++◌, length};
+ghost use Rattle.std.specs.Prelude.{◌≡◌, ◌<◌, ◌+◌, ◌++◌, Result, length};
 ghost use Rattle.std.specs.Vec.{vec_len, vec_capacity};
 ghost use Rattle.lisp_etr.specs.Etr.{EtrState};
 ghost use Rattle.lisp_records.specs.declared.address.Addr.{Addr};
 ghost use Rattle.lisp_schedules.specs.Memory.{MayTell};
+ghost use Rattle.lisp_checks.specs.declared.refused.Refused.{Refused};
+ghost use Rattle.lisp_server.specs.declared.took.Took.{Took};
+ghost use Rattle.lisp_turns.specs.Calls.{Receives};
 ghost use Rattle.lisp_turns.specs.World.{WorldState};
 ghost use Rattle.lisp_turns.specs.Turns.{server_line, server_number, replies, router_line, acknowledges, posted, address_of, Arrives, HearsAt};
 
@@ -50,12 +53,26 @@ pub fn hear<S: WorldStore, A: Memory + Copy>(
     if node >= servers.len() {
         return router_hears(&mut routers[node - servers.len()], node, how, bytes);
     }
-    let answer = servers[node].receive(how.fate, how.from, bytes, how.now);
+    server_hears(&mut servers[node], node, how, bytes)
+}
+
+/// A Map-Server with a number is given bytes: the line of that event, and the Map-Notify that it answers, if any.
+pub fn server_hears<S: WorldStore, A: Memory + Copy>(
+    server: &mut ServerNode<S, A>,
+    node: usize,
+    how: Arrival,
+    bytes: &[u8],
+) -> (Line, Option<Bytes<A>>)
+    ensures hears { (answer : Result (Took A) Refused) × Receives server.old server.new how.fate how.from bytes.now how.now answer × (result.0 ≡ server_line node how.next answer) × ((from to : Addr) → replies from to answer ≡ posted from to result.1) }
+    ensures tells { MayTell A.may_refuse S.may_refuse result.0 }
+{
+    let answer = server.receive(how.fate, how.from, bytes, how.now);
     (server_line(node, how.next, &answer), server_reply(answer))
 }
 
-// A router is given bytes; where it is down it answers nothing.
-fn router_hears<S: WorldStore, A: Memory + Copy>(
+/// A router with a number is given bytes: the line of that event, and the Map-Notify-Ack that it answers, if any. Where it
+/// is down its line is `Down`, and it answers nothing.
+pub fn router_hears<S: WorldStore, A: Memory + Copy>(
     router: &mut RouterNode<S, A>,
     node: usize,
     how: Arrival,

@@ -8,7 +8,7 @@ mod router_core;
 mod router_node;
 mod server_node;
 
-pub use arrival::{Arrival, hear, post_reply};
+pub use arrival::{Arrival, hear, post_reply, router_hears, server_hears};
 pub use datagram::{Datagram, post, post_message};
 pub use router_node::{RouterNode, Start};
 pub use server_node::ServerNode;

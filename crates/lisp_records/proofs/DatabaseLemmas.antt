@@ -1,11 +1,16 @@
 -- Records whose EID-Prefixes are compared with those of the later ones, one after the other.
-use Rattle.std.proofs.Common.{◌≡◌, ℕ, ◌+◌, ◌-◌, ◌<◌, ◌≤◌, Bool, true, false, ◌||◌, List, length, get_or, take, drop, refl, sym, ap, ◌∙◌, add-one, arith}
+use Rattle.std.proofs.Common.{◌≡◌, ℕ, ◌+◌, ◌-◌, ◌<◌, ◌≤◌, Bool, true, false, ◌||◌, List, [], ◌∷◌, ◌++◌, length, get_or, take, drop, Result, Ok, Err, cond, ltb, refl, sym, ap, ◌∙◌, add-one, arith}
 use Rattle.std.proofs.Math.Seq.{drop-cons}
 use Rattle.std.proofs.Math.ListN.{drop_of_length-le}
-use Rattle.std.proofs.lemmas.List.{take_all, length-drop}
+use Rattle.std.proofs.lemmas.Bool.{ltb-false}
+use Rattle.std.proofs.lemmas.List.{take_all, take_more, length-drop}
+use Rattle.std.proofs.lemmas.List.Sums.{sum_by_more}
 use Rattle.lisp_records.specs.Address.{Block}
 use Rattle.lisp_records.specs.Record.{Mapping}
-use Rattle.lisp_records.specs.Database.{has_prefix, repeats}
+use Rattle.lisp_records.specs.declared.database.DatabaseFault.{DatabaseFault}
+use Rattle.lisp_records.specs.declared.database.DatabaseFault.TheVariants.{TooLarge}
+use Rattle.lisp_records.specs.Database.{has_prefix, repeats, size, database_of}
+use Rattle.lisp_records.specs.Written.{written}
 
 -- the records behind a place
 abbrev pub behind : List Mapping → ℕ → List Mapping
@@ -37,3 +42,24 @@ unfolding repeats
 repeats_ends ms i le so_far =
     let none : repeats (drop i ms) ≡ false = rw (drop_of_length-le ms le) refl in
     sym none ∙ so_far
+
+-- the bytes of one more record are counted
+pub size_goes_on : (ms : List Mapping) (i sum len : ℕ) (m : Mapping) → i < length ms → m ≡ get_or ms i m → len ≡ length (written m) → sum ≡ size (take i ms) → sum + len ≡ size (take (i + 1) ms)
+size_goes_on ms i sum len m lt at of so_far =
+    let here : len ≡ length (written (get_or ms i m)) = of ∙ ap (λ (x : Mapping). length (written x)) at in
+    rw (so_far, here) (sym (sum_by_more (λ (x : Mapping). length (written x)) ms i m lt))
+
+-- one more record is copied
+pub copy_goes_on : (ms copies more : List Mapping) (i : ℕ) (m copy : Mapping) → i < length ms → m ≡ get_or ms i m → copy ≡ m → copies ≡ take i ms → more ≡ copies ++ copy ∷ [] → more ≡ take (i + 1) ms
+copy_goes_on ms copies more i m copy lt at same so_far pushed =
+    let here : copy ≡ get_or ms i m = same ∙ at in
+    pushed ∙ rw (so_far, here, take_more ms i m lt) refl
+
+-- a test that refuses was not passed
+not_refused : (b : Bool) (d : DatabaseFault) (other : Result (List Mapping) DatabaseFault) (ms : List Mapping) → cond b (Err d) other ≡ Ok ms → b ≡ false
+not_refused true d other ms e = absurd cc
+not_refused false d other ms e = refl
+
+-- a database has at most 255 records
+pub database_few : (ms : List Mapping) → database_of ms ≡ Ok ms → length ms < 256
+database_few ms e = omega (arith, ltb-false _ _ (not_refused (ltb 255 (length ms)) TooLarge _ ms e))

@@ -1,20 +1,17 @@
 -- What a buffer that only grows still begins with.
-use Rattle.std.proofs.Common.{◌≡◌, ℕ, List, [], ◌++◌, length, take, refl, sym, ap, ◌∙◌, append_assoc}
-use Rattle.std.proofs.lemmas.List.{append-nil}
+use Rattle.std.proofs.Common.{◌≡◌, ℕ, List, ◌++◌, length, take, Result, Ok, Err, ap, ◌∙◌, append_assoc}
+use Rattle.std.specs.Prelude.{OnErr}
 use Rattle.std.proofs.Math.Seq.{take-append_seam}
 use Rattle.lisp_records.specs.Grown.{Grew}
-
-pub Grew-same : (xs : List ℕ) → Grew xs xs
-Grew-same xs = record { more = []; parts = sym (append-nil xs) }
-
-pub Grew-by : (old new more : List ℕ) → new ≡ old ++ more → Grew old new
-Grew-by old new more parts = record { more = more; parts = parts }
 
 pub Grew-step : (old mid new more : List ℕ) → mid ≡ old ++ more → Grew mid new → Grew old new
 Grew-step old mid new more e g = record { more = more ++ g.more; parts = g.parts ∙ ap (λ (xs : List ℕ). xs ++ g.more) e ∙ append_assoc old more g.more }
 
--- cutting a buffer back to its old length gives the old bytes
-pub take-Grew : (old new : List ℕ) (n : ℕ) → n ≡ length old → Grew old new → take n new ≡ old
-take-Grew old new n e g = rw (e, g.parts) (take-append_seam old g.more)
+-- what holds, holds where an answer is an error
+pub on_err : {T E P : Type 0} (r : Result T E) → P → OnErr r P
+on_err (Ok x) holds = tt
+on_err (Err e) holds = holds
 
-pub ruleset steps = (Grew-same, Grew-by, Grew-step, take-Grew, append_assoc)
+-- cutting a buffer back to its old length gives the old bytes
+pub cut_back : (old new : List ℕ) (n : ℕ) → n ≡ length old → Grew old new → take n new ≡ old
+cut_back old new n e g = rw (e, g.parts) (take-append_seam old g.more)

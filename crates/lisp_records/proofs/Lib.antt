@@ -11,4 +11,5 @@ pub mod Positions
 pub mod RecordLaws
 pub mod RisingLaws
 pub mod RouterLaws
+pub mod Steps
 pub mod WrittenLemmas

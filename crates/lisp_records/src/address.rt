@@ -168,7 +168,6 @@ fn first_bits(byte: u8, count: u8) -> u8
 }
 
 /// Appends an AFI and its address. Out of memory, it may leave a part of them.
-#[tactic(auto, using(crate::proofs::Grown::steps))]
 pub(crate) fn put_address<A: Memory>(out: &mut Vec<u8, A>, addr: &Addr) -> Result<(), AllocError>
     ensures ok { OnOk result (out.new.items ≡ out.old.items ++ written_address addr.now) }
     ensures err { OnErr result (Grew out.old.items out.new.items) }

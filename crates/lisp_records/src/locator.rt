@@ -97,7 +97,6 @@ pub(crate) fn read_locator(bytes: &[u8]) -> Result<(Locator, &[u8]), RecordFault
 }
 
 /// Appends the written spelling of a locator. Out of memory, it may leave a part of it.
-#[tactic(auto, using(crate::proofs::Grown::steps))]
 pub(crate) fn put_locator<A: Memory>(
     out: &mut Vec<u8, A>,
     locator: &Locator,

@@ -236,7 +236,6 @@ fn read_at<A: Memory>(
 }
 
 // The record at the front of the bytes, and the bytes after it.
-#[tactic(auto, unfolding(crate::specs::Reading::record_at))]
 fn read_front<A: Memory>(alloc: A, bytes: &[u8]) -> Result<(MapRecord<A>, &[u8]), RecordFault>
     ensures read { Gives (λ x. (x.0, x.1.now)) result (record_at bytes.now) }
     ensures early { (fault : RecordFault) → start_at bytes.now ≡ Err fault → result ≡ Err fault }
@@ -310,7 +309,7 @@ fn read_locators<A: Memory>(
 
 /// Appends the written spelling of a record: all reserved bits 0. Out of memory, it leaves `out` as
 /// it was.
-#[tactic(auto, using(crate::proofs::Grown::steps))]
+#[tactic(auto, using(crate::proofs::Grown::cut_back))]
 pub fn write_record<A: Allocator, B: Memory>(
     entry: &MapRecord<A>,
     out: &mut Vec<u8, B>,
@@ -331,7 +330,6 @@ pub fn write_record<A: Allocator, B: Memory>(
 }
 
 // As `write_record`, but out of memory it may leave a part of the record.
-#[tactic(auto, using(crate::proofs::Grown::steps))]
 fn put_record<A: Allocator, B: Memory>(
     out: &mut Vec<u8, B>,
     entry: &MapRecord<A>,
@@ -348,7 +346,6 @@ fn put_record<A: Allocator, B: Memory>(
     Ok(())
 }
 
-#[tactic(auto, using(crate::proofs::Grown::steps))]
 fn put_head<A: Allocator, B: Memory>(
     out: &mut Vec<u8, B>,
     entry: &MapRecord<A>,
@@ -377,7 +374,6 @@ fn counts_and_flags<A: Allocator>(entry: &MapRecord<A>) -> [u8; 6]
     ]
 }
 
-#[tactic(auto, using(crate::proofs::Grown::steps))]
 fn put_locators<A: Memory>(out: &mut Vec<u8, A>, locators: &[Locator]) -> Result<(), AllocError>
     ensures ok { OnOk result (out.new.items ≡ out.old.items ++ written_locators locators.now) }
     ensures err { OnErr result (Grew out.old.items out.new.items) }

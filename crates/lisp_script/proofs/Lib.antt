@@ -3,3 +3,4 @@ mod Places
 mod Verbs
 mod Records
 mod Lines
+mod Counts

@@ -1,6 +1,6 @@
 //! What the words of a line spell: a command.
 
-ghost use Rattle.std.specs.Prelude.{◌≡◌, ◌≢◌, map, IfErr};
+ghost use Rattle.std.specs.Prelude.{◌≡◌, ◌≢◌, [], ◌∷◌, map, IfErr};
 ghost use Rattle.std.specs.Option.{option_map};
 ghost use Rattle.lisp_records.specs.Result.{Reads};
 ghost use Rattle.lisp_sites.specs.Configuration.{Configuration};
@@ -48,17 +48,89 @@ fn spelt<A: Memory + Copy, E: Allocator>(
 {
     match verb {
         Verb::Change => change(alloc, config, words),
-        Verb::Send => send(config, words),
-        Verb::Deliver => deliver(words),
-        Verb::Junk => junk(alloc, config, words),
-        Verb::Tick => tick(words),
         Verb::Restart => restart(alloc, config, words),
-        Verb::Notice => notice(config, words),
-        Verb::Resend => resend(config, words),
-        Verb::Hold => hold(config, words),
-        Verb::Acks => acks(config, words),
-        Verb::Ask => ask(config, words),
-        Verb::Due => due(config, words),
+        _ => counted(alloc, config, verb, words),
+    }
+}
+
+// The command of a verb that no records follow, and the words behind it.
+#[tactic(auto, using(crate::proofs::Counts::one, crate::proofs::Counts::two, crate::proofs::Counts::three, crate::proofs::Counts::miscounted))]
+fn counted<A: Memory + Copy, E: Allocator>(
+    alloc: A,
+    config: &Config<E>,
+    verb: Verb,
+    words: &[&str],
+) -> Result<Command<A>, ScriptWhat>
+    ensures value { verb ≢ verbs.Change → verb ≢ verbs.Restart → Gives order result (spelt config.now verb (map (λ w. w.now) words.now)) }
+    ensures memory { IfErr result (λ what. what ≡ ScriptWhat.Memory → A.may_refuse) }
+{
+    match words {
+        [first] => with_one(config, verb, first),
+        [first, second] => with_two(config, verb, first, second),
+        [first, second, third] => with_three(alloc, config, verb, first, second, third),
+        _ => Err(ScriptWhat::Count),
+    }
+}
+
+// The command of a verb and one word.
+#[tactic(auto, unfolding(crate::specs::Spelling::spelt))]
+fn with_one<A: Allocator, E: Allocator>(
+    config: &Config<E>,
+    verb: Verb,
+    first: &str,
+) -> Result<Command<A>, ScriptWhat>
+    ensures value { Reads order result (spelt config.now verb (first.now ∷ [])) }
+    ensures plain { IfErr result (λ what. what ≢ ScriptWhat.Memory) }
+{
+    match verb {
+        Verb::Deliver => delivered(first, Ok(Fate::Done)),
+        Verb::Tick => tick(first),
+        Verb::Hold => hold(config, first),
+        Verb::Acks => acks(config, first),
+        Verb::Due => due(config, first),
+        _ => Err(ScriptWhat::Count),
+    }
+}
+
+// The command of a verb that no records follow, and two words.
+#[tactic(auto, unfolding(crate::specs::Spelling::spelt))]
+fn with_two<A: Allocator, E: Allocator>(
+    config: &Config<E>,
+    verb: Verb,
+    first: &str,
+    second: &str,
+) -> Result<Command<A>, ScriptWhat>
+    ensures value { verb ≢ verbs.Change → verb ≢ verbs.Restart → Reads order result (spelt config.now verb (first.now ∷ second.now ∷ [])) }
+    ensures plain { IfErr result (λ what. what ≢ ScriptWhat.Memory) }
+{
+    match verb {
+        Verb::Send => sent(config, first, second, Ok(Fate::Done)),
+        Verb::Deliver => delivered(first, fate(second)),
+        Verb::Notice => noticed(config, first, second, Ok(Fate::Done)),
+        Verb::Resend => resend(config, first, second),
+        Verb::Ask => ask(config, first, second),
+        _ => Err(ScriptWhat::Count),
+    }
+}
+
+// The command of a verb that no records follow, and three words.
+#[tactic(auto, unfolding(crate::specs::Spelling::spelt))]
+fn with_three<A: Memory + Copy, E: Allocator>(
+    alloc: A,
+    config: &Config<E>,
+    verb: Verb,
+    first: &str,
+    second: &str,
+    third: &str,
+) -> Result<Command<A>, ScriptWhat>
+    ensures value { verb ≢ verbs.Change → verb ≢ verbs.Restart → Gives order result (spelt config.now verb (first.now ∷ second.now ∷ third.now ∷ [])) }
+    ensures memory { IfErr result (λ what. what ≡ ScriptWhat.Memory → A.may_refuse) }
+{
+    match verb {
+        Verb::Send => sent(config, first, second, doubt(third)),
+        Verb::Junk => junk(alloc, config, first, second, third),
+        Verb::Notice => noticed(config, first, second, fate(third)),
+        _ => Err(ScriptWhat::Count),
     }
 }
 
@@ -78,48 +150,18 @@ fn change<A: Memory + Copy, E: Allocator>(
     }
 }
 
-// send R S, and perhaps what becomes of the save
-#[tactic(auto, unfolding(crate::specs::Spelling::spelt))]
-fn send<A: Allocator, E: Allocator>(
-    config: &Config<E>,
-    words: &[&str],
-) -> Result<Command<A>, ScriptWhat>
-    ensures value { Reads order result (spelt config.now verbs.Send (map (λ w. w.now) words.now)) }
-    ensures plain { IfErr result (λ what. what ≢ ScriptWhat.Memory) }
-{
-    match words {
-        [router, server] => sent(config, router, server, Ok(Fate::Done)),
-        [router, server, becomes] => sent(config, router, server, doubt(becomes)),
-        _ => Err(ScriptWhat::Count),
-    }
-}
-
-// deliver D, and perhaps what becomes of a load or a save
-#[tactic(auto, unfolding(crate::specs::Spelling::spelt))]
-fn deliver<A: Allocator>(words: &[&str]) -> Result<Command<A>, ScriptWhat>
-    ensures value { (c : Configuration) → Reads order result (spelt c verbs.Deliver (map (λ w. w.now) words.now)) }
-    ensures plain { IfErr result (λ what. what ≢ ScriptWhat.Memory) }
-{
-    match words {
-        [datagram] => delivered(datagram, Ok(Fate::Done)),
-        [datagram, becomes] => delivered(datagram, fate(becomes)),
-        _ => Err(ScriptWhat::Count),
-    }
-}
-
 // junk N A H
 #[tactic(auto, unfolding(crate::specs::Spelling::spelt))]
 fn junk<A: Memory + Copy, E: Allocator>(
     alloc: A,
     config: &Config<E>,
-    words: &[&str],
+    to: &str,
+    from: &str,
+    digits: &str,
 ) -> Result<Command<A>, ScriptWhat>
-    ensures value { Gives order result (spelt config.now verbs.Junk (map (λ w. w.now) words.now)) }
+    ensures value { Gives order result (spelt config.now verbs.Junk (to.now ∷ from.now ∷ digits.now ∷ [])) }
     ensures memory { IfErr result (λ what. what ≡ ScriptWhat.Memory → A.may_refuse) }
 {
-    let [to, from, digits] = words else {
-        return Err(ScriptWhat::Count);
-    };
     let to = node(config, to)?;
     let from = address(from)?;
     let bytes = bytes(alloc, digits)?;
@@ -128,13 +170,10 @@ fn junk<A: Memory + Copy, E: Allocator>(
 
 // tick M
 #[tactic(auto, unfolding(crate::specs::Spelling::spelt))]
-fn tick<A: Allocator>(words: &[&str]) -> Result<Command<A>, ScriptWhat>
-    ensures value { (c : Configuration) → Reads order result (spelt c verbs.Tick (map (λ w. w.now) words.now)) }
+fn tick<A: Allocator>(ms: &str) -> Result<Command<A>, ScriptWhat>
+    ensures value { (c : Configuration) → Reads order result (spelt c verbs.Tick (ms.now ∷ [])) }
     ensures plain { IfErr result (λ what. what ≢ ScriptWhat.Memory) }
 {
-    let [ms] = words else {
-        return Err(ScriptWhat::Count);
-    };
     Ok(Command::Act(Event::Tick(number(ms)?)))
 }
 
@@ -155,34 +194,16 @@ fn restart<A: Memory + Copy, E: Allocator>(
     }
 }
 
-// notice S R, and perhaps what becomes of a load or a save
-#[tactic(auto, unfolding(crate::specs::Spelling::spelt))]
-fn notice<A: Allocator, E: Allocator>(
-    config: &Config<E>,
-    words: &[&str],
-) -> Result<Command<A>, ScriptWhat>
-    ensures value { Reads order result (spelt config.now verbs.Notice (map (λ w. w.now) words.now)) }
-    ensures plain { IfErr result (λ what. what ≢ ScriptWhat.Memory) }
-{
-    match words {
-        [server, router] => noticed(config, server, router, Ok(Fate::Done)),
-        [server, router, becomes] => noticed(config, server, router, fate(becomes)),
-        _ => Err(ScriptWhat::Count),
-    }
-}
-
 // resend S R
 #[tactic(auto, unfolding(crate::specs::Spelling::spelt))]
 fn resend<A: Allocator, E: Allocator>(
     config: &Config<E>,
-    words: &[&str],
+    from: &str,
+    to: &str,
 ) -> Result<Command<A>, ScriptWhat>
-    ensures value { Reads order result (spelt config.now verbs.Resend (map (λ w. w.now) words.now)) }
+    ensures value { Reads order result (spelt config.now verbs.Resend (from.now ∷ to.now ∷ [])) }
     ensures plain { IfErr result (λ what. what ≢ ScriptWhat.Memory) }
 {
-    let [from, to] = words else {
-        return Err(ScriptWhat::Count);
-    };
     let server = server(config, from)?;
     let router = router(config, to)?;
     Ok(Command::Act(Event::Resend { server, router }))
@@ -192,14 +213,11 @@ fn resend<A: Allocator, E: Allocator>(
 #[tactic(auto, unfolding(crate::specs::Spelling::spelt))]
 fn hold<A: Allocator, E: Allocator>(
     config: &Config<E>,
-    words: &[&str],
+    name: &str,
 ) -> Result<Command<A>, ScriptWhat>
-    ensures value { Reads order result (spelt config.now verbs.Hold (map (λ w. w.now) words.now)) }
+    ensures value { Reads order result (spelt config.now verbs.Hold (name.now ∷ [])) }
     ensures plain { IfErr result (λ what. what ≢ ScriptWhat.Memory) }
 {
-    let [name] = words else {
-        return Err(ScriptWhat::Count);
-    };
     Ok(Command::Hold(server(config, name)?))
 }
 
@@ -207,47 +225,36 @@ fn hold<A: Allocator, E: Allocator>(
 #[tactic(auto, unfolding(crate::specs::Spelling::spelt))]
 fn acks<A: Allocator, E: Allocator>(
     config: &Config<E>,
-    words: &[&str],
+    name: &str,
 ) -> Result<Command<A>, ScriptWhat>
-    ensures value { Reads order result (spelt config.now verbs.Acks (map (λ w. w.now) words.now)) }
+    ensures value { Reads order result (spelt config.now verbs.Acks (name.now ∷ [])) }
     ensures plain { IfErr result (λ what. what ≢ ScriptWhat.Memory) }
 {
-    let [name] = words else {
-        return Err(ScriptWhat::Count);
-    };
     Ok(Command::Acks(router(config, name)?))
+}
+
+// due N
+#[tactic(auto, unfolding(crate::specs::Spelling::spelt))]
+fn due<A: Allocator, E: Allocator>(config: &Config<E>, name: &str) -> Result<Command<A>, ScriptWhat>
+    ensures value { Reads order result (spelt config.now verbs.Due (name.now ∷ [])) }
+    ensures plain { IfErr result (λ what. what ≢ ScriptWhat.Memory) }
+{
+    Ok(Command::Due(node(config, name)?))
 }
 
 // ask S A
 #[tactic(auto, unfolding(crate::specs::Spelling::spelt))]
 fn ask<A: Allocator, E: Allocator>(
     config: &Config<E>,
-    words: &[&str],
+    name: &str,
+    addr: &str,
 ) -> Result<Command<A>, ScriptWhat>
-    ensures value { Reads order result (spelt config.now verbs.Ask (map (λ w. w.now) words.now)) }
+    ensures value { Reads order result (spelt config.now verbs.Ask (name.now ∷ addr.now ∷ [])) }
     ensures plain { IfErr result (λ what. what ≢ ScriptWhat.Memory) }
 {
-    let [name, addr] = words else {
-        return Err(ScriptWhat::Count);
-    };
     let server = server(config, name)?;
     let addr = address(addr)?;
     Ok(Command::Ask { server, addr })
-}
-
-// due N
-#[tactic(auto, unfolding(crate::specs::Spelling::spelt))]
-fn due<A: Allocator, E: Allocator>(
-    config: &Config<E>,
-    words: &[&str],
-) -> Result<Command<A>, ScriptWhat>
-    ensures value { Reads order result (spelt config.now verbs.Due (map (λ w. w.now) words.now)) }
-    ensures plain { IfErr result (λ what. what ≢ ScriptWhat.Memory) }
-{
-    let [name] = words else {
-        return Err(ScriptWhat::Count);
-    };
-    Ok(Command::Due(node(config, name)?))
 }
 
 // A router is given a database.
@@ -266,7 +273,7 @@ fn changed<A: Memory + Copy, E: Allocator>(
     Ok(Command::Act(Event::Change { router, db }))
 }
 
-// A router sends a Map-Register.
+// send R S, and what becomes of the save
 #[tactic(auto, unfolding(crate::specs::Spelling::send_of))]
 fn sent<A: Allocator, E: Allocator>(
     config: &Config<E>,
@@ -288,7 +295,7 @@ fn sent<A: Allocator, E: Allocator>(
     }))
 }
 
-// A datagram arrives.
+// deliver D, and what becomes of a load or a save
 #[tactic(auto, unfolding(crate::specs::Spelling::deliver_of))]
 fn delivered<A: Allocator>(
     datagram: &str,
@@ -353,7 +360,7 @@ fn given_to<E: Allocator>(config: &Config<E>, node: usize) -> Result<usize, Scri
     }
 }
 
-// A Map-Server sends a notice.
+// notice S R, and what becomes of a load or a save
 #[tactic(auto, unfolding(crate::specs::Spelling::notice_of))]
 fn noticed<A: Allocator, E: Allocator>(
     config: &Config<E>,

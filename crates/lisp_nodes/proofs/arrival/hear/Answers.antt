@@ -4,7 +4,6 @@ use Rattle.std.proofs.lemmas.Option.{slice_get-get_or}
 use Rattle.lisp_turns.specs.Calls.{Receives}
 use Rattle.lisp_turns.specs.Turns.{address_of, posted, server_line}
 use Rattle.lisp_turns.specs.World.{ServerNode, RouterNode}
-use Rattle.lisp_nodes.proofs.ArrivalCalls.{server_tells}
 use Rattle.lisp_nodes.proofs.arrival.hear.Goals as goal
 
 pub offset_bounds-routers-node : goal.offset_bounds-routers-node
@@ -33,26 +32,21 @@ returns-then-node-servers-clause-hears g c = λ w servers routers clock next.
 pub returns-clause-hears : goal.returns-clause-hears
 returns-clause-hears g c = λ w servers routers clock next.
     let before = get_or c.args.servers.now c.args.node c.index-servers-node.result in
-    let after = c.receive-answer.new.self in
+    let after = c.server_hears.new.server in
     let how = c.args.how in
-    let answer = c.receive-answer.result in
+    let heard = c.server_hears.ensures.hears in
     inl (record {
-      answer = answer;
+      answer = heard.0;
       acts = record {
         before = before;
         after = after;
         was = ap (λ (nodes : List ServerNode). slice_get nodes c.args.node) servers ∙ slice_get-get_or _ _ _ c.if-node-servers.false;
         left = λ i. record w {
-          bag = w.bag ++ sym (c.server_reply.ensures (address_of w c.args.node) how.from) i;
+          bag = w.bag ++ sym (heard.3 (address_of w c.args.node) how.from) i;
           servers = slice_set (sym servers i) c.args.node after;
           routers = sym routers i;
         };
       };
-      receives = subst (λ (now : ℕ). Receives before after how.fate how.from c.args.bytes.now now answer) (sym clock) c.receive-answer.ensures.receives;
-      said = c.server_line.ensures ∙ ap (λ (number : ℕ). server_line c.args.node number answer) (sym next);
+      receives = subst (λ (now : ℕ). Receives before after how.fate how.from c.args.bytes.now now heard.0) (sym clock) heard.1;
+      said = heard.2 ∙ ap (λ (number : ℕ). server_line c.args.node number heard.0) (sym next);
     })
-
-pub returns-clause-tells : goal.returns-clause-tells
-returns-clause-tells g c =
-    let e = c.receive-answer.ensures in
-    server_tells _ _ _ _ _ c.receive-answer.result c.server_line.ensures e.memory e.load_memory e.save_memory

@@ -1,0 +1,70 @@
+-- Reading from left to right: what the steps give, the whole gives.
+use Rattle.std.proofs.Common.{◌≡◌, ℕ, ◌+◌, ◌-◌, ◌*◌, ◌%◌, ◌≤◌, bit_and, List, ◌∷◌, length, take, drop, Ok, Err, refl, sym, ap, ◌∙◌, arith}
+use Rattle.std.proofs.lemmas.Bool.{le-ltb}
+use Rattle.std.proofs.lemmas.List.{take_all, length-drop}
+use Rattle.std.proofs.lemmas.Nat.{and_mask}
+use Rattle.std.specs.Int.{w32, from_be_bytes}
+use Rattle.std.specs.Prelude.{slice_index}
+use Rattle.lisp_records.specs.declared.address.Addr.{Addr}
+use Rattle.lisp_records.specs.declared.address.Family.{Family}
+use Rattle.lisp_records.specs.declared.fault.RecordFault.{RecordFault}
+use Rattle.lisp_records.specs.declared.locator.Locator.{Locator}
+use Rattle.lisp_records.specs.Reading.{Fails, after, number_at, family_of, address_at, locator_of, locator_at, locators_at, mask_of, mapping_of, start_at, record_at}
+use Rattle.lisp_records.proofs.Fields.{done}
+use Rattle.lisp_records.proofs.Loop.{Fails-passed, Fails-met}
+
+-- a field that is there is passed
+after_is : (n : ℕ) (bytes : List ℕ) → n ≤ length bytes → after n bytes ≡ Ok (drop n bytes)
+after_is n bytes long = rw (le-ltb (length bytes) n long) refl
+
+-- four bytes as a number
+pub word_at : (bytes : List ℕ) → 4 ≤ length bytes → from_be_bytes w32 (take 4 bytes) ≡ slice_index bytes 0 * 16777216 + slice_index bytes 1 * 65536 + slice_index bytes 2 * 256 + slice_index bytes 3
+word_at (b0 ∷ b1 ∷ b2 ∷ b3 ∷ bytes) long = refl
+word_at _ long = absurd (omega arith)
+
+-- a Map-Version number: the last four bits of a byte, and a byte
+pub version_at : (high low n : ℕ) → n ≡ bit_and high 15 * 256 + low → n ≡ high % 16 * 256 + low
+version_at high low n masked = masked ∙ ap (λ (k : ℕ). k * 256 + low) (and_mask high 4)
+
+-- ---- a locator
+
+pub locator_is : (bytes rest : List ℕ) (f : Family) (a : Addr) → 8 ≤ length bytes → family_of (number_at bytes 6) ≡ Ok f → address_at f (take (length bytes - 8) (drop 8 bytes)) ≡ Ok (a, rest) → locator_at bytes ≡ Ok (locator_of bytes a, rest)
+unfolding locator_at
+locator_is bytes rest f a long named taken =
+    let all = take_all (length bytes - 8) (drop 8 bytes) (omega (arith, length-drop 8 bytes)) in
+    rw (after_is 8 bytes long, named, ← all, taken) refl
+
+-- ---- the start of a record
+
+pub start_is : (bytes : List ℕ) (f : Family) (n : ℕ) → 12 ≤ length bytes → family_of (number_at bytes 10) ≡ Ok f → mask_of f (slice_index bytes 5) ≡ Ok n → start_at bytes ≡ address_at f (drop 12 bytes)
+unfolding start_at
+start_is bytes f n long named fits = rw (after_is 12 bytes long, named, fits) refl
+
+-- its mask does not fit
+pub start_fails : (bytes : List ℕ) (f : Family) (e : RecordFault) → 12 ≤ length bytes → family_of (number_at bytes 10) ≡ Ok f → mask_of f (slice_index bytes 5) ≡ Err e → start_at bytes ≡ Err e
+unfolding start_at
+start_fails bytes f e long named fails = rw (after_is 12 bytes long, named, fails) refl
+
+-- a start that failed, failed once
+pub start_fault : (bytes : List ℕ) (e f : RecordFault) → start_at bytes ≡ Err e → start_at bytes ≡ Err f → e ≡ f
+start_fault bytes e f one two = let same = sym one ∙ two in cc
+
+-- a start that was read did not fail
+pub start_holds : (bytes : List ℕ) (x : Addr × List ℕ) (e : RecordFault) → start_at bytes ≡ Ok x → start_at bytes ≡ Err e → ⊥
+start_holds bytes x e read fails = let clash : done x ≡ Err e = sym read ∙ fails in cc
+
+-- ---- a record
+
+pub record_is : (bytes rest behind : List ℕ) (a : Addr) (ls : List Locator) → start_at bytes ≡ Ok (a, rest) → locators_at (slice_index bytes 4) rest ≡ Ok (ls, behind) → record_at bytes ≡ Ok (mapping_of bytes a ls, behind)
+unfolding record_at
+record_is bytes rest behind a ls started taken = rw (started, taken) refl
+
+-- its start is not read
+pub record_stops : (bytes : List ℕ) (e : RecordFault) → start_at bytes ≡ Err e → Fails e (record_at bytes)
+unfolding record_at
+record_stops bytes e stops = Fails-met e (record_at bytes) (rw stops refl)
+
+-- its locators are not read
+pub record_fails : (bytes rest : List ℕ) (a : Addr) (e : RecordFault) → start_at bytes ≡ Ok (a, rest) → Fails e (locators_at (slice_index bytes 4) rest) → Fails e (record_at bytes)
+unfolding record_at
+record_fails bytes rest a e started = Fails-passed e (locators_at (slice_index bytes 4) rest) (record_at bytes) (λ f fails. rw (started, fails) refl)

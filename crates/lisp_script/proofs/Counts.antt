@@ -1,0 +1,69 @@
+-- The words behind a verb, by their number.
+use Rattle.std.proofs.Common.{◌≡◌, ℕ, ◌<◌, ◌≤◌, ◌≢◌, List, [], ◌∷◌, length, get_or, map, Err, Bor, refl, arith}
+use Rattle.lisp_sites.specs.Configuration.{Configuration}
+use Rattle.lisp_script.specs.declared.fault.ScriptWhat.TheVariants.{Count}
+use Rattle.lisp_script.specs.declared.verb.Verb.{Verb}
+use Rattle.lisp_script.specs.declared.verb.Verb.TheVariants as verbs
+use Rattle.lisp_script.specs.Spelling.{spelt}
+
+-- the texts of words
+abbrev pub texts : List (Bor (List ℕ)) → List (List ℕ)
+texts words = map (λ w. w.now) words
+
+pub one : (words : List (Bor (List ℕ))) (d : Bor (List ℕ)) → 1 ≤ length words → length words < 2 → texts words ≡ (get_or words 0 d).now ∷ []
+one [] d some few = absurd (omega arith)
+one (a ∷ []) d some few = refl
+one (a ∷ b ∷ words) d some few = absurd (omega arith)
+
+pub two : (words : List (Bor (List ℕ))) (d : Bor (List ℕ)) → 2 ≤ length words → length words < 3 → texts words ≡ (get_or words 0 d).now ∷ (get_or words 1 d).now ∷ []
+two [] d some few = absurd (omega arith)
+two (a ∷ []) d some few = absurd (omega arith)
+two (a ∷ b ∷ []) d some few = refl
+two (a ∷ b ∷ e ∷ words) d some few = absurd (omega arith)
+
+pub three : (words : List (Bor (List ℕ))) (d : Bor (List ℕ)) → 3 ≤ length words → length words < 4 → texts words ≡ (get_or words 0 d).now ∷ (get_or words 1 d).now ∷ (get_or words 2 d).now ∷ []
+three [] d some few = absurd (omega arith)
+three (a ∷ []) d some few = absurd (omega arith)
+three (a ∷ b ∷ []) d some few = absurd (omega arith)
+three (a ∷ b ∷ e ∷ []) d some few = refl
+three (a ∷ b ∷ e ∷ f ∷ words) d some few = absurd (omega arith)
+
+-- more words than any verb takes that no records follow
+too_many : (c : Configuration) (verb : Verb) (a b e f : List ℕ) (words : List (List ℕ)) → verb ≢ verbs.Change → verb ≢ verbs.Restart → spelt c verb (a ∷ b ∷ e ∷ f ∷ words) ≡ Err Count
+unfolding spelt
+too_many c verbs.Change a b e f words change restart = absurd (change refl)
+too_many c verbs.Send a b e f words change restart = refl
+too_many c verbs.Deliver a b e f words change restart = refl
+too_many c verbs.Junk a b e f words change restart = refl
+too_many c verbs.Tick a b e f words change restart = refl
+too_many c verbs.Restart a b e f words change restart = absurd (restart refl)
+too_many c verbs.Notice a b e f words change restart = refl
+too_many c verbs.Resend a b e f words change restart = refl
+too_many c verbs.Hold a b e f words change restart = refl
+too_many c verbs.Acks a b e f words change restart = refl
+too_many c verbs.Ask a b e f words change restart = refl
+too_many c verbs.Due a b e f words change restart = refl
+
+-- no word behind a verb
+too_few : (c : Configuration) (verb : Verb) → spelt c verb [] ≡ Err Count
+unfolding spelt
+too_few c verbs.Change = refl
+too_few c verbs.Send = refl
+too_few c verbs.Deliver = refl
+too_few c verbs.Junk = refl
+too_few c verbs.Tick = refl
+too_few c verbs.Restart = refl
+too_few c verbs.Notice = refl
+too_few c verbs.Resend = refl
+too_few c verbs.Hold = refl
+too_few c verbs.Acks = refl
+too_few c verbs.Ask = refl
+too_few c verbs.Due = refl
+
+-- a number of words that no verb takes that no records follow
+pub miscounted : (c : Configuration) (verb : Verb) (words : List (Bor (List ℕ))) → length words ≢ 1 → length words ≢ 2 → length words ≢ 3 → verb ≢ verbs.Change → verb ≢ verbs.Restart → spelt c verb (texts words) ≡ Err Count
+miscounted c verb [] one two three change restart = too_few c verb
+miscounted c verb (a ∷ []) one two three change restart = absurd (one refl)
+miscounted c verb (a ∷ b ∷ []) one two three change restart = absurd (two refl)
+miscounted c verb (a ∷ b ∷ e ∷ []) one two three change restart = absurd (three refl)
+miscounted c verb (a ∷ b ∷ e ∷ f ∷ words) one two three change restart = too_many c verb a.now b.now e.now f.now (texts words) change restart
