@@ -27,6 +27,10 @@ IsBelow (Some base) nonce = base < nonce
 abbrev pub IsFresh : Option ℕ → StoreState → Pair → ℕ → Type 0
 IsFresh last store pair nonce = (base : Option ℕ) × IsBase last store pair base × IsBelow base nonce
 
+-- the nonce is not above its base
+abbrev pub IsReplay : Option ℕ → ℕ → Refused → Type 0
+IsReplay base nonce refused = (saved : ℕ) × (base ≡ Some saved) × (nonce ≤ saved) × (refused ≡ Replay saved)
+
 -- no list of the store changed
 abbrev pub KeepsLists : StoreState → StoreState → Type 0
 KeepsLists before after = IsTrue before.is_honest → after.kept ≡ before.kept

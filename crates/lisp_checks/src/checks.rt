@@ -4,7 +4,7 @@ ghost use Rattle.std.specs.Prelude.{◌≡◌, IsErrOf};
 ghost use Rattle.std.specs.Option.{option_map};
 ghost use Rattle.lisp_records.specs.Result.{Reads};
 ghost use Rattle.lisp_store.specs.declared.fault.StoreFault.{StoreFault};
-ghost use Rattle.lisp_checks.specs.Checks.{first_not_allowed, secret_under, secret_at};
+ghost use Rattle.lisp_checks.specs.Checks.{first_not_allowed, refused_at, secret_under, secret_at};
 ghost use Rattle.lisp_checks.specs.declared.refused.Refused.{Refused};
 
 use crate::refused::Refused;
@@ -33,7 +33,16 @@ pub fn secret_under<'s, A: Allocator, B: Allocator>(
     if register.merge {
         return Err(Refused::MergeAsked);
     }
-    match first_not_allowed(site, register.records.as_slice()) {
+    unless_not_allowed(first_not_allowed(site, register.records.as_slice()), secret)
+}
+
+// The secret, unless there is a record that isn't allowed, whose place is given.
+fn unless_not_allowed(place: Option<usize>, secret: &[u8]) -> Result<&[u8], Refused>
+    ensures secret { Reads (λ s. s.now) result (refused_at place secret.now) }
+    ensures plain { ¬ (IsErrOf result Refused.OutOfMemory) }
+    ensures storeless { (¬ (IsErrOf result (Refused.StoreLoad StoreFault.OutOfMemory))) × (¬ (IsErrOf result (Refused.StoreSave StoreFault.OutOfMemory))) }
+{
+    match place {
         Some(place) => Err(Refused::NotAllowed(place)),
         None => Ok(secret),
     }

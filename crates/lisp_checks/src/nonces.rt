@@ -1,10 +1,10 @@
 //! Nonces that are checked against the store, and saved in it.
 
-ghost use Rattle.std.specs.Prelude.{◌≡◌, [], ◌∷◌, Some, IsTrue, IfOk, IfErr, IsErrOf, OnOk};
+ghost use Rattle.std.specs.Prelude.{◌≡◌, ◌-◌, ◌^◌, [], ◌∷◌, Some, IsTrue, IfOk, IfErr, IsErrOf, OnOk};
 ghost use Rattle.lisp_store.specs.declared.fault.StoreFault.{StoreFault};
 ghost use Rattle.lisp_store.specs.Kept.{kept_at, SameElsewhere};
 ghost use Rattle.lisp_store.specs.Store.{Proceeds};
-ghost use Rattle.lisp_checks.specs.Nonces.{Follows, FollowsNone, NoticeNotKept, IsBase, IsFresh, KeepsLists, Unasked, Unknown, Stops, NotKept};
+ghost use Rattle.lisp_checks.specs.Nonces.{Follows, FollowsNone, NoticeNotKept, IsBase, IsBelow, IsFresh, IsReplay, IsUnspent, KeepsLists, nonce_after, Unasked, Unknown, Stops, NotKept};
 ghost use Rattle.lisp_checks.specs.Pairs.{notice_pair};
 ghost use Rattle.lisp_checks.specs.declared.refused.Refused.{Refused};
 ghost use Rattle.lisp_checks.specs.declared.notice_fault.NoticeFault.{NoticeFault};
@@ -49,7 +49,16 @@ pub fn check_nonce<S: NonceStore>(
     ensures store_memory { IsErrOf result (Refused.StoreLoad StoreFault.OutOfMemory) → S.may_refuse }
     ensures proceeds { Proceeds (S.seen store.old) (S.seen store.new) }
 {
-    match last_nonce(store, pair, last).map_err(Refused::StoreLoad)? {
+    let base = last_nonce(store, pair, last).map_err(Refused::StoreLoad)?;
+    above(base, nonce)
+}
+
+// Whether a nonce is above its base; `Replay`.
+fn above(base: Option<u64>, nonce: u64) -> Result<(), Refused>
+    ensures fresh { OnOk result (IsBelow base nonce) }
+    ensures refused { IfErr result (λ refused. IsReplay base nonce refused) }
+{
+    match base {
         Some(saved) if nonce <= saved => Err(Refused::Replay { saved }),
         _ => Ok(()),
     }
@@ -79,6 +88,14 @@ pub fn next_nonce<S: NonceStore>(store: &mut S, last: Option<u64>) -> Result<u64
     ensures proceeds { Proceeds (S.seen store.old) (S.seen store.new) }
 {
     let last = last_nonce(store, &NOTICES, last).map_err(NoticeFault::StoreLoad)?;
+    following(last)
+}
+
+// The nonce of a notice after the last one; `NonceSpent`.
+fn following(last: Option<u64>) -> Result<u64, NoticeFault>
+    ensures next { IfOk result (λ nonce. IsUnspent last × (nonce ≡ nonce_after last)) }
+    ensures spent { IfErr result (λ fault. (last ≡ Some (2 ^ 64 - 1)) × (fault ≡ NoticeFault.NonceSpent)) }
+{
     match last.unwrap_or(0).checked_add(1) {
         Some(nonce) => Ok(nonce.max(FIRST_NOTICE_NONCE)),
         None => Err(NoticeFault::NonceSpent),

@@ -25,7 +25,7 @@ use crate::notify_fault::NotifyFault;
 use crate::round::{Round, begin_all};
 use crate::seen::Seen;
 use crate::send_fault::SendFault;
-use crate::sending::datagram;
+use crate::sending::{datagram, keep};
 use crate::start_fault::{StartFault, StartRefused};
 use lisp_memory::{FallibleCopies, Memory};
 use lisp_messages::MapNotify;
@@ -166,9 +166,7 @@ impl<A: Memory + Copy> Etr<A> {
         }
         let nonce = self.last + 1;
         let datagram = datagram(self.alloc, &self.config, &self.database, nonce)?;
-        if let Err(fault) = store.save(&self.config.pair(), nonce) {
-            return Err(SendFault::Store(fault));
-        }
+        keep(store, &self.config.pair(), nonce)?;
         self.last = nonce;
         self.safe = nonce;
         self.rounds[server].send(nonce, now);

@@ -1,13 +1,19 @@
 //! The Map-Registers of a router.
 
-ghost use Rattle.std.specs.Prelude.{◌≡◌, IfOk, OnErr, OnOk};
+ghost use Rattle.std.specs.Prelude.{◌≡◌, ◌≢◌, [], ◌∷◌, Some, Err, IsTrue, IfOk, IfErr, IsErrOf, OnErr, OnOk};
+ghost use Rattle.lisp_store.specs.Kept.{kept_at, SameElsewhere, InDoubt};
+ghost use Rattle.lisp_store.specs.Store.{Rose, Proceeds};
+ghost use Rattle.lisp_store.specs.declared.fault.StoreFault.{StoreFault};
 ghost use Rattle.lisp_messages.specs.Message.{IsRegistration};
 ghost use Rattle.lisp_etr.specs.Sending.{datagram_of, registration_of};
+ghost use Rattle.lisp_etr.specs.declared.send_fault.SendFault.{SendFault};
 
 use crate::config::EtrConfig;
+use crate::send_fault::SendFault;
 use lisp_memory::Memory;
 use lisp_messages::{MapRegister, write_register};
 use lisp_records::Database;
+use lisp_store::{NonceStore, Pair};
 use std::alloc::AllocError;
 
 /// The bytes of the Map-Register of a database under a nonce (RFC 9301 section 5.6).
@@ -35,4 +41,18 @@ pub(crate) fn datagram<A: Memory + Copy>(
         site: config.me.site,
     };
     write_register(alloc, &register, config.secret.as_slice())
+}
+
+/// Saves a nonce before it is sent; `Store`.
+pub(crate) fn keep<S: NonceStore>(store: &mut S, pair: &Pair, nonce: u64) -> Result<(), SendFault>
+    ensures done { IsTrue (S.seen store.old).is_honest → OnOk result (kept_at (S.seen store.new).kept pair.now ≡ Some nonce ∷ []) }
+    ensures doubt { IsTrue (S.seen store.old).is_honest → OnErr result (InDoubt (kept_at (S.seen store.old).kept pair.now) (kept_at (S.seen store.new).kept pair.now) nonce) }
+    ensures others { IsTrue (S.seen store.old).is_honest → SameElsewhere (S.seen store.old).kept (S.seen store.new).kept pair.now }
+    ensures store { IfErr result (λ fault. (f : StoreFault) × (fault ≡ SendFault.Store f) × (f ≢ StoreFault.Damaged)) }
+    ensures memory { IsErrOf result (SendFault.Store StoreFault.OutOfMemory) → S.may_refuse }
+    ensures refused { IfErr result (λ fault. fault ≢ SendFault.Store StoreFault.Device → S.seen store.new ≡ S.seen store.old) }
+    ensures cause { IsErrOf result (SendFault.Store StoreFault.Device) → Rose (S.seen store.old) (S.seen store.new) }
+    ensures proceeds { Proceeds (S.seen store.old) (S.seen store.new) }
+{
+    store.save(pair, nonce).map_err(SendFault::Store)
 }

@@ -94,7 +94,7 @@ impl<A: Allocator + Copy> Table<A> {
         ensures expires { Expires self.old.rows self.new.rows now }
         ensures one_each { OneEach self.new.rows }
     {
-        self.items.retain(|row| row.alive(now));
+        keep_alive(&mut self.items, now);
     }
 
     /// How many records of a router are alive at a moment, in ms; `TooLarge` where they are too many, or too
@@ -157,6 +157,13 @@ impl<A: Memory + Copy> Table<A> {
         records.sort_unstable_by(|one, other| eid_order(one, other));
         Ok(records)
     }
+}
+
+// Takes out the rows that are dead.
+fn keep_alive<A: Allocator>(rows: &mut Vec<Row<A>, A>, now: u64)
+    ensures { rows.new.items ≡ filter (λ h. is_alive h now) rows.old.items }
+{
+    rows.retain(|row| row.alive(now));
 }
 
 // Copies of the rows that are alive, in memory of `alloc`.
