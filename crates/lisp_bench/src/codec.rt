@@ -1,9 +1,12 @@
 //! The codec and the tag, on the 84 byte Map-Register.
 
-use crate::timing::{Work, time};
 use lisp_messages::{MapNotify, Message, authentic, read_message, write_notify};
 use std::alloc::Global;
 use std::rt::Clock;
+use std::time::Instant;
+
+/// How often each is called.
+const CALLS: u32 = 200_000;
 
 /// A Map-Register with one record of one locator, authentic under `SECRET`.
 static REGISTER: [u8; 84] = [
@@ -23,70 +26,58 @@ enum Call {
     WriteNotify,
 }
 
-static CALLS: [(&str, Call); 3] = [
+static NAMES: [(&str, Call); 3] = [
     ("read_message", Call::ReadMessage),
     ("authentic", Call::Authentic),
     ("write_notify", Call::WriteNotify),
 ];
 
-/// So many calls of one kind.
-#[derive(Drop)]
-struct Calls<'a> {
-    alloc: Global,
-    notify: &'a MapNotify,
-    call: Call,
-    count: u32,
-}
-
-impl Calls<'_> {
-    fn is_answered(&self) -> bool {
-        match self.call {
-            Call::ReadMessage => read_message(self.alloc, &REGISTER).is_ok(),
-            Call::Authentic => authentic(&REGISTER, &SECRET),
-            Call::WriteNotify => write_notify(self.alloc, self.notify, &SECRET).is_ok(),
+/// Prints how long each call takes; `None` where anything fails.
+pub(crate) fn measure<R: Print + Clock + AllocGlobal>(rt: &R) -> Option<()> {
+    match read_message(rt.alloc(), &REGISTER) {
+        Ok(Message::Register(register)) => {
+            let notify = MapNotify {
+                ack: false,
+                nonce: register.nonce,
+                key_id: register.key_id,
+                records: register.records,
+            };
+            measure_calls(rt, &notify)
         }
+        _ => None,
     }
 }
 
-impl Work for Calls<'_> {
-    fn prepare(&mut self) -> Option<()> {
-        Some(())
-    }
-
-    fn run(&mut self) -> bool {
-        for _ in 0..self.count {
-            if !self.is_answered() {
-                return false;
-            }
-        }
-        true
-    }
-}
-
-/// Prints how long a call takes, of so many; `None` where anything fails.
-pub(crate) fn measure<R: Print + Clock + AllocGlobal>(rt: &R, count: u32) -> Option<()> {
-    let notify = worked_notify(rt.alloc())?;
-    for (name, call) in &CALLS {
-        let mut calls = Calls {
-            alloc: rt.alloc(),
-            notify: &notify,
-            call: *call,
-            count,
-        };
-        time(rt, name, count, &mut calls)?;
+fn measure_calls<R: Print + Clock + AllocGlobal>(rt: &R, notify: &MapNotify) -> Option<()> {
+    for (name, call) in &NAMES {
+        let nanos = nanos(rt, notify, *call)?;
+        let mean = nanos / u128::from(CALLS);
+        println!(rt; "{name}: {mean} ns, the mean of {CALLS} calls").ok()?;
     }
     Some(())
 }
 
-// The Map-Notify that answers the Map-Register.
-fn worked_notify(alloc: Global) -> Option<MapNotify> {
-    match read_message(alloc, &REGISTER) {
-        Ok(Message::Register(register)) => Some(MapNotify {
-            ack: false,
-            nonce: register.nonce,
-            key_id: register.key_id,
-            records: register.records,
-        }),
-        _ => None,
+// The nanoseconds of all calls; `None` if one gives another answer.
+fn nanos<R: Clock + AllocGlobal>(rt: &R, notify: &MapNotify, call: Call) -> Option<u128> {
+    let Ok(start) = Instant::now(rt) else {
+        return None;
+    };
+    for _ in 0..CALLS {
+        if !is_answered(rt.alloc(), notify, call) {
+            return None;
+        }
+    }
+    match start.elapsed(rt) {
+        Ok(time) => Some(time.as_nanos()),
+        Err(_) => None,
+    }
+}
+
+// Whether the call gives the answer that it should.
+fn is_answered(alloc: Global, notify: &MapNotify, call: Call) -> bool {
+    match call {
+        Call::ReadMessage => read_message(alloc, &REGISTER).is_ok(),
+        Call::Authentic => authentic(&REGISTER, &SECRET),
+        Call::WriteNotify => write_notify(alloc, notify, &SECRET).is_ok(),
     }
 }

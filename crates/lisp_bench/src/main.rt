@@ -1,11 +1,10 @@
-//! Measures the codec and the tag, the reading of configurations, and registrations. The one word is how often each
-//! call of the codec is made; with no word nothing is measured. `make bench` runs it.
+//! Measures the codec and the tag, and registrations at a Map-Server whose store lies in memory, if there is a word; with
+//! no word nothing is measured. `make bench` runs it.
 #![tactic(auto)]
 
 mod codec;
-mod configuration;
-mod registration;
-mod timing;
+mod network;
+mod registers;
 
 use std::rt::{Clock, Env};
 use std::{env, io};
@@ -19,22 +18,16 @@ fn main(rt: HostRuntime) -> io::Result<()> {
 
 // `None` where anything fails.
 fn run<R: Env + Print + Clock + AllocGlobal>(rt: &R) -> Option<()> {
-    let count = count(rt)?;
-    if count == 0 {
-        return Some(());
+    if has_word(rt)? {
+        codec::measure(rt)?;
+        network::measure(rt)?;
     }
-    codec::measure(rt, count)?;
-    configuration::measure(rt)?;
-    registration::measure(rt)
+    Some(())
 }
 
-// How often each call of the codec is made.
-fn count<R: Env + AllocGlobal>(rt: &R) -> Option<u32> {
-    let Ok(mut words) = env::args(rt) else {
-        return None;
-    };
-    match words.nth(1) {
-        Some(word) => word.as_str().parse::<u32>().ok(),
-        None => Some(0),
+fn has_word<R: Env + AllocGlobal>(rt: &R) -> Option<bool> {
+    match env::args(rt) {
+        Ok(words) => Some(words.len() > 1),
+        Err(_) => None,
     }
 }

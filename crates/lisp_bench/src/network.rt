@@ -1,0 +1,150 @@
+//! Registrations at a Map-Server whose store lies in memory.
+
+use crate::registers::{empty_register, host_records};
+use lisp_messages::{MapRegister, write_register};
+use lisp_records::{Addr, Prefix};
+use lisp_served::Sites;
+use lisp_server::Server;
+use lisp_store::MemoryStore;
+use std::alloc::{AllocError, Global};
+use std::rt::Clock;
+use std::time::Instant;
+
+/// How many rows the server holds, and how many records the Map-Register has that is timed. The rows only become more.
+static POINTS: [(u32, u32); 9] = [
+    (1, 1),
+    (1, 10),
+    (1, 255),
+    (1_000, 1),
+    (1_000, 10),
+    (1_000, 255),
+    (100_000, 1),
+    (100_000, 10),
+    (100_000, 255),
+];
+
+/// So many Map-Registers are enough for a mean, or so many nanoseconds.
+const ENOUGH_CALLS: u32 = 1_000;
+
+const ENOUGH_NANOS: u128 = 100_000_000;
+
+/// How many rows one Map-Register brings, until the server holds enough.
+const BLOCK: u32 = 250;
+
+const SECRET: &[u8] = b"secret";
+
+const SOURCE: Addr = Addr::V4([127, 0, 0, 21]);
+
+/// A server, its store, and the last Map-Register that it was sent.
+#[derive(Drop)]
+struct Network {
+    alloc: Global,
+    server: Server,
+    store: MemoryStore,
+    register: MapRegister,
+    datagram: Vec<u8>,
+}
+
+/// Prints how long a registration takes, by the rows that are held and the records that it has; `None` where
+/// anything fails.
+pub(crate) fn measure<R: Print + Clock + AllocGlobal>(rt: &R) -> Option<()> {
+    match Network::new(rt.alloc()) {
+        Ok(mut network) => network.measure(rt),
+        Err(_) => None,
+    }
+}
+
+impl Network {
+    // A server that serves 10.0.0.0/8 and holds nothing.
+    fn new(alloc: Global) -> Result<Network, AllocError> {
+        let prefix = Prefix::new(Addr::V4([10, 0, 0, 0]), 8).unwrap();
+        let sites = Sites::single(alloc, 1, 1, SECRET, prefix, true)?;
+        Ok(Network {
+            alloc,
+            server: Server::start(alloc, sites),
+            store: MemoryStore::new(alloc),
+            register: empty_register(alloc),
+            datagram: Vec::new(alloc),
+        })
+    }
+
+    fn measure<R: Print + Clock>(&mut self, rt: &R) -> Option<()> {
+        let mut before = 0;
+        for (held, records) in &POINTS {
+            self.fill(before / BLOCK, *held / BLOCK)?;
+            before = *held;
+            self.name_hosts(held.saturating_sub(*records), *records)?;
+            self.time(rt, *held, *records)?;
+        }
+        Some(())
+    }
+
+    // Registers the rows of some blocks.
+    fn fill(&mut self, first: u32, end: u32) -> Option<()> {
+        for block in first..end {
+            self.name_hosts(block.saturating_mul(BLOCK), BLOCK)?;
+            self.write()?;
+            if !self.is_accepted() {
+                return None;
+            }
+        }
+        Some(())
+    }
+
+    // The next Map-Registers have a record for each of so many host prefixes from one on.
+    fn name_hosts(&mut self, first: u32, count: u32) -> Option<()> {
+        match host_records(self.alloc, first, count) {
+            Ok(records) if records.as_slice().len() < 256 => {
+                self.register.records = records;
+                Some(())
+            }
+            _ => None,
+        }
+    }
+
+    // Writes a Map-Register with the next nonce.
+    fn write(&mut self) -> Option<()> {
+        self.register.nonce = self.register.nonce.wrapping_add(1);
+        self.datagram = write_register(self.alloc, &self.register, SECRET).ok()?;
+        Some(())
+    }
+
+    // Whether the server accepts the Map-Register.
+    fn is_accepted(&mut self) -> bool {
+        let took = self
+            .server
+            .receive(&mut self.store, SOURCE, &self.datagram, 0);
+        took.is_ok()
+    }
+
+    // Prints how long a registration takes.
+    fn time<R: Print + Clock>(&mut self, rt: &R, held: u32, records: u32) -> Option<()> {
+        let (mut calls, mut nanos) = (0_u32, 0_u128);
+        for _ in 0..ENOUGH_CALLS {
+            if nanos >= ENOUGH_NANOS {
+                break;
+            }
+            nanos = nanos.saturating_add(self.nanos(rt)?);
+            calls = calls.saturating_add(1);
+        }
+        let mean = nanos / u128::from(calls.max(1));
+        println!(rt;
+            "{held} rows held, {records} records: {mean} ns, the mean of {calls} calls"
+        ).ok()
+    }
+
+    // The nanoseconds of a registration; `None` if it is refused.
+    fn nanos<R: Clock>(&mut self, rt: &R) -> Option<u128> {
+        self.write()?;
+        let Ok(start) = Instant::now(rt) else {
+            return None;
+        };
+        if !self.is_accepted() {
+            return None;
+        }
+        match start.elapsed(rt) {
+            Ok(time) => Some(time.as_nanos()),
+            Err(_) => None,
+        }
+    }
+}
