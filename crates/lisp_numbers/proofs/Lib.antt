@@ -1,0 +1,2 @@
+mod Writing
+mod Known

@@ -1,0 +1,4 @@
+pub mod Fault
+pub mod Table
+pub mod Numbers
+pub mod Document

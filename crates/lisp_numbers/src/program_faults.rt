@@ -1,0 +1,114 @@
+//! The faults of sockets, and of the program.
+
+use crate::row::{HEADER, Row, STATUS_HEADER, Section};
+
+/// What a socket refuses.
+pub(crate) const SOCKET_FAULTS: Section = Section {
+    title: "Refusals of a socket",
+    introduction: "What a socket refuses in `lispd server`, `lispd router` and `lispd loop`: `refused NAME N`, and the program goes on. A
+datagram that is not sent is lost, as any may be: a Map-Register and a notice are sent again when they are due.",
+    header: HEADER,
+    rows: &[
+        Row {
+            number: 90,
+            carried: "",
+            name: "",
+            meaning: "a receive failed",
+            status: "",
+            remedy: "nothing, if it is rare; else check the network interface of the address",
+        },
+        Row {
+            number: 91,
+            carried: "",
+            name: "",
+            meaning: "a send failed",
+            status: "",
+            remedy: "check the route to the other node, and that its address is of the same family",
+        },
+    ],
+};
+
+/// What ends the program.
+pub(crate) const PROGRAM_FAULTS: Section = Section {
+    title: "Faults of the program",
+    introduction: "`lispd: fault N`. Standard error has exactly this line, if it is not a terminal. On a terminal further lines follow, in
+words: what is wrong and what to do; for a bad value, which option it is and what it takes.
+
+Words that `clap` refuses (an unknown subcommand or option, or one given twice) are reported in its own text on standard
+error, with status 2. Help and the version, if asked for, go to standard output, with status 0.",
+    header: STATUS_HEADER,
+    rows: &[
+        Row {
+            number: 87,
+            carried: "",
+            name: "Read",
+            meaning: "standard input or the file CONFIG or FILE can't be read, or took too many reads",
+            status: "1",
+            remedy: "check the input",
+        },
+        Row {
+            number: 88,
+            carried: "",
+            name: "Write",
+            meaning: "standard output can't be written: the answer, the lines of the events, or the help, the version or the explanation that was asked for",
+            status: "1",
+            remedy: "check where the output goes",
+        },
+        Row {
+            number: 89,
+            carried: "",
+            name: "TooLong",
+            meaning: "the line of `lispd answer`, or the file CONFIG or FILE, has more than 1,048,576 bytes",
+            status: "1",
+            remedy: "give one message on one line; a shorter configuration or script",
+        },
+        Row {
+            number: 92,
+            carried: "",
+            name: "",
+            meaning: "no socket can be bound at the node's address and UDP port 4342, or the clock can't be read",
+            status: "1",
+            remedy: "check that the address is one of this machine, and that no other process has the port there",
+        },
+        Row {
+            number: 93,
+            carried: "",
+            name: "File",
+            meaning: "a file or a folder can't be opened or made, or another process has the node's folder: it is locked",
+            status: "1",
+            remedy: "check its name and its permissions; end the other process",
+        },
+        Row {
+            number: 95,
+            carried: "",
+            name: "NotUtf8",
+            meaning: "the file CONFIG or FILE is not UTF-8",
+            status: "2",
+            remedy: "save it as UTF-8",
+        },
+        Row {
+            number: 96,
+            carried: "",
+            name: "NoScript",
+            meaning: "no line of the schedule is `---`",
+            status: "2",
+            remedy: "put one between the configuration and the script",
+        },
+        Row {
+            number: 97,
+            carried: "",
+            name: "OutOfMemory",
+            meaning: "out of memory in a call that has no number of its own for it, as for the command line, a file, or the text of a line; an event may have been taken whose line is not printed",
+            status: "1",
+            remedy: "give the process more memory",
+        },
+        Row {
+            number: 98,
+            carried: "",
+            name: "",
+            meaning: "a bad value for an option (`--site`, `--key`, `--secret`, `--prefix`, `--turns`), a number that `lispd explain` does not know, or a command line that is not UTF-8",
+            status: "2",
+            remedy: "see `lispd --help`, and the help of the subcommand",
+        },
+    ],
+};

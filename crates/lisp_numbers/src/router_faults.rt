@@ -1,0 +1,129 @@
+//! The faults and refusals of a router.
+
+use crate::row::{HEADER, Row, Section};
+
+/// What keeps a router from starting.
+pub(crate) const START_FAULTS: Section = Section {
+    title: "Faults of a router that starts",
+    introduction: "They end `lispd router`, with status 1. In `lispd play` and `lispd loop` they keep a network from being made (76), and
+`restart` prints them as `refused NAME N`: the router is down then, and `send` and `deliver` say so. 36 comes first.",
+    header: HEADER,
+    rows: &[
+        Row {
+            number: 36,
+            carried: "",
+            name: "OutOfMemory",
+            meaning: "out of memory; the store is unchanged",
+            status: "",
+            remedy: "give the process more memory",
+        },
+        Row {
+            number: 35,
+            carried: "store F",
+            name: "Store",
+            meaning: "the last nonce can't be loaded from the store; F is a fault of a store",
+            status: "",
+            remedy: "`lispd explain F` says what to do (F is 30, 31 or 32); then start the router again",
+        },
+    ],
+};
+
+/// What keeps a router from sending.
+pub(crate) const SEND_FAULTS: Section = Section {
+    title: "Faults of a router that sends",
+    introduction: "What keeps a router from sending a Map-Register: `refused NAME N`. The first that applies is given, in this order. The
+router is unchanged; `lispd router` tries again in its next turn.",
+    header: HEADER,
+    rows: &[
+        Row {
+            number: 40,
+            carried: "",
+            name: "NoServer",
+            meaning: "the router has no Map-Server with that number",
+            status: "",
+            remedy: "name a Map-Server of the router",
+        },
+        Row {
+            number: 41,
+            carried: "",
+            name: "NonceSpent",
+            meaning: "the last nonce is 2^63 - 1 or more",
+            status: "",
+            remedy: "give the router a new key",
+        },
+        Row {
+            number: 48,
+            carried: "",
+            name: "OutOfMemory",
+            meaning: "out of memory to build the Map-Register",
+            status: "",
+            remedy: "give the process more memory",
+        },
+        Row {
+            number: 42,
+            carried: "store F",
+            name: "Store",
+            meaning: "the nonce can't be saved; with F 30 it may or may not have been saved; F is a fault of a store",
+            status: "",
+            remedy: "`lispd explain F` says what to do; the next send tries the same nonce again",
+        },
+    ],
+};
+
+/// What a router refuses.
+pub(crate) const ROUTER_REFUSALS: Section = Section {
+    title: "Refusals of a router",
+    introduction: "What a router refuses of what it receives: `refused NAME N`. The first that applies is given, in this order; 48 may come in
+place of any answer except a fault of the first 32 bytes. The router is unchanged.",
+    header: HEADER,
+    rows: &[
+        Row {
+            number: 43,
+            carried: "read F",
+            name: "Read",
+            meaning: "the bytes are not a message; F is the first fault, of the section on messages",
+            status: "",
+            remedy: "check what sends to this port",
+        },
+        Row {
+            number: 44,
+            carried: "",
+            name: "NotMine",
+            meaning: "not a Map-Notify, or not from the address of one of the router's Map-Servers",
+            status: "",
+            remedy: "check the addresses of the Map-Servers",
+        },
+        Row {
+            number: 45,
+            carried: "",
+            name: "WrongKey",
+            meaning: "the Key ID is not the router's",
+            status: "",
+            remedy: "give both the same key",
+        },
+        Row {
+            number: 46,
+            carried: "",
+            name: "BadAuth",
+            meaning: "the Authentication Data is not the tag of the message under the router's secret",
+            status: "",
+            remedy: "compare the secrets; if they agree, the message was changed on its way or is forged",
+        },
+        Row {
+            number: 47,
+            carried: "latest N",
+            name: "Stale",
+            meaning: "the nonce is below 2^63 and is not N, that of the last Map-Register to that Map-Server; N is 0 if none was sent since the start",
+            status: "",
+            remedy: "nothing, if it is rare: a late answer",
+        },
+        Row {
+            number: 48,
+            carried: "",
+            name: "OutOfMemory",
+            meaning: "out of memory to read the message, or to answer a notice",
+            status: "",
+            remedy: "give the process more memory",
+        },
+    ],
+};

@@ -1,0 +1,125 @@
+//! The refusals of a Map-Server.
+
+use crate::row::{HEADER, Row, Section};
+
+/// What a Map-Server refuses.
+pub(crate) const SERVER_REFUSALS: Section = Section {
+    title: "Refusals of a message",
+    introduction: "`lispd answer` prints `refused N`; `lispd play`, `lispd server` and `lispd loop` print `refused NAME N`, with the name of the
+Map-Server. It gives the first that applies, in this order:
+
+- for any message, 50;
+- for a Map-Notify, then 61;
+- for a Map-Notify-Ack, then 60, 53;
+- for a Map-Register, then 51, 52, 53, 54, 55, 56, 57, 58, 59.
+
+Out of memory while reading is 58 too, and comes before any check. A refusal leaves rows, nonces and notices in memory
+unchanged.",
+    header: HEADER,
+    rows: &[
+        Row {
+            number: 50,
+            carried: "read F",
+            name: "Read",
+            meaning: "the bytes are not a message; F is the first fault, of the section on messages",
+            status: "",
+            remedy: "check what sends to this port; for `read 1`, also whether datagrams are cut on the way",
+        },
+        Row {
+            number: 51,
+            carried: "",
+            name: "UnknownSite",
+            meaning: "no such Site-ID is configured",
+            status: "",
+            remedy: "configure the site, or correct the router's Site-ID",
+        },
+        Row {
+            number: 52,
+            carried: "",
+            name: "UnknownKey",
+            meaning: "the site has no secret for the Key ID",
+            status: "",
+            remedy: "configure the key, or correct the router's Key ID",
+        },
+        Row {
+            number: 53,
+            carried: "",
+            name: "BadAuth",
+            meaning: "the Authentication Data is not the tag of the message under that secret; for a Map-Notify-Ack, under the secret of the unsolicited Map-Notify (notice) that it is for",
+            status: "",
+            remedy: "compare the secrets; if they agree, the message was changed on its way or is forged",
+        },
+        Row {
+            number: 54,
+            carried: "",
+            name: "MergeAsked",
+            meaning: "the merge bit is set",
+            status: "",
+            remedy: "turn merging off at the router",
+        },
+        Row {
+            number: 55,
+            carried: "record I",
+            name: "NotAllowed",
+            meaning: "the prefix of record I (from 0) is not one that the site may register",
+            status: "",
+            remedy: "add the prefix to the site, or allow more-specifics there, or correct the router's database",
+        },
+        Row {
+            number: 56,
+            carried: "store F",
+            name: "StoreLoad",
+            meaning: "the last nonce of the router under that key can't be loaded from the store; F is a fault of a store",
+            status: "",
+            remedy: "`lispd explain F` says what to do; the router will register again",
+        },
+        Row {
+            number: 57,
+            carried: "saved N",
+            name: "Replay",
+            meaning: "the nonce is not above N: the last one accepted from that router under that key since the start, or the value loaded from the store if none was accepted",
+            status: "",
+            remedy: "nothing, if it is rare: a repeated or late message. If each message is refused, the router lost its nonces: give it a new key",
+        },
+        Row {
+            number: 58,
+            carried: "",
+            name: "OutOfMemory",
+            meaning: "out of memory to read the message, to hold its records or to build its answer",
+            status: "",
+            remedy: "give the process more memory; nothing was changed",
+        },
+        Row {
+            number: 59,
+            carried: "store F",
+            name: "StoreSave",
+            meaning: "the nonce can't be saved: with F 30 it may or may not have been saved, with F 32 it was not; rows and nonces in memory are unchanged",
+            status: "",
+            remedy: "`lispd explain F` says what to do; the router will register again",
+        },
+        Row {
+            number: 60,
+            carried: "",
+            name: "NoNotice",
+            meaning: "a Map-Notify-Ack that no standing notice waits for: none that went to its source address has its key and nonce",
+            status: "",
+            remedy: "nothing: a late or repeated acknowledgement",
+        },
+        Row {
+            number: 61,
+            carried: "",
+            name: "NotMine",
+            meaning: "a Map-Notify, which is for routers",
+            status: "",
+            remedy: "check what sends to this port",
+        },
+        Row {
+            number: 94,
+            carried: "",
+            name: "",
+            meaning: "the line of `lispd answer` is not hexadecimal text",
+            status: "",
+            remedy: "give an even number of hexadecimal digits",
+        },
+    ],
+};
