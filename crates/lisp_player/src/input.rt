@@ -16,10 +16,7 @@ const MOST_READS: u32 = 2_097_152;
 
 /// The bytes of the input, to its end. `TooLong` where they are more than 1,048,576; `Read` where a read fails, or
 /// 2,097,152 reads are not enough.
-pub(crate) fn read_to_end<A: Memory, R: Read>(
-    alloc: A,
-    reader: &mut R,
-) -> Result<Vec<u8, A>, PlayFault>
+pub fn read_to_end<A: Memory, R: Read>(alloc: A, reader: &mut R) -> Result<Vec<u8, A>, PlayFault>
     ensures whole { IfOk result (λ bytes. IfSome (R.remaining reader.old) (λ input. bytes.items ≡ input)) }
     ensures short { IfOk result (λ bytes. vec_len bytes ≤ most_bytes) }
     ensures memory { IsErrOf result PlayFault.OutOfMemory → A.may_refuse }

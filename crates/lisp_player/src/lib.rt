@@ -5,5 +5,6 @@ mod input;
 mod parts;
 mod schedule;
 
+pub use input::read_to_end;
 pub use lisp_playing::{Command, PlayFault, ScriptFault, ScriptWhat, play_on, write_line};
 pub use schedule::play;

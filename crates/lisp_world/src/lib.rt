@@ -20,4 +20,5 @@ mod world;
 pub use fault::WorldFault;
 pub use lisp_nodes::Datagram;
 pub use lisp_schedules::{Event, Line, Refusal};
+pub use new::router_node;
 pub use world::World;

@@ -202,6 +202,23 @@ where
     Ok(ServerNode::start(alloc, sites, store))
 }
 
+/// The router at a place of the configuration over its store, not yet started.
+pub fn router_node<S: WorldStore, A: Memory + Copy, E: Allocator>(
+    alloc: A,
+    config: &Config<E>,
+    place: usize,
+    store: S,
+) -> Result<RouterNode<S, A>, AllocError>
+where
+    S: Drop,
+    requires { place < length config.now.routers }
+    ensures router { IfOk result (λ n. IsRouterOver config.now place (S.seen store) n) }
+    ensures memory { OnErr result A.may_refuse }
+{
+    let addresses = addresses(alloc, config)?;
+    router(alloc, config, &addresses, place, store)
+}
+
 // The router at a place of the configuration over its store, not yet started.
 fn router<S: WorldStore, A: Memory + Copy, E: Allocator>(
     alloc: A,

@@ -1,0 +1,75 @@
+//! The UDP socket of a node.
+
+use crate::fault::RunFault;
+use lisp_records::Addr;
+use std::io::{self, ErrorKind};
+use std::net::{IpAddr, Ipv4Addr, Ipv6Addr, Net, SocketAddr, UdpSocket};
+use std::time::Duration;
+
+/// The UDP port of LISP control messages (RFC 9301 section 4).
+const PORT: u16 = 4342;
+
+/// How long a turn of a node waits for a datagram, in ms.
+pub(crate) const TURN: u64 = 100;
+
+/// How long a delivery waits for its datagram, in ms.
+pub(crate) const DELIVERY: u64 = 1_000;
+
+/// The most bytes of a datagram.
+pub(crate) const MOST_BYTES: usize = 65_535;
+
+/// A socket at a node's address.
+#[derive(Drop)]
+pub(crate) struct Endpoint {
+    socket: UdpSocket,
+}
+
+impl Endpoint {
+    /// A socket at the address, UDP port 4342, which waits so long for a datagram, in ms. Fault: 92.
+    pub(crate) fn bind<R: Net>(
+        rt: &R,
+        address: &Addr,
+        patience: u64,
+    ) -> Result<Endpoint, RunFault> {
+        let Ok(socket) = UdpSocket::bind(rt, at(address)) else {
+            return Err(RunFault::BIND);
+        };
+        match socket.set_read_timeout(Some(Duration::from_millis(patience))) {
+            Ok(()) => Ok(Endpoint { socket }),
+            Err(_) => Err(RunFault::BIND),
+        }
+    }
+
+    /// The next datagram, taken into `buffer`, and the address that it comes from; `None` where none came in time.
+    pub(crate) fn receive<'b>(&self, buffer: &'b mut [u8]) -> io::Result<Option<(Addr, &'b [u8])>> {
+        match self.socket.recv_from(buffer) {
+            Ok((count, from)) => Ok(Some((address_of(&from), &buffer[..count]))),
+            Err(error) => match error.kind() {
+                ErrorKind::WouldBlock | ErrorKind::TimedOut | ErrorKind::Interrupted => Ok(None),
+                _ => Err(error),
+            },
+        }
+    }
+
+    /// Sends a message to an address, UDP port 4342.
+    pub(crate) fn send(&self, to: &Addr, message: &[u8]) -> io::Result<()> {
+        self.socket.send_to(message, at(to))?;
+        Ok(())
+    }
+}
+
+// The address with the port of LISP control messages.
+fn at(address: &Addr) -> SocketAddr {
+    let ip = match address {
+        Addr::V4(octets) => IpAddr::V4(Ipv4Addr::from_octets(*octets)),
+        Addr::V6(octets) => IpAddr::V6(Ipv6Addr::from_octets(*octets)),
+    };
+    SocketAddr::new(ip, PORT)
+}
+
+fn address_of(socket: &SocketAddr) -> Addr {
+    match socket.ip() {
+        IpAddr::V4(ip) => Addr::V4(ip.octets()),
+        IpAddr::V6(ip) => Addr::V6(ip.octets()),
+    }
+}

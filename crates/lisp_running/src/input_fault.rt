@@ -1,0 +1,38 @@
+//! Why a file can't be taken as an input.
+
+use lisp_playing::PlayFault;
+use lisp_sites::ConfigFault;
+use std::alloc::{AllocError, AllocFailed};
+
+/// Why a file can't be taken as a configuration or a script, or what is understood of it can't be printed.
+#[derive(Clone, Copy, Debug, PartialEq, Eq)]
+pub enum InputFault {
+    /// The file can't be opened.
+    File,
+    /// It can't be read, or it isn't what it should be; or printing or memory failed.
+    Input(PlayFault),
+}
+
+impl From<PlayFault> for InputFault {
+    fn from(fault: PlayFault) -> InputFault {
+        InputFault::Input(fault)
+    }
+}
+
+impl From<ConfigFault> for InputFault {
+    fn from(fault: ConfigFault) -> InputFault {
+        InputFault::Input(PlayFault::Config(fault))
+    }
+}
+
+impl From<AllocError> for InputFault {
+    fn from(_error: AllocError) -> InputFault {
+        InputFault::Input(PlayFault::OutOfMemory)
+    }
+}
+
+impl<T: Drop> From<AllocFailed<T>> for InputFault {
+    fn from(_failed: AllocFailed<T>) -> InputFault {
+        InputFault::Input(PlayFault::OutOfMemory)
+    }
+}

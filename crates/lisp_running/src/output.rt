@@ -1,0 +1,70 @@
+//! What is printed: each line at once, so that a pipe sees it.
+
+use crate::fault::RunFault;
+use lisp_playing::{PlayFault, write_line};
+use lisp_schedules::Line;
+use lisp_sites::Config;
+use std::alloc::Global;
+use std::io::Write;
+
+/// A call of a socket.
+#[derive(Clone, Copy)]
+pub(crate) enum Call {
+    Receive,
+    Send,
+}
+
+impl Call {
+    // The number that operators see where it fails.
+    const fn number(self) -> u16 {
+        match self {
+            Call::Receive => 90,
+            Call::Send => 91,
+        }
+    }
+}
+
+/// Prints the line of an event, without a datagram's number. Faults: 88, 97.
+pub(crate) fn print_line<W: Write>(
+    alloc: Global,
+    config: &Config,
+    line: &Line,
+    writer: &mut W,
+) -> Result<(), RunFault> {
+    write_line(alloc, config, line, false, writer)?;
+    flush(writer)
+}
+
+/// Prints that a datagram didn't arrive: false. Fault: 88.
+pub(crate) fn print_lost<W: Write>(datagram: usize, writer: &mut W) -> Result<bool, RunFault> {
+    match writeln!(writer, "lost {datagram}") {
+        Ok(()) => not_arrived(writer),
+        Err(_) => Err(RunFault::from(PlayFault::Write)),
+    }
+}
+
+/// Prints that a call of a node's socket failed: nothing arrived there, false. Fault: 88.
+pub(crate) fn print_failed<W: Write>(
+    name: &str,
+    call: Call,
+    writer: &mut W,
+) -> Result<bool, RunFault> {
+    let number = call.number();
+    match writeln!(writer, "refused {name} {number}") {
+        Ok(()) => not_arrived(writer),
+        Err(_) => Err(RunFault::from(PlayFault::Write)),
+    }
+}
+
+fn not_arrived<W: Write>(writer: &mut W) -> Result<bool, RunFault> {
+    flush(writer)?;
+    Ok(false)
+}
+
+/// What was printed goes out. Fault: 88.
+pub(crate) fn flush<W: Write>(writer: &mut W) -> Result<(), RunFault> {
+    match writer.flush() {
+        Ok(()) => Ok(()),
+        Err(_) => Err(RunFault::from(PlayFault::Write)),
+    }
+}
