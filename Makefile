@@ -1,16 +1,20 @@
 # make run      answers a sample Map-Register, proved or not: one to two minutes on a fresh machine
 # make lispd    proves the program and builds it as out/lispd
+# make demo     a Map-Server and two routers on loopback, of which the Map-Server is killed and comes back: some seconds
 # make test     the gate: proves everything from nothing, tries the wrong bodies, runs the tests and the samples
 # make mutants  tries further wrong bodies; NAME=lisp_server those of one crate
-# make bench    measures the codec, the tag, the reading of configurations, registrations, and plays (of these out/lispd)
+# make bench    measures the codec, the tag and registrations; and of out/lispd the reading of configurations, and plays
 # make clean    removes what was built
-.PHONY: run lispd test mutants bench clean
+.PHONY: run lispd demo test mutants bench clean
 
 run:
 	@tools/run
 
 lispd:
 	@tools/build
+
+demo: lispd
+	@tools/demo
 
 # No crate may use lisp_memory's own proof that the machine's memory may be refused: grep prints the files that do.
 # One processor for each crate: several for one crate would take half as much processor time again.
@@ -24,7 +28,7 @@ mutants:
 
 bench: lispd
 	@mkdir -p out
-	@cd crates/lisp_bench && rt run -- 200000 2> ../../out/bench.log || { cat ../../out/bench.log >&2; exit 1; }
+	@cd crates/lisp_bench && rt run -- measure 2> ../../out/bench.log || { cat ../../out/bench.log >&2; exit 1; }
 	@tools/bench_play
 
 clean:

@@ -1,8 +1,8 @@
 #!/bin/sh
 # check.sh [PROGRAM]
 # Runs the program (out/lispd, where none is named) over the cases of answers.txt, the schedules, the lines of
-# refused.txt, and files that can't be read or written. Prints each run that differs from what is wanted, and ends with 1
-# where one does.
+# refused.txt, files that can't be read or written, and on sockets and files (running.py). Prints each run that differs
+# from what is wanted, and ends with 1 where one does.
 case ${1-} in
     '') program=../out/lispd ;;
     /*) program=$1 ;;
@@ -107,6 +107,8 @@ expect 'a directory as a schedule' 1 '' 'lispd: fault 87' play .
 head -c 1048577 /dev/zero | tr '\0' '#' > ../out/long
 expect 'a schedule of 1,048,577 bytes' 1 '' 'lispd: fault 89' play ../out/long
 expect 'a directory as input' 1 '' 'lispd: fault 87' < .
+head -c 1048576 /dev/zero | tr '\0' z > ../out/long
+expect 'a line of 1,048,576 bytes' 0 'refused 94' '' < ../out/long
 head -c 1048577 /dev/zero | tr '\0' 0 > ../out/long
 expect 'a line of 1,048,577 bytes' 1 '' 'lispd: fault 89' < ../out/long
 
@@ -123,5 +125,18 @@ fills
 fills play schedules/01-exchange.schedule
 fills --help
 fills --version
+
+expect 'a configuration that is checked' 0 @checked.txt '' check configuration.toml
+sed 's/"0000000000000001"/"1"/' configuration.toml > ../out/configuration.toml
+expect 'a configuration with a fault' 2 \
+    'fault 22: site.id has a bad value: a Site-ID is a text of 16 hexadecimal digits, and a router'"'"'s is that of a site' \
+    'lispd: fault 22' check ../out/configuration.toml
+expect 'a configuration that is not there' 1 '' 'lispd: fault 93' check no-such.toml
+expect 'every number explained' 0 @../docs/REFUSALS.md '' explain
+expect 'a number explained' 0 '*' '' explain 57
+expect 'a number of nothing' 2 '' 'lispd: fault 98' explain 69
+expect 'no number' 2 '' 'lispd: fault 98' explain x
+
+./running.py "$program" || failed=1
 
 exit $failed

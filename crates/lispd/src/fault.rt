@@ -6,7 +6,9 @@ ghost use Rattle.lispd.specs.Fault.{setup_fault_number, setup_fault_status, prog
 
 use crate::option::AnswerOption;
 use lisp_answer::AnswerFault;
+use lisp_numbers::ExplainFault;
 use lisp_playing::PlayFault;
+use lisp_running::{InputFault, RunFault};
 use std::alloc::AllocError;
 use thiserror::Error;
 
@@ -68,35 +70,48 @@ pub enum ProgramFault {
     /// The file can't be opened.
     #[error("the file can't be opened")]
     File,
-    /// The schedule was not played to its end.
+    /// The schedule was not played to its end, or the configuration is faulty.
     #[error(transparent)]
     Play(#[from] PlayFault),
+    /// `--turns` has another form than it takes.
+    #[error("--turns takes a whole number from 0 to 4294967295")]
+    Turns,
+    /// A node or network on sockets and files ended before its end.
+    #[error("the program stopped")]
+    Run(#[from] RunFault),
+    /// The number has another form than `explain` takes, is that of nothing, or its text can't be written.
+    #[error(transparent)]
+    Explain(#[from] ExplainFault),
 }
 
 impl ProgramFault {
-    /// The number that operators see: `Words` 98, `File` 93, or that of the fault inside.
+    /// The number that operators see: `Words` and `Turns` 98, `File` 93, or that of the fault inside.
     pub const fn number(&self) -> u16
         ensures { result ≡ program_fault_number self.now }
     {
         match self {
-            ProgramFault::Words => 98,
+            ProgramFault::Words | ProgramFault::Turns => 98,
             ProgramFault::Setup(fault) => fault.number(),
             ProgramFault::Answer(fault) => fault.number(),
             ProgramFault::File => 93,
             ProgramFault::Play(fault) => fault.number(),
+            ProgramFault::Run(fault) => fault.number,
+            ProgramFault::Explain(fault) => fault.number(),
         }
     }
 
-    /// The exit status: `Words` 2, `File` 1, or that of the fault inside.
-    pub const fn status(&self) -> u8
+    /// The exit status: `Words` and `Turns` 2, `File` 1, or that of the fault inside.
+    pub fn status(&self) -> u8
         ensures { result ≡ program_fault_status self.now }
     {
         match self {
-            ProgramFault::Words => 2,
+            ProgramFault::Words | ProgramFault::Turns => 2,
             ProgramFault::Setup(fault) => fault.status(),
             ProgramFault::Answer(fault) => fault.status(),
             ProgramFault::File => 1,
             ProgramFault::Play(fault) => fault.status(),
+            ProgramFault::Run(fault) => fault.status(),
+            ProgramFault::Explain(fault) => fault.status(),
         }
     }
 
@@ -106,7 +121,17 @@ impl ProgramFault {
     {
         match self {
             ProgramFault::Play(fault) => fault.line(),
+            ProgramFault::Run(fault) => fault.line(),
             _ => None,
+        }
+    }
+}
+
+impl From<InputFault> for ProgramFault {
+    fn from(fault: InputFault) -> ProgramFault {
+        match fault {
+            InputFault::File => ProgramFault::File,
+            InputFault::Input(fault) => ProgramFault::Play(fault),
         }
     }
 }

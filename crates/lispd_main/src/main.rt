@@ -2,22 +2,24 @@
 #![tactic(auto)]
 
 mod command_line;
+mod help;
+mod report;
+mod subcommands;
 
-use crate::command_line::{FILE, command};
-use clap::ArgMatches;
+use crate::command_line::command;
+use crate::report::report;
+use crate::subcommands::run_subcommand;
 use clap::error::ErrorKind as WordsErrorKind;
-use lisp_player::{PlayFault, play};
-use lispd::{AnswerFault, ProgramFault, SetupFault, advice, answer, setup};
-use std::fs;
-use std::io::{self, BufReader, ErrorKind, IsTerminal, Read};
+use lispd::{AnswerFault, ProgramFault, SetupFault};
+use std::fs::File;
+use std::io::{ErrorKind, IsTerminal};
+use std::net::Net;
 use std::process::ExitCode;
 use std::rt::{Env, Files};
+use std::time::Clock;
 
 /// Out of memory before a subcommand runs.
 const OUT_OF_MEMORY: ProgramFault = ProgramFault::Setup(SetupFault::OutOfMemory);
-
-/// The name of standard input.
-const STANDARD_INPUT: &str = "-";
 
 /// The exit status for words that `clap` refuses.
 const MISUSED: u8 = 2;
@@ -34,9 +36,9 @@ fn main(rt: HostRuntime) -> ExitCode {
 }
 
 // Collects the words, and runs what they ask for.
-fn run<R: Print + Eprint + Input + Files + Env + AllocGlobal>(
-    rt: &R,
-) -> Result<ExitCode, ProgramFault> {
+fn run<
+    R: Print + Eprint + Input + Files<File = File> + Env + Net + Clock + AllocGlobal + Clone + Drop,
+>(rt: &R) -> Result<ExitCode, ProgramFault> {
     let words = match std::env::args(rt) {
         Ok(words) => words,
         Err(error) if error.kind() == ErrorKind::OutOfMemory => return Err(OUT_OF_MEMORY),
@@ -49,55 +51,16 @@ fn run<R: Print + Eprint + Input + Files + Env + AllocGlobal>(
     }
 }
 
-fn run_words<R: Print + Eprint + Input + Files + AllocGlobal>(
-    rt: &R,
-    words: &[String],
-) -> Result<ExitCode, ProgramFault> {
+fn run_words<
+    R: Print + Eprint + Input + Files<File = File> + Net + Clock + AllocGlobal + Clone + Drop,
+>(rt: &R, words: &[String]) -> Result<ExitCode, ProgramFault> {
     let Ok(command) = command(rt.alloc()) else {
         return Err(OUT_OF_MEMORY);
     };
     match command.try_get_matches_from(words) {
-        Ok(matches) => match matches.subcommand_matches("play") {
-            Some(words) => run_play(rt, words.get_str(FILE).unwrap_or(STANDARD_INPUT)),
-            None => run_answer(rt, matches.subcommand_matches("answer")),
-        },
+        Ok(matches) => run_subcommand(rt, &matches),
         Err(error) => print_words_error(rt, &error),
     }
-}
-
-// Answers the line on standard input, with the options that were given.
-fn run_answer<R: Print + Input + AllocGlobal>(
-    rt: &R,
-    matches: Option<&ArgMatches<'_>>,
-) -> Result<ExitCode, ProgramFault> {
-    let setup = setup(rt.alloc(), matches)?;
-    answer(rt.alloc(), &setup, &mut rt.reader(), &mut io::writer(rt))?;
-    Ok(ExitCode::SUCCESS)
-}
-
-// Plays the schedule of a file.
-fn run_play<R: Print + Input + Files + AllocGlobal>(
-    rt: &R,
-    name: &str,
-) -> Result<ExitCode, ProgramFault> {
-    if name == STANDARD_INPUT {
-        return play_from(rt, &mut rt.reader());
-    }
-    let Ok(file) = fs::open(rt, name) else {
-        return Err(ProgramFault::File);
-    };
-    match BufReader::new(rt.alloc(), file) {
-        Ok(mut reader) => play_from(rt, &mut reader),
-        Err(_) => Err(ProgramFault::Play(PlayFault::OutOfMemory)),
-    }
-}
-
-fn play_from<R: Print + AllocGlobal, T: Read>(
-    rt: &R,
-    reader: &mut T,
-) -> Result<ExitCode, ProgramFault> {
-    play(rt.alloc(), rt.alloc(), reader, &mut io::writer(rt))?;
-    Ok(ExitCode::SUCCESS)
 }
 
 // Prints the help or the version that was asked for, or why `clap` refuses the words.
@@ -115,28 +78,5 @@ fn print_words_error<R: Print + Eprint>(
         Ok(ExitCode::SUCCESS)
     } else {
         Err(ProgramFault::Answer(AnswerFault::Write))
-    }
-}
-
-// Prints the fault's number, and the line of a script; to a terminal also what is wrong, in words.
-fn report<R: Eprint + AllocGlobal>(rt: &R, fault: &ProgramFault, is_terminal: bool) {
-    let number = fault.number();
-    let _ = match fault.line() {
-        Some(line) => eprintln!(rt; "lispd: fault {number} line {line}"),
-        None => eprintln!(rt; "lispd: fault {number}"),
-    };
-    if is_terminal {
-        let _ = match fault {
-            ProgramFault::Play(fault) => print_words(rt, fault),
-            _ => eprintln!(rt; "lispd: {fault}"),
-        };
-    }
-}
-
-// Prints what is wrong with a schedule, and what would be right.
-fn print_words<R: Eprint + AllocGlobal>(rt: &R, fault: &PlayFault) -> io::Result<()> {
-    match advice(fault) {
-        Some(words) => eprintln!(rt; "lispd: {fault}: {words}"),
-        None => eprintln!(rt; "lispd: {fault}"),
     }
 }

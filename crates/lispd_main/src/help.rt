@@ -1,0 +1,71 @@
+//! The texts of the program's help.
+
+/// What `answer` does, for its help.
+pub(crate) const ANSWER_ABOUT: &str =
+    "Answer one Map-Register, given as a line of hexadecimal digits on \
+standard input, as a fresh Map-Server with one site would: the Map-Notify in digits, `accepted` \
+where none is wanted, or `refused` with a number";
+
+/// An example of `answer`, for its help.
+pub(crate) const ANSWER_EXAMPLE: &str = "Example:
+  lispd answer --key 2 --secret 6e6577 --prefix 10.1.0.0/16 --more-specifics < map-register.hex";
+
+/// What `play` does, for its help.
+pub(crate) const PLAY_ABOUT: &str =
+    "Play a schedule over a network of Map-Servers and routers in memory, and print what each event \
+comes to, a line for each";
+
+/// The form of its file, for its help.
+pub(crate) const PLAY_FORM: &str =
+    "The file is a configuration in TOML, a line `---`, and a script with a command on each line:
+  change ROUTER RECORD ..        the router's database is these records, or `empty`
+  send ROUTER SERVER             the router sends a Map-Register
+  deliver NUMBER                 the datagram arrives, perhaps once more
+  junk NODE ADDRESS HEX          bytes from outside arrive at the node
+  tick MS                        time passes
+  restart NODE PICK [RECORD ..]  the node crashes and starts; its store keeps value PICK of those in doubt
+  notice SERVER ROUTER           the Map-Server sends an unsolicited Map-Notify
+  resend SERVER ROUTER           and sends it again
+  hold SERVER, acks ROUTER, ask SERVER ADDRESS, due NODE
+                                 what the node holds, counted, answers, has to send
+`send` and `notice` may end in `doubt`, `deliver` and `notice` in `doubt` or `loadfails`: the node's store fails.
+
+Example:
+  lispd play examples/schedules/01-exchange.schedule";
+
+/// What `server` does, for its help.
+pub(crate) const SERVER_ABOUT: &str =
+    "Run a Map-Server of a configuration at its address, UDP port 4342, and print what each datagram \
+comes to, a line for each";
+
+/// What `router` does, for its help.
+pub(crate) const ROUTER_ABOUT: &str =
+    "Run a site router (ETR) of a configuration at its address, UDP port 4342: it sends Map-Registers \
+when they are due, and prints a line for each event";
+
+/// How long a node runs, for its help.
+pub(crate) const NODE_RUNS: &str =
+    "Each nonce is saved before its message is sent or answered, so a node may be killed at any time \
+(SIGINT and SIGTERM end it at once).
+
+Example:
+  lispd router examples/configuration.toml r1 --store nonces --turns 10";
+
+/// What `loop` does, for its help.
+pub(crate) const LOOP_ABOUT: &str =
+    "Play a script over a network of a configuration whose datagrams go over UDP, and whose nodes keep \
+their nonces in files";
+
+/// What a delivery is there, for its help.
+pub(crate) const LOOP_FORM: &str =
+    "The script is as in `lispd play --help`, in a file of its own. `deliver NUMBER` takes the next datagram that \
+comes to where that datagram was sent, and prints `lost NUMBER` where it is another or none comes in a second.";
+
+/// What `check` does, for its help.
+pub(crate) const CHECK_ABOUT: &str =
+    "Read a configuration, and print what was understood: a line for each site, Map-Server and router";
+
+/// What `explain` does, for its help.
+pub(crate) const EXPLAIN_ABOUT: &str =
+    "Explain the number of a refusal or a fault: what it means, and what to do about it; all of them, \
+where none is given";
