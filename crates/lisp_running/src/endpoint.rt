@@ -6,7 +6,7 @@ use std::io::{self, ErrorKind};
 use std::net::{IpAddr, Ipv4Addr, Ipv6Addr, Net, SocketAddr, UdpSocket};
 use std::time::Duration;
 
-/// The UDP port of LISP control messages (RFC 9301 section 4).
+/// The UDP port of LISP control messages (RFC 9301 section 5).
 const PORT: u16 = 4342;
 
 /// How long a turn of a node waits for a datagram, in ms.

@@ -1,5 +1,5 @@
 //! Nodes on real sockets and files: a Map-Server, a site router, or a whole network, each node with its nonces in a
-//! folder and a UDP socket at its address (RFC 9301 section 4: port 4342); and what was understood of a configuration.
+//! folder and a UDP socket at its address (RFC 9301 section 5: port 4342); and what was understood of a configuration.
 #![tactic(auto)]
 
 mod check;
