@@ -3,7 +3,7 @@
 # make demo     a Map-Server and two routers on loopback, of which the Map-Server is killed and comes back: some seconds
 # make test     the gate: proves everything from nothing, tries the wrong bodies, runs the tests and the samples
 # make mutants  tries further wrong bodies; NAME=lisp_server those of one crate
-# make bench    measures the codec, the tag and registrations; and of out/lispd the reading of configurations, and plays
+# make bench    measures the codec, the tag and registrations; and of out/lispd the reading of configurations, plays, and a server
 # make clean    removes what was built
 .PHONY: run lispd demo test mutants bench clean
 
@@ -30,6 +30,7 @@ bench: lispd
 	@mkdir -p out
 	@cd crates/lisp_bench && rt run -- measure 2> ../../out/bench.log || { cat ../../out/bench.log >&2; exit 1; }
 	@tools/bench_play
+	@tools/bench_server
 
 clean:
 	rm -rf out crates/*/out
