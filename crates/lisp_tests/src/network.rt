@@ -1,4 +1,4 @@
-//! A network in too little memory: it is made, takes an event, and lists rows, or is refused for want of memory, which changes
+//! A network in too little memory: it is made, takes an event, and lists rows, or is refused as out of memory, which changes
 //! nothing.
 
 use crate::heap::{HEAP_LEN, MOST_BLOCKS, fill, is_refused_then_answers};
