@@ -1,10 +1,11 @@
-//! Measures the codec and the tag, and registrations at a Map-Server whose store lies in memory, if there is a word; with
-//! no word nothing is measured. `make bench` runs it.
+//! Measures the codec and the tag, registrations at a Map-Server whose store lies in memory, and how often a router saves, if
+//! there is a word; with no word nothing is measured. `make bench` runs it.
 #![tactic(auto)]
 
 mod codec;
 mod network;
 mod registers;
+mod saves;
 
 use std::rt::{Clock, Env};
 use std::{env, io};
@@ -21,6 +22,7 @@ fn run<R: Env + Print + Clock + AllocGlobal>(rt: &R) -> Option<()> {
     if has_word(rt)? {
         codec::measure(rt)?;
         network::measure(rt)?;
+        saves::measure(rt)?;
     }
     Some(())
 }

@@ -5,7 +5,7 @@ use Rattle.lisp_records.specs.declared.router.RouterId.{RouterId}
 use Rattle.lisp_store.specs.declared.pair.Pair.{Pair}
 use Rattle.lisp_store.specs.declared.pair.PairKind.TheVariants.{Sent}
 
--- its site and xTR-ID; its key and the secret of it; its Map-Servers; P and T
+-- its site and xTR-ID; its key and the secret of it; its Map-Servers; P and T; how many nonces one save serves
 pub record Settings : Type 0 where
   pub me : RouterId
   pub key_id : ℕ
@@ -13,6 +13,7 @@ pub record Settings : Type 0 where
   pub servers : List Addr
   pub proxy : Bool
   pub use_ttl : Bool
+  pub nonce_block : ℕ
 
 -- what its nonces are kept for
 abbrev pub sent_pair : Settings → Pair

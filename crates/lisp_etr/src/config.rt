@@ -24,6 +24,8 @@ pub struct EtrConfig<A: Allocator = Global> {
     pub proxy: bool,
     /// T: its registrations time out by the TTL of their records.
     pub use_ttl: bool,
+    /// How many nonces one save serves: 1 to 1,024. 0 counts as 1, and more than 1,024 as 1,024.
+    pub nonce_block: u16,
 }
 
 impl<A: Allocator> Model for EtrConfig<A> {
@@ -31,7 +33,7 @@ impl<A: Allocator> Model for EtrConfig<A> {
 
     ghost Value = { Settings };
 
-    ghost view = { λ c. record { me = c.me; key_id = c.key_id; secret = c.secret; servers = c.servers; proxy = c.proxy; use_ttl = c.use_ttl } };
+    ghost view = { λ c. record { me = c.me; key_id = c.key_id; secret = c.secret; servers = c.servers; proxy = c.proxy; use_ttl = c.use_ttl; nonce_block = c.nonce_block } };
 }
 
 impl<A: Allocator> EtrConfig<A> {

@@ -25,12 +25,12 @@ use crate::notify_fault::NotifyFault;
 use crate::round::{Round, begin_all};
 use crate::seen::Seen;
 use crate::send_fault::SendFault;
-use crate::sending::{datagram, keep};
+use crate::sending::{datagram, keep_block};
 use crate::start_fault::{StartFault, StartRefused};
 use lisp_memory::{FallibleCopies, Memory};
 use lisp_messages::MapNotify;
 use lisp_records::{Addr, Bytes, Database};
-use lisp_store::{FIRST_NOTICE_NONCE, LAST_ROUTER_NONCE, NonceStore};
+use lisp_store::{FIRST_NOTICE_NONCE, LAST_ROUTER_NONCE, NonceStore, Pair};
 use std::alloc::{Allocator, Global};
 use std::marker::Model;
 
@@ -41,7 +41,7 @@ pub struct Etr<A: Allocator = Global> {
     config: EtrConfig<A>,
     database: Database<A>,
     last: u64,
-    // What the last save that was done has saved, 0 before: after a restart the store has no less.
+    // What the last save that was done has saved, 0 before: after a restart the store has no less. No nonce above it is sent.
     safe: u64,
     rounds: Vec<Round, A>,
 }
@@ -54,7 +54,7 @@ impl<A: Allocator> Model for Etr<A> {
 
     ghost view = { λ e. record { config = e.config; database = e.database; last = e.last; safe = e.safe; rounds = e.rounds.items } };
 
-    ghost invariant = { λ e. (length e.rounds.items ≡ length e.config.servers) × (e.safe ≤ e.last) };
+    ghost invariant = { λ e. length e.rounds.items ≡ length e.config.servers };
 }
 
 impl<A: Memory + Copy> Etr<A> {
@@ -122,11 +122,12 @@ impl<A: Memory + Copy> Etr<A> {
     }
 
     /// A Map-Register to a Map-Server, by its number, at a time, in ms, of at most 2^62: of the present
-    /// database, under the nonce after the last, which is saved before (RFC 9301 sections 5.6 and 8.2).
+    /// database, under the nonce after the last (RFC 9301 sections 5.6 and 8.2). Before that it saves the end of a
+    /// block of nonces which begins with this one, unless it did so with an earlier nonce of the block.
     ///
     /// It refuses in this order: `NoServer`, `NonceSpent` (the last nonce is 2^63 - 1 or more),
     /// `OutOfMemory`, `Store`. A refusal changes nothing here; at `Store(Device)` it is open whether the store
-    /// keeps the nonce.
+    /// keeps the end of the block.
     pub fn send<S: NonceStore>(
         &mut self,
         store: &mut S,
@@ -166,9 +167,8 @@ impl<A: Memory + Copy> Etr<A> {
         }
         let nonce = self.last + 1;
         let datagram = datagram(self.alloc, &self.config, &self.database, nonce)?;
-        keep(store, &self.config.pair(), nonce)?;
+        self.safe = keep_block(store, &self.config, nonce, self.safe)?;
         self.last = nonce;
-        self.safe = nonce;
         self.rounds[server].send(nonce, now);
         Ok(datagram)
     }
@@ -274,8 +274,21 @@ fn begin<S: NonceStore, A: Memory + Copy>(
     let Ok(rounds) = Vec::try_from_elem(alloc, Round::start(now), servers) else {
         return Err(StartFault::OutOfMemory);
     };
-    match store.load(&config.pair()) {
-        Ok(last) => Ok((rounds, last.unwrap_or(0))),
+    Ok((rounds, load_last(store, &config.pair())?))
+}
+
+// The nonce that the store keeps, 0 where it keeps none; `Store`.
+fn load_last<S: NonceStore>(store: &mut S, pair: &Pair) -> Result<u64, StartFault>
+    ensures last { IsTrue (S.seen store.old).is_honest → IfOk result (λ last. IsKept (kept_at (S.seen store.old).kept pair.now) last) }
+    ensures same { IsTrue (S.seen store.old).is_honest → (S.seen store.new).kept ≡ (S.seen store.old).kept }
+    ensures store { IfErr result (λ fault. (f : StoreFault) × (fault ≡ StartFault.Store f)) }
+    ensures memory { IsErrOf result (StartFault.Store StoreFault.OutOfMemory) → S.may_refuse }
+    ensures refused { IsErrOf result (StartFault.Store StoreFault.OutOfMemory) → S.seen store.new ≡ S.seen store.old }
+    ensures cause { IfErr result (λ fault. (f : StoreFault) → fault ≡ StartFault.Store f → f ≢ StoreFault.OutOfMemory → Rose (S.seen store.old) (S.seen store.new)) }
+    ensures proceeds { Proceeds (S.seen store.old) (S.seen store.new) }
+{
+    match store.load(pair) {
+        Ok(last) => Ok(last.unwrap_or(0)),
         Err(fault) => Err(StartFault::Store(fault)),
     }
 }

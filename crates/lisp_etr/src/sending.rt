@@ -1,11 +1,12 @@
 //! The Map-Registers of a router.
 
-ghost use Rattle.std.specs.Prelude.{◌≡◌, ◌≢◌, [], ◌∷◌, Some, Err, IsTrue, IfOk, IfErr, IsErrOf, OnErr, OnOk};
-ghost use Rattle.lisp_store.specs.Kept.{kept_at, SameElsewhere, InDoubt};
+ghost use Rattle.std.specs.Prelude.{◌≡◌, ◌≢◌, ◌≤◌, [], ◌∷◌, Some, Err, IsTrue, IfOk, IfErr, IsErrOf, OnErr, OnOk};
+ghost use Rattle.lisp_store.specs.Kept.{kept_at, NoneBelow, SameElsewhere, InDoubt};
 ghost use Rattle.lisp_store.specs.Store.{Rose, Proceeds};
 ghost use Rattle.lisp_store.specs.declared.fault.StoreFault.{StoreFault};
 ghost use Rattle.lisp_messages.specs.Message.{IsRegistration};
-ghost use Rattle.lisp_etr.specs.Sending.{datagram_of, registration_of};
+ghost use Rattle.lisp_etr.specs.Config.{sent_pair};
+ghost use Rattle.lisp_etr.specs.Sending.{last_nonce, datagram_of, registration_of, IsBound, Settles, LeavesPair};
 ghost use Rattle.lisp_etr.specs.declared.send_fault.SendFault.{SendFault};
 
 use crate::config::EtrConfig;
@@ -13,8 +14,8 @@ use crate::send_fault::SendFault;
 use lisp_memory::Memory;
 use lisp_messages::{MapRegister, write_register};
 use lisp_records::Database;
-use lisp_store::{NonceStore, Pair};
-use std::alloc::AllocError;
+use lisp_store::{LAST_ROUTER_NONCE, MAX_NONCE_BLOCK, NonceStore, Pair};
+use std::alloc::{AllocError, Allocator};
 
 /// The bytes of the Map-Register of a database under a nonce (RFC 9301 section 5.6).
 pub(crate) fn datagram<A: Memory + Copy>(
@@ -43,8 +44,39 @@ pub(crate) fn datagram<A: Memory + Copy>(
     write_register(alloc, &register, config.secret.as_slice())
 }
 
-/// Saves a nonce before it is sent; `Store`.
-pub(crate) fn keep<S: NonceStore>(store: &mut S, pair: &Pair, nonce: u64) -> Result<(), SendFault>
+/// Saves the end of a block of nonces before a nonce is sent, unless what was saved before is no less than that nonce: after a
+/// restart the router goes on above what was saved. Gives what is saved then; `Store`.
+pub(crate) fn keep_block<S: NonceStore, A: Allocator>(
+    store: &mut S,
+    config: &EtrConfig<A>,
+    nonce: u64,
+    safe: u64,
+) -> Result<u64, SendFault>
+    requires { nonce ≤ last_nonce }
+    ensures safe { IfOk result (λ saved. nonce ≤ saved) }
+    ensures keeps_safe { IsTrue (S.seen store.old).is_honest → NoneBelow safe (kept_at (S.seen store.old).kept (sent_pair config.now)) → IfOk result (λ saved. NoneBelow saved (kept_at (S.seen store.new).kept (sent_pair config.now))) }
+    ensures still_safe { IsTrue (S.seen store.old).is_honest → NoneBelow safe (kept_at (S.seen store.old).kept (sent_pair config.now)) → OnErr result (NoneBelow safe (kept_at (S.seen store.new).kept (sent_pair config.now))) }
+    ensures settles { IsTrue (S.seen store.old).is_honest → OnOk result (Settles (kept_at (S.seen store.old).kept (sent_pair config.now)) (kept_at (S.seen store.new).kept (sent_pair config.now)) nonce last_nonce) }
+    ensures leaves { IsTrue (S.seen store.old).is_honest → OnErr result (LeavesPair (kept_at (S.seen store.old).kept (sent_pair config.now)) (kept_at (S.seen store.new).kept (sent_pair config.now)) nonce) }
+    ensures others { IsTrue (S.seen store.old).is_honest → SameElsewhere (S.seen store.old).kept (S.seen store.new).kept (sent_pair config.now) }
+    ensures store { IfErr result (λ fault. (f : StoreFault) × (fault ≡ SendFault.Store f) × (f ≢ StoreFault.Damaged)) }
+    ensures memory { IsErrOf result (SendFault.Store StoreFault.OutOfMemory) → S.may_refuse }
+    ensures refused { IfErr result (λ fault. fault ≢ SendFault.Store StoreFault.Device → S.seen store.new ≡ S.seen store.old) }
+    ensures cause { IsErrOf result (SendFault.Store StoreFault.Device) → Rose (S.seen store.old) (S.seen store.new) }
+    ensures proceeds { Proceeds (S.seen store.old) (S.seen store.new) }
+{
+    if nonce <= safe {
+        return Ok(safe);
+    }
+    let end = block_end(nonce, config.nonce_block);
+    match keep(store, &config.pair(), end) {
+        Ok(()) => Ok(end),
+        Err(fault) => Err(fault),
+    }
+}
+
+// Saves a nonce; `Store`.
+fn keep<S: NonceStore>(store: &mut S, pair: &Pair, nonce: u64) -> Result<(), SendFault>
     ensures done { IsTrue (S.seen store.old).is_honest → OnOk result (kept_at (S.seen store.new).kept pair.now ≡ Some nonce ∷ []) }
     ensures doubt { IsTrue (S.seen store.old).is_honest → OnErr result (InDoubt (kept_at (S.seen store.old).kept pair.now) (kept_at (S.seen store.new).kept pair.now) nonce) }
     ensures others { IsTrue (S.seen store.old).is_honest → SameElsewhere (S.seen store.old).kept (S.seen store.new).kept pair.now }
@@ -55,4 +87,13 @@ pub(crate) fn keep<S: NonceStore>(store: &mut S, pair: &Pair, nonce: u64) -> Res
     ensures proceeds { Proceeds (S.seen store.old) (S.seen store.new) }
 {
     store.save(pair, nonce).map_err(SendFault::Store)
+}
+
+// The last nonce of a block that begins with a nonce; none is above the last nonce of a router.
+fn block_end(nonce: u64, block: u16) -> u64
+    requires { nonce ≤ last_nonce }
+    ensures { IsBound nonce last_nonce result }
+{
+    let more = u64::from(block.clamp(1, MAX_NONCE_BLOCK)) - 1;
+    (nonce + more).min(LAST_ROUTER_NONCE)
 }

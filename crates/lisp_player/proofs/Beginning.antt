@@ -27,8 +27,9 @@ use Rattle.lisp_script.specs.Spelling.{script_of}
 use Rattle.lisp_script.specs.declared.fault.ScriptFault.{ScriptFault}
 use Rattle.lisp_playing.specs.declared.fault.PlayFault.{PlayFault}
 use Rattle.lisp_playing.specs.declared.fault.PlayFault.TheVariants as faults
-use Rattle.lisp_player.specs.Input.{most_bytes, parted}
+use Rattle.lisp_playing.specs.Input.{most_bytes}
 use Rattle.lisp_playing.specs.Playing.{Wrote, StopsAt}
+use Rattle.lisp_player.specs.Input.{parted}
 use Rattle.lisp_player.specs.Schedule.{script_in, parts_in, schedule_of, playable, asked_for, Refuses, IsEmpty, Begins, IsPlay, PlayedFrom, Played, Stopped}
 
 module _ (input : List ℕ) where

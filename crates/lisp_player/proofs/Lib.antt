@@ -1,3 +1,2 @@
-mod InputLemmas
 mod PartsLemmas
 mod Beginning

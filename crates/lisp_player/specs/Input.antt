@@ -1,12 +1,8 @@
--- Reading an input to its end, and its two parts: a configuration, a line `---`, a script.
+-- The two parts of an input: a configuration, a line `---`, a script.
 use Rattle.std.specs.Prelude.{◌≡◌, ℕ, ◌==◌, Bool, nat_eq, true, List, [], ◌∷◌, ◌++◌, codes, Option, Some, None, if◌then◌else◌}
 use Rattle.std.specs.Cmp.Lexicographic.{pointwise}
 use Rattle.std.specs.List.{join_with_byte, slice_split}
 use Rattle.std.specs.Option.{option_map}
-
--- the most bytes of an input
-abbrev pub most_bytes : ℕ
-most_bytes = 1048576
 
 -- the line between the parts, which may end in a carriage return (13)
 abbrev pub is_mark : List ℕ → Bool

@@ -21,8 +21,9 @@ use Rattle.lisp_script.specs.Order.{Order}
 use Rattle.lisp_script.specs.Spelling.{script_of}
 use Rattle.lisp_playing.specs.declared.fault.PlayFault.{PlayFault}
 use Rattle.lisp_playing.specs.declared.fault.PlayFault.TheVariants as faults
-use Rattle.lisp_player.specs.Input.{most_bytes, parted}
+use Rattle.lisp_playing.specs.Input.{most_bytes}
 use Rattle.lisp_playing.specs.Playing.{Plays, FailsAsAsked}
+use Rattle.lisp_player.specs.Input.{parted}
 
 -- a fault of one kind as one of a play
 abbrev pub as_fault : {X E : Type 0} → (E → PlayFault) → Result X E → Result X PlayFault

@@ -1,10 +1,8 @@
 //! Plays a schedule: a configuration and a script, over a network that begins with stores that keep nothing.
 #![tactic(auto)]
 
-mod input;
 mod parts;
 mod schedule;
 
-pub use input::read_to_end;
 pub use lisp_playing::{Command, PlayFault, ScriptFault, ScriptWhat, play_on, write_line};
 pub use schedule::play;

@@ -10,10 +10,9 @@ ghost use Rattle.lisp_script.specs.Order.{order};
 ghost use Rattle.lisp_player.specs.Schedule.{schedule_of, Refuses, IsSilent, Begins, PlayedFrom, Played, Stopped};
 ghost use Rattle.lisp_playing.specs.declared.fault.PlayFault.TheVariants as faults;
 
-use crate::input::read_to_end;
 use crate::parts::parted;
 use lisp_memory::{FallibleVec, Memory};
-use lisp_playing::{Command, PlayFault, play_on};
+use lisp_playing::{Command, PlayFault, play_on, read_to_end};
 use lisp_script::parse_script;
 use lisp_sites::Config;
 use lisp_store::MemoryStore;

@@ -1,3 +1,4 @@
+mod InputLemmas
 mod Queries
 mod Failures
 pub mod Turning

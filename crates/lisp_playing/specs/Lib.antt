@@ -1,3 +1,4 @@
 pub mod Fault
 pub mod Asked
+pub mod Input
 pub mod Playing

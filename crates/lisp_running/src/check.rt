@@ -20,9 +20,17 @@ pub fn check_config<R: Files + AllocGlobal, W: Write>(
     writer: &mut W,
 ) -> Result<(), InputFault> {
     let config = read_config(rt, path)?;
-    print_sites(rt.alloc(), config.sites().as_slice(), writer)?;
-    print_servers(rt.alloc(), config.servers(), writer)?;
-    print_routers(rt.alloc(), &config, writer)
+    print_config(rt.alloc(), &config, writer)
+}
+
+fn print_config<W: Write>(
+    alloc: Global,
+    config: &Config,
+    writer: &mut W,
+) -> Result<(), InputFault> {
+    print_sites(alloc, config.sites().as_slice(), writer)?;
+    print_servers(alloc, config.servers(), writer)?;
+    print_routers(alloc, config, writer)
 }
 
 fn print_sites<W: Write>(alloc: Global, sites: &[Site], writer: &mut W) -> Result<(), InputFault> {
@@ -136,6 +144,10 @@ fn put_flags(line: &mut String, router: &RouterEntry) -> Result<(), AllocError> 
     }
     if router.use_ttl {
         line.try_write(format_args!(" use-ttl"))?;
+    }
+    if router.nonce_block > 1 {
+        let nonces = router.nonce_block;
+        line.try_write(format_args!(" nonce-block {nonces}"))?;
     }
     Ok(())
 }

@@ -3,8 +3,7 @@
 use crate::fault::RunFault;
 use crate::input_fault::InputFault;
 use lisp_memory::FallibleString;
-use lisp_player::read_to_end;
-use lisp_playing::{Command, PlayFault};
+use lisp_playing::{Command, PlayFault, read_to_end};
 use lisp_script::parse_script;
 use lisp_sites::Config;
 use lisp_store::FileStore;
@@ -68,9 +67,16 @@ pub(crate) fn open_folder<R: Files<File = File> + AllocGlobal + Clone + Drop>(
 ) -> Result<Folder<R>, RunFault> {
     make_folder(rt, dir)?;
     let path = String::try_format(rt.alloc(), format_args!("{dir}/{name}"))?;
-    make_folder(rt, path.as_str())?;
-    let lock = lock_folder(rt, path.as_str())?;
-    let store = FileStore::open(rt, path.as_str())?;
+    open_at(rt, path.as_str())
+}
+
+fn open_at<R: Files<File = File> + AllocGlobal + Clone + Drop>(
+    rt: &R,
+    path: &str,
+) -> Result<Folder<R>, RunFault> {
+    make_folder(rt, path)?;
+    let lock = lock_folder(rt, path)?;
+    let store = FileStore::open(rt, path)?;
     Ok(Folder { store, lock })
 }
 

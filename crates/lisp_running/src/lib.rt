@@ -8,11 +8,14 @@ mod endpoint;
 mod fault;
 mod files;
 mod input_fault;
+mod named;
 mod network;
 mod output;
 mod router;
 mod server;
+mod sockets;
 mod station;
+mod turns;
 
 pub use check::check_config;
 pub use fault::RunFault;

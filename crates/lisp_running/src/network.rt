@@ -2,17 +2,16 @@
 
 ghost use Rattle.std.specs.Prelude.{◌≡◌, ◌+◌, IfOk, OnOk, length};
 
-use crate::endpoint::{DELIVERY, Endpoint, MOST_BYTES};
 use crate::fault::RunFault;
 use crate::files::{Folder, open_folder, read_config, read_script};
-use crate::output::{Call, flush, print_failed, print_lost};
-use lisp_memory::{FallibleCopies, FallibleVec};
+use crate::output::flush;
+use crate::sockets::Sockets;
+use lisp_memory::FallibleVec;
 use lisp_playing::{Command, play_on};
-use lisp_records::Addr;
 use lisp_schedules::Event;
 use lisp_sites::Config;
-use lisp_store::FileStore;
-use lisp_world::{Datagram, World};
+use lisp_store::{FileStore, WorldStore};
+use lisp_world::World;
 use std::alloc::Global;
 use std::fs::{File, Files};
 use std::io::Write;
@@ -56,29 +55,33 @@ fn run_commands<R: Files<File = File> + Net + AllocGlobal + Clone + Drop, W: Wri
     commands: &[Command],
     writer: &mut W,
 ) -> Result<(), RunFault> {
-    let mut network = start(rt, config, dir)?;
-    for command in commands.chunks(1) {
-        network.take(command, writer)?;
-    }
-    Ok(())
+    // The locks keep other processes out of the folders.
+    let Folders {
+        stores,
+        locks: _locks,
+    } = open_folders(rt, config, dir)?;
+    run_over(rt, config, stores, commands, writer)
 }
 
-// The network, over a folder and a socket for each node. Faults: 93, 74 to 76, 92, 97.
-fn start<'a, R: Files<File = File> + Net + AllocGlobal + Clone + Drop>(
+// Runs commands in the network over the stores, with a socket for each node. Faults: 74 to 76, 92, 97, 88.
+fn run_over<R: Net + AllocGlobal, S: WorldStore + Drop, W: Write>(
     rt: &R,
-    config: &'a Config,
-    dir: &str,
-) -> Result<RunningNetwork<'a, R>, RunFault> {
-    let Folders { stores, locks } = open_folders(rt, config, dir)?;
+    config: &Config,
+    stores: Vec<S>,
+    commands: &[Command],
+    writer: &mut W,
+) -> Result<(), RunFault>
+    requires { length stores.items ≡ length config.now.servers + length config.now.routers }
+{
     let world = World::new(rt.alloc(), config, stores)?;
-    Ok(RunningNetwork {
+    let sockets = Sockets::bind(rt, config)?;
+    let mut network = RunningNetwork {
         alloc: rt.alloc(),
         config,
         world,
-        peers: bind_all(rt, config)?,
-        buffer: Vec::try_from_elem(rt.alloc(), 0, MOST_BYTES)?,
-        locks,
-    })
+        sockets,
+    };
+    network.run(commands, writer)
 }
 
 /// The stores of all nodes, Map-Servers first, and the locks of their folders.
@@ -123,57 +126,28 @@ fn add_folder<R: Files<File = File> + AllocGlobal + Clone + Drop>(
     Ok(())
 }
 
-/// A node, as the sockets see it.
-#[derive(Drop)]
-struct Peer<'a> {
-    name: &'a str,
-    address: Addr,
-    endpoint: Endpoint,
-}
-
-// A socket for each node, Map-Servers first.
-fn bind_all<'a, R: Net + AllocGlobal>(
-    rt: &R,
-    config: &'a Config,
-) -> Result<Vec<Peer<'a>>, RunFault> {
-    let mut peers = Vec::new(rt.alloc());
-    for server in config.servers() {
-        peers.try_push(bind(rt, server.name.as_str(), server.address)?)?;
-    }
-    for router in config.routers() {
-        peers.try_push(bind(rt, router.name.as_str(), router.address)?)?;
-    }
-    Ok(peers)
-}
-
-fn bind<'a, R: Net>(rt: &R, name: &'a str, address: Addr) -> Result<Peer<'a>, RunFault> {
-    let endpoint = Endpoint::bind(rt, &address, DELIVERY)?;
-    Ok(Peer {
-        name,
-        address,
-        endpoint,
-    })
-}
-
 /// A network that runs.
 #[derive(Drop)]
-struct RunningNetwork<'a, R: Files + AllocGlobal> {
+struct RunningNetwork<'a, S: WorldStore> {
     alloc: Global,
     config: &'a Config,
-    world: World<FileStore<R>>,
-    peers: Vec<Peer<'a>>,
-    buffer: Vec<u8>,
-    // Keep other processes out of the folders.
-    locks: Vec<File>,
+    world: World<S>,
+    sockets: Sockets<'a>,
 }
 
-impl<R: Files + AllocGlobal> RunningNetwork<'_, R> {
+impl<S: WorldStore> RunningNetwork<'_, S> {
+    // Takes the commands, one after the other.
+    fn run<W: Write>(&mut self, commands: &[Command], writer: &mut W) -> Result<(), RunFault> {
+        for command in commands.chunks(1) {
+            self.take(command, writer)?;
+        }
+        Ok(())
+    }
+
     // Takes a command, which stands alone in the list, and sends what it adds to the datagrams.
     fn take<W: Write>(&mut self, command: &[Command], writer: &mut W) -> Result<(), RunFault> {
-        if let Some(Command::Act(Event::Deliver { k, .. })) = command.first() {
-            if !self.arrives(*k, writer)? {
-                return Ok(());
-            }
+        if !self.arrives(command, writer)? {
+            return Ok(());
         }
         let sent = self.world.sent();
         play_on(self.alloc, &mut self.world, self.config, command, writer)?;
@@ -181,19 +155,14 @@ impl<R: Files + AllocGlobal> RunningNetwork<'_, R> {
         self.send_from(sent, writer)
     }
 
-    // Whether the next datagram at the node that datagram k was sent to is datagram k, or there is none to wait for. Else it
-    // prints that datagram k is lost, or that the socket failed.
-    fn arrives<W: Write>(&mut self, k: usize, writer: &mut W) -> Result<bool, RunFault> {
-        let Some(datagram) = self.world.datagram(k) else {
+    // Whether the datagram that the command delivers arrives, if it delivers one that was sent.
+    fn arrives<W: Write>(&mut self, command: &[Command], writer: &mut W) -> Result<bool, RunFault> {
+        let Some(k) = delivered(command) else {
             return Ok(true);
         };
-        let Some(peer) = peer_at(&self.peers, &datagram.to) else {
-            return Ok(true);
-        };
-        match peer.endpoint.receive(&mut self.buffer) {
-            Ok(Some((_, bytes))) if bytes == datagram.bytes.as_slice() => Ok(true),
-            Ok(_) => print_lost(k, writer),
-            Err(_) => print_failed(peer.name, Call::Receive, writer),
+        match self.world.datagram(k) {
+            Some(datagram) => self.sockets.arrives(k, datagram, writer),
+            None => Ok(true),
         }
     }
 
@@ -201,32 +170,17 @@ impl<R: Files + AllocGlobal> RunningNetwork<'_, R> {
     fn send_from<W: Write>(&self, first: usize, writer: &mut W) -> Result<(), RunFault> {
         for k in first..self.world.sent() {
             if let Some(datagram) = self.world.datagram(k) {
-                send(&self.peers, datagram, writer)?;
+                self.sockets.send(datagram, writer)?;
             }
         }
         Ok(())
     }
 }
 
-// Sends a datagram from its node, where it goes to one.
-fn send<W: Write>(peers: &[Peer<'_>], datagram: &Datagram, writer: &mut W) -> Result<(), RunFault> {
-    if peer_at(peers, &datagram.to).is_none() {
-        return Ok(());
+// The number of the datagram that the first command delivers.
+fn delivered(commands: &[Command]) -> Option<usize> {
+    match commands.first() {
+        Some(Command::Act(Event::Deliver { k, .. })) => Some(*k),
+        _ => None,
     }
-    match peer_at(peers, &datagram.from) {
-        Some(peer)
-            if peer
-                .endpoint
-                .send(&datagram.to, datagram.bytes.as_slice())
-                .is_err() => {
-            print_failed(peer.name, Call::Send, writer)?;
-            Ok(())
-        }
-        _ => Ok(()),
-    }
-}
-
-// The node at an address.
-fn peer_at<'p, 'a>(peers: &'p [Peer<'a>], address: &Addr) -> Option<&'p Peer<'a>> {
-    peers.iter().find(|peer| peer.address == *address)
 }

@@ -1,21 +1,23 @@
 //! A site router (ETR) on a socket.
 
-ghost use Rattle.std.specs.Prelude.{◌≡◌, ◌<◌, ◌≤◌, ◌+◌, ◌^◌, IfOk, IsSome, length};
+ghost use Rattle.std.specs.Prelude.{◌≡◌, ◌<◌, ◌≤◌, ◌+◌, ◌^◌, IsSome, length};
 ghost use Rattle.lisp_messages.specs.Head.{head_at};
 ghost use Rattle.lisp_records.specs.Moment.{max_moment};
 
 use crate::clock::Stopwatch;
-use crate::endpoint::MOST_BYTES;
 use crate::fault::RunFault;
 use crate::files::{Folder, open_folder, read_config};
+use crate::named::router_named;
 use crate::station::Station;
-use lisp_memory::FallibleCopies;
+use crate::turns::{Turn, take_turns};
 use lisp_messages::Head;
 use lisp_nodes::{Arrival, RouterNode, Start, router_hears};
+use lisp_records::Addr;
 use lisp_schedules::{Line, Refusal};
-use lisp_sites::{Config, RouterEntry};
-use lisp_store::{Fate, FileStore};
-use lisp_world::{WorldFault, router_node};
+use lisp_sites::Config;
+use lisp_store::{Fate, WorldStore};
+use lisp_world::router_node;
+use std::alloc::Global;
 use std::fs::{File, Files};
 use std::io::Write;
 use std::net::Net;
@@ -23,8 +25,8 @@ use std::time::Clock;
 
 /// Runs the site router with a name for so many turns. A turn takes one datagram, or none where none comes within 100 ms,
 /// and then sends a Map-Register to each Map-Server that is due, at most one to each (RFC 9301 section 8.2). Its nonces are
-/// kept in the folder `dir`/`name`, each saved before its Map-Register is sent. Each event is a line, printed at once; a
-/// socket that fails is the line `refused NAME 90` (receive) or 91 (send), and it goes on.
+/// kept in the folder `dir`/`name`: each, or a higher one, is saved before its Map-Register is sent. Each event is a line,
+/// printed at once; a socket that fails is the line `refused NAME 90` (receive) or 91 (send), and it goes on.
 ///
 /// Faults, in this order: those of the configuration's file (93, 87, 89, 95, then its own); 70 where no node has the name,
 /// 71 where a Map-Server has it; 93 for the folder; 35 or 36 where the router doesn't start; 92 for the socket and the clock;
@@ -69,97 +71,66 @@ fn register_in<R: Files<File = File> + Net + Clock + AllocGlobal + Clone + Drop,
     writer: &mut W,
 ) -> Result<(), RunFault> {
     let place = router_named(config, name)?;
-    let mut router = start(rt, config, place, dir)?;
-    take_turns(rt, &mut router, turns, writer)
+    // The lock keeps other processes out of the folder.
+    let Folder { store, lock: _lock } = open_folder(rt, dir, name)?;
+    register_over(rt, config, place, store, turns, writer)
 }
 
-// A router that started over its folder. Faults: 93, 35, 36, 97, 92.
-fn start<'a, R: Files<File = File> + Net + AllocGlobal + Clone + Drop>(
-    rt: &R,
-    config: &'a Config,
-    place: usize,
-    dir: &str,
-) -> Result<RunningRouter<'a, R>, RunFault>
-    requires { place < length config.now.routers }
-{
-    let entry = &config.routers()[place];
-    let number = config.servers().len() + place;
-    let Folder { store, lock } = open_folder(rt, dir, entry.name.as_str())?;
-    Ok(RunningRouter {
-        node: started(rt, config, place, store)?,
-        entry,
-        station: Station::bind(rt, config, number, entry.name.as_str(), &entry.address)?,
-        lock,
-    })
-}
-
-fn take_turns<R: Files + Clock + AllocGlobal, W: Write>(
-    rt: &R,
-    router: &mut RunningRouter<'_, R>,
-    turns: u64,
-    writer: &mut W,
-) -> Result<(), RunFault> {
-    let mut clock = Stopwatch::start(rt)?;
-    let mut buffer = Vec::try_from_elem(rt.alloc(), 0, MOST_BYTES)?;
-    for _ in 0..turns {
-        router.take_turn(rt, &mut clock, &mut buffer, writer)?;
-    }
-    Ok(())
-}
-
-// The place of a router among the routers. Faults: 71 where a Map-Server has the name, 70 where no node has it.
-fn router_named(config: &Config, name: &str) -> Result<usize, RunFault>
-    ensures { IfOk result (λ place. place < length config.now.routers) }
-{
-    match config
-        .routers()
-        .iter()
-        .position(|entry| entry.name.as_str() == name)
-    {
-        Some(place) => Ok(place),
-        None
-            if config
-                .servers()
-                .iter()
-                .any(|entry| entry.name.as_str() == name) => {
-            Err(RunFault::from(WorldFault::WrongKind))
-        }
-        None => Err(RunFault::from(WorldFault::NoNode)),
-    }
-}
-
-// The router at a place, started at 0 ms. Faults: 35, 36, 97.
-fn started<R: Files + AllocGlobal + Drop>(
+// Runs the router at a place, over its store.
+fn register_over<R: Net + Clock + AllocGlobal, S: WorldStore + Drop, W: Write>(
     rt: &R,
     config: &Config,
     place: usize,
-    store: FileStore<R>,
-) -> Result<RouterNode<FileStore<R>>, RunFault>
+    store: S,
+    turns: u64,
+    writer: &mut W,
+) -> Result<(), RunFault>
     requires { place < length config.now.routers }
 {
-    let node = router_node(rt.alloc(), config, place, store)?;
+    let node = started(rt.alloc(), config, place, store)?;
+    let entry = &config.routers()[place];
+    let number = config.servers().len() + place;
+    let station = Station::bind(rt, config, number, entry.name.as_str(), &entry.address)?;
+    let router = RunningRouter {
+        node,
+        servers: entry.servers.as_slice(),
+        station,
+    };
+    take_turns(rt, router, turns, writer)
+}
+
+// The router at a place, started at 0 ms. Faults: 35, 36, 97.
+fn started<S: WorldStore + Drop>(
+    alloc: Global,
+    config: &Config,
+    place: usize,
+    store: S,
+) -> Result<RouterNode<S>, RunFault>
+    requires { place < length config.now.routers }
+{
+    let node = router_node(alloc, config, place, store)?;
     let start = Start {
-        alloc: rt.alloc(),
+        alloc,
         now: 0,
         db: None,
     };
     let (node, answer) = node.start(start);
-    answer?;
-    Ok(node)
+    match answer {
+        Ok(()) => Ok(node),
+        Err(fault) => Err(RunFault::from(fault)),
+    }
 }
 
 /// A router that runs.
 #[derive(Drop)]
-struct RunningRouter<'a, R: Files + AllocGlobal> {
-    node: RouterNode<FileStore<R>>,
-    entry: &'a RouterEntry,
+struct RunningRouter<'a, S: WorldStore> {
+    node: RouterNode<S>,
+    // The numbers of the Map-Servers that it registers with.
+    servers: &'a [usize],
     station: Station<'a>,
-    // Keeps other processes out of the folder.
-    lock: File,
 }
 
-impl<R: Files + AllocGlobal> RunningRouter<'_, R> {
-    // Takes a datagram, and sends what is due.
+impl<S: WorldStore> Turn for RunningRouter<'_, S> {
     fn take_turn<C: Clock, W: Write>(
         &mut self,
         rt: &C,
@@ -168,24 +139,37 @@ impl<R: Files + AllocGlobal> RunningRouter<'_, R> {
         writer: &mut W,
     ) -> Result<(), RunFault> {
         if let Some((from, bytes)) = self.station.receive(buffer, writer)? {
-            let how = Arrival {
-                fate: Fate::Done,
-                from,
-                now: clock.now(rt),
-                next: 0,
-            };
-            let (line, reply) = router_hears(&mut self.node, self.station.number, how, bytes);
-            self.station.answer(&line, &from, reply, writer)?;
+            self.hear(from, bytes, clock.now(rt), writer)?;
         }
         self.send_due(clock.now(rt), writer)
+    }
+}
+
+impl<S: WorldStore> RunningRouter<'_, S> {
+    // Answers a datagram.
+    fn hear<W: Write>(
+        &mut self,
+        from: Addr,
+        bytes: &[u8],
+        now: u64,
+        writer: &mut W,
+    ) -> Result<(), RunFault> {
+        let how = Arrival {
+            fate: Fate::Done,
+            from,
+            now,
+            next: 0,
+        };
+        let (line, reply) = router_hears(&mut self.node, self.station.number, how, bytes);
+        self.station.answer(&line, &from, reply, writer)
     }
 
     // Sends a Map-Register to each Map-Server that is due, at most one to each, until one is refused.
     fn send_due<W: Write>(&mut self, now: u64, writer: &mut W) -> Result<(), RunFault>
         requires { now ≤ max_moment }
     {
-        let entry = self.entry;
-        for _ in entry.servers.as_slice() {
+        let servers = self.servers;
+        for _ in servers {
             match self.due_server(now) {
                 Some(server) if self.send_to(server, now, writer)? => {}
                 _ => return Ok(()),
@@ -250,7 +234,6 @@ impl<R: Files + AllocGlobal> RunningRouter<'_, R> {
     // The number of the Map-Server that is due.
     fn due_server(&self, now: u64) -> Option<usize> {
         let place = self.node.etr()?.due(now)?;
-        let entry = self.entry;
-        entry.servers.as_slice().get(place).copied()
+        self.servers.get(place).copied()
     }
 }

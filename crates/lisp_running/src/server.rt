@@ -1,19 +1,19 @@
 //! A Map-Server on a socket.
 
-ghost use Rattle.std.specs.Prelude.{◌<◌, ◌≤◌, IfOk, length};
+ghost use Rattle.std.specs.Prelude.{◌<◌, ◌≤◌, length};
 ghost use Rattle.lisp_records.specs.Moment.{max_moment};
 
 use crate::clock::Stopwatch;
-use crate::endpoint::MOST_BYTES;
 use crate::fault::RunFault;
 use crate::files::{Folder, open_folder, read_config};
+use crate::named::server_named;
 use crate::station::Station;
-use lisp_memory::FallibleCopies;
+use crate::turns::{Turn, take_turns};
 use lisp_nodes::{Arrival, ServerNode, server_hears};
+use lisp_records::Addr;
 use lisp_schedules::{Line, Refusal};
 use lisp_sites::Config;
-use lisp_store::{Fate, FileStore};
-use lisp_world::WorldFault;
+use lisp_store::{Fate, WorldStore};
 use std::fs::{File, Files};
 use std::io::Write;
 use std::net::Net;
@@ -67,75 +67,37 @@ fn serve_in<R: Files<File = File> + Net + Clock + AllocGlobal + Clone + Drop, W:
     writer: &mut W,
 ) -> Result<(), RunFault> {
     let number = server_named(config, name)?;
-    let mut server = start(rt, config, number, dir)?;
-    take_turns(rt, &mut server, turns, writer)
+    // The lock keeps other processes out of the folder.
+    let Folder { store, lock: _lock } = open_folder(rt, dir, name)?;
+    serve_over(rt, config, number, store, turns, writer)
 }
 
-// A Map-Server that holds nothing, over its folder. Faults: 93, 97, 92.
-fn start<'a, R: Files<File = File> + Net + AllocGlobal + Clone + Drop>(
+// Runs a Map-Server that holds nothing, over its store.
+fn serve_over<R: Net + Clock + AllocGlobal, S: WorldStore + Drop, W: Write>(
     rt: &R,
-    config: &'a Config,
+    config: &Config,
     number: usize,
-    dir: &str,
-) -> Result<RunningServer<'a, R>, RunFault>
-    requires { number < length config.now.servers }
-{
-    let entry = &config.servers()[number];
-    let Folder { store, lock } = open_folder(rt, dir, entry.name.as_str())?;
-    let sites = config.sites().copy(rt.alloc())?;
-    Ok(RunningServer {
-        node: ServerNode::start(rt.alloc(), sites, store),
-        station: Station::bind(rt, config, number, entry.name.as_str(), &entry.address)?,
-        lock,
-    })
-}
-
-fn take_turns<R: Files + Clock + AllocGlobal, W: Write>(
-    rt: &R,
-    server: &mut RunningServer<'_, R>,
+    store: S,
     turns: u64,
     writer: &mut W,
-) -> Result<(), RunFault> {
-    let mut clock = Stopwatch::start(rt)?;
-    let mut buffer = Vec::try_from_elem(rt.alloc(), 0, MOST_BYTES)?;
-    for _ in 0..turns {
-        server.take_turn(rt, &mut clock, &mut buffer, writer)?;
-    }
-    Ok(())
-}
-
-// The number of a Map-Server. Faults: 71 where a router has the name, 70 where no node has it.
-fn server_named(config: &Config, name: &str) -> Result<usize, RunFault>
-    ensures { IfOk result (λ number. number < length config.now.servers) }
+) -> Result<(), RunFault>
+    requires { number < length config.now.servers }
 {
-    match config
-        .servers()
-        .iter()
-        .position(|entry| entry.name.as_str() == name)
-    {
-        Some(number) => Ok(number),
-        None
-            if config
-                .routers()
-                .iter()
-                .any(|entry| entry.name.as_str() == name) => {
-            Err(RunFault::from(WorldFault::WrongKind))
-        }
-        None => Err(RunFault::from(WorldFault::NoNode)),
-    }
+    let sites = config.sites().copy(rt.alloc())?;
+    let node = ServerNode::start(rt.alloc(), sites, store);
+    let entry = &config.servers()[number];
+    let station = Station::bind(rt, config, number, entry.name.as_str(), &entry.address)?;
+    take_turns(rt, RunningServer { node, station }, turns, writer)
 }
 
 /// A Map-Server that runs.
 #[derive(Drop)]
-struct RunningServer<'a, R: Files + AllocGlobal> {
-    node: ServerNode<FileStore<R>>,
+struct RunningServer<'a, S: WorldStore> {
+    node: ServerNode<S>,
     station: Station<'a>,
-    // Keeps other processes out of the folder.
-    lock: File,
 }
 
-impl<R: Files + AllocGlobal> RunningServer<'_, R> {
-    // Takes a datagram, answers it, and sends what is due.
+impl<S: WorldStore> Turn for RunningServer<'_, S> {
     fn take_turn<C: Clock, W: Write>(
         &mut self,
         rt: &C,
@@ -144,18 +106,31 @@ impl<R: Files + AllocGlobal> RunningServer<'_, R> {
         writer: &mut W,
     ) -> Result<(), RunFault> {
         if let Some((from, bytes)) = self.station.receive(buffer, writer)? {
-            let how = Arrival {
-                fate: Fate::Done,
-                from,
-                now: clock.now(rt),
-                next: 0,
-            };
-            let (line, reply) = server_hears(&mut self.node, self.station.number, how, bytes);
-            self.station.answer(&line, &from, reply, writer)?;
+            self.hear(from, bytes, clock.now(rt), writer)?;
         }
         let now = clock.now(rt);
         self.node.expire(now);
         self.resend(now, writer)
+    }
+}
+
+impl<S: WorldStore> RunningServer<'_, S> {
+    // Answers a datagram.
+    fn hear<W: Write>(
+        &mut self,
+        from: Addr,
+        bytes: &[u8],
+        now: u64,
+        writer: &mut W,
+    ) -> Result<(), RunFault> {
+        let how = Arrival {
+            fate: Fate::Done,
+            from,
+            now,
+            next: 0,
+        };
+        let (line, reply) = server_hears(&mut self.node, self.station.number, how, bytes);
+        self.station.answer(&line, &from, reply, writer)
     }
 
     // Sends each notice that is due once more, until one is refused.

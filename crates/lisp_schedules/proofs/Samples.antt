@@ -66,8 +66,8 @@ abbrev pub network : Configuration
 network = record {
   sites = site ∷ [];
   servers = record { name = 1 ∷ []; address = local_at 11 } ∷ record { name = 2 ∷ []; address = local_at 12 } ∷ [];
-  routers = record { name = 3 ∷ []; address = local_at 21; me = one; key_id = 1; servers = 0 ∷ 1 ∷ []; proxy = true; use_ttl = false; database = mapping wide 1440 ∷ [] }
-      ∷ record { name = 4 ∷ []; address = local_at 22; me = two; key_id = 1; servers = 0 ∷ []; proxy = false; use_ttl = false; database = mapping narrow 1440 ∷ [] } ∷ [];
+  routers = record { name = 3 ∷ []; address = local_at 21; me = one; key_id = 1; servers = 0 ∷ 1 ∷ []; proxy = true; use_ttl = false; nonce_block = 1; database = mapping wide 1440 ∷ [] }
+      ∷ record { name = 4 ∷ []; address = local_at 22; me = two; key_id = 1; servers = 0 ∷ []; proxy = false; use_ttl = false; nonce_block = 1; database = mapping narrow 1440 ∷ [] } ∷ [];
 }
 
 -- stores that keep nothing

@@ -68,7 +68,7 @@ node_at c address = position (λ a. addr_eq a address) (addresses c)
 
 -- the router with a number; where there is none, one that registers nothing with nobody
 abbrev pub router_at : Configuration → ℕ → Router
-router_at c node = slice_index_or c.routers (node - length c.servers) (record { name = []; address = V4 []; me = record { site = 0; xtr = [] }; key_id = 0; servers = []; proxy = false; use_ttl = false; database = [] })
+router_at c node = slice_index_or c.routers (node - length c.servers) (record { name = []; address = V4 []; me = record { site = 0; xtr = [] }; key_id = 0; servers = []; proxy = false; use_ttl = false; nonce_block = 1; database = [] })
 
 -- the secret of a key of a site
 abbrev pub secret_at : List SiteEntry → ℕ → ℕ → List ℕ
@@ -76,7 +76,7 @@ secret_at sites site key = unwrap_or (known_secret sites site key) []
 
 -- what a router is configured with
 abbrev pub settings_of : Configuration → Router → Settings
-settings_of c r = record { me = r.me; key_id = r.key_id; secret = secret_at c.sites r.me.site r.key_id; servers = map (address_at c) r.servers; proxy = r.proxy; use_ttl = r.use_ttl }
+settings_of c r = record { me = r.me; key_id = r.key_id; secret = secret_at c.sites r.me.site r.key_id; servers = map (address_at c) r.servers; proxy = r.proxy; use_ttl = r.use_ttl; nonce_block = r.nonce_block }
 
 -- a router's key, secret and the rest of its settings after a trace: those of the configuration
 abbrev pub settings : Opening → List Step → ℕ → Settings

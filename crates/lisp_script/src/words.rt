@@ -1,6 +1,6 @@
 //! The words of a line, and what single words stand for.
 
-ghost use Rattle.std.specs.Prelude.{◌≡◌, ◌≢◌, ◌<◌, ◌^◌, map, position, IfSome, IfOk, IfErr, OnErr};
+ghost use Rattle.std.specs.Prelude.{◌≡◌, ◌≢◌, ◌<◌, length, map, position, IfSome, IfOk, IfErr, OnErr};
 ghost use Rattle.lisp_script.specs.Fault.{Gives};
 ghost use Rattle.lisp_script.specs.Words.{words_of, is_word, node_of, server_of, router_of, number_in, address_in, bytes_in, doubt_in, fate_in, records_in, some_records, database_in};
 ghost use Rattle.lisp_script.specs.declared.fault.ScriptWhat.TheVariants.{Memory};
@@ -8,7 +8,7 @@ ghost use Rattle.lisp_script.specs.declared.fault.ScriptWhat.TheVariants.{Memory
 use crate::fault::ScriptWhat;
 use lisp_memory::{FallibleCopies, FallibleVec, Memory};
 use lisp_records::{Addr, Bytes, Database, MapRecord};
-use lisp_sites::{Config, ServerEntry};
+use lisp_sites::{Config, RouterEntry, ServerEntry};
 use lisp_store::Fate;
 use lisp_texts::{addr_from_text, number_from_text, record_from_text};
 use std::alloc::{AllocError, Allocator};
@@ -54,7 +54,7 @@ pub(crate) fn router<E: Allocator>(config: &Config<E>, word: &str) -> Result<usi
     ensures value { result ≡ router_of config.now word.now }
     ensures plain { IfErr result (λ what. what ≢ ScriptWhat.Memory) }
 {
-    match router_place(config, word) {
+    match router_place(config.routers(), word) {
         Some(place) => Ok(config.servers().len() + place),
         None => Err(ScriptWhat::Name),
     }
@@ -68,13 +68,11 @@ fn server_place<E: Allocator>(servers: &[ServerEntry<E>], word: &str) -> Option<
         .position(|server| server.name.as_str() == word)
 }
 
-// The place of the router with a name among the routers, of which memory holds fewer than 2^63.
-fn router_place<E: Allocator>(config: &Config<E>, word: &str) -> Option<usize>
-    ensures value { result ≡ position (λ r. is_word r.name word.now) config.now.routers }
-    ensures within { IfSome result (λ place. place < 2 ^ 63) }
+fn router_place<E: Allocator>(routers: &[RouterEntry<E>], word: &str) -> Option<usize>
+    ensures value { result ≡ position (λ r. is_word r.name word.now) routers.now }
+    ensures within { IfSome result (λ place. place < length routers.now) }
 {
-    config
-        .routers()
+    routers
         .iter()
         .position(|router| router.name.as_str() == word)
 }

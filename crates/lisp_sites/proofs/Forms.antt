@@ -10,7 +10,7 @@ use Rattle.hex.specs.Hex.{IsBytes, decode_of, decode_sized}
 use Rattle.hex.proofs.HexLemmas.{decode_of-ok, decode_sized-ok, decode_sized-twice}
 use Rattle.lisp_texts.specs.Form.{site_id_of, xtr_of, secret_text_of}
 use Rattle.lisp_texts.proofs.Options.{bind_some, option_map-Some}
-use Rattle.lisp_sites.specs.Form.{is_name, name_of, byte_from, byte_as}
+use Rattle.lisp_sites.specs.Form.{is_name, name_of, byte_from, byte_as, nonce_block_from, nonce_block_as}
 use Rattle.lisp_sites.proofs.Readings.{result_ok-Some}
 
 pub name_fits : (text name : List ℕ) → name_of text ≡ Some name → is_name name ≡ true
@@ -22,6 +22,16 @@ byte_small (negsuc m) n e = cc e
 
 pub byte_fits : (d : Data) (n : ℕ) → byte_as d ≡ Some n → n < 256
 byte_fits d n e = let z = bind_some (as_integer d) byte_from n e in byte_small z.0 n z.2
+
+block_small : (z : ℤ) (n : ℕ) → nonce_block_from z ≡ Some n → (1 ≤ n) × (n ≤ 1024)
+block_small (pos m) n e =
+    let some = cond_some (leb 1 m && leb m 1024) m n e in
+    let both = and_parts (leb 1 m) (leb m 1024) some.0 in
+    (omega (arith, some.1, leb-true 1 m both.0), omega (arith, some.1, leb-true m 1024 both.1))
+block_small (negsuc m) n e = cc e
+
+pub nonce_block_fits : (d : Data) (n : ℕ) → nonce_block_as d ≡ Some n → (1 ≤ n) × (n ≤ 1024)
+nonce_block_fits d n e = let z = bind_some (as_integer d) nonce_block_from n e in block_small z.0 n z.2
 
 -- ---- hexadecimal digits
 

@@ -11,12 +11,12 @@ use Rattle.lisp_texts.specs.Reading.{address_of}
 use Rattle.lisp_sites.specs.declared.field.Field.TheVariants as fields
 use Rattle.lisp_sites.specs.Configuration.{Server, Router, Configuration, IsServer, IsRouter}
 use Rattle.lisp_sites.specs.Form.{is_name, name_of, text_as}
-use Rattle.lisp_sites.specs.Table.{required, items, as_entry, each, has_server, fresh_server_name, server_at, servers_of, has_router, fresh_router_name, router_node, router_identity, places_of, router_flags, database_at, router_at}
+use Rattle.lisp_sites.specs.Table.{required, items, as_entry, each, has_server, fresh_server_name, server_at, servers_of, has_router, fresh_router_name, router_node, router_identity, places_of, router_flags, router_nonce_block, database_at, router_at}
 use Rattle.lisp_sites.proofs.Readings.{same_ok, bind_ok, required_text-Ok, fresh-Ok}
 use Rattle.lisp_sites.proofs.Forms.{name_fits}
 use Rattle.lisp_sites.proofs.TextFits.{address_fits}
 use Rattle.lisp_sites.proofs.Names.{list_any-map, AreNamed, TakesName, each_named}
-use Rattle.lisp_sites.proofs.RouterParts.{is_identity, places_apart, is_database}
+use Rattle.lisp_sites.proofs.RouterParts.{is_identity, places_apart, few_nonces, is_database}
 
 -- ---- Map-Servers
 
@@ -70,10 +70,12 @@ module _ (c : Configuration) where
       let identity = bind_ok (router_identity c.sites d) _ r node.2 in
       let places = bind_ok (places_of c.servers d) _ r identity.2 in
       let flags = bind_ok (router_flags d) _ r places.2 in
-      let database = bind_ok (database_at d) _ r flags.2 in
+      let block = bind_ok (router_nonce_block d) _ r flags.2 in
+      let database = bind_ok (database_at d) _ r block.2 in
       let named = is_node c.servers before d node.0 node.1 in
       let known = is_identity c.sites d identity.0 identity.1 in
       let listed = places_apart c.servers d places.0 places.1 in
+      let few = few_nonces d block.0 block.1 in
       let kept = is_database d database.0 database.1 in
       subst (TakesName (IsRouter c) (λ r. r.name) (map (λ s. s.name) c.servers) before) (same_ok _ r database.2) (record {
         kind = record {
@@ -84,6 +86,8 @@ module _ (c : Configuration) where
           key_id = known.key_id;
           key = known.key;
           servers = record { there = listed.kind; once = listed.apart };
+          some_nonces = few.0;
+          few_nonces = few.1;
           records = kept.records;
           database = kept.database;
         };

@@ -1,5 +1,6 @@
--- What is read of a router besides name and address: its site and key, its Map-Servers, its records.
-use Rattle.std.proofs.Common.{◌≡◌, ◌≢◌, ℕ, Bool, true, false, ◌<◌, ◌==◌, cond, ltb, List, [], ◌∷◌, length, Option, Some, Ok, Err, refl, sym, ap, subst, ◌∙◌}
+-- What is read of a router besides name and address: its site and key, its Map-Servers, its block of
+-- nonces, its records.
+use Rattle.std.proofs.Common.{◌≡◌, ◌≢◌, ℕ, Bool, true, false, ◌<◌, ◌≤◌, ◌==◌, cond, ltb, List, [], ◌∷◌, length, Option, Some, None, Ok, Err, refl, sym, ap, subst, ◌∙◌, arith}
 use Rattle.std.specs.Prelude.{codes, position, option_and_then, IsSomeAnd, if◌then◌else◌}
 use Rattle.std.specs.List.{AllByRecursion, list_any, find}
 use Rattle.std.specs.Result.{result_ok}
@@ -8,7 +9,7 @@ use Rattle.std.proofs.lemmas.Bool.{eqb-true}
 use Rattle.std.proofs.lemmas.Bool.Decides.{Decides-eqb}
 use Rattle.std.proofs.lemmas.List.Quantifiers.{position-Some}
 use Rattle.std.proofs.lemmas.Option.{same_Some, cond_some}
-use Rattle.toml.specs.Data.{Data, as_str, as_array}
+use Rattle.toml.specs.Data.{Data, get, as_str, as_array}
 use Rattle.lisp_records.specs.declared.database.DatabaseFault.TheVariants.{RepeatedPrefix, TooLarge}
 use Rattle.lisp_records.specs.declared.router.RouterId.{RouterId}
 use Rattle.lisp_records.specs.Record.{Mapping, IsMapping}
@@ -20,10 +21,10 @@ use Rattle.lisp_sites.specs.declared.field.Field.TheVariants as fields
 use Rattle.lisp_sites.specs.declared.fault.ConfigFault.TheVariants.{BadValue}
 use Rattle.lisp_served.specs.Site.{SiteEntry, site_of, has_key}
 use Rattle.lisp_sites.specs.Configuration.{Server}
-use Rattle.lisp_sites.specs.Form.{text_as, byte_as}
-use Rattle.lisp_sites.specs.Table.{required, items, each, router_site, router_key, router_identity, server_place, place_of, place_at, places_of, record_at, database_at}
+use Rattle.lisp_sites.specs.Form.{text_as, byte_as, nonce_block_as}
+use Rattle.lisp_sites.specs.Table.{required, optional_at, items, each, router_site, router_key, router_identity, server_place, place_of, place_at, places_of, router_nonce_block, record_at, database_at}
 use Rattle.lisp_sites.proofs.Readings.{same_ok, bind_ok, ok_or-Ok, result_ok-Some, and_then-Some, required-Ok, required_text-Ok, fresh-Ok, none_like, each_keeps, all_push, AreApart, Joins, each_apart}
-use Rattle.lisp_sites.proofs.Forms.{byte_fits, xtr_fits}
+use Rattle.lisp_sites.proofs.Forms.{byte_fits, nonce_block_fits, xtr_fits}
 use Rattle.lisp_sites.proofs.TextFits.{record_fits}
 
 -- ---- a router's site, key and xTR-ID
@@ -74,6 +75,15 @@ module _ (sites : List SiteEntry) where
         key_id = has.0;
         key = subst (λ (o : Option SiteEntry). IsSomeAnd o (λ s. has_key s.keys id.0 ≡ true)) (sym (site_there entry site.0 site.1)) has.1;
       })
+
+-- ---- how many nonces one save serves
+
+pub few_nonces : (entry : Data) (n : ℕ) → router_nonce_block entry ≡ Ok n → (1 ≤ n) × (n ≤ 1024)
+few_nonces entry n e = at (get (codes "nonce_block") entry) e
+  where
+    at : (found : Option Data) → optional_at fields.RouterNonceBlock nonce_block_as 1 found ≡ Ok n → (1 ≤ n) × (n ≤ 1024)
+    at None e = subst (λ (k : ℕ). (1 ≤ k) × (k ≤ 1024)) (same_ok 1 n e) (omega arith, omega arith)
+    at (Some v) e = nonce_block_fits v n (ok_or-Ok (nonce_block_as v) (BadValue fields.RouterNonceBlock) n e)
 
 -- ---- a router's Map-Servers
 

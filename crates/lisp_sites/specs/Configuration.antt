@@ -17,7 +17,7 @@ pub record Server : Type 0 where
   pub address : Addr
 
 -- a site router: who it is, the key that it uses, the places of its Map-Servers, what it asks for
--- (bits P and T), and what it registers
+-- (bits P and T), how many nonces one save serves, and what it registers
 pub record Router : Type 0 where
   pub name : List ℕ
   pub address : Addr
@@ -26,6 +26,7 @@ pub record Router : Type 0 where
   pub servers : List ℕ
   pub proxy : Bool
   pub use_ttl : Bool
+  pub nonce_block : ℕ
   pub database : List Mapping
 
 pub record Configuration : Type 0 where
@@ -64,7 +65,7 @@ pub record HasServers (servers : List Server) (r : Router) : Type 0 where
   pub once : AllPairs (λ a b. a ≢ b) r.servers
 
 -- a router: a name, a whole address, an xTR-ID of 16 bytes; a key of its site, which is there; its
--- Map-Servers; and records that fit the format and make a database
+-- Map-Servers; 1 to 1,024 nonces for a save; and records that fit the format and make a database
 pub record IsRouter (c : Configuration) (r : Router) : Type 0 where
   pub name : is_name r.name ≡ true
   pub address : IsWhole r.address
@@ -73,6 +74,8 @@ pub record IsRouter (c : Configuration) (r : Router) : Type 0 where
   pub key_id : r.key_id < 256
   pub key : IsSomeAnd (site_of c.sites r.me.site) (λ s. has_key s.keys r.key_id ≡ true)
   pub servers : HasServers c.servers r
+  pub some_nonces : 1 ≤ r.nonce_block
+  pub few_nonces : r.nonce_block ≤ 1024
   pub records : AllByRecursion IsMapping r.database
   pub database : database_of r.database ≡ Ok r.database
 

@@ -26,6 +26,7 @@ field_name fields.RouterKey = codes "router.key"
 field_name fields.RouterServers = codes "router.servers"
 field_name fields.RouterProxy = codes "router.proxy"
 field_name fields.RouterUseTtl = codes "router.use_ttl"
+field_name fields.RouterNonceBlock = codes "router.nonce_block"
 field_name fields.RouterRecords = codes "router.records"
 
 abbrev pub fault_number : ConfigFault → ℕ

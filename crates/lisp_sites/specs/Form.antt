@@ -27,3 +27,11 @@ byte_from (negsuc n) = None
 
 abbrev pub byte_as : Data → Option ℕ
 byte_as d = as_integer d >>= byte_from
+
+-- a whole number from 1 to 1,024
+abbrev pub nonce_block_from : ℤ → Option ℕ
+nonce_block_from (pos n) = if_so (nat_le 1 n && nat_le n 1024) n
+nonce_block_from (negsuc n) = None
+
+abbrev pub nonce_block_as : Data → Option ℕ
+nonce_block_as d = as_integer d >>= nonce_block_from

@@ -20,7 +20,7 @@ use Rattle.lisp_sites.specs.declared.fault.ConfigFault.TheVariants.{Toml, Missin
 use Rattle.lisp_served.specs.declared.site.SitePrefix.{SitePrefix}
 use Rattle.lisp_served.specs.Site.{KeyEntry, SiteEntry, site_of, has_key}
 use Rattle.lisp_sites.specs.Configuration.{Server, Router, Configuration}
-use Rattle.lisp_sites.specs.Form.{name_of, text_as, byte_as}
+use Rattle.lisp_sites.specs.Form.{name_of, text_as, byte_as, nonce_block_as}
 
 -- a field that has to be there: its name, its key in the entry, and the form of its value; Missing
 -- where it is absent, BadValue where it isn't of the form
@@ -166,6 +166,10 @@ router_flags entry = do
   use_ttl ← optional fields.RouterUseTtl (codes "use_ttl") as_bool false entry
   Ok (proxy, use_ttl)
 
+-- nonce_block
+abbrev pub router_nonce_block : Data → Result ℕ ConfigFault
+router_nonce_block entry = optional fields.RouterNonceBlock (codes "nonce_block") nonce_block_as 1 entry
+
 -- records: texts of records that make a database
 abbrev pub record_at : List Mapping → Data → Result Mapping ConfigFault
 record_at before d = ok_or (text_as record_text_of d) (BadValue fields.RouterRecords)
@@ -185,6 +189,7 @@ router_at sites servers before d = do
   identity ← router_identity sites d
   places ← places_of servers d
   flags ← router_flags d
+  nonce_block ← router_nonce_block d
   database ← database_at d
   Ok (record {
     name = node.0;
@@ -194,6 +199,7 @@ router_at sites servers before d = do
     servers = places;
     proxy = flags.0;
     use_ttl = flags.1;
+    nonce_block = nonce_block;
     database = database;
   })
 

@@ -28,6 +28,7 @@ pub enum Field {
     RouterServers,
     RouterProxy,
     RouterUseTtl,
+    RouterNonceBlock,
     RouterRecords,
 }
 
@@ -58,6 +59,7 @@ impl Field {
             Field::RouterServers => "router.servers",
             Field::RouterProxy => "router.proxy",
             Field::RouterUseTtl => "router.use_ttl",
+            Field::RouterNonceBlock => "router.nonce_block",
             Field::RouterRecords => "router.records",
         }
     }

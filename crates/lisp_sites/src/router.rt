@@ -3,7 +3,7 @@
 ghost use Rattle.std.specs.Prelude.{◌≡◌, []};
 ghost use Rattle.toml.specs.View.{view, items_view};
 ghost use Rattle.lisp_records.specs.Result.{Reads};
-ghost use Rattle.lisp_sites.specs.Table.{Gives, each, has_router, fresh_router_name, router_node, router_site, router_key, router_identity, place_of, place_at, places_of, router_flags, record_at, as_database, database_at, router_at, routers_of};
+ghost use Rattle.lisp_sites.specs.Table.{Gives, each, has_router, fresh_router_name, router_node, router_site, router_key, router_identity, place_of, place_at, places_of, router_flags, router_nonce_block, record_at, as_database, database_at, router_at, routers_of};
 
 use crate::fault::ConfigFault;
 use crate::field::Field;
@@ -11,7 +11,9 @@ use crate::name::Name;
 use crate::places::Places;
 use crate::server::{ServerEntry, has_server, server_place};
 use crate::site_entries::has_key;
-use crate::value::{address, array, byte, check_table, flag, name, site_id, tables, xtr};
+use crate::value::{
+    address, array, byte, check_table, flag, name, nonce_block, site_id, tables, xtr,
+};
 use lisp_memory::Memory;
 use lisp_records::{Addr, Database, MapRecord, RouterId};
 use lisp_served::{Site, Sites};
@@ -37,6 +39,8 @@ pub struct RouterEntry<A: Allocator = Global> {
     pub proxy: bool,
     /// T: its registrations time out by the TTL of their records.
     pub use_ttl: bool,
+    /// How many nonces one save serves: 1 to 1,024.
+    pub nonce_block: u16,
     /// What it registers when it starts.
     pub database: Database<A>,
 }
@@ -46,7 +50,7 @@ impl<A: Allocator> Model for RouterEntry<A> {
 
     ghost Value = { Router };
 
-    ghost view = { λ r. record { name = r.name; address = r.address; me = r.me; key_id = r.key_id; servers = r.servers; proxy = r.proxy; use_ttl = r.use_ttl; database = r.database } };
+    ghost view = { λ r. record { name = r.name; address = r.address; me = r.me; key_id = r.key_id; servers = r.servers; proxy = r.proxy; use_ttl = r.use_ttl; nonce_block = r.nonce_block; database = r.database } };
 }
 
 /// The routers of the document, in its order; they name the sites and Map-Servers given.
@@ -96,6 +100,7 @@ fn read_router<A: Memory + Copy>(
     let (me, key_id) = read_identity(entry, sites)?;
     let servers = read_places(alloc, entry, servers)?;
     let (proxy, use_ttl) = read_flags(entry)?;
+    let nonce_block = read_nonce_block(entry)?;
     let database = read_database(alloc, entry)?;
     Ok(RouterEntry {
         name,
@@ -105,6 +110,7 @@ fn read_router<A: Memory + Copy>(
         servers,
         proxy,
         use_ttl,
+        nonce_block,
         database,
     })
 }
@@ -245,6 +251,13 @@ fn read_flags(entry: &Value) -> Result<(bool, bool), ConfigFault>
     let proxy = flag(entry, "proxy", Field::RouterProxy)?;
     let use_ttl = flag(entry, "use_ttl", Field::RouterUseTtl)?;
     Ok((proxy, use_ttl))
+}
+
+// How many nonces one save serves.
+fn read_nonce_block(entry: &Value) -> Result<u16, ConfigFault>
+    ensures { result ≡ router_nonce_block (view entry.now) }
+{
+    nonce_block(entry, "nonce_block", Field::RouterNonceBlock)
 }
 
 // The records.

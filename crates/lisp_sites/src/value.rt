@@ -6,7 +6,7 @@ ghost use Rattle.toml.specs.Data.{as_str, as_bool, as_array};
 ghost use Rattle.toml.specs.View.{view, items_view};
 ghost use Rattle.lisp_texts.specs.Reading.{address_of, prefix_of};
 ghost use Rattle.lisp_texts.specs.Form.{site_id_of, xtr_of, secret_text_of};
-ghost use Rattle.lisp_sites.specs.Form.{name_of, text_as, byte_as};
+ghost use Rattle.lisp_sites.specs.Form.{name_of, text_as, byte_as, nonce_block_as};
 ghost use Rattle.lisp_records.specs.Result.{Reads};
 ghost use Rattle.lisp_sites.specs.Table.{Gives, required, optional, items, as_entry};
 ghost use Rattle.lisp_sites.specs.declared.fault.ConfigFault.TheVariants.{BadValue};
@@ -15,6 +15,7 @@ use crate::fault::ConfigFault;
 use crate::field::Field;
 use crate::name::is_name;
 use lisp_records::{Addr, Bytes, Prefix};
+use lisp_store::MAX_NONCE_BLOCK;
 use lisp_texts::{
     addr_from_text, prefix_from_text, secret_from_text, site_id_from_text, xtr_from_text,
 };
@@ -116,6 +117,21 @@ pub(crate) fn byte(entry: &Value, key: &str, name: Field) -> Result<u8, ConfigFa
         None => Err(ConfigFault::Missing(name)),
         Some(value) => match value.as_integer() {
             Some(number @ 0..=255) => Ok(number as u8),
+            _ => Err(ConfigFault::BadValue(name)),
+        },
+    }
+}
+
+const MOST_NONCES: i64 = MAX_NONCE_BLOCK as i64;
+
+/// How many nonces one save serves, 1 to 1,024; 1 if it is absent.
+pub(crate) fn nonce_block(entry: &Value, key: &str, name: Field) -> Result<u16, ConfigFault>
+    ensures { result ≡ optional name key.now nonce_block_as 1 (view entry.now) }
+{
+    match entry.get(key) {
+        None => Ok(1),
+        Some(value) => match value.as_integer() {
+            Some(number @ 1..=MOST_NONCES) => Ok(number as u16),
             _ => Err(ConfigFault::BadValue(name)),
         },
     }

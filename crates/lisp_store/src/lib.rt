@@ -16,7 +16,7 @@ pub use fate::Fate;
 pub use fault::StoreFault;
 pub use file::FileStore;
 pub use memory::MemoryStore;
-pub use nonce::{FIRST_NOTICE_NONCE, LAST_ROUTER_NONCE};
+pub use nonce::{FIRST_NOTICE_NONCE, LAST_ROUTER_NONCE, MAX_NONCE_BLOCK};
 pub use pair::{Pair, PairKind};
 pub use store::{NonceStore, WorldStore};
 pub use text::{nonce_from_text, nonce_text};

@@ -1,9 +1,8 @@
-//! Memory that is refused: a small heap, of which a test leaves a call so much or so little.
+//! A small heap, of which a call is left so much or so little memory.
 
-use crate::support::assert_at;
 use linked_list_allocator::LocalHeap;
-use std::alloc::Global;
-use std::process::Abort;
+use std::alloc::AllocError;
+use std::io::{self, Read, Write};
 
 /// The bytes of the heap.
 pub const HEAP_LEN: usize = 16384;
@@ -14,45 +13,78 @@ const BLOCK_LEN: usize = 16;
 /// So many blocks are all of the heap.
 pub const MOST_BLOCKS: usize = HEAP_LEN / BLOCK_LEN;
 
-/// Takes all the memory of a heap but so many blocks.
+/// What keeps the memory of a heap from others.
+pub type Ballast<'a> = Vec<Vec<u8, &'a LocalHeap>>;
+
+/// Takes all the memory of a heap but so many blocks, where it has them.
 pub fn fill<'a>(
-    rt: &impl Abort,
-    ample: Global,
+    ballast: &mut Ballast<'a>,
     heap: &'a LocalHeap,
     blocks: usize,
-) -> Vec<Vec<u8, &'a LocalHeap>> {
-    let mut ballast = Vec::new(ample);
-    for _ in 0..MOST_BLOCKS {
-        let Ok(block) = Vec::with_capacity(heap, BLOCK_LEN) else {
-            break;
-        };
-        ballast.push(block).expect(rt, "the ballast");
-    }
-    for _ in 0..blocks {
-        ballast.pop();
-    }
-    ballast
+) -> Result<(), AllocError> {
+    let room: Result<Vec<u8, _>, _> = Vec::with_capacity(heap, blocks.saturating_mul(BLOCK_LEN));
+    let filled = take_all(ballast, heap);
+    drop(room);
+    filled
 }
 
-/// Asks with each number of free blocks, from none on, whether a call answers, until it does. True where it is refused memory
-/// at first and answers in the end. Nothing stays in the heap.
-pub fn is_refused_then_answers<F: Fn() -> bool>(
-    rt: &impl Abort,
-    ample: Global,
-    heap: &LocalHeap,
-    answers: F,
-) -> bool
-    requires { F.IsAlwaysCallable answers }
-{
-    let free = heap.free();
-    for blocks in 0..MOST_BLOCKS {
-        let ballast = fill(rt, ample, heap, blocks);
-        let is_answered = answers();
-        drop(ballast);
-        assert_at(rt, blocks, heap.free() == free);
-        if is_answered {
-            return blocks > 0;
+/// Takes all that is left, the largest pieces first.
+fn take_all<'a>(ballast: &mut Ballast<'a>, heap: &'a LocalHeap) -> Result<(), AllocError> {
+    let mut len = HEAP_LEN;
+    for _ in 0..MOST_BLOCKS {
+        match Vec::with_capacity(heap, len) {
+            Ok(block) => ballast.push(block)?,
+            Err(_) if len > BLOCK_LEN => len /= 2,
+            Err(_) => break,
         }
     }
-    false
+    Ok(())
+}
+
+/// Reads bytes, and leaves a heap so many blocks where so many bytes are left to read.
+#[derive(Drop)]
+pub struct SqueezingReader<'a> {
+    pub bytes: &'a [u8],
+    pub left: usize,
+    pub heap: &'a LocalHeap,
+    pub blocks: usize,
+    pub ballast: Ballast<'a>,
+}
+
+impl Read for SqueezingReader<'_> {
+    fn read(&mut self, buf: &mut [u8]) -> io::Result<usize> {
+        if self.bytes.len() == self.left {
+            fill(&mut self.ballast, self.heap, self.blocks)?;
+        }
+        self.bytes.read(buf)
+    }
+}
+
+/// Takes what is written. After so many writes, until the next, it leaves a heap so many blocks.
+#[derive(Drop)]
+pub struct SqueezingWriter<'a> {
+    pub taken: Vec<u8>,
+    /// How many bytes were taken before the memory was.
+    pub before: usize,
+    pub writes: usize,
+    pub heap: &'a LocalHeap,
+    pub blocks: usize,
+    pub ballast: Ballast<'a>,
+}
+
+impl Write for SqueezingWriter<'_> {
+    fn write(&mut self, buf: &[u8]) -> io::Result<usize> {
+        self.taken.extend_from_slice(buf)?;
+        self.ballast.clear();
+        if self.writes == 1 {
+            self.before = self.taken.len();
+            fill(&mut self.ballast, self.heap, self.blocks)?;
+        }
+        self.writes = self.writes.saturating_sub(1);
+        Ok(buf.len())
+    }
+
+    fn flush(&mut self) -> io::Result<()> {
+        Ok(())
+    }
 }

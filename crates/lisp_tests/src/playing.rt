@@ -41,15 +41,11 @@ row r1 10.1.0.0/16=1440+192.0.2.1/1/100/255/0 key 1 nonce 1 age 0
 ";
 
 #[test]
-fn a_play_whose_reads_fail_writes_nothing(rt: HostRuntime) {
+fn a_play_whose_reads_fail_writes_nothing_and_one_whose_writes_fail_ends_there(rt: HostRuntime) {
     for before in 0..=SCHEDULE.len() {
         let is_so = ends_so(rt.alloc(), before, usize::MAX, PlayFault::Read, 0);
         assert_at(&rt, before, is_so);
     }
-}
-
-#[test]
-fn a_play_whose_writes_fail_ends_there(rt: HostRuntime) {
     for room in 0..PRINTED.len() {
         let is_so = ends_so(rt.alloc(), usize::MAX, room, PlayFault::Write, room);
         assert_at(&rt, room, is_so);

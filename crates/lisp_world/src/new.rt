@@ -280,6 +280,7 @@ fn settings<A: Memory + Copy, E: Allocator>(
         servers: Servers::from_vec(servers),
         proxy: entry.proxy,
         use_ttl: entry.use_ttl,
+        nonce_block: entry.nonce_block,
     })
 }
 

@@ -46,6 +46,7 @@ const fn form(field: Field) -> &'static str {
         Field::Router => "routers are an array of tables: [[router]]",
         Field::RouterXtr => "an xTR-ID is a text of 32 hexadecimal digits",
         Field::RouterServers => "the value lists names of Map-Servers, none twice",
+        Field::RouterNonceBlock => "the value is a whole number from 1 to 1024",
         Field::RouterRecords => {
             "the value lists records such as 10.1.0.0/16=1440+192.0.2.1, of different prefixes, at most 255"
         }

@@ -1,10 +1,11 @@
 //! The words of the program.
 
+use crate::argument::Argument;
 use crate::help::{
     ANSWER_ABOUT, ANSWER_EXAMPLE, CHECK_ABOUT, EXPLAIN_ABOUT, LOOP_ABOUT, LOOP_FORM, NODE_RUNS,
     PLAY_ABOUT, PLAY_FORM, ROUTER_ABOUT, SERVER_ABOUT,
 };
-use clap::{Arg, ArgAction, Command};
+use clap::Command;
 use lispd::AnswerOption;
 use std::alloc::{AllocError, Global};
 
@@ -26,143 +27,149 @@ pub(crate) const STORE: &str = "store";
 /// The option for the number of turns.
 pub(crate) const TURNS: &str = "turns";
 
-/// The options of `answer` that have a value, each with the letter that stands for it.
-const OPTIONS: [(AnswerOption, &str); 4] = [
-    (AnswerOption::Site, "H"),
-    (AnswerOption::Key, "N"),
-    (AnswerOption::Secret, "H"),
-    (AnswerOption::Prefix, "P"),
+/// A subcommand: what it does, what stands below its help, and its arguments.
+struct Subcommand {
+    name: &'static str,
+    about: &'static str,
+    after_help: Option<&'static str>,
+    arguments: &'static [Argument],
+}
+
+/// The subcommands, in the order of the help.
+static SUBCOMMANDS: [Subcommand; 7] = [
+    Subcommand {
+        name: "answer",
+        about: ANSWER_ABOUT,
+        after_help: Some(ANSWER_EXAMPLE),
+        arguments: &[
+            Argument::Answer(AnswerOption::Site, "H"),
+            Argument::Answer(AnswerOption::Key, "N"),
+            Argument::Answer(AnswerOption::Secret, "H"),
+            Argument::Answer(AnswerOption::Prefix, "P"),
+            Argument::Switch {
+                name: "more-specifics",
+                help: "Allow EID-Prefixes inside that prefix too (more-specifics)",
+            },
+        ],
+    },
+    Subcommand {
+        name: "play",
+        about: PLAY_ABOUT,
+        after_help: Some(PLAY_FORM),
+        arguments: &[Argument::Word {
+            name: FILE,
+            is_required: true,
+            help: "The schedule; `-` for standard input",
+        }],
+    },
+    Subcommand {
+        name: "server",
+        about: SERVER_ABOUT,
+        after_help: Some(NODE_RUNS),
+        arguments: NODE_ARGUMENTS,
+    },
+    Subcommand {
+        name: "router",
+        about: ROUTER_ABOUT,
+        after_help: Some(NODE_RUNS),
+        arguments: NODE_ARGUMENTS,
+    },
+    Subcommand {
+        name: "loop",
+        about: LOOP_ABOUT,
+        after_help: Some(LOOP_FORM),
+        arguments: &[
+            CONFIG_ARGUMENT,
+            Argument::Word {
+                name: FILE,
+                is_required: true,
+                help: "The script",
+            },
+            STORE_ARGUMENT,
+        ],
+    },
+    Subcommand {
+        name: "check",
+        about: CHECK_ABOUT,
+        after_help: None,
+        arguments: &[CONFIG_ARGUMENT],
+    },
+    Subcommand {
+        name: "explain",
+        about: EXPLAIN_ABOUT,
+        after_help: None,
+        arguments: &[Argument::Word {
+            name: NUMBER,
+            is_required: false,
+            help: "The number, such as 57",
+        }],
+    },
 ];
+
+/// The arguments of `server` and `router`.
+const NODE_ARGUMENTS: &[Argument] = &[
+    CONFIG_ARGUMENT,
+    Argument::Word {
+        name: NAME,
+        is_required: true,
+        help: "The node's name there",
+    },
+    STORE_ARGUMENT,
+    Argument::Value {
+        name: TURNS,
+        letters: "N",
+        is_required: false,
+        help: "How many turns it takes, each of which waits at most 100 ms for a datagram, from 0 to 4294967295; left out, it \
+runs until it is killed",
+    },
+];
+
+const CONFIG_ARGUMENT: Argument = Argument::Word {
+    name: CONFIG,
+    is_required: true,
+    help: "The configuration, TOML",
+};
+
+const STORE_ARGUMENT: Argument = Argument::Value {
+    name: STORE,
+    letters: "DIR",
+    is_required: true,
+    help: "The folder of the nonces, made if it isn't there; each node has a folder of its name in it",
+};
 
 /// The words that the program takes. With no words it is `answer` with its defaults.
 pub(crate) fn command<'a>(alloc: Global) -> Result<Command<'a>, AllocError> {
-    let command = Command::new(alloc, "lispd").version("0.1.0").about(
+    let mut command = Command::new(alloc, "lispd").version("0.1.0").about(
         "Map-Server registration of LISP (RFC 9301); with no words, `answer`",
     );
-    let command = with(Ok(command), answer_command(alloc));
-    let command = with(command, play_command(alloc));
-    let command = with(command, node_command(alloc, "server", SERVER_ABOUT));
-    let command = with(command, node_command(alloc, "router", ROUTER_ABOUT));
-    let command = with(command, loop_command(alloc));
-    let command = with(command, check_command(alloc));
-    with(command, explain_command(alloc))
-}
-
-// A command with one subcommand more.
-fn with<'a>(
-    command: Result<Command<'a>, AllocError>,
-    subcommand: Result<Command<'a>, AllocError>,
-) -> Result<Command<'a>, AllocError> {
-    match (command, subcommand) {
-        (Ok(command), Ok(subcommand)) => command.subcommand(subcommand),
-        _ => Err(AllocError),
+    for subcommand in subcommands() {
+        command = subcommand.add_to(command, alloc)?;
     }
+    Ok(command)
 }
 
-fn answer_command<'a>(alloc: Global) -> Result<Command<'a>, AllocError> {
-    let mut command = Command::new(alloc, "answer")
-        .about(ANSWER_ABOUT)
-        .after_help(ANSWER_EXAMPLE);
-    for (option, letter) in &OPTIONS {
-        command = command.arg(argument(alloc, *option, letter))?;
+// A function of its own, since `command` would be proved over all that the table holds.
+fn subcommands() -> &'static [Subcommand] {
+    &SUBCOMMANDS
+}
+
+impl Subcommand {
+    // A command with this subcommand too.
+    fn add_to<'a>(&self, command: Command<'a>, alloc: Global) -> Result<Command<'a>, AllocError> {
+        match self.to_command(alloc) {
+            Ok(subcommand) => command.subcommand(subcommand),
+            Err(error) => Err(error),
+        }
     }
-    command.arg(more_specifics(alloc))
-}
 
-fn play_command<'a>(alloc: Global) -> Result<Command<'a>, AllocError> {
-    Command::new(alloc, "play")
-        .about(PLAY_ABOUT)
-        .after_help(PLAY_FORM)
-        .arg(file(alloc))
-}
-
-// `server` or `router`.
-fn node_command<'a>(
-    alloc: Global,
-    name: &'a str,
-    about: &'a str,
-) -> Result<Command<'a>, AllocError> {
-    let command = Command::new(alloc, name)
-        .about(about)
-        .after_help(NODE_RUNS)
-        .arg(required(alloc, CONFIG, "The configuration, TOML"))?;
-    let command = command.arg(required(alloc, NAME, "The node's name there"))?;
-    let command = command.arg(store(alloc))?;
-    command.arg(turns(alloc))
-}
-
-fn loop_command<'a>(alloc: Global) -> Result<Command<'a>, AllocError> {
-    let command = Command::new(alloc, "loop")
-        .about(LOOP_ABOUT)
-        .after_help(LOOP_FORM)
-        .arg(required(alloc, CONFIG, "The configuration, TOML"))?;
-    let command = command.arg(required(alloc, FILE, "The script"))?;
-    command.arg(store(alloc))
-}
-
-fn check_command<'a>(alloc: Global) -> Result<Command<'a>, AllocError> {
-    Command::new(alloc, "check")
-        .about(CHECK_ABOUT)
-        .arg(required(alloc, CONFIG, "The configuration, TOML"))
-}
-
-fn explain_command<'a>(alloc: Global) -> Result<Command<'a>, AllocError> {
-    let number = Arg::new(alloc, NUMBER)
-        .action(ArgAction::Set)
-        .help("The number, such as 57");
-    Command::new(alloc, "explain")
-        .about(EXPLAIN_ABOUT)
-        .arg(number)
-}
-
-fn required<'a>(alloc: Global, name: &'a str, help: &'a str) -> Arg<'a> {
-    Arg::new(alloc, name)
-        .required(true)
-        .action(ArgAction::Set)
-        .help(help)
-}
-
-fn store<'a>(alloc: Global) -> Arg<'a> {
-    Arg::new(alloc, STORE)
-        .long(STORE)
-        .value_name("DIR")
-        .required(true)
-        .action(ArgAction::Set)
-        .help(
-            "The folder of the nonces, made if it isn't there; each node has a folder of its name in it",
-        )
-}
-
-fn turns<'a>(alloc: Global) -> Arg<'a> {
-    Arg::new(alloc, TURNS)
-        .long(TURNS)
-        .value_name("N")
-        .action(ArgAction::Set)
-        .help(
-            "How many turns it takes, each of which waits at most 100 ms for a datagram, from 0 to 4294967295; left out, it \
-runs until it is killed",
-        )
-}
-
-fn file<'a>(alloc: Global) -> Arg<'a> {
-    Arg::new(alloc, FILE)
-        .required(true)
-        .action(ArgAction::Set)
-        .help("The schedule; `-` for standard input")
-}
-
-// An option, with the letter that stands for its value.
-fn argument<'a>(alloc: Global, option: AnswerOption, letter: &'a str) -> Arg<'a> {
-    Arg::new(alloc, option.name())
-        .long(option.name())
-        .value_name(letter)
-        .action(ArgAction::Set)
-        .help(option.form())
-}
-
-fn more_specifics<'a>(alloc: Global) -> Arg<'a> {
-    Arg::new(alloc, "more-specifics")
-        .long("more-specifics")
-        .action(ArgAction::SetTrue)
-        .help("Allow EID-Prefixes inside that prefix too (more-specifics)")
+    fn to_command<'a>(&self, alloc: Global) -> Result<Command<'a>, AllocError> {
+        let mut command = Command::new(alloc, self.name).about(self.about);
+        if let Some(text) = self.after_help {
+            command = command.after_help(text);
+        }
+        for argument in self.arguments {
+            command = command.arg(argument.to_arg(alloc))?;
+        }
+        Ok(command)
+    }
 }

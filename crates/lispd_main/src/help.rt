@@ -45,7 +45,7 @@ when they are due, and prints a line for each event";
 
 /// How long a node runs, for its help.
 pub(crate) const NODE_RUNS: &str =
-    "Each nonce is saved before its message is sent or answered, so a node may be killed at any time \
+    "Nonces are saved before their messages are sent or answered, so a node may be killed at any time \
 (SIGINT and SIGTERM end it at once).
 
 Example:

@@ -1,6 +1,7 @@
 //! The program `lispd`: reads its words, runs the subcommand, and reports a fault on standard error.
 #![tactic(auto)]
 
+mod argument;
 mod command_line;
 mod help;
 mod report;
@@ -11,8 +12,9 @@ use crate::report::report;
 use crate::subcommands::run_subcommand;
 use clap::error::ErrorKind as WordsErrorKind;
 use lispd::{AnswerFault, ProgramFault, SetupFault};
+use std::env;
 use std::fs::File;
-use std::io::{ErrorKind, IsTerminal};
+use std::io::{self, ErrorKind, IsTerminal};
 use std::net::Net;
 use std::process::ExitCode;
 use std::rt::{Env, Files};
@@ -39,16 +41,15 @@ fn main(rt: HostRuntime) -> ExitCode {
 fn run<
     R: Print + Eprint + Input + Files<File = File> + Env + Net + Clock + AllocGlobal + Clone + Drop,
 >(rt: &R) -> Result<ExitCode, ProgramFault> {
-    let words = match std::env::args(rt) {
-        Ok(words) => words,
-        Err(error) if error.kind() == ErrorKind::OutOfMemory => return Err(OUT_OF_MEMORY),
-        Err(_) => return Err(ProgramFault::Words),
-    };
-    let words: Result<Vec<String>, _> = words.collect(rt.alloc());
-    match words {
+    match words(rt) {
         Ok(words) => run_words(rt, words.as_slice()),
-        Err(_) => Err(OUT_OF_MEMORY),
+        Err(error) if error.kind() == ErrorKind::OutOfMemory => Err(OUT_OF_MEMORY),
+        Err(_) => Err(ProgramFault::Words),
     }
+}
+
+fn words<R: Env + AllocGlobal>(rt: &R) -> io::Result<Vec<String>> {
+    Ok(env::args(rt)?.collect(rt.alloc())?)
 }
 
 fn run_words<

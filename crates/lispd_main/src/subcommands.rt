@@ -1,12 +1,13 @@
 //! What each subcommand runs.
 
 use crate::command_line::{CONFIG, FILE, NAME, NUMBER, STORE, TURNS};
+use crate::report::InWords;
 use clap::ArgMatches;
 use lisp_player::{PlayFault, play};
 use lisp_texts::number_from_text;
 use lispd::{
-    AnswerSetup, ExplainFault, InputFault, ProgramFault, advice, answer, check_config, explain,
-    explain_all, keep_router_running, keep_server_running, run_loop, run_router, run_server, setup,
+    AnswerSetup, ExplainFault, ProgramFault, answer, check_config, explain, explain_all,
+    keep_router_running, keep_server_running, run_loop, run_router, run_server, setup,
 };
 use std::fs::{self, File};
 use std::io::{self, BufReader, Read};
@@ -26,12 +27,12 @@ pub(crate) fn run_subcommand<
         return run_answer(rt, None);
     };
     match name {
-        "play" => run_play(rt, word(words, FILE)),
-        "server" => serve(rt, words, turns(words)?),
-        "router" => register(rt, words, turns(words)?),
+        "play" => run_play(rt, words),
+        "server" => serve(rt, words),
+        "router" => register(rt, words),
         "loop" => run_network(rt, words),
-        "check" => check(rt, word(words, CONFIG)),
-        "explain" => explain_number(rt, words.get_str(NUMBER)),
+        "check" => check(rt, words),
+        "explain" => explain_number(rt, words),
         _ => run_answer(rt, Some(words)),
     }
 }
@@ -42,6 +43,25 @@ fn word<'a>(words: &ArgMatches<'a>, name: &str) -> &'a str {
         Some(word) => word,
         None => "",
     }
+}
+
+// The words of `server` and `router`.
+#[derive(Drop)]
+struct NodeWords<'a> {
+    config: &'a str,
+    name: &'a str,
+    dir: &'a str,
+    turns: Option<u32>,
+}
+
+fn node_words<'a>(words: &ArgMatches<'a>) -> Result<NodeWords<'a>, ProgramFault> {
+    let turns = turns(words)?;
+    Ok(NodeWords {
+        config: word(words, CONFIG),
+        name: word(words, NAME),
+        dir: word(words, STORE),
+        turns,
+    })
 }
 
 // How many turns a node takes; `None` where it runs until it is killed.
@@ -58,28 +78,28 @@ fn turns(words: &ArgMatches<'_>) -> Result<Option<u32>, ProgramFault> {
 fn serve<R: Print + Files<File = File> + Net + Clock + AllocGlobal + Clone + Drop>(
     rt: &R,
     words: &ArgMatches<'_>,
-    turns: Option<u32>,
 ) -> Result<ExitCode, ProgramFault> {
-    let (config, name, dir) = (word(words, CONFIG), word(words, NAME), word(words, STORE));
+    let node = node_words(words)?;
     let writer = &mut io::writer(rt);
-    match turns {
-        Some(turns) => run_server(rt, config, name, dir, turns, writer)?,
-        None => keep_server_running(rt, config, name, dir, writer)?,
-    }
+    let ran = match node.turns {
+        Some(turns) => run_server(rt, node.config, node.name, node.dir, turns, writer),
+        None => keep_server_running(rt, node.config, node.name, node.dir, writer),
+    };
+    ran?;
     Ok(ExitCode::SUCCESS)
 }
 
 fn register<R: Print + Files<File = File> + Net + Clock + AllocGlobal + Clone + Drop>(
     rt: &R,
     words: &ArgMatches<'_>,
-    turns: Option<u32>,
 ) -> Result<ExitCode, ProgramFault> {
-    let (config, name, dir) = (word(words, CONFIG), word(words, NAME), word(words, STORE));
+    let node = node_words(words)?;
     let writer = &mut io::writer(rt);
-    match turns {
-        Some(turns) => run_router(rt, config, name, dir, turns, writer)?,
-        None => keep_router_running(rt, config, name, dir, writer)?,
-    }
+    let ran = match node.turns {
+        Some(turns) => run_router(rt, node.config, node.name, node.dir, turns, writer),
+        None => keep_router_running(rt, node.config, node.name, node.dir, writer),
+    };
+    ran?;
     Ok(ExitCode::SUCCESS)
 }
 
@@ -87,42 +107,47 @@ fn run_network<R: Print + Files<File = File> + Net + AllocGlobal + Clone + Drop>
     rt: &R,
     words: &ArgMatches<'_>,
 ) -> Result<ExitCode, ProgramFault> {
-    let (config, file, dir) = (word(words, CONFIG), word(words, FILE), word(words, STORE));
+    let config = word(words, CONFIG);
+    let file = word(words, FILE);
+    let dir = word(words, STORE);
     run_loop(rt, config, file, dir, &mut io::writer(rt))?;
     Ok(ExitCode::SUCCESS)
 }
 
 // Prints what was understood of a configuration, or its fault in words.
-fn check<R: Print + Files + AllocGlobal>(rt: &R, config: &str) -> Result<ExitCode, ProgramFault> {
-    match check_config(rt, config, &mut io::writer(rt)) {
+fn check<R: Print + Files + AllocGlobal>(
+    rt: &R,
+    words: &ArgMatches<'_>,
+) -> Result<ExitCode, ProgramFault> {
+    match check_config(rt, word(words, CONFIG), &mut io::writer(rt)) {
         Ok(()) => Ok(ExitCode::SUCCESS),
         Err(fault) => {
+            let fault = ProgramFault::from(fault);
             print_fault(rt, &fault);
-            Err(ProgramFault::from(fault))
+            Err(fault)
         }
     }
 }
 
-fn print_fault<R: Print>(rt: &R, fault: &InputFault) {
-    let InputFault::Input(fault) = fault else {
-        return;
-    };
-    let number = fault.number();
-    let _ = match advice(fault) {
-        Some(words) => println!(rt; "fault {number}: {fault}: {words}"),
-        None => println!(rt; "fault {number}: {fault}"),
-    };
+// Prints a fault of a configuration; where its file can't be opened, nothing.
+fn print_fault<R: Print>(rt: &R, fault: &ProgramFault) {
+    if let ProgramFault::Play(_) = fault {
+        let number = fault.number();
+        let _ = println!(rt; "fault {number}: {}", InWords(fault));
+    }
 }
 
 // Explains a number; with none, all of them.
-fn explain_number<R: Print>(rt: &R, number: Option<&str>) -> Result<ExitCode, ProgramFault> {
-    match number {
+fn explain_number<R: Print>(rt: &R, words: &ArgMatches<'_>) -> Result<ExitCode, ProgramFault> {
+    let writer = &mut io::writer(rt);
+    let explained = match words.get_str(NUMBER) {
         Some(text) => match number_from_text(text).map(u16::try_from) {
-            Some(Ok(number)) => explain(number, &mut io::writer(rt))?,
-            _ => return Err(ProgramFault::Explain(ExplainFault::Unknown)),
+            Some(Ok(number)) => explain(number, writer),
+            _ => Err(ExplainFault::Unknown),
         },
-        None => explain_all(&mut io::writer(rt))?,
-    }
+        None => explain_all(writer),
+    };
+    explained?;
     Ok(ExitCode::SUCCESS)
 }
 
@@ -146,14 +171,22 @@ fn answer_from<R: Print + Input + AllocGlobal>(
 // Plays the schedule of a file.
 fn run_play<R: Print + Input + Files + AllocGlobal>(
     rt: &R,
-    name: &str,
+    words: &ArgMatches<'_>,
 ) -> Result<ExitCode, ProgramFault> {
+    let name = word(words, FILE);
     if name == STANDARD_INPUT {
         return play_from(rt, &mut rt.reader());
     }
-    let Ok(file) = fs::open(rt, name) else {
-        return Err(ProgramFault::File);
-    };
+    match fs::open(rt, name) {
+        Ok(file) => play_file(rt, file),
+        Err(_) => Err(ProgramFault::File),
+    }
+}
+
+fn play_file<R: Print + Files + AllocGlobal>(
+    rt: &R,
+    file: R::File,
+) -> Result<ExitCode, ProgramFault> {
     match BufReader::new(rt.alloc(), file) {
         Ok(mut reader) => play_from(rt, &mut reader),
         Err(_) => Err(ProgramFault::Play(PlayFault::OutOfMemory)),

@@ -12,4 +12,4 @@ as_many n old new whole same =
     omega (arith, left, both, rest, whole, same)
 
 pub invariant_of-self : goal.invariant_of-self
-invariant_of-self g c = (as_many _ c.self.inside.rounds.items c.begin_all.new.rounds c.self.inside.rounds.ok.0 (ap length c.begin_all.ensures ∙ length-map _ _ ∙ ap length c.deref_mut.ensures.value) ∙ c.self.invariant.0, c.self.invariant.1)
+invariant_of-self g c = as_many _ c.self.inside.rounds.items c.begin_all.new.rounds c.self.inside.rounds.ok.0 (ap length c.begin_all.ensures ∙ length-map _ _ ∙ ap length c.deref_mut.ensures.value) ∙ c.self.invariant

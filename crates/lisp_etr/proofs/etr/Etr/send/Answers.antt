@@ -1,18 +1,8 @@
-use Rattle.std.proofs.Common.{◌≡◌, ℕ, ◌+◌, ◌<◌, inr, List, length, get_or, slice_index_or, slice_set, refl, ap, ◌∙◌, arith}
+use Rattle.std.proofs.Common.{◌≡◌, ℕ, ◌+◌, ◌<◌, List, length, get_or, slice_index_or, slice_set, refl, ap, ◌∙◌, arith}
 use Rattle.std.proofs.lemmas.List.{get_or_default}
-use Rattle.std.proofs.lemmas.Result.{err_from_is_err_and}
 use Rattle.lisp_etr.specs.Round.{started, sent}
 use Rattle.lisp_etr.specs.declared.round.Round.{Round}
-use Rattle.lisp_etr.proofs.SafeLaws.{none_below}
 use Rattle.lisp_etr.proofs.etr.Etr.send.Goals as goal
-
-pub returns-in_err-keep-clause-keeps_safe : goal.returns-in_err-keep-clause-keeps_safe
-returns-in_err-keep-clause-keeps_safe g c = rw (← c.self.view_is) (λ honest none. none_below c.self.inside.safe (c.self.inside.last + 1) _ _ (let within = c.self.invariant.1 in omega (arith, within)) (rw (← c.pair.ensures) (c.in_err-keep.ensures.doubt honest)) none)
-
-pub returns-in_err-keep-clause-leaves : goal.returns-in_err-keep-clause-leaves
-returns-in_err-keep-clause-leaves g c =
-    let p = err_from_is_err_and c.from_residual-in_err-keep.result c.from_residual-in_err-keep.ensures.1 in
-    rw (← c.self.view_is) (λ honest. rw p.1 (inr (c.self.inside.last + 1, record { least = omega arith; near = omega arith; most = (let left = c.if-self-ge-LAST_ROUTER_NONCE.false in omega (arith, left)) }, rw (← c.pair.ensures) (c.in_err-keep.ensures.doubt honest))))
 
 -- the round that goes on is that of the Map-Server
 goes_on : (rounds : List Round) (server nonce now : ℕ) (old new : Round) → server < length rounds → old ≡ get_or rounds server old → new ≡ sent nonce now old → slice_set rounds server new ≡ slice_set rounds server (sent nonce now (slice_index_or rounds server (started 0)))

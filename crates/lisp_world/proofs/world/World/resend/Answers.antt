@@ -1,5 +1,5 @@
-use Rattle.std.proofs.Common.{ℕ, List, refl, sym, ap, ◌∙◌, [], ◌∷◌, ◌++◌, Ok, Err}
-use Rattle.std.proofs.lemmas.List.{append-nil}
+use Rattle.std.proofs.Common.{ℕ, List, refl, sym, ap, ◌∙◌, [], ◌∷◌, ◌++◌, Ok, Err, arith}
+use Rattle.std.proofs.lemmas.List.{append-nil, length-set}
 use Rattle.std.proofs.lemmas.Option.{slice_get_read}
 use Rattle.lisp_records.specs.declared.address.Addr.{Addr}
 use Rattle.lisp_schedules.specs.declared.line.Line.TheVariants as lines
@@ -49,3 +49,7 @@ returns-in-Err-clause-resends g c =
       resends = rw (← c.me-me.ensures) c.in-Err.ensures.resends;
       says = (refl, refl);
     })
+
+-- as many Map-Servers as before
+pub invariant_of-self-in-Err : goal.invariant_of-self-in-Err
+invariant_of-self-in-Err g c = (c.self.invariant.0, omega (arith, length-set c.self.inside.servers.items c.args.server c.resend.new.self, c.self.invariant.1))

@@ -1,11 +1,11 @@
 //! Reading the whole input.
 
 ghost use Rattle.std.specs.Prelude.{◌≡◌, ◌<◌, ◌≤◌, ◌⊎◌, length, vec_len, IfOk, IfErr, IfSome, IsErrOf};
-ghost use Rattle.lisp_player.specs.Input.{most_bytes};
+ghost use Rattle.lisp_playing.specs.Input.{most_bytes};
 ghost use Rattle.lisp_playing.specs.declared.fault.PlayFault.TheVariants as faults;
 
+use crate::fault::PlayFault;
 use lisp_memory::{FallibleVec, Memory};
-use lisp_playing::PlayFault;
 use std::io::{ErrorKind, Read};
 
 /// The most bytes of an input.

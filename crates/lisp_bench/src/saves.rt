@@ -1,0 +1,78 @@
+//! How often a router saves.
+
+ghost use Rattle.std.specs.FinMap.{empty};
+ghost use Rattle.std.specs.Prelude.{false};
+
+use lisp_etr::{Etr, EtrConfig, Servers};
+use lisp_records::{Addr, Bytes, Database, RouterId};
+use lisp_store::{NonceStore, Pair, StoreFault};
+use std::alloc::{AllocError, Global};
+
+/// How many Map-Registers are sent.
+const SENDS: u32 = 1_000;
+
+static BLOCKS: [u16; 3] = [1, 16, 1024];
+
+/// A store that counts its saves, and keeps nothing.
+#[derive(Drop)]
+struct CountingStore {
+    saves: u32,
+}
+
+impl NonceStore for CountingStore {
+    ghost seen = { λ s. record { kept = empty; faults = 0; is_honest = false; is_quiet = false; is_obedient = false } };
+
+    ghost may_refuse = { ⊥ };
+
+    fn load(&mut self, _pair: &Pair) -> Result<Option<u64>, StoreFault> {
+        Ok(None)
+    }
+
+    fn save(&mut self, _pair: &Pair, _nonce: u64) -> Result<(), StoreFault> {
+        self.saves = self.saves.saturating_add(1);
+        Ok(())
+    }
+}
+
+/// Prints how many saves the sends of a router take, by its block of nonces; `None` where anything fails.
+pub(crate) fn measure<R: Print + AllocGlobal>(rt: &R) -> Option<()> {
+    for block in &BLOCKS {
+        let saves = saves(rt.alloc(), *block)?;
+        println!(rt; "{SENDS} sends with blocks of {block} nonces: {saves} saves").ok()?;
+    }
+    Some(())
+}
+
+// The saves of a router that sends so often.
+fn saves(alloc: Global, nonce_block: u16) -> Option<u32> {
+    let mut store = CountingStore { saves: 0 };
+    let mut router = start(alloc, nonce_block, &mut store)?;
+    for _ in 0..SENDS {
+        if router.send(&mut store, 0, 0).is_err() {
+            return None;
+        }
+    }
+    Some(store.saves)
+}
+
+// A router that registers nothing, with one Map-Server.
+fn start(alloc: Global, nonce_block: u16, store: &mut CountingStore) -> Option<Etr> {
+    let config = config(alloc, nonce_block).ok()?;
+    let database = Database::new(Vec::new(alloc)).ok()?;
+    Etr::start(alloc, config, database, store, 0).ok()
+}
+
+fn config(alloc: Global, nonce_block: u16) -> Result<EtrConfig, AllocError> {
+    Ok(EtrConfig {
+        me: RouterId {
+            site: 1,
+            xtr: [10; 16],
+        },
+        key_id: 1,
+        secret: Bytes::from_vec(Vec::from_array(alloc, *b"secret")?),
+        servers: Servers::from_vec(Vec::from_array(alloc, [Addr::V4([127, 0, 0, 11])])?),
+        proxy: false,
+        use_ttl: false,
+        nonce_block,
+    })
+}

@@ -1,0 +1,112 @@
+//! The sockets of all nodes of a network.
+
+use crate::endpoint::{DELIVERY, Endpoint, MOST_BYTES};
+use crate::fault::RunFault;
+use crate::output::{Call, print_failed, print_lost};
+use lisp_memory::{FallibleCopies, FallibleVec};
+use lisp_records::Addr;
+use lisp_sites::Config;
+use lisp_world::Datagram;
+use std::io::Write;
+use std::net::Net;
+
+/// A socket for each node, Map-Servers first.
+#[derive(Drop)]
+pub(crate) struct Sockets<'a> {
+    peers: Vec<Peer<'a>>,
+    buffer: Vec<u8>,
+}
+
+/// A node, as the sockets see it.
+#[derive(Drop)]
+struct Peer<'a> {
+    name: &'a str,
+    address: Addr,
+    endpoint: Endpoint,
+}
+
+impl<'a> Sockets<'a> {
+    /// A socket at the address of each node. Faults: 92, 97.
+    pub(crate) fn bind<R: Net + AllocGlobal>(
+        rt: &R,
+        config: &'a Config,
+    ) -> Result<Sockets<'a>, RunFault> {
+        let peers = bind_all(rt, config)?;
+        let buffer = Vec::try_from_elem(rt.alloc(), 0, MOST_BYTES)?;
+        Ok(Sockets { peers, buffer })
+    }
+
+    /// Whether the next datagram at the node that datagram k was sent to is datagram k, or it was sent to no node. Else it
+    /// prints that datagram k is lost, or that the socket failed. Fault: 88.
+    pub(crate) fn arrives<W: Write>(
+        &mut self,
+        k: usize,
+        datagram: &Datagram,
+        writer: &mut W,
+    ) -> Result<bool, RunFault> {
+        let Some(peer) = peer_at(&self.peers, &datagram.to) else {
+            return Ok(true);
+        };
+        match peer.endpoint.receive(&mut self.buffer) {
+            Ok(Some((_, bytes))) if bytes == datagram.bytes.as_slice() => Ok(true),
+            Ok(_) => print_lost(k, writer),
+            Err(_) => print_failed(peer.name, Call::Receive, writer),
+        }
+    }
+
+    /// Sends a datagram from its node, where it goes to one; prints that the socket failed, where it did. Fault: 88.
+    pub(crate) fn send<W: Write>(
+        &self,
+        datagram: &Datagram,
+        writer: &mut W,
+    ) -> Result<(), RunFault> {
+        if peer_at(&self.peers, &datagram.to).is_none() {
+            return Ok(());
+        }
+        match peer_at(&self.peers, &datagram.from) {
+            Some(peer)
+                if peer
+                    .endpoint
+                    .send(&datagram.to, datagram.bytes.as_slice())
+                    .is_err() => {
+                print_failed(peer.name, Call::Send, writer)?;
+                Ok(())
+            }
+            _ => Ok(()),
+        }
+    }
+}
+
+fn bind_all<'a, R: Net + AllocGlobal>(
+    rt: &R,
+    config: &'a Config,
+) -> Result<Vec<Peer<'a>>, RunFault> {
+    let mut peers = Vec::new(rt.alloc());
+    for server in config.servers() {
+        bind_one(rt, server.name.as_str(), server.address, &mut peers)?;
+    }
+    for router in config.routers() {
+        bind_one(rt, router.name.as_str(), router.address, &mut peers)?;
+    }
+    Ok(peers)
+}
+
+fn bind_one<'a, R: Net>(
+    rt: &R,
+    name: &'a str,
+    address: Addr,
+    peers: &mut Vec<Peer<'a>>,
+) -> Result<(), RunFault> {
+    let endpoint = Endpoint::bind(rt, &address, DELIVERY)?;
+    peers.try_push(Peer {
+        name,
+        address,
+        endpoint,
+    })?;
+    Ok(())
+}
+
+// The node at an address.
+fn peer_at<'p, 'a>(peers: &'p [Peer<'a>], address: &Addr) -> Option<&'p Peer<'a>> {
+    peers.iter().find(|peer| peer.address == *address)
+}
