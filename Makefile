@@ -3,9 +3,10 @@
 # make demo     a Map-Server and two routers on loopback, of which the Map-Server is killed and comes back: some seconds
 # make test     the gate: proves everything from nothing, tries the wrong bodies, runs the tests and the samples
 # make mutants  tries further wrong bodies; NAME=lisp_server those of one crate
+# make fuzz     plays schedules that are drawn: COUNT of them from SEED on, over out/lispd
 # make bench    measures the codec, the tag and registrations; and of out/lispd the reading of configurations, plays, and a server
 # make clean    removes what was built
-.PHONY: run lispd demo test mutants bench clean
+.PHONY: run lispd demo test mutants fuzz bench clean
 
 run:
 	@tools/run
@@ -17,15 +18,18 @@ demo: lispd
 	@tools/demo
 
 # No crate may use lisp_memory's own proof that the machine's memory may be refused: grep prints the files that do.
-# One processor for each crate: several for one crate would take half as much processor time again. Three crates at once for
-# four processors: with a fourth each takes longer, and none ends sooner.
 test:
 	@! grep -rlE 'Rattle\.lisp_memory|lisp_memory::(specs|proofs)' crates --include=*.antt --include=*.rt | grep -v '^crates/lisp_memory/'
-	RT_JOBS=$$(( ($$(nproc) * 3 + 3) / 4 )) rt ci
+	rt ci
 	@examples/check.sh crates/lispd_main/out/lispd_main
 
 mutants:
 	@tools/mutants $(NAME)
+
+SEED = 1
+COUNT = 10000
+fuzz: lispd
+	@examples/fuzz.py out/lispd $(SEED) $(COUNT)
 
 bench: lispd
 	@mkdir -p out

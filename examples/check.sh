@@ -1,8 +1,9 @@
 #!/bin/sh
 # check.sh [PROGRAM]
 # Runs the program (out/lispd, where none is named) over the cases of answers.txt, the schedules, the lines of
-# refused.txt, files that can't be read or written, and on sockets and files (running.py). Prints each run that differs
-# from what is wanted, and ends with 1 where one does.
+# refused.txt, files that can't be read or written, bytes that were changed (changed.py), beside a plain list of rows
+# (rows.py), with calls that fail (failing.py), over schedules that are drawn (fuzz.py), and on sockets and files (running.py). Prints each run that differs from what is
+# wanted, and ends with 1 where one does.
 case ${1-} in
     '') program=../out/lispd ;;
     /*) program=$1 ;;
@@ -129,7 +130,11 @@ fills --version
 expect 'a configuration that is checked' 0 @checked.txt '' check configuration.toml
 sed 's/"0000000000000001"/"1"/' configuration.toml > ../out/configuration.toml
 expect 'a configuration with a fault' 2 \
-    'fault 22: site.id has a bad value: a Site-ID is a text of 16 hexadecimal digits, and a router'"'"'s is that of a site' \
+    'fault 22: site 1: site.id has a bad value: a Site-ID is a text of 16 hexadecimal digits, and a router'"'"'s is that of a site' \
+    'lispd: fault 22' check ../out/configuration.toml
+sed '0,/^address = /s/^secret = .*/&\n[[site.key]]\nid = 2\nsecret = ""/' configuration.toml > ../out/configuration.toml
+expect 'a configuration with a fault in the second key' 2 \
+    'fault 22: site 1, key 2: site.key.secret has a bad value: a secret is 1 to 256 bytes in hexadecimal digits' \
     'lispd: fault 22' check ../out/configuration.toml
 expect 'a configuration that is not there' 1 '' 'lispd: fault 93' check no-such.toml
 expect 'every number explained' 0 @../docs/REFUSALS.md '' explain
@@ -137,6 +142,10 @@ expect 'a number explained' 0 '*' '' explain 57
 expect 'a number of nothing' 2 '' 'lispd: fault 98' explain 69
 expect 'no number' 2 '' 'lispd: fault 98' explain x
 
+./changed.py "$program" || failed=1
+./rows.py "$program" || failed=1
+./failing.py "$program" || failed=1
+./fuzz.py "$program" 1 200 || failed=1
 ./running.py "$program" || failed=1
 
 exit $failed

@@ -1,5 +1,6 @@
 //! The codec and the tag, on the 84 byte Map-Register.
 
+use lisp_hmac::Key;
 use lisp_messages::{MapNotify, Message, authentic, read_message, write_notify};
 use std::alloc::Global;
 use std::rt::Clock;
@@ -18,18 +19,26 @@ static REGISTER: [u8; 84] = [
 
 static SECRET: [u8; 6] = *b"secret";
 
+/// Where the Authentication Data stands.
+const AUTH_AT: usize = 16;
+
+/// The bytes of the Map-Notify that answers it.
+const NOTIFY_LEN: usize = 60;
+
 /// What is called.
 #[derive(Clone, Copy)]
 enum Call {
     ReadMessage,
     Authentic,
     WriteNotify,
+    Tags,
 }
 
-static NAMES: [(&str, Call); 3] = [
+static NAMES: [(&str, Call); 4] = [
     ("read_message", Call::ReadMessage),
     ("authentic", Call::Authentic),
     ("write_notify", Call::WriteNotify),
+    ("the tags of both alone", Call::Tags),
 ];
 
 /// Prints how long each call takes; `None` where anything fails.
@@ -49,8 +58,9 @@ pub(crate) fn measure<R: Print + Clock + AllocGlobal>(rt: &R) -> Option<()> {
 }
 
 fn measure_calls<R: Print + Clock + AllocGlobal>(rt: &R, notify: &MapNotify) -> Option<()> {
+    let key = Key::new(&SECRET);
     for (name, call) in &NAMES {
-        let nanos = nanos(rt, notify, *call)?;
+        let nanos = nanos(rt, &key, notify, *call)?;
         let mean = nanos / u128::from(CALLS);
         println!(rt; "{name}: {mean} ns, the mean of {CALLS} calls").ok()?;
     }
@@ -58,12 +68,17 @@ fn measure_calls<R: Print + Clock + AllocGlobal>(rt: &R, notify: &MapNotify) -> 
 }
 
 // The nanoseconds of all calls; `None` if one gives another answer.
-fn nanos<R: Clock + AllocGlobal>(rt: &R, notify: &MapNotify, call: Call) -> Option<u128> {
+fn nanos<R: Clock + AllocGlobal>(
+    rt: &R,
+    key: &Key,
+    notify: &MapNotify,
+    call: Call,
+) -> Option<u128> {
     let Ok(start) = Instant::now(rt) else {
         return None;
     };
     for _ in 0..CALLS {
-        if !is_answered(rt.alloc(), notify, call) {
+        if !is_answered(rt.alloc(), key, notify, call) {
             return None;
         }
     }
@@ -74,10 +89,16 @@ fn nanos<R: Clock + AllocGlobal>(rt: &R, notify: &MapNotify, call: Call) -> Opti
 }
 
 // Whether the call gives the answer that it should.
-fn is_answered(alloc: Global, notify: &MapNotify, call: Call) -> bool {
+fn is_answered(alloc: Global, key: &Key, notify: &MapNotify, call: Call) -> bool {
     match call {
         Call::ReadMessage => read_message(alloc, &REGISTER).is_ok(),
-        Call::Authentic => authentic(&REGISTER, &SECRET),
-        Call::WriteNotify => write_notify(alloc, notify, &SECRET).is_ok(),
+        Call::Authentic => authentic(&REGISTER, key),
+        Call::WriteNotify => write_notify(alloc, notify, key).is_ok(),
+        Call::Tags => has_tags(key),
     }
+}
+
+// Checks the tag of the Map-Register, and makes one for as many bytes as the Map-Notify has.
+fn has_tags(key: &Key) -> bool {
+    key.checks(&REGISTER, AUTH_AT) && key.tag128(&REGISTER[..NOTIFY_LEN], AUTH_AT) != [0; 16]
 }

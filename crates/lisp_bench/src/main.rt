@@ -1,8 +1,10 @@
-//! Measures the codec and the tag, registrations at a Map-Server whose store lies in memory, and how often a router saves, if
-//! there is a word; with no word nothing is measured. `make bench` runs it.
+//! Measures the codec and the tag, registrations and lookups at a Map-Server whose store lies in memory, the reading of a
+//! configuration, and how often a router saves, if there is a word; with no word nothing is measured. `make bench` runs it.
 #![tactic(auto)]
 
 mod codec;
+mod configuration;
+mod lookups;
 mod network;
 mod registers;
 mod saves;
@@ -22,6 +24,8 @@ fn run<R: Env + Print + Clock + AllocGlobal>(rt: &R) -> Option<()> {
     if has_word(rt)? {
         codec::measure(rt)?;
         network::measure(rt)?;
+        lookups::measure(rt)?;
+        configuration::measure(rt)?;
         saves::measure(rt)?;
     }
     Some(())

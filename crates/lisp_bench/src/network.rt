@@ -1,6 +1,7 @@
 //! Registrations at a Map-Server whose store lies in memory.
 
 use crate::registers::{empty_register, host_records};
+use lisp_hmac::Key;
 use lisp_messages::{MapRegister, write_register};
 use lisp_records::{Addr, Prefix};
 use lisp_served::Sites;
@@ -35,11 +36,12 @@ const SECRET: &[u8] = b"secret";
 
 const SOURCE: Addr = Addr::V4([127, 0, 0, 21]);
 
-/// A server, its store, and the last Map-Register that it was sent.
+/// A server, its store, and the last Map-Register that it was sent, under the key of its one site.
 #[derive(Drop)]
-struct Network {
+pub(crate) struct Network {
     alloc: Global,
-    server: Server,
+    key: Key,
+    pub(crate) server: Server,
     store: MemoryStore,
     register: MapRegister,
     datagram: Vec<u8>,
@@ -55,12 +57,13 @@ pub(crate) fn measure<R: Print + Clock + AllocGlobal>(rt: &R) -> Option<()> {
 }
 
 impl Network {
-    // A server that serves 10.0.0.0/8 and holds nothing.
-    fn new(alloc: Global) -> Result<Network, AllocError> {
+    /// A server that serves 10.0.0.0/8 and holds nothing.
+    pub(crate) fn new(alloc: Global) -> Result<Network, AllocError> {
         let prefix = Prefix::new(Addr::V4([10, 0, 0, 0]), 8).unwrap();
         let sites = Sites::single(alloc, 1, 1, SECRET, prefix, true)?;
         Ok(Network {
             alloc,
+            key: Key::new(SECRET),
             server: Server::start(alloc, sites),
             store: MemoryStore::new(alloc),
             register: empty_register(alloc),
@@ -71,7 +74,7 @@ impl Network {
     fn measure<R: Print + Clock>(&mut self, rt: &R) -> Option<()> {
         let mut before = 0;
         for (held, records) in &POINTS {
-            self.fill(before / BLOCK, *held / BLOCK)?;
+            self.fill(before, *held)?;
             before = *held;
             self.name_hosts(held.saturating_sub(*records), *records)?;
             self.time(rt, *held, *records)?;
@@ -79,9 +82,9 @@ impl Network {
         Some(())
     }
 
-    // Registers the rows of some blocks.
-    fn fill(&mut self, first: u32, end: u32) -> Option<()> {
-        for block in first..end {
+    /// Registers rows, where it holds so many, until it holds `held`; both are whole blocks, but for less than one.
+    pub(crate) fn fill(&mut self, before: u32, held: u32) -> Option<()> {
+        for block in before / BLOCK..held / BLOCK {
             self.name_hosts(block.saturating_mul(BLOCK), BLOCK)?;
             self.write()?;
             if !self.is_accepted() {
@@ -105,7 +108,7 @@ impl Network {
     // Writes a Map-Register with the next nonce.
     fn write(&mut self) -> Option<()> {
         self.register.nonce = self.register.nonce.wrapping_add(1);
-        self.datagram = write_register(self.alloc, &self.register, SECRET).ok()?;
+        self.datagram = write_register(self.alloc, &self.register, &self.key).ok()?;
         Some(())
     }
 

@@ -4,7 +4,8 @@ ghost use Rattle.std.specs.FinMap.{empty};
 ghost use Rattle.std.specs.Prelude.{false};
 
 use lisp_etr::{Etr, EtrConfig, Servers};
-use lisp_records::{Addr, Bytes, Database, RouterId};
+use lisp_hmac::Key;
+use lisp_records::{Addr, Database, RouterId};
 use lisp_store::{NonceStore, Pair, StoreFault};
 use std::alloc::{AllocError, Global};
 
@@ -69,7 +70,7 @@ fn config(alloc: Global, nonce_block: u16) -> Result<EtrConfig, AllocError> {
             xtr: [10; 16],
         },
         key_id: 1,
-        secret: Bytes::from_vec(Vec::from_array(alloc, *b"secret")?),
+        key: Key::new(b"secret"),
         servers: Servers::from_vec(Vec::from_array(alloc, [Addr::V4([127, 0, 0, 11])])?),
         proxy: false,
         use_ttl: false,

@@ -1,4 +1,4 @@
-//! What is checked of a message before any nonce is looked at, and the secrets that it is checked under.
+//! What is checked of a message before any nonce is looked at, and the keys that it is checked under.
 
 ghost use Rattle.std.specs.Prelude.{◌≡◌, IsErrOf};
 ghost use Rattle.std.specs.Option.{option_map};
@@ -8,43 +8,44 @@ ghost use Rattle.lisp_checks.specs.Checks.{first_not_allowed, refused_at, secret
 ghost use Rattle.lisp_checks.specs.declared.refused.Refused.{Refused};
 
 use crate::refused::Refused;
+use lisp_hmac::Key;
 use lisp_messages::{MapRegister, authentic};
 use lisp_records::MapRecord;
 use lisp_served::{Site, Sites};
 use std::alloc::Allocator;
 
-/// The secret that a Map-Register is authentic under, or the first check that it fails: `UnknownSite`,
+/// The key that a Map-Register is authentic under, or the first check that it fails: `UnknownSite`,
 /// `UnknownKey`, `BadAuth`, `MergeAsked`, `NotAllowed`.
 #[tactic(auto, unfolding(crate::specs::Checks::secret_under))]
-pub fn secret_under<'s, A: Allocator, B: Allocator>(
+pub fn key_under<'s, A: Allocator, B: Allocator>(
     sites: &'s Sites<B>,
     bytes: &[u8],
     register: &MapRegister<A>,
-) -> Result<&'s [u8], Refused>
-    ensures secret { Reads (λ s. s.now) result (secret_under sites.now bytes.now register.now) }
+) -> Result<&'s Key, Refused>
+    ensures secret { Reads (λ k. k.now) result (secret_under sites.now bytes.now register.now) }
     ensures plain { ¬ (IsErrOf result Refused.OutOfMemory) }
     ensures storeless { (¬ (IsErrOf result (Refused.StoreLoad StoreFault.OutOfMemory))) × (¬ (IsErrOf result (Refused.StoreSave StoreFault.OutOfMemory))) }
 {
     let site = sites.site(register.site).ok_or(Refused::UnknownSite)?;
-    let secret = site.secret(register.key_id).ok_or(Refused::UnknownKey)?;
-    if !authentic(bytes, secret) {
+    let key = site.key(register.key_id).ok_or(Refused::UnknownKey)?;
+    if !authentic(bytes, key) {
         return Err(Refused::BadAuth);
     }
     if register.merge {
         return Err(Refused::MergeAsked);
     }
-    unless_not_allowed(first_not_allowed(site, register.records.as_slice()), secret)
+    unless_not_allowed(first_not_allowed(site, register.records.as_slice()), key)
 }
 
-// The secret, unless there is a record that isn't allowed, whose place is given.
-fn unless_not_allowed(place: Option<usize>, secret: &[u8]) -> Result<&[u8], Refused>
-    ensures secret { Reads (λ s. s.now) result (refused_at place secret.now) }
+// The key, unless there is a record that isn't allowed, whose place is given.
+fn unless_not_allowed(place: Option<usize>, key: &Key) -> Result<&Key, Refused>
+    ensures secret { Reads (λ k. k.now) result (refused_at place key.now) }
     ensures plain { ¬ (IsErrOf result Refused.OutOfMemory) }
     ensures storeless { (¬ (IsErrOf result (Refused.StoreLoad StoreFault.OutOfMemory))) × (¬ (IsErrOf result (Refused.StoreSave StoreFault.OutOfMemory))) }
 {
     match place {
         Some(place) => Err(Refused::NotAllowed(place)),
-        None => Ok(secret),
+        None => Ok(key),
     }
 }
 
@@ -60,9 +61,9 @@ fn first_not_allowed<A: Allocator, B: Allocator>(
         .position(|record| !site.allows(&record.eid()))
 }
 
-/// The secret of a key of a site.
-pub fn secret_at<A: Allocator>(sites: &Sites<A>, site: u64, key: u8) -> Option<&[u8]>
-    ensures { option_map (λ s. s.now) result ≡ secret_at sites.now site key }
+/// The key of a site under a Key ID, made ready for tags.
+pub fn key_at<A: Allocator>(sites: &Sites<A>, site: u64, key_id: u8) -> Option<&Key>
+    ensures { option_map (λ k. k.now) result ≡ secret_at sites.now site key_id }
 {
-    sites.site(site)?.secret(key)
+    sites.site(site)?.key(key_id)
 }

@@ -8,7 +8,7 @@ mod notice_fault;
 mod pairs;
 mod refused;
 
-pub use checks::{secret_at, secret_under};
+pub use checks::{key_at, key_under};
 pub use nonces::{check_nonce, next_nonce, save_nonce, save_notice};
 pub use notice_fault::NoticeFault;
 pub use pairs::{NOTICES, pair_of, router_of};

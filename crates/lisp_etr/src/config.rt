@@ -4,7 +4,8 @@ ghost use Rattle.std.specs.Prelude.{◌≡◌};
 ghost use Rattle.lisp_etr.specs.Config.{sent_pair};
 
 use crate::servers::Servers;
-use lisp_records::{Bytes, RouterId};
+use lisp_hmac::Key;
+use lisp_records::RouterId;
 use lisp_store::{Pair, PairKind};
 use std::alloc::{Allocator, Global};
 use std::marker::Model;
@@ -14,10 +15,10 @@ use std::marker::Model;
 pub struct EtrConfig<A: Allocator = Global> {
     /// Its site and xTR-ID.
     pub me: RouterId,
-    /// The key of its site that it registers under.
+    /// The Key ID that it registers under.
     pub key_id: u8,
-    /// The pre-shared secret of that key.
-    pub secret: Bytes<A>,
+    /// The pre-shared secret of that Key ID, made ready for tags.
+    pub key: Key,
     /// The Map-Servers that it registers with; their numbers are their places, from 0 on.
     pub servers: Servers<A>,
     /// P: the Map-Servers are to answer Map-Requests for it.
@@ -33,7 +34,7 @@ impl<A: Allocator> Model for EtrConfig<A> {
 
     ghost Value = { Settings };
 
-    ghost view = { λ c. record { me = c.me; key_id = c.key_id; secret = c.secret; servers = c.servers; proxy = c.proxy; use_ttl = c.use_ttl; nonce_block = c.nonce_block } };
+    ghost view = { λ c. record { me = c.me; key_id = c.key_id; secret = c.key; servers = c.servers; proxy = c.proxy; use_ttl = c.use_ttl; nonce_block = c.nonce_block } };
 }
 
 impl<A: Allocator> EtrConfig<A> {

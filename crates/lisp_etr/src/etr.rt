@@ -210,7 +210,7 @@ impl<A: Memory + Copy> Etr<A> {
             ack: true,
             ..notify
         };
-        let bytes = write_ack(self.alloc, &ack, self.config.secret.as_slice())?;
+        let bytes = write_ack(self.alloc, &ack, &self.config.key)?;
         Ok(Seen::Notice {
             server,
             nonce: ack.nonce,

@@ -12,6 +12,7 @@ ghost use Rattle.lisp_etr.specs.declared.notify_fault.NotifyFault.{NotifyFault};
 
 use crate::config::EtrConfig;
 use crate::notify_fault::NotifyFault;
+use lisp_hmac::Key;
 use lisp_memory::Memory;
 use lisp_messages::{MapNotify, Message, authentic, read_message, write_notify};
 use lisp_records::Addr;
@@ -37,7 +38,7 @@ pub(crate) fn hear<A: Memory + Copy>(
     if notify.key_id != config.key_id {
         return Err(NotifyFault::WrongKey);
     }
-    if !authentic(bytes, config.secret.as_slice()) {
+    if !authentic(bytes, &config.key) {
         return Err(NotifyFault::BadAuth);
     }
     Ok((server, notify))
@@ -67,11 +68,11 @@ fn server_at(servers: &[Addr], from: Addr) -> Option<usize>
 pub(crate) fn write_ack<A: Memory + Copy>(
     alloc: A,
     ack: &MapNotify<A>,
-    secret: &[u8],
+    key: &Key,
 ) -> Result<Vec<u8, A>, AllocError>
-    ensures written { IfOk result (λ bytes. bytes.items ≡ signed secret.now (written_notify ack.now)) }
+    ensures written { IfOk result (λ bytes. bytes.items ≡ signed key.now (written_notify ack.now)) }
     ensures known { OnOk result (IsNotification ack.now) }
     ensures memory { OnErr result A.may_refuse }
 {
-    write_notify(alloc, ack, secret)
+    write_notify(alloc, ack, key)
 }

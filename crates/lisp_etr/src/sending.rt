@@ -41,7 +41,7 @@ pub(crate) fn datagram<A: Memory + Copy>(
         xtr: config.me.xtr,
         site: config.me.site,
     };
-    write_register(alloc, &register, config.secret.as_slice())
+    write_register(alloc, &register, &config.key)
 }
 
 /// Saves the end of a block of nonces before a nonce is sent, unless what was saved before is no less than that nonce: after a

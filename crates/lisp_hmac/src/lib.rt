@@ -2,8 +2,12 @@
 //! (RFC 9301 sections 5.6 and 12.5, RFC 4868 section 2.3). Nothing here takes memory.
 #![tactic(auto)]
 
+mod block;
 mod hmac;
+mod key;
+mod secret;
 mod tag;
 
 pub use hmac::hmac_sha256;
+pub use key::Key;
 pub use tag::{TAG_LEN, checks, tag128};

@@ -1,12 +1,10 @@
 -- The best of some rows and one more.
-use Rattle.std.proofs.Common.{◌≡◌, ◌≢◌, ◌⊎◌, inl, inr, ℕ, suc, ◌+◌, ◌<◌, length, take, get_or, Bool, true, false, cond, List, [], ◌∷◌, ◌++◌, Option, Some, None, refl, sym, ap, ◌∙◌, subst, true≢false, arith}
+use Rattle.std.proofs.Common.{◌≡◌, ◌≢◌, ◌⊎◌, inl, inr, ℕ, Bool, true, false, cond, List, Option, Some, None, refl, sym, ap, ◌∙◌, subst, true≢false}
 use Rattle.std.specs.List.{Contains}
 use Rattle.std.specs.Ordering.{is_lt, ordering_reverse}
 use Rattle.std.specs.Cmp.{IsTotalOrder, on_total, then_total, nat_cmp_total, bool_cmp_total}
 use Rattle.std.specs.declared.cmp.Ordering.{Ordering}
 use Rattle.std.specs.declared.cmp.Ordering.TheVariants.{Less, Equal, Greater}
-use Rattle.std.proofs.Math.Seq.{take-suc}
-use Rattle.std.proofs.lemmas.List.Elements.{Contains-push_cases, Contains-push, Contains-append_left}
 use Rattle.lisp_records.specs.declared.address.Addr.{Addr}
 use Rattle.lisp_records.specs.Row.{Holding}
 use Rattle.std.specs.Option.{option_map}
@@ -49,73 +47,80 @@ less Less is = refl
 less Equal is = absurd cc
 less Greater is = absurd cc
 
-module _ (rows : List Holding) (x : Holding) (addr : Addr) (now : ℕ) where
+-- the row is the greatest of those that were seen and may answer
+pub record IsBestIn (Seen : Holding → Type 0) (addr : Addr) (now : ℕ) (h : Holding) : Type 0 where
+  pub held : Seen h
+  pub may : may_answer addr now h ≡ true
+  pub most : (other : Holding) → Seen other → may_answer addr now other ≡ true → rank_cmp other h ≢ Greater
+
+abbrev pub BestIn : (Holding → Type 0) → Addr → ℕ → Option Holding → Type 0
+BestIn Seen addr now (Some h) = IsBestIn Seen addr now h
+BestIn Seen addr now None = (h : Holding) → Seen h → may_answer addr now h ≡ false
+
+-- one row more was seen
+module _ (Seen More : Holding → Type 0) (x : Holding) (addr : Addr) (now : ℕ) (keeps : (h : Holding) → Seen h → More h) (has : More x) (splits : (h : Holding) → More h → Seen h ⊎ (x ≡ h)) where
   -- a row that may not answer changes nothing
-  pub best_passes : (best : Option Holding) → may_answer addr now x ≡ false → IsBestOf rows addr now best → IsBestOf (rows ++ x ∷ []) addr now best
-  best_passes None never none = λ h has. either h (Contains-push_cases rows x h has)
+  best_passes : (best : Option Holding) → may_answer addr now x ≡ false → BestIn Seen addr now best → BestIn More addr now best
+  best_passes None never none = λ h seen. either h (splits h seen)
     where
-      either : (h : Holding) → Contains rows h ⊎ (x ≡ h) → may_answer addr now h ≡ false
+      either : (h : Holding) → Seen h ⊎ (x ≡ h) → may_answer addr now h ≡ false
       either h (inl was) = none h was
       either h (inr is) = subst (λ (y : Holding). may_answer addr now y ≡ false) is never
   best_passes (Some b) never is = record {
-    held = Contains-append_left rows (x ∷ []) b is.held;
+    held = keeps b is.held;
     may = is.may;
-    most = λ other has may. either other may (Contains-push_cases rows x other has);
+    most = λ other seen may. either other may (splits other seen);
   }
     where
-      either : (other : Holding) → may_answer addr now other ≡ true → Contains rows other ⊎ (x ≡ other) → rank_cmp other b ≢ Greater
+      either : (other : Holding) → may_answer addr now other ≡ true → Seen other ⊎ (x ≡ other) → rank_cmp other b ≢ Greater
       either other may (inl was) = is.most other was may
       either other may (inr same) = absurd (true≢false (sym may ∙ ap (may_answer addr now) (sym same) ∙ never))
 
-  chosen : (b : Holding) (above : Bool) → is_lt (rank_cmp b x) ≡ above → may_answer addr now x ≡ true → IsBest rows addr now b → IsBest (rows ++ x ∷ []) addr now (cond above x b)
+  chosen : (b : Holding) (above : Bool) → is_lt (rank_cmp b x) ≡ above → may_answer addr now x ≡ true → IsBestIn Seen addr now b → IsBestIn More addr now (cond above x b)
   chosen b true above can is = record {
-    held = Contains-push rows x;
+    held = has;
     may = can;
-    most = λ other has may. either other may (Contains-push_cases rows x other has);
+    most = λ other seen may. either other may (splits other seen);
   }
     where
-      either : (other : Holding) → may_answer addr now other ≡ true → Contains rows other ⊎ (x ≡ other) → rank_cmp other x ≢ Greater
+      either : (other : Holding) → may_answer addr now other ≡ true → Seen other ⊎ (x ≡ other) → rank_cmp other x ≢ Greater
       either other may (inl was) = not_above rank_total other b x (is.most other was may) (less (rank_cmp b x) above)
       either other may (inr same) = subst (λ (y : Holding). rank_cmp y x ≢ Greater) same (not_above_itself rank_total x)
   chosen b false above can is = record {
-    held = Contains-append_left rows (x ∷ []) b is.held;
+    held = keeps b is.held;
     may = is.may;
-    most = λ other has may. either other may (Contains-push_cases rows x other has);
+    most = λ other seen may. either other may (splits other seen);
   }
     where
-      either : (other : Holding) → may_answer addr now other ≡ true → Contains rows other ⊎ (x ≡ other) → rank_cmp other b ≢ Greater
+      either : (other : Holding) → may_answer addr now other ≡ true → Seen other ⊎ (x ≡ other) → rank_cmp other b ≢ Greater
       either other may (inl was) = is.most other was may
       either other may (inr same) = subst (λ (y : Holding). rank_cmp y b ≢ Greater) same (turned rank_total x b above)
 
   -- a row that may answer is the best now, or less than the best
-  pub best_grows : (best : Option Holding) → may_answer addr now x ≡ true → IsBestOf rows addr now best → IsBest (rows ++ x ∷ []) addr now (greater best x)
+  best_grows : (best : Option Holding) → may_answer addr now x ≡ true → BestIn Seen addr now best → IsBestIn More addr now (greater best x)
   best_grows None can none = record {
-    held = Contains-push rows x;
+    held = has;
     may = can;
-    most = λ other has may. either other may (Contains-push_cases rows x other has);
+    most = λ other seen may. either other may (splits other seen);
   }
     where
-      either : (other : Holding) → may_answer addr now other ≡ true → Contains rows other ⊎ (x ≡ other) → rank_cmp other x ≢ Greater
+      either : (other : Holding) → may_answer addr now other ≡ true → Seen other ⊎ (x ≡ other) → rank_cmp other x ≢ Greater
       either other may (inl was) = absurd (true≢false (sym may ∙ none other was))
       either other may (inr same) = subst (λ (y : Holding). rank_cmp y x ≢ Greater) same (not_above_itself rank_total x)
   best_grows (Some b) can is = chosen b (is_lt (rank_cmp b x)) refl can is
 
--- the best of the first rows and of the next one
-pub best_next : (rows : List Holding) (i : ℕ) (x : Holding) (addr : Addr) (now : ℕ) (old new : Option Holding) → i < length rows → x ≡ get_or rows i x
-    → IsBestOf (take i rows) addr now old
-    → ((may_answer addr now x ≡ true) × (new ≡ Some (greater old x))) ⊎ ((may_answer addr now x ≡ false) × (new ≡ old))
-    → IsBestOf (take (i + 1) rows) addr now new
-best_next rows i x addr now old new within at is moved = subst (λ (before : List Holding). IsBestOf before addr now new) (sym taken) (here moved)
-  where
-    next : i + 1 ≡ suc i
-    next = omega arith
+  pub best_next : (old new : Option Holding) → BestIn Seen addr now old → ((may_answer addr now x ≡ true) × (new ≡ Some (greater old x))) ⊎ ((may_answer addr now x ≡ false) × (new ≡ old)) → BestIn More addr now new
+  best_next old new is (inl grows) = subst (λ (o : Option Holding). BestIn More addr now o) (sym grows.1) (best_grows old grows.0 is)
+  best_next old new is (inr stays) = subst (λ (o : Option Holding). BestIn More addr now o) (sym stays.1) (best_passes old stays.0 is)
 
-    taken : take (i + 1) rows ≡ take i rows ++ x ∷ []
-    taken = ap (λ (n : ℕ). take n rows) next ∙ take-suc rows i x within ∙ ap (λ (y : Holding). take i rows ++ y ∷ []) (sym at)
-
-    here : ((may_answer addr now x ≡ true) × (new ≡ Some (greater old x))) ⊎ ((may_answer addr now x ≡ false) × (new ≡ old)) → IsBestOf (take i rows ++ x ∷ []) addr now new
-    here (inl grows) = subst (λ (o : Option Holding). IsBestOf (take i rows ++ x ∷ []) addr now o) (sym grows.1) (best_grows (take i rows) x addr now old grows.0 is)
-    here (inr stays) = subst (λ (o : Option Holding). IsBestOf (take i rows ++ x ∷ []) addr now o) (sym stays.1) (best_passes (take i rows) x addr now old stays.0 is)
+-- what was seen are the rows
+pub best_of_all : (Seen : Holding → Type 0) (rows : List Holding) (addr : Addr) (now : ℕ) (best : Option Holding) → ((h : Holding) → Seen h → Contains rows h) → ((h : Holding) → Contains rows h → Seen h) → BestIn Seen addr now best → IsBestOf rows addr now best
+best_of_all Seen rows addr now None there back none = λ h held. none h (back h held)
+best_of_all Seen rows addr now (Some b) there back is = record {
+  held = there b is.held;
+  may = is.may;
+  most = λ other held may. is.most other (back other held) may;
+}
 
 module _ {R : Type 0} (view : R → Holding) (rows seen : List Holding) (addr : Addr) (now : ℕ) (result : Option R) (same : seen ≡ rows) (best : IsBestOf seen addr now (option_map view result)) where
   of_rows : (found : Option R) → result ≡ found → IsBestOf rows addr now (option_map view found)

@@ -1,6 +1,12 @@
-pub mod Found
 pub mod Apart
 pub mod Orders
+pub mod FindLaws
 pub mod TableLaws
 pub mod LiveLaws
 pub mod AnswerLaws
+pub mod IndexLaws
+pub mod RemovalLaws
+pub mod DeadlineLaws
+pub mod PutLaws
+pub mod CountLaws
+pub mod BestLaws

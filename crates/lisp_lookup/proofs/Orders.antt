@@ -46,7 +46,7 @@ same_block a b tie =
 pub router_total : IsTotalOrder router_cmp
 router_total = then_total (on_total (λ (r : RouterId). r.site) nat_cmp_total) (on_total (λ (r : RouterId). r.xtr) nat_list_cmp_total)
 
-same_router : (a b : RouterId) → router_cmp a b ≡ Equal → a ≡ b
+pub same_router : (a b : RouterId) → router_cmp a b ≡ Equal → a ≡ b
 same_router a b tie =
     let parts = exact_pairs nat_cmp (slice_cmp nat_cmp) exact_unsigned exact_bytes (a.site, a.xtr) (b.site, b.xtr) tie in
     λ i. record { site = (parts i).0; xtr = (parts i).1 }

@@ -20,8 +20,8 @@ use Rattle.lisp_records.specs.declared.router.RouterId.{RouterId}
 use Rattle.lisp_records.specs.Address.{Block}
 use Rattle.lisp_records.specs.Row.{Holding, is_alive}
 use Rattle.lisp_lookup.specs.Table.{is_row_of, row_key, row_at, last_of, OneEach, Sets, Expires, if_alive, row_cmp, IsHeld}
-use Rattle.lisp_lookup.proofs.Apart.{apart_set, apart_push, own_found}
-use Rattle.lisp_lookup.proofs.Found.{put_set, put_push}
+use Rattle.lisp_lookup.proofs.Apart.{own_found}
+use Rattle.lisp_served.proofs.Found.{put_set, put_push}
 use Rattle.lisp_lookup.proofs.Orders.{key_cmp, key_total, same_key}
 
 abbrev has : RouterId × Block → Holding → Bool
@@ -58,12 +58,6 @@ sets_more old mid new given y first second router eid =
     ∙ or_chain (is_row_of router eid y) y (last_of given router eid) (row_at old router eid)
     ∙ ap (λ (rows : List Holding). option_or (find (is_row_of router eid) rows) (row_at old router eid)) (sym (reverse-append given (y ∷ [])))
 
-pub one_each_set : (rows : List Holding) (i : ℕ) (y : Holding) → OneEach rows → position (is_row_of y.router y.mapping.eid) rows ≡ Some i → OneEach (slice_set rows i y)
-one_each_set rows i y one at = apart_set row_key has has_key rows i y one at
-
-pub one_each_push : (rows : List Holding) (y : Holding) → OneEach rows → position (is_row_of y.router y.mapping.eid) rows ≡ None → OneEach (rows ++ y ∷ [])
-one_each_push rows y one at = apart_push row_key has has_key rows y one at
-
 pub some_inj : {X : Type 0} (x y : X) → ◌≡◌ {A = Option X} (Some x) (Some y) → x ≡ y
 some_inj x y e = cc
 
@@ -81,7 +75,7 @@ module _ {X K : Type 0} (key : X → K) where
   abbrev Differ : List X → Type 0
   Differ xs = AllPairs (λ a b. key a ≢ key b) xs
 
-  either_way : (xs : List X) → Differ xs → (i j : ℕ) (d : X) → i < length xs → j < length xs → key (slice_index_or xs i d) ≡ key (slice_index_or xs j d) → i ≡ j
+  pub either_way : (xs : List X) → Differ xs → (i j : ℕ) (d : X) → i < length xs → j < length xs → key (slice_index_or xs i d) ≡ key (slice_index_or xs j d) → i ≡ j
   either_way xs one i j d within_i within_j same =
       let not_below : i < j → ⊥ = λ less. one i j d less within_j same in
       let not_above : j < i → ⊥ = λ less. one j i d less within_i (sym same) in

@@ -1,29 +1,72 @@
 //! Which of the rows answers for an address.
 
 ghost use Rattle.std.specs.Prelude.{◌≡◌};
+ghost use Rattle.std.specs.List.{All, filter};
 ghost use Rattle.std.specs.Option.{option_map};
+ghost use Rattle.lisp_records.specs.Address.{IsBlock, block_eq};
+ghost use Rattle.lisp_lookup.specs.Index.{prefix_cmp, IsIndex};
 ghost use Rattle.lisp_lookup.specs.Answer.{may_answer, rank_cmp, greater, IsBestOf};
 
-use lisp_records::{Addr, Row};
+use crate::find::place;
+use crate::probe::Probe;
+use lisp_records::{Addr, Prefix, Row};
 use std::alloc::Allocator;
 use std::cmp::Ordering;
+use std::collections::VecDeque;
 
 /// Of the rows that are alive at a moment, in ms, and whose prefix has the address, the one that answers;
-/// `None` where none does.
+/// `None` where none does. The prefixes that have the address are sought one by one, the longest first.
 pub(crate) fn best<'a, A: Allocator>(
     rows: &'a [Row<A>],
+    by_prefix: &VecDeque<usize, A>,
     addr: &Addr,
     now: u64,
 ) -> Option<&'a Row<A>>
+    requires eids { All (λ h. IsBlock h.mapping.eid) rows.now }
+    requires index { IsIndex prefix_cmp rows.now by_prefix.now.items }
     ensures { IsBestOf rows.now addr.now now (option_map (λ row. row.now) result) }
 {
+    let longest = addr.family().max_mask_len();
+    for shorter in 0..longest + 1 {
+        let prefix = Prefix::new(*addr, longest - shorter)?;
+        let best = best_of(rows, by_prefix, &prefix, addr, now);
+        if best.is_some() {
+            return best;
+        }
+    }
+    None
+}
+
+// Of the rows of a prefix the one that answers.
+fn best_of<'a, A: Allocator>(
+    rows: &'a [Row<A>],
+    by_prefix: &VecDeque<usize, A>,
+    prefix: &Prefix,
+    addr: &Addr,
+    now: u64,
+) -> Option<&'a Row<A>>
+    requires index { IsIndex prefix_cmp rows.now by_prefix.now.items }
+    ensures { IsBestOf (filter (λ h. block_eq h.mapping.eid prefix.now) rows.now) addr.now now (option_map (λ row. row.now) result) }
+{
+    let first = place(rows, by_prefix, &Probe::Prefix(*prefix));
     let mut best = None;
-    for row in rows {
+    for place in first..by_prefix.len() {
+        let row = &rows[by_prefix[place]];
+        if !is_of(row, prefix) {
+            return best;
+        }
         if may_answer(row, addr, now) {
             best = Some(greater(best, row));
         }
     }
     best
+}
+
+// Whether a row is one of a prefix.
+fn is_of<A: Allocator>(row: &Row<A>, prefix: &Prefix) -> bool
+    ensures { result ≡ block_eq row.now.mapping.eid prefix.now }
+{
+    row.mapping.eid() == *prefix
 }
 
 // The greater of two rows, where there is a first one.

@@ -4,8 +4,15 @@
 
 mod answer;
 mod best;
+mod edits;
+mod find;
+mod index;
 mod live;
+mod order;
+mod probe;
+mod steps;
 mod table;
 
 pub use answer::Answer;
+pub use steps::Steps;
 pub use table::Table;

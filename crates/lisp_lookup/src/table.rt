@@ -1,41 +1,54 @@
-//! The rows that a Map-Server holds, as a plain list.
+//! The rows that a Map-Server holds.
 
-ghost use Rattle.std.specs.Prelude.{◌≡◌, ◌+◌, ◌≤◌, ◌<◌, [], ◌∷◌, List, length, nat_le, slice_get, Ok, Err, IfOk, IfErr, OnOk, OnErr};
+ghost use Rattle.std.specs.Prelude.{◌≡◌, ◌+◌, ◌-◌, ◌*◌, ◌^◌, ◌≤◌, ◌<◌, [], ◌∷◌, List, length, nat_le, slice_get, Ok, Err, IfOk, IfErr, OnOk, OnErr};
 ghost use Rattle.std.specs.Option.{option_map};
-ghost use Rattle.std.specs.List.{filter, position};
+ghost use Rattle.std.specs.List.{filter, count_by};
+ghost use Rattle.std.specs.Ordering.{is_lt};
 ghost use Rattle.lisp_records.specs.Address.{block_cmp};
 ghost use Rattle.lisp_records.specs.Moment.{max_moment};
 ghost use Rattle.lisp_records.specs.Row.{is_alive};
-ghost use Rattle.lisp_lookup.specs.Table.{is_row_of, OneEach, Sets, Expires, row_cmp, IsHeld};
+ghost use Rattle.lisp_lookup.specs.Table.{OneEach, Sets, Expires, row_cmp, IsHeld};
 ghost use Rattle.lisp_lookup.specs.Answer.{Answers};
 ghost use Rattle.lisp_lookup.specs.Records.{live_of, ByPrefix};
 ghost use Rattle.lisp_records.specs.Database.{database_of};
 
 use crate::answer::Answer;
 use crate::best::best;
+use crate::find::find;
+use crate::index;
 use crate::live::{copy_live, count_live};
-use lisp_memory::{FallibleVec, Memory};
+use crate::probe::Probe;
+use crate::steps::Steps;
+use lisp_memory::{FallibleDeque, FallibleVec, Memory};
 use lisp_records::{Addr, DatabaseFault, MapRecord, Prefix, RouterId, Row};
 use lisp_served::Sites;
 use std::alloc::{AllocError, Allocator, Global};
 use std::cmp::Ordering;
+use std::collections::VecDeque;
 use std::marker::Model;
+use std::sync::ledger::Ledger;
 
 /// Rows, one for each router and prefix, and room for more.
 #[derive(Debug, Drop)]
 pub struct Table<A: Allocator = Global> {
     items: Vec<Row<A>, A>,
+    // The numbers of the rows, by prefix, then router.
+    by_prefix: VecDeque<usize, A>,
+    // The numbers of the rows, by deadline.
+    by_deadline: VecDeque<usize, A>,
 }
 
 impl<A: Allocator> Model for Table<A> {
-    ghost use Rattle.std.specs.Prelude.{◌-◌, vec_len, vec_capacity};
-    ghost use Rattle.lisp_lookup.specs.Table.{TableState, OneEach};
+    ghost use Rattle.std.specs.Prelude.{◌-◌, min, vec_len, vec_capacity};
+    ghost use Rattle.std.specs.VecDeque.{deque_len, deque_capacity};
+    ghost use Rattle.lisp_lookup.specs.Table.{TableState};
+    ghost use Rattle.lisp_lookup.specs.Index.{Indexed};
 
     ghost Value = { TableState };
 
-    ghost view = { λ r. record { rows = r.items.items; spare = vec_capacity r.items - vec_len r.items } };
+    ghost view = { λ r. record { rows = r.items.items; spare = min (vec_capacity r.items - vec_len r.items) (min (deque_capacity r.by_prefix - deque_len r.by_prefix) (deque_capacity r.by_deadline - deque_len r.by_deadline)) } };
 
-    ghost invariant = { λ r. OneEach r.items.items };
+    ghost invariant = { λ r. Indexed r.items.items r.by_prefix.items r.by_deadline.items };
 }
 
 impl<A: Allocator + Copy> Table<A> {
@@ -45,6 +58,8 @@ impl<A: Allocator + Copy> Table<A> {
     {
         Table {
             items: Vec::new(alloc),
+            by_prefix: VecDeque::new(alloc),
+            by_deadline: VecDeque::new(alloc),
         }
     }
 
@@ -52,7 +67,11 @@ impl<A: Allocator + Copy> Table<A> {
     pub fn ready(&self, rows: &[Row<A>]) -> bool
         ensures { result ≡ nat_le (length rows.now) self.now.spare }
     {
+        let prefixes = self.by_prefix.capacity() - self.by_prefix.len();
+        let deadlines = self.by_deadline.capacity() - self.by_deadline.len();
         rows.len() <= self.items.capacity() - self.items.len()
+            && rows.len() <= prefixes
+            && rows.len() <= deadlines
     }
 
     /// The row at a place of the list, dead or alive. Takes no memory.
@@ -82,10 +101,12 @@ impl<A: Allocator + Copy> Table<A> {
         ensures row { Sets self.old.rows self.new.rows (row ∷ []) }
         ensures room { self.old.spare ≤ self.new.spare + 1 }
     {
-        match place(&self.items, &row) {
-            Some(place) => self.items[place] = row,
-            None => self.items.push_reserved(row),
-        }
+        index::put(
+            &mut self.items,
+            &mut self.by_prefix,
+            &mut self.by_deadline,
+            row,
+        );
     }
 
     /// Takes out the rows that are dead at a moment, in ms, of at most 2^62; takes no memory.
@@ -94,7 +115,22 @@ impl<A: Allocator + Copy> Table<A> {
         ensures expires { Expires self.old.rows self.new.rows now }
         ensures one_each { OneEach self.new.rows }
     {
-        keep_alive(&mut self.items, now);
+        index::drop_dead(
+            &mut self.items,
+            &mut self.by_prefix,
+            &mut self.by_deadline,
+            now,
+        );
+    }
+
+    /// How many rows have a lesser prefix, dead or alive. Takes no memory. The steps are the rows that it looks
+    /// at: at most as many as the number of rows has binary digits (0 has none).
+    pub fn find<L: Ledger>(&self, prefix: &Prefix, steps: &mut Steps<L>) -> usize
+        ensures lesser { result ≡ count_by (λ h. is_lt (block_cmp h.mapping.eid prefix.now)) self.now.rows }
+        ensures grows { steps.old ≤ steps.new }
+        ensures cost { 2 ^ (steps.new - steps.old) ≤ 2 * length self.now.rows + 1 }
+    {
+        find(&self.items, &self.by_prefix, &Probe::Prefix(*prefix), steps)
     }
 
     /// How many records of a router are alive at a moment, in ms; `TooLarge` where they are too many, or too
@@ -115,7 +151,7 @@ impl<A: Allocator + Copy> Table<A> {
         ensures answers { Answers self.now.rows sites.now addr.now now result }
         ensures one_each { OneEach self.now.rows }
     {
-        match best(&self.items, addr, now) {
+        match best(&self.items, &self.by_prefix, addr, now) {
             Some(row) if row.proxy => Answer::Reply(&row.mapping),
             Some(row) => Answer::Forward(row.from),
             None if sites.configured(addr) => Answer::NotRegistered,
@@ -131,7 +167,9 @@ impl<A: Memory + Copy> Table<A> {
         ensures room { OnOk result (length rows.now ≤ self.new.spare) }
         ensures memory { OnErr result A.may_refuse }
     {
-        self.items.make_room(rows.len())
+        self.items.make_room(rows.len())?;
+        self.by_prefix.make_room(rows.len())?;
+        self.by_deadline.make_room(rows.len())
     }
 
     /// Copies of the rows that are alive at a moment, in ms: by router, then by prefix.
@@ -157,13 +195,6 @@ impl<A: Memory + Copy> Table<A> {
         records.sort_unstable_by(|one, other| eid_order(one, other));
         Ok(records)
     }
-}
-
-// Takes out the rows that are dead.
-fn keep_alive<A: Allocator>(rows: &mut Vec<Row<A>, A>, now: u64)
-    ensures { rows.new.items ≡ filter (λ h. is_alive h now) rows.old.items }
-{
-    rows.retain(|row| row.alive(now));
 }
 
 // Copies of the rows that are alive, in memory of `alloc`.
@@ -198,19 +229,4 @@ fn eid_order<A: Allocator>(one: &MapRecord<A>, other: &MapRecord<A>) -> Ordering
     ensures { result ≡ block_cmp one.now.eid other.now.eid }
 {
     one.eid().cmp(&other.eid())
-}
-
-// The place of the row of the same router and prefix.
-fn place<A: Allocator>(rows: &[Row<A>], row: &Row<A>) -> Option<usize>
-    ensures { result ≡ position (is_row_of row.now.router row.now.mapping.eid) rows.now }
-{
-    let router = row.router;
-    let eid = row.mapping.eid();
-    rows.iter().position(|row| is_row_of(&router, &eid, row))
-}
-
-fn is_row_of<A: Allocator>(router: &RouterId, eid: &Prefix, row: &Row<A>) -> bool
-    ensures { result ≡ is_row_of router.now eid.now row.now }
-{
-    row.router == *router && row.mapping.eid() == *eid
 }

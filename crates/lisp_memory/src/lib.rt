@@ -2,10 +2,12 @@
 //! memory may refuse.
 #![tactic(auto)]
 
+mod deque;
 mod memory;
 mod string;
 mod vec;
 
+pub use deque::FallibleDeque;
 pub use memory::{Memory, Seal};
 pub use string::FallibleString;
 pub use vec::{FallibleCopies, FallibleVec};

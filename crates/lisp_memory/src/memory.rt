@@ -3,7 +3,6 @@
 ghost use Rattle.std.specs.Prelude.{◌≡◌, OnErr};
 ghost use Rattle.lisp_memory.specs.Refusal.{MachineMayRefuse};
 
-use linked_list_allocator::LocalHeap;
 use std::alloc::{Allocator, Global};
 
 /// The right to say that memory was refused. Only this crate makes one, so that only its calls, which ask
@@ -25,12 +24,6 @@ pub trait Memory: Allocator {
 
 impl Memory for Global {
     ghost may_refuse = { MachineMayRefuse };
-
-    fn refused(_seal: Seal) {}
-}
-
-impl Memory for LocalHeap {
-    ghost may_refuse = { Unit {0} };
 
     fn refused(_seal: Seal) {}
 }

@@ -5,26 +5,26 @@ ghost use Rattle.lisp_hmac.specs.Tag.{tag};
 ghost use Rattle.lisp_messages.specs.Authentic.{IsAuthentic, is_authentic};
 
 use crate::reading::HEAD_LEN;
-use lisp_hmac::{TAG_LEN, checks, tag128};
+use lisp_hmac::{Key, TAG_LEN};
 use std::alloc::Allocator;
 
 /// Where the Authentication Data stands in a message.
 const AUTH_AT: usize = 16;
 
-/// Whether the Authentication Data of a message is its tag under the secret, over the whole
+/// Whether the Authentication Data of a message is its tag under the key, over the whole
 /// payload (RFC 9301 section 5.6). False where there are no 32 bytes.
-pub fn authentic(bytes: &[u8], secret: &[u8]) -> bool
-    ensures authentic { IsTrue result ↔ IsAuthentic bytes.now secret.now }
-    ensures test { result ≡ is_authentic bytes.now secret.now }
+pub fn authentic(bytes: &[u8], key: &Key) -> bool
+    ensures authentic { IsTrue result ↔ IsAuthentic bytes.now key.now }
+    ensures test { result ≡ is_authentic bytes.now key.now }
 {
-    bytes.len() >= HEAD_LEN && checks(secret, bytes, AUTH_AT)
+    bytes.len() >= HEAD_LEN && key.checks(bytes, AUTH_AT)
 }
 
-/// Puts the tag of a message under the secret into its Authentication Data.
-pub(crate) fn sign<A: Allocator>(message: &mut Vec<u8, A>, secret: &[u8])
+/// Puts the tag of a message under the key into its Authentication Data.
+pub(crate) fn sign<A: Allocator>(message: &mut Vec<u8, A>, key: &Key)
     requires { 32 ≤ vec_len message.old }
-    ensures { message.new.items ≡ take 16 message.old.items ++ tag secret.now message.old.items 16 ++ drop 32 message.old.items }
+    ensures { message.new.items ≡ take 16 message.old.items ++ tag key.now message.old.items 16 ++ drop 32 message.old.items }
 {
-    let tag = tag128(secret, message, AUTH_AT);
+    let tag = key.tag128(message, AUTH_AT);
     message[AUTH_AT..AUTH_AT + TAG_LEN].copy_from_slice(&tag);
 }

@@ -14,6 +14,7 @@ use crate::fault::ReadFault;
 use crate::kind::Kind;
 use crate::reading::read_nonce;
 use crate::writing::{common_head, put_records};
+use lisp_hmac::Key;
 use lisp_memory::{FallibleCopies, Memory};
 use lisp_records::{MapRecord, Records};
 use std::alloc::{AllocError, Allocator, Global};
@@ -70,23 +71,23 @@ pub(crate) fn read_notify<A: Allocator>(
     })
 }
 
-/// The written spelling of a Map-Notify or Map-Notify-Ack, authentic under the secret: all reserved
+/// The written spelling of a Map-Notify or Map-Notify-Ack, authentic under the key: all reserved
 /// bits 0, and nothing after the records. It lies in memory of `alloc`; out of memory is the only
 /// refusal.
 pub fn write_notify<A: Memory, B: Allocator>(
     alloc: A,
     message: &MapNotify<B>,
-    secret: &[u8],
+    key: &Key,
 ) -> Result<Vec<u8, A>, AllocError>
-    ensures written { IfOk result (λ v. v.items ≡ signed secret.now (written_notify message.now)) }
-    ensures authentic { IfOk result (λ v. IsAuthentic v.items secret.now) }
+    ensures written { IfOk result (λ v. v.items ≡ signed key.now (written_notify message.now)) }
+    ensures authentic { IfOk result (λ v. IsAuthentic v.items key.now) }
     ensures spells { IfOk result (λ v. Spells v.items (Notifies message.now)) }
     ensures known { OnOk result (IsNotification message.now) }
     ensures memory { OnErr result A.may_refuse }
 {
     let mut out = Vec::new(alloc);
     put_notify(&mut out, message)?;
-    sign(&mut out, secret);
+    sign(&mut out, key);
     Ok(out)
 }
 

@@ -16,6 +16,7 @@ use crate::fault::ReadFault;
 use crate::kind::Kind;
 use crate::reading::read_nonce;
 use crate::writing::{common_head, put_records};
+use lisp_hmac::Key;
 use lisp_memory::{FallibleCopies, Memory};
 use lisp_records::{MapRecord, Records, is_set};
 use std::alloc::{AllocError, Allocator, Global};
@@ -87,22 +88,22 @@ impl<A: Allocator> Model for MapRegister<A> {
     ghost invariant = { λ m. length m.records < 256 };
 }
 
-/// The written spelling of a Map-Register, authentic under the secret: bit I set, all reserved bits
+/// The written spelling of a Map-Register, authentic under the key: bit I set, all reserved bits
 /// 0. It lies in memory of `alloc`; out of memory is the only refusal.
 pub fn write_register<A: Memory, B: Allocator>(
     alloc: A,
     message: &MapRegister<B>,
-    secret: &[u8],
+    key: &Key,
 ) -> Result<Vec<u8, A>, AllocError>
-    ensures written { IfOk result (λ v. v.items ≡ signed secret.now (written_register message.now)) }
-    ensures authentic { IfOk result (λ v. IsAuthentic v.items secret.now) }
+    ensures written { IfOk result (λ v. v.items ≡ signed key.now (written_register message.now)) }
+    ensures authentic { IfOk result (λ v. IsAuthentic v.items key.now) }
     ensures spells { IfOk result (λ v. Spells v.items (Registers message.now)) }
     ensures known { OnOk result (IsRegistration message.now) }
     ensures memory { OnErr result A.may_refuse }
 {
     let mut out = Vec::new(alloc);
     put_register(&mut out, message)?;
-    sign(&mut out, secret);
+    sign(&mut out, key);
     Ok(out)
 }
 

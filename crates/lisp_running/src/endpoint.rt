@@ -1,8 +1,9 @@
 //! The UDP socket of a node.
 
 use crate::fault::RunFault;
+use crate::output::{Call, print_failed};
 use lisp_records::Addr;
-use std::io::{self, ErrorKind};
+use std::io::{self, ErrorKind, Write};
 use std::net::{IpAddr, Ipv4Addr, Ipv6Addr, Net, SocketAddr, UdpSocket};
 use std::time::Duration;
 
@@ -18,24 +19,26 @@ pub(crate) const DELIVERY: u64 = 1_000;
 /// The most bytes of a datagram.
 pub(crate) const MOST_BYTES: usize = 65_535;
 
-/// A socket at a node's address.
+/// A socket at a node's address, and the node's name.
 #[derive(Drop)]
-pub(crate) struct Endpoint {
+pub(crate) struct Endpoint<'a> {
+    pub(crate) name: &'a str,
     socket: UdpSocket,
 }
 
-impl Endpoint {
+impl<'a> Endpoint<'a> {
     /// A socket at the address, UDP port 4342, which waits so long for a datagram, in ms. Fault: 92.
     pub(crate) fn bind<R: Net>(
         rt: &R,
+        name: &'a str,
         address: &Addr,
         patience: u64,
-    ) -> Result<Endpoint, RunFault> {
+    ) -> Result<Endpoint<'a>, RunFault> {
         let Ok(socket) = UdpSocket::bind(rt, at(address)) else {
             return Err(RunFault::BIND);
         };
         match socket.set_read_timeout(Some(Duration::from_millis(patience))) {
-            Ok(()) => Ok(Endpoint { socket }),
+            Ok(()) => Ok(Endpoint { name, socket }),
             Err(_) => Err(RunFault::BIND),
         }
     }
@@ -51,10 +54,17 @@ impl Endpoint {
         }
     }
 
-    /// Sends a message to an address, UDP port 4342.
-    pub(crate) fn send(&self, to: &Addr, message: &[u8]) -> io::Result<()> {
-        self.socket.send_to(message, at(to))?;
-        Ok(())
+    /// Sends a message to an address, UDP port 4342; prints that the socket failed, where it did. Fault: 88.
+    pub(crate) fn send<W: Write>(
+        &self,
+        to: &Addr,
+        message: &[u8],
+        writer: &mut W,
+    ) -> Result<(), RunFault> {
+        match self.socket.send_to(message, at(to)) {
+            Ok(_) => Ok(()),
+            Err(_) => print_failed(self.name, Call::Send, writer),
+        }
     }
 }
 

@@ -86,6 +86,7 @@ impl From<InputFault> for RunFault {
     fn from(fault: InputFault) -> RunFault {
         match fault {
             InputFault::File => RunFault::FILE,
+            InputFault::Config(fault) => RunFault::from(PlayFault::Config(fault.fault)),
             InputFault::Input(fault) => RunFault::from(fault),
         }
     }

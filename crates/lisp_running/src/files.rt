@@ -18,7 +18,7 @@ pub(crate) fn read_config<R: Files + AllocGlobal>(
     path: &str,
 ) -> Result<Config, InputFault> {
     let bytes = read_file(rt, path)?;
-    Ok(Config::from_toml(rt.alloc(), rt.alloc(), text_of(&bytes)?)?)
+    Ok(Config::read(rt.alloc(), rt.alloc(), text_of(&bytes)?)?)
 }
 
 /// The commands of a file, a script. Faults: 93, 87, 89 and 95 as of a configuration, then that of its first faulty line.

@@ -1,7 +1,7 @@
 //! Why a file can't be taken as an input.
 
 use lisp_playing::PlayFault;
-use lisp_sites::ConfigFault;
+use lisp_sites::PlacedFault;
 use std::alloc::{AllocError, AllocFailed};
 
 /// Why a file can't be taken as a configuration or a script, or what is understood of it can't be printed.
@@ -9,7 +9,9 @@ use std::alloc::{AllocError, AllocFailed};
 pub enum InputFault {
     /// The file can't be opened.
     File,
-    /// It can't be read, or it isn't what it should be; or printing or memory failed.
+    /// It is no configuration, from this place on.
+    Config(PlacedFault),
+    /// It can't be read, or it isn't a script; or printing or memory failed.
     Input(PlayFault),
 }
 
@@ -19,9 +21,9 @@ impl From<PlayFault> for InputFault {
     }
 }
 
-impl From<ConfigFault> for InputFault {
-    fn from(fault: ConfigFault) -> InputFault {
-        InputFault::Input(PlayFault::Config(fault))
+impl From<PlacedFault> for InputFault {
+    fn from(fault: PlacedFault) -> InputFault {
+        InputFault::Config(fault)
     }
 }
 

@@ -10,6 +10,7 @@ mod files;
 mod input_fault;
 mod named;
 mod network;
+mod node;
 mod output;
 mod router;
 mod server;

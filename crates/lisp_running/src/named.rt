@@ -1,53 +1,76 @@
-//! Which node of a configuration has a name.
+//! The nodes of a configuration: by their numbers, and by their names.
 
-ghost use Rattle.std.specs.Prelude.{◌<◌, IfOk, IfSome, length};
+ghost use Rattle.std.specs.Prelude.{◌≡◌, ◌<◌, ◌+◌, IfOk, IfSome, length};
 
 use crate::fault::RunFault;
+use lisp_records::Addr;
 use lisp_sites::Config;
 use lisp_world::WorldFault;
 
-/// The place of a Map-Server among the Map-Servers. Faults: 71 where a router has the name, 70 where no node has it.
-pub(crate) fn server_named(config: &Config, name: &str) -> Result<usize, RunFault>
-    ensures { IfOk result (λ place. place < length config.now.servers) }
+/// A node, as its socket and its folder see it.
+#[derive(Clone, Copy)]
+pub(crate) struct Entry<'a> {
+    pub(crate) name: &'a str,
+    pub(crate) address: &'a Addr,
+    /// The numbers of the Map-Servers that a router registers with; none of a Map-Server.
+    pub(crate) servers: &'a [usize],
+}
+
+/// How many nodes there are.
+pub(crate) fn node_count(config: &Config) -> usize
+    ensures { result ≡ length config.now.servers + length config.now.routers }
 {
-    match server_place(config, name) {
-        Some(place) => Ok(place),
-        None => Err(unnamed(router_place(config, name))),
+    config.servers().len() + config.routers().len()
+}
+
+/// The node with a number: Map-Servers first, then routers.
+pub(crate) fn entry_at(config: &Config, number: usize) -> Entry<'_>
+    requires { number < length config.now.servers + length config.now.routers }
+{
+    let servers = config.servers();
+    if number < servers.len() {
+        let server = &servers[number];
+        return Entry {
+            name: server.name.as_str(),
+            address: &server.address,
+            servers: &[],
+        };
+    }
+    let router = &config.routers()[number - servers.len()];
+    Entry {
+        name: router.name.as_str(),
+        address: &router.address,
+        servers: router.servers.as_slice(),
     }
 }
 
-/// The place of a router among the routers. Faults: 71 where a Map-Server has the name, 70 where no node has it.
-pub(crate) fn router_named(config: &Config, name: &str) -> Result<usize, RunFault>
-    ensures { IfOk result (λ place. place < length config.now.routers) }
+/// A kind of node.
+#[derive(Clone, Copy)]
+pub(crate) enum Kind {
+    Server,
+    Router,
+}
+
+/// The number of the node of a kind with a name. Faults: 71 where a node of the other kind has the name, 70 where none has it.
+pub(crate) fn number_named(config: &Config, kind: Kind, name: &str) -> Result<usize, RunFault>
+    ensures { IfOk result (λ number. number < length config.now.servers + length config.now.routers) }
 {
-    match router_place(config, name) {
-        Some(place) => Ok(place),
-        None => Err(unnamed(server_place(config, name))),
+    let Some(number) = number_of(config, name) else {
+        return Err(RunFault::from(WorldFault::NoNode));
+    };
+    match (kind, number < config.servers().len()) {
+        (Kind::Server, true) | (Kind::Router, false) => Ok(number),
+        _ => Err(RunFault::from(WorldFault::WrongKind)),
     }
 }
 
-fn server_place(config: &Config, name: &str) -> Option<usize>
-    ensures { IfSome result (λ place. place < length config.now.servers) }
+fn number_of(config: &Config, name: &str) -> Option<usize>
+    ensures { IfSome result (λ number. number < length config.now.servers + length config.now.routers) }
 {
-    config
-        .servers()
-        .iter()
-        .position(|entry| entry.name.as_str() == name)
-}
-
-fn router_place(config: &Config, name: &str) -> Option<usize>
-    ensures { IfSome result (λ place. place < length config.now.routers) }
-{
-    config
-        .routers()
-        .iter()
-        .position(|entry| entry.name.as_str() == name)
-}
-
-// The fault where no node of the kind asked for has the name, by the place of one of the other kind that has it.
-fn unnamed(other: Option<usize>) -> RunFault {
-    match other {
-        Some(_) => RunFault::from(WorldFault::WrongKind),
-        None => RunFault::from(WorldFault::NoNode),
+    for number in 0..node_count(config) {
+        if entry_at(config, number).name == name {
+            return Some(number);
+        }
     }
+    None
 }

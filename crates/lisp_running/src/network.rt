@@ -4,6 +4,7 @@ ghost use Rattle.std.specs.Prelude.{◌≡◌, ◌+◌, IfOk, OnOk, length};
 
 use crate::fault::RunFault;
 use crate::files::{Folder, open_folder, read_config, read_script};
+use crate::named::{entry_at, node_count};
 use crate::output::flush;
 use crate::sockets::Sockets;
 use lisp_memory::FallibleVec;
@@ -75,7 +76,7 @@ fn run_over<R: Net + AllocGlobal, S: WorldStore + Drop, W: Write>(
 {
     let world = World::new(rt.alloc(), config, stores)?;
     let sockets = Sockets::bind(rt, config)?;
-    let mut network = RunningNetwork {
+    let network = RunningNetwork {
         alloc: rt.alloc(),
         config,
         world,
@@ -103,11 +104,8 @@ fn open_folders<R: Files<File = File> + AllocGlobal + Clone + Drop>(
         stores: Vec::new(rt.alloc()),
         locks: Vec::new(rt.alloc()),
     };
-    for server in config.servers() {
-        add_folder(rt, dir, server.name.as_str(), &mut folders)?;
-    }
-    for router in config.routers() {
-        add_folder(rt, dir, router.name.as_str(), &mut folders)?;
+    for number in 0..node_count(config) {
+        add_folder(rt, dir, entry_at(config, number).name, &mut folders)?;
     }
     Ok(folders)
 }
@@ -135,9 +133,9 @@ struct RunningNetwork<'a, S: WorldStore> {
     sockets: Sockets<'a>,
 }
 
-impl<S: WorldStore> RunningNetwork<'_, S> {
+impl<S: WorldStore + Drop> RunningNetwork<'_, S> {
     // Takes the commands, one after the other.
-    fn run<W: Write>(&mut self, commands: &[Command], writer: &mut W) -> Result<(), RunFault> {
+    fn run<W: Write>(mut self, commands: &[Command], writer: &mut W) -> Result<(), RunFault> {
         for command in commands.chunks(1) {
             self.take(command, writer)?;
         }

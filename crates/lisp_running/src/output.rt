@@ -35,30 +35,25 @@ pub(crate) fn print_line<W: Write>(
     flush(writer)
 }
 
-/// Prints that a datagram didn't arrive: false. Fault: 88.
-pub(crate) fn print_lost<W: Write>(datagram: usize, writer: &mut W) -> Result<bool, RunFault> {
+/// Prints that a datagram didn't arrive. Fault: 88.
+pub(crate) fn print_lost<W: Write>(datagram: usize, writer: &mut W) -> Result<(), RunFault> {
     match writeln!(writer, "lost {datagram}") {
-        Ok(()) => not_arrived(writer),
+        Ok(()) => flush(writer),
         Err(_) => Err(RunFault::from(PlayFault::Write)),
     }
 }
 
-/// Prints that a call of a node's socket failed: nothing arrived there, false. Fault: 88.
+/// Prints that a call of a node's socket failed. Fault: 88.
 pub(crate) fn print_failed<W: Write>(
     name: &str,
     call: Call,
     writer: &mut W,
-) -> Result<bool, RunFault> {
+) -> Result<(), RunFault> {
     let number = call.number();
     match writeln!(writer, "refused {name} {number}") {
-        Ok(()) => not_arrived(writer),
+        Ok(()) => flush(writer),
         Err(_) => Err(RunFault::from(PlayFault::Write)),
     }
-}
-
-fn not_arrived<W: Write>(writer: &mut W) -> Result<bool, RunFault> {
-    flush(writer)?;
-    Ok(false)
 }
 
 /// What was printed goes out. Fault: 88.

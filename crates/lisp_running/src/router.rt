@@ -4,15 +4,14 @@ ghost use Rattle.std.specs.Prelude.{◌≡◌, ◌<◌, ◌≤◌, ◌+◌, ◌^
 ghost use Rattle.lisp_messages.specs.Head.{head_at};
 ghost use Rattle.lisp_records.specs.Moment.{max_moment};
 
-use crate::clock::Stopwatch;
 use crate::fault::RunFault;
-use crate::files::{Folder, open_folder, read_config};
-use crate::named::router_named;
+use crate::named::Kind;
+use crate::node::{Node, run};
 use crate::station::Station;
-use crate::turns::{Turn, take_turns};
+use lisp_etr::StartFault;
 use lisp_messages::Head;
 use lisp_nodes::{Arrival, RouterNode, Start, router_hears};
-use lisp_records::Addr;
+use lisp_records::Bytes;
 use lisp_schedules::{Line, Refusal};
 use lisp_sites::Config;
 use lisp_store::{Fate, WorldStore};
@@ -39,7 +38,15 @@ pub fn run_router<R: Files<File = File> + Net + Clock + AllocGlobal + Clone + Dr
     turns: u32,
     writer: &mut W,
 ) -> Result<(), RunFault> {
-    register(rt, config, name, dir, u64::from(turns), writer)
+    run(
+        rt,
+        config,
+        Kind::Router,
+        name,
+        dir,
+        u64::from(turns),
+        writer,
+    )
 }
 
 /// Runs a site router as `run_router` does, until the process is killed: for 2^64 - 1 turns.
@@ -47,60 +54,11 @@ pub fn keep_router_running<
     R: Files<File = File> + Net + Clock + AllocGlobal + Clone + Drop,
     W: Write,
 >(rt: &R, config: &str, name: &str, dir: &str, writer: &mut W) -> Result<(), RunFault> {
-    register(rt, config, name, dir, u64::MAX, writer)
+    run(rt, config, Kind::Router, name, dir, u64::MAX, writer)
 }
 
-fn register<R: Files<File = File> + Net + Clock + AllocGlobal + Clone + Drop, W: Write>(
-    rt: &R,
-    config: &str,
-    name: &str,
-    dir: &str,
-    turns: u64,
-    writer: &mut W,
-) -> Result<(), RunFault> {
-    let config = read_config(rt, config)?;
-    register_in(rt, &config, name, dir, turns, writer)
-}
-
-fn register_in<R: Files<File = File> + Net + Clock + AllocGlobal + Clone + Drop, W: Write>(
-    rt: &R,
-    config: &Config,
-    name: &str,
-    dir: &str,
-    turns: u64,
-    writer: &mut W,
-) -> Result<(), RunFault> {
-    let place = router_named(config, name)?;
-    // The lock keeps other processes out of the folder.
-    let Folder { store, lock: _lock } = open_folder(rt, dir, name)?;
-    register_over(rt, config, place, store, turns, writer)
-}
-
-// Runs the router at a place, over its store.
-fn register_over<R: Net + Clock + AllocGlobal, S: WorldStore + Drop, W: Write>(
-    rt: &R,
-    config: &Config,
-    place: usize,
-    store: S,
-    turns: u64,
-    writer: &mut W,
-) -> Result<(), RunFault>
-    requires { place < length config.now.routers }
-{
-    let node = started(rt.alloc(), config, place, store)?;
-    let entry = &config.routers()[place];
-    let number = config.servers().len() + place;
-    let station = Station::bind(rt, config, number, entry.name.as_str(), &entry.address)?;
-    let router = RunningRouter {
-        node,
-        servers: entry.servers.as_slice(),
-        station,
-    };
-    take_turns(rt, router, turns, writer)
-}
-
-// The router at a place, started at 0 ms. Faults: 35, 36, 97.
-fn started<S: WorldStore + Drop>(
+/// The router at a place over its store, started at 0 ms. Faults: 35, 36, 97.
+pub(crate) fn start_router<S: WorldStore + Drop>(
     alloc: Global,
     config: &Config,
     place: usize,
@@ -108,132 +66,87 @@ fn started<S: WorldStore + Drop>(
 ) -> Result<RouterNode<S>, RunFault>
     requires { place < length config.now.routers }
 {
-    let node = router_node(alloc, config, place, store)?;
     let start = Start {
         alloc,
         now: 0,
         db: None,
     };
-    let (node, answer) = node.start(start);
-    match answer {
-        Ok(()) => Ok(node),
-        Err(fault) => Err(RunFault::from(fault)),
+    let (router, answer) = router_node(alloc, config, place, store)?.start(start);
+    started(router, answer)
+}
+
+fn started<N: Drop>(node: N, answer: Result<(), StartFault>) -> Result<N, RunFault> {
+    answer?;
+    Ok(node)
+}
+
+impl<S: WorldStore> Node for RouterNode<S> {
+    fn hear(&mut self, number: usize, how: Arrival, bytes: &[u8]) -> (Line, Option<Bytes>) {
+        router_hears(self, number, how, bytes)
     }
-}
 
-/// A router that runs.
-#[derive(Drop)]
-struct RunningRouter<'a, S: WorldStore> {
-    node: RouterNode<S>,
-    // The numbers of the Map-Servers that it registers with.
-    servers: &'a [usize],
-    station: Station<'a>,
-}
-
-impl<S: WorldStore> Turn for RunningRouter<'_, S> {
-    fn take_turn<C: Clock, W: Write>(
+    // A Map-Register to each Map-Server that is due, at most one to each, until one is refused.
+    fn send_due<W: Write>(
         &mut self,
-        rt: &C,
-        clock: &mut Stopwatch,
-        buffer: &mut [u8],
-        writer: &mut W,
-    ) -> Result<(), RunFault> {
-        if let Some((from, bytes)) = self.station.receive(buffer, writer)? {
-            self.hear(from, bytes, clock.now(rt), writer)?;
-        }
-        self.send_due(clock.now(rt), writer)
-    }
-}
-
-impl<S: WorldStore> RunningRouter<'_, S> {
-    // Answers a datagram.
-    fn hear<W: Write>(
-        &mut self,
-        from: Addr,
-        bytes: &[u8],
+        station: &Station,
         now: u64,
         writer: &mut W,
     ) -> Result<(), RunFault> {
-        let how = Arrival {
-            fate: Fate::Done,
-            from,
-            now,
-            next: 0,
-        };
-        let (line, reply) = router_hears(&mut self.node, self.station.number, how, bytes);
-        self.station.answer(&line, &from, reply, writer)
-    }
-
-    // Sends a Map-Register to each Map-Server that is due, at most one to each, until one is refused.
-    fn send_due<W: Write>(&mut self, now: u64, writer: &mut W) -> Result<(), RunFault>
-        requires { now ≤ max_moment }
-    {
-        let servers = self.servers;
-        for _ in servers {
-            match self.due_server(now) {
-                Some(server) if self.send_to(server, now, writer)? => {}
+        for _ in station.servers {
+            match due_server(self, station.servers, now) {
+                Some(server) if register(self, station, server, now, writer)? => {}
                 _ => return Ok(()),
             }
         }
         Ok(())
     }
+}
 
-    // Sends a Map-Register to the Map-Server with a number; whether it wasn't refused.
-    fn send_to<W: Write>(
-        &mut self,
-        server: usize,
-        now: u64,
-        writer: &mut W,
-    ) -> Result<bool, RunFault>
-        requires { now ≤ max_moment }
-    {
-        let Some(answer) = self.node.send(server, Fate::Done, now) else {
-            return Ok(false);
-        };
-        match answer {
-            Ok(message) => {
-                self.print_and_send(server, message.as_slice(), writer)?;
-                Ok(true)
-            }
-            Err(fault) => {
-                let line = Line::Refused {
-                    node: self.station.number,
-                    what: Refusal::Send(fault),
-                };
-                self.station.print(&line, writer)?;
-                Ok(false)
-            }
+// The number of the Map-Server that is due, of those that the router registers with.
+fn due_server<S: WorldStore>(router: &RouterNode<S>, servers: &[usize], now: u64) -> Option<usize> {
+    let place = router.etr()?.due(now)?;
+    servers.get(place).copied()
+}
+
+// Sends a Map-Register to the Map-Server with a number; whether it wasn't refused.
+fn register<S: WorldStore, W: Write>(
+    router: &mut RouterNode<S>,
+    station: &Station,
+    server: usize,
+    now: u64,
+    writer: &mut W,
+) -> Result<bool, RunFault>
+    requires { now ≤ max_moment }
+{
+    match router.send(server, Fate::Done, now) {
+        Some(Ok(message)) => {
+            print_and_send(station, server, message.as_slice(), writer)?;
+            Ok(true)
         }
+        Some(Err(fault)) => station.refuse(Refusal::Send(fault), writer),
+        None => Ok(false),
     }
+}
 
-    // Prints the line of a Map-Register, and sends it.
-    fn print_and_send<W: Write>(
-        &self,
-        server: usize,
-        message: &[u8],
-        writer: &mut W,
-    ) -> Result<(), RunFault>
-        requires { IsSome (head_at message.now) }
-    {
-        let Head { key_id, nonce } = Head::read(message).unwrap();
-        let line = Line::Sent {
-            router: self.station.number,
-            server,
-            key: key_id,
-            nonce,
-            datagram: 0,
-        };
-        match self.station.config.servers().get(server) {
-            Some(entry) => self
-                .station
-                .print_and_send(&line, &entry.address, message, writer),
-            None => self.station.print(&line, writer),
-        }
-    }
-
-    // The number of the Map-Server that is due.
-    fn due_server(&self, now: u64) -> Option<usize> {
-        let place = self.node.etr()?.due(now)?;
-        self.servers.get(place).copied()
+// Prints the line of a Map-Register, and sends it.
+fn print_and_send<W: Write>(
+    station: &Station,
+    server: usize,
+    message: &[u8],
+    writer: &mut W,
+) -> Result<(), RunFault>
+    requires { IsSome (head_at message.now) }
+{
+    let Head { key_id, nonce } = Head::read(message).unwrap();
+    let line = Line::Sent {
+        router: station.number,
+        server,
+        key: key_id,
+        nonce,
+        datagram: 0,
+    };
+    match station.config.servers().get(server) {
+        Some(entry) => station.print_and_send(&line, &entry.address, message, writer),
+        None => station.print(&line, writer),
     }
 }

@@ -1,7 +1,10 @@
 //! The sockets of all nodes of a network.
 
+ghost use Rattle.std.specs.Prelude.{◌<◌, ◌+◌, length};
+
 use crate::endpoint::{DELIVERY, Endpoint, MOST_BYTES};
 use crate::fault::RunFault;
+use crate::named::{Entry, entry_at, node_count};
 use crate::output::{Call, print_failed, print_lost};
 use lisp_memory::{FallibleCopies, FallibleVec};
 use lisp_records::Addr;
@@ -20,9 +23,8 @@ pub(crate) struct Sockets<'a> {
 /// A node, as the sockets see it.
 #[derive(Drop)]
 struct Peer<'a> {
-    name: &'a str,
     address: Addr,
-    endpoint: Endpoint,
+    endpoint: Endpoint<'a>,
 }
 
 impl<'a> Sockets<'a> {
@@ -48,10 +50,11 @@ impl<'a> Sockets<'a> {
             return Ok(true);
         };
         match peer.endpoint.receive(&mut self.buffer) {
-            Ok(Some((_, bytes))) if bytes == datagram.bytes.as_slice() => Ok(true),
-            Ok(_) => print_lost(k, writer),
-            Err(_) => print_failed(peer.name, Call::Receive, writer),
+            Ok(Some((_, bytes))) if bytes == datagram.bytes.as_slice() => return Ok(true),
+            Ok(_) => print_lost(k, writer)?,
+            Err(_) => print_failed(peer.endpoint.name, Call::Receive, writer)?,
         }
+        Ok(false)
     }
 
     /// Sends a datagram from its node, where it goes to one; prints that the socket failed, where it did. Fault: 88.
@@ -60,17 +63,11 @@ impl<'a> Sockets<'a> {
         datagram: &Datagram,
         writer: &mut W,
     ) -> Result<(), RunFault> {
-        if peer_at(&self.peers, &datagram.to).is_none() {
-            return Ok(());
-        }
-        match peer_at(&self.peers, &datagram.from) {
-            Some(peer)
-                if peer
-                    .endpoint
-                    .send(&datagram.to, datagram.bytes.as_slice())
-                    .is_err() => {
-                print_failed(peer.name, Call::Send, writer)?;
-                Ok(())
+        let to = peer_at(&self.peers, &datagram.to);
+        match (to, peer_at(&self.peers, &datagram.from)) {
+            (Some(_), Some(from)) => {
+                from.endpoint
+                    .send(&datagram.to, datagram.bytes.as_slice(), writer)
             }
             _ => Ok(()),
         }
@@ -82,28 +79,20 @@ fn bind_all<'a, R: Net + AllocGlobal>(
     config: &'a Config,
 ) -> Result<Vec<Peer<'a>>, RunFault> {
     let mut peers = Vec::new(rt.alloc());
-    for server in config.servers() {
-        bind_one(rt, server.name.as_str(), server.address, &mut peers)?;
-    }
-    for router in config.routers() {
-        bind_one(rt, router.name.as_str(), router.address, &mut peers)?;
+    for number in 0..node_count(config) {
+        peers.try_push(bind_one(rt, config, number)?)?;
     }
     Ok(peers)
 }
 
-fn bind_one<'a, R: Net>(
-    rt: &R,
-    name: &'a str,
-    address: Addr,
-    peers: &mut Vec<Peer<'a>>,
-) -> Result<(), RunFault> {
-    let endpoint = Endpoint::bind(rt, &address, DELIVERY)?;
-    peers.try_push(Peer {
-        name,
-        address,
-        endpoint,
-    })?;
-    Ok(())
+fn bind_one<'a, R: Net>(rt: &R, config: &'a Config, number: usize) -> Result<Peer<'a>, RunFault>
+    requires { number < length config.now.servers + length config.now.routers }
+{
+    let Entry { name, address, .. } = entry_at(config, number);
+    Ok(Peer {
+        address: *address,
+        endpoint: Endpoint::bind(rt, name, address, DELIVERY)?,
+    })
 }
 
 // The node at an address.

@@ -1,10 +1,13 @@
 //! Where a node of a network runs: its socket, and what is printed of it.
 
+ghost use Rattle.std.specs.Prelude.{◌<◌, ◌+◌, length};
+
 use crate::endpoint::{Endpoint, TURN};
 use crate::fault::RunFault;
-use crate::output::{Call, print_failed, print_line};
+use crate::named::{Entry, entry_at};
+use crate::output::print_line;
 use lisp_records::{Addr, Bytes, RouterId};
-use lisp_schedules::Line;
+use lisp_schedules::{Line, Refusal};
 use lisp_sites::Config;
 use std::alloc::Global;
 use std::io::Write;
@@ -13,29 +16,35 @@ use std::net::Net;
 /// A node's socket, and what its lines name.
 #[derive(Drop)]
 pub(crate) struct Station<'a> {
-    pub(crate) alloc: Global,
+    alloc: Global,
     pub(crate) config: &'a Config,
     /// The node's number in the configuration: Map-Servers first, then routers.
     pub(crate) number: usize,
-    pub(crate) name: &'a str,
-    pub(crate) endpoint: Endpoint,
+    /// The numbers of the Map-Servers that a router registers with; none of a Map-Server.
+    pub(crate) servers: &'a [usize],
+    pub(crate) endpoint: Endpoint<'a>,
 }
 
 impl<'a> Station<'a> {
-    /// A socket at the node's address. Fault: 92.
+    /// A socket at the address of the node with a number. Fault: 92.
     pub(crate) fn bind<R: Net + AllocGlobal>(
         rt: &R,
         config: &'a Config,
         number: usize,
-        name: &'a str,
-        address: &Addr,
-    ) -> Result<Station<'a>, RunFault> {
-        let endpoint = Endpoint::bind(rt, address, TURN)?;
+    ) -> Result<Station<'a>, RunFault>
+        requires { number < length config.now.servers + length config.now.routers }
+    {
+        let Entry {
+            name,
+            address,
+            servers,
+        } = entry_at(config, number);
+        let endpoint = Endpoint::bind(rt, name, address, TURN)?;
         Ok(Station {
             alloc: rt.alloc(),
             config,
             number,
-            name,
+            servers,
             endpoint,
         })
     }
@@ -47,25 +56,16 @@ impl<'a> Station<'a> {
         self.config.servers().len() + place.unwrap_or(routers.len())
     }
 
-    /// The next datagram, and the address that it comes from; `None` where none came in time, or the socket failed, which
-    /// it prints. Fault: 88.
-    pub(crate) fn receive<'b, W: Write>(
-        &self,
-        buffer: &'b mut [u8],
-        writer: &mut W,
-    ) -> Result<Option<(Addr, &'b [u8])>, RunFault> {
-        match self.endpoint.receive(buffer) {
-            Ok(arrived) => Ok(arrived),
-            Err(_) => {
-                print_failed(self.name, Call::Receive, writer)?;
-                Ok(None)
-            }
-        }
-    }
-
     /// Prints the line of an event. Faults: 88, 97.
     pub(crate) fn print<W: Write>(&self, line: &Line, writer: &mut W) -> Result<(), RunFault> {
         print_line(self.alloc, self.config, line, writer)
+    }
+
+    /// Prints why the node did not do what was due: it did not, false. Faults: 88, 97.
+    pub(crate) fn refuse<W: Write>(&self, what: Refusal, writer: &mut W) -> Result<bool, RunFault> {
+        let node = self.number;
+        self.print(&Line::Refused { node, what }, writer)?;
+        Ok(false)
     }
 
     /// Prints the line of an event, and then sends its message. A socket that fails is a line, too. Faults: 88, 97.
@@ -77,13 +77,7 @@ impl<'a> Station<'a> {
         writer: &mut W,
     ) -> Result<(), RunFault> {
         self.print(line, writer)?;
-        match self.endpoint.send(to, message) {
-            Ok(()) => Ok(()),
-            Err(_) => {
-                print_failed(self.name, Call::Send, writer)?;
-                Ok(())
-            }
-        }
+        self.endpoint.send(to, message, writer)
     }
 
     /// Prints the line of what arrived, and sends the reply to where it came from, where there is one. Faults: 88, 97.

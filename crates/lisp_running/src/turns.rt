@@ -3,33 +3,64 @@
 use crate::clock::Stopwatch;
 use crate::endpoint::MOST_BYTES;
 use crate::fault::RunFault;
+use crate::node::Node;
+use crate::output::{Call, print_failed};
+use crate::station::Station;
 use lisp_memory::FallibleCopies;
+use lisp_nodes::Arrival;
+use lisp_records::Addr;
+use lisp_store::Fate;
 use std::io::Write;
 use std::time::Clock;
 
-/// A node that runs.
-pub(crate) trait Turn {
-    /// Takes a datagram into `buffer`, answers it, and sends what is due. Faults: 88, 97.
-    fn take_turn<C: Clock, W: Write>(
-        &mut self,
-        rt: &C,
-        clock: &mut Stopwatch,
-        buffer: &mut [u8],
-        writer: &mut W,
-    ) -> Result<(), RunFault>;
-}
-
 /// Takes so many turns. Faults: 92 for the clock, 97, 88.
-pub(crate) fn take_turns<R: Clock + AllocGlobal, N: Turn + Drop, W: Write>(
+pub(crate) fn take_turns<R: Clock + AllocGlobal, N: Node + Drop, W: Write>(
     rt: &R,
     mut node: N,
+    station: &Station,
     turns: u64,
     writer: &mut W,
 ) -> Result<(), RunFault> {
     let mut clock = Stopwatch::start(rt)?;
     let mut buffer = Vec::try_from_elem(rt.alloc(), 0, MOST_BYTES)?;
     for _ in 0..turns {
-        node.take_turn(rt, &mut clock, &mut buffer, writer)?;
+        take_turn(rt, &mut node, station, &mut clock, &mut buffer, writer)?;
     }
     Ok(())
+}
+
+// Takes a datagram into `buffer`, answers it, and sends what is due.
+fn take_turn<C: Clock, N: Node, W: Write>(
+    rt: &C,
+    node: &mut N,
+    station: &Station,
+    clock: &mut Stopwatch,
+    buffer: &mut [u8],
+    writer: &mut W,
+) -> Result<(), RunFault> {
+    match station.endpoint.receive(buffer) {
+        Ok(Some((from, bytes))) => hear(node, station, from, bytes, clock.now(rt), writer)?,
+        Ok(None) => {}
+        Err(_) => print_failed(station.endpoint.name, Call::Receive, writer)?,
+    }
+    node.send_due(station, clock.now(rt), writer)
+}
+
+// Answers a datagram.
+fn hear<N: Node, W: Write>(
+    node: &mut N,
+    station: &Station,
+    from: Addr,
+    bytes: &[u8],
+    now: u64,
+    writer: &mut W,
+) -> Result<(), RunFault> {
+    let how = Arrival {
+        fate: Fate::Done,
+        from,
+        now,
+        next: 0,
+    };
+    let (line, reply) = node.hear(station.number, how, bytes);
+    station.answer(&line, &from, reply, writer)
 }

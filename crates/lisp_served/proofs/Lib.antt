@@ -1,1 +1,4 @@
+pub mod Found
+pub mod Halving
+pub mod IndexLaws
 pub mod Allowed

@@ -1,1 +1,3 @@
+pub mod Order
+pub mod Index
 pub mod Site

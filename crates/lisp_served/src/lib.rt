@@ -2,6 +2,7 @@
 //! (RFC 9301 section 8.2).
 #![tactic(auto)]
 
+mod index;
 mod site;
 mod sites;
 

@@ -3,40 +3,52 @@
 ghost use Rattle.std.specs.Prelude.{◌≡◌, ◌↔◌, IsTrue, IfOk, OnErr};
 ghost use Rattle.std.specs.List.{list_any};
 ghost use Rattle.std.specs.Option.{option_map};
+ghost use Rattle.lisp_served.specs.Index.{Indexes};
 ghost use Rattle.lisp_served.specs.Site.{Allowed, is_allowed, has_address, lets_in, key_of, secret_of};
 
+use crate::index::Index;
+use lisp_hmac::Key;
 use lisp_memory::{FallibleCopies, FallibleVec, Memory};
-use lisp_records::{Addr, Bytes, Prefix};
+use lisp_records::{Addr, Prefix};
 use std::alloc::{AllocError, Allocator, Global};
 use std::marker::Model;
 
 /// A pre-shared secret of a site, under its Key ID (RFC 9301 section 5.6).
 #[derive(Drop)]
-pub struct SiteKey<A: Allocator = Global> {
+pub struct SiteKey {
     /// Its Key ID.
     pub id: u8,
-    /// The secret itself.
-    pub secret: Bytes<A>,
+    /// The secret, made ready for tags.
+    pub key: Key,
 }
 
-impl<A: Allocator> Model for SiteKey<A> {
+impl Model for SiteKey {
     ghost use Rattle.lisp_served.specs.Site.{KeyEntry};
 
     ghost Value = { KeyEntry };
 
-    ghost view = { λ k. record { id = k.id; secret = k.secret } };
+    ghost view = { λ k. record { id = k.id; secret = k.key } };
 }
 
-impl<A: Allocator> SiteKey<A> {
-    // An equal key, in memory of `alloc`.
-    fn copy<B: Memory>(&self, alloc: B) -> Result<SiteKey<B>, AllocError>
-        ensures equal { IfOk result (λ k. k ≡ self.now) }
-        ensures memory { OnErr result B.may_refuse }
+impl SiteKey {
+    /// The key of a Key ID and a secret, which may have any length; takes no memory.
+    pub fn new(id: u8, secret: &[u8]) -> SiteKey
+        ensures { result ≡ record { id = id; secret = secret.now } }
     {
-        Ok(SiteKey {
+        SiteKey {
+            id,
+            key: Key::new(secret),
+        }
+    }
+
+    // An equal key.
+    fn copy(&self) -> SiteKey
+        ensures { result ≡ self.now }
+    {
+        SiteKey {
             id: self.id,
-            secret: self.secret.copy(alloc)?,
-        })
+            key: self.key.copy(),
+        }
     }
 }
 
@@ -62,26 +74,45 @@ impl SitePrefix {
 #[derive(Drop)]
 pub struct Site<A: Allocator = Global> {
     id: u64,
-    keys: Vec<SiteKey<A>, A>,
+    keys: Vec<SiteKey, A>,
+    // Their places, by their Key IDs.
+    by_id: Index<A>,
     prefixes: Vec<SitePrefix, A>,
 }
 
 impl<A: Allocator> Model for Site<A> {
+    ghost use Rattle.lisp_served.specs.Index.{Indexes};
     ghost use Rattle.lisp_served.specs.Site.{SiteEntry};
 
     ghost Value = { SiteEntry };
 
     ghost view = { λ s. record { id = s.id; keys = s.keys.items; prefixes = s.prefixes.items } };
+
+    ghost invariant = { λ s. Indexes s.by_id (λ k. k.id) s.keys.items };
+}
+
+impl<A: Memory> Site<A> {
+    /// The site of a Site-ID, keys and prefixes.
+    pub fn new(
+        alloc: A,
+        id: u64,
+        keys: Vec<SiteKey, A>,
+        prefixes: Vec<SitePrefix, A>,
+    ) -> Result<Site<A>, AllocError>
+        ensures site { IfOk result (λ s. s ≡ record { id = id; keys = keys.items; prefixes = prefixes.items }) }
+        ensures memory { OnErr result A.may_refuse }
+    {
+        let by_id = index_of(alloc, &keys)?;
+        Ok(Site {
+            id,
+            keys,
+            by_id,
+            prefixes,
+        })
+    }
 }
 
 impl<A: Allocator> Site<A> {
-    /// The site of a Site-ID, keys and prefixes; takes no memory.
-    pub fn new(id: u64, keys: Vec<SiteKey<A>, A>, prefixes: Vec<SitePrefix, A>) -> Site<A>
-        ensures { result ≡ record { id = id; keys = keys.items; prefixes = prefixes.items } }
-    {
-        Site { id, keys, prefixes }
-    }
-
     /// The Site-ID.
     pub fn id(&self) -> u64
         ensures { result ≡ self.now.id }
@@ -90,7 +121,7 @@ impl<A: Allocator> Site<A> {
     }
 
     /// The site's keys, in the order of the configuration.
-    pub fn keys(&self) -> &[SiteKey<A>]
+    pub fn keys(&self) -> &[SiteKey]
         ensures { result.now ≡ self.now.keys }
     {
         &self.keys
@@ -103,18 +134,22 @@ impl<A: Allocator> Site<A> {
         &self.prefixes
     }
 
-    /// The secret under a Key ID, 1 to 256 bytes; `None` where the site has no such key.
-    pub fn secret(&self, key_id: u8) -> Option<&[u8]>
-        ensures { option_map (λ s. s.now) result ≡ secret_of self.now key_id }
+    /// The key under a Key ID, made ready for tags; `None` where the site has no such key.
+    pub fn key(&self, key_id: u8) -> Option<&Key>
+        ensures { option_map (λ k. k.now) result ≡ secret_of self.now key_id }
     {
-        Some(self.key(key_id)?.secret.as_slice())
+        Some(&self.site_key(key_id)?.key)
     }
 
     // The key with a Key ID.
-    fn key(&self, key_id: u8) -> Option<&SiteKey<A>>
+    #[tactic(auto, using(crate::proofs::IndexLaws::in_list))]
+    fn site_key(&self, key_id: u8) -> Option<&SiteKey>
         ensures { option_map (λ k. k.now) result ≡ key_of self.now.keys key_id }
     {
-        self.keys.iter().find(|key| key.id == key_id)
+        match self.by_id.place(u64::from(key_id)) {
+            Some(place) => Some(&self.keys[place]),
+            None => None,
+        }
     }
 
     /// Whether the site's routers may register the prefix: one of the site's prefixes equals it, or
@@ -144,23 +179,36 @@ impl<A: Allocator> Site<A> {
         ensures equal { IfOk result (λ s. s ≡ self.now) }
         ensures memory { OnErr result B.may_refuse }
     {
-        let keys = copy_keys(alloc, &self.keys)?;
-        let prefixes = Vec::try_from_slice(alloc, &self.prefixes)?;
-        Ok(Site::new(self.id, keys, prefixes))
+        Ok(Site {
+            id: self.id,
+            keys: copy_keys(alloc, &self.keys)?,
+            by_id: self.by_id.copy(alloc)?,
+            prefixes: Vec::try_from_slice(alloc, &self.prefixes)?,
+        })
     }
 }
 
+// The places of keys, by their Key IDs.
+#[tactic(auto, using(crate::proofs::IndexLaws::nothing_indexed, crate::proofs::IndexLaws::next_indexed, crate::proofs::IndexLaws::all_indexed))]
+fn index_of<A: Memory>(alloc: A, keys: &[SiteKey]) -> Result<Index<A>, AllocError>
+    ensures index { IfOk result (λ index. Indexes index (λ k. k.id) keys.now) }
+    ensures memory { OnErr result A.may_refuse }
+{
+    let mut index = Index::new(alloc);
+    for (place, key) in keys.iter().enumerate() {
+        index.add(u64::from(key.id), place)?;
+    }
+    Ok(index)
+}
+
 // Equal keys, in memory of `alloc`.
-fn copy_keys<A: Allocator, B: Memory + Copy>(
-    alloc: B,
-    keys: &[SiteKey<A>],
-) -> Result<Vec<SiteKey<B>, B>, AllocError>
+fn copy_keys<B: Memory>(alloc: B, keys: &[SiteKey]) -> Result<Vec<SiteKey, B>, AllocError>
     ensures equal { IfOk result (λ copies. copies.items ≡ keys.now) }
     ensures memory { OnErr result B.may_refuse }
 {
     let mut copies = Vec::new(alloc);
     for key in keys {
-        copies.try_push(key.copy(alloc)?)?;
+        copies.try_push(key.copy())?;
     }
     Ok(copies)
 }

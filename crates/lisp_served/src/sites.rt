@@ -1,12 +1,13 @@
 //! The sites that a Map-Server serves.
 
-ghost use Rattle.std.specs.Prelude.{◌≡◌, [], ◌∷◌, IfOk, OnErr};
+ghost use Rattle.std.specs.Prelude.{◌≡◌, [], ◌∷◌, ◌++◌, IfOk, OnOk, OnErr};
 ghost use Rattle.std.specs.Option.{option_map};
 ghost use Rattle.lisp_served.specs.Site.{site_of, is_configured, single};
 
+use crate::index::Index;
 use crate::site::{Site, SiteKey, SitePrefix};
 use lisp_memory::{FallibleCopies, FallibleVec, Memory};
-use lisp_records::{Addr, Bytes, Prefix};
+use lisp_records::{Addr, Prefix};
 use std::alloc::{AllocError, Allocator, Global};
 use std::marker::Model;
 
@@ -14,23 +15,34 @@ use std::marker::Model;
 #[derive(Drop)]
 pub struct Sites<A: Allocator = Global> {
     items: Vec<Site<A>, A>,
+    // Their places, by their Site-IDs.
+    by_id: Index<A>,
 }
 
 impl<A: Allocator> Model for Sites<A> {
     ghost use Rattle.std.specs.Prelude.{List};
+    ghost use Rattle.lisp_served.specs.Index.{Indexes};
     ghost use Rattle.lisp_served.specs.Site.{SiteEntry};
 
     ghost Value = { List SiteEntry };
 
     ghost view = { λ s. s.items.items };
+
+    ghost invariant = { λ s. Indexes s.by_id (λ x. x.id) s.items.items };
 }
 
 impl<A: Allocator> Sites<A> {
-    /// The sites of a `Vec`; takes no memory.
-    pub fn from_vec(items: Vec<Site<A>, A>) -> Sites<A>
-        ensures { result ≡ items.items }
+    /// No sites; takes no memory.
+    #[tactic(auto, using(crate::proofs::IndexLaws::nothing_indexed))]
+    pub fn new(alloc: A) -> Sites<A>
+    where
+        A: Copy,
+        ensures { result ≡ [] }
     {
-        Sites { items }
+        Sites {
+            items: Vec::new(alloc),
+            by_id: Index::new(alloc),
+        }
     }
 
     /// The sites in their order.
@@ -40,11 +52,15 @@ impl<A: Allocator> Sites<A> {
         &self.items
     }
 
-    /// The site with a Site-ID, `None` where there is none.
+    /// The site with a Site-ID, the first one where several have it; `None` where there is none.
+    #[tactic(auto, using(crate::proofs::IndexLaws::in_list))]
     pub fn site(&self, id: u64) -> Option<&Site<A>>
         ensures { option_map (λ s. s.now) result ≡ site_of self.now id }
     {
-        self.items.iter().find(|site| site.id() == id)
+        match self.by_id.place(id) {
+            Some(place) => Some(&self.items[place]),
+            None => None,
+        }
     }
 
     /// Whether the address is one of some prefix of some site.
@@ -59,9 +75,24 @@ impl<A: Allocator> Sites<A> {
         ensures equal { IfOk result (λ s. s ≡ self.now) }
         ensures memory { OnErr result B.may_refuse }
     {
-        Ok(Sites {
-            items: copy_sites(alloc, &self.items)?,
-        })
+        let items = copy_sites(alloc, &self.items)?;
+        let by_id = self.by_id.copy(alloc)?;
+        Ok(Sites { items, by_id })
+    }
+}
+
+impl<A: Memory> Sites<A> {
+    /// Adds a site behind the others.
+    #[tactic(auto, using(crate::proofs::IndexLaws::one_more))]
+    pub fn push(&mut self, site: Site<A>) -> Result<(), AllocError>
+        ensures added { OnOk result (self.new ≡ self.old ++ site ∷ []) }
+        ensures err { OnErr result (self.new ≡ self.old) }
+        ensures memory { OnErr result A.may_refuse }
+    {
+        self.items.make_room(1)?;
+        self.by_id.add(site.id(), self.items.len())?;
+        self.items.push_reserved(site);
+        Ok(())
     }
 }
 
@@ -82,13 +113,11 @@ impl<A: Memory + Copy> Sites<A> {
             eid: prefix,
             more_specifics,
         };
-        let mut items = Vec::new(alloc);
-        items.try_push(Site::new(
-            id,
-            one_key(alloc, key_id, secret)?,
-            Vec::try_from_slice(alloc, &[entry])?,
-        ))?;
-        Ok(Sites { items })
+        let mut sites = Sites::new(alloc);
+        let keys = one_key(alloc, key_id, secret)?;
+        let prefixes = Vec::try_from_slice(alloc, &[entry])?;
+        sites.push(Site::new(alloc, id, keys, prefixes)?)?;
+        Ok(sites)
     }
 }
 
@@ -108,18 +137,11 @@ fn copy_sites<A: Allocator, B: Memory + Copy>(
 }
 
 // One key, in memory of `alloc`.
-fn one_key<A: Memory + Copy>(
-    alloc: A,
-    id: u8,
-    secret: &[u8],
-) -> Result<Vec<SiteKey<A>, A>, AllocError>
+fn one_key<A: Memory>(alloc: A, id: u8, secret: &[u8]) -> Result<Vec<SiteKey, A>, AllocError>
     ensures key { IfOk result (λ keys. keys.items ≡ record { id = id; secret = secret.now } ∷ []) }
     ensures memory { OnErr result A.may_refuse }
 {
     let mut keys = Vec::new(alloc);
-    keys.try_push(SiteKey {
-        id,
-        secret: Bytes::from_vec(Vec::try_from_slice(alloc, secret)?),
-    })?;
+    keys.try_push(SiteKey::new(id, secret))?;
     Ok(keys)
 }

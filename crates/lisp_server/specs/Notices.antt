@@ -1,7 +1,6 @@
 -- Notices: the unsolicited Map-Notifies of a Map-Server, each of which it sends again, up to six times, until it
 -- is acknowledged (RFC 9301 sections 5.7 and 8.2).
-use Rattle.std.specs.Prelude.{◌≡◌, ◌≢◌, ℕ, ◌+◌, ◌*◌, nat_le, ◌==◌, Bool, true, false, ◌&&◌, List, [], ◌∷◌, length, slice_get, Option, Some, None, if◌then◌else◌}
-use Rattle.std.specs.Ordering.{is_lt}
+use Rattle.std.specs.Prelude.{◌≡◌, ◌≢◌, ℕ, ◌+◌, ◌*◌, nat_le, ◌==◌, Bool, true, false, ◌&&◌, List, [], ◌∷◌, length, slice_get, Option, Some, None}
 use Rattle.std.specs.List.{AllPairs, find}
 use Rattle.std.specs.Option.{option_map}
 use Rattle.std.specs.declared.cmp.Ordering.TheVariants.{Less}
@@ -118,11 +117,6 @@ Awaited notices from key nonce None = NoneAwaits notices from key nonce
 pub record NoticeTable : Type 0 where
   pub notices : List Standing
   pub spare : ℕ
-
--- the lesser of two routers, where there is a first one
-abbrev pub lesser : Option RouterId → RouterId → RouterId
-lesser None other = other
-lesser (Some one) other = if is_lt (router_cmp other one) then other else one
 
 -- a router's notice is due; where none stands, none is
 abbrev pub is_due_at : ℕ → Option Standing → Bool

@@ -1,11 +1,15 @@
 -- What a Map-Server is (RFC 9301 section 8.2).
-use Rattle.std.specs.Prelude.{◌≡◌, ◌<◌, ◌≤◌, ℕ, List}
+use Rattle.std.specs.Prelude.{◌≡◌, ◌<◌, ◌≤◌, ℕ, List, None}
+use Rattle.lisp_records.specs.declared.router.RouterId.{RouterId}
 use Rattle.lisp_records.specs.Row.{Holding}
 use Rattle.lisp_served.specs.Site.{SiteEntry}
 use Rattle.lisp_server.specs.declared.contacts.Contact.{Contact}
 use Rattle.lisp_server.specs.declared.tables.Tables.{Tables}
-use Rattle.lisp_server.specs.LastNonces.{Nonces}
-use Rattle.lisp_server.specs.Notices.{Standing}
+use Rattle.lisp_store.specs.declared.pair.Pair.{Pair}
+use Rattle.lisp_checks.specs.Pairs.{notice_pair}
+use Rattle.lisp_server.specs.Contacts.{contact_at}
+use Rattle.lisp_server.specs.LastNonces.{Nonces, nonce_at}
+use Rattle.lisp_server.specs.Notices.{Standing, notice_at}
 
 -- its sites; the rows that it holds, dead ones too; the last nonce of each pair, where each router was
 -- heard last, and the unsolicited Map-Notifies (notices) that stand, all since the start
@@ -26,13 +30,13 @@ pub record SameTables {A : Type 0} (old new : Tables A) : Type 0 where
   pub contacts : new.contacts.contacts ≡ old.contacts.contacts
   pub notices : new.notices.notices ≡ old.notices.notices
 
--- there is room for what one Map-Register with so many records brings
-pub record HasRoom {A : Type 0} (t : Tables A) (count : ℕ) : Type 0 where
+-- there is room for what a Map-Register with so many records brings under a pair
+pub record HasRoom {A : Type 0} (t : Tables A) (count : ℕ) (pair : Pair) : Type 0 where
   pub rows : count ≤ t.rows.spare
-  pub nonces : 0 < t.nonces.spare
-  pub contacts : 0 < t.contacts.spare
+  pub nonces : nonce_at t.nonces.nonces pair ≡ None → 0 < t.nonces.spare
+  pub contacts : contact_at t.contacts.contacts pair.router ≡ None → 0 < t.contacts.spare
 
--- there is room for one more notice
-pub record HasNoticeRoom {A : Type 0} (t : Tables A) : Type 0 where
-  pub nonces : 0 < t.nonces.spare
-  pub notices : 0 < t.notices.spare
+-- there is room for a notice to a router
+pub record HasNoticeRoom {A : Type 0} (t : Tables A) (router : RouterId) : Type 0 where
+  pub nonces : nonce_at t.nonces.nonces notice_pair ≡ None → 0 < t.nonces.spare
+  pub notices : notice_at t.notices.notices router ≡ None → 0 < t.notices.spare

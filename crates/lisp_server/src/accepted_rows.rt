@@ -7,6 +7,7 @@ ghost use Rattle.lisp_server.specs.Checks.{reply_of};
 
 use crate::reply::reply;
 use lisp_checks::router_of;
+use lisp_hmac::Key;
 use lisp_memory::{FallibleVec, Memory};
 use lisp_messages::{MapNotify, MapRegister};
 use lisp_records::{Addr, Bytes, MapRecord, RouterId, Row};
@@ -94,13 +95,13 @@ const fn life_of(use_ttl: bool, ttl: u32) -> u64
 /// Map-Notify that answers it, where it wants one.
 pub(crate) fn rows_and_reply<A: Memory + Copy>(
     alloc: A,
-    secret: &[u8],
+    key: &Key,
     register: MapRegister<A>,
     from: Addr,
     now: u64,
 ) -> Result<(Vec<Row<A>, A>, Option<Bytes<A>>), AllocError>
     ensures rows { IfOk result (λ x. x.0.items ≡ holdings register from now) }
-    ensures reply { IfOk result (λ x. x.1 ≡ reply_of secret.now register) }
+    ensures reply { IfOk result (λ x. x.1 ≡ reply_of key.now register) }
     ensures memory { OnErr result A.may_refuse }
 {
     let origin = Origin::of(&register, from, now);
@@ -111,7 +112,7 @@ pub(crate) fn rows_and_reply<A: Memory + Copy>(
         key_id: register.key_id,
         records: register.records,
     };
-    let reply = reply(alloc, wanted, &notify, secret)?;
+    let reply = reply(alloc, wanted, &notify, key)?;
     let rows = origin.rows(alloc, notify.records.into_vec())?;
     Ok((rows, reply))
 }

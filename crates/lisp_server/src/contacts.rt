@@ -1,9 +1,12 @@
 //! Where a Map-Server heard each router last.
 
-ghost use Rattle.std.specs.Prelude.{◌≡◌, ◌<◌, [], OnOk, OnErr};
+ghost use Rattle.std.specs.Prelude.{◌≡◌, ◌<◌, [], None, Some, IfOk, IfErr, OnOk, OnErr};
 ghost use Rattle.std.specs.List.{position};
+ghost use Rattle.lisp_records.specs.Router.{router_cmp};
+ghost use Rattle.lisp_served.specs.Order.{KeysRise, IsGap};
 ghost use Rattle.lisp_server.specs.Contacts.{is_contact_of, contact_at, SetsContact};
 
+use crate::reserved::insert_reserved;
 use lisp_memory::{FallibleVec, Memory};
 use lisp_records::{Addr, RouterId};
 use std::alloc::{AllocError, Allocator};
@@ -17,7 +20,7 @@ pub(crate) struct Contact {
     pub(crate) from: Addr,
 }
 
-/// The contacts of routers, and room for more.
+/// The contacts of routers, in the order of the routers, and room for more.
 #[derive(Drop)]
 pub(crate) struct Contacts<A: Allocator> {
     items: Vec<Contact, A>,
@@ -25,15 +28,20 @@ pub(crate) struct Contacts<A: Allocator> {
 
 impl<A: Allocator> Model for Contacts<A> {
     ghost use Rattle.std.specs.Prelude.{◌-◌, vec_len, vec_capacity};
+    ghost use Rattle.lisp_records.specs.Router.{router_cmp};
+    ghost use Rattle.lisp_served.specs.Order.{KeysRise};
     ghost use Rattle.lisp_server.specs.Contacts.{ContactTable};
 
     ghost Value = { ContactTable };
 
     ghost view = { λ c. record { contacts = c.items.items; spare = vec_capacity c.items - vec_len c.items } };
+
+    ghost invariant = { λ c. KeysRise (λ k. k.router) router_cmp c.items.items };
 }
 
 impl<A: Allocator> Contacts<A> {
     /// No contacts. Takes no memory.
+    #[tactic(auto, using(crate::proofs::ContactLaws::no_contacts))]
     pub(crate) fn new(alloc: A) -> Contacts<A>
         ensures { result.contacts ≡ [] }
     {
@@ -43,40 +51,48 @@ impl<A: Allocator> Contacts<A> {
     }
 
     /// The contact of a router; `None` where it wasn't heard.
-    #[tactic(auto, using(crate::proofs::ContactLaws::contact_nowhere, crate::proofs::ContactLaws::contact_found))]
+    #[tactic(auto, using(crate::proofs::ContactLaws::contact_found))]
     pub(crate) fn get(&self, router: &RouterId) -> Option<Contact>
         ensures { result ≡ contact_at self.now.contacts router.now }
     {
-        Some(self.items[place(&self.items, *router)?])
+        match place(&self.items, router) {
+            Ok(place) => Some(self.items[place]),
+            Err(_) => None,
+        }
     }
 
     /// Sets the contact of its router. Takes no memory.
-    #[tactic(auto, using(crate::proofs::ContactLaws::contact_set, crate::proofs::ContactLaws::contact_pushed))]
+    #[tactic(auto, using(crate::proofs::ContactLaws::rises_set, crate::proofs::ContactLaws::rises_insert))]
     pub(crate) fn set(&mut self, contact: Contact)
-        requires { 0 < self.old.spare }
+        requires { contact_at self.old.contacts contact.router ≡ None → 0 < self.old.spare }
         ensures { SetsContact self.old.contacts self.new.contacts contact }
     {
-        match place(&self.items, contact.router) {
-            Some(place) => self.items[place] = contact,
-            None => self.items.push_reserved(contact),
+        match place(&self.items, &contact.router) {
+            Ok(place) => self.items[place] = contact,
+            Err(gap) => insert_reserved(&mut self.items, gap, contact),
         }
     }
 }
 
 impl<A: Memory> Contacts<A> {
-    /// Makes room for one more contact.
-    pub(crate) fn prepare(&mut self) -> Result<(), AllocError>
+    /// Makes room for the contact of a router, where it has none.
+    pub(crate) fn prepare(&mut self, router: &RouterId) -> Result<(), AllocError>
         ensures same { self.new.contacts ≡ self.old.contacts }
-        ensures room { OnOk result (0 < self.new.spare) }
+        ensures room { OnOk result (contact_at self.new.contacts router.now ≡ None → 0 < self.new.spare) }
         ensures memory { OnErr result A.may_refuse }
     {
-        self.items.make_room(1)
+        match place(&self.items, router) {
+            Ok(_) => Ok(()),
+            Err(_) => self.items.make_room(1),
+        }
     }
 }
 
-// The place of a router's contact.
-fn place(contacts: &[Contact], router: RouterId) -> Option<usize>
-    ensures { result ≡ position (is_contact_of router) contacts.now }
+// The place of a router's contact, or where it goes.
+fn place(contacts: &[Contact], router: &RouterId) -> Result<usize, usize>
+    requires { KeysRise (λ k. k.router) router_cmp contacts.now }
+    ensures found { IfOk result (λ i. position (is_contact_of router.now) contacts.now ≡ Some i) }
+    ensures gap { IfErr result (λ i. IsGap (λ k. k.router) router_cmp contacts.now router.now i) }
 {
-    contacts.iter().position(|contact| contact.router == router)
+    contacts.binary_search_by_key(router, |contact| contact.router)
 }

@@ -1,11 +1,14 @@
 //! The last nonces since a Map-Server's start, in memory: of the Map-Registers that it accepted, and of the
 //! unsolicited Map-Notifies (notices) that it sent.
 
-ghost use Rattle.std.specs.Prelude.{◌≡◌, ◌<◌, Some, OnOk, OnErr};
+ghost use Rattle.std.specs.Prelude.{◌≡◌, ◌<◌, None, Some, IfOk, IfErr, OnOk, OnErr};
 ghost use Rattle.std.specs.FinMap.{empty};
 ghost use Rattle.std.specs.List.{position};
+ghost use Rattle.lisp_store.specs.Pair.{pair_cmp};
+ghost use Rattle.lisp_served.specs.Order.{KeysRise, IsGap};
 ghost use Rattle.lisp_server.specs.LastNonces.{nonce_at, SetsNonce, is_of, nonces_of};
 
+use crate::reserved::insert_reserved;
 use lisp_memory::{FallibleVec, Memory};
 use lisp_store::Pair;
 use std::alloc::{AllocError, Allocator};
@@ -18,7 +21,7 @@ pub(crate) struct LastNonce {
     pub(crate) nonce: u64,
 }
 
-/// The last nonce of each pair, and room for more.
+/// The last nonce of each pair, in the order of the pairs, and room for more.
 #[derive(Drop)]
 pub(crate) struct LastNonces<A: Allocator> {
     items: Vec<LastNonce, A>,
@@ -27,6 +30,8 @@ pub(crate) struct LastNonces<A: Allocator> {
 impl<A: Allocator> Model for LastNonces<A> {
     ghost use Rattle.std.specs.Prelude.{◌-◌, vec_len, vec_capacity};
     ghost use Rattle.std.specs.Coded.{codes};
+    ghost use Rattle.lisp_store.specs.Pair.{pair_cmp};
+    ghost use Rattle.lisp_served.specs.Order.{KeysRise};
     ghost use Rattle.lisp_server.specs.LastNonces.{NonceTable, nonces_code, nonces_of};
 
     ghost Value = { NonceTable };
@@ -34,11 +39,13 @@ impl<A: Allocator> Model for LastNonces<A> {
     ghost coded = { Prim.hlevel (codes, nonces_code) };
 
     ghost view = { λ n. record { nonces = nonces_of n.items.items; spare = vec_capacity n.items - vec_len n.items } };
+
+    ghost invariant = { λ n. KeysRise (λ e. e.pair) pair_cmp n.items.items };
 }
 
 impl<A: Allocator> LastNonces<A> {
     /// No nonces. Takes no memory.
-    #[tactic(auto, unfolding(crate::specs::LastNonces::nonces_of))]
+    #[tactic(auto, using(crate::proofs::NonceLaws::no_nonces), unfolding(crate::specs::LastNonces::nonces_of))]
     pub(crate) fn new(alloc: A) -> LastNonces<A>
         ensures { result.nonces ≡ empty }
     {
@@ -48,40 +55,48 @@ impl<A: Allocator> LastNonces<A> {
     }
 
     /// The last nonce of a pair; `None` where there is none.
-    #[tactic(auto, using(crate::proofs::NonceLaws::nonce_nowhere, crate::proofs::NonceLaws::nonce_found))]
+    #[tactic(auto, using(crate::proofs::NonceLaws::nonce_found))]
     pub(crate) fn get(&self, pair: &Pair) -> Option<u64>
         ensures { result ≡ nonce_at self.now.nonces pair.now }
     {
-        Some(self.items[place(&self.items, pair)?].nonce)
+        match place(&self.items, pair) {
+            Ok(place) => Some(self.items[place].nonce),
+            Err(_) => None,
+        }
     }
 
     /// Sets the last nonce of a pair. Takes no memory.
-    #[tactic(auto, using(crate::proofs::NonceLaws::nonce_set, crate::proofs::NonceLaws::nonce_pushed))]
+    #[tactic(auto, using(crate::proofs::NonceLaws::rises_set, crate::proofs::NonceLaws::rises_insert))]
     pub(crate) fn set(&mut self, pair: Pair, nonce: u64)
-        requires { 0 < self.old.spare }
+        requires { nonce_at self.old.nonces pair ≡ None → 0 < self.old.spare }
         ensures { SetsNonce self.old.nonces self.new.nonces pair nonce }
     {
         match place(&self.items, &pair) {
-            Some(place) => self.items[place] = LastNonce { pair, nonce },
-            None => self.items.push_reserved(LastNonce { pair, nonce }),
+            Ok(place) => self.items[place] = LastNonce { pair, nonce },
+            Err(gap) => insert_reserved(&mut self.items, gap, LastNonce { pair, nonce }),
         }
     }
 }
 
 impl<A: Memory> LastNonces<A> {
-    /// Makes room for the last nonce of one more pair.
-    pub(crate) fn prepare(&mut self) -> Result<(), AllocError>
+    /// Makes room for the last nonce of a pair, where it has none.
+    pub(crate) fn prepare(&mut self, pair: &Pair) -> Result<(), AllocError>
         ensures same { self.new.nonces ≡ self.old.nonces }
-        ensures room { OnOk result (0 < self.new.spare) }
+        ensures room { OnOk result (nonce_at self.new.nonces pair.now ≡ None → 0 < self.new.spare) }
         ensures memory { OnErr result A.may_refuse }
     {
-        self.items.make_room(1)
+        match place(&self.items, pair) {
+            Ok(_) => Ok(()),
+            Err(_) => self.items.make_room(1),
+        }
     }
 }
 
-// The place of a pair's entry.
-fn place(entries: &[LastNonce], pair: &Pair) -> Option<usize>
-    ensures { result ≡ position (is_of pair.now) entries.now }
+// The place of a pair's entry, or where it goes.
+fn place(entries: &[LastNonce], pair: &Pair) -> Result<usize, usize>
+    requires { KeysRise (λ e. e.pair) pair_cmp entries.now }
+    ensures found { IfOk result (λ i. position (is_of pair.now) entries.now ≡ Some i) }
+    ensures gap { IfErr result (λ i. IsGap (λ e. e.pair) pair_cmp entries.now pair.now i) }
 {
-    entries.iter().position(|entry| pair.is_same(&entry.pair))
+    entries.binary_search_by_key(pair, |entry| entry.pair)
 }

@@ -11,6 +11,7 @@ pub mod laws;
 mod receive_ack;
 mod receive_register;
 mod reply;
+mod reserved;
 mod send_notice;
 mod server;
 mod standing_notice;

@@ -10,7 +10,7 @@ use crate::arrival::Arrival;
 use crate::standing_notice::StandingNotice;
 use crate::standing_notices::StandingNotices;
 use crate::took::Took;
-use lisp_checks::{Refused, secret_at};
+use lisp_checks::{Refused, key_at};
 use lisp_messages::{MapNotify, authentic};
 use lisp_served::Sites;
 use std::alloc::Allocator;
@@ -61,8 +61,8 @@ fn ended<'n, A: Allocator>(
 fn answers_under<A: Allocator>(sites: &Sites<A>, bytes: &[u8], notice: &StandingNotice<A>) -> bool
     ensures { result ≡ answers_under sites.now bytes.now notice.now }
 {
-    match secret_at(sites, notice.router.site, notice.key) {
-        Some(secret) => authentic(bytes, secret),
+    match key_at(sites, notice.router.site, notice.key) {
+        Some(key) => authentic(bytes, key),
         None => false,
     }
 }

@@ -15,7 +15,8 @@ use crate::accepted_rows::rows_and_reply;
 use crate::arrival::Arrival;
 use crate::tables::Tables;
 use crate::took::Took;
-use lisp_checks::{Refused, check_nonce, pair_of, save_nonce, secret_under};
+use lisp_checks::{Refused, check_nonce, key_under, pair_of, save_nonce};
+use lisp_hmac::Key;
 use lisp_memory::Memory;
 use lisp_messages::MapRegister;
 use lisp_records::{Bytes, Row};
@@ -42,11 +43,11 @@ pub(crate) fn receive_register<S: NonceStore, A: Memory + Copy>(
     ensures save_memory { IsErrOf result (Refused.StoreSave StoreFault.OutOfMemory) → S.may_refuse }
     ensures proceeds { Proceeds (S.seen store.old) (S.seen store.new) }
 {
-    let secret = secret_under(sites, arrival.bytes, &register)?;
+    let key = key_under(sites, arrival.bytes, &register)?;
     let pair = pair_of(&register);
     let nonce = nonce_of(&register);
     check_nonce(store, &pair, tables.nonces.get(&pair), nonce)?;
-    let (rows, reply) = prepared(alloc, tables, secret, arrival, register)?;
+    let (rows, reply) = prepared(alloc, tables, &pair, key, arrival, register)?;
     save_nonce(store, &pair, nonce)?;
     tables.accept(rows, pair, nonce, arrival.from);
     Ok(Took::Accepted {
@@ -62,18 +63,19 @@ pub(crate) fn receive_register<S: NonceStore, A: Memory + Copy>(
 fn prepared<A: Memory + Copy>(
     alloc: A,
     tables: &mut Tables<A>,
-    secret: &[u8],
+    pair: &Pair,
+    key: &Key,
     arrival: Arrival<'_>,
     register: MapRegister<A>,
 ) -> Result<(Vec<Row<A>, A>, Option<Bytes<A>>), AllocError>
     ensures rows { IfOk result (λ x. x.0.items ≡ holdings register arrival.entry.from arrival.entry.now) }
-    ensures reply { IfOk result (λ x. x.1 ≡ reply_of secret.now register) }
-    ensures room { IfOk result (λ x. HasRoom tables.new (length x.0.items)) }
+    ensures reply { IfOk result (λ x. x.1 ≡ reply_of key.now register) }
+    ensures room { IfOk result (λ x. HasRoom tables.new (length x.0.items) pair.now) }
     ensures same { SameTables tables.old tables.new }
     ensures memory { OnErr result A.may_refuse }
 {
-    let (rows, reply) = rows_and_reply(alloc, secret, register, arrival.from, arrival.now)?;
-    tables.prepare(&rows)?;
+    let (rows, reply) = rows_and_reply(alloc, key, register, arrival.from, arrival.now)?;
+    tables.prepare(&rows, pair)?;
     Ok((rows, reply))
 }
 

@@ -14,7 +14,8 @@ ghost use Rattle.lisp_checks.specs.declared.notice_fault.NoticeFault.{NoticeFaul
 use crate::contacts::{Contact, Contacts};
 use crate::standing_notice::StandingNotice;
 use crate::tables::Tables;
-use lisp_checks::{NOTICES, NoticeFault, next_nonce, save_notice, secret_at};
+use lisp_checks::{NOTICES, NoticeFault, key_at, next_nonce, save_notice};
+use lisp_hmac::Key;
 use lisp_lookup::Table;
 use lisp_memory::Memory;
 use lisp_messages::{MapNotify, write_notify};
@@ -54,11 +55,11 @@ pub(crate) fn send_notice<S: NonceStore, A: Memory + Copy>(
     Ok((recipient.contact.from, bytes))
 }
 
-/// Where a router was heard last, and the secret that its notices are sent under.
+/// Where a router was heard last, and the key that its notices are sent under.
 #[derive(Clone, Copy, Drop)]
 struct Recipient<'s> {
     contact: Contact,
-    secret: &'s [u8],
+    key: &'s Key,
 }
 
 impl Recipient<'_> {
@@ -73,14 +74,14 @@ impl Recipient<'_> {
         requires moment { now ≤ max_moment }
         requires few { length (live_of tables.old.rows.rows self.now.contact.router now) ≤ 255 }
         ensures notice { IfOk result (λ x. x.0 ≡ record { router = self.now.contact.router; to = self.now.contact.from; key = self.now.contact.key; nonce = nonce; bytes = x.1.items; resends = 0; last = now }) }
-        ensures bytes { IfOk result (λ x. IsNotice (live_of tables.old.rows.rows self.now.contact.router now) self.now.contact.key nonce self.now.secret.now x.1.items) }
-        ensures room { OnOk result (HasNoticeRoom tables.new) }
+        ensures bytes { IfOk result (λ x. IsNotice (live_of tables.old.rows.rows self.now.contact.router now) self.now.contact.key nonce self.now.key.now x.1.items) }
+        ensures room { OnOk result (HasNoticeRoom tables.new self.now.contact.router) }
         ensures same { SameTables tables.old tables.new }
         ensures memory { OnErr result A.may_refuse }
     {
         let bytes = self.notify(alloc, &tables.rows, now, nonce)?;
         let notice = self.notice(nonce, bytes.copy(alloc)?, now);
-        tables.prepare_notice()?;
+        tables.prepare_notice(&self.contact.router)?;
         Ok((notice, bytes.into_vec()))
     }
 
@@ -93,7 +94,7 @@ impl Recipient<'_> {
         nonce: u64,
     ) -> Result<Bytes<A>, AllocError>
         requires few { length (live_of rows.now.rows self.now.contact.router now) ≤ 255 }
-        ensures notice { IfOk result (λ bytes. IsNotice (live_of rows.now.rows self.now.contact.router now) self.now.contact.key nonce self.now.secret.now bytes) }
+        ensures notice { IfOk result (λ bytes. IsNotice (live_of rows.now.rows self.now.contact.router now) self.now.contact.key nonce self.now.key.now bytes) }
         ensures memory { OnErr result A.may_refuse }
     {
         let notify = MapNotify {
@@ -102,7 +103,7 @@ impl Recipient<'_> {
             key_id: self.contact.key,
             records: Records::from_vec(rows.live_records(&self.contact.router, now)?),
         };
-        Ok(Bytes::from_vec(write_notify(alloc, &notify, self.secret)?))
+        Ok(Bytes::from_vec(write_notify(alloc, &notify, self.key)?))
     }
 
     // The notice that stands once its nonce is saved.
@@ -130,7 +131,7 @@ fn recipient_of<'s, A: Allocator + Copy>(
     now: u64,
 ) -> Result<Recipient<'s>, NoticeFault>
     requires { Knows sites.now tables.now.rows.rows tables.now.contacts.contacts }
-    ensures registered { IfOk result (λ to. (r : IsRegistered (state_of sites.now tables.now) router.now now) × (to.contact ≡ r.heard.contact) × (to.secret.now ≡ r.heard.secret)) }
+    ensures registered { IfOk result (λ to. (r : IsRegistered (state_of sites.now tables.now) router.now now) × (to.contact ≡ r.heard.contact) × (to.key.now ≡ r.heard.secret)) }
     ensures refused { IfErr result (λ fault. Unregistered (live_of tables.now.rows.rows router.now now) fault) }
     ensures plain { ¬ (IsErrOf result NoticeFault.OutOfMemory) }
     ensures one_each { OneEach tables.now.rows.rows }
@@ -144,16 +145,16 @@ fn recipient_of<'s, A: Allocator + Copy>(
     heard(sites, &tables.contacts, router).ok_or(NoticeFault::NotRegistered)
 }
 
-// Where a router was heard last, and the secret of that key.
+// Where a router was heard last, and that key.
 fn heard<'s, A: Allocator>(
     sites: &'s Sites<A>,
     contacts: &Contacts<A>,
     router: &RouterId,
 ) -> Option<Recipient<'s>>
-    ensures some { IfSome result (λ to. (h : IsHeard sites.now contacts.now.contacts router.now) × (to.contact ≡ h.contact) × (to.secret.now ≡ h.secret)) }
+    ensures some { IfSome result (λ to. (h : IsHeard sites.now contacts.now.contacts router.now) × (to.contact ≡ h.contact) × (to.key.now ≡ h.secret)) }
     ensures none { result ≡ None → IsHeard sites.now contacts.now.contacts router.now → ⊥ }
 {
     let contact = contacts.get(router)?;
-    let secret = secret_at(sites, router.site, contact.key)?;
-    Some(Recipient { contact, secret })
+    let key = key_at(sites, router.site, contact.key)?;
+    Some(Recipient { contact, key })
 }

@@ -1,12 +1,15 @@
 //! The unsolicited Map-Notifies (notices) of a Map-Server that stand, at most one for each router.
 
-ghost use Rattle.std.specs.Prelude.{◌≡◌, ◌<◌, ◌≤◌, [], OnOk, OnErr, IfOk, IfErr, IsErrOf, position};
+ghost use Rattle.std.specs.Prelude.{◌≡◌, ◌<◌, ◌≤◌, [], None, Some, OnOk, OnErr, IfOk, IfErr, IsErrOf, position};
 ghost use Rattle.lisp_records.specs.Moment.{max_moment};
 ghost use Rattle.std.specs.List.{find};
 ghost use Rattle.std.specs.Option.{option_map};
+ghost use Rattle.lisp_records.specs.Router.{router_cmp};
+ghost use Rattle.lisp_served.specs.Order.{KeysRise, IsGap};
 ghost use Rattle.lisp_checks.specs.declared.notice_fault.NoticeFault.{NoticeFault};
-ghost use Rattle.lisp_server.specs.Notices.{is_notice_of, OneForEach, SetsNotice, EndsNotice, awaits, Awaited, lesser, IsDueRouter, Resends, RefusesResend};
+ghost use Rattle.lisp_server.specs.Notices.{is_notice_of, notice_at, is_due, OneForEach, SetsNotice, EndsNotice, awaits, Awaited, IsDueRouter, Resends, RefusesResend};
 
+use crate::reserved::insert_reserved;
 use crate::standing_notice::StandingNotice;
 use lisp_checks::NoticeFault;
 use lisp_memory::{FallibleVec, Memory};
@@ -14,7 +17,7 @@ use lisp_records::{Addr, RouterId};
 use std::alloc::{AllocError, Allocator};
 use std::marker::Model;
 
-/// The notices that stand, and room for more.
+/// The notices that stand, in the order of their routers, and room for more.
 #[derive(Drop)]
 pub(crate) struct StandingNotices<A: Allocator> {
     items: Vec<StandingNotice<A>, A>,
@@ -22,17 +25,20 @@ pub(crate) struct StandingNotices<A: Allocator> {
 
 impl<A: Allocator> Model for StandingNotices<A> {
     ghost use Rattle.std.specs.Prelude.{◌-◌, vec_len, vec_capacity};
-    ghost use Rattle.lisp_server.specs.Notices.{NoticeTable, OneForEach};
+    ghost use Rattle.lisp_records.specs.Router.{router_cmp};
+    ghost use Rattle.lisp_served.specs.Order.{KeysRise};
+    ghost use Rattle.lisp_server.specs.Notices.{NoticeTable};
 
     ghost Value = { NoticeTable };
 
     ghost view = { λ n. record { notices = n.items.items; spare = vec_capacity n.items - vec_len n.items } };
 
-    ghost invariant = { λ n. OneForEach n.items.items };
+    ghost invariant = { λ n. KeysRise (λ x. x.router) router_cmp n.items.items };
 }
 
 impl<A: Allocator> StandingNotices<A> {
     /// No notices. Takes no memory.
+    #[tactic(auto, using(crate::proofs::StandingLaws::no_notices))]
     pub(crate) fn new(alloc: A) -> StandingNotices<A>
         ensures { result.notices ≡ [] }
     {
@@ -43,12 +49,12 @@ impl<A: Allocator> StandingNotices<A> {
 
     /// Keeps a notice, in place of an earlier one to its router. Takes no memory.
     pub(crate) fn keep(&mut self, notice: StandingNotice<A>)
-        requires { 0 < self.old.spare }
+        requires { notice_at self.old.notices notice.router ≡ None → 0 < self.old.spare }
         ensures { SetsNotice self.old.notices self.new.notices notice }
     {
         match place(&self.items, &notice.router) {
-            Some(place) => self.items[place] = notice,
-            None => self.items.push_reserved(notice),
+            Ok(place) => self.items[place] = notice,
+            Err(gap) => insert_reserved(&mut self.items, gap, notice),
         }
     }
 
@@ -56,7 +62,9 @@ impl<A: Allocator> StandingNotices<A> {
     pub(crate) fn end(&mut self, router: &RouterId)
         ensures { EndsNotice self.old.notices self.new.notices router.now }
     {
-        self.items.retain(|notice| notice.router != *router);
+        if let Ok(place) = place(&self.items, router) {
+            self.items.remove(place);
+        }
     }
 
     /// A notice that waits for a Map-Notify-Ack with this key and nonce from this address.
@@ -71,18 +79,24 @@ impl<A: Allocator> StandingNotices<A> {
         ensures due { IsDueRouter self.now.notices now result }
         ensures one_each { OneForEach self.now.notices }
     {
-        least_due(&self.items, now)
+        match first_due(&self.items, now) {
+            Some(notice) => Some(notice.router),
+            None => None,
+        }
     }
 }
 
 impl<A: Memory> StandingNotices<A> {
-    /// Makes room for one more notice.
-    pub(crate) fn prepare(&mut self) -> Result<(), AllocError>
+    /// Makes room for the notice to a router, where none stands.
+    pub(crate) fn prepare(&mut self, router: &RouterId) -> Result<(), AllocError>
         ensures same { self.new.notices ≡ self.old.notices }
-        ensures room { OnOk result (0 < self.new.spare) }
+        ensures room { OnOk result (notice_at self.new.notices router.now ≡ None → 0 < self.new.spare) }
         ensures memory { OnErr result A.may_refuse }
     {
-        self.items.make_room(1)
+        match place(&self.items, router) {
+            Ok(_) => Ok(()),
+            Err(_) => self.items.make_room(1),
+        }
     }
 
     /// Sends the notice to a router again that is due at a time, in ms: its address and a copy of its bytes.
@@ -99,7 +113,7 @@ impl<A: Memory> StandingNotices<A> {
         ensures err { OnErr result (self.new.notices ≡ self.old.notices) }
         ensures memory { IsErrOf result NoticeFault.OutOfMemory → A.may_refuse }
     {
-        let Some(place) = place(&self.items, router) else {
+        let Ok(place) = place(&self.items, router) else {
             return Err(NoticeFault::NotDue);
         };
         if !self.items[place].is_due(now) {
@@ -109,11 +123,13 @@ impl<A: Memory> StandingNotices<A> {
     }
 }
 
-// The place of the notice to a router.
-fn place<A: Allocator>(notices: &[StandingNotice<A>], router: &RouterId) -> Option<usize>
-    ensures { result ≡ position (is_notice_of router.now) notices.now }
+// The place of the notice to a router, or where it goes.
+fn place<A: Allocator>(notices: &[StandingNotice<A>], router: &RouterId) -> Result<usize, usize>
+    requires { KeysRise (λ x. x.router) router_cmp notices.now }
+    ensures found { IfOk result (λ i. position (is_notice_of router.now) notices.now ≡ Some i) }
+    ensures gap { IfErr result (λ i. IsGap (λ x. x.router) router_cmp notices.now router.now i) }
 {
-    notices.iter().position(|notice| notice.router == *router)
+    notices.binary_search_by_key(router, |notice| notice.router)
 }
 
 fn first_awaiting<'n, A: Allocator>(
@@ -129,25 +145,8 @@ fn first_awaiting<'n, A: Allocator>(
         .find(|notice| notice.awaits(from, key, nonce))
 }
 
-fn least_due<A: Allocator>(notices: &[StandingNotice<A>], now: u64) -> Option<RouterId>
-    requires { OneForEach notices.now }
-    ensures { IsDueRouter notices.now now result }
+fn first_due<A: Allocator>(notices: &[StandingNotice<A>], now: u64) -> Option<&StandingNotice<A>>
+    ensures { option_map (λ n. n.now) result ≡ find (is_due now) notices.now }
 {
-    let mut least = None;
-    for notice in notices {
-        if notice.is_due(now) {
-            least = Some(lesser(least, notice.router));
-        }
-    }
-    least
-}
-
-// The lesser of two routers, where there is a first one.
-fn lesser(one: Option<RouterId>, other: RouterId) -> RouterId
-    ensures { result ≡ lesser one other }
-{
-    match one {
-        Some(one) if other.cmp(&one).is_ge() => one,
-        _ => other,
-    }
+    notices.iter().find(|notice| notice.is_due(now))
 }

@@ -15,7 +15,7 @@ use crate::standing_notices::StandingNotices;
 use lisp_checks::NOTICES;
 use lisp_lookup::Table;
 use lisp_memory::Memory;
-use lisp_records::{Addr, Row};
+use lisp_records::{Addr, RouterId, Row};
 use lisp_store::Pair;
 use std::alloc::{AllocError, Allocator};
 
@@ -32,7 +32,7 @@ pub(crate) struct Tables<A: Allocator> {
 impl<A: Allocator + Copy> Tables<A> {
     /// Keeps what an accepted Map-Register leaves here. Takes no memory.
     pub(crate) fn accept(&mut self, rows: Vec<Row<A>, A>, pair: Pair, nonce: u64, from: Addr)
-        requires { HasRoom self.old (length rows.items) }
+        requires { HasRoom self.old (length rows.items) pair }
         ensures rows { Sets self.old.rows.rows self.new.rows.rows rows.items }
         ensures nonces { SetsNonce self.old.nonces.nonces self.new.nonces.nonces pair nonce }
         ensures contacts { SetsContact self.old.contacts.contacts self.new.contacts.contacts (record { router = pair.router; key = pair.key; from = from }) }
@@ -49,7 +49,7 @@ impl<A: Allocator + Copy> Tables<A> {
 
     /// Keeps a notice and its nonce. Takes no memory.
     pub(crate) fn keep_notice(&mut self, notice: StandingNotice<A>)
-        requires { HasNoticeRoom self.old }
+        requires { HasNoticeRoom self.old notice.router }
         ensures rows { self.new.rows.rows ≡ self.old.rows.rows }
         ensures nonces { SetsNonce self.old.nonces.nonces self.new.nonces.nonces notice_pair notice.nonce }
         ensures contacts { self.new.contacts.contacts ≡ self.old.contacts.contacts }
@@ -61,26 +61,26 @@ impl<A: Allocator + Copy> Tables<A> {
 }
 
 impl<A: Memory + Copy> Tables<A> {
-    /// Makes room for what a Map-Register that sets these rows leaves here.
-    pub(crate) fn prepare(&mut self, rows: &[Row<A>]) -> Result<(), AllocError>
+    /// Makes room for what a Map-Register that sets these rows under a pair leaves here.
+    pub(crate) fn prepare(&mut self, rows: &[Row<A>], pair: &Pair) -> Result<(), AllocError>
         ensures same { SameTables self.old self.new }
-        ensures room { OnOk result (HasRoom self.new (length rows.now)) }
+        ensures room { OnOk result (HasRoom self.new (length rows.now) pair.now) }
         ensures memory { OnErr result A.may_refuse }
     {
         self.rows.prepare(rows)?;
-        self.nonces.prepare()?;
-        self.contacts.prepare()?;
+        self.nonces.prepare(pair)?;
+        self.contacts.prepare(&pair.router)?;
         Ok(())
     }
 
-    /// Makes room for one more notice and its nonce.
-    pub(crate) fn prepare_notice(&mut self) -> Result<(), AllocError>
+    /// Makes room for a notice to a router and its nonce.
+    pub(crate) fn prepare_notice(&mut self, router: &RouterId) -> Result<(), AllocError>
         ensures same { SameTables self.old self.new }
-        ensures room { OnOk result (HasNoticeRoom self.new) }
+        ensures room { OnOk result (HasNoticeRoom self.new router.now) }
         ensures memory { OnErr result A.may_refuse }
     {
-        self.nonces.prepare()?;
-        self.notices.prepare()?;
+        self.nonces.prepare(&NOTICES)?;
+        self.notices.prepare(router)?;
         Ok(())
     }
 }

@@ -6,5 +6,6 @@ pub mod Names
 pub mod NodeLaws
 pub mod Readings
 pub mod RouterParts
+pub mod SiteFound
 pub mod SiteLaws
 pub mod TextFits

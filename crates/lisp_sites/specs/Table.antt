@@ -16,6 +16,7 @@ use Rattle.lisp_texts.specs.Form.{site_id_of, xtr_of, secret_text_of}
 use Rattle.lisp_sites.specs.declared.field.Field.{Field}
 use Rattle.lisp_sites.specs.declared.field.Field.TheVariants as fields
 use Rattle.lisp_sites.specs.declared.fault.ConfigFault.{ConfigFault}
+use Rattle.lisp_sites.specs.declared.place.PlacedFault.{PlacedFault}
 use Rattle.lisp_sites.specs.declared.fault.ConfigFault.TheVariants.{Toml, Missing, BadValue, Repeated, OutOfMemory}
 use Rattle.lisp_served.specs.declared.site.SitePrefix.{SitePrefix}
 use Rattle.lisp_served.specs.Site.{KeyEntry, SiteEntry, site_of, has_key}
@@ -240,3 +241,8 @@ Fails OutOfMemory read = Unit {0}
 abbrev pub Gives : {X Y : Type 0} → (X → Y) → Result X ConfigFault → Result Y ConfigFault → Type 0
 Gives view (Ok x) read = read ≡ Ok (view x)
 Gives view (Err e) read = Fails e read
+
+-- what is answered with the place of a fault, without the place
+abbrev pub unplaced : {X : Type 0} → Result X PlacedFault → Result X ConfigFault
+unplaced (Ok x) = Ok x
+unplaced (Err e) = Err e.fault

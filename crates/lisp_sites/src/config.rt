@@ -4,9 +4,10 @@ ghost use Rattle.std.specs.Prelude.{◌≡◌};
 ghost use Rattle.toml.specs.Parse.{parse_document};
 ghost use Rattle.toml.specs.View.{view};
 ghost use Rattle.lisp_sites.specs.Configuration.{IsConfiguration};
-ghost use Rattle.lisp_sites.specs.Table.{Gives, document_of, configuration_of, config_of};
+ghost use Rattle.lisp_sites.specs.Table.{Gives, unplaced, document_of, configuration_of, config_of};
 
 use crate::fault::ConfigFault;
+use crate::place::{Place, PlacedFault};
 use crate::router::{RouterEntry, read_routers};
 use crate::server::{ServerEntry, read_servers};
 use crate::site_entries::read_sites;
@@ -76,9 +77,32 @@ impl<A: Memory + Copy> Config<A> {
     pub fn from_toml(heap: Global, alloc: A, text: &str) -> Result<Config<A>, ConfigFault>
         ensures { Gives (λ c. c) result (config_of (parse_document text.now)) }
     {
-        let document = read_document(heap, text)?;
-        read_configuration(alloc, &document)
+        read_text(heap, alloc, text, &mut Place::START)
     }
+
+    /// Reads a configuration file as [`from_toml`](Config::from_toml) does; a fault comes with its
+    /// place in the file: the entry that was being read.
+    pub fn read(heap: Global, alloc: A, text: &str) -> Result<Config<A>, PlacedFault>
+        ensures { Gives (λ c. c) (unplaced result) (config_of (parse_document text.now)) }
+    {
+        let mut place = Place::START;
+        match read_text(heap, alloc, text, &mut place) {
+            Ok(config) => Ok(config),
+            Err(fault) => Err(PlacedFault { fault, place }),
+        }
+    }
+}
+
+fn read_text<A: Memory + Copy>(
+    heap: Global,
+    alloc: A,
+    text: &str,
+    place: &mut Place,
+) -> Result<Config<A>, ConfigFault>
+    ensures { Gives (λ c. c) result (config_of (parse_document text.now)) }
+{
+    let document = read_document(heap, text)?;
+    read_configuration(alloc, &document, place)
 }
 
 // The text as a TOML value.
@@ -96,12 +120,13 @@ fn read_document(heap: Global, text: &str) -> Result<Value, ConfigFault>
 fn read_configuration<A: Memory + Copy>(
     alloc: A,
     document: &Value,
+    place: &mut Place,
 ) -> Result<Config<A>, ConfigFault>
     ensures { Gives (λ c. c) result (configuration_of (view document.now)) }
 {
-    let sites = Sites::from_vec(read_sites(alloc, document)?);
-    let servers = read_servers(alloc, document)?;
-    let routers = read_routers(alloc, document, &sites, &servers)?;
+    let sites = read_sites(alloc, document, place)?;
+    let servers = read_servers(alloc, document, place)?;
+    let routers = read_routers(alloc, document, &sites, &servers, place)?;
     Ok(Config {
         sites,
         servers,

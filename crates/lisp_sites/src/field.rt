@@ -63,6 +63,15 @@ impl Field {
             Field::RouterRecords => "router.records",
         }
     }
+
+    /// Its key, the last part of its name.
+    pub(crate) fn key(self) -> &'static str {
+        let name = self.name();
+        match name.rsplit_once('.') {
+            Some((_, key)) => key,
+            None => name,
+        }
+    }
 }
 
 impl Display for Field {

@@ -6,6 +6,7 @@ mod config;
 mod fault;
 mod field;
 mod name;
+mod place;
 mod places;
 mod router;
 mod server;
@@ -21,6 +22,7 @@ pub use lisp_texts::{
     record_from_text, record_to_text, secret_from_text, site_id_from_text, xtr_from_text,
 };
 pub use name::Name;
+pub use place::{Entry, Place, PlacedFault};
 pub use places::Places;
 pub use router::RouterEntry;
 pub use server::ServerEntry;

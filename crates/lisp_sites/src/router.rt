@@ -8,6 +8,7 @@ ghost use Rattle.lisp_sites.specs.Table.{Gives, each, has_router, fresh_router_n
 use crate::fault::ConfigFault;
 use crate::field::Field;
 use crate::name::Name;
+use crate::place::Place;
 use crate::places::Places;
 use crate::server::{ServerEntry, has_server, server_place};
 use crate::site_entries::has_key;
@@ -59,6 +60,7 @@ pub(crate) fn read_routers<A: Memory + Copy>(
     document: &Value,
     sites: &Sites<A>,
     servers: &[ServerEntry<A>],
+    place: &mut Place,
 ) -> Result<Vec<RouterEntry<A>, A>, ConfigFault>
     ensures { Gives (λ routers. routers.items) result (routers_of sites.now servers.now (view document.now)) }
 {
@@ -67,6 +69,7 @@ pub(crate) fn read_routers<A: Memory + Copy>(
         tables(document, "router", Field::Router)?,
         sites,
         servers,
+        place,
     )
 }
 
@@ -75,14 +78,17 @@ fn each_router<A: Memory + Copy>(
     entries: &[Value],
     sites: &Sites<A>,
     servers: &[ServerEntry<A>],
+    place: &mut Place,
 ) -> Result<Vec<RouterEntry<A>, A>, ConfigFault>
     ensures { Gives (λ routers. routers.items) result (each (router_at sites.now servers.now) [] (items_view entries.now)) }
 {
     let mut routers = Vec::new(alloc);
     for entry in entries {
-        let router = read_router(alloc, entry, sites, servers, &routers)?;
+        place.enter(Field::Router, routers.len());
+        let router = read_router(alloc, entry, sites, servers, &routers, place)?;
         routers.push(router)?;
     }
+    place.leave();
     Ok(routers)
 }
 
@@ -93,15 +99,16 @@ fn read_router<A: Memory + Copy>(
     sites: &Sites<A>,
     servers: &[ServerEntry<A>],
     before: &[RouterEntry<A>],
+    place: &mut Place,
 ) -> Result<RouterEntry<A>, ConfigFault>
     ensures { Gives (λ r. r) result (router_at sites.now servers.now before.now (view entry.now)) }
 {
     let (name, address) = read_node(alloc, entry, servers, before)?;
     let (me, key_id) = read_identity(entry, sites)?;
-    let servers = read_places(alloc, entry, servers)?;
+    let servers = read_places(alloc, entry, servers, place)?;
     let (proxy, use_ttl) = read_flags(entry)?;
     let nonce_block = read_nonce_block(entry)?;
-    let database = read_database(alloc, entry)?;
+    let database = read_database(alloc, entry, place)?;
     Ok(RouterEntry {
         name,
         address,
@@ -196,25 +203,29 @@ fn read_places<A: Allocator + Copy>(
     alloc: A,
     entry: &Value,
     servers: &[ServerEntry<A>],
+    place: &mut Place,
 ) -> Result<Places<A>, ConfigFault>
     ensures { Gives (λ p. p) result (places_of servers.now (view entry.now)) }
 {
     let names = array(entry, "servers", Field::RouterServers)?;
-    Ok(Places::from_vec(each_place(alloc, names, servers)?))
+    Ok(Places::from_vec(each_place(alloc, names, servers, place)?))
 }
 
 fn each_place<A: Allocator + Copy>(
     alloc: A,
     names: &[Value],
     servers: &[ServerEntry<A>],
+    place: &mut Place,
 ) -> Result<Vec<usize, A>, ConfigFault>
     ensures { Gives (λ places. places.items) result (each (place_at servers.now) [] (items_view names.now)) }
 {
     let mut places = Vec::new(alloc);
     for name in names {
-        let place = fresh_place(name, servers, &places)?;
-        places.push(place)?;
+        place.enter_part(Field::RouterServers, places.len());
+        let server = fresh_place(name, servers, &places)?;
+        places.push(server)?;
     }
+    place.leave_part();
     Ok(places)
 }
 
@@ -262,11 +273,15 @@ fn read_nonce_block(entry: &Value) -> Result<u16, ConfigFault>
 
 // The records.
 #[tactic(auto, unfolding(crate::specs::Table::database_at))]
-fn read_database<A: Memory + Copy>(alloc: A, entry: &Value) -> Result<Database<A>, ConfigFault>
+fn read_database<A: Memory + Copy>(
+    alloc: A,
+    entry: &Value,
+    place: &mut Place,
+) -> Result<Database<A>, ConfigFault>
     ensures { Gives (λ d. d) result (database_at (view entry.now)) }
 {
     let texts = tables(entry, "records", Field::RouterRecords)?;
-    let records = each_record(alloc, texts)?;
+    let records = each_record(alloc, texts, place)?;
     match Database::new(records) {
         Ok(database) => Ok(database),
         Err(_) => Err(ConfigFault::BadValue(Field::RouterRecords)),
@@ -276,14 +291,17 @@ fn read_database<A: Memory + Copy>(alloc: A, entry: &Value) -> Result<Database<A
 fn each_record<A: Memory + Copy>(
     alloc: A,
     texts: &[Value],
+    place: &mut Place,
 ) -> Result<Vec<MapRecord<A>, A>, ConfigFault>
     ensures { Gives (λ records. records.items) result (each record_at [] (items_view texts.now)) }
 {
     let mut records = Vec::new(alloc);
     for text in texts {
+        place.enter_part(Field::RouterRecords, records.len());
         let record = read_record(alloc, text)?;
         records.push(record)?;
     }
+    place.leave_part();
     Ok(records)
 }
 

@@ -8,6 +8,7 @@ ghost use Rattle.lisp_sites.specs.Table.{Gives, each, has_server, server_place, 
 use crate::fault::ConfigFault;
 use crate::field::Field;
 use crate::name::Name;
+use crate::place::Place;
 use crate::value::{address, check_table, name, tables};
 use lisp_records::Addr;
 use std::alloc::{Allocator, Global};
@@ -35,23 +36,27 @@ impl<A: Allocator> Model for ServerEntry<A> {
 pub(crate) fn read_servers<A: Allocator + Copy>(
     alloc: A,
     document: &Value,
+    place: &mut Place,
 ) -> Result<Vec<ServerEntry<A>, A>, ConfigFault>
     ensures { Gives (λ servers. servers.items) result (servers_of (view document.now)) }
 {
-    each_server(alloc, tables(document, "server", Field::Server)?)
+    each_server(alloc, tables(document, "server", Field::Server)?, place)
 }
 
 fn each_server<A: Allocator + Copy>(
     alloc: A,
     entries: &[Value],
+    place: &mut Place,
 ) -> Result<Vec<ServerEntry<A>, A>, ConfigFault>
     ensures { Gives (λ servers. servers.items) result (each server_at [] (items_view entries.now)) }
 {
     let mut servers = Vec::new(alloc);
     for entry in entries {
+        place.enter(Field::Server, servers.len());
         let server = read_server(alloc, entry, &servers)?;
         servers.push(server)?;
     }
+    place.leave();
     Ok(servers)
 }
 

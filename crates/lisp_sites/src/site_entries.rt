@@ -7,53 +7,60 @@ ghost use Rattle.lisp_sites.specs.Table.{Gives, each, fresh_key_id, key_at, keys
 
 use crate::fault::ConfigFault;
 use crate::field::Field;
+use crate::place::Place;
 use crate::value::{byte, check_table, flag, prefix, secret, site_id, tables};
+use lisp_memory::Memory;
 use lisp_records::Prefix;
-use lisp_served::{Site, SiteKey, SitePrefix};
+use lisp_served::{Site, SiteKey, SitePrefix, Sites};
 use std::alloc::Allocator;
 use toml::Value;
 
 /// The sites of the document, in its order.
-pub(crate) fn read_sites<A: Allocator + Copy>(
+pub(crate) fn read_sites<A: Memory + Copy>(
     alloc: A,
     document: &Value,
-) -> Result<Vec<Site<A>, A>, ConfigFault>
-    ensures { Gives (λ sites. sites.items) result (sites_of (view document.now)) }
+    place: &mut Place,
+) -> Result<Sites<A>, ConfigFault>
+    ensures { Gives (λ sites. sites) result (sites_of (view document.now)) }
 {
-    each_site(alloc, tables(document, "site", Field::Site)?)
+    each_site(alloc, tables(document, "site", Field::Site)?, place)
 }
 
-fn each_site<A: Allocator + Copy>(
+fn each_site<A: Memory + Copy>(
     alloc: A,
     entries: &[Value],
-) -> Result<Vec<Site<A>, A>, ConfigFault>
-    ensures { Gives (λ sites. sites.items) result (each site_at [] (items_view entries.now)) }
+    place: &mut Place,
+) -> Result<Sites<A>, ConfigFault>
+    ensures { Gives (λ sites. sites) result (each site_at [] (items_view entries.now)) }
 {
-    let mut sites = Vec::new(alloc);
+    let mut sites = Sites::new(alloc);
     for entry in entries {
-        let site = read_site(alloc, entry, &sites)?;
+        place.enter(Field::Site, sites.as_slice().len());
+        let site = read_site(alloc, entry, &sites, place)?;
         sites.push(site)?;
     }
+    place.leave();
     Ok(sites)
 }
 
 // One site; `before` are those that stand before it.
 #[tactic(auto, unfolding(crate::specs::Table::site_at))]
-fn read_site<A: Allocator + Copy>(
+fn read_site<A: Memory + Copy>(
     alloc: A,
     entry: &Value,
-    before: &[Site<A>],
+    before: &Sites<A>,
+    place: &mut Place,
 ) -> Result<Site<A>, ConfigFault>
     ensures { Gives (λ s. s) result (site_at before.now (view entry.now)) }
 {
     check_table(entry, Field::Site)?;
     let id = fresh_site_id(entry, before)?;
-    let keys = read_keys(alloc, entry)?;
-    let prefixes = read_prefixes(alloc, entry)?;
-    Ok(Site::new(id, keys, prefixes))
+    let keys = read_keys(alloc, entry, place)?;
+    let prefixes = read_prefixes(alloc, entry, place)?;
+    Ok(Site::new(alloc, id, keys, prefixes)?)
 }
 
-fn fresh_site_id<A: Allocator>(entry: &Value, before: &[Site<A>]) -> Result<u64, ConfigFault>
+fn fresh_site_id<A: Allocator>(entry: &Value, before: &Sites<A>) -> Result<u64, ConfigFault>
     ensures { result ≡ fresh_site_id before.now (view entry.now) }
 {
     let id = site_id(entry, "id", Field::SiteId)?;
@@ -63,33 +70,37 @@ fn fresh_site_id<A: Allocator>(entry: &Value, before: &[Site<A>]) -> Result<u64,
     Ok(id)
 }
 
-fn has_site<A: Allocator>(sites: &[Site<A>], id: u64) -> bool
+fn has_site<A: Allocator>(sites: &Sites<A>, id: u64) -> bool
     ensures { result ≡ has_site sites.now id }
 {
-    sites.iter().any(|site| site.id() == id)
+    sites.site(id).is_some()
 }
 
 // The keys of a site.
 fn read_keys<A: Allocator + Copy>(
     alloc: A,
     entry: &Value,
-) -> Result<Vec<SiteKey<A>, A>, ConfigFault>
+    place: &mut Place,
+) -> Result<Vec<SiteKey, A>, ConfigFault>
     ensures { Gives (λ keys. keys.items) result (keys_of (view entry.now)) }
 {
-    each_key(alloc, tables(entry, "key", Field::SiteKey)?)
+    each_key(alloc, tables(entry, "key", Field::SiteKey)?, place)
 }
 
 fn each_key<A: Allocator + Copy>(
     alloc: A,
     entries: &[Value],
-) -> Result<Vec<SiteKey<A>, A>, ConfigFault>
+    place: &mut Place,
+) -> Result<Vec<SiteKey, A>, ConfigFault>
     ensures { Gives (λ keys. keys.items) result (each key_at [] (items_view entries.now)) }
 {
     let mut keys = Vec::new(alloc);
     for entry in entries {
+        place.enter_part(Field::SiteKey, keys.len());
         let key = read_key(alloc, entry, &keys)?;
         keys.push(key)?;
     }
+    place.leave_part();
     Ok(keys)
 }
 
@@ -97,17 +108,17 @@ fn each_key<A: Allocator + Copy>(
 fn read_key<A: Allocator + Copy>(
     alloc: A,
     entry: &Value,
-    before: &[SiteKey<A>],
-) -> Result<SiteKey<A>, ConfigFault>
+    before: &[SiteKey],
+) -> Result<SiteKey, ConfigFault>
     ensures { Gives (λ k. k) result (key_at before.now (view entry.now)) }
 {
     check_table(entry, Field::SiteKey)?;
     let id = fresh_key_id(entry, before)?;
     let secret = secret(alloc, entry, "secret", Field::SiteKeySecret)?;
-    Ok(SiteKey { id, secret })
+    Ok(SiteKey::new(id, secret.as_slice()))
 }
 
-fn fresh_key_id<A: Allocator>(entry: &Value, before: &[SiteKey<A>]) -> Result<u8, ConfigFault>
+fn fresh_key_id(entry: &Value, before: &[SiteKey]) -> Result<u8, ConfigFault>
     ensures { result ≡ fresh_key_id before.now (view entry.now) }
 {
     let id = byte(entry, "id", Field::SiteKeyId)?;
@@ -118,7 +129,7 @@ fn fresh_key_id<A: Allocator>(entry: &Value, before: &[SiteKey<A>]) -> Result<u8
 }
 
 /// Whether one of the keys has the Key ID.
-pub(crate) fn has_key<A: Allocator>(keys: &[SiteKey<A>], id: u8) -> bool
+pub(crate) fn has_key(keys: &[SiteKey], id: u8) -> bool
     ensures { result ≡ has_key keys.now id }
 {
     keys.iter().any(|key| key.id == id)
@@ -128,23 +139,27 @@ pub(crate) fn has_key<A: Allocator>(keys: &[SiteKey<A>], id: u8) -> bool
 fn read_prefixes<A: Allocator + Copy>(
     alloc: A,
     entry: &Value,
+    place: &mut Place,
 ) -> Result<Vec<SitePrefix, A>, ConfigFault>
     ensures { Gives (λ prefixes. prefixes.items) result (prefixes_of (view entry.now)) }
 {
-    each_prefix(alloc, tables(entry, "prefix", Field::SitePrefix)?)
+    each_prefix(alloc, tables(entry, "prefix", Field::SitePrefix)?, place)
 }
 
 fn each_prefix<A: Allocator + Copy>(
     alloc: A,
     entries: &[Value],
+    place: &mut Place,
 ) -> Result<Vec<SitePrefix, A>, ConfigFault>
     ensures { Gives (λ prefixes. prefixes.items) result (each prefix_at [] (items_view entries.now)) }
 {
     let mut prefixes = Vec::new(alloc);
     for entry in entries {
+        place.enter_part(Field::SitePrefix, prefixes.len());
         let prefix = read_prefix(entry, &prefixes)?;
         prefixes.push(prefix)?;
     }
+    place.leave_part();
     Ok(prefixes)
 }
 

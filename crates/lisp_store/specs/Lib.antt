@@ -3,5 +3,6 @@ pub mod Kept
 pub mod Store
 pub mod Fault
 pub mod Memory
+pub mod Failing
 pub mod Entries
 pub mod NonceText

@@ -1,11 +1,11 @@
 //! A store in memory, for worlds and tests.
 
-ghost use Rattle.std.specs.Prelude.{◌≡◌, ◌≢◌, ◌<◌, [], ◌∷◌, Some, None, Ok, Err, IsTrue, IfOk, IfErr, OnOk, OnErr, IsErrOf, All, length, map, slice_index_or};
+ghost use Rattle.std.specs.Prelude.{◌≡◌, ◌≢◌, ◌<◌, ◌≤◌, [], ◌∷◌, Some, None, Ok, Err, IsTrue, IfOk, IfErr, OnOk, OnErr, IsErrOf, All, length, map, slice_index_or};
 ghost use Rattle.std.specs.List.{Contains, position};
 ghost use Rattle.std.specs.FinMap.{empty};
 ghost use Rattle.lisp_store.specs.Kept.{kept_at, SameElsewhere, InDoubt, Narrows};
 ghost use Rattle.lisp_store.specs.Store.{StoreState, Rose, Proceeds};
-ghost use Rattle.lisp_store.specs.Memory.{Memory, memory_state, option_eq, has_value, with_value, saved, loaded, after_load, save_answer, faults_after_save};
+ghost use Rattle.lisp_store.specs.Memory.{Memory, memory_state, failed_once, option_eq, has_value, with_value, saved, loaded, after_load, save_answer, faults_after_save};
 ghost use Rattle.lisp_store.specs.Entries.{kept_of, answers_of, is_of, picked, narrowed, HasValues};
 ghost use Rattle.lisp_store.specs.declared.fault.StoreFault.{StoreFault};
 ghost use Rattle.lisp_store.specs.declared.fate.Fate.{Fate};
@@ -99,6 +99,16 @@ impl<A: Allocator + Copy> MemoryStore<A> {
             faults: 0,
             fate: Fate::Done,
         }
+    }
+}
+
+impl<A: Allocator> MemoryStore<A> {
+    /// Counts that a device failed.
+    pub(crate) fn count_fault(&mut self)
+        ensures once { self.new ≡ failed_once self.old }
+        ensures rises { self.old.faults ≤ self.new.faults }
+    {
+        self.faults = self.faults.saturating_add(1);
     }
 }
 

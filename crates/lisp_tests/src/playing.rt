@@ -6,8 +6,8 @@ use lisp_player::{PlayFault, play};
 use std::alloc::Global;
 use std::io::ErrorKind;
 
-/// A Map-Register, its arrival, and what the Map-Server holds then.
-const SCHEDULE: &str = "\
+/// A Map-Server and a router: a Map-Register, its arrival, and what the Map-Server holds then.
+pub const SCHEDULE: &str = "\
 [[site]]
 id = '0000000000000001'
 [[site.key]]

@@ -20,11 +20,12 @@ ghost use Rattle.lisp_turns.specs.Stands.{Stands};
 use crate::fault::WorldFault;
 use crate::world::World;
 use core::mem::replace_with;
-use lisp_checks::secret_at;
+use lisp_checks::key_at;
 use lisp_etr::{EtrConfig, Servers, StartFault};
+use lisp_hmac::Key;
 use lisp_memory::{FallibleCopies, FallibleVec, Memory};
 use lisp_nodes::{RouterNode, ServerNode, Start};
-use lisp_records::{Addr, Bytes, RouterId};
+use lisp_records::{Addr, RouterId};
 use lisp_sites::{Config, Places, RouterEntry, ServerEntry};
 use lisp_store::WorldStore;
 use std::alloc::{AllocError, Allocator};
@@ -259,7 +260,7 @@ where
     Ok(RouterNode::down(Places::from_vec(servers), settings, database, store))
 }
 
-// What a router is configured with: the secret of its key, and the addresses of its Map-Servers.
+// What a router is configured with: its key, and the addresses of its Map-Servers.
 fn settings<A: Memory + Copy, E: Allocator>(
     alloc: A,
     config: &Config<E>,
@@ -271,12 +272,11 @@ fn settings<A: Memory + Copy, E: Allocator>(
     ensures settings { IfOk result (λ s. s ≡ settings_of config.now entry.now) }
     ensures memory { OnErr result A.may_refuse }
 {
-    let secret = secret(alloc, config, entry)?;
     let servers = each_address(alloc, addresses, entry.servers.as_slice())?;
     Ok(EtrConfig {
         me: entry.me,
         key_id: entry.key_id,
-        secret: Bytes::from_vec(secret),
+        key: key(config, entry),
         servers: Servers::from_vec(servers),
         proxy: entry.proxy,
         use_ttl: entry.use_ttl,
@@ -284,18 +284,13 @@ fn settings<A: Memory + Copy, E: Allocator>(
     })
 }
 
-// The secret of a router's key; no bytes where its site has no such key.
-fn secret<A: Memory + Copy, E: Allocator>(
-    alloc: A,
-    config: &Config<E>,
-    entry: &RouterEntry<E>,
-) -> Result<Vec<u8, A>, AllocError>
-    ensures secret { IfOk result (λ v. v.items ≡ secret_at config.now.sites entry.now.me.site entry.now.key_id) }
-    ensures memory { OnErr result A.may_refuse }
+// A router's key; that of no bytes where its site has no such key.
+fn key<E: Allocator>(config: &Config<E>, entry: &RouterEntry<E>) -> Key
+    ensures { result ≡ secret_at config.now.sites entry.now.me.site entry.now.key_id }
 {
-    match secret_at(config.sites(), entry.me.site, entry.key_id) {
-        Some(secret) => Vec::try_from_slice(alloc, secret),
-        None => Ok(Vec::new(alloc)),
+    match key_at(config.sites(), entry.me.site, entry.key_id) {
+        Some(key) => key.copy(),
+        None => Key::new(&[]),
     }
 }
 

@@ -131,6 +131,7 @@ impl From<InputFault> for ProgramFault {
     fn from(fault: InputFault) -> ProgramFault {
         match fault {
             InputFault::File => ProgramFault::File,
+            InputFault::Config(fault) => ProgramFault::Play(PlayFault::Config(fault.fault)),
             InputFault::Input(fault) => ProgramFault::Play(fault),
         }
     }

@@ -28,27 +28,34 @@ const MISUSED: u8 = 2;
 
 fn main(rt: HostRuntime) -> ExitCode {
     let is_terminal = rt.stderr().is_terminal();
-    match run(&rt) {
-        Ok(status) => status,
-        Err(fault) => {
-            report(&rt, &fault, is_terminal);
-            ExitCode::from(fault.status())
-        }
+    match words(&rt) {
+        Ok(words) => run(&rt, words.as_slice(), is_terminal),
+        Err(fault) => report(&rt, &fault, &[], is_terminal),
     }
 }
 
-// Collects the words, and runs what they ask for.
-fn run<
-    R: Print + Eprint + Input + Files<File = File> + Env + Net + Clock + AllocGlobal + Clone + Drop,
->(rt: &R) -> Result<ExitCode, ProgramFault> {
-    match words(rt) {
-        Ok(words) => run_words(rt, words.as_slice()),
+// Runs what the words ask for, and reports the fault that ended it.
+fn run<R: Print + Eprint + Input + Files<File = File> + Net + Clock + AllocGlobal + Clone + Drop>(
+    rt: &R,
+    words: &[String],
+    is_terminal: bool,
+) -> ExitCode {
+    match run_words(rt, words) {
+        Ok(status) => status,
+        Err(fault) => report(rt, &fault, words, is_terminal),
+    }
+}
+
+// The words of the command line, the program's name first.
+fn words<R: Env + AllocGlobal>(rt: &R) -> Result<Vec<String>, ProgramFault> {
+    match collect_words(rt) {
+        Ok(words) => Ok(words),
         Err(error) if error.kind() == ErrorKind::OutOfMemory => Err(OUT_OF_MEMORY),
         Err(_) => Err(ProgramFault::Words),
     }
 }
 
-fn words<R: Env + AllocGlobal>(rt: &R) -> io::Result<Vec<String>> {
+fn collect_words<R: Env + AllocGlobal>(rt: &R) -> io::Result<Vec<String>> {
     Ok(env::args(rt)?.collect(rt.alloc())?)
 }
 

@@ -6,8 +6,8 @@ use clap::ArgMatches;
 use lisp_player::{PlayFault, play};
 use lisp_texts::number_from_text;
 use lispd::{
-    AnswerSetup, ExplainFault, ProgramFault, answer, check_config, explain, explain_all,
-    keep_router_running, keep_server_running, run_loop, run_router, run_server, setup,
+    AnswerSetup, ExplainFault, InputFault, ProgramFault, answer, check_config, explain,
+    explain_all, keep_router_running, keep_server_running, run_loop, run_router, run_server, setup,
 };
 use std::fs::{self, File};
 use std::io::{self, BufReader, Read};
@@ -122,19 +122,22 @@ fn check<R: Print + Files + AllocGlobal>(
     match check_config(rt, word(words, CONFIG), &mut io::writer(rt)) {
         Ok(()) => Ok(ExitCode::SUCCESS),
         Err(fault) => {
-            let fault = ProgramFault::from(fault);
-            print_fault(rt, &fault);
-            Err(fault)
+            print_fault(rt, fault);
+            Err(ProgramFault::from(fault))
         }
     }
 }
 
-// Prints a fault of a configuration; where its file can't be opened, nothing.
-fn print_fault<R: Print>(rt: &R, fault: &ProgramFault) {
-    if let ProgramFault::Play(_) = fault {
-        let number = fault.number();
-        let _ = println!(rt; "fault {number}: {}", InWords(fault));
-    }
+// Prints a fault of a configuration, and its place there; where the file can't be opened, nothing.
+fn print_fault<R: Print>(rt: &R, why: InputFault) {
+    let fault = ProgramFault::from(why);
+    let number = fault.number();
+    let words = InWords(&fault);
+    let _ = match why {
+        InputFault::File => Ok(()),
+        InputFault::Config(placed) => println!(rt; "fault {number}: {}{words}", placed.place),
+        InputFault::Input(_) => println!(rt; "fault {number}: {words}"),
+    };
 }
 
 // Explains a number; with none, all of them.

@@ -39,7 +39,7 @@ returns-then-not-authentic-clause-exact g c =
     let config = c.config.view_is in
     let its = found c.args.from c.in_ok-server.server (c.as_slice.ensures ∙ ap (λ (s : Settings). s.servers) config) c.server_at.ensures c.ok_or.ensures.value c.in_ok-server.was in
     let key = sym (ap (λ (m : Notification). m.key_id) c.notify.view_is) ∙ c.if-notify-config.false ∙ ap (λ (s : Settings). s.key_id) config in
-    let secret = c.as_slice-2.ensures ∙ ap (λ (s : Settings). s.secret) config in
+    let secret = ap (λ (s : Settings). s.secret) config in
     bad_auth c.args.config.now c.args.bytes.now (message_at c.args.bytes.now) (server_at c.args.config.now.servers c.args.from) c.in_ok-notify.notify c.in_ok-notify.ensures.exact c.in_ok-server.server its key
     (ap (is_authentic c.args.bytes.now) (sym secret) ∙ sym c.authentic.ensures.test ∙ c.if-not-authentic.true)
 
@@ -48,6 +48,6 @@ returns-clause-exact g c =
     let config = c.config.view_is in
     let its = found c.args.from c.in_ok-server.server (c.as_slice.ensures ∙ ap (λ (s : Settings). s.servers) config) c.server_at.ensures c.ok_or.ensures.value c.in_ok-server.was in
     let key = sym (ap (λ (m : Notification). m.key_id) c.notify.view_is) ∙ c.if-notify-config.false ∙ ap (λ (s : Settings). s.key_id) config in
-    let secret = c.as_slice-2.ensures ∙ ap (λ (s : Settings). s.secret) config in
+    let secret = ap (λ (s : Settings). s.secret) config in
     passes c.args.config.now c.args.bytes.now (message_at c.args.bytes.now) (server_at c.args.config.now.servers c.args.from) c.in_ok-notify.notify c.in_ok-notify.ensures.exact c.in_ok-server.server its key
     (ap (is_authentic c.args.bytes.now) (sym secret) ∙ sym c.authentic.ensures.test ∙ c.if-not-authentic.false)

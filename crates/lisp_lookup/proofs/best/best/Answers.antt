@@ -1,11 +1,14 @@
-use Rattle.std.proofs.Common.{inl, inr, Some, sym, ap, ◌∙◌}
-use Rattle.std.specs.Option.{option_map}
-use Rattle.lisp_lookup.proofs.AnswerLaws.{best_next}
-use Rattle.lisp_lookup.proofs.best.best.Goals.{then-may_answer, else-may_answer}
+use Rattle.std.proofs.Common.{◌-◌, sym, arith}
+use Rattle.lisp_lookup.specs.Answer.{may_answer}
+use Rattle.lisp_served.proofs.Found.{not_true}
+use Rattle.lisp_lookup.proofs.BestLaws.{found_longest, missed_longest}
 use Rattle.lisp_lookup.proofs.best.best.Goals as goal
 
-pub loop-row-preserved : goal.loop-row-preserved
-loop-row-preserved g c = best_next c.args.rows.now c.loop-row.row-index c.row-item.result c.args.addr.now c.args.now _ _ c.loop-row-test.true c.row-item.is c.loop-row.invariant (elim c.if-may_answer.branch [
-  | then-may_answer w ↦ inl (sym c.may_answer.ensures ∙ w.if-may_answer.true, ap (option_map (λ row. row.now)) w.best-is ∙ ap Some w.greater.ensures)
-  | else-may_answer w ↦ inr (sym c.may_answer.ensures ∙ w.if-may_answer.false, ap (option_map (λ row. row.now)) w.best-is)
-])
+pub returns-then-is_some : goal.returns-then-is_some
+returns-then-is_some g c = found_longest (λ row. row.now) c.args.rows.now c.args.addr.now c.args.now (c.max_mask_len-longest.result - c.loop-shorter.shorter) (λ h held may. omega (arith, c.loop-shorter.invariant h held may)) c.in_ok-prefix.prefix c.in_ok-prefix.ensures.value c.best_of-best.result c.best_of-best.ensures (sym c.if-is_some.ensures)
+
+pub loop-shorter-preserved : goal.loop-shorter-preserved
+loop-shorter-preserved g c = λ h held may. omega (arith, c.loop-shorter-test.true, missed_longest (λ row. row.now) c.args.rows.now c.args.addr.now c.args.now (c.max_mask_len-longest.result - c.loop-shorter.shorter) (λ h held may. omega (arith, c.loop-shorter.invariant h held may)) c.in_ok-prefix.prefix c.in_ok-prefix.ensures.value c.best_of-best.result c.best_of-best.ensures (sym c.if-is_some.ensures) h held may)
+
+pub returns : goal.returns
+returns g c = λ h held. not_true (may_answer c.args.addr.now c.args.now h) (λ may. omega (arith, c.loop-shorter.invariant h held may, c.loop-shorter-test.false))

@@ -16,7 +16,7 @@ sign-requires g c =
     omega (arith, c.put_register.new.out.ok, rw (← c.in_ok-put_register.ensures.written) at long)
 
 -- what is sent is the written spelling with its tag
-sent : (g : given.Over) (c : goal.After-sign g) → c.sign.new.message.items ≡ signed c.args.secret.now (written_register c.args.message.now)
+sent : (g : given.Over) (c : goal.After-sign g) → c.sign.new.message.items ≡ signed c.args.key.now (written_register c.args.message.now)
 sent g c = c.sign.ensures ∙ rw c.in_ok-put_register.ensures.written (written_register-put c.args.message.now _)
 
 pub returns-clause-written : goal.returns-clause-written
@@ -24,8 +24,8 @@ returns-clause-written g c = sent g c
 
 pub returns-clause-authentic : goal.returns-clause-authentic
 returns-clause-authentic g c =
-    subst (λ (bytes : List ℕ). IsAuthentic bytes c.args.secret.now) (sym (sent g c)) (signed_register_is_authentic c.args.secret.now c.args.message.now)
+    subst (λ (bytes : List ℕ). IsAuthentic bytes c.args.key.now) (sym (sent g c)) (signed_register_is_authentic c.args.key.now c.args.message.now)
 
 pub returns-clause-spells : goal.returns-clause-spells
 returns-clause-spells g c =
-    subst (λ (bytes : List ℕ). Spells bytes (Registers c.args.message.now)) (sym (sent g c)) (written_register_spells c.args.message.now _ c.in_ok-put_register.ensures.known (length-tag c.args.secret.now _ 16))
+    subst (λ (bytes : List ℕ). Spells bytes (Registers c.args.message.now)) (sym (sent g c)) (written_register_spells c.args.message.now _ c.in_ok-put_register.ensures.known (length-tag c.args.key.now _ 16))

@@ -5,10 +5,10 @@ use Rattle.lisp_server.specs.Server.{state_of}
 use Rattle.lisp_server.proofs.ReceivingLaws.{proceeds_on, accepts, save_fails, check_fails, stops, no_room}
 use Rattle.lisp_server.proofs.receive_register.receive_register.Goals as goal
 
-pub returns-in_err-secret-clause-refused : goal.returns-in_err-secret-clause-refused
-returns-in_err-secret-clause-refused g c =
+pub returns-in_err-key-clause-refused : goal.returns-in_err-key-clause-refused
+returns-in_err-key-clause-refused g c =
     let p = err_from_is_err_and c.from_residual.result c.from_residual.ensures.1 in
-    rw (p.1, p.2) (check_fails c.args.sites.now c.args.arrival.bytes.now c.args.register c.in_err-secret.field-0.0 _ _ c.in_err-secret.ensures.secret)
+    rw (p.1, p.2) (check_fails c.args.sites.now c.args.arrival.bytes.now c.args.register c.in_err-key.field-0.0 _ _ c.in_err-key.ensures.secret)
 
 pub returns-in_err-check_nonce-clause-refused : goal.returns-in_err-check_nonce-clause-refused
 returns-in_err-check_nonce-clause-refused g c =
@@ -17,21 +17,21 @@ returns-in_err-check_nonce-clause-refused g c =
     let after = g.S.NonceStore.seen c.check_nonce.new.store in
     let unasked = subst (λ (last : Option ℕ). Unasked last before after) c.get.ensures c.check_nonce.ensures.unasked in
     let why = subst (λ (last : Option ℕ). Stops last before after c.pair_of-pair.result c.nonce_of-nonce.result c.in_err-check_nonce.field-0.0) c.get.ensures c.in_err-check_nonce.ensures.refused in
-    rw (p.1, p.2) (stops c.args.sites.now c.args.arrival.bytes.now c.args.register c.in_ok-secret.secret.now (state_of c.args.sites.now c.args.tables.now) before after c.pair_of-pair.result c.nonce_of-nonce.result c.in_err-check_nonce.field-0.0 c.pair_of-pair.ensures c.nonce_of-nonce.ensures c.in_ok-secret.ensures.secret c.check_nonce.ensures.same unasked why)
+    rw (p.1, p.2) (stops c.args.sites.now c.args.arrival.bytes.now c.args.register c.in_ok-key.key.now (state_of c.args.sites.now c.args.tables.now) before after c.pair_of-pair.result c.nonce_of-nonce.result c.in_err-check_nonce.field-0.0 c.pair_of-pair.ensures c.nonce_of-nonce.ensures c.in_ok-key.ensures.secret c.check_nonce.ensures.same unasked why)
 
 pub returns-in_err-rows-clause-refused : goal.returns-in_err-rows-clause-refused
 returns-in_err-rows-clause-refused g c =
     let p = err_from_is_err_and c.from_residual-in_err-rows.result c.from_residual-in_err-rows.ensures.1 in
     let fresh = subst (λ (last : Option ℕ). IsFresh last (g.S.NonceStore.seen c.args.store.now) c.pair_of-pair.result c.nonce_of-nonce.result) c.get.ensures c.in_ok-check_nonce.ensures.fresh in
     let unasked = subst (λ (last : Option ℕ). Unasked last (g.S.NonceStore.seen c.args.store.now) (g.S.NonceStore.seen c.check_nonce.new.store)) c.get.ensures c.check_nonce.ensures.unasked in
-    rw (p.1, p.2) (no_room c.args.sites.now c.args.arrival.bytes.now c.args.register c.in_ok-secret.secret.now (state_of c.args.sites.now c.args.tables.now) _ _ c.pair_of-pair.result c.nonce_of-nonce.result c.pair_of-pair.ensures c.nonce_of-nonce.ensures c.in_ok-secret.ensures.secret fresh unasked c.check_nonce.ensures.same)
+    rw (p.1, p.2) (no_room c.args.sites.now c.args.arrival.bytes.now c.args.register c.in_ok-key.key.now (state_of c.args.sites.now c.args.tables.now) _ _ c.pair_of-pair.result c.nonce_of-nonce.result c.pair_of-pair.ensures c.nonce_of-nonce.ensures c.in_ok-key.ensures.secret fresh unasked c.check_nonce.ensures.same)
 
 pub returns-in_err-save_nonce-clause-refused : goal.returns-in_err-save_nonce-clause-refused
 returns-in_err-save_nonce-clause-refused g c =
     let p = err_from_is_err_and c.from_residual-in_err-save_nonce.result c.from_residual-in_err-save_nonce.ensures.1 in
     rw (p.1, p.2) (save_fails {old = c.args.tables.now} c.in_err-save_nonce.field-0.0 c.pair_of-pair.result c.nonce_of-nonce.result c.pair_of-pair.ensures c.nonce_of-nonce.ensures (record {
-      secret = c.in_ok-secret.secret.now;
-      checks = c.in_ok-secret.ensures.secret;
+      secret = c.in_ok-key.key.now;
+      checks = c.in_ok-key.ensures.secret;
       fresh = subst (λ (last : Option ℕ). IsFresh last (g.S.NonceStore.seen c.args.store.now) c.pair_of-pair.result c.nonce_of-nonce.result) c.get.ensures c.in_ok-check_nonce.ensures.fresh;
       loaded = c.check_nonce.ensures.same;
       went = c.check_nonce.ensures.proceeds;
@@ -41,8 +41,8 @@ returns-in_err-save_nonce-clause-refused g c =
 
 pub returns-clause-accepted : goal.returns-clause-accepted
 returns-clause-accepted g c = accepts {new = c.accept.new.self} {between = g.S.NonceStore.seen c.check_nonce.new.store} c.pair_of-pair.result c.nonce_of-nonce.result c.pair_of-pair.ensures c.nonce_of-nonce.ensures (record {
-  secret = c.in_ok-secret.secret.now;
-  checks = c.in_ok-secret.ensures.secret;
+  secret = c.in_ok-key.key.now;
+  checks = c.in_ok-key.ensures.secret;
   fits = c.requires;
   fresh = subst (λ (last : Option ℕ). IsFresh last (g.S.NonceStore.seen c.args.store.now) c.pair_of-pair.result c.nonce_of-nonce.result) c.get.ensures c.in_ok-check_nonce.ensures.fresh;
   loaded = c.check_nonce.ensures.same;

@@ -5,4 +5,4 @@ use Rattle.lisp_sites.proofs.site_entries.each_site.Given as goal
 
 -- what is still read after the sites so far
 abbrev pub invariant-loop-entry : goal.invariant-loop-entry
-invariant-loop-entry g l = each site_at l.sites.items (items_view (drop l.entry-index l.entries)) ≡ each site_at [] (items_view l.entries)
+invariant-loop-entry g l = each site_at l.sites (items_view (drop l.entry-index l.entries)) ≡ each site_at [] (items_view l.entries)

@@ -1,6 +1,7 @@
 use Rattle.std.proofs.Common.{sym, ap, ◌∙◌}
 use Rattle.lisp_records.specs.Row.{Holding}
 use Rattle.lisp_lookup.proofs.AnswerLaws.{best_found, none_found}
+use Rattle.lisp_lookup.proofs.DeadlineLaws.{one_each}
 use Rattle.lisp_lookup.proofs.table.Table.answer.Goals as goal
 
 pub returns-in-Some-clause-answers : goal.returns-in-Some-clause-answers
@@ -16,13 +17,13 @@ pub returns-in-None-2-clause-answers : goal.returns-in-None-2-clause-answers
 returns-in-None-2-clause-answers g c = rw (← c.self.view_is) (none_found (λ row. row.now) _ _ _ _ _ c.deref.ensures.value c.best.ensures c.in-None.is, sym c.configured.ensures ∙ c.if-configured.false)
 
 pub returns-in-Some-clause-one_each : goal.returns-in-Some-clause-one_each
-returns-in-Some-clause-one_each g c = rw (← c.self.view_is) c.self.invariant
+returns-in-Some-clause-one_each g c = rw (← c.self.view_is) (one_each c.self.inside.items.items c.self.inside.by_prefix.items c.self.invariant.by_prefix)
 
 pub returns-in-Some-2-clause-one_each : goal.returns-in-Some-2-clause-one_each
-returns-in-Some-2-clause-one_each g c = rw (← c.self.view_is) c.self.invariant
+returns-in-Some-2-clause-one_each g c = rw (← c.self.view_is) (one_each c.self.inside.items.items c.self.inside.by_prefix.items c.self.invariant.by_prefix)
 
 pub returns-in-None-clause-one_each : goal.returns-in-None-clause-one_each
-returns-in-None-clause-one_each g c = rw (← c.self.view_is) c.self.invariant
+returns-in-None-clause-one_each g c = rw (← c.self.view_is) (one_each c.self.inside.items.items c.self.inside.by_prefix.items c.self.invariant.by_prefix)
 
 pub returns-in-None-2-clause-one_each : goal.returns-in-None-2-clause-one_each
-returns-in-None-2-clause-one_each g c = rw (← c.self.view_is) c.self.invariant
+returns-in-None-2-clause-one_each g c = rw (← c.self.view_is) (one_each c.self.inside.items.items c.self.inside.by_prefix.items c.self.invariant.by_prefix)

@@ -1,7 +1,8 @@
+use Rattle.lisp_lookup.proofs.DeadlineLaws.{one_each}
 use Rattle.lisp_lookup.proofs.table.Table.count_live.Goals as goal
 
 pub count_live-requires : goal.count_live-requires
-count_live-requires g c = rw c.deref.ensures.value c.self.invariant
+count_live-requires g c = rw c.deref.ensures.value (one_each c.self.inside.items.items c.self.inside.by_prefix.items c.self.invariant.by_prefix)
 
 pub returns-clause-fits : goal.returns-clause-fits
 returns-clause-fits g c = rw (← c.self.view_is, ← c.deref.ensures.value) c.count_live.ensures.fits
@@ -13,4 +14,4 @@ pub returns-clause-refused : goal.returns-clause-refused
 returns-clause-refused g c = rw (← c.self.view_is, ← c.deref.ensures.value) c.count_live.ensures.refused
 
 pub returns-clause-one_each : goal.returns-clause-one_each
-returns-clause-one_each g c = rw (← c.self.view_is) c.self.invariant
+returns-clause-one_each g c = rw (← c.self.view_is) (one_each c.self.inside.items.items c.self.inside.by_prefix.items c.self.invariant.by_prefix)

@@ -1,11 +1,15 @@
-use Rattle.std.proofs.Common.{sym, ◌∙◌, ap}
-use Rattle.std.specs.List.{position}
-use Rattle.lisp_server.specs.LastNonces.{is_of}
-use Rattle.lisp_server.proofs.NonceLaws.{nonce_set, nonce_pushed}
+use Rattle.std.proofs.Common.{arith}
+use Rattle.lisp_server.proofs.NonceLaws.{nonce_gap, nonce_set, nonce_inserted}
 use Rattle.lisp_server.proofs.last_nonces.LastNonces.set.Goals as goal
 
-pub returns-in-Some : goal.returns-in-Some
-returns-in-Some g c = rw (← c.self.view_is) (nonce_set c.self.inside.items.items c.in-Some.place (record { pair = c.args.pair; nonce = c.args.nonce }) (ap (position (is_of c.args.pair)) (sym c.deref.ensures.value) ∙ sym c.place.ensures ∙ c.in-Some.is))
+pub insert_reserved-requires : goal.insert_reserved-requires
+insert_reserved-requires g c =
+    let gap = rw c.deref.ensures.value at c.in-Err.ensures.gap in
+    let room = (rw (← c.self.view_is) at c.requires) (nonce_gap _ _ _ gap) in
+    record { within = omega (arith, c.deref.ensures.len, c.in-Err.ensures.gap.within); room = omega (arith, room) }
 
-pub returns-in-None : goal.returns-in-None
-returns-in-None g c = rw (← c.self.view_is, c.push_reserved.ensures.items) (nonce_pushed c.self.inside.items.items (record { pair = c.args.pair; nonce = c.args.nonce }) (ap (position (is_of c.args.pair)) (sym c.deref.ensures.value) ∙ sym c.place.ensures ∙ c.in-None.is))
+pub returns-in-Ok : goal.returns-in-Ok
+returns-in-Ok g c = rw (← c.self.view_is) (nonce_set c.self.inside.items.items c.in-Ok.place (record { pair = c.args.pair; nonce = c.args.nonce }) (rw c.deref.ensures.value at c.in-Ok.ensures.found))
+
+pub returns-in-Err : goal.returns-in-Err
+returns-in-Err g c = rw (← c.self.view_is, c.insert_reserved.ensures) (nonce_inserted c.self.inside.items.items c.in-Err.gap (record { pair = c.args.pair; nonce = c.args.nonce }) (rw c.deref.ensures.value at c.in-Err.ensures.gap))

@@ -1,20 +1,26 @@
-use Rattle.std.proofs.Common.{◌<◌, ℕ, sym, ap, ◌∙◌, subst}
-use Rattle.std.proofs.lemmas.List.Quantifiers.{position-Some}
+use Rattle.std.proofs.Common.{ap, arith}
 use Rattle.lisp_server.specs.Notices.{Standing}
-use Rattle.lisp_server.proofs.StandingLaws.{its_place, notice_set, notice_pushed, one_set, one_pushed}
+use Rattle.lisp_server.proofs.StandingLaws.{notice_gap, notice_set, notice_inserted, rises_set, rises_insert}
 use Rattle.lisp_server.proofs.standing_notices.StandingNotices.keep.Goals as goal
 
 pub invariant_of-self : goal.invariant_of-self
-invariant_of-self g c = one_set c.self.inside.items.items c.in-Some.place c.args.notice c.self.invariant (its_place _ _ _ _ _ _ (ap (λ (n : Standing). n.router) c.notice.view_is) c.deref.ensures.value c.place.ensures c.in-Some.is)
+invariant_of-self g c = rises_set c.self.inside.items.items c.in-Ok.place c.args.notice (rw (c.deref.ensures.value, ap (λ (n : Standing). n.router) c.notice.view_is) at c.in-Ok.ensures.found) c.self.invariant
 
-pub invariant_of-self-in-None : goal.invariant_of-self-in-None
-invariant_of-self-in-None g c = rw c.push_reserved.ensures.items (one_pushed c.self.inside.items.items c.args.notice c.self.invariant (its_place _ _ _ _ _ _ (ap (λ (n : Standing). n.router) c.notice.view_is) c.deref.ensures.value c.place.ensures c.in-None.is))
+pub returns-in-Ok : goal.returns-in-Ok
+returns-in-Ok g c = rw (← c.self.view_is) (notice_set c.self.inside.items.items c.in-Ok.place c.args.notice (rw (c.deref.ensures.value, ap (λ (n : Standing). n.router) c.notice.view_is) at c.in-Ok.ensures.found))
 
-pub returns-in-Some : goal.returns-in-Some
-returns-in-Some g c = rw (← c.self.view_is) (notice_set c.self.inside.items.items c.in-Some.place c.args.notice (its_place _ _ _ _ _ _ (ap (λ (n : Standing). n.router) c.notice.view_is) c.deref.ensures.value c.place.ensures c.in-Some.is))
+pub insert_reserved-requires : goal.insert_reserved-requires
+insert_reserved-requires g c =
+    let gap = rw (c.deref.ensures.value, ap (λ (n : Standing). n.router) c.notice.view_is) at c.in-Err.ensures.gap in
+    let room = (rw (← c.self.view_is) at c.requires) (notice_gap _ _ _ gap) in
+    record { within = omega (arith, c.deref.ensures.len, c.in-Err.ensures.gap.within); room = omega (arith, room) }
 
-pub returns-in-None : goal.returns-in-None
-returns-in-None g c = rw (← c.self.view_is, c.push_reserved.ensures.items) (notice_pushed c.self.inside.items.items c.args.notice (its_place _ _ _ _ _ _ (ap (λ (n : Standing). n.router) c.notice.view_is) c.deref.ensures.value c.place.ensures c.in-None.is))
+pub invariant_of-self-in-Err : goal.invariant_of-self-in-Err
+invariant_of-self-in-Err g c =
+    let gap = rw (c.deref.ensures.value, ap (λ (n : Standing). n.router) c.notice.view_is) at c.in-Err.ensures.gap in
+    rw c.insert_reserved.ensures (rises_insert c.self.inside.items.items c.in-Err.gap c.args.notice c.self.invariant gap)
 
-pub index_mut-requires : goal.index_mut-requires
-index_mut-requires g c = subst (λ (len : ℕ). c.in-Some.place < len) c.deref.ensures.len (position-Some _ c.deref.result.now c.in-Some.place c.args.notice (sym c.place.ensures ∙ c.in-Some.is)).0
+pub returns-in-Err : goal.returns-in-Err
+returns-in-Err g c =
+    let gap = rw (c.deref.ensures.value, ap (λ (n : Standing). n.router) c.notice.view_is) at c.in-Err.ensures.gap in
+    rw (← c.self.view_is, c.insert_reserved.ensures) (notice_inserted c.self.inside.items.items c.in-Err.gap c.args.notice gap)

@@ -1,0 +1,61 @@
+//! Reading a configuration.
+
+use lisp_memory::FallibleString;
+use lisp_sites::Config;
+use std::alloc::{AllocError, Global};
+use std::rt::Clock;
+use std::time::Instant;
+
+/// How many sites there are, with a key, a prefix and a router each.
+static SITES: [u32; 2] = [1_000, 10_000];
+
+/// Prints how long a configuration is read, by its sites; `None` where anything fails.
+pub(crate) fn measure<R: Print + Clock + AllocGlobal>(rt: &R) -> Option<()> {
+    for sites in &SITES {
+        let Ok(text) = text(rt.alloc(), *sites) else {
+            return None;
+        };
+        let micros = micros(rt, text.as_str())?;
+        println!(rt; "a configuration of {sites} sites and as many routers: {micros} us").ok()?;
+    }
+    Some(())
+}
+
+// The microseconds of reading a configuration; `None` if it has a fault.
+fn micros<R: Clock + AllocGlobal>(rt: &R, text: &str) -> Option<u128> {
+    let Ok(start) = Instant::now(rt) else {
+        return None;
+    };
+    if Config::from_toml(rt.alloc(), rt.alloc(), text).is_err() {
+        return None;
+    }
+    match start.elapsed(rt) {
+        Ok(time) => Some(time.as_micros()),
+        Err(_) => None,
+    }
+}
+
+fn text(alloc: Global, sites: u32) -> Result<String, AllocError> {
+    let mut text = String::new(alloc);
+    for site in 0..sites {
+        put_site(&mut text, site)?;
+    }
+    for site in 0..sites {
+        put_router(&mut text, site)?;
+    }
+    Ok(text)
+}
+
+fn put_site(text: &mut String, site: u32) -> Result<(), AllocError> {
+    text.try_write(format_args!(
+        "[[site]]\nid = \"{site:016x}\"\n[[site.key]]\nid = 1\nsecret = \"736563726574\"\n"
+    ))?;
+    text.try_write(format_args!("[[site.prefix]]\neid = \"10.1.0.0/16\"\n"))
+}
+
+fn put_router(text: &mut String, site: u32) -> Result<(), AllocError> {
+    text.try_write(format_args!(
+        "[[router]]\nname = \"r{site}\"\naddress = \"10.0.0.1\"\nsite = \"{site:016x}\"\n"
+    ))?;
+    text.try_write(format_args!("xtr = \"{site:032x}\"\nkey = 1\nservers = []\n"))
+}

@@ -1,0 +1,49 @@
+-- What a halving search does at one look.
+use Rattle.std.proofs.Common.{◌≡◌, ◌≢◌, ◌⊎◌, inl, inr, ℕ, ◌+◌, ◌*◌, ◌^◌, ◌<◌, ◌≤◌, true, false, List, length, slice_index, slice_index_or, sym, ap, ◌∙◌, subst, true≢false, arith}
+use Rattle.std.proofs.lemmas.Bool.{cases_eq}
+use Rattle.std.proofs.lemmas.List.{get_or_read}
+use Rattle.std.proofs.lemmas.Nat.{pow-add}
+use Rattle.std.proofs.Math.Nat.{mul-le-mul_left}
+use Rattle.lisp_records.specs.Row.{Holding}
+use Rattle.lisp_lookup.specs.declared.probe.Probe.{Probe}
+use Rattle.lisp_served.proofs.Found.{not_true}
+use Rattle.lisp_lookup.specs.Index.{is_before, row_at_place, Falls}
+
+-- looks made, rows left, rows in all
+abbrev pub Cost : ℕ → ℕ → ℕ → Type 0
+Cost looks left all = (2 ^ looks * left ≤ all) × (2 ^ looks ≤ 2 * all + 1)
+
+-- a look leaves at most half of the rows
+pub cost_more : (looks left next all : ℕ) → Cost looks left all → 0 < left → 2 * next ≤ left → Cost (looks + 1) next all
+cost_more looks left next all cost some halves =
+    let twice : 2 ^ (looks + 1) ≡ 2 ^ looks * 2 = pow-add 2 looks 1 in
+    let all_next : 2 ^ (looks + 1) * next ≡ (2 ^ looks * 2) * next = ap (λ (p : ℕ). p * next) twice in
+    let fits = mul-le-mul_left (2 ^ looks) halves in
+    let one = mul-le-mul_left (2 ^ looks) some in
+    (omega (arith, all_next, fits, cost.0), omega (arith, twice, one, cost.0))
+
+module _ (probe : Probe) (rows : List Holding) (numbers : List ℕ) (p number : ℕ) (x : Holding) (within : p < length numbers) (below : (k : ℕ) → k < length numbers → slice_index numbers k < length rows) (falls : Falls probe rows numbers) (read : number ≡ slice_index_or numbers p number) (at : x ≡ slice_index_or rows number x) where
+  number_at : number ≡ slice_index numbers p
+  number_at = get_or_read numbers p number within read 0
+
+  at_any : (d : Holding) → x ≡ row_at_place rows numbers p d
+  at_any = get_or_read rows (slice_index numbers p) x (below p within) (at ∙ ap (λ (n : ℕ). slice_index_or rows n x) number_at)
+
+  -- no row up to one that stands before what is sought does otherwise
+  pub before_too : is_before probe x ≡ true → (i : ℕ) (d : Holding) → i < p + 1 → is_before probe (row_at_place rows numbers i d) ≡ true
+  before_too holds i d le = either (cases_eq i p)
+    where
+      either : (i ≡ p) ⊎ (i ≢ p) → is_before probe (row_at_place rows numbers i d) ≡ true
+      either (inl same) = subst (λ (k : ℕ). is_before probe (row_at_place rows numbers k d) ≡ true) (sym same) (ap (is_before probe) (sym (at_any d)) ∙ holds)
+      either (inr other) = falls i p d (omega (arith, le, other)) within (ap (is_before probe) (sym (at_any d)) ∙ holds)
+
+  -- no row from one on that doesn't stand before what is sought does so
+  pub after_too : is_before probe x ≡ false → (i : ℕ) (d : Holding) → p ≤ i → i < length numbers → is_before probe (row_at_place rows numbers i d) ≡ false
+  after_too fails i d le lt = either (cases_eq i p)
+    where
+      here : is_before probe (row_at_place rows numbers p d) ≡ false
+      here = ap (is_before probe) (sym (at_any d)) ∙ fails
+
+      either : (i ≡ p) ⊎ (i ≢ p) → is_before probe (row_at_place rows numbers i d) ≡ false
+      either (inl same) = subst (λ (k : ℕ). is_before probe (row_at_place rows numbers k d) ≡ false) (sym same) here
+      either (inr other) = not_true (is_before probe (row_at_place rows numbers i d)) (λ holds. true≢false (sym (falls p i d (omega (arith, le, other)) lt holds) ∙ here))

@@ -1,0 +1,256 @@
+-- Numbers of rows in rising order: what is sought in them, and what an edit leaves.
+use Rattle.std.proofs.Common.{◌≡◌, ◌≢◌, ◌⊎◌, inl, inr, ℕ, zero, suc, ◌+◌, ◌-◌, ◌<◌, ◌≤◌, true, List, ◌∷◌, length, slice_index, slice_index_or, refl, sym, ap, ◌∙◌, subst, true≢false, Result, Ok, Err, arith}
+use Rattle.std.specs.List.{Contains, insert, remove}
+use Rattle.std.specs.Ordering.{is_lt, nat_cmp, ordering_reverse, ordering_then}
+use Rattle.std.specs.Result.{OnOk, OnErr}
+use Rattle.std.specs.Cmp.{IsTotalOrder, on_total, then_total, nat_cmp_total}
+use Rattle.std.specs.declared.cmp.Ordering.{Ordering}
+use Rattle.std.specs.declared.cmp.Ordering.TheVariants.{Less, Equal, Greater}
+use Rattle.std.proofs.lemmas.Bool.{cases_lt, cases_order}
+use Rattle.std.proofs.lemmas.List.{get_or_read, get_or_default}
+use Rattle.std.proofs.lemmas.List.Edits.{length-insert, length-remove, get_or-insert_below, get_or-insert_at, get_or-insert_above, get_or-remove_below, get_or-remove_above}
+use Rattle.std.proofs.lemmas.List.Sorted.{IsPermutation-insert, IsPermutation-remove, Contains-permutation}
+use Rattle.std.proofs.lemmas.Map.Lookups.{exact_pairs}
+use Rattle.lisp_records.specs.Address.{Block, block_cmp}
+use Rattle.lisp_records.specs.Router.{router_cmp}
+use Rattle.lisp_records.specs.Row.{Holding}
+use Rattle.lisp_lookup.specs.declared.order.Order.{Order}
+use Rattle.lisp_lookup.specs.declared.order.Order.TheVariants.{ByPrefix, ByDeadline}
+use Rattle.lisp_lookup.specs.declared.probe.Probe.{Probe}
+use Rattle.lisp_lookup.specs.declared.probe.Probe.TheVariants.{Prefix}
+use Rattle.lisp_lookup.specs.Table.{row_key}
+use Rattle.lisp_lookup.specs.Index.{deadline, prefix_cmp, order_cmp, is_before, row_at_place, Falls, IsBound, Rises, Left, Entered, IsFresh}
+use Rattle.lisp_lookup.proofs.AnswerLaws.{less}
+use Rattle.lisp_lookup.proofs.Orders.{block_total, router_total, same_block, same_router}
+use Rattle.lisp_lookup.proofs.TableLaws.{less_from}
+
+-- the number at a place, read with any default
+pub number_at : (numbers : List ℕ) (k n : ℕ) → k < length numbers → slice_index_or numbers k n ≡ n → slice_index numbers k ≡ n
+number_at numbers k n lt at = get_or_default numbers k 0 n lt ∙ at
+
+-- a number that was read is that of a row
+pub number_within : (cmp : Holding → Holding → Ordering) (rows : List Holding) (numbers : List ℕ) (k number : ℕ) → Rises cmp rows numbers → k < length numbers → number ≡ slice_index_or numbers k number → number < length rows
+number_within cmp rows numbers k number rises lt read = omega (arith, number_at numbers k number lt (sym read), rises.below k lt)
+
+-- a row that was read by such a number
+pub row_read : (cmp : Holding → Holding → Ordering) (rows : List Holding) (numbers : List ℕ) (k number : ℕ) (x : Holding) → Rises cmp rows numbers → k < length numbers → number ≡ slice_index_or numbers k number → x ≡ slice_index_or rows number x → (d : Holding) → x ≡ row_at_place rows numbers k d
+row_read cmp rows numbers k number x rises lt read at = get_or_read rows (slice_index numbers k) x (rises.below k lt) (at ∙ ap (λ (n : ℕ). slice_index_or rows n x) (sym (number_at numbers k number lt (sym read))))
+
+-- the first number is that of a row
+pub first_within : (cmp : Holding → Holding → Ordering) (rows : List Holding) (numbers : List ℕ) (number : ℕ) → Rises cmp rows numbers → 0 < length numbers → number ≡ slice_index_or numbers 0 number → number < length rows
+first_within cmp rows numbers number = number_within cmp rows numbers 0 number
+
+-- what an edit that had room did
+pub done : {X E P Q : Type 0} (result : Result X E) → OnOk result P → OnErr result Q → (Q → ⊥) → P
+done (Ok x) ok err room = ok
+done (Err e) ok err room = absurd (room err)
+
+-- what an edit took each place from
+abbrev pub Skips : ℕ → ℕ → ℕ → Type 0
+Skips place k source = ((k < place) × (source ≡ k)) ⊎ ((place ≤ k) × (source ≡ k + 1))
+
+pub removed_from : (xs : List ℕ) (place k : ℕ) → place < length xs → (source : ℕ) × Skips place k source × (slice_index (remove xs place) k ≡ slice_index xs source)
+removed_from xs place k lt = either (cases_lt k place)
+  where
+    either : (k < place) ⊎ (place ≤ k) → (source : ℕ) × Skips place k source × (slice_index (remove xs place) k ≡ slice_index xs source)
+    either (inl below) = (k, inl (below, refl), get_or-remove_below xs place 0 k below lt)
+    either (inr above) = (k + 1, inr (above, refl), get_or-remove_above xs place 0 k above lt)
+
+abbrev pub Makes : List ℕ → ℕ → ℕ → ℕ → ℕ → Type 0
+Makes xs place n k got = ((k < place) × (got ≡ slice_index xs k)) ⊎ (((k ≡ place) × (got ≡ n)) ⊎ ((place < k) × (got ≡ slice_index xs (k - 1))))
+
+pub inserted_from : (xs : List ℕ) (place n k : ℕ) → place ≤ length xs → Makes xs place n k (slice_index (insert xs place n) k)
+inserted_from xs place n k le = either (cases_order k place)
+  where
+    either : (k ≡ place) ⊎ ((k < place) ⊎ (place < k)) → Makes xs place n k (slice_index (insert xs place n) k)
+    either (inl at) = inr (inl (at, ap (λ (j : ℕ). slice_index (insert xs place n) j) at ∙ get_or-insert_at xs place n 0 le))
+    either (inr (inl below)) = inl (below, get_or-insert_below xs place n 0 k below le)
+    either (inr (inr above)) =
+        let again : k ≡ (k - 1) + 1 = omega (arith, above) in
+        inr (inr (above, ap (λ (j : ℕ). slice_index (insert xs place n) j) again ∙ get_or-insert_above xs place n 0 (k - 1) (omega (arith, above)) le))
+
+pub prefix_total : IsTotalOrder prefix_cmp
+prefix_total = then_total (on_total (λ (h : Holding). h.mapping.eid) block_total) (on_total (λ (h : Holding). h.router) router_total)
+
+pub order_total : (order : Order) → IsTotalOrder (order_cmp order)
+order_total ByPrefix = prefix_total
+order_total ByDeadline = then_total (on_total deadline nat_cmp_total) prefix_total
+
+-- rows that tie are of one router and prefix
+prefix_tie : (a b : Holding) → prefix_cmp a b ≡ Equal → row_key a ≡ row_key b
+prefix_tie a b tie =
+    let parts = exact_pairs block_cmp router_cmp same_block same_router (a.mapping.eid, a.router) (b.mapping.eid, b.router) tie in
+    λ i. ((parts i).1, (parts i).0)
+
+then_tie : (first second : Ordering) → ordering_then first second ≡ Equal → second ≡ Equal
+then_tie Less second tie = absurd cc
+then_tie Equal second tie = tie
+then_tie Greater second tie = absurd cc
+
+pub order_tie : (order : Order) (a b : Holding) → order_cmp order a b ≡ Equal → row_key a ≡ row_key b
+order_tie ByPrefix a b tie = prefix_tie a b tie
+order_tie ByDeadline a b tie = prefix_tie a b (then_tie (nat_cmp (deadline a) (deadline b)) (prefix_cmp a b) tie)
+
+reverse_case : (o : Ordering) → o ≡ ordering_reverse o → o ≡ Equal
+reverse_case Less turned = absurd cc
+reverse_case Equal turned = refl
+reverse_case Greater turned = absurd cc
+
+-- what is compared with itself ties
+pub itself : {K : Type 0} (cmp : K → K → Ordering) (total : IsTotalOrder cmp) (x : K) → cmp x x ≡ Equal
+itself cmp total x = reverse_case (cmp x x) (total.antisymm x x)
+
+module _ (cmp : Holding → Holding → Ordering) (total : IsTotalOrder cmp) where
+  never : (x : Holding) → cmp x x ≢ Less
+  never x below = absurd (let clash : ◌≡◌ {A = Ordering} Less Equal = sym below ∙ itself cmp total x in cc)
+
+  apart : (rows : List Holding) (numbers : List ℕ) (i j : ℕ) (d : Holding) → Rises cmp rows numbers → i < j → j < length numbers → slice_index numbers i ≢ slice_index numbers j
+  apart rows numbers i j d rises lt within same = never (row_at_place rows numbers j d) (subst (λ (n : ℕ). cmp (slice_index_or rows n d) (row_at_place rows numbers j d) ≡ Less) same (rises.rising i j d lt within))
+
+  -- a number stands at one place
+  pub one_place : (rows : List Holding) (numbers : List ℕ) (i j : ℕ) (d : Holding) → Rises cmp rows numbers → i < length numbers → j < length numbers → slice_index numbers i ≡ slice_index numbers j → i ≡ j
+  one_place rows numbers i j d rises lt_i lt_j same =
+      let not_below : i < j → ⊥ = λ below. apart rows numbers i j d rises below lt_j same in
+      let not_above : j < i → ⊥ = λ above. apart rows numbers j i d rises above lt_i (sym same) in
+      omega arith
+
+  -- numbers of the same rows
+  pub rises_same : (rows : List Holding) (numbers : List ℕ) (moved : List Holding) (renamed : List ℕ) → length renamed ≡ length numbers → ((k : ℕ) → k < length renamed → slice_index renamed k < length moved) → ((k : ℕ) (d : Holding) → k < length renamed → row_at_place moved renamed k d ≡ row_at_place rows numbers k d) → Rises cmp rows numbers → Rises cmp moved renamed
+  rises_same rows numbers moved renamed long below same rises = record {
+    below = below;
+    rising = λ i j d lt within. (let is = rises.rising i j d lt (omega (arith, within, long)) in ap (λ (h : Holding). cmp h (row_at_place moved renamed j d)) (same i d (omega (arith, lt, within))) ∙ ap (λ (h : Holding). cmp (row_at_place rows numbers i d) h) (same j d within) ∙ is);
+  }
+
+  pub rises_remove : (rows : List Holding) (numbers : List ℕ) (place : ℕ) → place < length numbers → Rises cmp rows numbers → Rises cmp rows (remove numbers place)
+  rises_remove rows numbers place lt rises = record {
+    below = λ k within. (let from = removed_from numbers place k lt in subst (λ (n : ℕ). n < length rows) (sym from.2) (rises.below from.0 (omega (arith, from.1, within, length-remove numbers place lt))));
+    rising = λ i j d before within.
+        (let a = removed_from numbers place i lt in
+        let b = removed_from numbers place j lt in
+        ap (λ (n : ℕ). cmp (slice_index_or rows n d) (row_at_place rows (remove numbers place) j d)) a.2 ∙ ap (λ (n : ℕ). cmp (row_at_place rows numbers a.0 d) (slice_index_or rows n d)) b.2 ∙ rises.rising a.0 b.0 d (omega (arith, a.1, b.1, before)) (omega (arith, b.1, within, length-remove numbers place lt)));
+  }
+
+  module _ (rows : List Holding) (numbers : List ℕ) (place n : ℕ) (le : place ≤ length numbers) (row : n < length rows) (below : (i : ℕ) (d : Holding) → i < place → cmp (row_at_place rows numbers i d) (slice_index_or rows n d) ≡ Less) (above : (i : ℕ) (d : Holding) → place ≤ i → i < length numbers → cmp (slice_index_or rows n d) (row_at_place rows numbers i d) ≡ Less) (rises : Rises cmp rows numbers) where
+    within_case : (k : ℕ) (got : ℕ) → k < length numbers + 1 → Makes numbers place n k got → got < length rows
+    within_case k got lt (inl before) = subst (λ (m : ℕ). m < length rows) (sym before.1) (rises.below k (omega (arith, before.0, le)))
+    within_case k got lt (inr (inl at)) = subst (λ (m : ℕ). m < length rows) (sym at.1) row
+    within_case k got lt (inr (inr after)) = subst (λ (m : ℕ). m < length rows) (sym after.1) (rises.below (k - 1) (omega (arith, after.0, lt)))
+
+    pair_case : (i j a b : ℕ) (d : Holding) → i < j → j < length numbers + 1 → Makes numbers place n i a → Makes numbers place n j b → cmp (slice_index_or rows a d) (slice_index_or rows b d) ≡ Less
+    pair_case i j a b d lt within first second = ap (λ (m : ℕ). cmp (slice_index_or rows m d) (slice_index_or rows b d)) (got first) ∙ ap (λ (m : ℕ). cmp (slice_index_or rows (number first) d) (slice_index_or rows m d)) (got second) ∙ pair first second
+      where
+        number : {k m : ℕ} → Makes numbers place n k m → ℕ
+        number {k = k} (inl before) = slice_index numbers k
+        number (inr (inl at)) = n
+        number {k = k} (inr (inr after)) = slice_index numbers (k - 1)
+
+        got : {k m : ℕ} (made : Makes numbers place n k m) → m ≡ number made
+        got (inl before) = before.1
+        got (inr (inl at)) = at.1
+        got (inr (inr after)) = after.1
+
+        pair : (x : Makes numbers place n i a) (y : Makes numbers place n j b) → cmp (slice_index_or rows (number x) d) (slice_index_or rows (number y) d) ≡ Less
+        pair (inl x) (inl y) = rises.rising i j d lt (omega (arith, y.0, le))
+        pair (inl x) (inr (inl y)) = below i d x.0
+        pair (inl x) (inr (inr y)) = rises.rising i (j - 1) d (omega (arith, x.0, y.0)) (omega (arith, y.0, within))
+        pair (inr (inl x)) (inl y) = absurd (omega (arith, x.0, y.0, lt))
+        pair (inr (inl x)) (inr (inl y)) = absurd (omega (arith, x.0, y.0, lt))
+        pair (inr (inl x)) (inr (inr y)) = above (j - 1) d (omega (arith, y.0)) (omega (arith, y.0, within))
+        pair (inr (inr x)) (inl y) = absurd (omega (arith, x.0, y.0, lt))
+        pair (inr (inr x)) (inr (inl y)) = absurd (omega (arith, x.0, y.0, lt))
+        pair (inr (inr x)) (inr (inr y)) = rises.rising (i - 1) (j - 1) d (omega (arith, x.0, lt)) (omega (arith, y.0, within))
+
+    pub rises_insert : Rises cmp rows (insert numbers place n)
+    rises_insert = record {
+      below = λ k lt. within_case k (slice_index (insert numbers place n) k) (omega (arith, lt, length-insert numbers place n le)) (inserted_from numbers place n k le);
+      rising = λ i j d lt within. pair_case i j (slice_index (insert numbers place n) i) (slice_index (insert numbers place n) j) d lt (omega (arith, within, length-insert numbers place n le)) (inserted_from numbers place n i le) (inserted_from numbers place n j le);
+    }
+
+  module _ (x : Holding) (probe : Probe) (seeks : (h : Holding) → is_before probe h ≡ is_lt (cmp h x)) where
+    -- a row is sought by its order
+    pub falls : (rows : List Holding) (numbers : List ℕ) → Rises cmp rows numbers → Falls probe rows numbers
+    falls rows numbers rises i j d lt within before =
+        let later = less (cmp (row_at_place rows numbers j d) x) (sym (seeks (row_at_place rows numbers j d)) ∙ before) in
+        seeks (row_at_place rows numbers i d) ∙ ap is_lt (total.trans (row_at_place rows numbers i d) (row_at_place rows numbers j d) x (rises.rising i j d lt within) later)
+
+    module _ (rows : List Holding) (numbers : List ℕ) (place : ℕ) (rises : Rises cmp rows numbers) (bound : IsBound probe rows numbers place) where
+      -- a row that ties with what is sought is found
+      pub exact : (p : ℕ) → p < length numbers → cmp (row_at_place rows numbers p x) x ≡ Equal → place ≡ p
+      exact p lt tie = decide (cases_order place p)
+        where
+          at_p : Holding
+          at_p = row_at_place rows numbers p x
+
+          here : Holding
+          here = row_at_place rows numbers place x
+
+          turned : cmp at_p here ≡ Greater → cmp here x ≡ Less
+          turned above = total.antisymm here x ∙ ap ordering_reverse (sym (total.congr at_p x here tie) ∙ above)
+
+          decide : (place ≡ p) ⊎ ((place < p) ⊎ (p < place)) → place ≡ p
+          decide (inl same) = same
+          decide (inr (inl sooner)) =
+              let rising = rises.rising place p x sooner lt in
+              let before = seeks here ∙ ap is_lt (turned (total.antisymm at_p here ∙ ap ordering_reverse rising)) in
+              absurd (true≢false (sym before ∙ bound.after place x (omega arith) (omega (arith, sooner, lt))))
+          decide (inr (inr later)) = absurd (true≢false (sym (bound.before p x later) ∙ seeks at_p ∙ ap is_lt tie))
+
+      pub gap_below : (i : ℕ) (d : Holding) → i < place → cmp (row_at_place rows numbers i d) x ≡ Less
+      gap_below i d lt = less (cmp (row_at_place rows numbers i d) x) (sym (seeks (row_at_place rows numbers i d)) ∙ bound.before i d lt)
+
+      pub gap_above : ((i : ℕ) (d : Holding) → i < length numbers → cmp x (row_at_place rows numbers i d) ≢ Equal) → (i : ℕ) (d : Holding) → place ≤ i → i < length numbers → cmp x (row_at_place rows numbers i d) ≡ Less
+      gap_above differ i d le lt = less_from (cmp x (row_at_place rows numbers i d)) (ap is_lt (sym (total.antisymm (row_at_place rows numbers i d) x)) ∙ sym (seeks (row_at_place rows numbers i d)) ∙ bound.after i d le lt) (differ i d lt)
+
+module _ (order : Order) (rows : List Holding) (numbers : List ℕ) (number : ℕ) (x : Holding) (rises : Rises (order_cmp order) rows numbers) where
+  -- a number that is held is found
+  pub found_place : (probe : Probe) (place : ℕ) → ((h : Holding) → is_before probe h ≡ is_lt (order_cmp order h x)) → IsBound probe rows numbers place → Contains numbers number → x ≡ slice_index_or rows number x → (place < length numbers) × (slice_index numbers place ≡ number)
+  found_place probe place seeks bound (p, lt, at) read =
+      let named = number_at numbers p number lt at in
+      let tie : order_cmp order (row_at_place rows numbers p x) x ≡ Equal = ap (λ (n : ℕ). order_cmp order (slice_index_or rows n x) x) named ∙ ap (λ (h : Holding). order_cmp order h x) (sym read) ∙ itself (order_cmp order) (order_total order) x in
+      let same = exact (order_cmp order) (order_total order) x probe seeks rows numbers place rises bound p lt tie in
+      (omega (arith, same, lt), ap (λ (k : ℕ). slice_index numbers k) same ∙ named)
+
+  -- no row ties with one that is of another router or prefix
+  no_tie : IsFresh rows numbers number → x ≡ slice_index_or rows number x → (i : ℕ) (d : Holding) → i < length numbers → order_cmp order x (row_at_place rows numbers i d) ≢ Equal
+  no_tie fresh read i d lt tie =
+      let same : row_at_place rows numbers i d ≡ row_at_place rows numbers i x = get_or_default rows (slice_index numbers i) d x (rises.below i lt) in
+      fresh i x lt (ap row_key (sym same) ∙ sym (order_tie order x (row_at_place rows numbers i d) tie) ∙ ap row_key read)
+
+  remaining : (place : ℕ) (n : ℕ) → Contains (number ∷ remove numbers place) n → n ≢ number → Contains (remove numbers place) n
+  remaining place n (zero, lt, at) other = absurd (other (sym at))
+  remaining place n (suc k, lt, at) other = (k, omega (arith, lt), at)
+
+  pub left_of : (place : ℕ) → place < length numbers → slice_index numbers place ≡ number → Left order rows numbers (remove numbers place) number
+  left_of place lt was = record {
+    rises = rises_remove (order_cmp order) (order_total order) rows numbers place lt rises;
+    others = λ n held other. remaining place n (Contains-permutation numbers (number ∷ remove numbers place) n (IsPermutation-remove numbers place number lt (sym was ∙ get_or_default numbers place 0 number lt)) held) other;
+    gone = λ k within same.
+        (let from = removed_from numbers place k lt in
+        let at = one_place (order_cmp order) (order_total order) rows numbers from.0 place x rises (omega (arith, from.1, within, length-remove numbers place lt)) lt (sym from.2 ∙ same ∙ sym was) in
+        omega (arith, from.1, at));
+  }
+
+  pub entered_at : (probe : Probe) (place : ℕ) → ((h : Holding) → is_before probe h ≡ is_lt (order_cmp order h x)) → IsBound probe rows numbers place → number < length rows → IsFresh rows numbers number → x ≡ slice_index_or rows number x → Entered order rows numbers (insert numbers place number) number
+  entered_at probe place seeks bound row fresh read = record {
+    rises = rises_insert (order_cmp order) (order_total order) rows numbers place number bound.within row (λ i d lt. ap (order_cmp order (row_at_place rows numbers i d)) (sym (known d)) ∙ gap_below (order_cmp order) (order_total order) x probe seeks rows numbers place rises bound i d lt) (λ i d le lt. ap (λ (h : Holding). order_cmp order h (row_at_place rows numbers i d)) (sym (known d)) ∙ gap_above (order_cmp order) (order_total order) x probe seeks rows numbers place rises bound (no_tie fresh read) i d le lt) rises;
+    others = λ n held. moved n (suc held.0, omega (arith, held.1), held.2);
+    here = moved number (0, omega arith, refl);
+  }
+    where
+      known : (d : Holding) → x ≡ slice_index_or rows number d
+      known = get_or_read rows number x row read
+
+      moved : (n : ℕ) → Contains (number ∷ numbers) n → Contains (insert numbers place number) n
+      moved n held = Contains-permutation (number ∷ numbers) (insert numbers place number) n (IsPermutation-insert numbers place number) held
+
+prefix_case : (a b eid : Block) (first second : Ordering) → block_cmp a b ≡ first → ordering_then first second ≡ Less → is_lt (block_cmp b eid) ≡ true → is_lt (block_cmp a eid) ≡ true
+prefix_case a b eid Less second is up before = ap is_lt (block_total.trans a b eid is (less (block_cmp b eid) before))
+prefix_case a b eid Equal second is up before = ap is_lt (block_total.congr a b eid is) ∙ before
+prefix_case a b eid Greater second is up before = absurd cc
+
+-- a prefix is sought in the order by prefix
+pub falls_prefix : (eid : Block) (rows : List Holding) (numbers : List ℕ) → Rises prefix_cmp rows numbers → Falls (Prefix eid) rows numbers
+falls_prefix eid rows numbers rises i j d lt within before =
+    let a = row_at_place rows numbers i d in
+    let b = row_at_place rows numbers j d in
+    prefix_case a.mapping.eid b.mapping.eid eid (block_cmp a.mapping.eid b.mapping.eid) (router_cmp a.router b.router) refl (rises.rising i j d lt within) before

@@ -1,0 +1,36 @@
+use Rattle.std.proofs.Common.{◌+◌, ◌-◌, ◌/◌, length, sym, subst, ◌≡◌, ℕ, arith}
+use Rattle.lisp_lookup.proofs.FindLaws.{Cost, cost_more, before_too, after_too}
+use Rattle.lisp_lookup.proofs.find.find.Goals as goal
+
+pub loop-size-preserved-then-is_after : goal.loop-size-preserved-then-is_after
+loop-size-preserved-then-is_after g c =
+    let within = c.loop-size.invariant.within in
+    let left = c.loop-size.size - (c.loop-size.size / 2 + 1) in
+    let looks : c.tick.new.self - c.args.steps.now ≡ (c.loop-size.steps - c.args.steps.now) + 1 = omega (arith, c.tick.ensures, c.loop-size.invariant.grown) in
+    record {
+      within = omega (arith, within, c.loop-size-test.true);
+      before = λ i d lt. before_too c.args.probe.now c.args.rows.now c.args.numbers.now.items (c.loop-size.low + c.loop-size.size / 2) c.index.result.now c.index-rows-index.result (omega (arith, within, c.loop-size-test.true)) c.requires.below c.requires.falls c.index.ensures c.index-rows-index.is (sym c.if-is_after.ensures) i d (omega (arith, lt));
+      after = λ i d le lt. c.loop-size.invariant.after i d (omega (arith, le, c.loop-size-test.true)) lt;
+      grown = omega (arith, c.tick.ensures, c.loop-size.invariant.grown);
+      cost = subst (λ (n : ℕ). Cost n left (length c.args.numbers.now.items)) (sym looks) (cost_more (c.loop-size.steps - c.args.steps.now) c.loop-size.size left (length c.args.numbers.now.items) c.loop-size.invariant.cost c.loop-size-test.true (omega arith));
+    }
+
+pub loop-size-preserved : goal.loop-size-preserved
+loop-size-preserved g c =
+    let within = c.loop-size.invariant.within in
+    let left = c.loop-size.size / 2 in
+    let looks : c.tick.new.self - c.args.steps.now ≡ (c.loop-size.steps - c.args.steps.now) + 1 = omega (arith, c.tick.ensures, c.loop-size.invariant.grown) in
+    record {
+      within = omega (arith, within, c.loop-size-test.true);
+      before = c.loop-size.invariant.before;
+      after = λ i d le lt. after_too c.args.probe.now c.args.rows.now c.args.numbers.now.items (c.loop-size.low + c.loop-size.size / 2) c.index.result.now c.index-rows-index.result (omega (arith, within, c.loop-size-test.true)) c.requires.below c.requires.falls c.index.ensures c.index-rows-index.is (sym c.if-is_after.ensures) i d le lt;
+      grown = omega (arith, c.tick.ensures, c.loop-size.invariant.grown);
+      cost = subst (λ (n : ℕ). Cost n left (length c.args.numbers.now.items)) (sym looks) (cost_more (c.loop-size.steps - c.args.steps.now) c.loop-size.size left (length c.args.numbers.now.items) c.loop-size.invariant.cost c.loop-size-test.true (omega arith));
+    }
+
+pub returns-clause-bound : goal.returns-clause-bound
+returns-clause-bound g c = record {
+  within = omega (arith, c.loop-size.invariant.within);
+  before = c.loop-size.invariant.before;
+  after = λ i d le lt. c.loop-size.invariant.after i d (omega (arith, le, c.loop-size-test.false)) lt;
+}

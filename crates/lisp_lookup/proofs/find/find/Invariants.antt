@@ -1,0 +1,17 @@
+use Rattle.std.proofs.Common.{◌≡◌, ℕ, ◌+◌, ◌-◌, ◌<◌, ◌≤◌, true, false, length}
+use Rattle.lisp_records.specs.Row.{Holding}
+use Rattle.lisp_lookup.specs.Index.{is_before, row_at_place}
+use Rattle.lisp_lookup.proofs.FindLaws.{Cost}
+use Rattle.lisp_lookup.proofs.find.find.Given as goal
+
+abbrev pub invariant-loop-size : goal.invariant-loop-size
+invariant-loop-size g l = record {
+  within : l.low + l.size ≤ length l.numbers.items;
+  before : (i : ℕ) (d : Holding) → i < l.low → is_before l.probe (row_at_place l.rows l.numbers.items i d) ≡ true;
+  after : (i : ℕ) (d : Holding) → l.low + l.size ≤ i → i < length l.numbers.items → is_before l.probe (row_at_place l.rows l.numbers.items i d) ≡ false;
+  grown : l.fn.steps ≤ l.steps;
+  cost : Cost (l.steps - l.fn.steps) l.size (length l.numbers.items);
+}
+
+abbrev pub decreases-loop-size : goal.decreases-loop-size
+decreases-loop-size g l = l.size

@@ -1,4 +1,0 @@
-use Rattle.lisp_lookup.proofs.table.Table.prepare.Goals as goal
-
-pub invariant_of-self : goal.invariant_of-self
-invariant_of-self g c = rw c.make_room.ensures.items c.self.invariant

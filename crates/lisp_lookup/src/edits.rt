@@ -1,0 +1,68 @@
+//! What enters and leaves an order of rows: numbers of rows, and no rows.
+
+ghost use Rattle.std.specs.Prelude.{◌≡◌, ◌+◌, ◌<◌, ◌≤◌, length, slice_index};
+ghost use Rattle.std.specs.List.{Contains};
+ghost use Rattle.std.specs.VecDeque.{deque_len, deque_capacity};
+ghost use Rattle.lisp_lookup.specs.Index.{order_cmp, Rises, Left, IsFresh, Entered, Renamed};
+
+use crate::find::place;
+use crate::order::Order;
+use lisp_records::Row;
+use std::alloc::Allocator;
+use std::collections::VecDeque;
+
+/// Puts the number of a row into an order that has room for it. Takes no memory.
+pub(crate) fn enter<A: Allocator>(
+    rows: &[Row<A>],
+    numbers: &mut VecDeque<usize, A>,
+    number: usize,
+    order: Order,
+)
+    requires rises { Rises (order_cmp order) rows.now numbers.old.items }
+    requires row { number < length rows.now }
+    requires fresh { IsFresh rows.now numbers.old.items number }
+    requires room { deque_len numbers.old < deque_capacity numbers.old }
+    ensures entered { Entered order rows.now numbers.old.items numbers.new.items number }
+    ensures len { deque_len numbers.new ≡ deque_len numbers.old + 1 }
+    ensures capacity { deque_capacity numbers.old ≤ deque_capacity numbers.new }
+{
+    let place = place(rows, numbers, &order.probe(&rows[number]));
+    let _ = numbers.insert(place, number);
+}
+
+/// Takes the number of a row out of an order.
+pub(crate) fn leave<A: Allocator>(
+    rows: &[Row<A>],
+    numbers: &mut VecDeque<usize, A>,
+    number: usize,
+    order: Order,
+)
+    requires rises { Rises (order_cmp order) rows.now numbers.old.items }
+    requires row { number < length rows.now }
+    requires held { Contains numbers.old.items number }
+    ensures left { Left order rows.now numbers.old.items numbers.new.items number }
+    ensures len { deque_len numbers.new + 1 ≡ deque_len numbers.old }
+    ensures capacity { deque_capacity numbers.new ≡ deque_capacity numbers.old }
+{
+    let place = place(rows, numbers, &order.probe(&rows[number]));
+    let _ = numbers.remove(place);
+}
+
+/// Puts a number in the place of another.
+pub(crate) fn rename<A: Allocator>(
+    rows: &[Row<A>],
+    numbers: &mut VecDeque<usize, A>,
+    from: usize,
+    to: usize,
+    order: Order,
+)
+    requires rises { Rises (order_cmp order) rows.now numbers.old.items }
+    requires row { from < length rows.now }
+    requires held { Contains numbers.old.items from }
+    ensures renamed { Renamed numbers.old.items numbers.new.items from to }
+    ensures len { deque_len numbers.new ≡ deque_len numbers.old }
+    ensures capacity { deque_capacity numbers.new ≡ deque_capacity numbers.old }
+{
+    let place = place(rows, numbers, &order.probe(&rows[from]));
+    numbers[place] = to;
+}

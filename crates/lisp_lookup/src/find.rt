@@ -1,0 +1,71 @@
+//! Search by halving.
+
+ghost use Rattle.std.specs.Prelude.{◌≡◌, ℕ, ◌+◌, ◌-◌, ◌*◌, ◌^◌, ◌<◌, ◌≤◌, length, slice_index};
+ghost use Rattle.lisp_lookup.specs.Index.{Falls, IsBound};
+
+use crate::probe::Probe;
+use crate::steps::Steps;
+use lisp_records::Row;
+use std::alloc::Allocator;
+use std::collections::VecDeque;
+use std::marker::Brand;
+use std::sync::ledger::{Blank, Ledger};
+
+/// The first place whose row doesn't stand before what is sought; the length where there is none. Ticks
+/// at each row that it looks at.
+pub(crate) fn find<A: Allocator, L: Ledger>(
+    rows: &[Row<A>],
+    numbers: &VecDeque<usize, A>,
+    probe: &Probe,
+    steps: &mut Steps<L>,
+) -> usize
+    requires below { (k : ℕ) → k < length numbers.now.items → slice_index numbers.now.items k < length rows.now }
+    requires falls { Falls probe.now rows.now numbers.now.items }
+    ensures bound { IsBound probe.now rows.now numbers.now.items result }
+    ensures rises { steps.old ≤ steps.new }
+    ensures cost { 2 ^ (steps.new - steps.old) ≤ 2 * length numbers.now.items + 1 }
+{
+    let mut low = 0;
+    let mut size = numbers.len();
+    while size > 0 {
+        let half = size / 2;
+        steps.tick();
+        if probe.is_after(&rows[numbers[low + half]]) {
+            low += half + 1;
+            size -= half + 1;
+        } else {
+            size = half;
+        }
+    }
+    low
+}
+
+/// As `find`, with steps that nobody counts.
+pub(crate) fn place<A: Allocator>(
+    rows: &[Row<A>],
+    numbers: &VecDeque<usize, A>,
+    probe: &Probe,
+) -> usize
+    requires below { (k : ℕ) → k < length numbers.now.items → slice_index numbers.now.items k < length rows.now }
+    requires falls { Falls probe.now rows.now numbers.now.items }
+    ensures bound { IsBound probe.now rows.now numbers.now.items result }
+{
+    counted::<A, Brand>(rows, numbers, probe, Blank::new(1))
+}
+
+fn counted<A: Allocator, L: Ledger>(
+    rows: &[Row<A>],
+    numbers: &VecDeque<usize, A>,
+    probe: &Probe,
+    blank: Blank,
+) -> usize
+    requires name { blank.name ≡ L.name }
+    requires parts { blank.parts ≡ L.parts }
+    requires some { 0 < blank.parts }
+    requires below { (k : ℕ) → k < length numbers.now.items → slice_index numbers.now.items k < length rows.now }
+    requires falls { Falls probe.now rows.now numbers.now.items }
+    ensures bound { IsBound probe.now rows.now numbers.now.items result }
+{
+    let mut steps = Steps::<L>::new(blank);
+    find(rows, numbers, probe, &mut steps)
+}

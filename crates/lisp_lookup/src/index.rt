@@ -1,0 +1,202 @@
+//! Rows, and their numbers by prefix and by deadline.
+
+ghost use Rattle.std.specs.Prelude.{◌≡◌, ◌≢◌, ◌+◌, ◌-◌, ◌<◌, ◌≤◌, [], ◌∷◌, ◌++◌, length, slice_index_or, slice_set, None, false, true, IfSome};
+ghost use Rattle.std.specs.List.{All, position, swap_remove};
+ghost use Rattle.std.specs.Vec.{vec_len, vec_capacity};
+ghost use Rattle.std.specs.VecDeque.{deque_len, deque_capacity};
+ghost use Rattle.lisp_records.specs.Address.{IsBlock};
+ghost use Rattle.lisp_records.specs.Moment.{max_moment};
+ghost use Rattle.lisp_records.specs.Row.{Holding, is_alive};
+ghost use Rattle.lisp_lookup.specs.Table.{is_row_of, row_key, OneEach, Sets, Expires};
+ghost use Rattle.lisp_lookup.specs.Index.{prefix_cmp, deadline_cmp, order_cmp, IsIndex, Indexed, Removed};
+
+use crate::edits::{enter, leave, rename};
+use crate::find::place;
+use crate::order::Order;
+use crate::probe::deadline;
+use lisp_records::Row;
+use std::alloc::Allocator;
+use std::collections::VecDeque;
+
+/// Sets a row, for which there is room. Takes no memory.
+pub(crate) fn put<A: Allocator>(
+    rows: &mut Vec<Row<A>, A>,
+    by_prefix: &mut VecDeque<usize, A>,
+    by_deadline: &mut VecDeque<usize, A>,
+    row: Row<A>,
+)
+    requires indexed { Indexed rows.old.items by_prefix.old.items by_deadline.old.items }
+    requires rows_room { vec_len rows.old < vec_capacity rows.old }
+    requires prefixes_room { deque_len by_prefix.old < deque_capacity by_prefix.old }
+    requires deadlines_room { deque_len by_deadline.old < deque_capacity by_deadline.old }
+    ensures indexed { Indexed rows.new.items by_prefix.new.items by_deadline.new.items }
+    ensures row { Sets rows.old.items rows.new.items (row ∷ []) }
+    ensures rows_room { vec_capacity rows.old - vec_len rows.old ≤ vec_capacity rows.new - vec_len rows.new + 1 }
+    ensures prefixes_room { deque_capacity by_prefix.old - deque_len by_prefix.old ≤ deque_capacity by_prefix.new - deque_len by_prefix.new + 1 }
+    ensures deadlines_room { deque_capacity by_deadline.old - deque_len by_deadline.old ≤ deque_capacity by_deadline.new - deque_len by_deadline.new + 1 }
+{
+    known(&row);
+    match number_of(rows, by_prefix, &row) {
+        Some(number) => replace(rows, by_deadline, number, row),
+        None => add(rows, by_prefix, by_deadline, row),
+    }
+}
+
+// Reading a prefix shows that it is a block.
+fn known<A: Allocator>(row: &Row<A>)
+    ensures { IsBlock row.now.mapping.eid }
+{
+    let _first = row.mapping.eid().addr();
+}
+
+// The number of the row of the same router and prefix.
+fn number_of<A: Allocator>(
+    rows: &[Row<A>],
+    by_prefix: &VecDeque<usize, A>,
+    row: &Row<A>,
+) -> Option<usize>
+    requires index { IsIndex prefix_cmp rows.now by_prefix.now.items }
+    ensures { result ≡ position (is_row_of row.now.router row.now.mapping.eid) rows.now }
+{
+    let place = place(rows, by_prefix, &Order::ByPrefix.probe(row));
+    let number = *by_prefix.get(place)?;
+    if is_row_of(row, &rows[number]) {
+        Some(number)
+    } else {
+        None
+    }
+}
+
+// Whether two rows are of one router and prefix.
+fn is_row_of<A: Allocator>(one: &Row<A>, other: &Row<A>) -> bool
+    ensures { result ≡ is_row_of one.now.router one.now.mapping.eid other.now }
+{
+    other.router == one.router && other.mapping.eid() == one.mapping.eid()
+}
+
+// Sets a row over the one of the same router and prefix.
+fn replace<A: Allocator>(
+    rows: &mut Vec<Row<A>, A>,
+    by_deadline: &mut VecDeque<usize, A>,
+    number: usize,
+    row: Row<A>,
+)
+    requires index { IsIndex deadline_cmp rows.old.items by_deadline.old.items }
+    requires one_each { OneEach rows.old.items }
+    requires within { number < length rows.old.items }
+    requires same { row_key (slice_index_or rows.old.items number row) ≡ row_key row }
+    requires room { deque_len by_deadline.old < deque_capacity by_deadline.old }
+    ensures items { rows.new.items ≡ slice_set rows.old.items number row }
+    ensures index { IsIndex deadline_cmp rows.new.items by_deadline.new.items }
+    ensures len { vec_len rows.new ≡ vec_len rows.old }
+    ensures capacity { vec_capacity rows.new ≡ vec_capacity rows.old }
+    ensures deadlines_len { deque_len by_deadline.new ≡ deque_len by_deadline.old }
+    ensures deadlines_capacity { deque_capacity by_deadline.old ≤ deque_capacity by_deadline.new }
+{
+    leave(rows, by_deadline, number, Order::ByDeadline);
+    rows[number] = row;
+    enter(rows, by_deadline, number, Order::ByDeadline);
+}
+
+// Adds a row for a router and prefix that has none.
+fn add<A: Allocator>(
+    rows: &mut Vec<Row<A>, A>,
+    by_prefix: &mut VecDeque<usize, A>,
+    by_deadline: &mut VecDeque<usize, A>,
+    row: Row<A>,
+)
+    requires indexed { Indexed rows.old.items by_prefix.old.items by_deadline.old.items }
+    requires block { IsBlock row.mapping.eid }
+    requires none { position (is_row_of row.router row.mapping.eid) rows.old.items ≡ None }
+    requires rows_room { vec_len rows.old < vec_capacity rows.old }
+    requires prefixes_room { deque_len by_prefix.old < deque_capacity by_prefix.old }
+    requires deadlines_room { deque_len by_deadline.old < deque_capacity by_deadline.old }
+    ensures indexed { Indexed rows.new.items by_prefix.new.items by_deadline.new.items }
+    ensures items { rows.new.items ≡ rows.old.items ++ row ∷ [] }
+    ensures len { vec_len rows.new ≡ vec_len rows.old + 1 }
+    ensures capacity { vec_capacity rows.old ≤ vec_capacity rows.new }
+    ensures prefixes_len { deque_len by_prefix.new ≡ deque_len by_prefix.old + 1 }
+    ensures prefixes_capacity { deque_capacity by_prefix.old ≤ deque_capacity by_prefix.new }
+    ensures deadlines_len { deque_len by_deadline.new ≡ deque_len by_deadline.old + 1 }
+    ensures deadlines_capacity { deque_capacity by_deadline.old ≤ deque_capacity by_deadline.new }
+{
+    let number = rows.len();
+    rows.push_reserved(row);
+    enter(rows, by_prefix, number, Order::ByPrefix);
+    enter(rows, by_deadline, number, Order::ByDeadline);
+}
+
+/// Takes out the rows that are dead at a moment, in ms, of at most 2^62: the first ones by deadline.
+/// Takes no memory.
+pub(crate) fn drop_dead<A: Allocator>(
+    rows: &mut Vec<Row<A>, A>,
+    by_prefix: &mut VecDeque<usize, A>,
+    by_deadline: &mut VecDeque<usize, A>,
+    now: u64,
+)
+    requires indexed { Indexed rows.old.items by_prefix.old.items by_deadline.old.items }
+    requires now { now ≤ max_moment }
+    ensures indexed { Indexed rows.new.items by_prefix.new.items by_deadline.new.items }
+    ensures expires { Expires rows.old.items rows.new.items now }
+{
+    for _turn in 0..rows.len() {
+        match first_dead(rows, by_deadline, now) {
+            Some(number) => remove(rows, by_prefix, by_deadline, number),
+            None => return,
+        }
+    }
+}
+
+// The number of the first row by deadline, where it is dead.
+fn first_dead<A: Allocator>(
+    rows: &[Row<A>],
+    by_deadline: &VecDeque<usize, A>,
+    now: u64,
+) -> Option<usize>
+    requires index { IsIndex deadline_cmp rows.now by_deadline.now.items }
+    requires now { now ≤ max_moment }
+    ensures dead { IfSome result (λ number. number < length rows.now × ((d : Holding) → is_alive (slice_index_or rows.now number d) now ≡ false)) }
+    ensures alive { result ≡ None → All (λ h. is_alive h now ≡ true) rows.now }
+{
+    let number = *by_deadline.front()?;
+    if deadline(&rows[number]) <= now {
+        Some(number)
+    } else {
+        None
+    }
+}
+
+// Takes a row out: the last one gets its number.
+fn remove<A: Allocator>(
+    rows: &mut Vec<Row<A>, A>,
+    by_prefix: &mut VecDeque<usize, A>,
+    by_deadline: &mut VecDeque<usize, A>,
+    number: usize,
+)
+    requires indexed { Indexed rows.old.items by_prefix.old.items by_deadline.old.items }
+    requires within { number < length rows.old.items }
+    ensures indexed { Indexed rows.new.items by_prefix.new.items by_deadline.new.items }
+    ensures removed { Removed rows.old.items rows.new.items number }
+{
+    forget(rows, by_prefix, number, Order::ByPrefix);
+    forget(rows, by_deadline, number, Order::ByDeadline);
+    let _ = rows.swap_remove(number);
+}
+
+// Takes the number of a row out of an order, and gives it to the last row.
+fn forget<A: Allocator>(
+    rows: &[Row<A>],
+    numbers: &mut VecDeque<usize, A>,
+    number: usize,
+    order: Order,
+)
+    requires index { IsIndex (order_cmp order) rows.now numbers.old.items }
+    requires within { number < length rows.now }
+    ensures index { (d : Holding) → IsIndex (order_cmp order) (swap_remove rows.now number d) numbers.new.items }
+{
+    leave(rows, numbers, number, order);
+    let last = rows.len() - 1;
+    if number != last {
+        rename(rows, numbers, last, number, order);
+    }
+}

@@ -1,0 +1,11 @@
+use Rattle.std.proofs.Common.{sym, refl, ◌∙◌}
+use Rattle.lisp_script.specs.Words.{router_of}
+use Rattle.lisp_script.proofs.words.router.Goals as goal
+
+pub returns-in-Some-clause-value : goal.returns-in-Some-clause-value
+unfolding router_of
+returns-in-Some-clause-value g c = rw (c.servers.ensures, ← c.routers.ensures.routers, ← c.router_place.ensures.value, c.in-Some.is) refl
+
+pub returns-in-None-clause-value : goal.returns-in-None-clause-value
+unfolding router_of
+returns-in-None-clause-value g c = rw (← c.routers.ensures.routers, ← c.router_place.ensures.value, c.in-None.is) refl

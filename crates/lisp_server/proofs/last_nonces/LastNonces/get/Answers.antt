@@ -1,0 +1,6 @@
+use Rattle.std.proofs.Common.{sym}
+use Rattle.lisp_server.proofs.NonceLaws.{nonce_gap}
+use Rattle.lisp_server.proofs.last_nonces.LastNonces.get.Goals as goal
+
+pub returns-in-Err : goal.returns-in-Err
+returns-in-Err g c = rw (← c.self.view_is, ← c.deref.ensures.value) (sym (nonce_gap _ _ _ c.in-Err.ensures.gap))

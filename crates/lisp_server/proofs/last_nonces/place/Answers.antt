@@ -1,0 +1,9 @@
+use Rattle.std.proofs.Common.{rules}
+use Rattle.std.proofs.lemmas.List.Sorted.{answers_always}
+use Rattle.lisp_server.proofs.NonceLaws.{searched}
+use Rattle.lisp_server.proofs.last_nonces.place.Goals as goal
+
+pub returns : goal.returns
+returns c =
+    let facts = c.binary_search_by_key.ensures in
+    searched c.args.entries.now c.args.pair.now c.binary_search_by_key.result c.requires facts.bound (facts.position (λ e. e.pair) (answers_always _ _ _ (λ f a r g called. search rules)))

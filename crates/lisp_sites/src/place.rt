@@ -1,0 +1,80 @@
+//! Where in a configuration file a fault is.
+
+use crate::fault::ConfigFault;
+use crate::field::Field;
+use std::fmt::{Display, Error, Formatter, Write};
+
+/// An entry of an array of the file: the array, and which of its entries, counted from 1.
+#[derive(Clone, Copy, Debug, PartialEq, Eq)]
+pub struct Entry {
+    pub array: Field,
+    pub number: usize,
+}
+
+impl Entry {
+    fn after(array: Field, before: usize) -> Entry {
+        let number = before.saturating_add(1);
+        Entry { array, number }
+    }
+}
+
+impl Display for Entry {
+    fn fmt<W: Write>(&self, f: &mut Formatter<W>) -> Result<(), Error> {
+        let Entry { array, number } = self;
+        let key = array.key();
+        write!(f, "{key} {number}")
+    }
+}
+
+/// The entry that is read, and the entry within it: as site 2, and its key 1. Neither while no entry is read.
+#[derive(Clone, Copy, Debug, PartialEq, Eq)]
+pub struct Place {
+    pub entry: Option<Entry>,
+    pub part: Option<Entry>,
+}
+
+impl Place {
+    /// Before any entry.
+    pub(crate) const START: Place = Place {
+        entry: None,
+        part: None,
+    };
+
+    /// An entry of `array` is read next, behind so many others.
+    pub(crate) fn enter(&mut self, array: Field, before: usize) {
+        self.entry = Some(Entry::after(array, before));
+    }
+
+    /// The entries of an array were read.
+    pub(crate) fn leave(&mut self) {
+        self.entry = None;
+    }
+
+    /// An entry of `array`, which is in the entry that is read, is read next, behind so many others.
+    pub(crate) fn enter_part(&mut self, array: Field, before: usize) {
+        self.part = Some(Entry::after(array, before));
+    }
+
+    /// The entries of an array in the entry that is read were read.
+    pub(crate) fn leave_part(&mut self) {
+        self.part = None;
+    }
+}
+
+impl Display for Place {
+    /// Each entry with a colon behind it, as in `site 2, key 1: `; nothing for no entry.
+    fn fmt<W: Write>(&self, f: &mut Formatter<W>) -> Result<(), Error> {
+        match (self.entry, self.part) {
+            (Some(entry), Some(part)) => write!(f, "{entry}, {part}: "),
+            (Some(entry), None) => write!(f, "{entry}: "),
+            (None, _) => Ok(()),
+        }
+    }
+}
+
+/// The first fault of a configuration file, and where it is.
+#[derive(Clone, Copy, Debug, PartialEq, Eq)]
+pub struct PlacedFault {
+    pub fault: ConfigFault,
+    pub place: Place,
+}

@@ -1,0 +1,28 @@
+-- A store of which one call fails.
+use Rattle.std.specs.Prelude.{ℕ, ◌-◌, ◌==◌, Bool, true, false, Option, Result, Err, if◌then◌else◌}
+use Rattle.lisp_store.specs.declared.fault.StoreFault.{StoreFault}
+use Rattle.lisp_store.specs.declared.fault.StoreFault.TheVariants.{Device}
+use Rattle.lisp_store.specs.declared.pair.Pair.{Pair}
+use Rattle.lisp_store.specs.Kept.{kept_at}
+use Rattle.lisp_store.specs.Memory.{Memory, loaded, save_answer, failed_once}
+use Rattle.lisp_store.specs.Store.{StoreState}
+
+-- the store in memory that it stands round, and which of its next loads and saves fails, counted from 1; 0 where none does
+pub record Failing : Type 0 where
+  pub memory : Memory
+  pub turn : ℕ
+
+-- it is honest; that its calls don't fail is never said of it
+abbrev pub failing_state : Failing → StoreState
+failing_state f = record { kept = f.memory.kept; faults = f.memory.faults; is_honest = true; is_quiet = false; is_obedient = false }
+
+-- the next load or save is the one that fails
+abbrev pub fails : Failing → Bool
+fails f = f.turn == 1
+
+-- what a load and a save answer
+abbrev pub failing_load : Failing → Pair → Result (Option ℕ) StoreFault
+failing_load f pair = if fails f then Err Device else loaded f.memory.fate (kept_at f.memory.kept pair)
+
+abbrev pub failing_save : Failing → Result (Unit {0}) StoreFault
+failing_save f = if fails f then Err Device else save_answer f.memory.fate

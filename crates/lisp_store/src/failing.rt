@@ -1,0 +1,131 @@
+//! A store of which one call fails, for tests.
+
+ghost use Rattle.std.specs.Prelude.{◌≡◌, ◌≢◌, ◌-◌, [], ◌∷◌, Some, Ok, Err, IfOk, IfErr, OnOk, OnErr, IsErrOf, IsTrue, if◌then◌else◌};
+ghost use Rattle.std.specs.List.{Contains};
+ghost use Rattle.std.specs.FinMap.{empty};
+ghost use Rattle.lisp_store.specs.Kept.{kept_at, SameElsewhere, InDoubt, Narrows};
+ghost use Rattle.lisp_store.specs.Store.{Rose, Proceeds};
+ghost use Rattle.lisp_store.specs.Memory.{Memory, failed_once};
+ghost use Rattle.lisp_store.specs.Failing.{Failing, failing_state, failing_load, failing_save, fails};
+ghost use Rattle.lisp_store.specs.declared.fate.Fate.{Fate};
+ghost use Rattle.lisp_store.specs.declared.fault.StoreFault.{StoreFault};
+ghost use Rattle.lisp_store.specs.declared.pair.Pair.{Pair};
+
+use crate::fate::Fate;
+use crate::fault::StoreFault;
+use crate::memory::MemoryStore;
+use crate::pair::Pair;
+use crate::store::{NonceStore, WorldStore};
+use lisp_memory::Memory;
+use std::alloc::{Allocator, Global};
+use std::marker::Model;
+
+/// A store in memory of which one load or save fails once, as `Device`; what it kept it keeps, and goes on with.
+#[derive(Debug, Drop)]
+pub struct Failing<A: Allocator = Global> {
+    memory: MemoryStore<A>,
+    turn: u64,
+}
+
+impl<A: Allocator> Model for Failing<A> {
+    ghost use Rattle.lisp_store.specs.Failing.{Failing};
+    ghost use Rattle.lisp_store.specs.Kept.{kept_code};
+    ghost use Rattle.std.specs.Coded.{codes};
+
+    ghost Value = { Failing };
+
+    ghost coded = { Prim.hlevel (codes, kept_code) };
+
+    ghost view = { λ f. record { memory = f.memory; turn = f.turn } };
+}
+
+impl<A: Allocator + Copy> Failing<A> {
+    /// A store that keeps nothing of every pair, and whose load or save number `turn`, counted from 1, fails; none where
+    /// `turn` is 0. Takes no memory.
+    pub fn new(alloc: A, turn: u64) -> Failing<A>
+        ensures { result ≡ record { memory = record { kept = empty; faults = 0; fate = Fate.Done }; turn = turn } }
+    {
+        let memory = MemoryStore::new(alloc);
+        Failing { memory, turn }
+    }
+}
+
+impl<A: Allocator> Failing<A> {
+    // Counts a load or save: `Device` where it is the one that fails.
+    fn count(&mut self) -> Result<(), StoreFault>
+        ensures fails { result ≡ (if fails self.old then Err StoreFault.Device else Ok tt) }
+        ensures turn { self.new.turn ≡ self.old.turn - 1 }
+        ensures memory { self.new.memory ≡ (if fails self.old then failed_once self.old.memory else self.old.memory) }
+        ensures rose { OnErr result (Rose (failing_state self.old) (failing_state self.new)) }
+        ensures proceeds { Proceeds (failing_state self.old) (failing_state self.new) }
+    {
+        let turn = self.turn;
+        self.turn = turn.saturating_sub(1);
+        if turn == 1 {
+            self.memory.count_fault();
+            return Err(StoreFault::Device);
+        }
+        Ok(())
+    }
+}
+
+impl<A: Memory + Copy> NonceStore for Failing<A> {
+    ghost seen = { failing_state };
+
+    ghost may_refuse = { A.may_refuse };
+
+    /// As the store in memory; `Device` where this is the call that fails.
+    fn load(&mut self, pair: &Pair) -> Result<Option<u64>, StoreFault>
+        // Exactly.
+        ensures answer { result ≡ failing_load self.old pair.now }
+        ensures turn { self.new.turn ≡ self.old.turn - 1 }
+        ensures goes_on { IsTrue (fails self.old) → self.new.memory ≡ failed_once self.old.memory }
+
+        // What every store promises.
+        ensures member { IfOk result (λ v. Contains (kept_at self.old.memory.kept pair.now) v) }
+        ensures same { self.new.memory.kept ≡ self.old.memory.kept }
+        ensures cause { IfErr result (λ f. f ≢ StoreFault.OutOfMemory → Rose (failing_state self.old) (failing_state self.new)) }
+        ensures refused { IsErrOf result StoreFault.OutOfMemory → failing_state self.new ≡ failing_state self.old }
+        ensures memory { IsErrOf result StoreFault.OutOfMemory → A.may_refuse }
+        ensures proceeds { Proceeds (failing_state self.old) (failing_state self.new) }
+    {
+        self.count()?;
+        self.memory.load(pair)
+    }
+
+    /// As the store in memory; `Device` where this is the call that fails: the nonce isn't kept then.
+    fn save(&mut self, pair: &Pair, nonce: u64) -> Result<(), StoreFault>
+        // Exactly, where there is memory for it.
+        ensures answer { result ≢ Err StoreFault.OutOfMemory → result ≡ failing_save self.old }
+        ensures turn { self.new.turn ≡ self.old.turn - 1 }
+        ensures goes_on { IsTrue (fails self.old) → self.new.memory ≡ failed_once self.old.memory }
+
+        // What every store promises.
+        ensures done { OnOk result (kept_at self.new.memory.kept pair.now ≡ Some nonce ∷ []) }
+        ensures doubt { OnErr result (InDoubt (kept_at self.old.memory.kept pair.now) (kept_at self.new.memory.kept pair.now) nonce) }
+        ensures others { SameElsewhere self.old.memory.kept self.new.memory.kept pair.now }
+        ensures sound { result ≢ Err StoreFault.Damaged }
+        ensures cause { IsErrOf result StoreFault.Device → Rose (failing_state self.old) (failing_state self.new) }
+        ensures refused { IsErrOf result StoreFault.OutOfMemory → failing_state self.new ≡ failing_state self.old }
+        ensures memory { IsErrOf result StoreFault.OutOfMemory → A.may_refuse }
+        ensures proceeds { Proceeds (failing_state self.old) (failing_state self.new) }
+    {
+        self.count()?;
+        self.memory.save(pair, nonce)
+    }
+}
+
+impl<A: Memory + Copy> WorldStore for Failing<A> {
+    /// Arms the store in memory.
+    fn arm(&mut self, fate: Fate) {
+        self.memory.arm(fate);
+    }
+
+    /// Restarts the store in memory.
+    fn restart(&mut self, pick: u64)
+        ensures narrows { (q : Pair) → Narrows (kept_at self.old.memory.kept q) (kept_at self.new.memory.kept q) }
+        ensures proceeds { Proceeds (failing_state self.old) (failing_state self.new) }
+    {
+        self.memory.restart(pick);
+    }
+}

@@ -1,0 +1,199 @@
+//! Each load and save of a play refused in turn, by a store of which one call fails: the command says so, and, given
+//! again, prints its line.
+
+use crate::playing::SCHEDULE;
+use crate::support::assert_at;
+use lisp_playing::{Command, PlayFault, play_on};
+use lisp_records::RouterId;
+use lisp_script::parse_script;
+use lisp_sites::Config;
+use lisp_store::{Failing, Liar, NonceStore, Pair, PairKind};
+use lisp_world::{World, WorldFault};
+use std::alloc::{AllocError, Global};
+use std::process::Abort;
+
+/// A registration, a repeat, both restarts, a later registration, a notice and one after a restart.
+const SCRIPT: &str = "\
+send r1 s1
+deliver 0
+deliver 1
+deliver 0
+restart s1 0
+deliver 0
+restart r1 0 10.1.0.0/16=60
+send r1 s1
+deliver 2
+notice s1 r1
+deliver 4
+deliver 5
+restart s1 0
+send r1 s1
+deliver 6
+notice s1 r1
+";
+
+/// What each command prints.
+const LINES: [&str; 16] = [
+    "sent r1 s1 key 1 nonce 1 datagram 0\n",
+    "accepted s1 r1 key 1 nonce 1 datagram 1\n",
+    "counted r1 s1 key 1 nonce 1\n",
+    "refused s1 57 saved 1\n",
+    "restarted s1\n",
+    "refused s1 57 saved 1\n",
+    "restarted r1\n",
+    "sent r1 s1 key 1 nonce 2 datagram 2\n",
+    "accepted s1 r1 key 1 nonce 2 datagram 3\n",
+    "notice s1 r1 key 1 nonce 9223372036854775808 datagram 4\n",
+    "noticed r1 s1 nonce 9223372036854775808 datagram 5\n",
+    "done s1 r1 nonce 9223372036854775808\n",
+    "restarted s1\n",
+    "sent r1 s1 key 1 nonce 3 datagram 6\n",
+    "accepted s1 r1 key 1 nonce 3 datagram 7\n",
+    "notice s1 r1 key 1 nonce 9223372036854775809 datagram 8\n",
+];
+
+/// What each node says of a load or save that failed: when it starts, sends, receives, or sends a notice.
+const REFUSED: [&str; 6] = [
+    "refused r1 35 store 30\n",
+    "refused r1 42 store 30\n",
+    "refused s1 56 store 30\n",
+    "refused s1 59 store 30\n",
+    "refused s1 65 store 30\n",
+    "refused s1 68 store 30\n",
+];
+
+/// What a nonce is kept for.
+const PAIR: Pair = Pair {
+    kind: PairKind::Sent,
+    router: RouterId {
+        site: 1,
+        xtr: [0; 16],
+    },
+    key: 1,
+};
+
+/// How often the Map-Server loads or saves here, and the router: at its start, for a Map-Register or a notice, unless the
+/// nonce before is known. A nonce that is loaded for a message that is refused stays unknown.
+const CALLS: [u64; 2] = [11, 5];
+
+/// The router's load at its first start.
+const FIRST_LOAD: (usize, u64) = (1, 1);
+
+#[test]
+fn a_command_whose_load_or_save_fails_says_so_and_prints_its_line_when_given_again(
+    rt: HostRuntime,
+) {
+    let config = config(rt.alloc()).expect(&rt, "the configuration");
+    let commands = parse_script(rt.alloc(), &config, SCRIPT).expect(&rt, "the script");
+    for (node, calls) in CALLS.iter().enumerate() {
+        for turn in 1..calls.saturating_add(2) {
+            let refused = played(&rt, rt.alloc(), &config, &commands, (node, turn));
+            let is_so = refused == Some(usize::from(turn <= *calls));
+            assert_at(&rt, node, is_so);
+        }
+    }
+}
+
+#[test]
+fn a_liar_loads_its_nonces_in_turn_and_then_nothing(rt: HostRuntime) {
+    let nonces = Vec::from_slice(rt.alloc(), &[7, 5]).expect(&rt, "the nonces");
+    let mut liar = Liar::new(nonces);
+    assert_eq!(&rt; liar.save(&PAIR, 9), Ok(()));
+    assert_eq!(&rt; liar.load(&PAIR), Ok(Some(7)));
+    assert_eq!(&rt; liar.load(&PAIR), Ok(Some(5)));
+    assert_eq!(&rt; liar.load(&PAIR), Ok(None));
+}
+
+/// The configuration of the schedule that `playing` plays.
+fn config(alloc: Global) -> Option<Config> {
+    let (configuration, _) = SCHEDULE.split_once("---\n")?;
+    Config::from_toml(alloc, alloc, configuration).ok()
+}
+
+/// How many commands are refused and given again in a play in which this load or save of this node fails, if each prints its
+/// line in the end. A router whose first load fails doesn't start: no network is made, which counts as one.
+fn played(
+    rt: &impl Abort,
+    alloc: Global,
+    config: &Config,
+    commands: &[Command],
+    call: (usize, u64),
+) -> Option<usize> {
+    match world(alloc, config, call) {
+        Ok(mut world) if call != FIRST_LOAD => {
+            plays(alloc, &mut world, config, commands).expect(rt, "a play")
+        }
+        Err(fault) if call == FIRST_LOAD && fault.number() == 76 => Some(1),
+        _ => None,
+    }
+}
+
+/// A network whose nodes have such stores: this load or save of this node fails. Out of memory is no fault of a start.
+fn world(alloc: Global, config: &Config, call: (usize, u64)) -> Result<World<Failing>, WorldFault> {
+    let stores = stores(alloc, config, call)?;
+    if stores.len() != config.servers().len() + config.routers().len() {
+        return Err(WorldFault::NoNode);
+    }
+    World::new(alloc, config, stores)
+}
+
+/// A store for each node; none of its calls fails, but for this one of this node.
+fn stores(
+    alloc: Global,
+    config: &Config,
+    (node, turn): (usize, u64),
+) -> Result<Vec<Failing>, AllocError> {
+    let mut stores = Vec::new(alloc);
+    for place in 0..config.servers().len() + config.routers().len() {
+        let turn = if place == node { turn } else { 0 };
+        stores.push(Failing::new(alloc, turn))?;
+    }
+    Ok(stores)
+}
+
+/// How many commands were refused and given again, if each prints its line then.
+fn plays(
+    alloc: Global,
+    world: &mut World<Failing>,
+    config: &Config,
+    commands: &[Command],
+) -> Result<Option<usize>, PlayFault> {
+    let mut refused: usize = 0;
+    for (command, line) in commands.chunks(1).zip(LINES) {
+        let printed = printed(alloc, world, config, command)?;
+        if printed.as_str() != line {
+            refused = refused.saturating_add(1);
+            if !is_taken_again(alloc, world, config, command, &printed, line)? {
+                return Ok(None);
+            }
+        }
+    }
+    Ok(Some(refused))
+}
+
+fn is_taken_again(
+    alloc: Global,
+    world: &mut World<Failing>,
+    config: &Config,
+    command: &[Command],
+    refused: &str,
+    line: &str,
+) -> Result<bool, PlayFault> {
+    let again = printed(alloc, world, config, command)?;
+    Ok(REFUSED.contains(&refused) && again.as_str() == line)
+}
+
+/// What a command prints.
+fn printed(
+    alloc: Global,
+    world: &mut World<Failing>,
+    config: &Config,
+    command: &[Command],
+) -> Result<String, PlayFault> {
+    let mut printed = Vec::new(alloc);
+    play_on(alloc, world, config, command, &mut printed)?;
+    match String::from_utf8(printed) {
+        Ok(text) => Ok(text),
+        Err(_) => Err(PlayFault::NotUtf8),
+    }
+}
