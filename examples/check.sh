@@ -2,8 +2,8 @@
 # check.sh [PROGRAM]
 # Runs the program (out/lispd, where none is named) over the cases of answers.txt, the schedules, the lines of
 # refused.txt, files that can't be read or written, bytes that were changed (changed.py), beside a plain list of rows
-# (rows.py), with calls that fail (failing.py), over schedules that are drawn (fuzz.py), and on sockets and files (running.py). Prints each run that differs from what is
-# wanted, and ends with 1 where one does.
+# (rows.py), with calls that fail (failing.py), over schedules that are drawn (fuzz.py), and on sockets and files
+# (running.py). Prints each run that differs from what is wanted, and ends with 1 where one does.
 case ${1-} in
     '') program=../out/lispd ;;
     /*) program=$1 ;;

@@ -110,9 +110,10 @@ def refuse_answer(folder):
     given = (HERE / "map-register.hex").read_bytes()
     allowed = [[0, (HERE / "map-notify.hex").read_text(), ""], [0, "refused 58\n", ""], [0, "refused 59 store 32\n", ""],
                [1, "", "lispd: fault 97\n"]]
-    for at, ended in each(folder, "growth", [], given):
-        if ended not in allowed:
-            wrong("lispd", "growth", at, ended)
+    for words in ([], ["answer", "--secret", "736563726574"]):
+        for at, ended in each(folder, "growth", words, given):
+            if ended not in allowed:
+                wrong(f"lispd {' '.join(words)}", "growth", at, ended)
 
 
 def refuse_text(folder, words):
