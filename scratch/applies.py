@@ -1,13 +1,17 @@
 import glob,os,sys
-bad=0
-for e in sorted(glob.glob("crates/*/must-fail/*.edit")+glob.glob("mutants/*/*.edit")):
-    name=e.split("/")[1]; f=None; texts={}
-    for line in open(e,encoding="utf-8"):
-        line=line.rstrip("\n")
-        if line.startswith("file: "): f=line[6:]; texts.setdefault(f,open(f"crates/{name}/{f}",encoding="utf-8").read()) if os.path.exists(f"crates/{name}/{f}") else texts.setdefault(f,None)
-        elif line.startswith("old: "):
-            old=line[5:]
-            if texts[f] is None or texts[f].count(old)!=1: print(e,f,"count",None if texts[f] is None else texts[f].count(old)); bad+=1; old=None
-        elif line.startswith("new:") and old is not None:
-            texts[f]=texts[f].replace(old,line[5:] if line.startswith("new: ") else "")
-print(bad, len(glob.glob("crates/*/must-fail/*.edit")), len(glob.glob("mutants/*/*.edit")))
+root=sys.argv[1]; bad=0; n=0
+for e in glob.glob(root+'/mutants/*/*.edit')+glob.glob(root+'/crates/*/must-fail/*.edit'):
+    n+=1
+    c=e.split('/')[-2] if '/mutants/' in e else e.split('/')[-3]
+    t={}; f=None
+    for l in open(e,encoding='utf-8'):
+        l=l.rstrip('\n')
+        if l.startswith('file: '):
+            f=l[6:]; p=f'{root}/crates/{c}/{f}'
+            if not os.path.exists(p): print('no file',e,f); bad+=1; break
+            t.setdefault(f,open(p,encoding='utf-8').read())
+        elif l.startswith('old: '):
+            old=l[5:]
+            if t[f].count(old)!=1: print(e.replace(root,''),t[f].count(old)); bad+=1; break
+        elif l.startswith('new:'): t[f]=t[f].replace(old,l[5:])
+print(n,bad)
