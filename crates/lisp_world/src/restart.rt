@@ -1,9 +1,9 @@
 //! A node stops and starts again.
 
-ghost use Rattle.std.specs.Prelude.{◌≡◌, ◌≤◌, ◌<◌, IfOk, OnOk, OnErr, IsErrOf, length};
+ghost use Rattle.std.specs.Prelude.{◌≡◌, ◌≤◌, ◌<◌, None, true, IfOk, OnOk, OnErr, IsErrOf, length};
 ghost use Rattle.lisp_schedules.specs.Memory.{MayTell};
 ghost use Rattle.lisp_schedules.specs.Legal.{Fits};
-ghost use Rattle.lisp_world.specs.Faults.{Faults, restart_fault};
+ghost use Rattle.lisp_world.specs.Faults.{Faults, is_server, refusal_of, restart_fault};
 ghost use Rattle.lisp_turns.specs.Turns.{RestartsServer, RestartsAt, RestartsNode};
 
 use crate::fault::WorldFault;
@@ -13,7 +13,7 @@ use lisp_nodes::Start;
 use lisp_records::Database;
 use lisp_schedules::{Line, Refusal};
 use lisp_store::WorldStore;
-use std::alloc::Allocator;
+use std::alloc::{AllocError, Allocator};
 
 impl<S: WorldStore, A: Memory + Copy> World<S, A> {
     // A node stops, its store crashes, and it starts again, a router with another database where one is given.
@@ -30,18 +30,28 @@ impl<S: WorldStore, A: Memory + Copy> World<S, A> {
         ensures memory { IsErrOf result WorldFault.OutOfMemory → A.may_refuse }
         ensures tells { IfOk result (MayTell A.may_refuse S.may_refuse) }
     {
-        self.check_node(node)?;
+        self.check_restart(node, db)?;
         if self.is_server(node) {
-            return match db {
-                None => Ok(self.restart_server(node, pick)),
-                Some(_) => Err(WorldFault::WrongKind),
-            };
+            return Ok(self.restart_server(node, pick));
         }
-        let db = match db {
-            None => None,
-            Some(db) => Some(db.copy(self.alloc)?),
-        };
+        let db = copied(self.alloc, db)?;
         Ok(self.restart_router(node, pick, db))
+    }
+
+    // Refuses the number of no node, and a database for a Map-Server.
+    fn check_restart<E: Allocator>(
+        &self,
+        node: usize,
+        db: &Option<Database<E>>,
+    ) -> Result<(), WorldFault>
+        ensures fault { refusal_of result ≡ restart_fault self.now node db.now }
+        ensures none { OnOk result (is_server self.now node ≡ true → db.now ≡ None) }
+    {
+        self.check_node(node)?;
+        if self.is_server(node) && db.is_some() {
+            return Err(WorldFault::WrongKind);
+        }
+        Ok(())
     }
 
     fn restart_server(&mut self, node: usize, pick: u64) -> Line
@@ -71,5 +81,20 @@ impl<S: WorldStore, A: Memory + Copy> World<S, A> {
                 what: Refusal::Start(fault),
             },
         }
+    }
+}
+
+// A database in other memory, where there is one.
+fn copied<A: Memory + Copy, E: Allocator>(
+    alloc: A,
+    db: &Option<Database<E>>,
+) -> Result<Option<Database<A>>, AllocError>
+    ensures equal { IfOk result (λ copy. copy ≡ db.now) }
+    ensures fits { OnOk result (Fits db.now) }
+    ensures memory { OnErr result A.may_refuse }
+{
+    match db {
+        None => Ok(None),
+        Some(db) => Ok(Some(db.copy(alloc)?)),
     }
 }

@@ -1,4 +1,4 @@
-use Rattle.std.proofs.Common.{◌≡◌, List, Some, get_or, sym, ap, subst, ◌∙◌}
+use Rattle.std.proofs.Common.{◌≡◌, List, Some, get_or, sym, ap, subst, ◌∙◌, length, arith}
 use Rattle.std.specs.Prelude.{slice_get}
 use Rattle.std.proofs.lemmas.Option.{slice_get-get_or}
 use Rattle.std.proofs.lemmas.Result.{IfOk-weaker}
@@ -21,3 +21,6 @@ returns-clause-router g c =
     let there : slice_get c.args.config.now.routers c.args.place ≡ Some c.index-routers-place.result =
     slice_get-get_or c.args.config.now.routers c.args.place c.index-routers-place.result c.requires.place ∙ ap Some (sym entry) in
     IfOk-weaker c.down.result _ _ (λ n is. (c.index-routers-place.result, there, is)) c.down.ensures.router
+
+pub bounds-routers-place : goal.bounds-routers-place
+bounds-routers-place g c = (let long = ap length c.routers.ensures.routers in omega (arith, c.requires.place, long))

@@ -1,4 +1,5 @@
-use Rattle.std.proofs.Common.{◌∙◌, [], append-nil, sym}
+use Rattle.std.proofs.Common.{◌∙◌, [], append-nil, sym, arith}
+use Rattle.std.proofs.lemmas.List.{length-set}
 use Rattle.lisp_nodes.proofs.RouterCalls.{acted, same_bag, line_up, line_down}
 use Rattle.lisp_world.proofs.world.World.change.Goals as goal
 use Rattle.lisp_world.proofs.world.World.change.Goals.{then-change, else-change}
@@ -16,3 +17,13 @@ returns-clause-changes g c =
         | else-change w ↦ rw w.line-is (line_down c.args.router c.args.db.now c.index_mut.result.now.core (sym c.change.ensures.1 ∙ w.if-change.false))
       ];
     })
+
+pub index_mut-requires : goal.index_mut-requires
+index_mut-requires g c =
+    let there = rw (← c.self.view_is) at c.in_ok-place.ensures.place in
+    omega (arith, there.1, c.self.inside.routers.ok.0)
+
+-- as many routers as before
+pub invariant_of-self : goal.invariant_of-self
+invariant_of-self g c =
+    (c.self.invariant.0, omega (arith, length-set c.self.inside.routers.items c.in_ok-place.place c.change.new.self, c.self.invariant.1))

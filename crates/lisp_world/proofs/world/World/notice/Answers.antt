@@ -1,4 +1,4 @@
-use Rattle.std.proofs.Common.{ℕ, List, refl, sym, ap, ◌∙◌, [], ◌∷◌, ◌++◌, Ok, Err}
+use Rattle.std.proofs.Common.{ℕ, List, refl, sym, ap, ◌∙◌, [], ◌∷◌, ◌++◌, Ok, Err, arith}
 use Rattle.std.proofs.lemmas.List.{append-nil, length-set}
 use Rattle.std.proofs.lemmas.Option.{slice_get_read}
 use Rattle.lisp_records.specs.declared.address.Addr.{Addr}
@@ -56,3 +56,21 @@ returns-in-Err-clause-notices g c =
       notifies = rw (← c.me-me.ensures) c.in-Err.ensures.notifies;
       says = (refl, refl);
     })
+
+pub address-from-requires : goal.address-from-requires
+address-from-requires g c =
+    let server = rw (← c.self.view_is) at c.in_ok-place.ensures.server in
+    omega (arith, server, c.self.invariant.1)
+
+pub index-requires : goal.index-requires
+index-requires g c =
+    let router = rw (← c.self.view_is) at c.in_ok-place.ensures.place in
+    omega (arith, router.1, c.self.inside.routers.ok.0)
+
+pub index_mut-requires : goal.index_mut-requires
+index_mut-requires g c =
+    let server = rw (← c.self.view_is) at c.in_ok-place.ensures.server in
+    omega (arith, server, c.self.inside.servers.ok.0)
+
+pub invariant_of-self-in-Ok : goal.invariant_of-self-in-Ok
+invariant_of-self-in-Ok g c = (c.self.invariant.0, omega (arith, length-set c.self.inside.servers.items c.args.server c.notify.new.self, c.self.invariant.1))

@@ -53,3 +53,21 @@ returns-in-Err-clause-resends g c =
 -- as many Map-Servers as before
 pub invariant_of-self-in-Err : goal.invariant_of-self-in-Err
 invariant_of-self-in-Err g c = (c.self.invariant.0, omega (arith, length-set c.self.inside.servers.items c.args.server c.resend.new.self, c.self.invariant.1))
+
+pub address-from-requires : goal.address-from-requires
+address-from-requires g c =
+    let server = rw (← c.self.view_is) at c.in_ok-place.ensures.server in
+    omega (arith, server, c.self.invariant.1)
+
+pub index-requires : goal.index-requires
+index-requires g c =
+    let router = rw (← c.self.view_is) at c.in_ok-place.ensures.place in
+    omega (arith, router.1, c.self.inside.routers.ok.0)
+
+pub index_mut-requires : goal.index_mut-requires
+index_mut-requires g c =
+    let server = rw (← c.self.view_is) at c.in_ok-place.ensures.server in
+    omega (arith, server, c.self.inside.servers.ok.0)
+
+pub invariant_of-self-in-Ok : goal.invariant_of-self-in-Ok
+invariant_of-self-in-Ok g c = (c.self.invariant.0, omega (arith, length-set c.self.inside.servers.items c.args.server c.resend.new.self, c.self.invariant.1))

@@ -1,4 +1,5 @@
 use Rattle.std.proofs.Common.{ap, ◌∙◌, sym, arith, ◌-◌, ◌+◌, ◌<◌, ◌≡◌, ℕ, length}
+use Rattle.std.proofs.lemmas.List.{length-set}
 use Rattle.lisp_turns.specs.Turns.{start_line}
 use Rattle.lisp_nodes.proofs.RouterCalls.{router_changed}
 use Rattle.lisp_world.proofs.world.World.restart_router.Goals as goal
@@ -25,3 +26,18 @@ returns-clause-restarts g c =
         | in-Err w ↦ w.result-is ∙ ap (start_line c.args.node) (sym w.in-Err.is)
       ];
     })
+
+pub overflow_sub-place : goal.overflow_sub-place
+overflow_sub-place g c =
+    let router = rw (← c.self.view_is) at c.requires in
+    omega (arith, router.0, c.len.ensures, c.self.inside.servers.ok.0)
+
+pub index_mut-requires : goal.index_mut-requires
+index_mut-requires g c =
+    let router = rw (← c.self.view_is) at c.requires in
+    omega (arith, router.0, router.1, c.len.ensures, c.self.inside.servers.ok.0, c.self.inside.routers.ok.0, c.self.invariant.1)
+
+-- as many routers as before
+pub invariant_of-self : goal.invariant_of-self
+invariant_of-self g c =
+    (c.self.invariant.0, omega (arith, length-set c.self.inside.routers.items (c.args.node - c.len.result) c.restart.new.self, c.self.invariant.1))

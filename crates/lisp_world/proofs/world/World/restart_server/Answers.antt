@@ -1,5 +1,5 @@
-use Rattle.std.proofs.Common.{refl, sym, []}
-use Rattle.std.proofs.lemmas.List.{append-nil}
+use Rattle.std.proofs.Common.{refl, sym, [], arith}
+use Rattle.std.proofs.lemmas.List.{append-nil, length-set}
 use Rattle.lisp_nodes.proofs.ServerCalls.{server_acted}
 use Rattle.lisp_world.proofs.world.World.restart_server.Goals as goal
 
@@ -14,3 +14,12 @@ returns g c =
       crashes = c.restart.ensures.crashes;
       said = refl;
     })
+
+pub index_mut-requires : goal.index_mut-requires
+index_mut-requires g c =
+    let server = rw (← c.self.view_is) at c.requires in
+    omega (arith, server, c.self.inside.servers.ok.0)
+
+-- as many Map-Servers as before
+pub invariant_of-self : goal.invariant_of-self
+invariant_of-self g c = (c.self.invariant.0, omega (arith, length-set c.self.inside.servers.items c.args.node c.restart.new.self, c.self.invariant.1))

@@ -1,4 +1,4 @@
-use Rattle.std.proofs.Common.{◌∙◌, ◌++◌, ◌∷◌, [], List, append-nil, ap, sym, refl}
+use Rattle.std.proofs.Common.{◌∙◌, ◌++◌, ◌∷◌, [], List, append-nil, ap, sym, refl, arith}
 use Rattle.std.proofs.lemmas.List.{length-set}
 use Rattle.lisp_schedules.specs.declared.line.Line.TheVariants as lines
 use Rattle.lisp_turns.specs.World.{Posted}
@@ -56,3 +56,26 @@ returns-in-Err-clause-sends g c =
           (same_bag _ _ (c.make_room.ensures.items ∙ sym (append-nil c.self.inside.bag.items)));
       sends = sends_up _ c.args.router c.args.server c.args.fate _ _ c.in-Some.answer _ [] c.in-Some.ensures.up (rw c.in-Err.is (refl, refl));
     })
+
+pub address-from-requires : goal.address-from-requires
+address-from-requires g c =
+    let router = rw (← c.self.view_is) at c.in_ok-place.ensures.place in
+    omega (arith, router.0, router.1, c.self.invariant.1)
+
+pub address-to-requires : goal.address-to-requires
+address-to-requires g c =
+    let server = rw (← c.self.view_is) at c.in_ok-place.ensures.server in
+    omega (arith, server, c.self.invariant.1)
+
+pub index_mut-requires : goal.index_mut-requires
+index_mut-requires g c =
+    let router = rw (← c.self.view_is) at c.in_ok-place.ensures.place in
+    omega (arith, router.1, c.self.inside.routers.ok.0)
+
+pub invariant_of-self-in_default : goal.invariant_of-self-in_default
+invariant_of-self-in_default g c =
+    (c.self.invariant.0, omega (arith, length-set c.self.inside.routers.items c.in_ok-place.place c.send.new.self, c.self.invariant.1))
+
+pub invariant_of-self-in-Ok : goal.invariant_of-self-in-Ok
+invariant_of-self-in-Ok g c =
+    (c.self.invariant.0, omega (arith, length-set c.self.inside.routers.items c.in_ok-place.place c.send.new.self, c.self.invariant.1))
