@@ -6,3 +6,4 @@ pub mod Running
 pub mod MakingChecks
 pub mod MakingNodes
 pub mod Making
+mod Refused

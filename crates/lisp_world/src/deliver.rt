@@ -1,6 +1,6 @@
 //! A datagram that was sent arrives.
 
-ghost use Rattle.std.specs.Prelude.{◌≡◌, IfOk, OnErr, IsErrOf};
+ghost use Rattle.std.specs.Prelude.{◌≡◌, ◌≢◌, IfOk, OnErr, IsErrOf, IfErr};
 ghost use Rattle.lisp_schedules.specs.Memory.{MayTell};
 ghost use Rattle.lisp_world.specs.Faults.{Faults, datagram_fault, refusal_of};
 ghost use Rattle.lisp_turns.specs.Turns.{Delivers};
@@ -43,7 +43,8 @@ impl<S: WorldStore, A: Memory + Copy> World<S, A> {
 
     // Refuses the number of no datagram.
     fn check_datagram(&self, k: usize) -> Result<(), WorldFault>
-        ensures { refusal_of result ≡ datagram_fault self.now k }
+        ensures fault { refusal_of result ≡ datagram_fault self.now k }
+        ensures plain { IfErr result (λ fault. fault ≢ WorldFault.OutOfMemory) }
     {
         if self.bag.len() <= k {
             return Err(WorldFault::NoDatagram);

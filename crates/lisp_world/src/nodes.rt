@@ -1,6 +1,6 @@
 //! The nodes of a network by their numbers and addresses.
 
-ghost use Rattle.std.specs.Prelude.{◌≡◌, ◌+◌, ◌<◌, IfOk, length, slice_index_or};
+ghost use Rattle.std.specs.Prelude.{◌≡◌, ◌≢◌, ◌+◌, ◌<◌, IfOk, length, slice_index_or, IfErr};
 ghost use Rattle.lisp_world.specs.Faults.{is_missing, is_server, node_fault, router_fault, pair_fault, refusal_of};
 ghost use Rattle.lisp_turns.specs.Turns.{address_of, node_with};
 
@@ -41,7 +41,8 @@ impl<S: WorldStore, A: Allocator> World<S, A> {
 
     // Refuses the number of no node.
     pub(crate) fn check_node(&self, node: usize) -> Result<(), WorldFault>
-        ensures { refusal_of result ≡ node_fault self.now node }
+        ensures fault { refusal_of result ≡ node_fault self.now node }
+        ensures plain { IfErr result (λ fault. fault ≢ WorldFault.OutOfMemory) }
     {
         if self.is_missing(node) {
             return Err(WorldFault::NoNode);
@@ -53,6 +54,7 @@ impl<S: WorldStore, A: Allocator> World<S, A> {
     pub(crate) fn router_place(&self, router: usize) -> Result<usize, WorldFault>
         ensures place { IfOk result (λ place. (router ≡ length self.now.servers + place) × (place < length self.now.routers)) }
         ensures fault { refusal_of result ≡ router_fault self.now router }
+        ensures plain { IfErr result (λ fault. fault ≢ WorldFault.OutOfMemory) }
     {
         self.check_node(router)?;
         if self.is_server(router) {
@@ -66,6 +68,7 @@ impl<S: WorldStore, A: Allocator> World<S, A> {
         ensures place { IfOk result (λ place. (router ≡ length self.now.servers + place) × (place < length self.now.routers)) }
         ensures server { IfOk result (λ place. server < length self.now.servers) }
         ensures fault { refusal_of result ≡ pair_fault self.now router server }
+        ensures plain { IfErr result (λ fault. fault ≢ WorldFault.OutOfMemory) }
     {
         if self.is_missing(router) || self.is_missing(server) {
             return Err(WorldFault::NoNode);

@@ -1,6 +1,6 @@
 //! A node stops and starts again.
 
-ghost use Rattle.std.specs.Prelude.{◌≡◌, ◌≤◌, ◌<◌, None, true, IfOk, OnOk, OnErr, IsErrOf, length};
+ghost use Rattle.std.specs.Prelude.{◌≡◌, ◌≢◌, ◌≤◌, ◌<◌, None, true, IfOk, OnOk, OnErr, IsErrOf, length, IfErr};
 ghost use Rattle.lisp_schedules.specs.Memory.{MayTell};
 ghost use Rattle.lisp_schedules.specs.Legal.{Fits};
 ghost use Rattle.lisp_world.specs.Faults.{Faults, is_server, refusal_of, restart_fault};
@@ -45,6 +45,7 @@ impl<S: WorldStore, A: Memory + Copy> World<S, A> {
         db: &Option<Database<E>>,
     ) -> Result<(), WorldFault>
         ensures fault { refusal_of result ≡ restart_fault self.now node db.now }
+        ensures plain { IfErr result (λ fault. fault ≢ WorldFault.OutOfMemory) }
         ensures none { OnOk result (is_server self.now node ≡ true → db.now ≡ None) }
     {
         self.check_node(node)?;

@@ -1,6 +1,8 @@
-use Rattle.std.proofs.Common.{◌∙◌, [], append-nil, sym, arith}
+use Rattle.std.proofs.Common.{◌∙◌, [], append-nil, sym, arith, refl}
 use Rattle.std.proofs.lemmas.List.{length-set}
 use Rattle.lisp_nodes.proofs.RouterCalls.{acted, same_bag, line_up, line_down}
+use Rattle.lisp_nodes.proofs.NodeCalls.{err_is}
+use Rattle.lisp_world.proofs.Refused.{refused_so, never}
 use Rattle.lisp_world.proofs.world.World.change.Goals as goal
 use Rattle.lisp_world.proofs.world.World.change.Goals.{then-change, else-change}
 
@@ -27,3 +29,15 @@ index_mut-requires g c =
 pub invariant_of-self : goal.invariant_of-self
 invariant_of-self g c =
     (c.self.invariant.0, omega (arith, length-set c.self.inside.routers.items c.in_ok-place.place c.change.new.self, c.self.invariant.1))
+
+pub returns-in_err-place-clause-changes : goal.returns-in_err-place-clause-changes
+returns-in_err-place-clause-changes g c = rw (err_is c.from_residual.result c.in_err-place.field-0.0 c.from_residual.ensures.1) tt
+
+pub returns-in_err-place-clause-fault : goal.returns-in_err-place-clause-fault
+returns-in_err-place-clause-fault g c = rw (err_is c.from_residual.result c.in_err-place.field-0.0 c.from_residual.ensures.1) (refused_so _ _ _ c.in_err-place.ensures.fault)
+
+pub returns-in_err-place-clause-err : goal.returns-in_err-place-clause-err
+returns-in_err-place-clause-err g c = rw (err_is c.from_residual.result c.in_err-place.field-0.0 c.from_residual.ensures.1) refl
+
+pub returns-in_err-place-clause-memory : goal.returns-in_err-place-clause-memory
+returns-in_err-place-clause-memory g c = rw (err_is c.from_residual.result c.in_err-place.field-0.0 c.from_residual.ensures.1) (never _ _ _ _ c.in_err-place.ensures.plain)

@@ -4,16 +4,18 @@ use Rattle.std.proofs.lemmas.Option.{slice_get-get_or}
 use Rattle.lisp_turns.specs.World.{Posted, WorldState}
 use Rattle.lisp_turns.specs.Turns.{node_with, posted}
 use Rattle.lisp_world.proofs.Arrivals.{addressed_there, arrived, datagram_there, delivered, read_again}
+use Rattle.lisp_nodes.proofs.NodeCalls.{err_is}
+use Rattle.lisp_world.proofs.Refused.{refused_so, never}
 use Rattle.lisp_world.proofs.world.World.deliver.Goals as goal
 
 pub index-datagram-requires : goal.index-datagram-requires
 index-datagram-requires g c =
-    let within : c.args.k < length c.self.inside.bag.items = datagram_there _ _ c.self.view_is c.args.k c.in_ok-check_datagram.ensures in
+    let within : c.args.k < length c.self.inside.bag.items = datagram_there _ _ c.self.view_is c.args.k c.in_ok-check_datagram.ensures.fault in
     omega (arith, within, c.self.inside.bag.ok.0)
 
 pub returns-in_default-clause-delivers : goal.returns-in_default-clause-delivers
 returns-in_default-clause-delivers g c =
-    let within : c.args.k < length c.self.inside.bag.items = datagram_there _ _ c.self.view_is c.args.k c.in_ok-check_datagram.ensures in
+    let within : c.args.k < length c.self.inside.bag.items = datagram_there _ _ c.self.view_is c.args.k c.in_ok-check_datagram.ensures.fault in
     rw (← c.self.view_is)
     (delivered (record { from = c.datagram.inside.from; to = c.datagram.inside.to; bytes = c.datagram.inside.bytes }) None
     (slice_get-get_or _ _ c.index-datagram.result.now within ∙ ap Some (sym c.index-datagram.ensures ∙ sym c.datagram.view_is))
@@ -25,7 +27,7 @@ address-address-requires g c = addressed_there _ _ c.self.view_is c.datagram.ins
 
 pub index-requires : goal.index-requires
 index-requires g c =
-    let within : c.args.k < length c.self.inside.bag.items = datagram_there _ _ c.self.view_is c.args.k c.in_ok-check_datagram.ensures in
+    let within : c.args.k < length c.self.inside.bag.items = datagram_there _ _ c.self.view_is c.args.k c.in_ok-check_datagram.ensures.fault in
     omega (arith, within, c.make_room.ensures.len, c.self.inside.bag.ok.0)
 
 pub hear-line-requires : goal.hear-line-requires
@@ -49,7 +51,7 @@ returns-clause-delivers g c =
     let to = c.datagram.inside.to in
     let bytes = c.as_slice-bytes.result.now in
     let first = c.index-datagram.result.now in
-    let within : c.args.k < length c.self.inside.bag.items = datagram_there _ _ c.self.view_is c.args.k c.in_ok-check_datagram.ensures in
+    let within : c.args.k < length c.self.inside.bag.items = datagram_there _ _ c.self.view_is c.args.k c.in_ok-check_datagram.ensures.fault in
     let count : length inside.bag.items ≡ c.len.result = omega (arith, c.len.ensures, c.make_room.ensures.len, inside.bag.ok.0) in
     let servers = ap length c.deref_mut.ensures.value in
     let routers = ap length c.deref_mut-2.ensures.value in
@@ -65,3 +67,18 @@ returns-clause-delivers g c =
     (arrived _ _ c.in-Some.node c.args.fate from bytes _ c.hear-line.result.1 _ _ _ _ _ all_servers all_routers
     (c.post_reply.ensures ∙ (λ i. c.make_room.ensures.items i ++ posted (c.address-address.ensures i) from c.hear-line.result.1))
     (c.hear-line.ensures.hears _ (sym c.deref_mut.ensures.value) (sym c.deref_mut-2.ensures.value) refl count)))
+
+pub returns-in_err-check_datagram-clause-delivers : goal.returns-in_err-check_datagram-clause-delivers
+returns-in_err-check_datagram-clause-delivers g c = rw (err_is c.from_residual.result c.in_err-check_datagram.field-0.0 c.from_residual.ensures.1) tt
+
+pub returns-in_err-check_datagram-clause-fault : goal.returns-in_err-check_datagram-clause-fault
+returns-in_err-check_datagram-clause-fault g c = rw (err_is c.from_residual.result c.in_err-check_datagram.field-0.0 c.from_residual.ensures.1) (refused_so _ _ _ c.in_err-check_datagram.ensures.fault)
+
+pub returns-in_err-check_datagram-clause-err : goal.returns-in_err-check_datagram-clause-err
+returns-in_err-check_datagram-clause-err g c = rw (err_is c.from_residual.result c.in_err-check_datagram.field-0.0 c.from_residual.ensures.1) refl
+
+pub returns-in_err-check_datagram-clause-memory : goal.returns-in_err-check_datagram-clause-memory
+returns-in_err-check_datagram-clause-memory g c = rw (err_is c.from_residual.result c.in_err-check_datagram.field-0.0 c.from_residual.ensures.1) (never _ _ _ _ c.in_err-check_datagram.ensures.plain)
+
+pub returns-in_err-check_datagram-clause-tells : goal.returns-in_err-check_datagram-clause-tells
+returns-in_err-check_datagram-clause-tells g c = rw (err_is c.from_residual.result c.in_err-check_datagram.field-0.0 c.from_residual.ensures.1) tt

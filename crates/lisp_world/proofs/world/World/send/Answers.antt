@@ -3,6 +3,8 @@ use Rattle.std.proofs.lemmas.List.{length-set}
 use Rattle.lisp_schedules.specs.declared.line.Line.TheVariants as lines
 use Rattle.lisp_turns.specs.World.{Posted}
 use Rattle.lisp_nodes.proofs.RouterCalls.{acted, same_bag, sent_head, sends_up, sends_down}
+use Rattle.lisp_nodes.proofs.NodeCalls.{err_is}
+use Rattle.lisp_world.proofs.Refused.{refused_so, never}
 use Rattle.lisp_world.proofs.world.World.send.Goals as goal
 
 pub returns-in_default-clause-sends : goal.returns-in_default-clause-sends
@@ -79,3 +81,18 @@ invariant_of-self-in_default g c =
 pub invariant_of-self-in-Ok : goal.invariant_of-self-in-Ok
 invariant_of-self-in-Ok g c =
     (c.self.invariant.0, omega (arith, length-set c.self.inside.routers.items c.in_ok-place.place c.send.new.self, c.self.invariant.1))
+
+pub returns-in_err-place-clause-sends : goal.returns-in_err-place-clause-sends
+returns-in_err-place-clause-sends g c = rw (err_is c.from_residual.result c.in_err-place.field-0.0 c.from_residual.ensures.1) tt
+
+pub returns-in_err-place-clause-fault : goal.returns-in_err-place-clause-fault
+returns-in_err-place-clause-fault g c = rw (err_is c.from_residual.result c.in_err-place.field-0.0 c.from_residual.ensures.1) (refused_so _ _ _ c.in_err-place.ensures.fault)
+
+pub returns-in_err-place-clause-err : goal.returns-in_err-place-clause-err
+returns-in_err-place-clause-err g c = rw (err_is c.from_residual.result c.in_err-place.field-0.0 c.from_residual.ensures.1) refl
+
+pub returns-in_err-place-clause-memory : goal.returns-in_err-place-clause-memory
+returns-in_err-place-clause-memory g c = rw (err_is c.from_residual.result c.in_err-place.field-0.0 c.from_residual.ensures.1) (never _ _ _ _ c.in_err-place.ensures.plain)
+
+pub returns-in_err-place-clause-tells : goal.returns-in_err-place-clause-tells
+returns-in_err-place-clause-tells g c = rw (err_is c.from_residual.result c.in_err-place.field-0.0 c.from_residual.ensures.1) tt
