@@ -4,6 +4,7 @@ pub mod Fields
 pub mod Forms
 pub mod Names
 pub mod NodeLaws
+pub mod Placed
 pub mod Readings
 pub mod RouterParts
 pub mod SiteFound

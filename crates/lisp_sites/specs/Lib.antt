@@ -1,4 +1,5 @@
 pub mod Form
 pub mod Configuration
 pub mod Field
+pub mod Names
 pub mod Table

@@ -6,6 +6,7 @@ mod config;
 mod fault;
 mod field;
 mod name;
+mod nodes;
 mod place;
 mod places;
 mod router;
