@@ -5,6 +5,7 @@
 mod config;
 mod fault;
 mod field;
+mod keyed;
 mod name;
 mod nodes;
 mod place;

@@ -3,16 +3,17 @@
 ghost use Rattle.std.specs.Prelude.{◌≡◌, []};
 ghost use Rattle.toml.specs.View.{view, items_view};
 ghost use Rattle.lisp_records.specs.Result.{Reads};
+ghost use Rattle.lisp_served.specs.Site.{has_key};
 ghost use Rattle.lisp_sites.specs.Table.{Gives, each, fresh_router_name, router_node, router_site, router_key, router_identity, place_of, place_at, places_of, router_flags, router_nonce_block, record_at, as_database, database_at, router_at, routers_of};
 
 use crate::fault::ConfigFault;
 use crate::field::Field;
+use crate::keyed::Keyed;
 use crate::name::Name;
 use crate::nodes::{Named, Nodes};
 use crate::place::Place;
 use crate::places::Places;
 use crate::server::ServerEntry;
-use crate::site_entries::has_key;
 use crate::value::{
     address, array, byte, check_table, flag, name, nonce_block, site_id, tables, xtr,
 };
@@ -195,10 +196,17 @@ fn read_key<A: Allocator>(entry: &Value, site: &Site<A>) -> Result<u8, ConfigFau
     ensures { result ≡ router_key site.now (view entry.now) }
 {
     let id = byte(entry, "key", Field::RouterKey)?;
-    if !has_key(site.keys(), id) {
+    if !has_key(site, id) {
         return Err(ConfigFault::BadValue(Field::RouterKey));
     }
     Ok(id)
+}
+
+// Whether the site has a key with the Key ID.
+fn has_key<A: Allocator>(site: &Site<A>, id: u8) -> bool
+    ensures { result ≡ has_key site.now.keys id }
+{
+    site.key(id).is_some()
 }
 
 // The places of the Map-Servers that the router names.
@@ -222,25 +230,25 @@ fn each_place<A: Allocator + Copy>(
 ) -> Result<Vec<usize, A>, ConfigFault>
     ensures { Gives (λ places. places.items) result (each (place_at servers.now) [] (items_view names.now)) }
 {
-    let mut places = Vec::new(alloc);
+    let mut places = Keyed::new(alloc);
     for name in names {
         place.enter_part(Field::RouterServers, places.len());
         let server = fresh_place(name, servers, &places)?;
         places.push(server)?;
     }
     place.leave_part();
-    Ok(places)
+    Ok(places.into_vec())
 }
 
 fn fresh_place<A: Allocator>(
     name: &Value,
     servers: &Nodes<ServerEntry<A>, A>,
-    before: &[usize],
+    before: &Keyed<usize, A>,
 ) -> Result<usize, ConfigFault>
     ensures { result ≡ place_at servers.now before.now (view name.now) }
 {
     let place = place(name, servers)?;
-    if before.contains(&place) {
+    if before.has(&place) {
         return Err(ConfigFault::Repeated(Field::RouterServers));
     }
     Ok(place)

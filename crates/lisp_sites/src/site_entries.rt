@@ -3,10 +3,11 @@
 ghost use Rattle.std.specs.Prelude.{◌≡◌, [], is_some};
 ghost use Rattle.toml.specs.View.{view, items_view};
 ghost use Rattle.lisp_served.specs.Site.{has_key};
-ghost use Rattle.lisp_sites.specs.Table.{Gives, each, fresh_key_id, key_at, keys_of, has_eid, fresh_eid, prefix_at, prefixes_of, has_site, fresh_site_id, site_at, sites_of};
+ghost use Rattle.lisp_sites.specs.Table.{Gives, each, fresh_key_id, key_at, keys_of, fresh_eid, prefix_at, prefixes_of, has_site, fresh_site_id, site_at, sites_of};
 
 use crate::fault::ConfigFault;
 use crate::field::Field;
+use crate::keyed::{HasKey, Keyed};
 use crate::place::Place;
 use crate::value::{byte, check_table, flag, prefix, secret, site_id, tables};
 use lisp_memory::Memory;
@@ -128,11 +129,21 @@ fn fresh_key_id(entry: &Value, before: &[SiteKey]) -> Result<u8, ConfigFault>
     Ok(id)
 }
 
-/// Whether one of the keys has the Key ID.
-pub(crate) fn has_key(keys: &[SiteKey], id: u8) -> bool
+// Whether one of the keys has the Key ID.
+fn has_key(keys: &[SiteKey], id: u8) -> bool
     ensures { result ≡ has_key keys.now id }
 {
     keys.iter().any(|key| key.id == id)
+}
+
+impl HasKey for SitePrefix {
+    type Key = Prefix;
+
+    ghost key = { λ p. p.eid };
+
+    fn key(&self) -> Prefix {
+        self.eid
+    }
 }
 
 // The prefixes of a site.
@@ -153,18 +164,21 @@ fn each_prefix<A: Allocator + Copy>(
 ) -> Result<Vec<SitePrefix, A>, ConfigFault>
     ensures { Gives (λ prefixes. prefixes.items) result (each prefix_at [] (items_view entries.now)) }
 {
-    let mut prefixes = Vec::new(alloc);
+    let mut prefixes = Keyed::new(alloc);
     for entry in entries {
         place.enter_part(Field::SitePrefix, prefixes.len());
         let prefix = read_prefix(entry, &prefixes)?;
         prefixes.push(prefix)?;
     }
     place.leave_part();
-    Ok(prefixes)
+    Ok(prefixes.into_vec())
 }
 
 #[tactic(auto, unfolding(crate::specs::Table::prefix_at))]
-fn read_prefix(entry: &Value, before: &[SitePrefix]) -> Result<SitePrefix, ConfigFault>
+fn read_prefix<A: Allocator>(
+    entry: &Value,
+    before: &Keyed<SitePrefix, A>,
+) -> Result<SitePrefix, ConfigFault>
     ensures { result ≡ prefix_at before.now (view entry.now) }
 {
     check_table(entry, Field::SitePrefix)?;
@@ -176,18 +190,15 @@ fn read_prefix(entry: &Value, before: &[SitePrefix]) -> Result<SitePrefix, Confi
     })
 }
 
-fn fresh_eid(entry: &Value, before: &[SitePrefix]) -> Result<Prefix, ConfigFault>
+fn fresh_eid<A: Allocator>(
+    entry: &Value,
+    before: &Keyed<SitePrefix, A>,
+) -> Result<Prefix, ConfigFault>
     ensures { result ≡ fresh_eid before.now (view entry.now) }
 {
     let eid = prefix(entry, "eid", Field::SitePrefixEid)?;
-    if has_eid(before, &eid) {
+    if before.has(&eid) {
         return Err(ConfigFault::Repeated(Field::SitePrefixEid));
     }
     Ok(eid)
-}
-
-fn has_eid(prefixes: &[SitePrefix], eid: &Prefix) -> bool
-    ensures { result ≡ has_eid prefixes.now eid.now }
-{
-    prefixes.iter().any(|prefix| prefix.eid == *eid)
 }
