@@ -38,6 +38,7 @@ impl<T: HasKey, A: Allocator> Model for Keyed<T, A> {
 
 impl<T: HasKey, A: Allocator + Copy> Keyed<T, A> {
     /// No elements; takes no memory.
+    #[tactic(auto, using(crate::proofs::Keys::no_keys))]
     pub(crate) fn new(alloc: A) -> Keyed<T, A>
         ensures { result ≡ [] }
     {
@@ -48,6 +49,7 @@ impl<T: HasKey, A: Allocator + Copy> Keyed<T, A> {
     }
 
     /// Adds an element behind the others.
+    #[tactic(auto, using(crate::proofs::Keys::one_more_key))]
     pub(crate) fn push(&mut self, item: T) -> Result<(), AllocError>
     where
         T: Drop,

@@ -40,6 +40,7 @@ impl<N: Named, A: Allocator> Model for Nodes<N, A> {
 
 impl<N: Named, A: Allocator + Copy> Nodes<N, A> {
     /// No nodes; takes no memory.
+    #[tactic(auto, using(crate::proofs::Placed::none_placed))]
     pub(crate) fn new(alloc: A) -> Nodes<N, A>
         ensures { result ≡ [] }
     {
@@ -77,6 +78,7 @@ impl<N: Named, A: Allocator> Nodes<N, A> {
     }
 
     /// Whether one of them has the name.
+    #[tactic(auto, using(crate::proofs::Placed::has_place))]
     pub(crate) fn has(&self, name: &str) -> bool
         ensures { result ≡ list_any (λ n. bytes_eq (N.name n) name.now) self.now }
     {

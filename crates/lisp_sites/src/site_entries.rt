@@ -3,7 +3,7 @@
 ghost use Rattle.std.specs.Prelude.{◌≡◌, [], is_some};
 ghost use Rattle.toml.specs.View.{view, items_view};
 ghost use Rattle.lisp_served.specs.Site.{has_key};
-ghost use Rattle.lisp_sites.specs.Table.{Gives, each, fresh_key_id, key_at, keys_of, fresh_eid, prefix_at, prefixes_of, has_site, fresh_site_id, site_at, sites_of};
+ghost use Rattle.lisp_sites.specs.Table.{Gives, each, fresh_key_id, key_at, keys_of, has_eid, fresh_eid, prefix_at, prefixes_of, has_site, fresh_site_id, site_at, sites_of};
 
 use crate::fault::ConfigFault;
 use crate::field::Field;
@@ -197,8 +197,16 @@ fn fresh_eid<A: Allocator>(
     ensures { result ≡ fresh_eid before.now (view entry.now) }
 {
     let eid = prefix(entry, "eid", Field::SitePrefixEid)?;
-    if before.has(&eid) {
+    if has_eid(before, &eid) {
         return Err(ConfigFault::Repeated(Field::SitePrefixEid));
     }
     Ok(eid)
+}
+
+// Whether one of the prefixes has the EID-Prefix.
+#[tactic(auto, using(crate::proofs::Eids::has_eid_derived))]
+fn has_eid<A: Allocator>(prefixes: &Keyed<SitePrefix, A>, eid: &Prefix) -> bool
+    ensures { result ≡ has_eid prefixes.now eid.now }
+{
+    prefixes.has(eid)
 }
