@@ -1,11 +1,14 @@
 pub mod ConfigLaws
 pub mod Each
+pub mod Eids
 pub mod Fields
 pub mod Forms
+pub mod Found
+pub mod Keys
 pub mod Names
 pub mod NodeLaws
+pub mod Placed
 pub mod Readings
 pub mod RouterParts
-pub mod SiteFound
 pub mod SiteLaws
 pub mod TextFits

@@ -129,7 +129,7 @@ fn read_configuration<A: Memory + Copy>(
     let routers = read_routers(alloc, document, &sites, &servers, place)?;
     Ok(Config {
         sites,
-        servers,
+        servers: servers.into_vec(),
         routers,
     })
 }

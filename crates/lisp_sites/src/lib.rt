@@ -5,7 +5,9 @@
 mod config;
 mod fault;
 mod field;
+mod keyed;
 mod name;
+mod nodes;
 mod place;
 mod places;
 mod router;

@@ -2,6 +2,7 @@
 
 ghost use Rattle.std.specs.Prelude.{◌≡◌};
 
+use crate::keyed::HasKey;
 use std::alloc::{Allocator, Global};
 use std::marker::Model;
 
@@ -32,5 +33,15 @@ impl<A: Allocator> Places<A> {
         ensures { result.now ≡ self.now }
     {
         &self.items
+    }
+}
+
+impl HasKey for usize {
+    type Key = usize;
+
+    ghost key = { λ place. place };
+
+    fn key(&self) -> usize {
+        *self
     }
 }

@@ -3,15 +3,17 @@
 ghost use Rattle.std.specs.Prelude.{◌≡◌, []};
 ghost use Rattle.toml.specs.View.{view, items_view};
 ghost use Rattle.lisp_records.specs.Result.{Reads};
-ghost use Rattle.lisp_sites.specs.Table.{Gives, each, has_router, fresh_router_name, router_node, router_site, router_key, router_identity, place_of, place_at, places_of, router_flags, router_nonce_block, record_at, as_database, database_at, router_at, routers_of};
+ghost use Rattle.lisp_served.specs.Site.{has_key};
+ghost use Rattle.lisp_sites.specs.Table.{Gives, each, fresh_router_name, router_node, router_site, router_key, router_identity, place_of, place_at, places_of, router_flags, router_nonce_block, record_at, as_database, database_at, router_at, routers_of};
 
 use crate::fault::ConfigFault;
 use crate::field::Field;
+use crate::keyed::Keyed;
 use crate::name::Name;
+use crate::nodes::{Named, Nodes};
 use crate::place::Place;
 use crate::places::Places;
-use crate::server::{ServerEntry, has_server, server_place};
-use crate::site_entries::has_key;
+use crate::server::ServerEntry;
 use crate::value::{
     address, array, byte, check_table, flag, name, nonce_block, site_id, tables, xtr,
 };
@@ -54,12 +56,20 @@ impl<A: Allocator> Model for RouterEntry<A> {
     ghost view = { λ r. record { name = r.name; address = r.address; me = r.me; key_id = r.key_id; servers = r.servers; proxy = r.proxy; use_ttl = r.use_ttl; nonce_block = r.nonce_block; database = r.database } };
 }
 
+impl<A: Allocator> Named for RouterEntry<A> {
+    ghost name = { λ r. r.name };
+
+    fn name(&self) -> &str {
+        self.name.as_str()
+    }
+}
+
 /// The routers of the document, in its order; they name the sites and Map-Servers given.
 pub(crate) fn read_routers<A: Memory + Copy>(
     alloc: A,
     document: &Value,
     sites: &Sites<A>,
-    servers: &[ServerEntry<A>],
+    servers: &Nodes<ServerEntry<A>, A>,
     place: &mut Place,
 ) -> Result<Vec<RouterEntry<A>, A>, ConfigFault>
     ensures { Gives (λ routers. routers.items) result (routers_of sites.now servers.now (view document.now)) }
@@ -77,19 +87,19 @@ fn each_router<A: Memory + Copy>(
     alloc: A,
     entries: &[Value],
     sites: &Sites<A>,
-    servers: &[ServerEntry<A>],
+    servers: &Nodes<ServerEntry<A>, A>,
     place: &mut Place,
 ) -> Result<Vec<RouterEntry<A>, A>, ConfigFault>
     ensures { Gives (λ routers. routers.items) result (each (router_at sites.now servers.now) [] (items_view entries.now)) }
 {
-    let mut routers = Vec::new(alloc);
+    let mut routers = Nodes::new(alloc);
     for entry in entries {
         place.enter(Field::Router, routers.len());
         let router = read_router(alloc, entry, sites, servers, &routers, place)?;
-        routers.push(router)?;
+        routers.push(alloc, router)?;
     }
     place.leave();
-    Ok(routers)
+    Ok(routers.into_vec())
 }
 
 #[tactic(auto, unfolding(crate::specs::Table::router_at))]
@@ -97,8 +107,8 @@ fn read_router<A: Memory + Copy>(
     alloc: A,
     entry: &Value,
     sites: &Sites<A>,
-    servers: &[ServerEntry<A>],
-    before: &[RouterEntry<A>],
+    servers: &Nodes<ServerEntry<A>, A>,
+    before: &Nodes<RouterEntry<A>, A>,
     place: &mut Place,
 ) -> Result<RouterEntry<A>, ConfigFault>
     ensures { Gives (λ r. r) result (router_at sites.now servers.now before.now (view entry.now)) }
@@ -127,8 +137,8 @@ fn read_router<A: Memory + Copy>(
 fn read_node<A: Allocator + Copy>(
     alloc: A,
     entry: &Value,
-    servers: &[ServerEntry<A>],
-    before: &[RouterEntry<A>],
+    servers: &Nodes<ServerEntry<A>, A>,
+    before: &Nodes<RouterEntry<A>, A>,
 ) -> Result<(Name<A>, Addr), ConfigFault>
     ensures { Gives (λ n. (n.0, n.1)) result (router_node servers.now before.now (view entry.now)) }
 {
@@ -140,22 +150,16 @@ fn read_node<A: Allocator + Copy>(
 
 fn fresh_router_name<'a, A: Allocator>(
     entry: &'a Value,
-    servers: &[ServerEntry<A>],
-    before: &[RouterEntry<A>],
+    servers: &Nodes<ServerEntry<A>, A>,
+    before: &Nodes<RouterEntry<A>, A>,
 ) -> Result<&'a str, ConfigFault>
     ensures { Reads (λ n. n.now) result (fresh_router_name servers.now before.now (view entry.now)) }
 {
     let name = name(entry, "name", Field::RouterName)?;
-    if has_server(servers, name) || has_router(before, name) {
+    if servers.has(name) || before.has(name) {
         return Err(ConfigFault::Repeated(Field::RouterName));
     }
     Ok(name)
-}
-
-fn has_router<A: Allocator>(routers: &[RouterEntry<A>], name: &str) -> bool
-    ensures { result ≡ has_router routers.now name.now }
-{
-    routers.iter().any(|router| router.name.as_str() == name)
 }
 
 // Site, xTR-ID and key.
@@ -192,17 +196,24 @@ fn read_key<A: Allocator>(entry: &Value, site: &Site<A>) -> Result<u8, ConfigFau
     ensures { result ≡ router_key site.now (view entry.now) }
 {
     let id = byte(entry, "key", Field::RouterKey)?;
-    if !has_key(site.keys(), id) {
+    if !has_key(site, id) {
         return Err(ConfigFault::BadValue(Field::RouterKey));
     }
     Ok(id)
+}
+
+// Whether the site has a key with the Key ID.
+fn has_key<A: Allocator>(site: &Site<A>, id: u8) -> bool
+    ensures { result ≡ has_key site.now.keys id }
+{
+    site.key(id).is_some()
 }
 
 // The places of the Map-Servers that the router names.
 fn read_places<A: Allocator + Copy>(
     alloc: A,
     entry: &Value,
-    servers: &[ServerEntry<A>],
+    servers: &Nodes<ServerEntry<A>, A>,
     place: &mut Place,
 ) -> Result<Places<A>, ConfigFault>
     ensures { Gives (λ p. p) result (places_of servers.now (view entry.now)) }
@@ -214,42 +225,45 @@ fn read_places<A: Allocator + Copy>(
 fn each_place<A: Allocator + Copy>(
     alloc: A,
     names: &[Value],
-    servers: &[ServerEntry<A>],
+    servers: &Nodes<ServerEntry<A>, A>,
     place: &mut Place,
 ) -> Result<Vec<usize, A>, ConfigFault>
     ensures { Gives (λ places. places.items) result (each (place_at servers.now) [] (items_view names.now)) }
 {
-    let mut places = Vec::new(alloc);
+    let mut places = Keyed::new(alloc);
     for name in names {
         place.enter_part(Field::RouterServers, places.len());
         let server = fresh_place(name, servers, &places)?;
         places.push(server)?;
     }
     place.leave_part();
-    Ok(places)
+    Ok(places.into_vec())
 }
 
 fn fresh_place<A: Allocator>(
     name: &Value,
-    servers: &[ServerEntry<A>],
-    before: &[usize],
+    servers: &Nodes<ServerEntry<A>, A>,
+    before: &Keyed<usize, A>,
 ) -> Result<usize, ConfigFault>
     ensures { result ≡ place_at servers.now before.now (view name.now) }
 {
     let place = place(name, servers)?;
-    if before.contains(&place) {
+    if before.has(&place) {
         return Err(ConfigFault::Repeated(Field::RouterServers));
     }
     Ok(place)
 }
 
-fn place<A: Allocator>(name: &Value, servers: &[ServerEntry<A>]) -> Result<usize, ConfigFault>
+fn place<A: Allocator>(
+    name: &Value,
+    servers: &Nodes<ServerEntry<A>, A>,
+) -> Result<usize, ConfigFault>
     ensures { result ≡ place_of servers.now (view name.now) }
 {
     match name.as_str() {
-        Some(name) => {
-            server_place(servers, name).ok_or(ConfigFault::BadValue(Field::RouterServers))
-        }
+        Some(name) => servers
+            .place(name)
+            .ok_or(ConfigFault::BadValue(Field::RouterServers)),
         None => Err(ConfigFault::BadValue(Field::RouterServers)),
     }
 }

@@ -3,11 +3,12 @@
 ghost use Rattle.std.specs.Prelude.{◌≡◌, []};
 ghost use Rattle.toml.specs.View.{view, items_view};
 ghost use Rattle.lisp_records.specs.Result.{Reads};
-ghost use Rattle.lisp_sites.specs.Table.{Gives, each, has_server, server_place, fresh_server_name, server_at, servers_of};
+ghost use Rattle.lisp_sites.specs.Table.{Gives, each, fresh_server_name, server_at, servers_of};
 
 use crate::fault::ConfigFault;
 use crate::field::Field;
 use crate::name::Name;
+use crate::nodes::{Named, Nodes};
 use crate::place::Place;
 use crate::value::{address, check_table, name, tables};
 use lisp_records::Addr;
@@ -32,13 +33,21 @@ impl<A: Allocator> Model for ServerEntry<A> {
     ghost view = { λ s. record { name = s.name; address = s.address } };
 }
 
+impl<A: Allocator> Named for ServerEntry<A> {
+    ghost name = { λ s. s.name };
+
+    fn name(&self) -> &str {
+        self.name.as_str()
+    }
+}
+
 /// The Map-Servers of the document, in its order.
 pub(crate) fn read_servers<A: Allocator + Copy>(
     alloc: A,
     document: &Value,
     place: &mut Place,
-) -> Result<Vec<ServerEntry<A>, A>, ConfigFault>
-    ensures { Gives (λ servers. servers.items) result (servers_of (view document.now)) }
+) -> Result<Nodes<ServerEntry<A>, A>, ConfigFault>
+    ensures { Gives (λ servers. servers) result (servers_of (view document.now)) }
 {
     each_server(alloc, tables(document, "server", Field::Server)?, place)
 }
@@ -47,14 +56,14 @@ fn each_server<A: Allocator + Copy>(
     alloc: A,
     entries: &[Value],
     place: &mut Place,
-) -> Result<Vec<ServerEntry<A>, A>, ConfigFault>
-    ensures { Gives (λ servers. servers.items) result (each server_at [] (items_view entries.now)) }
+) -> Result<Nodes<ServerEntry<A>, A>, ConfigFault>
+    ensures { Gives (λ servers. servers) result (each server_at [] (items_view entries.now)) }
 {
-    let mut servers = Vec::new(alloc);
+    let mut servers = Nodes::new(alloc);
     for entry in entries {
         place.enter(Field::Server, servers.len());
         let server = read_server(alloc, entry, &servers)?;
-        servers.push(server)?;
+        servers.push(alloc, server)?;
     }
     place.leave();
     Ok(servers)
@@ -64,7 +73,7 @@ fn each_server<A: Allocator + Copy>(
 fn read_server<A: Allocator + Copy>(
     alloc: A,
     entry: &Value,
-    before: &[ServerEntry<A>],
+    before: &Nodes<ServerEntry<A>, A>,
 ) -> Result<ServerEntry<A>, ConfigFault>
     ensures { Gives (λ s. s) result (server_at before.now (view entry.now)) }
 {
@@ -79,29 +88,13 @@ fn read_server<A: Allocator + Copy>(
 
 fn fresh_server_name<'a, A: Allocator>(
     entry: &'a Value,
-    before: &[ServerEntry<A>],
+    before: &Nodes<ServerEntry<A>, A>,
 ) -> Result<&'a str, ConfigFault>
     ensures { Reads (λ n. n.now) result (fresh_server_name before.now (view entry.now)) }
 {
     let name = name(entry, "name", Field::ServerName)?;
-    if has_server(before, name) {
+    if before.has(name) {
         return Err(ConfigFault::Repeated(Field::ServerName));
     }
     Ok(name)
-}
-
-/// Whether a Map-Server has the name.
-pub(crate) fn has_server<A: Allocator>(servers: &[ServerEntry<A>], name: &str) -> bool
-    ensures { result ≡ has_server servers.now name.now }
-{
-    servers.iter().any(|server| server.name.as_str() == name)
-}
-
-/// The place of the Map-Server with a name.
-pub(crate) fn server_place<A: Allocator>(servers: &[ServerEntry<A>], name: &str) -> Option<usize>
-    ensures { result ≡ server_place servers.now name.now }
-{
-    servers
-        .iter()
-        .position(|server| server.name.as_str() == name)
 }

@@ -7,6 +7,7 @@ ghost use Rattle.lisp_sites.specs.Table.{Gives, each, fresh_key_id, key_at, keys
 
 use crate::fault::ConfigFault;
 use crate::field::Field;
+use crate::keyed::{HasKey, Keyed};
 use crate::place::Place;
 use crate::value::{byte, check_table, flag, prefix, secret, site_id, tables};
 use lisp_memory::Memory;
@@ -128,11 +129,21 @@ fn fresh_key_id(entry: &Value, before: &[SiteKey]) -> Result<u8, ConfigFault>
     Ok(id)
 }
 
-/// Whether one of the keys has the Key ID.
-pub(crate) fn has_key(keys: &[SiteKey], id: u8) -> bool
+// Whether one of the keys has the Key ID.
+fn has_key(keys: &[SiteKey], id: u8) -> bool
     ensures { result ≡ has_key keys.now id }
 {
     keys.iter().any(|key| key.id == id)
+}
+
+impl HasKey for SitePrefix {
+    type Key = Prefix;
+
+    ghost key = { λ p. p.eid };
+
+    fn key(&self) -> Prefix {
+        self.eid
+    }
 }
 
 // The prefixes of a site.
@@ -153,18 +164,21 @@ fn each_prefix<A: Allocator + Copy>(
 ) -> Result<Vec<SitePrefix, A>, ConfigFault>
     ensures { Gives (λ prefixes. prefixes.items) result (each prefix_at [] (items_view entries.now)) }
 {
-    let mut prefixes = Vec::new(alloc);
+    let mut prefixes = Keyed::new(alloc);
     for entry in entries {
         place.enter_part(Field::SitePrefix, prefixes.len());
         let prefix = read_prefix(entry, &prefixes)?;
         prefixes.push(prefix)?;
     }
     place.leave_part();
-    Ok(prefixes)
+    Ok(prefixes.into_vec())
 }
 
 #[tactic(auto, unfolding(crate::specs::Table::prefix_at))]
-fn read_prefix(entry: &Value, before: &[SitePrefix]) -> Result<SitePrefix, ConfigFault>
+fn read_prefix<A: Allocator>(
+    entry: &Value,
+    before: &Keyed<SitePrefix, A>,
+) -> Result<SitePrefix, ConfigFault>
     ensures { result ≡ prefix_at before.now (view entry.now) }
 {
     check_table(entry, Field::SitePrefix)?;
@@ -176,7 +190,10 @@ fn read_prefix(entry: &Value, before: &[SitePrefix]) -> Result<SitePrefix, Confi
     })
 }
 
-fn fresh_eid(entry: &Value, before: &[SitePrefix]) -> Result<Prefix, ConfigFault>
+fn fresh_eid<A: Allocator>(
+    entry: &Value,
+    before: &Keyed<SitePrefix, A>,
+) -> Result<Prefix, ConfigFault>
     ensures { result ≡ fresh_eid before.now (view entry.now) }
 {
     let eid = prefix(entry, "eid", Field::SitePrefixEid)?;
@@ -186,8 +203,10 @@ fn fresh_eid(entry: &Value, before: &[SitePrefix]) -> Result<Prefix, ConfigFault
     Ok(eid)
 }
 
-fn has_eid(prefixes: &[SitePrefix], eid: &Prefix) -> bool
+// Whether one of the prefixes has the EID-Prefix.
+#[tactic(auto, using(crate::proofs::Eids::has_eid_derived))]
+fn has_eid<A: Allocator>(prefixes: &Keyed<SitePrefix, A>, eid: &Prefix) -> bool
     ensures { result ≡ has_eid prefixes.now eid.now }
 {
-    prefixes.iter().any(|prefix| prefix.eid == *eid)
+    prefixes.has(eid)
 }

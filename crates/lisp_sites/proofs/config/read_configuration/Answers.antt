@@ -4,5 +4,5 @@ use Rattle.lisp_sites.proofs.config.read_configuration.Goals as goal
 
 pub invariant_of-result : goal.invariant_of-result
 invariant_of-result g c =
-    is_configuration (view c.args.document.now) c.in_ok-sites.sites c.in_ok-servers.servers.items c.in_ok-routers.routers.items
-    c.in_ok-sites.ensures c.in_ok-servers.ensures (rw c.deref.ensures.value at c.in_ok-routers.ensures)
+    rw c.into_vec.ensures (is_configuration (view c.args.document.now) c.in_ok-sites.sites c.in_ok-servers.servers c.in_ok-routers.routers.items
+    c.in_ok-sites.ensures c.in_ok-servers.ensures c.in_ok-routers.ensures)

@@ -5,4 +5,4 @@ use Rattle.lisp_sites.proofs.router.each_place.Given as goal
 
 -- what is still read after the places so far
 abbrev pub invariant-loop-name : goal.invariant-loop-name
-invariant-loop-name g l = each (place_at l.servers) l.places.items (items_view (drop l.name-index l.names)) ≡ each (place_at l.servers) [] (items_view l.names)
+invariant-loop-name g l = each (place_at l.servers) l.places (items_view (drop l.name-index l.names)) ≡ each (place_at l.servers) [] (items_view l.names)

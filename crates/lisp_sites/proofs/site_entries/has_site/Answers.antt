@@ -1,6 +1,7 @@
-use Rattle.std.proofs.Common.{◌∙◌}
-use Rattle.lisp_sites.proofs.SiteFound.{found_where_had}
+use Rattle.std.proofs.Common.{ap, ◌∙◌}
+use Rattle.std.specs.Prelude.{is_some}
+use Rattle.lisp_sites.proofs.Found.{is_some-map, is_some-find}
 use Rattle.lisp_sites.proofs.site_entries.has_site.Goals as goal
 
 pub returns : goal.returns
-returns g c = c.is_some.ensures ∙ found_where_had (λ s. s.now) c.site.result c.args.sites.now c.args.id c.site.ensures
+returns g c = c.is_some.ensures ∙ is_some-map (λ s. s.now) c.site.result ∙ ap is_some c.site.ensures ∙ is_some-find _ c.args.sites.now

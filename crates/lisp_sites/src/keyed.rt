@@ -1,0 +1,84 @@
+//! Elements that are told apart by keys.
+
+ghost use Rattle.std.specs.Prelude.{◌≡◌, [], ◌∷◌, ◌++◌, OnOk};
+ghost use Rattle.std.specs.List.{list_any};
+
+use std::alloc::{AllocError, Allocator};
+use std::collections::BTreeSet;
+use std::marker::Model;
+
+/// What is told apart by a key.
+pub(crate) trait HasKey {
+    type Key: Ord + Copy;
+
+    ghost key: { Self → Self.Key };
+
+    /// Its key.
+    fn key(&self) -> Self::Key
+        ensures { result ≡ key self.now };
+}
+
+/// Elements in the order of the file, with their keys.
+#[derive(Drop)]
+pub(crate) struct Keyed<T: HasKey, A: Allocator> {
+    items: Vec<T, A>,
+    keys: BTreeSet<T::Key, A>,
+}
+
+impl<T: HasKey, A: Allocator> Model for Keyed<T, A> {
+    ghost use Rattle.std.specs.Prelude.{List};
+    ghost use Rattle.lisp_sites.specs.Keys.{AreKeys};
+
+    ghost Value = { List T };
+
+    ghost view = { λ k. k.items.items };
+
+    ghost invariant = { λ k. AreKeys T.Key.cmp T.Key.eq k.keys T.key k.items.items };
+}
+
+impl<T: HasKey, A: Allocator + Copy> Keyed<T, A> {
+    /// No elements; takes no memory.
+    #[tactic(auto, using(crate::proofs::Keys::no_keys))]
+    pub(crate) fn new(alloc: A) -> Keyed<T, A>
+        ensures { result ≡ [] }
+    {
+        Keyed {
+            items: Vec::new(alloc),
+            keys: BTreeSet::new(alloc),
+        }
+    }
+
+    /// Adds an element behind the others.
+    #[tactic(auto, using(crate::proofs::Keys::one_more_key))]
+    pub(crate) fn push(&mut self, item: T) -> Result<(), AllocError>
+    where
+        T: Drop,
+        ensures { OnOk result (self.new ≡ self.old ++ item ∷ []) }
+    {
+        self.items.reserve(1)?;
+        self.keys.insert(item.key())?;
+        self.items.push_reserved(item);
+        Ok(())
+    }
+}
+
+impl<T: HasKey, A: Allocator> Keyed<T, A> {
+    /// How many there are.
+    pub(crate) fn len(&self) -> usize {
+        self.items.len()
+    }
+
+    /// Whether one of them has the key.
+    pub(crate) fn has(&self, key: &T::Key) -> bool
+        ensures { result ≡ list_any (λ x. T.Key.eq (T.key x) key.now) self.now }
+    {
+        self.keys.contains(key)
+    }
+
+    /// The elements in their order; their keys are no longer kept.
+    pub(crate) fn into_vec(self) -> Vec<T, A>
+        ensures { result.items ≡ self }
+    {
+        self.items
+    }
+}

@@ -1,0 +1,94 @@
+//! Nodes of one kind, and their names.
+
+ghost use Rattle.std.specs.Prelude.{◌≡◌, [], ◌∷◌, ◌++◌, OnOk, position};
+ghost use Rattle.std.specs.List.{list_any};
+ghost use Rattle.std.specs.Str.{bytes_eq};
+
+use std::alloc::{AllocError, Allocator};
+use std::collections::BTreeMap;
+use std::marker::Model;
+
+/// What has a name.
+pub(crate) trait Named {
+    ghost use Rattle.std.specs.Prelude.{List, ℕ};
+
+    ghost name: { Self → List ℕ };
+
+    /// Its name.
+    fn name(&self) -> &str
+        ensures { result.now ≡ name self.now };
+}
+
+/// Nodes of one kind in the order of the file, found by their names.
+#[derive(Drop)]
+pub(crate) struct Nodes<N: Named, A: Allocator> {
+    items: Vec<N, A>,
+    // The places of names, of each the first one that has it.
+    places: BTreeMap<String<A>, usize, A>,
+}
+
+impl<N: Named, A: Allocator> Model for Nodes<N, A> {
+    ghost use Rattle.std.specs.Prelude.{List};
+    ghost use Rattle.lisp_sites.specs.Names.{ArePlaces};
+
+    ghost Value = { List N };
+
+    ghost view = { λ n. n.items.items };
+
+    ghost invariant = { λ n. ArePlaces n.places N.name n.items.items };
+}
+
+impl<N: Named, A: Allocator + Copy> Nodes<N, A> {
+    /// No nodes; takes no memory.
+    #[tactic(auto, using(crate::proofs::Placed::none_placed))]
+    pub(crate) fn new(alloc: A) -> Nodes<N, A>
+        ensures { result ≡ [] }
+    {
+        Nodes {
+            items: Vec::new(alloc),
+            places: BTreeMap::new(alloc),
+        }
+    }
+
+    /// Adds a node behind the others.
+    pub(crate) fn push(&mut self, alloc: A, node: N) -> Result<(), AllocError>
+    where
+        N: Drop,
+        ensures { OnOk result (self.new ≡ self.old ++ node ∷ []) }
+    {
+        let name = String::from_str(alloc, node.name())?;
+        self.items.reserve(1)?;
+        self.places.entry(name)?.or_insert(self.items.len());
+        self.items.push_reserved(node);
+        Ok(())
+    }
+}
+
+impl<N: Named, A: Allocator> Nodes<N, A> {
+    /// How many there are.
+    pub(crate) fn len(&self) -> usize {
+        self.items.len()
+    }
+
+    /// The place of the node with a name.
+    pub(crate) fn place(&self, name: &str) -> Option<usize>
+        ensures { result ≡ position (λ n. bytes_eq (N.name n) name.now) self.now }
+    {
+        self.places.get(name).copied()
+    }
+
+    /// Whether one of them has the name.
+    #[tactic(auto, using(crate::proofs::Placed::has_place))]
+    pub(crate) fn has(&self, name: &str) -> bool
+        ensures { result ≡ list_any (λ n. bytes_eq (N.name n) name.now) self.now }
+    {
+        self.place(name).is_some()
+    }
+
+    /// The nodes in their order; their names are no longer kept.
+    pub(crate) fn into_vec(self) -> Vec<N, A>
+        ensures { result.items ≡ self }
+    {
+        self.items
+    }
+}
