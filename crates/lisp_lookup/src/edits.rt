@@ -31,8 +31,8 @@ pub(crate) fn enter<A: Allocator>(
     let _ = numbers.insert(place, number);
 }
 
-/// Takes the number of a row out of an order, where it perhaps has the place `near`; the answer is the place that
-/// it had.
+/// Takes the number of a row out of an order, where it has perhaps the place `near`. The answer is the place that it
+/// had.
 pub(crate) fn leave<A: Allocator>(
     rows: &[Row<A>],
     numbers: &mut VecDeque<usize, A>,
@@ -47,9 +47,29 @@ pub(crate) fn leave<A: Allocator>(
     ensures len { deque_len numbers.new + 1 ≡ deque_len numbers.old }
     ensures capacity { deque_capacity numbers.new ≡ deque_capacity numbers.old }
 {
-    let place = place_near(rows, numbers, &order.probe(&rows[number]), near);
+    let place = place_of(rows, numbers, number, order, near);
     let _ = numbers.remove(place);
     place
+}
+
+// The place of a number in an order, perhaps `near`.
+fn place_of<A: Allocator>(
+    rows: &[Row<A>],
+    numbers: &VecDeque<usize, A>,
+    number: usize,
+    order: Order,
+    near: usize,
+) -> usize
+    requires rises { Rises (order_cmp order) rows.now numbers.now.items }
+    requires row { number < length rows.now }
+    requires held { Contains numbers.now.items number }
+    ensures within { result < length numbers.now.items }
+    ensures here { slice_index numbers.now.items result ≡ number }
+{
+    match numbers.get(near) {
+        Some(there) if *there == number => near,
+        _ => place(rows, numbers, &order.probe(&rows[number])),
+    }
 }
 
 /// Puts a number in the place of another.
@@ -67,6 +87,6 @@ pub(crate) fn rename<A: Allocator>(
     ensures len { deque_len numbers.new ≡ deque_len numbers.old }
     ensures capacity { deque_capacity numbers.new ≡ deque_capacity numbers.old }
 {
-    let place = place(rows, numbers, &order.probe(&rows[from]));
+    let place = place_of(rows, numbers, from, order, 0);
     numbers[place] = to;
 }

@@ -1,6 +1,6 @@
 //! Rows, and their numbers by prefix and by deadline.
 
-ghost use Rattle.std.specs.Prelude.{◌≡◌, ◌≢◌, ◌+◌, ◌-◌, ◌<◌, ◌≤◌, [], ◌∷◌, ◌++◌, length, slice_index_or, slice_set, None, false, true, IfSome};
+ghost use Rattle.std.specs.Prelude.{◌≡◌, ◌≢◌, ◌+◌, ◌-◌, ◌<◌, ◌≤◌, [], ◌∷◌, ◌++◌, length, slice_index_or, slice_set, None, Some, false, true, IfSome};
 ghost use Rattle.std.specs.List.{All, position, swap_remove};
 ghost use Rattle.std.specs.Vec.{vec_len, vec_capacity};
 ghost use Rattle.std.specs.VecDeque.{deque_len, deque_capacity};
@@ -8,10 +8,10 @@ ghost use Rattle.lisp_records.specs.Address.{IsBlock};
 ghost use Rattle.lisp_records.specs.Moment.{max_moment};
 ghost use Rattle.lisp_records.specs.Row.{Holding, is_alive};
 ghost use Rattle.lisp_lookup.specs.Table.{is_row_of, row_key, OneEach, Sets, Expires};
-ghost use Rattle.lisp_lookup.specs.Index.{prefix_cmp, deadline_cmp, order_cmp, IsIndex, Indexed, Removed};
+ghost use Rattle.lisp_lookup.specs.Index.{prefix_cmp, deadline_cmp, order_cmp, row_at_place, IsIndex, Indexed, Removed};
 
 use crate::edits::{enter, leave, rename};
-use crate::find::place_near;
+use crate::find::place;
 use crate::order::Order;
 use crate::probe::deadline;
 use lisp_records::Row;
@@ -79,8 +79,25 @@ fn number_of<A: Allocator>(
     requires index { IsIndex prefix_cmp rows.now by_prefix.now.items }
     ensures { result ≡ position (is_row_of row.now.router row.now.mapping.eid) rows.now }
 {
-    let place = place_near(rows, by_prefix, &Order::ByPrefix.probe(row), *near);
+    if let Some(number) = number_at(rows, by_prefix, row, *near) {
+        return Some(number);
+    }
+    let place = place(rows, by_prefix, &Order::ByPrefix.probe(row));
     *near = place;
+    number_at(rows, by_prefix, row, place)
+}
+
+// The number at a place by prefix, where it is that of the row of the same router and prefix.
+fn number_at<A: Allocator>(
+    rows: &[Row<A>],
+    by_prefix: &VecDeque<usize, A>,
+    row: &Row<A>,
+    place: usize,
+) -> Option<usize>
+    requires index { IsIndex prefix_cmp rows.now by_prefix.now.items }
+    ensures found { IfSome result (λ number. position (is_row_of row.now.router row.now.mapping.eid) rows.now ≡ Some number) }
+    ensures other { result ≡ None → place < length by_prefix.now.items → is_row_of row.now.router row.now.mapping.eid (row_at_place rows.now by_prefix.now.items place row.now) ≡ false }
+{
     let number = *by_prefix.get(place)?;
     if is_row_of(row, &rows[number]) {
         Some(number)

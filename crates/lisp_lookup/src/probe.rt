@@ -26,11 +26,11 @@ impl Probe {
     pub(crate) fn is_after<A: Allocator>(&self, row: &Row<A>) -> bool
         ensures { result ≡ is_before self.now row.now }
     {
-        match *self {
-            Probe::Prefix(eid) => row.mapping.eid().cmp(&eid).is_lt(),
-            Probe::Row(eid, router) => stands_before(row, &eid, &router),
-            Probe::Deadline(at, eid, router) => match deadline(row).cmp(&at) {
-                Ordering::Equal => stands_before(row, &eid, &router),
+        match self {
+            Probe::Prefix(eid) => row.mapping.eid().cmp(eid).is_lt(),
+            Probe::Row(eid, router) => stands_before(row, eid, router),
+            Probe::Deadline(at, eid, router) => match deadline(row).cmp(at) {
+                Ordering::Equal => stands_before(row, eid, router),
                 order => order.is_lt(),
             },
         }
