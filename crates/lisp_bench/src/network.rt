@@ -29,6 +29,24 @@ const ENOUGH_CALLS: u32 = 1_000;
 
 const ENOUGH_NANOS: u128 = 100_000_000;
 
+/// Where the Authentication Data of a message stands.
+const AUTH_AT: usize = 16;
+
+/// The bytes of a Map-Register behind its records, which the Map-Notify that answers it lacks: xTR-ID and Site-ID.
+const IDS_LEN: usize = 24;
+
+/// The bytes of a message before its records.
+const HEAD_LEN: usize = 32;
+
+/// What is timed.
+#[derive(Clone, Copy)]
+enum Timed {
+    /// The server receives the Map-Register.
+    Registration,
+    /// The tags of the Map-Register and of the Map-Notify that answers it are computed.
+    Tags,
+}
+
 /// How many rows one Map-Register brings, until the server holds enough.
 const BLOCK: u32 = 250;
 
@@ -36,12 +54,13 @@ const SECRET: &[u8] = b"secret";
 
 const SOURCE: Addr = Addr::V4([127, 0, 0, 21]);
 
-/// A server, its store, and the last Map-Register that it was sent, under the key of its one site.
+/// A server, its store, its time, and the last Map-Register that it was sent, under the key of its one site.
 #[derive(Drop)]
 pub(crate) struct Network {
     alloc: Global,
     key: Key,
     pub(crate) server: Server,
+    now: u64,
     store: MemoryStore,
     register: MapRegister,
     datagram: Vec<u8>,
@@ -65,6 +84,7 @@ impl Network {
             alloc,
             key: Key::new(SECRET),
             server: Server::start(alloc, sites),
+            now: 0,
             store: MemoryStore::new(alloc),
             register: empty_register(alloc),
             datagram: Vec::new(alloc),
@@ -112,42 +132,58 @@ impl Network {
         Some(())
     }
 
-    // Whether the server accepts the Map-Register.
+    // Whether the server accepts the Map-Register, a millisecond after the last one.
     fn is_accepted(&mut self) -> bool {
+        self.now = self.now.wrapping_add(1);
         let took = self
             .server
-            .receive(&mut self.store, SOURCE, &self.datagram, 0);
+            .receive(&mut self.store, SOURCE, &self.datagram, self.now);
         took.is_ok()
     }
 
-    // Prints how long a registration takes.
+    // Whether the tag of the Map-Register is right; one for as many bytes as the Map-Notify has is made, too.
+    fn has_tags(&self) -> bool {
+        let (register, len) = (&self.datagram, self.datagram.len());
+        len >= HEAD_LEN + IDS_LEN
+            && self.key.checks(register, AUTH_AT)
+            && self.key.tag128(&register[..len - IDS_LEN], AUTH_AT) != [0; 16]
+    }
+
+    // Prints how long a registration takes, and how long its two tags alone.
     fn time<R: Print + Clock>(&mut self, rt: &R, held: u32, records: u32) -> Option<()> {
+        let (tags, _) = self.mean(rt, Timed::Tags)?;
+        let (mean, calls) = self.mean(rt, Timed::Registration)?;
+        println!(rt;
+            "{held} rows held, {records} records: {mean} ns, their two tags alone {tags} ns, the mean of {calls} calls"
+        ).ok()
+    }
+
+    // The mean nanoseconds, and of how many calls.
+    fn mean<R: Clock>(&mut self, rt: &R, timed: Timed) -> Option<(u128, u32)> {
         let (mut calls, mut nanos) = (0_u32, 0_u128);
         for _ in 0..ENOUGH_CALLS {
             if nanos >= ENOUGH_NANOS {
                 break;
             }
-            nanos = nanos.saturating_add(self.nanos(rt)?);
+            nanos = nanos.saturating_add(self.nanos(rt, timed)?);
             calls = calls.saturating_add(1);
         }
-        let mean = nanos / u128::from(calls.max(1));
-        println!(rt;
-            "{held} rows held, {records} records: {mean} ns, the mean of {calls} calls"
-        ).ok()
+        Some((nanos / u128::from(calls.max(1)), calls))
     }
 
-    // The nanoseconds of a registration; `None` if it is refused.
-    fn nanos<R: Clock>(&mut self, rt: &R) -> Option<u128> {
+    // The nanoseconds of one call; `None` if it fails.
+    fn nanos<R: Clock>(&mut self, rt: &R, timed: Timed) -> Option<u128> {
         self.write()?;
         let Ok(start) = Instant::now(rt) else {
             return None;
         };
-        if !self.is_accepted() {
-            return None;
-        }
+        let done = match timed {
+            Timed::Registration => self.is_accepted(),
+            Timed::Tags => self.has_tags(),
+        };
         match start.elapsed(rt) {
-            Ok(time) => Some(time.as_nanos()),
-            Err(_) => None,
+            Ok(time) if done => Some(time.as_nanos()),
+            _ => None,
         }
     }
 }

@@ -1,5 +1,5 @@
 -- Numbers of rows in rising order: what is sought in them, and what an edit leaves.
-use Rattle.std.proofs.Common.{◌≡◌, ◌≢◌, ◌⊎◌, inl, inr, ℕ, zero, suc, ◌+◌, ◌-◌, ◌<◌, ◌≤◌, true, List, ◌∷◌, length, slice_index, slice_index_or, refl, sym, ap, ◌∙◌, subst, true≢false, Result, Ok, Err, arith}
+use Rattle.std.proofs.Common.{◌≡◌, ◌≢◌, ◌⊎◌, inl, inr, ℕ, zero, suc, ◌+◌, ◌-◌, ◌<◌, ◌≤◌, true, List, [], ◌∷◌, length, slice_index, slice_index_or, refl, sym, ap, ◌∙◌, subst, true≢false, Result, Ok, Err, arith}
 use Rattle.std.specs.List.{Contains, insert, remove}
 use Rattle.std.specs.Ordering.{is_lt, nat_cmp, ordering_reverse, ordering_then}
 use Rattle.std.specs.Result.{OnOk, OnErr}
@@ -254,3 +254,8 @@ falls_prefix eid rows numbers rises i j d lt within before =
     let a = row_at_place rows numbers i d in
     let b = row_at_place rows numbers j d in
     prefix_case a.mapping.eid b.mapping.eid eid (block_cmp a.mapping.eid b.mapping.eid) (router_cmp a.router b.router) refl (rises.rising i j d lt within) before
+
+-- the number at a place was taken out
+pub left_at : (order : Order) (rows : List Holding) (numbers : List ℕ) (number place : ℕ) → Rises (order_cmp order) rows numbers → number < length rows → place < length numbers → slice_index numbers place ≡ number → Left order rows numbers (remove numbers place) number
+left_at order [] numbers number place rises row lt was = absurd (omega (arith, row))
+left_at order (x ∷ xs) numbers number place rises row lt was = left_of order (x ∷ xs) numbers number x rises place lt was

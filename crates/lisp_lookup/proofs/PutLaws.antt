@@ -1,5 +1,5 @@
 -- What setting a row does to the orders of rows.
-use Rattle.std.proofs.Common.{◌≡◌, ◌≢◌, ◌⊎◌, inl, inr, ℕ, ◌+◌, ◌<◌, ◌≤◌, Bool, true, false, List, [], ◌∷◌, ◌++◌, length, slice_index, slice_index_or, slice_set, Option, Some, None, refl, sym, ap, ◌∙◌, subst, true≢false, arith}
+use Rattle.std.proofs.Common.{◌≡◌, ◌≢◌, ◌⊎◌, inl, inr, ℕ, ◌+◌, ◌<◌, ◌≤◌, Bool, true, false, List, [], ◌∷◌, ◌++◌, length, slice_index, slice_index_or, slice_set, Option, Some, None, IfSome, refl, sym, ap, ◌∙◌, subst, true≢false, arith}
 use Rattle.std.specs.List.{Contains, position}
 use Rattle.std.specs.Ordering.{is_lt}
 use Rattle.std.proofs.lemmas.Bool.{cases_eq}
@@ -82,6 +82,18 @@ module _ (order : Order) (rows : List Holding) (numbers : List ℕ) (row : Holdi
       each n lt (inl at) = subst (Contains new) (sym at) entered.here
       each n lt (inr off) = entered.others n (index.each n (omega (arith, lt, off)))
 
+-- a number whose row is of a router and a prefix is that of their row
+module _ (rows : List Holding) (numbers : List ℕ) (row : Holding) (index : IsIndex prefix_cmp rows numbers) where
+  by_case : (number : ℕ) (o : Option ℕ) → number < length rows → is_row_of row.router row.mapping.eid (slice_index_or rows number row) ≡ true → position (is_row_of row.router row.mapping.eid) rows ≡ o → position (is_row_of row.router row.mapping.eid) rows ≡ Some number
+  by_case number None lt own at = absurd (found (is_row_of row.router row.mapping.eid) rows number row lt own (nowhere (is_row_of row.router row.mapping.eid) rows at))
+  by_case number (Some i) lt own at =
+      let first = position-Some (is_row_of row.router row.mapping.eid) rows i row at in
+      let same = either_way row_key rows (one_each rows numbers index) i number row first.0 lt ((has_key (row_key row) (slice_index_or rows i row)).0 first.1 ∙ sym ((has_key (row_key row) (slice_index_or rows number row)).0 own)) in
+      at ∙ ap Some same
+
+  pub found_here : (number : ℕ) → number < length rows → is_row_of row.router row.mapping.eid (slice_index_or rows number row) ≡ true → position (is_row_of row.router row.mapping.eid) rows ≡ Some number
+  found_here number lt own = by_case number (position (is_row_of row.router row.mapping.eid) rows) lt own refl
+
 -- the row of a router and a prefix stands where it is sought
 module _ (rows : List Holding) (numbers : List ℕ) (row : Holding) (probe : Probe) (place : ℕ) (seeks : (h : Holding) → is_before probe h ≡ is_lt (prefix_cmp h row)) (index : IsIndex prefix_cmp rows numbers) (bound : IsBound probe rows numbers place) where
   abbrev is_own : Holding → Bool
@@ -95,28 +107,14 @@ module _ (rows : List Holding) (numbers : List ℕ) (row : Holding) (probe : Pro
       let same = exact prefix_cmp prefix_total row probe seeks rows numbers place index.rises bound p lt_p (same_tie (row_at_place rows numbers p row) row (ap (λ (n : ℕ). row_key (slice_index_or rows n row)) named ∙ key)) in
       (omega (arith, same, lt_p), ap (λ (k : ℕ). slice_index numbers k) same ∙ named)
 
-  by_case : (number : ℕ) (o : Option ℕ) → number < length rows → is_own (slice_index_or rows number row) ≡ true → position is_own rows ≡ o → position is_own rows ≡ Some number
-  by_case number None lt own at = absurd (found is_own rows number row lt own (nowhere is_own rows at))
-  by_case number (Some i) lt own at =
-      let first = position-Some is_own rows i row at in
-      let same = either_way row_key rows (one_each rows numbers index) i number row first.0 lt ((has_key (row_key row) (slice_index_or rows i row)).0 first.1 ∙ sym ((has_key (row_key row) (slice_index_or rows number row)).0 own)) in
-      at ∙ ap Some same
-
-  -- it was found
-  pub found_here : (number : ℕ) → number < length rows → is_own (slice_index_or rows number row) ≡ true → Some number ≡ position is_own rows
-  found_here number lt own = sym (by_case number (position is_own rows) lt own refl)
-
   absent_case : (o : Option ℕ) → position is_own rows ≡ o → ((i : ℕ) → i < length rows → is_own (slice_index_or rows i row) ≡ true → ⊥) → None ≡ o
   absent_case None at never = refl
   absent_case (Some i) at never = absurd (let first = position-Some is_own rows i row at in never i first.0 first.1)
 
-  -- there is no row at the place
-  pub absent_past : length numbers ≤ place → None ≡ position is_own rows
-  absent_past past = absent_case (position is_own rows) refl (λ i lt own. omega (arith, past, (stands i lt own).0))
-
-  -- another row stands at the place
-  pub absent_other : (number : ℕ) → slice_index numbers place ≡ number → is_own (slice_index_or rows number row) ≡ false → None ≡ position is_own rows
-  absent_other number named other = absent_case (position is_own rows) refl (λ i lt own. true≢false (sym own ∙ ap (λ (n : ℕ). is_own (slice_index_or rows n row)) (sym (stands i lt own).1 ∙ named) ∙ other))
+  -- what is found there is the number of the row, or there is none
+  pub settled : (o : Option ℕ) → IfSome o (λ number. position is_own rows ≡ Some number) → (o ≡ None → place < length numbers → is_own (row_at_place rows numbers place row) ≡ false) → o ≡ position is_own rows
+  settled (Some number) at other = sym at
+  settled None at other = absent_case (position is_own rows) refl (λ i lt own. true≢false (sym own ∙ ap (λ (n : ℕ). is_own (slice_index_or rows n row)) (sym (stands i lt own).1) ∙ other refl (stands i lt own).0))
 
 -- where a router and a prefix have a row, its number is that of a row, and it is of them
 pub own_key : (rows : List Holding) (number : ℕ) (row : Holding) → position (is_row_of row.router row.mapping.eid) rows ≡ Some number → (number < length rows) × (row_key (slice_index_or rows number row) ≡ row_key row)

@@ -5,18 +5,19 @@ ghost use Rattle.std.specs.List.{Contains};
 ghost use Rattle.std.specs.VecDeque.{deque_len, deque_capacity};
 ghost use Rattle.lisp_lookup.specs.Index.{order_cmp, Rises, Left, IsFresh, Entered, Renamed};
 
-use crate::find::place;
+use crate::find::{place, place_near};
 use crate::order::Order;
 use lisp_records::Row;
 use std::alloc::Allocator;
 use std::collections::VecDeque;
 
-/// Puts the number of a row into an order that has room for it. Takes no memory.
+/// Puts the number of a row into an order that has room for it, perhaps at the place `near`. Takes no memory.
 pub(crate) fn enter<A: Allocator>(
     rows: &[Row<A>],
     numbers: &mut VecDeque<usize, A>,
     number: usize,
     order: Order,
+    near: usize,
 )
     requires rises { Rises (order_cmp order) rows.now numbers.old.items }
     requires row { number < length rows.now }
@@ -26,17 +27,19 @@ pub(crate) fn enter<A: Allocator>(
     ensures len { deque_len numbers.new ≡ deque_len numbers.old + 1 }
     ensures capacity { deque_capacity numbers.old ≤ deque_capacity numbers.new }
 {
-    let place = place(rows, numbers, &order.probe(&rows[number]));
+    let place = place_near(rows, numbers, &order.probe(&rows[number]), near);
     let _ = numbers.insert(place, number);
 }
 
-/// Takes the number of a row out of an order.
+/// Takes the number of a row out of an order, where it has perhaps the place `near`. The answer is the place that it
+/// had.
 pub(crate) fn leave<A: Allocator>(
     rows: &[Row<A>],
     numbers: &mut VecDeque<usize, A>,
     number: usize,
     order: Order,
-)
+    near: usize,
+) -> usize
     requires rises { Rises (order_cmp order) rows.now numbers.old.items }
     requires row { number < length rows.now }
     requires held { Contains numbers.old.items number }
@@ -44,8 +47,29 @@ pub(crate) fn leave<A: Allocator>(
     ensures len { deque_len numbers.new + 1 ≡ deque_len numbers.old }
     ensures capacity { deque_capacity numbers.new ≡ deque_capacity numbers.old }
 {
-    let place = place(rows, numbers, &order.probe(&rows[number]));
+    let place = place_of(rows, numbers, number, order, near);
     let _ = numbers.remove(place);
+    place
+}
+
+// The place of a number in an order, perhaps `near`.
+fn place_of<A: Allocator>(
+    rows: &[Row<A>],
+    numbers: &VecDeque<usize, A>,
+    number: usize,
+    order: Order,
+    near: usize,
+) -> usize
+    requires rises { Rises (order_cmp order) rows.now numbers.now.items }
+    requires row { number < length rows.now }
+    requires held { Contains numbers.now.items number }
+    ensures within { result < length numbers.now.items }
+    ensures here { slice_index numbers.now.items result ≡ number }
+{
+    match numbers.get(near) {
+        Some(there) if *there == number => near,
+        _ => place(rows, numbers, &order.probe(&rows[number])),
+    }
 }
 
 /// Puts a number in the place of another.
@@ -63,6 +87,6 @@ pub(crate) fn rename<A: Allocator>(
     ensures len { deque_len numbers.new ≡ deque_len numbers.old }
     ensures capacity { deque_capacity numbers.new ≡ deque_capacity numbers.old }
 {
-    let place = place(rows, numbers, &order.probe(&rows[from]));
+    let place = place_of(rows, numbers, from, order, 0);
     numbers[place] = to;
 }

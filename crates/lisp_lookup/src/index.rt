@@ -1,6 +1,6 @@
 //! Rows, and their numbers by prefix and by deadline.
 
-ghost use Rattle.std.specs.Prelude.{◌≡◌, ◌≢◌, ◌+◌, ◌-◌, ◌<◌, ◌≤◌, [], ◌∷◌, ◌++◌, length, slice_index_or, slice_set, None, false, true, IfSome};
+ghost use Rattle.std.specs.Prelude.{◌≡◌, ◌≢◌, ◌+◌, ◌-◌, ◌<◌, ◌≤◌, [], ◌∷◌, ◌++◌, length, slice_index_or, slice_set, None, Some, false, true, IfSome};
 ghost use Rattle.std.specs.List.{All, position, swap_remove};
 ghost use Rattle.std.specs.Vec.{vec_len, vec_capacity};
 ghost use Rattle.std.specs.VecDeque.{deque_len, deque_capacity};
@@ -8,7 +8,7 @@ ghost use Rattle.lisp_records.specs.Address.{IsBlock};
 ghost use Rattle.lisp_records.specs.Moment.{max_moment};
 ghost use Rattle.lisp_records.specs.Row.{Holding, is_alive};
 ghost use Rattle.lisp_lookup.specs.Table.{is_row_of, row_key, OneEach, Sets, Expires};
-ghost use Rattle.lisp_lookup.specs.Index.{prefix_cmp, deadline_cmp, order_cmp, IsIndex, Indexed, Removed};
+ghost use Rattle.lisp_lookup.specs.Index.{prefix_cmp, deadline_cmp, order_cmp, row_at_place, IsIndex, Indexed, Removed};
 
 use crate::edits::{enter, leave, rename};
 use crate::find::place;
@@ -18,12 +18,29 @@ use lisp_records::Row;
 use std::alloc::Allocator;
 use std::collections::VecDeque;
 
+/// Where the row that was set last has its place by prefix, and had it by deadline. The next row of a Map-Register is
+/// mostly that of the next prefix, and was set together with this one: its places are likely to be the next ones.
+#[derive(Clone, Copy)]
+pub(crate) struct Near {
+    prefix: usize,
+    deadline: usize,
+}
+
+impl Near {
+    /// The first places.
+    pub(crate) const START: Near = Near {
+        prefix: 0,
+        deadline: 0,
+    };
+}
+
 /// Sets a row, for which there is room. Takes no memory.
 pub(crate) fn put<A: Allocator>(
     rows: &mut Vec<Row<A>, A>,
     by_prefix: &mut VecDeque<usize, A>,
     by_deadline: &mut VecDeque<usize, A>,
     row: Row<A>,
+    near: &mut Near,
 )
     requires indexed { Indexed rows.old.items by_prefix.old.items by_deadline.old.items }
     requires rows_room { vec_len rows.old < vec_capacity rows.old }
@@ -36,9 +53,12 @@ pub(crate) fn put<A: Allocator>(
     ensures deadlines_room { deque_capacity by_deadline.old - deque_len by_deadline.old ≤ deque_capacity by_deadline.new - deque_len by_deadline.new + 1 }
 {
     known(&row);
-    match number_of(rows, by_prefix, &row) {
-        Some(number) => replace(rows, by_deadline, number, row),
-        None => add(rows, by_prefix, by_deadline, row),
+    let found = number_of(rows, by_prefix, &row, &mut near.prefix);
+    let place = near.prefix;
+    near.prefix = place.saturating_add(1);
+    match found {
+        Some(number) => replace(rows, by_deadline, number, row, &mut near.deadline),
+        None => add(rows, by_prefix, by_deadline, row, place),
     }
 }
 
@@ -49,16 +69,35 @@ fn known<A: Allocator>(row: &Row<A>)
     let _first = row.mapping.eid().addr();
 }
 
-// The number of the row of the same router and prefix.
+// The number of the row of the same router and prefix; `near` becomes its place, or the one where it goes.
 fn number_of<A: Allocator>(
     rows: &[Row<A>],
     by_prefix: &VecDeque<usize, A>,
     row: &Row<A>,
+    near: &mut usize,
 ) -> Option<usize>
     requires index { IsIndex prefix_cmp rows.now by_prefix.now.items }
     ensures { result ≡ position (is_row_of row.now.router row.now.mapping.eid) rows.now }
 {
+    if let Some(number) = number_at(rows, by_prefix, row, *near) {
+        return Some(number);
+    }
     let place = place(rows, by_prefix, &Order::ByPrefix.probe(row));
+    *near = place;
+    number_at(rows, by_prefix, row, place)
+}
+
+// The number at a place by prefix, where it is that of the row of the same router and prefix.
+fn number_at<A: Allocator>(
+    rows: &[Row<A>],
+    by_prefix: &VecDeque<usize, A>,
+    row: &Row<A>,
+    place: usize,
+) -> Option<usize>
+    requires index { IsIndex prefix_cmp rows.now by_prefix.now.items }
+    ensures found { IfSome result (λ number. position (is_row_of row.now.router row.now.mapping.eid) rows.now ≡ Some number) }
+    ensures other { result ≡ None → place < length by_prefix.now.items → is_row_of row.now.router row.now.mapping.eid (row_at_place rows.now by_prefix.now.items place row.now) ≡ false }
+{
     let number = *by_prefix.get(place)?;
     if is_row_of(row, &rows[number]) {
         Some(number)
@@ -74,12 +113,14 @@ fn is_row_of<A: Allocator>(one: &Row<A>, other: &Row<A>) -> bool
     other.router == one.router && other.mapping.eid() == one.mapping.eid()
 }
 
-// Sets a row over the one of the same router and prefix.
+// Sets a row over the one of the same router and prefix; `near` becomes the place that this one had by deadline. The
+// row mostly goes to the end there, since time moves on.
 fn replace<A: Allocator>(
     rows: &mut Vec<Row<A>, A>,
     by_deadline: &mut VecDeque<usize, A>,
     number: usize,
     row: Row<A>,
+    near: &mut usize,
 )
     requires index { IsIndex deadline_cmp rows.old.items by_deadline.old.items }
     requires one_each { OneEach rows.old.items }
@@ -93,17 +134,19 @@ fn replace<A: Allocator>(
     ensures deadlines_len { deque_len by_deadline.new ≡ deque_len by_deadline.old }
     ensures deadlines_capacity { deque_capacity by_deadline.old ≤ deque_capacity by_deadline.new }
 {
-    leave(rows, by_deadline, number, Order::ByDeadline);
+    *near = leave(rows, by_deadline, number, Order::ByDeadline, *near);
     rows[number] = row;
-    enter(rows, by_deadline, number, Order::ByDeadline);
+    let end = by_deadline.len();
+    enter(rows, by_deadline, number, Order::ByDeadline, end);
 }
 
-// Adds a row for a router and prefix that has none.
+// Adds a row for a router and prefix that has none, by prefix perhaps at the place `near`.
 fn add<A: Allocator>(
     rows: &mut Vec<Row<A>, A>,
     by_prefix: &mut VecDeque<usize, A>,
     by_deadline: &mut VecDeque<usize, A>,
     row: Row<A>,
+    near: usize,
 )
     requires indexed { Indexed rows.old.items by_prefix.old.items by_deadline.old.items }
     requires block { IsBlock row.mapping.eid }
@@ -122,8 +165,9 @@ fn add<A: Allocator>(
 {
     let number = rows.len();
     rows.push_reserved(row);
-    enter(rows, by_prefix, number, Order::ByPrefix);
-    enter(rows, by_deadline, number, Order::ByDeadline);
+    enter(rows, by_prefix, number, Order::ByPrefix, near);
+    let end = by_deadline.len();
+    enter(rows, by_deadline, number, Order::ByDeadline, end);
 }
 
 /// Takes out the rows that are dead at a moment, in ms, of at most 2^62: the first ones by deadline.
@@ -194,7 +238,7 @@ fn forget<A: Allocator>(
     requires within { number < length rows.now }
     ensures index { (d : Holding) → IsIndex (order_cmp order) (swap_remove rows.now number d) numbers.new.items }
 {
-    leave(rows, numbers, number, order);
+    leave(rows, numbers, number, order, 0);
     let last = rows.len() - 1;
     if number != last {
         rename(rows, numbers, last, number, order);

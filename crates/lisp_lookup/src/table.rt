@@ -15,7 +15,7 @@ ghost use Rattle.lisp_records.specs.Database.{database_of};
 use crate::answer::Answer;
 use crate::best::best;
 use crate::find::find;
-use crate::index;
+use crate::index::{self, Near};
 use crate::live::{copy_live, count_live};
 use crate::probe::Probe;
 use crate::steps::Steps;
@@ -88,15 +88,16 @@ impl<A: Allocator + Copy> Table<A> {
         ensures sets { Sets self.old.rows self.new.rows rows.items }
         ensures one_each { OneEach self.new.rows }
     {
+        let mut near = Near::START;
         for row in rows {
-            self.put(row);
+            self.put(row, &mut near);
         }
         // Reading a field shows the type's invariant to the proof.
         let _items = &self.items;
     }
 
     // Sets a row.
-    fn put(&mut self, row: Row<A>)
+    fn put(&mut self, row: Row<A>, near: &mut Near)
         requires { 0 < self.old.spare }
         ensures row { Sets self.old.rows self.new.rows (row ∷ []) }
         ensures room { self.old.spare ≤ self.new.spare + 1 }
@@ -106,6 +107,7 @@ impl<A: Allocator + Copy> Table<A> {
             &mut self.by_prefix,
             &mut self.by_deadline,
             row,
+            near,
         );
     }
 
