@@ -71,7 +71,8 @@ place_from p (y ∷ ys) x start = ap (λ (o : Option ℕ). cond (p y) (Some star
     either true = refl
     either false = ap (λ (n : ℕ). option_or (position_from p (start + 1) ys) (cond (p x) (Some n) None)) (let same : start + 1 + length ys ≡ start + length (y ∷ ys) = omega arith in same)
 
-position-push : {X : Type 0} (p : X → Bool) (xs : List X) (x : X) → position p (xs ++ x ∷ []) ≡ option_or (position p xs) (cond (p x) (Some (length xs)) None)
+-- an element behind the others is the first that passes only where none before does
+pub position-push : {X : Type 0} (p : X → Bool) (xs : List X) (x : X) → position p (xs ++ x ∷ []) ≡ option_or (position p xs) (cond (p x) (Some (length xs)) None)
 position-push p xs x =
     let start : 0 + length xs ≡ length xs = omega arith in
     position_from-zero p (xs ++ x ∷ []) ∙ place_from p xs x 0 ∙ ap (λ (n : ℕ). option_or (position_from p 0 xs) (cond (p x) (Some n) None)) start ∙ ap (λ (o : Option ℕ). option_or o (cond (p x) (Some (length xs)) None)) (sym (position_from-zero p xs))

@@ -1,11 +1,12 @@
 -- Looking up and adding the places of names.
-use Rattle.std.proofs.Common.{◌≡◌, ℕ, ◌+◌, Bool, true, false, cond, ◌||◌, List, [], ◌∷◌, ◌++◌, length, Option, Some, None, refl, sym, ap, ◌∙◌, arith}
+use Rattle.std.proofs.Common.{◌≡◌, ℕ, ◌+◌, Bool, true, false, cond, ◌||◌, List, [], ◌∷◌, ◌++◌, length, Option, Some, None, refl, sym, ap, ◌∙◌}
 use Rattle.std.specs.Prelude.{String, is_some}
 use Rattle.std.specs.BTreeMap.{BTreeMap, IsEmpty, IsUnchanged, get_by_text}
 use Rattle.std.specs.List.{position, position_from, list_any}
 use Rattle.std.specs.Option.{option_or}
 use Rattle.std.specs.Str.{bytes_eq}
 use Rattle.std.proofs.lemmas.Iterator.Adapters.{position_from-zero}
+use Rattle.lisp_served.proofs.IndexLaws.{position-push}
 use Rattle.lisp_sites.specs.Names.{ArePlaces}
 
 there_from : {X : Type 0} (p : X → Bool) (xs : List X) (start : ℕ) → is_some (position_from p start xs) ≡ list_any p xs
@@ -19,19 +20,6 @@ there_from p (x ∷ xs) start = either (p x) (there_from p xs (start + 1))
 -- an element that passes has a place where there is one
 pub has_place : {X : Type 0} (p : X → Bool) (xs : List X) → is_some (position p xs) ≡ list_any p xs
 has_place p xs = ap is_some (position_from-zero p xs) ∙ there_from p xs 0
-
-place_from : {X : Type 0} (p : X → Bool) (xs : List X) (x : X) (start : ℕ) → position_from p start (xs ++ x ∷ []) ≡ option_or (position_from p start xs) (cond (p x) (Some (start + length xs)) None)
-place_from p [] x start = ap (λ (n : ℕ). cond (p x) (Some n) None) (let same : start ≡ start + 0 = omega arith in same)
-place_from p (y ∷ ys) x start = ap (λ (o : Option ℕ). cond (p y) (Some start) o) (place_from p ys x (start + 1)) ∙ either (p y)
-  where
-    either : (b : Bool) → cond b (Some start) (option_or (position_from p (start + 1) ys) (cond (p x) (Some (start + 1 + length ys)) None)) ≡ option_or (cond b (Some start) (position_from p (start + 1) ys)) (cond (p x) (Some (start + length (y ∷ ys))) None)
-    either true = refl
-    either false = ap (λ (n : ℕ). option_or (position_from p (start + 1) ys) (cond (p x) (Some n) None)) (let same : start + 1 + length ys ≡ start + length (y ∷ ys) = omega arith in same)
-
-position-push : {X : Type 0} (p : X → Bool) (xs : List X) (x : X) → position p (xs ++ x ∷ []) ≡ option_or (position p xs) (cond (p x) (Some (length xs)) None)
-position-push p xs x =
-    let start : 0 + length xs ≡ length xs = omega arith in
-    position_from-zero p (xs ++ x ∷ []) ∙ place_from p xs x 0 ∙ ap (λ (n : ℕ). option_or (position_from p 0 xs) (cond (p x) (Some n) None)) start ∙ ap (λ (o : Option ℕ). option_or o (cond (p x) (Some (length xs)) None)) (sym (position_from-zero p xs))
 
 module _ {X Y : Type 0} (name : X → List ℕ) where
   pub none_placed : (places : BTreeMap (String Y) ℕ) → IsEmpty places → ArePlaces places name []
