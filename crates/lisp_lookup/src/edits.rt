@@ -5,19 +5,18 @@ ghost use Rattle.std.specs.List.{Contains};
 ghost use Rattle.std.specs.VecDeque.{deque_len, deque_capacity};
 ghost use Rattle.lisp_lookup.specs.Index.{order_cmp, Rises, Left, IsFresh, Entered, Renamed};
 
-use crate::find::{place, place_near};
+use crate::find::{place, place_from_end};
 use crate::order::Order;
 use lisp_records::Row;
 use std::alloc::Allocator;
 use std::collections::VecDeque;
 
-/// Puts the number of a row into an order that has room for it, perhaps at the place `near`. Takes no memory.
+/// Puts the number of a row into an order that has room for it. Takes no memory.
 pub(crate) fn enter<A: Allocator>(
     rows: &[Row<A>],
     numbers: &mut VecDeque<usize, A>,
     number: usize,
     order: Order,
-    near: usize,
 )
     requires rises { Rises (order_cmp order) rows.now numbers.old.items }
     requires row { number < length rows.now }
@@ -27,7 +26,7 @@ pub(crate) fn enter<A: Allocator>(
     ensures len { deque_len numbers.new ≡ deque_len numbers.old + 1 }
     ensures capacity { deque_capacity numbers.old ≤ deque_capacity numbers.new }
 {
-    let place = place_near(rows, numbers, &order.probe(&rows[number]), near);
+    let place = place_from_end(rows, numbers, &order.probe(&rows[number]));
     let _ = numbers.insert(place, number);
 }
 

@@ -1,8 +1,7 @@
 //! Search by halving.
 
-ghost use Rattle.std.specs.Prelude.{◌≡◌, ℕ, ◌+◌, ◌-◌, ◌*◌, ◌^◌, ◌<◌, ◌≤◌, true, false, length, slice_index, IsTrue};
-ghost use Rattle.lisp_records.specs.Row.{Holding};
-ghost use Rattle.lisp_lookup.specs.Index.{is_before, row_at_place, Falls, IsBound};
+ghost use Rattle.std.specs.Prelude.{◌≡◌, ℕ, ◌+◌, ◌-◌, ◌*◌, ◌^◌, ◌<◌, ◌≤◌, length, slice_index};
+ghost use Rattle.lisp_lookup.specs.Index.{Falls, IsBound};
 
 use crate::probe::Probe;
 use crate::steps::Steps;
@@ -41,72 +40,21 @@ pub(crate) fn find<A: Allocator, L: Ledger>(
     low
 }
 
-/// As `place`, where a place is looked at first, beside which the search may well end.
-pub(crate) fn place_near<A: Allocator>(
+/// As `place`, where the end is looked at first.
+pub(crate) fn place_from_end<A: Allocator>(
     rows: &[Row<A>],
     numbers: &VecDeque<usize, A>,
     probe: &Probe,
-    near: usize,
 ) -> usize
     requires below { (k : ℕ) → k < length numbers.now.items → slice_index numbers.now.items k < length rows.now }
     requires falls { Falls probe.now rows.now numbers.now.items }
     ensures bound { IsBound probe.now rows.now numbers.now.items result }
 {
-    if is_bound(rows, numbers, probe, near) {
-        return near;
+    let end = numbers.len();
+    if end > 0 && probe.is_after(&rows[numbers[end - 1]]) {
+        return end;
     }
     place(rows, numbers, probe)
-}
-
-// Whether a place is the first one whose row doesn't stand before what is sought.
-fn is_bound<A: Allocator>(
-    rows: &[Row<A>],
-    numbers: &VecDeque<usize, A>,
-    probe: &Probe,
-    place: usize,
-) -> bool
-    requires below { (k : ℕ) → k < length numbers.now.items → slice_index numbers.now.items k < length rows.now }
-    requires falls { Falls probe.now rows.now numbers.now.items }
-    ensures { IsTrue result → IsBound probe.now rows.now numbers.now.items place }
-{
-    place <= numbers.len()
-        && all_before(rows, numbers, probe, place)
-        && none_from(rows, numbers, probe, place)
-}
-
-// Whether the rows before a place stand before what is sought.
-fn all_before<A: Allocator>(
-    rows: &[Row<A>],
-    numbers: &VecDeque<usize, A>,
-    probe: &Probe,
-    place: usize,
-) -> bool
-    requires below { (k : ℕ) → k < length numbers.now.items → slice_index numbers.now.items k < length rows.now }
-    requires falls { Falls probe.now rows.now numbers.now.items }
-    requires within { place ≤ length numbers.now.items }
-    ensures { IsTrue result → (i : ℕ) (d : Holding) → i < place → is_before probe.now (row_at_place rows.now numbers.now.items i d) ≡ true }
-{
-    if place == 0 {
-        return true;
-    }
-    probe.is_after(&rows[numbers[place - 1]])
-}
-
-// Whether no row from a place on stands before what is sought.
-fn none_from<A: Allocator>(
-    rows: &[Row<A>],
-    numbers: &VecDeque<usize, A>,
-    probe: &Probe,
-    place: usize,
-) -> bool
-    requires below { (k : ℕ) → k < length numbers.now.items → slice_index numbers.now.items k < length rows.now }
-    requires falls { Falls probe.now rows.now numbers.now.items }
-    ensures { IsTrue result → (i : ℕ) (d : Holding) → place ≤ i → i < length numbers.now.items → is_before probe.now (row_at_place rows.now numbers.now.items i d) ≡ false }
-{
-    if place >= numbers.len() {
-        return true;
-    }
-    !probe.is_after(&rows[numbers[place]])
 }
 
 /// As `find`, with steps that nobody counts.

@@ -18,8 +18,8 @@ use lisp_records::Row;
 use std::alloc::Allocator;
 use std::collections::VecDeque;
 
-/// Where the row that was set last has its place by prefix, and had it by deadline. The next row of a Map-Register is
-/// mostly that of the next prefix, and was set together with this one: its places are likely to be the next ones.
+/// Where the next row is looked for first: behind the one that was set last by prefix, and by deadline where that one
+/// was. A Map-Register names its prefixes mostly in their order, and its rows were mostly set together.
 #[derive(Clone, Copy)]
 pub(crate) struct Near {
     prefix: usize,
@@ -53,12 +53,9 @@ pub(crate) fn put<A: Allocator>(
     ensures deadlines_room { deque_capacity by_deadline.old - deque_len by_deadline.old ≤ deque_capacity by_deadline.new - deque_len by_deadline.new + 1 }
 {
     known(&row);
-    let found = number_of(rows, by_prefix, &row, &mut near.prefix);
-    let place = near.prefix;
-    near.prefix = place.saturating_add(1);
-    match found {
+    match number_of(rows, by_prefix, &row, &mut near.prefix) {
         Some(number) => replace(rows, by_deadline, number, row, &mut near.deadline),
-        None => add(rows, by_prefix, by_deadline, row, place),
+        None => add(rows, by_prefix, by_deadline, row),
     }
 }
 
@@ -69,7 +66,7 @@ fn known<A: Allocator>(row: &Row<A>)
     let _first = row.mapping.eid().addr();
 }
 
-// The number of the row of the same router and prefix; `near` becomes its place, or the one where it goes.
+// The number of the row of the same router and prefix; `near` becomes the place behind its own.
 fn number_of<A: Allocator>(
     rows: &[Row<A>],
     by_prefix: &VecDeque<usize, A>,
@@ -80,10 +77,11 @@ fn number_of<A: Allocator>(
     ensures { result ≡ position (is_row_of row.now.router row.now.mapping.eid) rows.now }
 {
     if let Some(number) = number_at(rows, by_prefix, row, *near) {
+        *near = near.saturating_add(1);
         return Some(number);
     }
     let place = place(rows, by_prefix, &Order::ByPrefix.probe(row));
-    *near = place;
+    *near = place.saturating_add(1);
     number_at(rows, by_prefix, row, place)
 }
 
@@ -113,8 +111,7 @@ fn is_row_of<A: Allocator>(one: &Row<A>, other: &Row<A>) -> bool
     other.router == one.router && other.mapping.eid() == one.mapping.eid()
 }
 
-// Sets a row over the one of the same router and prefix; `near` becomes the place that this one had by deadline. The
-// row mostly goes to the end there, since time moves on.
+// Sets a row over the one of the same router and prefix; `near` becomes the place that this one had by deadline.
 fn replace<A: Allocator>(
     rows: &mut Vec<Row<A>, A>,
     by_deadline: &mut VecDeque<usize, A>,
@@ -136,17 +133,15 @@ fn replace<A: Allocator>(
 {
     *near = leave(rows, by_deadline, number, Order::ByDeadline, *near);
     rows[number] = row;
-    let end = by_deadline.len();
-    enter(rows, by_deadline, number, Order::ByDeadline, end);
+    enter(rows, by_deadline, number, Order::ByDeadline);
 }
 
-// Adds a row for a router and prefix that has none, by prefix perhaps at the place `near`.
+// Adds a row for a router and prefix that has none.
 fn add<A: Allocator>(
     rows: &mut Vec<Row<A>, A>,
     by_prefix: &mut VecDeque<usize, A>,
     by_deadline: &mut VecDeque<usize, A>,
     row: Row<A>,
-    near: usize,
 )
     requires indexed { Indexed rows.old.items by_prefix.old.items by_deadline.old.items }
     requires block { IsBlock row.mapping.eid }
@@ -165,9 +160,8 @@ fn add<A: Allocator>(
 {
     let number = rows.len();
     rows.push_reserved(row);
-    enter(rows, by_prefix, number, Order::ByPrefix, near);
-    let end = by_deadline.len();
-    enter(rows, by_deadline, number, Order::ByDeadline, end);
+    enter(rows, by_prefix, number, Order::ByPrefix);
+    enter(rows, by_deadline, number, Order::ByDeadline);
 }
 
 /// Takes out the rows that are dead at a moment, in ms, of at most 2^62: the first ones by deadline.

@@ -1,9 +1,8 @@
-use Rattle.std.proofs.Common.{◌<◌, deque_len, refl, sym, ap, ◌∙◌, arith}
-use Rattle.std.proofs.lemmas.Bool.{false≢true}
+use Rattle.std.proofs.Common.{refl, sym, ap, ◌∙◌, arith}
 use Rattle.std.proofs.lemmas.List.{get_or_read}
 use Rattle.lisp_lookup.specs.Table.{is_row_of}
 use Rattle.lisp_lookup.specs.Index.{prefix_cmp}
-use Rattle.lisp_lookup.proofs.IndexLaws.{number_within, number_at}
+use Rattle.lisp_lookup.proofs.IndexLaws.{number_within}
 use Rattle.lisp_lookup.proofs.PutLaws.{found_here}
 use Rattle.lisp_lookup.proofs.index.number_at.Goals as goal
 
