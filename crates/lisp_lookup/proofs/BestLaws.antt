@@ -31,7 +31,7 @@ Seen rows numbers first upto h = (k : ℕ) × (first ≤ k) × (k < upto) × (ro
 abbrev pub of_prefix : List Holding → Block → List Holding
 of_prefix rows eid = filter (λ h. block_eq h.mapping.eid eid) rows
 
-module _ (rows : List Holding) (numbers : List ℕ) (eid : Block) (first : ℕ) (index : IsIndex prefix_cmp rows numbers) (bound : IsBound (Prefix eid) rows numbers first) where
+module _ {A : Type 0} (rows : List Holding) (numbers : List ℕ) (eid : Block) (first : ℕ) (index : IsIndex prefix_cmp rows numbers) (bound : IsBound {A = A} (Prefix eid) rows numbers first) where
   -- no row before the first has the prefix
   before_first : (k : ℕ) (d : Holding) → k < first → (row_at_place rows numbers k d).mapping.eid ≢ eid
   before_first k d lt same = absurd (let clash : ◌≡◌ {A = Ordering} Less Equal = sym (less (block_cmp (row_at_place rows numbers k d).mapping.eid eid) (bound.before k d lt)) ∙ ap (λ (b : Block). block_cmp b eid) same ∙ itself block_cmp block_total eid in cc)

@@ -166,7 +166,7 @@ module _ (cmp : Holding → Holding → Ordering) (total : IsTotalOrder cmp) whe
       rising = λ i j d lt within. pair_case i j (slice_index (insert numbers place n) i) (slice_index (insert numbers place n) j) d lt (omega (arith, within, length-insert numbers place n le)) (inserted_from numbers place n i le) (inserted_from numbers place n j le);
     }
 
-  module _ (x : Holding) (probe : Probe) (seeks : (h : Holding) → is_before probe h ≡ is_lt (cmp h x)) where
+  module _ (x : Holding) {A : Type 0} (probe : Probe A) (seeks : (h : Holding) → is_before probe h ≡ is_lt (cmp h x)) where
     -- a row is sought by its order
     pub falls : (rows : List Holding) (numbers : List ℕ) → Rises cmp rows numbers → Falls probe rows numbers
     falls rows numbers rises i j d lt within before =
@@ -203,7 +203,7 @@ module _ (cmp : Holding → Holding → Ordering) (total : IsTotalOrder cmp) whe
 
 module _ (order : Order) (rows : List Holding) (numbers : List ℕ) (number : ℕ) (x : Holding) (rises : Rises (order_cmp order) rows numbers) where
   -- a number that is held is found
-  pub found_place : (probe : Probe) (place : ℕ) → ((h : Holding) → is_before probe h ≡ is_lt (order_cmp order h x)) → IsBound probe rows numbers place → Contains numbers number → x ≡ slice_index_or rows number x → (place < length numbers) × (slice_index numbers place ≡ number)
+  pub found_place : {A : Type 0} (probe : Probe A) (place : ℕ) → ((h : Holding) → is_before probe h ≡ is_lt (order_cmp order h x)) → IsBound probe rows numbers place → Contains numbers number → x ≡ slice_index_or rows number x → (place < length numbers) × (slice_index numbers place ≡ number)
   found_place probe place seeks bound (p, lt, at) read =
       let named = number_at numbers p number lt at in
       let tie : order_cmp order (row_at_place rows numbers p x) x ≡ Equal = ap (λ (n : ℕ). order_cmp order (slice_index_or rows n x) x) named ∙ ap (λ (h : Holding). order_cmp order h x) (sym read) ∙ itself (order_cmp order) (order_total order) x in
@@ -230,7 +230,7 @@ module _ (order : Order) (rows : List Holding) (numbers : List ℕ) (number : �
         omega (arith, from.1, at));
   }
 
-  pub entered_at : (probe : Probe) (place : ℕ) → ((h : Holding) → is_before probe h ≡ is_lt (order_cmp order h x)) → IsBound probe rows numbers place → number < length rows → IsFresh rows numbers number → x ≡ slice_index_or rows number x → Entered order rows numbers (insert numbers place number) number
+  pub entered_at : {A : Type 0} (probe : Probe A) (place : ℕ) → ((h : Holding) → is_before probe h ≡ is_lt (order_cmp order h x)) → IsBound probe rows numbers place → number < length rows → IsFresh rows numbers number → x ≡ slice_index_or rows number x → Entered order rows numbers (insert numbers place number) number
   entered_at probe place seeks bound row fresh read = record {
     rises = rises_insert (order_cmp order) (order_total order) rows numbers place number bound.within row (λ i d lt. ap (order_cmp order (row_at_place rows numbers i d)) (sym (known d)) ∙ gap_below (order_cmp order) (order_total order) x probe seeks rows numbers place rises bound i d lt) (λ i d le lt. ap (λ (h : Holding). order_cmp order h (row_at_place rows numbers i d)) (sym (known d)) ∙ gap_above (order_cmp order) (order_total order) x probe seeks rows numbers place rises bound (no_tie fresh read) i d le lt) rises;
     others = λ n held. moved n (suc held.0, omega (arith, held.1), held.2);
@@ -249,7 +249,7 @@ prefix_case a b eid Equal second is up before = ap is_lt (block_total.congr a b 
 prefix_case a b eid Greater second is up before = absurd cc
 
 -- a prefix is sought in the order by prefix
-pub falls_prefix : (eid : Block) (rows : List Holding) (numbers : List ℕ) → Rises prefix_cmp rows numbers → Falls (Prefix eid) rows numbers
+pub falls_prefix : (eid : Block) (rows : List Holding) (numbers : List ℕ) → Rises prefix_cmp rows numbers → Falls {A = Unit {0}} (Prefix eid) rows numbers
 falls_prefix eid rows numbers rises i j d lt within before =
     let a = row_at_place rows numbers i d in
     let b = row_at_place rows numbers j d in

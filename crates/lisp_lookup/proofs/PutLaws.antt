@@ -95,7 +95,7 @@ module _ (rows : List Holding) (numbers : List ℕ) (row : Holding) (index : IsI
   found_here number lt own = by_case number (position (is_row_of row.router row.mapping.eid) rows) lt own refl
 
 -- the row of a router and a prefix stands where it is sought
-module _ (rows : List Holding) (numbers : List ℕ) (row : Holding) (probe : Probe) (place : ℕ) (seeks : (h : Holding) → is_before probe h ≡ is_lt (prefix_cmp h row)) (index : IsIndex prefix_cmp rows numbers) (bound : IsBound probe rows numbers place) where
+module _ (rows : List Holding) (numbers : List ℕ) (row : Holding) {A : Type 0} (probe : Probe A) (place : ℕ) (seeks : (h : Holding) → is_before probe h ≡ is_lt (prefix_cmp h row)) (index : IsIndex prefix_cmp rows numbers) (bound : IsBound probe rows numbers place) where
   abbrev is_own : Holding → Bool
   is_own = is_row_of row.router row.mapping.eid
 

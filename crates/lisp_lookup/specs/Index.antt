@@ -12,7 +12,7 @@ use Rattle.lisp_lookup.specs.Table.{row_key}
 use Rattle.lisp_lookup.specs.declared.order.Order.{Order}
 use Rattle.lisp_lookup.specs.declared.order.Order.TheVariants.{ByPrefix, ByDeadline}
 use Rattle.lisp_lookup.specs.declared.probe.Probe.{Probe}
-use Rattle.lisp_lookup.specs.declared.probe.Probe.TheVariants.{Prefix, Row, Deadline}
+use Rattle.lisp_lookup.specs.declared.probe.Probe.TheVariants.{Prefix, Row}
 
 -- from when on a row is dead, in ms: always, where it has no life
 abbrev pub deadline : Holding → ℕ
@@ -51,23 +51,22 @@ pub record Indexed (rows : List Holding) (prefixes deadlines : List ℕ) : Type 
   pub by_deadline : IsIndex deadline_cmp rows deadlines
 
 -- a row stands before what is sought
-abbrev pub is_before : Probe → Holding → Bool
+abbrev pub is_before : {A : Type 0} → Probe A → Holding → Bool
 is_before (Prefix eid) h = is_lt (block_cmp h.mapping.eid eid)
-is_before (Row eid router) h = is_lt (ordering_then (block_cmp h.mapping.eid eid) (router_cmp h.router router))
-is_before (Deadline at eid router) h = is_lt (ordering_then (nat_cmp (deadline h) at) (ordering_then (block_cmp h.mapping.eid eid) (router_cmp h.router router)))
+is_before (Row order sought) h = is_lt (order_cmp order h sought.now)
 
 -- what stands before a row that stands before what is sought does so too
-abbrev pub Falls : Probe → List Holding → List ℕ → Type 0
+abbrev pub Falls : {A : Type 0} → Probe A → List Holding → List ℕ → Type 0
 Falls probe rows numbers = (i j : ℕ) (d : Holding) → i < j → j < length numbers → is_before probe (row_at_place rows numbers j d) ≡ true → is_before probe (row_at_place rows numbers i d) ≡ true
 
 -- the first place whose row doesn't stand before what is sought
-pub record IsBound (probe : Probe) (rows : List Holding) (numbers : List ℕ) (place : ℕ) : Type 0 where
+pub record IsBound {A : Type 0} (probe : Probe A) (rows : List Holding) (numbers : List ℕ) (place : ℕ) : Type 0 where
   pub within : place ≤ length numbers
   pub before : (i : ℕ) (d : Holding) → i < place → is_before probe (row_at_place rows numbers i d) ≡ true
   pub after : (i : ℕ) (d : Holding) → place ≤ i → i < length numbers → is_before probe (row_at_place rows numbers i d) ≡ false
 
 -- a row is sought by the order
-abbrev pub Seeks : Order → Holding → Probe → Type 0
+abbrev pub Seeks : {A : Type 0} → Order → Holding → Probe A → Type 0
 Seeks order x probe = (h : Holding) → is_before probe h ≡ is_lt (order_cmp order h x)
 
 -- a number was taken out, and no other

@@ -16,7 +16,7 @@ use std::sync::ledger::{Blank, Ledger};
 pub(crate) fn find<A: Allocator, L: Ledger>(
     rows: &[Row<A>],
     numbers: &VecDeque<usize, A>,
-    probe: &Probe,
+    probe: &Probe<'_, A>,
     steps: &mut Steps<L>,
 ) -> usize
     requires below { (k : ℕ) → k < length numbers.now.items → slice_index numbers.now.items k < length rows.now }
@@ -44,7 +44,7 @@ pub(crate) fn find<A: Allocator, L: Ledger>(
 pub(crate) fn place_from_end<A: Allocator>(
     rows: &[Row<A>],
     numbers: &VecDeque<usize, A>,
-    probe: &Probe,
+    probe: &Probe<'_, A>,
 ) -> usize
     requires below { (k : ℕ) → k < length numbers.now.items → slice_index numbers.now.items k < length rows.now }
     requires falls { Falls probe.now rows.now numbers.now.items }
@@ -61,7 +61,7 @@ pub(crate) fn place_from_end<A: Allocator>(
 pub(crate) fn place<A: Allocator>(
     rows: &[Row<A>],
     numbers: &VecDeque<usize, A>,
-    probe: &Probe,
+    probe: &Probe<'_, A>,
 ) -> usize
     requires below { (k : ℕ) → k < length numbers.now.items → slice_index numbers.now.items k < length rows.now }
     requires falls { Falls probe.now rows.now numbers.now.items }
@@ -73,7 +73,7 @@ pub(crate) fn place<A: Allocator>(
 fn counted<A: Allocator, L: Ledger>(
     rows: &[Row<A>],
     numbers: &VecDeque<usize, A>,
-    probe: &Probe,
+    probe: &Probe<'_, A>,
     blank: Blank,
 ) -> usize
     requires name { blank.name ≡ L.name }

@@ -12,8 +12,7 @@ ghost use Rattle.lisp_lookup.specs.Index.{prefix_cmp, deadline_cmp, order_cmp, r
 
 use crate::edits::{enter, leave, rename};
 use crate::find::place;
-use crate::order::Order;
-use crate::probe::deadline;
+use crate::order::{Order, deadline};
 use lisp_records::Row;
 use std::alloc::Allocator;
 use std::collections::VecDeque;

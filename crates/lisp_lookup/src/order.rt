@@ -1,11 +1,12 @@
 //! The orders in which rows are found.
 
 ghost use Rattle.std.specs.Prelude.{◌≡◌};
-ghost use Rattle.lisp_lookup.specs.Index.{Seeks};
+ghost use Rattle.lisp_lookup.specs.Index.{Seeks, deadline, prefix_cmp, order_cmp};
 
-use crate::probe::{Probe, deadline};
+use crate::probe::Probe;
 use lisp_records::Row;
 use std::alloc::Allocator;
+use std::cmp::Ordering;
 
 /// An order of rows in which no two of one router and prefix are apart.
 #[derive(Clone, Copy)]
@@ -18,13 +19,43 @@ pub(crate) enum Order {
 
 impl Order {
     /// What finds a row in the order.
-    pub(crate) fn probe<A: Allocator>(self, row: &Row<A>) -> Probe
+    pub(crate) fn probe<A: Allocator>(self, row: &Row<A>) -> Probe<'_, A>
         ensures { Seeks self row.now result }
     {
-        let eid = row.mapping.eid();
+        Probe::Row(self, row)
+    }
+
+    /// How two rows stand in the order.
+    pub(crate) fn cmp<A: Allocator>(self, one: &Row<A>, other: &Row<A>) -> Ordering
+        ensures { result ≡ order_cmp self one.now other.now }
+    {
         match self {
-            Order::ByPrefix => Probe::Row(eid, row.router),
-            Order::ByDeadline => Probe::Deadline(deadline(row), eid, row.router),
+            Order::ByPrefix => prefix_cmp(one, other),
+            Order::ByDeadline => match deadline(one).cmp(&deadline(other)) {
+                Ordering::Equal => prefix_cmp(one, other),
+                order => order,
+            },
         }
+    }
+}
+
+// How two rows stand by prefix, then router: routers, the longer of the two, are looked at only where prefixes are
+// equal.
+fn prefix_cmp<A: Allocator>(one: &Row<A>, other: &Row<A>) -> Ordering
+    ensures { result ≡ prefix_cmp one.now other.now }
+{
+    match one.mapping.eid().cmp(&other.mapping.eid()) {
+        Ordering::Equal => one.router.cmp(&other.router),
+        order => order,
+    }
+}
+
+/// When a row is no longer alive, in ms: 0 where it has no life.
+pub(crate) fn deadline<A: Allocator>(row: &Row<A>) -> u64
+    ensures { result ≡ deadline row.now }
+{
+    match row.life {
+        0 => 0,
+        life => row.accepted.saturating_add(life),
     }
 }

@@ -163,8 +163,8 @@ fn first_bits(byte: u8, count: u8) -> u8
     requires { count ≤ 8 }
     ensures { result ≡ high_bits byte count }
 {
-    let unit = 1u16 << (8 - count);
-    (u16::from(byte) / unit * unit) as u8
+    let cleared = 8 - count;
+    (u16::from(byte) >> cleared << cleared) as u8
 }
 
 /// Appends an AFI and its address. Out of memory, it may leave a part of them.

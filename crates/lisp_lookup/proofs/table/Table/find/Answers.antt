@@ -9,7 +9,7 @@ use Rattle.lisp_lookup.proofs.CountLaws.{count_rows, long_index}
 use Rattle.lisp_lookup.proofs.table.Table.find.Goals as goal
 
 pub find-requires-clause-falls : goal.find-requires-clause-falls
-find-requires-clause-falls g c = subst (λ (rows : List Holding). Falls (Prefix c.args.prefix.now) rows c.self.inside.by_prefix.items) (sym c.deref.ensures.value) (falls_prefix c.args.prefix.now c.self.inside.items.items c.self.inside.by_prefix.items c.self.invariant.by_prefix.rises)
+find-requires-clause-falls g c = subst (λ (rows : List Holding). Falls {A = Unit {0}} (Prefix c.args.prefix.now) rows c.self.inside.by_prefix.items) (sym c.deref.ensures.value) (falls_prefix c.args.prefix.now c.self.inside.items.items c.self.inside.by_prefix.items c.self.invariant.by_prefix.rises)
 
 pub returns-clause-lesser : goal.returns-clause-lesser
 returns-clause-lesser g c =
