@@ -1,8 +1,7 @@
 -- Numbers of rows in rising order: what is sought in them, and what an edit leaves.
-use Rattle.std.proofs.Common.{◌≡◌, ◌≢◌, ◌⊎◌, inl, inr, ℕ, zero, suc, ◌+◌, ◌-◌, ◌<◌, ◌≤◌, true, List, [], ◌∷◌, length, slice_index, slice_index_or, refl, sym, ap, ◌∙◌, subst, true≢false, Result, Ok, Err, arith}
+use Rattle.std.proofs.Common.{◌≡◌, ◌≢◌, ◌⊎◌, inl, inr, ℕ, zero, suc, ◌+◌, ◌-◌, ◌<◌, ◌≤◌, true, List, [], ◌∷◌, length, slice_index, slice_index_or, refl, sym, ap, ◌∙◌, subst, true≢false, arith}
 use Rattle.std.specs.List.{Contains, insert, remove}
 use Rattle.std.specs.Ordering.{is_lt, nat_cmp, ordering_reverse, ordering_then}
-use Rattle.std.specs.Result.{OnOk, OnErr}
 use Rattle.std.specs.Cmp.{IsTotalOrder, on_total, then_total, nat_cmp_total}
 use Rattle.std.specs.declared.cmp.Ordering.{Ordering}
 use Rattle.std.specs.declared.cmp.Ordering.TheVariants.{Less, Equal, Greater}
@@ -39,11 +38,6 @@ row_read cmp rows numbers k number x rises lt read at = get_or_read rows (slice_
 -- the first number is that of a row
 pub first_within : (cmp : Holding → Holding → Ordering) (rows : List Holding) (numbers : List ℕ) (number : ℕ) → Rises cmp rows numbers → 0 < length numbers → number ≡ slice_index_or numbers 0 number → number < length rows
 first_within cmp rows numbers number = number_within cmp rows numbers 0 number
-
--- what an edit that had room did
-pub done : {X E P Q : Type 0} (result : Result X E) → OnOk result P → OnErr result Q → (Q → ⊥) → P
-done (Ok x) ok err room = ok
-done (Err e) ok err room = absurd (room err)
 
 -- what an edit took each place from
 abbrev pub Skips : ℕ → ℕ → ℕ → Type 0

@@ -1,7 +1,7 @@
 //! What enters and leaves an order of rows: numbers of rows, and no rows.
 
 ghost use Rattle.std.specs.Prelude.{◌≡◌, ◌+◌, ◌<◌, ◌≤◌, length, slice_index};
-ghost use Rattle.std.specs.List.{Contains};
+ghost use Rattle.std.specs.List.{Contains, insert, remove};
 ghost use Rattle.std.specs.VecDeque.{deque_len, deque_capacity};
 ghost use Rattle.lisp_lookup.specs.Index.{order_cmp, Rises, Left, IsFresh, Entered, Renamed};
 
@@ -27,6 +27,20 @@ pub(crate) fn enter<A: Allocator>(
     ensures capacity { deque_capacity numbers.old ≤ deque_capacity numbers.new }
 {
     let place = place_from_end(rows, numbers, &order.probe(&rows[number]));
+    put_at(numbers, place, number);
+}
+
+// Puts a number at a place: mostly the end, where nothing moves.
+fn put_at<A: Allocator>(numbers: &mut VecDeque<usize, A>, place: usize, number: usize)
+    requires within { place ≤ length numbers.old.items }
+    requires room { deque_len numbers.old < deque_capacity numbers.old }
+    ensures items { numbers.new.items ≡ insert numbers.old.items place number }
+    ensures len { deque_len numbers.new ≡ deque_len numbers.old + 1 }
+    ensures capacity { deque_capacity numbers.old ≤ deque_capacity numbers.new }
+{
+    if place == numbers.len() {
+        return numbers.push_back_reserved(number);
+    }
     let _ = numbers.insert(place, number);
 }
 
@@ -47,8 +61,22 @@ pub(crate) fn leave<A: Allocator>(
     ensures capacity { deque_capacity numbers.new ≡ deque_capacity numbers.old }
 {
     let place = place_of(rows, numbers, number, order, near);
-    let _ = numbers.remove(place);
+    take_out(numbers, place);
     place
+}
+
+// Takes out the number at a place: mostly the first one, behind which nothing moves.
+fn take_out<A: Allocator>(numbers: &mut VecDeque<usize, A>, place: usize)
+    requires within { place < length numbers.old.items }
+    ensures items { numbers.new.items ≡ remove numbers.old.items place }
+    ensures len { deque_len numbers.new + 1 ≡ deque_len numbers.old }
+    ensures capacity { deque_capacity numbers.new ≡ deque_capacity numbers.old }
+{
+    let _ = if place == 0 {
+        numbers.pop_front()
+    } else {
+        numbers.remove(place)
+    };
 }
 
 // The place of a number in an order, perhaps `near`.

@@ -1,7 +1,9 @@
 -- Masking an address byte by byte.
-use Rattle.std.proofs.Common.{◌≡◌, ℕ, suc, ◌+◌, ◌-◌, ◌<◌, ◌≤◌, List, ◌∷◌, ◌++◌, [], length, get_or, set, take, drop, min, refl, sym, ◌∙◌, append_assoc, add-one, arith}
+use Rattle.std.proofs.Common.{◌≡◌, ◌≢◌, ◌⊎◌, inl, inr, ℕ, zero, suc, ◌+◌, ◌-◌, ◌*◌, ◌/◌, ◌%◌, ◌<◌, ◌≤◌, List, ◌∷◌, ◌++◌, [], length, get_or, set, take, drop, min, refl, sym, ap, ◌∙◌, append_assoc, add-one, arith}
+use Rattle.std.proofs.Math.Nat.{div-one}
 use Rattle.std.proofs.Math.Seq.{drop-cons}
 use Rattle.std.proofs.Math.ListN.{drop_of_length-le}
+use Rattle.std.proofs.lemmas.Bool.{cases_eq}
 use Rattle.std.proofs.lemmas.List.{take_more_set, take_all, drop-set-lt, append-nil}
 use Rattle.lisp_records.specs.Address.{high_bits, masked}
 
@@ -21,3 +23,33 @@ unfolding masked
 masked_ends bytes i left total le so_far =
     let none : masked (drop i bytes) left ≡ [] = rw (drop_of_length-le bytes le) refl in
     sym (append-nil bytes) ∙ rw (take_all i bytes le, none) at so_far
+
+-- the first 8 bits of a byte are the byte
+whole_byte : (byte : ℕ) → high_bits byte 8 ≡ byte
+whole_byte byte = omega (arith, div-one byte)
+
+-- whole bytes of the mask stay as they are
+pub masked_whole : (bytes : List ℕ) (whole n : ℕ) → 8 * whole ≤ n → masked bytes n ≡ take whole bytes ++ masked (drop whole bytes) (n - 8 * whole)
+unfolding masked
+masked_whole bytes zero n le = ap (masked bytes) (omega arith)
+masked_whole [] (suc whole) n le = refl
+masked_whole (byte ∷ bytes) (suc whole) n le =
+    let kept : min n 8 ≡ 8 = omega arith in
+    let left : n - 8 - 8 * whole ≡ n - 8 * suc whole = omega arith in
+    rw (kept, whole_byte byte, masked_whole bytes whole (n - 8) (omega arith), left) refl
+
+-- behind the whole bytes as many bits are left as the mask has beyond them
+bits_left : (bytes : List ℕ) (whole n : ℕ) → whole ≡ min (n / 8) (length bytes) → masked (drop whole bytes) (n % 8) ≡ masked (drop whole bytes) (n - 8 * whole)
+unfolding masked
+bits_left bytes whole n is = either (cases_eq whole (n / 8))
+  where
+    either : (whole ≡ n / 8) ⊎ (whole ≢ n / 8) → masked (drop whole bytes) (n % 8) ≡ masked (drop whole bytes) (n - 8 * whole)
+    either (inl same) = ap (masked (drop whole bytes)) (omega (arith, same))
+    either (inr other) =
+        let none : drop whole bytes ≡ [] = drop_of_length-le bytes (omega (arith, is, other)) in
+        rw none refl
+
+-- the whole bytes and those behind, masked, are all bytes masked
+pub masked_parts : (bytes front past cleared : List ℕ) (whole n : ℕ) → whole ≡ min (n / 8) (length bytes) → front ≡ take whole bytes → past ≡ drop whole bytes → cleared ≡ masked past (n % 8) → front ++ cleared ≡ masked bytes n
+masked_parts bytes front past cleared whole n is front-is past-is cleared-is =
+    rw (front-is, cleared-is, past-is, bits_left bytes whole n is) (sym (masked_whole bytes whole n (omega (arith, is))))

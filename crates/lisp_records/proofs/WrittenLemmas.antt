@@ -3,9 +3,9 @@ use Rattle.std.proofs.Common.{◌≡◌, ℕ, ◌+◌, ◌<◌, List, [], ◌∷
 use Rattle.std.proofs.lemmas.Grind.{flat_map-append}
 use Rattle.std.proofs.lemmas.List.{append-nil, take_more}
 use Rattle.lisp_records.specs.declared.locator.Locator.{Locator}
-use Rattle.lisp_records.specs.Address.{family, width, IsWhole}
+use Rattle.lisp_records.specs.Address.{family, width, octets, IsWhole}
 use Rattle.lisp_records.specs.Record.{Mapping}
-use Rattle.lisp_records.specs.Written.{written_head, written_address, written_locator, written_locators, written}
+use Rattle.lisp_records.specs.Written.{written_head, written_afi, written_address, written_locator, written_locators, written}
 
 -- a record is its head, its EID-Prefix and its locators
 pub length-written : (m : Mapping) → IsWhole m.eid.addr → length (written m) ≡ 12 + width (family m.eid.addr) + length (written_locators m.locators)
@@ -14,10 +14,10 @@ length-written m whole =
     omega (arith, length-append (written_head m) (written_address m.eid.addr ++ written_locators m.locators), length-append (written_address m.eid.addr) (written_locators m.locators), whole.width)
 
 -- a record that was appended part by part
-pub written_from : (m : Mapping) (a b c d : List ℕ) → b ≡ a ++ written_head m → c ≡ b ++ written_address m.eid.addr → d ≡ c ++ written_locators m.locators → d ≡ a ++ written m
+pub written_from : (m : Mapping) (a b c d : List ℕ) → b ≡ a ++ (written_head m ++ written_afi m.eid.addr) → c ≡ b ++ octets m.eid.addr → d ≡ c ++ written_locators m.locators → d ≡ a ++ written m
 unfolding written
 written_from m a b c d to_b to_c to_d =
-    to_d ∙ rw (to_c, to_b, append_assoc, append_assoc) refl
+    to_d ∙ rw (to_c, to_b, append_assoc, append_assoc, append_assoc, append_assoc) refl
 
 -- one more locator is written behind those before it
 written_more : (ls : List Locator) (i : ℕ) (d : Locator) → i < length ls → written_locators (take (i + 1) ls) ≡ written_locators (take i ls) ++ written_locator (get_or ls i d)

@@ -7,9 +7,13 @@ use Rattle.lisp_records.specs.declared.locator.Locator.{Locator}
 use Rattle.lisp_records.specs.Address.{afi, family, octets}
 use Rattle.lisp_records.specs.Record.{Mapping, bit}
 
+-- the AFI of an address
+abbrev pub written_afi : Addr → List ℕ
+written_afi a = to_be_bytes w16 (afi (family a))
+
 -- an AFI, and its address
 abbrev pub written_address : Addr → List ℕ
-written_address a = to_be_bytes w16 (afi (family a)) ++ octets a
+written_address a = written_afi a ++ octets a
 
 abbrev pub written_locator : Locator → List ℕ
 written_locator l = l.priority ∷ l.weight ∷ l.m_priority ∷ l.m_weight ∷ 0 ∷ (bit l.local * 4 + bit l.probe * 2 + bit l.reachable) ∷ written_address l.addr

@@ -1,17 +1,13 @@
 //! Addresses of the two families that EIDs and locators may have.
 
-ghost use Rattle.std.specs.Prelude.{◌≡◌, ◌*◌, ◌++◌, ◌<◌, ◌≤◌, length, IfOk, IsErrOf, OnOk, OnErr};
+ghost use Rattle.std.specs.Prelude.{◌≡◌, ◌*◌, ◌<◌, ◌≤◌, IfOk, IsErrOf};
 ghost use Rattle.std.specs.List.{AllByRecursion};
-ghost use Rattle.lisp_records.specs.Grown.{Grew};
-ghost use Rattle.lisp_records.specs.Written.{written_address};
 ghost use Rattle.lisp_records.specs.Address.{afi, width, family, octets, IsWhole, high_bits, masked, cleared};
 ghost use Rattle.lisp_records.specs.Result.{Reads};
 ghost use Rattle.lisp_records.specs.Reading.{family_of, address_at};
 ghost use Rattle.lisp_records.specs.declared.fault.RecordFault.{RecordFault};
 
 use crate::fault::RecordFault;
-use lisp_memory::{FallibleCopies, Memory};
-use std::alloc::AllocError;
 
 /// An address family, as an AFI field names it (RFC 9301 section 5.4).
 #[derive(Clone, Copy, Debug, PartialEq, Eq)]
@@ -150,6 +146,15 @@ fn clear_past(bytes: &mut [u8], mask_len: u8)
     ensures cleared { bytes.new ≡ masked bytes.old mask_len }
     ensures bytes { AllByRecursion (λ n. n < 256) bytes.new }
 {
+    let whole = usize::from(mask_len / 8).min(bytes.len());
+    let (_, past) = bytes.split_at_mut(whole);
+    clear_each(past, mask_len % 8);
+}
+
+// As `clear_past`, byte by byte.
+fn clear_each(bytes: &mut [u8], mask_len: u8)
+    ensures { bytes.new ≡ masked bytes.old mask_len }
+{
     let mut left = mask_len;
     for byte in bytes.iter_mut() {
         let kept = left.min(8);
@@ -165,15 +170,4 @@ fn first_bits(byte: u8, count: u8) -> u8
 {
     let cleared = 8 - count;
     (u16::from(byte) >> cleared << cleared) as u8
-}
-
-/// Appends an AFI and its address. Out of memory, it may leave a part of them.
-pub(crate) fn put_address<A: Memory>(out: &mut Vec<u8, A>, addr: &Addr) -> Result<(), AllocError>
-    ensures ok { OnOk result (out.new.items ≡ out.old.items ++ written_address addr.now) }
-    ensures err { OnErr result (Grew out.old.items out.new.items) }
-    ensures memory { OnErr result A.may_refuse }
-{
-    out.try_extend_from_slice(&addr.family().afi().to_be_bytes())?;
-    out.try_extend_from_slice(addr.octets())?;
-    Ok(())
 }

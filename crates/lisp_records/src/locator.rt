@@ -8,7 +8,7 @@ ghost use Rattle.lisp_records.specs.Result.{Reads};
 ghost use Rattle.lisp_records.specs.Reading.{family_of, locator_at, locator_of};
 ghost use Rattle.lisp_records.specs.declared.fault.RecordFault.{RecordFault};
 
-use crate::address::{Addr, Family, put_address, read_address};
+use crate::address::{Addr, Family, read_address};
 use crate::fault::RecordFault;
 use crate::flags::is_set;
 use lisp_memory::{FallibleCopies, Memory};
@@ -108,6 +108,7 @@ pub(crate) fn put_locator<A: Memory>(
     let flags = u8::from(locator.local) * LOCAL
         + u8::from(locator.probe) * PROBE
         + u8::from(locator.reachable) * REACHABLE;
+    let [afi_high, afi_low] = locator.addr.family().afi().to_be_bytes();
     out.try_extend_from_slice(&[
         locator.priority,
         locator.weight,
@@ -115,7 +116,9 @@ pub(crate) fn put_locator<A: Memory>(
         locator.m_weight,
         0,
         flags,
+        afi_high,
+        afi_low,
     ])?;
-    put_address(out, &locator.addr)?;
+    out.try_extend_from_slice(locator.addr.octets())?;
     Ok(())
 }

@@ -6,12 +6,12 @@ ghost use Rattle.lisp_records.specs.Address.{IsWhole, IsBlock, family, width, ma
 ghost use Rattle.lisp_records.specs.Grown.{Grew};
 ghost use Rattle.lisp_records.specs.Record.{Mapping, IsLocator, IsMapping, bit};
 ghost use Rattle.lisp_records.specs.Spelling.{Spells};
-ghost use Rattle.lisp_records.specs.Written.{written, written_head, written_counts, written_locators};
+ghost use Rattle.lisp_records.specs.Written.{written, written_head, written_afi, written_locators};
 ghost use Rattle.lisp_records.specs.Result.{Reads};
 ghost use Rattle.lisp_records.specs.Reading.{Gives, HasLocators, start_at, family_of, number_at, mask_of, locators_at, mapping_of, record_at};
 ghost use Rattle.lisp_records.specs.declared.fault.RecordFault.{RecordFault};
 
-use crate::address::{Addr, Family, put_address, read_address};
+use crate::address::{Addr, Family, read_address};
 use crate::fault::RecordFault;
 use crate::flags::is_set;
 use crate::locator::{Locator, put_locator, read_locator};
@@ -340,37 +340,32 @@ fn put_record<A: Allocator, B: Memory>(
     ensures known { IsMapping entry.now }
 {
     let (eid, locators) = (entry.eid(), entry.locators());
-    put_head(out, entry)?;
-    put_address(out, &eid.addr())?;
+    out.try_extend_from_slice(&head_of(entry))?;
+    out.try_extend_from_slice(eid.addr().octets())?;
     put_locators(out, locators)?;
     Ok(())
 }
 
-fn put_head<A: Allocator, B: Memory>(
-    out: &mut Vec<u8, B>,
-    entry: &MapRecord<A>,
-) -> Result<(), AllocError>
-    ensures ok { OnOk result (out.new.items ≡ out.old.items ++ written_head entry.now) }
-    ensures err { OnErr result (Grew out.old.items out.new.items) }
-    ensures memory { OnErr result B.may_refuse }
+// The bytes before the EID-Prefix.
+fn head_of<A: Allocator>(entry: &MapRecord<A>) -> [u8; HEAD_LEN]
+    ensures { result ≡ written_head entry.now ++ written_afi entry.now.eid.addr }
 {
-    out.try_extend_from_slice(&entry.ttl().to_be_bytes())?;
-    out.try_extend_from_slice(&counts_and_flags(entry))?;
-    Ok(())
-}
-
-// The six bytes from the Locator Count to the Map-Version.
-fn counts_and_flags<A: Allocator>(entry: &MapRecord<A>) -> [u8; 6]
-    ensures { result ≡ written_counts entry.now }
-{
+    let [ttl_0, ttl_1, ttl_2, ttl_3] = entry.ttl().to_be_bytes();
     let [version_high, version_low] = entry.version().to_be_bytes();
+    let [afi_high, afi_low] = entry.eid().addr().family().afi().to_be_bytes();
     [
+        ttl_0,
+        ttl_1,
+        ttl_2,
+        ttl_3,
         entry.locators().len() as u8,
         entry.eid().mask_len(),
         entry.act() * ACT + u8::from(entry.authoritative()) * AUTHORITATIVE,
         0,
         version_high,
         version_low,
+        afi_high,
+        afi_low,
     ]
 }
 

@@ -1,6 +1,6 @@
-use Rattle.std.proofs.Common.{List, ℕ, subst, sym, arith}
+use Rattle.std.proofs.Common.{List, ℕ, subst, sym}
 use Rattle.lisp_lookup.specs.Index.{order_cmp, Entered}
-use Rattle.lisp_lookup.proofs.IndexLaws.{done, order_total, falls, entered_at}
+use Rattle.lisp_lookup.proofs.IndexLaws.{order_total, falls, entered_at}
 use Rattle.lisp_lookup.proofs.edits.enter.Goals as goal
 
 pub place_from_end-place-requires-clause-falls : goal.place_from_end-place-requires-clause-falls
@@ -8,5 +8,4 @@ place_from_end-place-requires-clause-falls g c = falls (order_cmp c.args.order) 
 
 pub returns-clause-entered : goal.returns-clause-entered
 returns-clause-entered g c =
-    let items = done c.insert.result c.insert.ensures.items c.insert.ensures.full (λ full. omega (arith, full, c.requires.room)) in
-    subst (λ (new : List ℕ). Entered c.args.order c.args.rows.now c.args.numbers.now.items new c.args.number) (sym items) (entered_at c.args.order c.args.rows.now c.args.numbers.now.items c.args.number c.index-rows-number.result c.requires.rises c.probe.result c.place_from_end-place.result c.probe.ensures c.place_from_end-place.ensures.bound c.requires.row c.requires.fresh c.index-rows-number.is)
+    subst (λ (new : List ℕ). Entered c.args.order c.args.rows.now c.args.numbers.now.items new c.args.number) (sym c.put_at.ensures.items) (entered_at c.args.order c.args.rows.now c.args.numbers.now.items c.args.number c.index-rows-number.result c.requires.rises c.probe.result c.place_from_end-place.result c.probe.ensures c.place_from_end-place.ensures.bound c.requires.row c.requires.fresh c.index-rows-number.is)
