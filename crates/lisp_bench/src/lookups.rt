@@ -34,14 +34,18 @@ static NAMES: [(&str, Call); 3] = [
 
 /// Prints how long each call takes, by the rows that are held; `None` where anything fails.
 pub(crate) fn measure<R: Print + Clock + AllocGlobal>(rt: &R) -> Option<()> {
-    let Ok(mut network) = Network::new(rt.alloc()) else {
-        return None;
-    };
+    match Network::new(rt.alloc()) {
+        Ok(mut network) => measure_held(rt, &mut network),
+        Err(_) => None,
+    }
+}
+
+fn measure_held<R: Print + Clock>(rt: &R, network: &mut Network) -> Option<()> {
     let mut before = 0;
     for held in &HELD {
         network.fill(before, *held)?;
         before = *held;
-        measure_calls(rt, &mut network, *held)?;
+        measure_calls(rt, network, *held)?;
     }
     Some(())
 }

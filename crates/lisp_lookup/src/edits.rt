@@ -12,6 +12,7 @@ use std::alloc::Allocator;
 use std::collections::VecDeque;
 
 /// Puts the number of a row into an order that has room for it. Takes no memory.
+#[inline(always)]
 pub(crate) fn enter<A: Allocator>(
     rows: &[Row<A>],
     numbers: &mut VecDeque<usize, A>,
@@ -30,7 +31,8 @@ pub(crate) fn enter<A: Allocator>(
     put_at(numbers, place, number);
 }
 
-// Puts a number at a place: mostly the end, where nothing moves.
+// Puts a number at a place: mostly the end, where nothing moves and `push_back` is the shorter way.
+#[inline(always)]
 fn put_at<A: Allocator>(numbers: &mut VecDeque<usize, A>, place: usize, number: usize)
     requires within { place ≤ length numbers.old.items }
     requires room { deque_len numbers.old < deque_capacity numbers.old }
@@ -39,13 +41,15 @@ fn put_at<A: Allocator>(numbers: &mut VecDeque<usize, A>, place: usize, number: 
     ensures capacity { deque_capacity numbers.old ≤ deque_capacity numbers.new }
 {
     if place == numbers.len() {
-        return numbers.push_back_reserved(number);
+        numbers.push_back_reserved(number);
+    } else {
+        let _ = numbers.insert(place, number);
     }
-    let _ = numbers.insert(place, number);
 }
 
 /// Takes the number of a row out of an order, where it has perhaps the place `near`. The answer is the place that it
 /// had.
+#[inline(always)]
 pub(crate) fn leave<A: Allocator>(
     rows: &[Row<A>],
     numbers: &mut VecDeque<usize, A>,
@@ -65,7 +69,8 @@ pub(crate) fn leave<A: Allocator>(
     place
 }
 
-// Takes out the number at a place: mostly the first one, behind which nothing moves.
+// Takes out the number at a place: mostly the first one, for which nothing moves and `pop_front` is the shorter way.
+#[inline(always)]
 fn take_out<A: Allocator>(numbers: &mut VecDeque<usize, A>, place: usize)
     requires within { place < length numbers.old.items }
     ensures items { numbers.new.items ≡ remove numbers.old.items place }
@@ -80,6 +85,7 @@ fn take_out<A: Allocator>(numbers: &mut VecDeque<usize, A>, place: usize)
 }
 
 // The place of a number in an order, perhaps `near`.
+#[inline(always)]
 fn place_of<A: Allocator>(
     rows: &[Row<A>],
     numbers: &VecDeque<usize, A>,

@@ -41,6 +41,7 @@ pub(crate) fn find<A: Allocator, L: Ledger>(
 }
 
 /// As `place`, where the end is looked at first.
+#[inline(always)]
 pub(crate) fn place_from_end<A: Allocator>(
     rows: &[Row<A>],
     numbers: &VecDeque<usize, A>,

@@ -53,7 +53,11 @@ pub(crate) fn put<A: Allocator>(
 {
     known(&row);
     match number_of(rows, by_prefix, &row, &mut near.prefix) {
-        Some(number) => replace(rows, by_deadline, number, row, &mut near.deadline),
+        Some(number) => {
+            near.deadline = leave(rows, by_deadline, number, Order::ByDeadline, near.deadline);
+            rows[number] = row;
+            enter(rows, by_deadline, number, Order::ByDeadline);
+        }
         None => add(rows, by_prefix, by_deadline, row),
     }
 }
@@ -66,6 +70,7 @@ fn known<A: Allocator>(row: &Row<A>)
 }
 
 // The number of the row of the same router and prefix; `near` becomes the place behind its own.
+#[inline(always)]
 fn number_of<A: Allocator>(
     rows: &[Row<A>],
     by_prefix: &VecDeque<usize, A>,
@@ -85,6 +90,7 @@ fn number_of<A: Allocator>(
 }
 
 // The number at a place by prefix, where it is that of the row of the same router and prefix.
+#[inline(always)]
 fn number_at<A: Allocator>(
     rows: &[Row<A>],
     by_prefix: &VecDeque<usize, A>,
@@ -104,35 +110,11 @@ fn number_at<A: Allocator>(
 }
 
 // Whether two rows are of one router and prefix.
+#[inline(always)]
 fn is_row_of<A: Allocator>(one: &Row<A>, other: &Row<A>) -> bool
     ensures { result ≡ is_row_of one.now.router one.now.mapping.eid other.now }
 {
     other.router == one.router && other.mapping.eid() == one.mapping.eid()
-}
-
-// Sets a row over the one of the same router and prefix; `near` becomes the place that this one had by deadline.
-fn replace<A: Allocator>(
-    rows: &mut Vec<Row<A>, A>,
-    by_deadline: &mut VecDeque<usize, A>,
-    number: usize,
-    row: Row<A>,
-    near: &mut usize,
-)
-    requires index { IsIndex deadline_cmp rows.old.items by_deadline.old.items }
-    requires one_each { OneEach rows.old.items }
-    requires within { number < length rows.old.items }
-    requires same { row_key (slice_index_or rows.old.items number row) ≡ row_key row }
-    requires room { deque_len by_deadline.old < deque_capacity by_deadline.old }
-    ensures items { rows.new.items ≡ slice_set rows.old.items number row }
-    ensures index { IsIndex deadline_cmp rows.new.items by_deadline.new.items }
-    ensures len { vec_len rows.new ≡ vec_len rows.old }
-    ensures capacity { vec_capacity rows.new ≡ vec_capacity rows.old }
-    ensures deadlines_len { deque_len by_deadline.new ≡ deque_len by_deadline.old }
-    ensures deadlines_capacity { deque_capacity by_deadline.old ≤ deque_capacity by_deadline.new }
-{
-    *near = leave(rows, by_deadline, number, Order::ByDeadline, *near);
-    rows[number] = row;
-    enter(rows, by_deadline, number, Order::ByDeadline);
 }
 
 // Adds a row for a router and prefix that has none.

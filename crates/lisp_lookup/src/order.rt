@@ -26,6 +26,7 @@ impl Order {
     }
 
     /// How two rows stand in the order.
+    #[inline(always)]
     pub(crate) fn cmp<A: Allocator>(self, one: &Row<A>, other: &Row<A>) -> Ordering
         ensures { result ≡ order_cmp self one.now other.now }
     {
@@ -41,6 +42,7 @@ impl Order {
 
 // How two rows stand by prefix, then router: routers, the longer of the two, are looked at only where prefixes are
 // equal.
+#[inline(always)]
 fn prefix_cmp<A: Allocator>(one: &Row<A>, other: &Row<A>) -> Ordering
     ensures { result ≡ prefix_cmp one.now other.now }
 {
@@ -51,6 +53,7 @@ fn prefix_cmp<A: Allocator>(one: &Row<A>, other: &Row<A>) -> Ordering
 }
 
 /// When a row is no longer alive, in ms: 0 where it has no life.
+#[inline(always)]
 pub(crate) fn deadline<A: Allocator>(row: &Row<A>) -> u64
     ensures { result ≡ deadline row.now }
 {

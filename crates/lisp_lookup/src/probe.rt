@@ -18,6 +18,7 @@ pub(crate) enum Probe<'r, A: Allocator> {
 
 impl<A: Allocator> Probe<'_, A> {
     /// Whether a row stands before what is sought.
+    #[inline(always)]
     pub(crate) fn is_after(&self, row: &Row<A>) -> bool
         ensures { result ≡ is_before self.now row.now }
     {

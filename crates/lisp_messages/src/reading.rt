@@ -28,7 +28,7 @@ pub(crate) const HEAD_LEN: usize = 32;
 /// `Record` for the first record that can't be read; then for a Map-Register `NoIds` (bit I is
 /// clear), `Short` or `Trailing` (other than 24 bytes after the records), for the other two
 /// `Trailing` (other than 0 or 24 bytes there, which are ignored). `OutOfMemory` may come in place
-/// of any answer past the first record.
+/// of any answer past the bytes before the records, where there are records.
 pub fn read_message<A: Memory + Copy>(alloc: A, bytes: &[u8]) -> Result<Message<A>, ReadFault>
     // What is read is spelled so.
     ensures found { IfOk result (λ m. Spells bytes.now (said m)) }
@@ -100,6 +100,7 @@ fn read_records<A: Memory + Copy>(
     ensures grows { IsErrOf result ReadFault.OutOfMemory → HasRecords bytes.now }
 {
     let mut records = Vec::new(alloc);
+    records.make_room(usize::from(bytes[3]))?;
     let mut at = HEAD_LEN;
     for place in 0..bytes[3] {
         match read_record(alloc, bytes, at) {

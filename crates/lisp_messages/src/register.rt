@@ -15,7 +15,7 @@ use crate::authentication::sign;
 use crate::fault::ReadFault;
 use crate::kind::Kind;
 use crate::reading::read_nonce;
-use crate::writing::{common_head, put_records};
+use crate::writing::{common_head, make_room, put_records};
 use lisp_hmac::Key;
 use lisp_memory::{FallibleCopies, Memory};
 use lisp_records::{MapRecord, Records, is_set};
@@ -118,8 +118,10 @@ fn put_register<A: Memory, B: Allocator>(
     ensures known { OnOk result (IsRegistration message.now) }
     ensures memory { OnErr result A.may_refuse }
 {
+    let records = message.records.as_slice();
+    make_room(out, records.len())?;
     put_head(out, message)?;
-    put_records(out, message.records.as_slice())?;
+    put_records(out, records)?;
     put_ids(out, message.xtr, message.site)?;
     Ok(())
 }

@@ -7,9 +7,15 @@ ghost use Rattle.lisp_messages.specs.Written.{written_records};
 
 use crate::reading::HMAC_SHA_256_128_NONE;
 use lisp_hmac::TAG_LEN;
-use lisp_memory::Memory;
+use lisp_memory::{FallibleVec, Memory};
 use lisp_records::{MapRecord, write_record};
 use std::alloc::{AllocError, Allocator};
+
+// The bytes of a message without its records: the 32 before them, xTR-ID and Site-ID.
+const MESSAGE_LEN: usize = 56;
+
+// The bytes of a record with one IPv4 locator; a message with longer ones may grow.
+const RECORD_LEN: usize = 28;
 
 /// The bytes from the Record Count to the Authentication Data, that one as zeros.
 #[rattlefmt::skip]
@@ -22,6 +28,18 @@ pub(crate) fn common_head(count: u8, nonce: u64, key_id: u8) -> [u8; 29]
         count, n0, n1, n2, n3, n4, n5, n6, n7, key_id, HMAC_SHA_256_128_NONE, 0, TAG_LEN as u8,
         0, 0, 0, 0, 0, 0, 0, 0, 0, 0, 0, 0, 0, 0, 0, 0,
     ]
+}
+
+/// Makes room for a message with so many records, so that nothing moves while it is written.
+pub(crate) fn make_room<A: Memory>(out: &mut Vec<u8, A>, records: usize) -> Result<(), AllocError>
+    ensures same { out.new.items ≡ out.old.items }
+    ensures memory { OnErr result A.may_refuse }
+{
+    out.make_room(
+        records
+            .saturating_mul(RECORD_LEN)
+            .saturating_add(MESSAGE_LEN),
+    )
 }
 
 /// Appends the written spellings of the records, one after the other.

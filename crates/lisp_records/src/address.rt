@@ -1,6 +1,6 @@
 //! Addresses of the two families that EIDs and locators may have.
 
-ghost use Rattle.std.specs.Prelude.{◌≡◌, ◌*◌, ◌<◌, ◌≤◌, IfOk, IsErrOf};
+ghost use Rattle.std.specs.Prelude.{◌≡◌, ◌*◌, ◌<◌, ◌≤◌, ◌++◌, if◌then◌else◌, is_ok, IfOk, IsErrOf, OnErr};
 ghost use Rattle.std.specs.List.{AllByRecursion};
 ghost use Rattle.lisp_records.specs.Address.{afi, width, family, octets, IsWhole, high_bits, masked, cleared};
 ghost use Rattle.lisp_records.specs.Result.{Reads};
@@ -8,6 +8,8 @@ ghost use Rattle.lisp_records.specs.Reading.{family_of, address_at};
 ghost use Rattle.lisp_records.specs.declared.fault.RecordFault.{RecordFault};
 
 use crate::fault::RecordFault;
+use lisp_memory::{FallibleCopies, Memory};
+use std::alloc::AllocError;
 
 /// An address family, as an AFI field names it (RFC 9301 section 5.4).
 #[derive(Clone, Copy, Debug, PartialEq, Eq)]
@@ -138,6 +140,17 @@ pub(crate) fn read_address(expected: Family, bytes: &[u8]) -> Result<(Addr, &[u8
             };
             Ok((Addr::V6(*octets), rest))
         }
+    }
+}
+
+/// Appends the bytes of an address.
+pub(crate) fn put_octets<A: Memory>(out: &mut Vec<u8, A>, addr: &Addr) -> Result<(), AllocError>
+    ensures items { out.new.items ≡ (if is_ok result then out.old.items ++ octets addr.now else out.old.items) }
+    ensures memory { OnErr result A.may_refuse }
+{
+    match addr {
+        Addr::V4(bytes) => out.try_extend_from_slice(bytes),
+        Addr::V6(bytes) => out.try_extend_from_slice(bytes),
     }
 }
 

@@ -8,7 +8,7 @@ ghost use Rattle.lisp_records.specs.Result.{Reads};
 ghost use Rattle.lisp_records.specs.Reading.{family_of, locator_at, locator_of};
 ghost use Rattle.lisp_records.specs.declared.fault.RecordFault.{RecordFault};
 
-use crate::address::{Addr, Family, read_address};
+use crate::address::{Addr, Family, put_octets, read_address};
 use crate::fault::RecordFault;
 use crate::flags::is_set;
 use lisp_memory::{FallibleCopies, Memory};
@@ -119,6 +119,6 @@ pub(crate) fn put_locator<A: Memory>(
         afi_high,
         afi_low,
     ])?;
-    out.try_extend_from_slice(locator.addr.octets())?;
+    put_octets(out, &locator.addr)?;
     Ok(())
 }

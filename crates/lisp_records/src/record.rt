@@ -11,7 +11,7 @@ ghost use Rattle.lisp_records.specs.Result.{Reads};
 ghost use Rattle.lisp_records.specs.Reading.{Gives, HasLocators, start_at, family_of, number_at, mask_of, locators_at, mapping_of, record_at};
 ghost use Rattle.lisp_records.specs.declared.fault.RecordFault.{RecordFault};
 
-use crate::address::{Addr, Family, read_address};
+use crate::address::{Addr, Family, put_octets, read_address};
 use crate::fault::RecordFault;
 use crate::flags::is_set;
 use crate::locator::{Locator, put_locator, read_locator};
@@ -341,7 +341,7 @@ fn put_record<A: Allocator, B: Memory>(
 {
     let (eid, locators) = (entry.eid(), entry.locators());
     out.try_extend_from_slice(&head_of(entry))?;
-    out.try_extend_from_slice(eid.addr().octets())?;
+    put_octets(out, &eid.addr())?;
     put_locators(out, locators)?;
     Ok(())
 }

@@ -19,8 +19,6 @@ pub const MAX_MOMENT: u64 = 1 << 62;
 pub struct Row<A: Allocator = Global> {
     /// The router that registered the record.
     pub router: RouterId,
-    /// The Key ID that its Map-Register was authenticated under.
-    pub key: u8,
     /// The nonce of its Map-Register.
     pub nonce: u64,
     /// The record.
@@ -29,6 +27,8 @@ pub struct Row<A: Allocator = Global> {
     pub accepted: u64,
     /// How long the record lives from then on, in ms.
     pub life: u64,
+    /// The Key ID that its Map-Register was authenticated under.
+    pub key: u8,
     /// P: the Map-Server is to answer Map-Requests for the router.
     pub proxy: bool,
     /// The source address of the Map-Register.

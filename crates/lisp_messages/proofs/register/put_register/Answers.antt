@@ -4,7 +4,7 @@ use Rattle.lisp_messages.proofs.register.put_register.Goals as goal
 
 pub returns-clause-known : goal.returns-clause-known
 returns-clause-known g c =
-    let known = rw c.as_slice.ensures at c.in_ok-put_records.ensures.known in
+    let known = rw c.as_slice-records.ensures at c.in_ok-put_records.ensures.known in
     rw (← c.message.view_is) (record {
       nonce = (rw (← c.message.view_is) at c.in_ok-put_head.ensures.fits).0;
       key = (rw (← c.message.view_is) at c.in_ok-put_head.ensures.fits).1;

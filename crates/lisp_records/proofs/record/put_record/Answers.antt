@@ -9,12 +9,12 @@ use Rattle.lisp_records.proofs.record.put_record.Goals as goal
 pub returns-clause-ok : goal.returns-clause-ok
 returns-clause-ok g c =
     let head : c.try_extend_from_slice.new.self.items ≡ c.args.out.now.items ++ (written_head c.args.entry.now ++ written_afi c.args.entry.now.eid.addr) = c.in_ok-try_extend_from_slice.ensures.items ∙ ap (λ (t : List ℕ). c.args.out.now.items ++ t) c.head_of.ensures in
-    let eid = c.octets.ensures.octets ∙ ap octets (c.addr.ensures.addr ∙ ap (λ (b : Block). b.addr) c.eid-eid.ensures) in
-    let address : c.try_extend_from_slice-2.new.self.items ≡ c.try_extend_from_slice.new.self.items ++ octets c.args.entry.now.eid.addr = c.in_ok-try_extend_from_slice-2.ensures.items ∙ ap (λ (t : List ℕ). c.try_extend_from_slice.new.self.items ++ t) eid in
-    let locators = ap (λ (ls : List Locator). c.try_extend_from_slice-2.new.self.items ++ written_locators ls) c.locators-locators.ensures.value in
-    written_from c.args.entry.now c.args.out.now.items c.try_extend_from_slice.new.self.items c.try_extend_from_slice-2.new.self.items c.put_locators.new.out.items head address (c.in_ok-put_locators.ensures.ok ∙ locators)
+    let eid = ap octets (c.addr.ensures.addr ∙ ap (λ (b : Block). b.addr) c.eid-eid.ensures) in
+    let address : c.put_octets.new.out.items ≡ c.try_extend_from_slice.new.self.items ++ octets c.args.entry.now.eid.addr = c.in_ok-put_octets.ensures.items ∙ ap (λ (t : List ℕ). c.try_extend_from_slice.new.self.items ++ t) eid in
+    let locators = ap (λ (ls : List Locator). c.put_octets.new.out.items ++ written_locators ls) c.locators-locators.ensures.value in
+    written_from c.args.entry.now c.args.out.now.items c.try_extend_from_slice.new.self.items c.put_octets.new.out.items c.put_locators.new.out.items head address (c.in_ok-put_locators.ensures.ok ∙ locators)
 
 pub returns-in_err-put_locators-clause-err : goal.returns-in_err-put_locators-clause-err
 returns-in_err-put_locators-clause-err g c =
-    let rest = Grew-step c.try_extend_from_slice.new.self.items c.try_extend_from_slice-2.new.self.items c.put_locators.new.out.items _ c.in_ok-try_extend_from_slice-2.ensures.items c.in_err-put_locators.ensures.err in
+    let rest = Grew-step c.try_extend_from_slice.new.self.items c.put_octets.new.out.items c.put_locators.new.out.items _ c.in_ok-put_octets.ensures.items c.in_err-put_locators.ensures.err in
     on_err c.from_residual-in_err-put_locators.result (Grew-step c.args.out.now.items c.try_extend_from_slice.new.self.items c.put_locators.new.out.items _ c.in_ok-try_extend_from_slice.ensures.items rest)

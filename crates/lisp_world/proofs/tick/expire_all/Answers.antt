@@ -16,3 +16,6 @@ loop-server-preserved g c =
 pub returns-clause-each : goal.returns-clause-each
 returns-clause-each g c k n m was is =
     c.loop-server.invariant.done k n m (omega (arith, slice_get_within c.args.servers.now k n was, c.loop-server-test.false)) was is
+
+pub returns-clause-count : goal.returns-clause-count
+returns-clause-count g c = c.loop-server.auto.servers
