@@ -46,7 +46,7 @@ impl Order {
 fn prefix_cmp<A: Allocator>(one: &Row<A>, other: &Row<A>) -> Ordering
     ensures { result ≡ prefix_cmp one.now other.now }
 {
-    match one.mapping.eid().cmp(&other.mapping.eid()) {
+    match one.mapping.eid_cmp(&other.mapping) {
         Ordering::Equal => one.router.cmp(&other.router),
         order => order,
     }

@@ -194,7 +194,7 @@ impl<A: Memory + Copy> Table<A> {
         ensures memory { OnErr result A.may_refuse }
     {
         let mut records = copy_live(*self.items.allocator(), &self.items, router, now)?;
-        records.sort_unstable_by(|one, other| eid_order(one, other));
+        records.sort_unstable_by(|one, other| one.eid_cmp(other));
         Ok(records)
     }
 }
@@ -223,12 +223,5 @@ fn order<A: Allocator>(one: &Row<A>, other: &Row<A>) -> Ordering
 {
     one.router
         .cmp(&other.router)
-        .then(one.mapping.eid().cmp(&other.mapping.eid()))
-}
-
-// The order of records: by prefix.
-fn eid_order<A: Allocator>(one: &MapRecord<A>, other: &MapRecord<A>) -> Ordering
-    ensures { result ≡ block_cmp one.now.eid other.now.eid }
-{
-    one.eid().cmp(&other.eid())
+        .then(one.mapping.eid_cmp(&other.mapping))
 }

@@ -2,7 +2,7 @@
 
 ghost use Rattle.std.specs.Prelude.{◌≡◌, ℕ, ◌+◌, ◌*◌, ◌/◌, ◌%◌, ◌<◌, ◌≤◌, ◌↔◌, List, [], ◌∷◌, ◌++◌, length, drop, slice_index, slice_range, IsSome, IfSome, IfOk, IfErr, IsErrOf, OnOk, OnErr, Ok, Err};
 ghost use Rattle.std.specs.List.{AllByRecursion};
-ghost use Rattle.lisp_records.specs.Address.{IsWhole, IsBlock, family, width, max_len};
+ghost use Rattle.lisp_records.specs.Address.{IsWhole, IsBlock, block_cmp, family, width, max_len};
 ghost use Rattle.lisp_records.specs.Grown.{Grew};
 ghost use Rattle.lisp_records.specs.Record.{Mapping, IsLocator, IsMapping, bit};
 ghost use Rattle.lisp_records.specs.Spelling.{Spells};
@@ -18,6 +18,7 @@ use crate::locator::{Locator, put_locator, read_locator};
 use crate::prefix::Prefix;
 use lisp_memory::{FallibleCopies, FallibleVec, Memory};
 use std::alloc::{AllocError, Allocator, Global};
+use std::cmp::Ordering;
 use std::marker::Model;
 
 /// The most locators of one record: their count is one byte.
@@ -41,11 +42,11 @@ const AUTHORITATIVE: u8 = 0x10;
 /// ```
 #[derive(Debug, Drop)]
 pub struct MapRecord<A: Allocator = Global> {
-    ttl: u32,
+    eid: Prefix,
     act: u8,
     authoritative: bool,
     version: u16,
-    eid: Prefix,
+    ttl: u32,
     locators: Vec<Locator, A>,
 }
 
@@ -125,6 +126,14 @@ impl<A: Allocator> MapRecord<A> {
         ensures { result ≡ self.now.eid }
     {
         self.eid
+    }
+
+    /// How the EID-Prefix stands to that of another record: by address (IPv4 before IPv6, then by its bytes), then by
+    /// mask length.
+    pub fn eid_cmp<B: Allocator>(&self, other: &MapRecord<B>) -> Ordering
+        ensures { result ≡ block_cmp self.now.eid other.now.eid }
+    {
+        Prefix::cmp(&self.eid, &other.eid)
     }
 
     /// The locators, in the record's order; at most 255.

@@ -17,17 +17,17 @@ pub const MAX_MOMENT: u64 = 1 << 62;
 /// (RFC 9301 section 8.2).
 #[derive(Debug, Drop)]
 pub struct Row<A: Allocator = Global> {
+    /// The nonce of the Map-Register.
+    pub nonce: u64,
     /// The router that registered the record.
     pub router: RouterId,
-    /// The nonce of its Map-Register.
-    pub nonce: u64,
     /// The record.
     pub mapping: MapRecord<A>,
     /// When the Map-Register was accepted, in ms.
     pub accepted: u64,
     /// How long the record lives from then on, in ms.
     pub life: u64,
-    /// The Key ID that its Map-Register was authenticated under.
+    /// The Key ID that the Map-Register was authenticated under.
     pub key: u8,
     /// P: the Map-Server is to answer Map-Requests for the router.
     pub proxy: bool,
