@@ -1,9 +1,10 @@
 -- Masking an address byte by byte.
-use Rattle.std.proofs.Common.{◌≡◌, ◌≢◌, ◌⊎◌, inl, inr, ℕ, zero, suc, ◌+◌, ◌-◌, ◌*◌, ◌/◌, ◌%◌, ◌<◌, ◌≤◌, List, ◌∷◌, ◌++◌, [], length, get_or, set, take, drop, min, refl, sym, ap, ◌∙◌, append_assoc, add-one, arith}
+use Rattle.std.proofs.Common.{◌≡◌, ◌≢◌, ◌⊎◌, inl, inr, ℕ, zero, suc, ◌+◌, ◌-◌, ◌*◌, ◌/◌, ◌%◌, ◌<◌, ◌≤◌, Bool, true, false, ◌&&◌, eqb, List, ◌∷◌, ◌++◌, [], length, get_or, set, take, drop, min, refl, sym, ap, ◌∙◌, append_assoc, add-one, arith}
 use Rattle.std.proofs.Math.Nat.{div-one}
 use Rattle.std.proofs.Math.Seq.{drop-cons}
 use Rattle.std.proofs.Math.ListN.{drop_of_length-le}
-use Rattle.std.proofs.lemmas.Bool.{cases_eq}
+use Rattle.std.specs.Str.{bytes_eq}
+use Rattle.std.proofs.lemmas.Bool.{cases_eq, eq-eqb, ne_eqb}
 use Rattle.std.proofs.lemmas.List.{take_more_set, take_all, drop-set-lt, append-nil}
 use Rattle.lisp_records.specs.Address.{high_bits, masked}
 
@@ -53,3 +54,32 @@ bits_left bytes whole n is = either (cases_eq whole (n / 8))
 pub masked_parts : (bytes front past cleared : List ℕ) (whole n : ℕ) → whole ≡ min (n / 8) (length bytes) → front ≡ take whole bytes → past ≡ drop whole bytes → cleared ≡ masked past (n % 8) → front ++ cleared ≡ masked bytes n
 masked_parts bytes front past cleared whole n is front-is past-is cleared-is =
     rw (front-is, cleared-is, past-is, bits_left bytes whole n is) (sym (masked_whole bytes whole n (omega (arith, is))))
+
+-- the next byte is compared
+one_compared : (bytes first : List ℕ) (i left : ℕ) → i < length bytes → length bytes ≡ length first
+    → bytes_eq (masked (drop i bytes) left) (drop i first) ≡ (eqb (high_bits (get_or bytes i 0) (min left 8)) (get_or first i 0) && bytes_eq (masked (drop (suc i) bytes) (left - 8)) (drop (suc i) first))
+unfolding masked
+one_compared bytes first i left lt same = rw (drop-cons bytes i 0 lt, drop-cons first i 0 (omega (arith, lt, same))) refl
+
+-- the next byte, masked, is the one to compare it with
+pub goes_on_in : (bytes first : List ℕ) (i left kept byte : ℕ) (total : Bool) → i < length bytes → length bytes ≡ length first → kept ≡ min left 8 → byte ≡ high_bits (get_or bytes i 0) kept → byte ≡ get_or first i 0
+    → bytes_eq (masked (drop i bytes) left) (drop i first) ≡ total → bytes_eq (masked (drop (i + 1) bytes) (left - kept)) (drop (i + 1) first) ≡ total
+goes_on_in bytes first i left kept byte total lt same kept-is byte-is other-is so_far =
+    let less : left - kept ≡ left - 8 = omega arith in
+    let here : high_bits (get_or bytes i 0) (min left 8) ≡ get_or first i 0 = ap (high_bits (get_or bytes i 0)) (sym kept-is) ∙ sym byte-is ∙ other-is in
+    let next : suc i ≡ i + 1 = omega arith in
+    rw (one_compared bytes first i left lt same, here, eq-eqb (get_or first i 0) (get_or first i 0) refl, next, sym less) at so_far
+
+-- it is another
+pub is_out : (bytes first : List ℕ) (i left kept byte : ℕ) (total : Bool) → i < length bytes → length bytes ≡ length first → kept ≡ min left 8 → byte ≡ high_bits (get_or bytes i 0) kept → byte ≢ get_or first i 0
+    → bytes_eq (masked (drop i bytes) left) (drop i first) ≡ total → false ≡ total
+is_out bytes first i left kept byte total lt same kept-is byte-is other so_far =
+    let here : high_bits (get_or bytes i 0) (min left 8) ≡ byte = ap (high_bits (get_or bytes i 0)) (sym kept-is) ∙ sym byte-is in
+    rw (one_compared bytes first i left lt same, here, ne_eqb byte (get_or first i 0) other) at so_far
+
+-- no byte is left to compare
+pub ends_in : (bytes first : List ℕ) (i left : ℕ) (total : Bool) → length bytes ≤ i → length bytes ≡ length first → bytes_eq (masked (drop i bytes) left) (drop i first) ≡ total → true ≡ total
+unfolding masked
+ends_in bytes first i left total le same so_far =
+    let none : drop i first ≡ [] = drop_of_length-le first (omega (arith, le, same)) in
+    rw (drop_of_length-le bytes le, none) at so_far

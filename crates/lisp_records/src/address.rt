@@ -1,8 +1,9 @@
 //! Addresses of the two families that EIDs and locators may have.
 
-ghost use Rattle.std.specs.Prelude.{◌≡◌, ◌*◌, ◌<◌, ◌≤◌, ◌++◌, if◌then◌else◌, is_ok, IfOk, IsErrOf, OnErr};
+ghost use Rattle.std.specs.Prelude.{◌≡◌, ◌*◌, ◌<◌, ◌≤◌, ◌++◌, length, if◌then◌else◌, is_ok, IfOk, IsErrOf, OnErr};
 ghost use Rattle.std.specs.List.{AllByRecursion};
-ghost use Rattle.lisp_records.specs.Address.{afi, width, family, octets, IsWhole, high_bits, masked, cleared};
+ghost use Rattle.std.specs.Str.{bytes_eq};
+ghost use Rattle.lisp_records.specs.Address.{afi, width, family, octets, IsWhole, high_bits, masked, cleared, addr_eq};
 ghost use Rattle.lisp_records.specs.Result.{Reads};
 ghost use Rattle.lisp_records.specs.Reading.{family_of, address_at};
 ghost use Rattle.lisp_records.specs.declared.fault.RecordFault.{RecordFault};
@@ -107,6 +108,17 @@ impl Addr {
             }
         }
     }
+
+    /// Whether the address is in the block of a first address and a mask length.
+    pub(crate) fn is_in(&self, first: &Addr, mask_len: u8) -> bool
+        ensures { result ≡ addr_eq (cleared self.now mask_len) first.now }
+    {
+        match (self, first) {
+            (Addr::V4(bytes), Addr::V4(first)) => are_in(bytes, first, mask_len),
+            (Addr::V6(bytes), Addr::V6(first)) => are_in(bytes, first, mask_len),
+            _ => false,
+        }
+    }
 }
 
 // The bytes as they are. A proof learns that each is below 256 only of a slice that is passed in.
@@ -152,6 +164,22 @@ pub(crate) fn put_octets<A: Memory>(out: &mut Vec<u8, A>, addr: &Addr) -> Result
         Addr::V4(bytes) => out.try_extend_from_slice(bytes),
         Addr::V6(bytes) => out.try_extend_from_slice(bytes),
     }
+}
+
+// As `is_in`, byte by byte.
+fn are_in(bytes: &[u8], first: &[u8], mask_len: u8) -> bool
+    requires { length bytes.now ≡ length first.now }
+    ensures { result ≡ bytes_eq (masked bytes.now mask_len) first.now }
+{
+    let mut left = mask_len;
+    for (i, byte) in bytes.iter().enumerate() {
+        let kept = left.min(8);
+        if first_bits(*byte, kept) != first[i] {
+            return false;
+        }
+        left -= kept;
+    }
+    true
 }
 
 // Clears all bits but the first `mask_len`.

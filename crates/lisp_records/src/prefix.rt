@@ -74,7 +74,7 @@ impl Prefix {
         ensures covers { IsTrue result ↔ Covers self.now other.now }
         ensures test { result ≡ covers self.now other.now }
     {
-        self.mask_len <= other.mask_len && other.addr.cleared(self.mask_len) == self.addr
+        self.mask_len <= other.mask_len && other.addr.is_in(&self.addr, self.mask_len)
     }
 
     /// Whether an address is one of the block.
@@ -82,6 +82,6 @@ impl Prefix {
         ensures holds { IsTrue result ↔ Holds self.now addr.now }
         ensures test { result ≡ holds self.now addr.now }
     {
-        addr.cleared(self.mask_len) == self.addr
+        addr.is_in(&self.addr, self.mask_len)
     }
 }
