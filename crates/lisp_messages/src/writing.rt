@@ -14,7 +14,7 @@ use std::alloc::{AllocError, Allocator};
 // The bytes of a message without its records: the 32 before them, xTR-ID and Site-ID.
 const MESSAGE_LEN: usize = 56;
 
-// The bytes of a record with one IPv4 locator; a message with longer ones may grow.
+// The bytes of a record with one IPv4 locator.
 const RECORD_LEN: usize = 28;
 
 /// The bytes from the Record Count to the Authentication Data, that one as zeros.
@@ -30,7 +30,8 @@ pub(crate) fn common_head(count: u8, nonce: u64, key_id: u8) -> [u8; 29]
     ]
 }
 
-/// Makes room for a message with so many records, so that nothing moves while it is written.
+/// Makes room for a message with so many records, as if each had one IPv4 locator: mostly nothing moves while it is
+/// written.
 pub(crate) fn make_room<A: Memory>(out: &mut Vec<u8, A>, records: usize) -> Result<(), AllocError>
     ensures same { out.new.items ≡ out.old.items }
     ensures memory { OnErr result A.may_refuse }
