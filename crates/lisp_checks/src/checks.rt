@@ -58,7 +58,7 @@ fn first_not_allowed<A: Allocator, B: Allocator>(
 {
     records
         .iter()
-        .position(|record| !site.allows(&record.eid()))
+        .position(|record| !site.allows(record.eid_ref()))
 }
 
 /// The key of a site under a Key ID, made ready for tags.

@@ -5,8 +5,9 @@ use Rattle.std.proofs.Math.Seq.{drop-cons}
 use Rattle.std.proofs.Math.ListN.{drop_of_length-le}
 use Rattle.std.specs.Str.{bytes_eq}
 use Rattle.std.proofs.lemmas.Bool.{cases_eq, eq-eqb, ne_eqb}
-use Rattle.std.proofs.lemmas.List.{take_more_set, take_all, drop-set-lt, append-nil}
+use Rattle.std.proofs.lemmas.List.{take_more_set, take_all, drop-set-lt, append-nil, get_or-drop, length-drop}
 use Rattle.lisp_records.specs.Address.{high_bits, masked}
+use Rattle.lisp_records.specs.Spelling.{IsBytes}
 
 -- one more byte is masked
 pub masked_goes_on : (bytes : List ℕ) (i left kept byte : ℕ) (total : List ℕ) → i < length bytes → kept ≡ min left 8 → byte ≡ high_bits (get_or bytes i 0) kept
@@ -83,3 +84,27 @@ unfolding masked
 ends_in bytes first i left total le same so_far =
     let none : drop i first ≡ [] = drop_of_length-le first (omega (arith, le, same)) in
     rw (drop_of_length-le bytes le, none) at so_far
+
+-- the next bytes of a block have no bit past what is left of its mask
+pub block_goes_on : (first : List ℕ) (i left kept : ℕ) → i < length first → kept ≡ min left 8 → masked (drop i first) left ≡ drop i first → masked (drop (i + 1) first) (left - kept) ≡ drop (i + 1) first
+unfolding masked
+block_goes_on first i left kept lt kept-is block =
+    let less : left - kept ≡ left - 8 = omega arith in
+    let next : i + 1 ≡ suc i = add-one i in
+    rw (less, next) (ap (drop 1) (rw (drop-cons first i 0 lt) at block))
+
+-- past the mask bytes are as good as those of a block, which has none there but 0
+past_mask : (bytes first : List ℕ) → IsBytes bytes → IsBytes first → length bytes ≡ length first → masked first 0 ≡ first → bytes_eq (masked bytes 0) first ≡ true
+unfolding masked
+past_mask [] [] some others same block = refl
+past_mask [] (f ∷ first) some others same block = absurd (omega (arith, same))
+past_mask (b ∷ bytes) [] some others same block = absurd (omega (arith, same))
+past_mask (b ∷ bytes) (f ∷ first) some others same block =
+    let none : high_bits b 0 ≡ 0 = omega (arith, some 0) in
+    let none_there : f ≡ 0 = omega (arith, others 0, ap (λ (t : List ℕ). get_or t 0 0) block) in
+    rw (none_there, none, past_mask bytes first (λ i. some (suc i)) (λ i. others (suc i)) (omega (arith, same)) (ap (drop 1) block)) refl
+
+-- the mask ends
+pub stops_in : (bytes first : List ℕ) (i left : ℕ) (total : Bool) → IsBytes bytes → IsBytes first → length bytes ≡ length first → left ≡ 0 → masked (drop i first) left ≡ drop i first → bytes_eq (masked (drop i bytes) left) (drop i first) ≡ total → true ≡ total
+stops_in bytes first i left total some others same none block so_far =
+    sym (past_mask (drop i bytes) (drop i first) (λ k. rw get_or-drop (some (i + k))) (λ k. rw get_or-drop (others (i + k))) (omega (arith, same, length-drop i bytes, length-drop i first)) (rw none at block)) ∙ rw none at so_far

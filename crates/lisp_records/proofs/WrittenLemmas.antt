@@ -14,10 +14,10 @@ length-written m whole =
     omega (arith, length-append (written_head m) (written_address m.eid.addr ++ written_locators m.locators), length-append (written_address m.eid.addr) (written_locators m.locators), whole.width)
 
 -- a record that was appended part by part
-pub written_from : (m : Mapping) (a b c d : List ℕ) → b ≡ a ++ (written_head m ++ written_afi m.eid.addr) → c ≡ b ++ octets m.eid.addr → d ≡ c ++ written_locators m.locators → d ≡ a ++ written m
+pub written_from : (m : Mapping) (a b c : List ℕ) → b ≡ a ++ ((written_head m ++ written_afi m.eid.addr) ++ octets m.eid.addr) → c ≡ b ++ written_locators m.locators → c ≡ a ++ written m
 unfolding written
-written_from m a b c d to_b to_c to_d =
-    to_d ∙ rw (to_c, to_b, append_assoc, append_assoc, append_assoc, append_assoc) refl
+written_from m a b c to_b to_c =
+    to_c ∙ rw (to_b, append_assoc, append_assoc, append_assoc, append_assoc) refl
 
 -- one more locator is written behind those before it
 written_more : (ls : List Locator) (i : ℕ) (d : Locator) → i < length ls → written_locators (take (i + 1) ls) ≡ written_locators (take i ls) ++ written_locator (get_or ls i d)

@@ -111,6 +111,7 @@ impl Addr {
 
     /// Whether the address is in the block of a first address and a mask length.
     pub(crate) fn is_in(&self, first: &Addr, mask_len: u8) -> bool
+        requires { cleared first.now mask_len ≡ first.now }
         ensures { result ≡ addr_eq (cleared self.now mask_len) first.now }
     {
         match (self, first) {
@@ -166,13 +167,17 @@ pub(crate) fn put_octets<A: Memory>(out: &mut Vec<u8, A>, addr: &Addr) -> Result
     }
 }
 
-// As `is_in`, byte by byte.
+// As `is_in`, byte by byte, as far as the mask goes.
 fn are_in(bytes: &[u8], first: &[u8], mask_len: u8) -> bool
-    requires { length bytes.now ≡ length first.now }
+    requires width { length bytes.now ≡ length first.now }
+    requires block { masked first.now mask_len ≡ first.now }
     ensures { result ≡ bytes_eq (masked bytes.now mask_len) first.now }
 {
     let mut left = mask_len;
     for (i, byte) in bytes.iter().enumerate() {
+        if left == 0 {
+            return true;
+        }
         let kept = left.min(8);
         if first_bits(*byte, kept) != first[i] {
             return false;

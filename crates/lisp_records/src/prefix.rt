@@ -62,6 +62,13 @@ impl Prefix {
         self.addr
     }
 
+    /// As `addr`, where it lies.
+    pub(crate) fn first(&self) -> &Addr
+        ensures { result.now ≡ self.now.addr }
+    {
+        &self.addr
+    }
+
     /// How many leading bits the addresses of the block share.
     pub fn mask_len(&self) -> u8
         ensures { result ≡ self.now.mask_len }

@@ -1,8 +1,8 @@
 //! The record: an EID-Prefix and its locators, read from bytes and written as bytes.
 
-ghost use Rattle.std.specs.Prelude.{◌≡◌, ℕ, ◌+◌, ◌*◌, ◌/◌, ◌%◌, ◌<◌, ◌≤◌, ◌↔◌, List, [], ◌∷◌, ◌++◌, length, drop, slice_index, slice_range, IsSome, IfSome, IfOk, IfErr, IsErrOf, OnOk, OnErr, Ok, Err};
+ghost use Rattle.std.specs.Prelude.{◌≡◌, ℕ, ◌+◌, ◌*◌, ◌/◌, ◌%◌, ◌<◌, ◌≤◌, ◌↔◌, List, [], ◌∷◌, ◌++◌, length, drop, slice_index, slice_range, IsSome, IfSome, IfOk, IfErr, IsErrOf, OnOk, OnErr, Ok, Err, is_ok, if◌then◌else◌};
 ghost use Rattle.std.specs.List.{AllByRecursion};
-ghost use Rattle.lisp_records.specs.Address.{IsWhole, IsBlock, block_cmp, family, width, max_len};
+ghost use Rattle.lisp_records.specs.Address.{IsWhole, IsBlock, block_cmp, family, width, octets, max_len};
 ghost use Rattle.lisp_records.specs.Grown.{Grew};
 ghost use Rattle.lisp_records.specs.Record.{Mapping, IsLocator, IsMapping, bit};
 ghost use Rattle.lisp_records.specs.Spelling.{Spells};
@@ -11,7 +11,7 @@ ghost use Rattle.lisp_records.specs.Result.{Reads};
 ghost use Rattle.lisp_records.specs.Reading.{Gives, HasLocators, start_at, family_of, number_at, mask_of, locators_at, mapping_of, record_at};
 ghost use Rattle.lisp_records.specs.declared.fault.RecordFault.{RecordFault};
 
-use crate::address::{Addr, Family, put_octets, read_address};
+use crate::address::{Addr, Family, read_address};
 use crate::fault::RecordFault;
 use crate::flags::is_set;
 use crate::locator::{Locator, put_locator, read_locator};
@@ -126,6 +126,13 @@ impl<A: Allocator> MapRecord<A> {
         ensures { result ≡ self.now.eid }
     {
         self.eid
+    }
+
+    /// As `eid`, where it lies.
+    pub fn eid_ref(&self) -> &Prefix
+        ensures { result.now ≡ self.now.eid }
+    {
+        &self.eid
     }
 
     /// How the EID-Prefix stands to that of another record: by address (IPv4 before IPv6, then by its bytes), then by
@@ -348,34 +355,51 @@ fn put_record<A: Allocator, B: Memory>(
     ensures memory { OnErr result B.may_refuse }
     ensures known { IsMapping entry.now }
 {
-    let (eid, locators) = (entry.eid(), entry.locators());
-    out.try_extend_from_slice(&head_of(entry))?;
-    put_octets(out, &eid.addr())?;
+    let locators = entry.locators();
+    put_front(out, entry)?;
     put_locators(out, locators)?;
     Ok(())
+}
+
+// Appends all before the locators at once.
+fn put_front<A: Allocator, B: Memory>(
+    out: &mut Vec<u8, B>,
+    entry: &MapRecord<A>,
+) -> Result<(), AllocError>
+    ensures items { out.new.items ≡ (if is_ok result then out.old.items ++ ((written_head entry.now ++ written_afi entry.now.eid.addr) ++ octets entry.now.eid.addr) else out.old.items) }
+    ensures memory { OnErr result B.may_refuse }
+{
+    let head = head_of(entry);
+    match entry.eid.first() {
+        Addr::V4(octets) => out.try_extend_from_slice(&joined::<16>(&head, octets)),
+        Addr::V6(octets) => out.try_extend_from_slice(&joined::<28>(&head, octets)),
+    }
+}
+
+// The bytes before the EID-Prefix, and its own.
+fn joined<const LEN: usize>(head: &[u8; HEAD_LEN], octets: &[u8]) -> [u8; LEN]
+    requires { LEN ≡ 12 + length octets.now }
+    ensures { result ≡ head.now ++ octets.now }
+{
+    let mut front = [0; LEN];
+    let (start, end) = front.split_at_mut(HEAD_LEN);
+    start.copy_from_slice(head);
+    end.copy_from_slice(octets);
+    front
 }
 
 // The bytes before the EID-Prefix.
 fn head_of<A: Allocator>(entry: &MapRecord<A>) -> [u8; HEAD_LEN]
     ensures { result ≡ written_head entry.now ++ written_afi entry.now.eid.addr }
 {
-    let [ttl_0, ttl_1, ttl_2, ttl_3] = entry.ttl().to_be_bytes();
-    let [version_high, version_low] = entry.version().to_be_bytes();
-    let [afi_high, afi_low] = entry.eid().addr().family().afi().to_be_bytes();
-    [
-        ttl_0,
-        ttl_1,
-        ttl_2,
-        ttl_3,
-        entry.locators().len() as u8,
-        entry.eid().mask_len(),
-        entry.act() * ACT + u8::from(entry.authoritative()) * AUTHORITATIVE,
-        0,
-        version_high,
-        version_low,
-        afi_high,
-        afi_low,
-    ]
+    let mut head = [0; HEAD_LEN];
+    head[..4].copy_from_slice(&entry.ttl().to_be_bytes());
+    head[4] = entry.locators().len() as u8;
+    head[5] = entry.eid().mask_len();
+    head[6] = entry.act() * ACT + u8::from(entry.authoritative()) * AUTHORITATIVE;
+    head[8..10].copy_from_slice(&entry.version().to_be_bytes());
+    head[10..].copy_from_slice(&entry.eid().addr().family().afi().to_be_bytes());
+    head
 }
 
 fn put_locators<A: Memory>(out: &mut Vec<u8, A>, locators: &[Locator]) -> Result<(), AllocError>
