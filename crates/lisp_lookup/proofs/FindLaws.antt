@@ -1,5 +1,5 @@
 -- What a halving search does at one look.
-use Rattle.std.proofs.Common.{◌≡◌, ◌≢◌, ◌⊎◌, inl, inr, ℕ, ◌+◌, ◌*◌, ◌^◌, ◌<◌, ◌≤◌, true, false, List, length, slice_index, slice_index_or, sym, ap, ◌∙◌, subst, true≢false, arith}
+use Rattle.std.proofs.Common.{◌≡◌, ◌≢◌, ◌⊎◌, inl, inr, ℕ, ◌+◌, ◌-◌, ◌*◌, ◌^◌, ◌<◌, ◌≤◌, true, false, List, length, slice_index, slice_index_or, sym, ap, ◌∙◌, subst, true≢false, arith}
 use Rattle.std.proofs.lemmas.Bool.{cases_eq}
 use Rattle.std.proofs.lemmas.List.{get_or_read}
 use Rattle.std.proofs.lemmas.Nat.{pow-add}
@@ -9,9 +9,19 @@ use Rattle.lisp_lookup.specs.declared.probe.Probe.{Probe}
 use Rattle.lisp_served.proofs.Found.{not_true}
 use Rattle.lisp_lookup.specs.Index.{is_before, row_at_place, Falls}
 
+-- a number that is read at a place is that of a row
+pub read_below : (rows : List Holding) (numbers : List ℕ) (p number : ℕ) → ((k : ℕ) → k < length numbers → slice_index numbers k < length rows) → p < length numbers → number ≡ slice_index_or numbers p number → number < length rows
+read_below rows numbers p number below within read = subst (λ (n : ℕ). n < length rows) (sym (get_or_read numbers p number within read 0)) (below p within)
+
 -- looks made, rows left, rows in all
 abbrev pub Cost : ℕ → ℕ → ℕ → Type 0
 Cost looks left all = (2 ^ looks * left ≤ all) × (2 ^ looks ≤ 2 * all + 1)
+
+-- before the first look
+pub cost_none : (steps size all : ℕ) → size ≤ all → Cost (steps - steps) size all
+cost_none steps size all le =
+    let none : 0 ≡ steps - steps = omega arith in
+    subst (λ (looks : ℕ). Cost looks size all) none (omega (arith, le), omega arith)
 
 -- a look leaves at most half of the rows
 pub cost_more : (looks left next all : ℕ) → Cost looks left all → 0 < left → 2 * next ≤ left → Cost (looks + 1) next all

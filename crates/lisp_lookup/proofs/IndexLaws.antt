@@ -18,7 +18,7 @@ use Rattle.lisp_lookup.specs.declared.order.Order.TheVariants.{ByPrefix, ByDeadl
 use Rattle.lisp_lookup.specs.declared.probe.Probe.{Probe}
 use Rattle.lisp_lookup.specs.declared.probe.Probe.TheVariants.{Prefix}
 use Rattle.lisp_lookup.specs.Table.{row_key}
-use Rattle.lisp_lookup.specs.Index.{deadline, prefix_cmp, order_cmp, is_before, row_at_place, Falls, IsBound, Rises, Left, Entered, IsFresh}
+use Rattle.lisp_lookup.specs.Index.{deadline, prefix_cmp, deadline_cmp, order_cmp, is_before, row_at_place, Falls, IsBound, Rises, IsIndex, Indexed, Left, Entered, IsFresh}
 use Rattle.lisp_lookup.proofs.AnswerLaws.{less}
 use Rattle.lisp_lookup.proofs.Orders.{block_total, router_total, same_block, same_router}
 use Rattle.lisp_lookup.proofs.TableLaws.{less_from}
@@ -26,6 +26,27 @@ use Rattle.lisp_lookup.proofs.TableLaws.{less_from}
 -- the number at a place, read with any default
 pub number_at : (numbers : List ℕ) (k n : ℕ) → k < length numbers → slice_index_or numbers k n ≡ n → slice_index numbers k ≡ n
 number_at numbers k n lt at = get_or_default numbers k 0 n lt ∙ at
+
+-- no rows
+none_index : (cmp : Holding → Holding → Ordering) (rows : List Holding) (numbers : List ℕ) → rows ≡ [] → numbers ≡ [] → IsIndex cmp rows numbers
+none_index cmp rows numbers no_rows none = record {
+  rises = record {
+    below = λ k lt. absurd (omega (arith, lt, ap length none));
+    rising = λ i j d lt within. absurd (omega (arith, within, ap length none));
+  };
+  each = λ n lt. absurd (omega (arith, lt, ap length no_rows));
+}
+
+pub none_indexed : (rows : List Holding) (prefixes deadlines : List ℕ) → rows ≡ [] → prefixes ≡ [] → deadlines ≡ [] → Indexed rows prefixes deadlines
+none_indexed rows prefixes deadlines no_rows none_by_prefix none_by_deadline = record {
+  eids = λ k d lt. absurd (omega (arith, lt, ap length no_rows));
+  by_prefix = none_index prefix_cmp rows prefixes no_rows none_by_prefix;
+  by_deadline = none_index deadline_cmp rows deadlines no_rows none_by_deadline;
+}
+
+-- equal lists
+pub indexed_same : {rows new_rows : List Holding} {prefixes new_prefixes deadlines new_deadlines : List ℕ} → new_rows ≡ rows → new_prefixes ≡ prefixes → new_deadlines ≡ deadlines → Indexed rows prefixes deadlines → Indexed new_rows new_prefixes new_deadlines
+indexed_same {rows} {new_rows} {prefixes} {new_prefixes} {deadlines} {new_deadlines} same_rows same_prefixes same_deadlines is = subst (λ (r : List Holding). Indexed r new_prefixes new_deadlines) (sym same_rows) (subst (λ (p : List ℕ). Indexed rows p new_deadlines) (sym same_prefixes) (subst (λ (d : List ℕ). Indexed rows prefixes d) (sym same_deadlines) is))
 
 -- a number that was read is that of a row
 pub number_within : (cmp : Holding → Holding → Ordering) (rows : List Holding) (numbers : List ℕ) (k number : ℕ) → Rises cmp rows numbers → k < length numbers → number ≡ slice_index_or numbers k number → number < length rows

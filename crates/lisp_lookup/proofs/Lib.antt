@@ -10,3 +10,4 @@ pub mod DeadlineLaws
 pub mod PutLaws
 pub mod CountLaws
 pub mod BestLaws
+pub mod RoomLaws

@@ -6,9 +6,9 @@ use Rattle.std.specs.Ordering.{is_lt}
 use Rattle.std.proofs.Math.Seq.{take-suc}
 use Rattle.std.proofs.lemmas.List.Sorted.{ranks_by, sorted_far}
 use Rattle.std.proofs.lemmas.Bool.{ltb-true, lt-ltb}
-use Rattle.std.proofs.lemmas.List.{take-append-drop, map-append, length-append, length-map, get_or-map}
+use Rattle.std.proofs.lemmas.List.{append-nil, take-append-drop, map-append, length-append, length-map, get_or-map}
 use Rattle.std.proofs.lemmas.List.Kept.{AllPairs-filter}
-use Rattle.std.proofs.lemmas.List.Elements.{filter-append, filter_passes}
+use Rattle.std.proofs.lemmas.List.Elements.{filter-append, filter_more, filter_passes}
 use Rattle.std.proofs.lemmas.List.Sums.{sum_by-append}
 use Rattle.lisp_records.proofs.DatabaseLaws.{distinct_prefixes}
 use Rattle.lisp_records.proofs.RouterLaws.{router_eq-Decides}
@@ -182,3 +182,14 @@ copies_next rows i h router now old new within at so_far moved = either moved �
     either : ((is_live_of router now h ≡ true) × (new ≡ old ++ h.mapping ∷ [])) ⊎ ((is_live_of router now h ≡ false) × (new ≡ old ++ [])) → new ≡ live_of (take i rows) router now ++ live_of (h ∷ []) router now
     either (inl (is, grew)) = rw (alone true is, ← so_far) grew
     either (inr (is, stayed)) = rw (alone false is, ← so_far) stayed
+
+-- one row more of those that pass a test
+pub rows_next : (test : Holding → Bool) (rows : List Holding) (i : ℕ) (h : Holding) (old new : List Holding) → i < length rows → h ≡ slice_index_or rows i h → old ≡ filter test (take i rows) → ((test h ≡ true) × (new ≡ old ++ h ∷ [])) ⊎ ((test h ≡ false) × (new ≡ old)) → new ≡ filter test (take (i + 1) rows)
+rows_next test rows i h old new within at so_far either = by either
+  where
+    grown : (b : Bool) → test h ≡ b → filter test (take (i + 1) rows) ≡ filter test (take i rows) ++ cond b (h ∷ []) []
+    grown b is = filter_more test rows i h within ∙ ap (λ (x : Holding). filter test (take i rows) ++ cond (test x) (x ∷ []) []) (sym at) ∙ ap (λ (b : Bool). filter test (take i rows) ++ cond b (h ∷ []) []) is
+
+    by : ((test h ≡ true) × (new ≡ old ++ h ∷ [])) ⊎ ((test h ≡ false) × (new ≡ old)) → new ≡ filter test (take (i + 1) rows)
+    by (inl (is, new_is)) = new_is ∙ ap (λ (l : List Holding). l ++ h ∷ []) so_far ∙ sym (grown true is)
+    by (inr (is, new_is)) = new_is ∙ so_far ∙ sym (grown false is ∙ append-nil (filter test (take i rows)))

@@ -1,13 +1,14 @@
 -- Setting, dropping and listing rows.
-use Rattle.std.proofs.Common.{◌≡◌, ◌≢◌, ◌⊎◌, inl, inr, not, ℕ, suc, ◌-◌, ◌<◌, Bool, true, false, cond, List, [], ◌∷◌, ◌++◌, length, slice_set, slice_index_or, Option, Some, None, refl, sym, ap, ◌∙◌, subst, true≢false, arith}
+use Rattle.std.proofs.Common.{◌≡◌, ◌≢◌, ◌⊎◌, inl, inr, not, ℕ, suc, ◌-◌, ◌<◌, Bool, true, false, cond, nat_lt, List, [], ◌∷◌, ◌++◌, length, slice_set, slice_index_or, Option, Some, None, IfSome, refl, sym, ap, ◌∙◌, subst, true≢false, arith}
 use Rattle.std.specs.Bool.{Decides}
-use Rattle.std.specs.Option.{option_or, option_and_then}
-use Rattle.std.specs.List.{AllPairs, Contains, find, filter, position, swap}
+use Rattle.std.specs.Option.{option_or, option_and_then, option_map, is_some}
+use Rattle.std.specs.List.{AllPairs, Contains, find, filter, position, swap, slice_get}
 use Rattle.std.specs.List.Sorted.{IsPermutation, IsSortedByKey}
 use Rattle.std.specs.Ordering.{is_lt, ordering_reverse}
 use Rattle.std.specs.declared.cmp.Ordering.{Ordering}
 use Rattle.std.specs.declared.cmp.Ordering.TheVariants.{Less, Equal, Greater}
-use Rattle.std.proofs.lemmas.Bool.{cases_eq}
+use Rattle.std.proofs.lemmas.Bool.{cases_eq, ltb-true, ltb-false}
+use Rattle.std.proofs.lemmas.Option.{slice_get_read, slice_get_past}
 use Rattle.std.proofs.lemmas.List.Edits.{Swapped, swapped_from_swap, length-swap}
 use Rattle.std.proofs.lemmas.Bool.Decides.{Decides-and, Decides-ltb}
 use Rattle.std.proofs.lemmas.List.{reverse-append}
@@ -181,3 +182,8 @@ is_held rows held now one moved sorted = record {
     λ is. Contains-permutation (alive_of rows now) held h moved (filter_holds (λ x. is_alive x now) rows h (found_holds (has (row_key h)) rows h is.0).0 ((Decides-ltb (now - h.accepted) h.life).1 is.1)),
   );
 }
+
+-- a row that was looked up by its place
+pub row_got : {R : Type 0} (view : R → Holding) (rows : List Holding) (place : ℕ) (got : Option R) → is_some got ≡ nat_lt place (length rows) → IfSome got (λ row. view row ≡ slice_index_or rows place (view row)) → option_map view got ≡ slice_get rows place
+row_got view rows place None is read = sym (slice_get_past rows place (ltb-false place (length rows) (sym is)))
+row_got view rows place (Some row) is read = sym (slice_get_read rows (length rows) place (view row) refl (ltb-true place (length rows) (sym is)) read)

@@ -1,7 +1,9 @@
-use Rattle.std.proofs.Common.{◌-◌, sym, arith}
+use Rattle.std.proofs.Common.{◌-◌, sym, ap, arith}
+use Rattle.std.proofs.lemmas.Bool.{false≢true}
+use Rattle.lisp_records.specs.Address.{width}
 use Rattle.lisp_lookup.specs.Answer.{may_answer}
 use Rattle.lisp_served.proofs.Found.{not_true}
-use Rattle.lisp_lookup.proofs.BestLaws.{found_longest, missed_longest}
+use Rattle.lisp_lookup.proofs.BestLaws.{none_longer, found_longest, missed_longest}
 use Rattle.lisp_lookup.proofs.best.best.Goals as goal
 
 pub returns-then-is_some : goal.returns-then-is_some
@@ -12,3 +14,9 @@ loop-shorter-preserved g c = λ h held may. omega (arith, c.loop-shorter-test.tr
 
 pub returns : goal.returns
 returns g c = λ h held. not_true (may_answer c.args.addr.now c.args.now h) (λ may. omega (arith, c.loop-shorter.invariant h held may, c.loop-shorter-test.false))
+
+pub loop-shorter-init : goal.loop-shorter-init
+loop-shorter-init g c = λ h held may. omega (arith, none_longer c.args.rows.now c.args.addr.now c.args.now c.requires.eids h held may, c.max_mask_len-longest.ensures, ap width c.family.ensures)
+
+pub returns-in_err-prefix : goal.returns-in_err-prefix
+returns-in_err-prefix g c = absurd (false≢true (c.in_err-prefix.ensures.valid.1 (omega (arith, c.max_mask_len-longest.ensures, ap width c.family.ensures))))

@@ -46,3 +46,6 @@ pub returns : goal.returns
 returns g c = best_seen c.args.rows.now c.args.by_prefix.now.items c.args.prefix.now c.place-first.result c.requires.index c.place-first.ensures.bound c.loop-place.place (omega (arith, c.loop-place.auto.place-end, c.place-first.ensures.bound.within, c.len-place-end.ensures, c.args.by_prefix.now.ok.0)) c.loop-place.invariant.same
     (λ k d low lt. absurd (omega (arith, low, lt, c.loop-place-test.false, c.len-place-end.ensures, c.args.by_prefix.now.ok.0)))
     c.args.addr.now c.args.now (option_map (λ row. row.now) c.loop-place.best) c.loop-place.invariant.best
+
+pub place-first-requires-clause-below : goal.place-first-requires-clause-below
+place-first-requires-clause-below g c = c.requires.index.rises.below

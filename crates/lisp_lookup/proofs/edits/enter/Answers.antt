@@ -9,3 +9,6 @@ place_from_end-place-requires-clause-falls g c = falls (order_cmp c.args.order) 
 pub returns-clause-entered : goal.returns-clause-entered
 returns-clause-entered g c =
     subst (λ (new : List ℕ). Entered c.args.order c.args.rows.now c.args.numbers.now.items new c.args.number) (sym c.put_at.ensures.items) (entered_at c.args.order c.args.rows.now c.args.numbers.now.items c.args.number c.index-rows-number.result c.requires.rises c.probe.result c.place_from_end-place.result c.probe.ensures c.place_from_end-place.ensures.bound c.requires.row c.requires.fresh c.index-rows-number.is)
+
+pub place_from_end-place-requires-clause-below : goal.place_from_end-place-requires-clause-below
+place_from_end-place-requires-clause-below g c = c.requires.rises.below

@@ -1,5 +1,5 @@
 use Rattle.std.proofs.Common.{◌+◌, ◌-◌, ◌/◌, length, sym, subst, ◌≡◌, ℕ, arith}
-use Rattle.lisp_lookup.proofs.FindLaws.{Cost, cost_more, before_too, after_too}
+use Rattle.lisp_lookup.proofs.FindLaws.{Cost, cost_none, cost_more, read_below, before_too, after_too}
 use Rattle.lisp_lookup.proofs.find.find.Goals as goal
 
 pub loop-size-preserved-then-is_after : goal.loop-size-preserved-then-is_after
@@ -34,3 +34,18 @@ returns-clause-bound g c = record {
   before = c.loop-size.invariant.before;
   after = λ i d le lt. c.loop-size.invariant.after i d (omega (arith, le, c.loop-size-test.false)) lt;
 }
+
+pub loop-size-init : goal.loop-size-init
+loop-size-init g c = record {
+  within = omega (arith, c.len-size.ensures, c.args.numbers.now.ok.0);
+  before = λ i d lt. absurd (omega (arith, lt));
+  after = λ i d le lt. absurd (omega (arith, le, lt, c.len-size.ensures, c.args.numbers.now.ok.0));
+  grown = omega arith;
+  cost = cost_none c.args.steps.now c.len-size.result (length c.args.numbers.now.items) (omega (arith, c.len-size.ensures, c.args.numbers.now.ok.0));
+}
+
+pub bounds-rows-index : goal.bounds-rows-index
+bounds-rows-index g c = read_below c.args.rows.now c.args.numbers.now.items (c.loop-size.low + c.loop-size.size / 2) c.index.result.now c.requires.below (omega (arith, c.loop-size.invariant.within, c.loop-size-test.true)) c.index.ensures
+
+pub offset_bounds-rows-index : goal.offset_bounds-rows-index
+offset_bounds-rows-index g c = omega (arith, read_below c.args.rows.now c.args.numbers.now.items (c.loop-size.low + c.loop-size.size / 2) c.index.result.now c.requires.below (omega (arith, c.loop-size.invariant.within, c.loop-size-test.true)) c.index.ensures)

@@ -1,5 +1,5 @@
 use Rattle.std.proofs.Common.{◌-◌, sym, ◌∙◌, arith}
-use Rattle.lisp_lookup.proofs.FindLaws.{before_too}
+use Rattle.lisp_lookup.proofs.FindLaws.{read_below, before_too}
 use Rattle.lisp_lookup.proofs.find.place_from_end.Goals as goal
 
 pub returns-then-is_after : goal.returns-then-is_after
@@ -10,3 +10,12 @@ returns-then-is_after g c = record {
     after = λ i d le lt. absurd (omega (arith, le, lt, c.len-end.ensures, c.args.numbers.now.ok.0));
   };
 }
+
+pub bounds-rows-index : goal.bounds-rows-index
+bounds-rows-index g c = read_below c.args.rows.now c.args.numbers.now.items (c.len-end.result - 1) c.index.result.now c.requires.below (omega (arith, c.len-end.ensures, c.args.numbers.now.ok.0, c.if-end-gt0.true)) c.index.ensures
+
+pub offset_bounds-rows-index : goal.offset_bounds-rows-index
+offset_bounds-rows-index g c = omega (arith, read_below c.args.rows.now c.args.numbers.now.items (c.len-end.result - 1) c.index.result.now c.requires.below (omega (arith, c.len-end.ensures, c.args.numbers.now.ok.0, c.if-end-gt0.true)) c.index.ensures)
+
+pub place-requires-clause-below : goal.place-requires-clause-below
+place-requires-clause-below g c = c.requires.below

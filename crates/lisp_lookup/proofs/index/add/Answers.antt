@@ -30,3 +30,39 @@ returns-clause-indexed g c =
       by_prefix = subst (λ (rows : List Holding). IsIndex prefix_cmp rows c.enter.new.numbers.items) (sym c.push_reserved.ensures.items) (index_more ByPrefix c.args.rows.now.items c.args.by_prefix.now.items c.args.row c.requires.indexed.by_prefix c.enter.new.numbers.items places);
       by_deadline = subst (λ (rows : List Holding). IsIndex deadline_cmp rows c.enter-2.new.numbers.items) (sym c.push_reserved.ensures.items) (index_more ByDeadline c.args.rows.now.items c.args.by_deadline.now.items c.args.row c.requires.indexed.by_deadline c.enter-2.new.numbers.items deadlines);
     }
+
+pub push_reserved-requires : goal.push_reserved-requires
+push_reserved-requires g c = c.requires.rows_room
+
+pub enter-requires-clause-row : goal.enter-requires-clause-row
+enter-requires-clause-row g c = omega (arith, c.len-number.ensures, c.deref.ensures.len, c.push_reserved.ensures.len)
+
+pub enter-requires-clause-room : goal.enter-requires-clause-room
+enter-requires-clause-room g c = c.requires.prefixes_room
+
+pub enter-requires-2-clause-row : goal.enter-requires-2-clause-row
+enter-requires-2-clause-row g c = omega (arith, c.len-number.ensures, c.deref-2.ensures.len, c.push_reserved.ensures.len)
+
+pub enter-requires-2-clause-room : goal.enter-requires-2-clause-room
+enter-requires-2-clause-room g c = c.requires.deadlines_room
+
+pub returns-clause-items : goal.returns-clause-items
+returns-clause-items g c = c.push_reserved.ensures.items
+
+pub returns-clause-len : goal.returns-clause-len
+returns-clause-len g c = c.push_reserved.ensures.len
+
+pub returns-clause-capacity : goal.returns-clause-capacity
+returns-clause-capacity g c = omega (arith, c.push_reserved.ensures.capacity)
+
+pub returns-clause-prefixes_len : goal.returns-clause-prefixes_len
+returns-clause-prefixes_len g c = c.enter.ensures.len
+
+pub returns-clause-prefixes_capacity : goal.returns-clause-prefixes_capacity
+returns-clause-prefixes_capacity g c = c.enter.ensures.capacity
+
+pub returns-clause-deadlines_len : goal.returns-clause-deadlines_len
+returns-clause-deadlines_len g c = c.enter-2.ensures.len
+
+pub returns-clause-deadlines_capacity : goal.returns-clause-deadlines_capacity
+returns-clause-deadlines_capacity g c = c.enter-2.ensures.capacity

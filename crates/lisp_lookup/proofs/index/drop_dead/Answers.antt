@@ -1,7 +1,8 @@
-use Rattle.std.proofs.Common.{◌≡◌, true, false, List, slice_index_or, sym, ap, ◌∙◌, subst, arith}
+use Rattle.std.proofs.Common.{◌≡◌, ◌<◌, true, false, List, length, slice_index_or, sym, ap, ◌∙◌, subst, arith}
 use Rattle.std.specs.List.{All}
 use Rattle.std.proofs.lemmas.List.Sorted.{length_permutation}
 use Rattle.lisp_records.specs.Row.{Holding, is_alive}
+use Rattle.lisp_lookup.specs.Index.{deadline_cmp, IsIndex}
 use Rattle.lisp_lookup.proofs.DeadlineLaws.{one_each, dropped_more, dropped_all}
 use Rattle.lisp_lookup.proofs.index.drop_dead.Goals as goal
 
@@ -20,3 +21,9 @@ loop-turn-preserved g c =
       dropped = dropped_more c.args.rows.now.items c.loop-turn.rows.items c.remove.new.rows.items c.args.now removed.row c.loop-turn.invariant.dropped removed.moved is;
       left = omega (arith, length_permutation c.loop-turn.rows.items _ removed.moved, c.loop-turn.invariant.left);
     }
+
+pub first_dead-requires-clause-index : goal.first_dead-requires-clause-index
+first_dead-requires-clause-index g c = subst (λ (rows : List Holding). IsIndex deadline_cmp rows c.loop-turn.by_deadline.items) (sym c.deref.ensures.value) c.loop-turn.invariant.indexed.by_deadline
+
+pub remove-requires-clause-within : goal.remove-requires-clause-within
+remove-requires-clause-within g c = subst (λ (rows : List Holding). c.in-Some.number < length rows) c.deref.ensures.value c.in-Some.ensures.dead.0

@@ -2,7 +2,7 @@ use Rattle.std.proofs.Common.{refl, sym, ap, ◌∙◌, arith}
 use Rattle.std.proofs.lemmas.List.{get_or_read}
 use Rattle.lisp_lookup.specs.Table.{is_row_of}
 use Rattle.lisp_lookup.specs.Index.{prefix_cmp}
-use Rattle.lisp_lookup.proofs.IndexLaws.{number_within}
+use Rattle.lisp_lookup.proofs.IndexLaws.{number_within, row_read}
 use Rattle.lisp_lookup.proofs.PutLaws.{found_here}
 use Rattle.lisp_lookup.proofs.index.number_at.Goals as goal
 
@@ -16,3 +16,6 @@ pub returns-then-is_row_of-clause-found : goal.returns-then-is_row_of-clause-fou
 returns-then-is_row_of-clause-found g c =
     let within = number_within prefix_cmp c.args.rows.now c.args.by_prefix.now.items c.args.place c.in_ok-number.field-0.now c.requires.index.rises (omega (arith, c.in_ok-number.ensures.variant.0 refl, c.args.by_prefix.now.ok.0)) c.in_ok-number.ensures.lookup in
     found_here c.args.rows.now c.args.by_prefix.now.items c.args.row.now c.requires.index c.in_ok-number.field-0.now within (ap (is_row_of c.args.row.now.router c.args.row.now.mapping.eid) (sym (get_or_read c.args.rows.now c.in_ok-number.field-0.now c.index-rows-number.result within c.index-rows-number.is c.args.row.now)) ∙ sym c.if-is_row_of.ensures)
+
+pub returns-else-is_row_of-clause-other : goal.returns-else-is_row_of-clause-other
+returns-else-is_row_of-clause-other g c = λ none lt. ap (is_row_of c.args.row.now.router c.args.row.now.mapping.eid) (sym (row_read prefix_cmp c.args.rows.now c.args.by_prefix.now.items c.args.place c.in_ok-number.field-0.now c.index-rows-number.result c.requires.index.rises lt c.in_ok-number.ensures.lookup c.index-rows-number.is c.args.row.now)) ∙ sym c.if-is_row_of.ensures

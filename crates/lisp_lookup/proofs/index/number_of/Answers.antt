@@ -8,3 +8,6 @@ place-place-requires-clause-falls g c = falls prefix_cmp prefix_total c.args.row
 
 pub returns : goal.returns
 returns g c = settled c.args.rows.now c.args.by_prefix.now.items c.args.row.now c.probe.result c.place-place.result c.probe.ensures c.requires.index c.place-place.ensures.bound c.number_at-2.result c.number_at-2.ensures.found c.number_at-2.ensures.other
+
+pub place-place-requires-clause-below : goal.place-place-requires-clause-below
+place-place-requires-clause-below g c = c.requires.index.rises.below

@@ -1,14 +1,17 @@
-use Rattle.std.proofs.Common.{◌∷◌, [], List, sym, ap, ◌∙◌, subst, arith}
+use Rattle.std.proofs.Common.{◌-◌, ◌<◌, ◌∷◌, [], List, length, sym, ap, ◌∙◌, subst, arith}
 use Rattle.std.specs.List.{position}
+use Rattle.std.specs.Vec.{vec_len, vec_capacity}
+use Rattle.std.specs.VecDeque.{deque_len, deque_capacity}
 use Rattle.std.proofs.lemmas.List.{length-set}
 use Rattle.std.proofs.lemmas.List.Elements.{All-set}
 use Rattle.lisp_records.specs.Address.{IsBlock}
 use Rattle.lisp_records.specs.Row.{Holding}
 use Rattle.lisp_lookup.specs.Table.{is_row_of, Sets}
 use Rattle.lisp_lookup.specs.declared.order.Order.TheVariants.{ByDeadline}
-use Rattle.lisp_lookup.specs.Index.{deadline_cmp, Rises, IsFresh, Left, Entered}
+use Rattle.lisp_lookup.specs.Index.{prefix_cmp, deadline_cmp, Rises, IsIndex, IsFresh, Left, Entered}
 use Rattle.lisp_lookup.proofs.DeadlineLaws.{one_each}
 use Rattle.lisp_lookup.proofs.PutLaws.{own_key, prefixes_over, rises_over, fresh_over, index_over}
+use Rattle.lisp_lookup.proofs.RoomLaws.{one_more}
 use Rattle.lisp_lookup.proofs.TableLaws.{sets_set, sets_push}
 use Rattle.lisp_lookup.proofs.index.put.Goals as goal
 
@@ -45,7 +48,7 @@ pub returns-in-Some-clause-row : goal.returns-in-Some-clause-row
 returns-in-Some-clause-row g c = sets_set c.args.rows.now.items c.in-Some.number c.args.row (ap (position (is_row_of c.args.row.router c.args.row.mapping.eid)) (sym c.deref.ensures.value) ∙ sym c.in-Some.ensures)
 
 pub returns-in-Some-clause-prefixes_room : goal.returns-in-Some-clause-prefixes_room
-returns-in-Some-clause-prefixes_room g c = omega arith
+returns-in-Some-clause-prefixes_room g c = one_more (deque_capacity c.args.by_prefix.now - deque_len c.args.by_prefix.now)
 
 pub returns-in-Some-clause-deadlines_room : goal.returns-in-Some-clause-deadlines_room
 returns-in-Some-clause-deadlines_room g c = omega (arith, c.leave-near.ensures.len, c.leave-near.ensures.capacity, c.enter.ensures.len, c.enter.ensures.capacity)
@@ -61,3 +64,53 @@ returns-in-None-clause-prefixes_room g c = omega (arith, c.add.ensures.prefixes_
 
 pub returns-in-None-clause-deadlines_room : goal.returns-in-None-clause-deadlines_room
 returns-in-None-clause-deadlines_room g c = omega (arith, c.add.ensures.deadlines_len, c.add.ensures.deadlines_capacity)
+
+pub number_of-requires : goal.number_of-requires
+number_of-requires g c = record {
+  index = subst (λ (rows : List Holding). IsIndex prefix_cmp rows c.args.by_prefix.now.items) (sym c.deref.ensures.value) c.requires.indexed.by_prefix;
+}
+
+pub leave-near-requires-clause-rises : goal.leave-near-requires-clause-rises
+leave-near-requires-clause-rises g c = subst (λ (rows : List Holding). Rises deadline_cmp rows c.args.by_deadline.now.items) (sym c.deref-in-Some.ensures.value) c.requires.indexed.by_deadline.rises
+
+pub leave-near-requires-clause-row : goal.leave-near-requires-clause-row
+leave-near-requires-clause-row g c =
+    let own = own_key c.args.rows.now.items c.in-Some.number c.args.row (ap (position (is_row_of c.args.row.router c.args.row.mapping.eid)) (sym c.deref.ensures.value) ∙ sym c.in-Some.ensures) in
+    subst (λ (rows : List Holding). c.in-Some.number < length rows) (sym c.deref-in-Some.ensures.value) own.0
+
+pub leave-near-requires-clause-held : goal.leave-near-requires-clause-held
+leave-near-requires-clause-held g c =
+    let own = own_key c.args.rows.now.items c.in-Some.number c.args.row (ap (position (is_row_of c.args.row.router c.args.row.mapping.eid)) (sym c.deref.ensures.value) ∙ sym c.in-Some.ensures) in
+    c.requires.indexed.by_deadline.each c.in-Some.number own.0
+
+pub index_mut-requires : goal.index_mut-requires
+index_mut-requires g c =
+    let own = own_key c.args.rows.now.items c.in-Some.number c.args.row (ap (position (is_row_of c.args.row.router c.args.row.mapping.eid)) (sym c.deref.ensures.value) ∙ sym c.in-Some.ensures) in
+    omega (arith, own.0, c.args.rows.now.ok.0)
+
+pub enter-requires-clause-room : goal.enter-requires-clause-room
+enter-requires-clause-room g c = omega (arith, c.leave-near.ensures.len, c.leave-near.ensures.capacity, c.requires.deadlines_room)
+
+pub add-requires-clause-indexed : goal.add-requires-clause-indexed
+add-requires-clause-indexed g c = c.requires.indexed
+
+pub add-requires-clause-block : goal.add-requires-clause-block
+add-requires-clause-block g c = c.known.ensures
+
+pub add-requires-clause-none : goal.add-requires-clause-none
+add-requires-clause-none g c = ap (position (is_row_of c.args.row.router c.args.row.mapping.eid)) (sym c.deref.ensures.value) ∙ sym c.in-None.ensures
+
+pub add-requires-clause-rows_room : goal.add-requires-clause-rows_room
+add-requires-clause-rows_room g c = c.requires.rows_room
+
+pub add-requires-clause-prefixes_room : goal.add-requires-clause-prefixes_room
+add-requires-clause-prefixes_room g c = c.requires.prefixes_room
+
+pub add-requires-clause-deadlines_room : goal.add-requires-clause-deadlines_room
+add-requires-clause-deadlines_room g c = c.requires.deadlines_room
+
+pub returns-in-Some-clause-rows_room : goal.returns-in-Some-clause-rows_room
+returns-in-Some-clause-rows_room g c = one_more (vec_capacity c.args.rows.now - vec_len c.args.rows.now)
+
+pub returns-in-None-clause-indexed : goal.returns-in-None-clause-indexed
+returns-in-None-clause-indexed g c = c.add.ensures.indexed

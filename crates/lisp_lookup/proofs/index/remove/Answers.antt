@@ -21,3 +21,9 @@ returns-clause-removed g c = record {
   was = c.swap_remove.ensures.value;
   moved = subst (λ (rows : List Holding). IsPermutation c.args.rows.now.items (c.swap_remove.result ∷ rows)) (sym c.swap_remove.ensures.items) (IsPermutation-swap_remove c.args.rows.now.items c.args.number c.swap_remove.result c.requires.within c.swap_remove.ensures.value);
 }
+
+pub forget-requires-clause-index : goal.forget-requires-clause-index
+forget-requires-clause-index g c = subst (λ (rows : List Holding). IsIndex prefix_cmp rows c.args.by_prefix.now.items) (sym c.deref.ensures.value) c.requires.indexed.by_prefix
+
+pub forget-requires-2-clause-index : goal.forget-requires-2-clause-index
+forget-requires-2-clause-index g c = subst (λ (rows : List Holding). IsIndex deadline_cmp rows c.args.by_deadline.now.items) (sym c.deref-2.ensures.value) c.requires.indexed.by_deadline

@@ -1,7 +1,10 @@
 use Rattle.std.proofs.Common.{inl, inr, sym, ap, ◌∙◌, [], ◌∷◌, ◌++◌}
-use Rattle.std.proofs.lemmas.List.{append-nil}
+use Rattle.std.proofs.lemmas.List.{append-nil, take_all}
+use Rattle.std.proofs.lemmas.Result.{IfOk-from_err}
 use Rattle.lisp_records.specs.Record.{Mapping}
 use Rattle.lisp_records.specs.Row.{Holding}
+use Rattle.lisp_records.proofs.Grown.{on_err}
+use Rattle.lisp_lookup.specs.Records.{live_of}
 use Rattle.lisp_lookup.proofs.LiveLaws.{copies_next}
 use Rattle.lisp_lookup.proofs.live.copy_live.Goals.{then-is_live_of+in_ok-copy+in_ok-try_push, else-is_live_of}
 use Rattle.lisp_lookup.proofs.live.copy_live.Goals as goal
@@ -11,3 +14,18 @@ loop-row-preserved g c = copies_next c.args.rows.now c.loop-row.row-index c.row-
   | then-is_live_of+in_ok-copy+in_ok-try_push w ↦ inl (sym c.is_live_of.ensures ∙ w.if-is_live_of.true, ap (λ v. v.items) w.records-is ∙ w.in_ok-try_push.ensures.items ∙ ap (λ (m : Mapping). c.loop-row.records.items ++ m ∷ []) (w.in_ok-copy.ensures.equal ∙ ap (λ (h : Holding). h.mapping) c.row.view_is))
   | else-is_live_of w ↦ inr (sym c.is_live_of.ensures ∙ w.if-is_live_of.false, ap (λ v. v.items) w.records-is ∙ sym (append-nil c.loop-row.records.items))
 ])
+
+pub returns-in_err-copy-clause-records : goal.returns-in_err-copy-clause-records
+returns-in_err-copy-clause-records g c = IfOk-from_err c.from_residual.result _ c.from_residual.ensures.0
+
+pub returns-in_err-copy-clause-memory : goal.returns-in_err-copy-clause-memory
+returns-in_err-copy-clause-memory g c = on_err c.from_residual.result c.in_err-copy.ensures.memory
+
+pub returns-in_err-try_push-clause-records : goal.returns-in_err-try_push-clause-records
+returns-in_err-try_push-clause-records g c = IfOk-from_err c.from_residual-in_err-try_push.result _ c.from_residual-in_err-try_push.ensures.0
+
+pub returns-in_err-try_push-clause-memory : goal.returns-in_err-try_push-clause-memory
+returns-in_err-try_push-clause-memory g c = on_err c.from_residual-in_err-try_push.result c.in_err-try_push.ensures.refused
+
+pub returns-clause-records : goal.returns-clause-records
+returns-clause-records g c = c.loop-row.invariant ∙ ap (λ rows. live_of rows c.args.router.now c.args.now) (take_all c.loop-row.row-index c.args.rows.now c.loop-row-test.false)

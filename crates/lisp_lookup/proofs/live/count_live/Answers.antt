@@ -28,3 +28,6 @@ returns-then-count-gt-MAX_RECORDS-clause-refused g c = too_large c.args.rows.now
 
 pub returns-clause-fits : goal.returns-clause-fits
 returns-clause-fits g c = fits c.args.rows.now c.args.router.now c.args.now c.loop-row.count c.loop-row.size c.requires (counts_all c.args.rows.now c.loop-row.row-index c.args.router.now c.args.now c.loop-row.count c.loop-row.size c.loop-row-test.false c.loop-row.invariant.counts) c.loop-row.invariant.few c.loop-row.invariant.small
+
+pub returns-clause-count : goal.returns-clause-count
+returns-clause-count g c = (counts_all c.args.rows.now c.loop-row.row-index c.args.router.now c.args.now c.loop-row.count c.loop-row.size c.loop-row-test.false c.loop-row.invariant.counts).records

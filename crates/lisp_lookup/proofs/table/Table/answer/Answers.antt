@@ -1,5 +1,8 @@
-use Rattle.std.proofs.Common.{sym, ap, ◌∙◌}
+use Rattle.std.proofs.Common.{List, sym, ap, ◌∙◌, subst}
+use Rattle.std.specs.List.{All}
+use Rattle.lisp_records.specs.Address.{IsBlock}
 use Rattle.lisp_records.specs.Row.{Holding}
+use Rattle.lisp_lookup.specs.Index.{prefix_cmp, IsIndex}
 use Rattle.lisp_lookup.proofs.AnswerLaws.{best_found, none_found}
 use Rattle.lisp_lookup.proofs.DeadlineLaws.{one_each}
 use Rattle.lisp_lookup.proofs.table.Table.answer.Goals as goal
@@ -27,3 +30,9 @@ returns-in-None-clause-one_each g c = rw (← c.self.view_is) (one_each c.self.i
 
 pub returns-in-None-2-clause-one_each : goal.returns-in-None-2-clause-one_each
 returns-in-None-2-clause-one_each g c = rw (← c.self.view_is) (one_each c.self.inside.items.items c.self.inside.by_prefix.items c.self.invariant.by_prefix)
+
+pub best-requires-clause-eids : goal.best-requires-clause-eids
+best-requires-clause-eids g c = subst (All (λ h. IsBlock h.mapping.eid)) (sym c.deref.ensures.value) c.self.invariant.eids
+
+pub best-requires-clause-index : goal.best-requires-clause-index
+best-requires-clause-index g c = subst (λ (rows : List Holding). IsIndex prefix_cmp rows c.self.inside.by_prefix.items) (sym c.deref.ensures.value) c.self.invariant.by_prefix

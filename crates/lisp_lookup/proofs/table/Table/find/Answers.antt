@@ -1,4 +1,4 @@
-use Rattle.std.proofs.Common.{List, sym, subst, arith}
+use Rattle.std.proofs.Common.{ℕ, ◌<◌, List, length, slice_index, sym, subst, arith}
 use Rattle.std.specs.Ordering.{is_lt}
 use Rattle.lisp_records.specs.Address.{block_cmp}
 use Rattle.lisp_records.specs.Row.{Holding}
@@ -18,3 +18,6 @@ returns-clause-lesser g c =
 
 pub returns-clause-cost : goal.returns-clause-cost
 returns-clause-cost g c = rw (← c.self.view_is) (omega (arith, c.find.ensures.cost, long_index c.self.inside.items.items c.self.inside.by_prefix.items c.self.invariant.by_prefix))
+
+pub find-requires-clause-below : goal.find-requires-clause-below
+find-requires-clause-below g c = subst (λ (rows : List Holding). (k : ℕ) → k < length c.self.inside.by_prefix.items → slice_index c.self.inside.by_prefix.items k < length rows) (sym c.deref.ensures.value) c.self.invariant.by_prefix.rises.below
