@@ -5,7 +5,7 @@ ghost use Rattle.std.specs.List.{Contains, insert, remove};
 ghost use Rattle.std.specs.VecDeque.{deque_len, deque_capacity};
 ghost use Rattle.lisp_lookup.specs.Index.{order_cmp, Rises, Left, IsFresh, Entered, Renamed};
 
-use crate::find::{place, place_from_end};
+use crate::find::place;
 use crate::order::Order;
 use lisp_records::Row;
 use std::alloc::Allocator;
@@ -27,8 +27,30 @@ pub(crate) fn enter<A: Allocator>(
     ensures len { deque_len numbers.new ≡ deque_len numbers.old + 1 }
     ensures capacity { deque_capacity numbers.old ≤ deque_capacity numbers.new }
 {
-    let place = place_from_end(rows, numbers, &order.probe(&rows[number]));
+    let place = place_to_enter(rows, numbers, number, order);
     put_at(numbers, place, number);
+}
+
+// The place at which the number of a row enters an order: mostly the end, which is looked at first.
+#[inline(always)]
+fn place_to_enter<A: Allocator>(
+    rows: &[Row<A>],
+    numbers: &VecDeque<usize, A>,
+    number: usize,
+    order: Order,
+) -> usize
+    requires rises { Rises (order_cmp order) rows.now numbers.now.items }
+    requires row { number < length rows.now }
+    requires fresh { IsFresh rows.now numbers.now.items number }
+    ensures within { result ≤ length numbers.now.items }
+    ensures entered { Entered order rows.now numbers.now.items (insert numbers.now.items result number) number }
+{
+    let row = &rows[number];
+    let end = numbers.len();
+    if end > 0 && order.cmp(&rows[numbers[end - 1]], row).is_lt() {
+        return end;
+    }
+    place(rows, numbers, &order.probe(row))
 }
 
 // Puts a number at a place: mostly the end, where nothing moves and `push_back` is the shorter way.

@@ -40,24 +40,6 @@ pub(crate) fn find<A: Allocator, L: Ledger>(
     low
 }
 
-/// As `place`, where the end is looked at first.
-#[inline(always)]
-pub(crate) fn place_from_end<A: Allocator>(
-    rows: &[Row<A>],
-    numbers: &VecDeque<usize, A>,
-    probe: &Probe<'_, A>,
-) -> usize
-    requires below { (k : ℕ) → k < length numbers.now.items → slice_index numbers.now.items k < length rows.now }
-    requires falls { Falls probe.now rows.now numbers.now.items }
-    ensures bound { IsBound probe.now rows.now numbers.now.items result }
-{
-    let end = numbers.len();
-    if end > 0 && probe.is_after(&rows[numbers[end - 1]]) {
-        return end;
-    }
-    place(rows, numbers, probe)
-}
-
 /// As `find`, with steps that nobody counts.
 pub(crate) fn place<A: Allocator>(
     rows: &[Row<A>],
