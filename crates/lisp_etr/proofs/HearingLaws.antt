@@ -24,6 +24,16 @@ number_differs a b differ = by (a == b) refl
 pub found : {given servers : List Addr} {place : Option ℕ} {r : Result ℕ NotifyFault} (from : Addr) (server : ℕ) → given ≡ servers → place ≡ server_at given from → r ≡ ok_or place faults.NotMine → r ≡ Ok server → ok_or (server_at servers from) faults.NotMine ≡ Ok server
 found from server all at is ok = ap (λ (place : Option ℕ). ok_or place faults.NotMine) (ap (λ (list : List Addr). server_at list from) (sym all) ∙ sym at) ∙ sym is ∙ ok
 
+-- the fault of a refusal that has one
+fault_or : {X : Type 0} → NotifyFault → Result X NotifyFault → NotifyFault
+fault_or other (Ok _) = other
+fault_or other (Err fault) = fault
+
+-- two refusals with one fault, for whatever was asked
+pub same_fault : {X Y : Type 0} {a b : NotifyFault} → ◌≡◌ {A = Result X NotifyFault} (Err a) (Err b) → ◌≡◌ {A = Result Y NotifyFault} (Err a) (Err b)
+unfolding fault_or
+same_fault {X} {Y} {a} same = ap (λ (r : Result X NotifyFault). Err (fault_or a r)) same
+
 module _ (c : Settings) (bytes : List ℕ) (read : Result Said ReadFault) (from : Option ℕ) where
   pub unread : {X : Type 0} (view : X → Heard) (fault : NotifyFault) → Gives {X = Notification} (λ m. m) (Err fault) (notify_read read) → Gives view (Err fault) (checked c bytes read from)
   unfolding checked

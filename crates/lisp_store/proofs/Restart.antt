@@ -1,7 +1,7 @@
 -- What a restart leaves of each pair's values.
-use Rattle.std.proofs.Common.{◌≡◌, ℕ, zero, suc, ◌+◌, ◌-◌, ◌<◌, Bool, true, false, cond, List, [], ◌∷◌, ◌++◌, drop, take, map, min, length, get_or, set, slice_index_or, Option, None, refl, sym, ap, ◌∙◌, subst, arith}
+use Rattle.std.proofs.Common.{◌≡◌, ℕ, zero, suc, ◌+◌, ◌-◌, ◌<◌, ◌≤◌, Bool, true, false, cond, List, [], ◌∷◌, ◌++◌, drop, take, map, min, length, get_or, set, slice_index_or, Option, None, refl, sym, ap, ◌∙◌, subst, arith}
 use Rattle.std.specs.List.{All, Contains}
-use Rattle.std.proofs.lemmas.List.{append_assoc, drop-drop, drop-set-lt, drop_more, get_or-drop, get_or_default, length-map}
+use Rattle.std.proofs.lemmas.List.{append_assoc, drop-drop, drop-set-lt, drop_all, drop_more, take_all, append-nil, get_or-drop, get_or_default, length-map}
 use Rattle.std.proofs.lemmas.List.Elements.{All-more}
 use Rattle.std.proofs.Math.Seq.{take-append_seam, take-suc-set}
 use Rattle.lisp_store.specs.declared.pair.Pair.{Pair}
@@ -77,3 +77,10 @@ narrowed_more pick i now x y lt same =
     let next : i + 1 ≡ suc i = omega arith in
     let done : take (i + 1) (set now i y) ≡ take i now ++ narrowed pick (get_or now i x) ∷ [] = rw (next, same) (take-suc-set now i _ lt) in
     rw (done, drop-set-lt (i + 1) now i y (omega arith), drop_more now i x lt) (append_assoc (take i now) _ _)
+
+-- at the end of that loop all are narrowed
+pub all_narrowed : (pick i : ℕ) (now old : List EntryOf) → length now ≤ i → take i now ++ map (narrowed pick) (drop i now) ≡ map (narrowed pick) old → now ≡ map (narrowed pick) old
+all_narrowed pick i now old done all =
+    let whole = ap (λ (es : List EntryOf). es ++ map (narrowed pick) (drop i now)) (take_all i now done) in
+    let none = ap (λ (es : List EntryOf). now ++ map (narrowed pick) es) (drop_all i now done) in
+    sym (append-nil now) ∙ sym none ∙ sym whole ∙ all

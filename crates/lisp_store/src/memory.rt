@@ -1,6 +1,6 @@
 //! A store in memory, for worlds and tests.
 
-ghost use Rattle.std.specs.Prelude.{◌≡◌, ◌≢◌, ◌<◌, ◌≤◌, [], ◌∷◌, Some, None, Ok, Err, IsTrue, IfOk, IfErr, OnOk, OnErr, IsErrOf, All, length, map, slice_index_or};
+ghost use Rattle.std.specs.Prelude.{◌≡◌, ◌≢◌, ◌↔◌, ◌<◌, ◌≤◌, [], ◌∷◌, Some, None, Ok, Err, IsTrue, IfOk, IfErr, OnOk, OnErr, IsErrOf, All, length, map, slice_index_or};
 ghost use Rattle.std.specs.List.{Contains, position};
 ghost use Rattle.std.specs.FinMap.{empty};
 ghost use Rattle.lisp_store.specs.Kept.{kept_at, SameElsewhere, InDoubt, Narrows};
@@ -132,7 +132,7 @@ impl<A: Memory + Copy> NonceStore for MemoryStore<A> {
         ensures memory { IsErrOf result StoreFault.OutOfMemory → A.may_refuse }
         ensures proceeds { Proceeds (memory_state self.old) (memory_state self.new) }
     {
-        if self.fate == Fate::LoadFails {
+        if load_fails(self.fate) {
             self.faults = self.faults.saturating_add(1);
             return Err(StoreFault::Device);
         }
@@ -197,6 +197,16 @@ impl<A: Memory + Copy> WorldStore for MemoryStore<A> {
         ensures proceeds { Proceeds (memory_state self.old) (memory_state self.new) }
     {
         narrow(&mut self.entries, pick);
+    }
+}
+
+// Whether loads fail.
+fn load_fails(fate: Fate) -> bool
+    ensures { IsTrue result ↔ (fate ≡ Fate.LoadFails) }
+{
+    match fate {
+        Fate::LoadFails => true,
+        Fate::Done | Fate::Doubt => false,
     }
 }
 

@@ -1,4 +1,8 @@
-use Rattle.std.proofs.Common.{ℕ, sym, ap, ◌∙◌, is_ok, true≢false}
+use Rattle.std.proofs.Common.{ℕ, ◌<◌, List, length, sym, ap, ◌∙◌, subst, is_ok, true≢false}
+use Rattle.std.specs.Result.{result_ok}
+use Rattle.std.proofs.lemmas.List.Quantifiers.{position-Some}
+use Rattle.lisp_records.specs.declared.address.Addr.{Addr}
+use Rattle.lisp_records.specs.Address.{addr_eq}
 use Rattle.std.proofs.lemmas.Result.{err_from_is_err_and}
 use Rattle.lisp_messages.specs.Authentic.{is_authentic}
 use Rattle.lisp_messages.specs.Message.{Notification}
@@ -51,3 +55,9 @@ returns-clause-exact g c =
     let secret = ap (λ (s : Settings). s.secret) config in
     passes c.args.config.now c.args.bytes.now (message_at c.args.bytes.now) (server_at c.args.config.now.servers c.args.from) c.in_ok-notify.notify c.in_ok-notify.ensures.exact c.in_ok-server.server its key
     (ap (is_authentic c.args.bytes.now) (sym secret) ∙ sym c.authentic.ensures.test ∙ c.if-not-authentic.false)
+
+pub returns-clause-server : goal.returns-clause-server
+returns-clause-server g c =
+    let at = sym c.server_at.ensures ∙ c.ok_or.ensures.ok_part ∙ ap result_ok c.in_ok-server.was in
+    let place = position-Some (λ server. addr_eq server c.args.from) c.as_slice.result.now c.in_ok-server.server c.args.from at in
+    rw (← c.config.view_is) (subst (λ (servers : List Addr). c.in_ok-server.server < length servers) c.as_slice.ensures place.0)

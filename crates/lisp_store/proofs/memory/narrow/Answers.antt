@@ -1,7 +1,7 @@
 use Rattle.std.proofs.Common.{All, subst, ◌∙◌, arith}
 use Rattle.std.proofs.lemmas.List.{take_all}
 use Rattle.lisp_store.specs.Entries.{HasValues}
-use Rattle.lisp_store.proofs.Restart.{narrowed_more, one_more, others_stay}
+use Rattle.lisp_store.proofs.Restart.{all_narrowed, narrowed_more, one_more, others_stay}
 use Rattle.lisp_store.proofs.memory.narrow.Goals as goal
 
 pub loop-entry-preserved : goal.loop-entry-preserved
@@ -13,3 +13,6 @@ loop-entry-preserved g c = record {
 
 pub returns-clause-some : goal.returns-clause-some
 returns-clause-some g c = subst (All HasValues) (take_all c.loop-entry.entry-index c.args.entries.now c.loop-entry-test.false) c.loop-entry.invariant.some
+
+pub returns-clause-narrowed : goal.returns-clause-narrowed
+returns-clause-narrowed g c = all_narrowed c.args.pick c.loop-entry.entry-index c.loop-entry.entries c.args.entries.now (omega (arith, c.loop-entry-test.false, c.loop-entry.auto.entries)) c.loop-entry.invariant.narrowed

@@ -1,6 +1,14 @@
-use Rattle.std.proofs.Common.{sym, ◌∙◌}
+use Rattle.std.proofs.Common.{sym, ◌∙◌, arith}
+use Rattle.std.proofs.lemmas.List.Quantifiers.{position-Some}
+use Rattle.lisp_store.specs.Entries.{is_of}
 use Rattle.lisp_store.proofs.Entries.{is_of_itself, set_here, set_there, push_here, push_there, kept_of_entries}
 use Rattle.lisp_store.proofs.memory.set.Goals as goal
+
+pub index_mut-requires : goal.index_mut-requires
+index_mut-requires g c =
+    let at = sym (rw c.deref.ensures.value at c.in-Some.ensures) in
+    let place = (position-Some (is_of c.args.pair) c.args.entries.now.items c.in-Some.i (record { pair = c.args.pair; values = c.args.values.items }) at).0 in
+    omega (arith, place, c.args.entries.now.ok.0)
 
 pub returns-in-Some-clause-here : goal.returns-in-Some-clause-here
 returns-in-Some-clause-here g c =
