@@ -1,6 +1,6 @@
 use Rattle.std.proofs.Common.{List, ◌++◌, ap, ◌∙◌}
 use Rattle.lisp_records.specs.declared.locator.Locator.{Locator}
-use Rattle.lisp_records.specs.Written.{written_head, written_afi, written_locators}
+use Rattle.lisp_records.specs.Written.{written_locators}
 use Rattle.lisp_records.proofs.Grown.{Grew-step, on_err}
 use Rattle.lisp_records.proofs.WrittenLemmas.{written_from}
 use Rattle.lisp_records.proofs.record.put_record.Goals as goal

@@ -2,7 +2,6 @@ use Rattle.std.proofs.Common.{◌≡◌, ◌++◌, ℕ, List, length, map, take,
 use Rattle.std.proofs.lemmas.List.{length-take, length-map}
 use Rattle.std.proofs.Math.Seq.{take-append_seam}
 use Rattle.lisp_etr.specs.Round.{begun}
-use Rattle.lisp_etr.specs.Etr.{EtrState}
 use Rattle.lisp_etr.specs.declared.round.Round.{Round}
 use Rattle.lisp_etr.proofs.etr.Etr.change.Goals as goal
 
