@@ -376,7 +376,7 @@ fn put_front<A: Allocator, B: Memory>(
     }
 }
 
-// The bytes before the EID-Prefix, and its own.
+// The bytes before the EID-Prefix, and its own: 16 of IPv4, 28 of IPv6.
 fn joined<const LEN: usize>(head: &[u8; HEAD_LEN], octets: &[u8]) -> [u8; LEN]
     requires { LEN ≡ 12 + length octets.now }
     ensures { result ≡ head.now ++ octets.now }
