@@ -1,13 +1,15 @@
 -- Numbers of rows in rising order: what is sought in them, and what an edit leaves.
-use Rattle.std.proofs.Common.{◌≡◌, ◌≢◌, ◌⊎◌, inl, inr, ℕ, zero, suc, ◌+◌, ◌-◌, ◌<◌, ◌≤◌, true, List, [], ◌∷◌, length, slice_index, slice_index_or, refl, sym, ap, ◌∙◌, subst, true≢false, arith}
+use Rattle.std.proofs.Common.{◌≡◌, ◌≢◌, ◌⊎◌, inl, inr, ℕ, zero, suc, ◌+◌, ◌-◌, ◌<◌, ◌≤◌, true, false, List, [], ◌∷◌, ◌++◌, length, slice_index, slice_index_or, Option, Some, None, Result, Ok, Err, refl, sym, ap, ◌∙◌, subst, true≢false, arith}
 use Rattle.std.specs.List.{Contains, insert, remove}
-use Rattle.std.specs.Ordering.{is_lt, nat_cmp, ordering_reverse, ordering_then}
+use Rattle.std.specs.Option.{OnSome, IsSome}
+use Rattle.std.specs.Result.{OnOk, OnErr}
+use Rattle.std.specs.Ordering.{is_lt, is_ge, nat_cmp, ordering_reverse, ordering_then}
 use Rattle.std.specs.Cmp.{IsTotalOrder, on_total, then_total, nat_cmp_total}
 use Rattle.std.specs.declared.cmp.Ordering.{Ordering}
 use Rattle.std.specs.declared.cmp.Ordering.TheVariants.{Less, Equal, Greater}
-use Rattle.std.proofs.lemmas.Bool.{cases_lt, cases_order}
+use Rattle.std.proofs.lemmas.Bool.{cases_eq, cases_lt, cases_order}
 use Rattle.std.proofs.lemmas.List.{get_or_read, get_or_default}
-use Rattle.std.proofs.lemmas.List.Edits.{length-insert, length-remove, get_or-insert_below, get_or-insert_at, get_or-insert_above, get_or-remove_below, get_or-remove_above}
+use Rattle.std.proofs.lemmas.List.Edits.{insert_end, length-insert, length-remove, get_or-insert_below, get_or-insert_at, get_or-insert_above, get_or-remove_below, get_or-remove_above}
 use Rattle.std.proofs.lemmas.List.Sorted.{IsPermutation-insert, IsPermutation-remove, Contains-permutation}
 use Rattle.std.proofs.lemmas.Map.Lookups.{exact_pairs}
 use Rattle.lisp_records.specs.Address.{Block, block_cmp}
@@ -22,6 +24,16 @@ use Rattle.lisp_lookup.specs.Index.{deadline, prefix_cmp, deadline_cmp, order_cm
 use Rattle.lisp_lookup.proofs.AnswerLaws.{less}
 use Rattle.lisp_lookup.proofs.Orders.{block_total, router_total, same_block, same_router}
 use Rattle.lisp_lookup.proofs.TableLaws.{less_from}
+
+-- what follows from an answer that can't be an error
+pub made : {T E P Q : Type 0} (result : Result T E) → OnOk result P → OnErr result Q → (Q → ⊥) → P
+made (Ok x) holds fails never = holds
+made (Err x) holds fails never = absurd (never fails)
+
+-- what follows from an answer that there is
+pub taken : {T P : Type 0} (result : Option T) → OnSome result P → IsSome result → P
+taken (Some x) holds some = holds
+taken None holds some = absurd (true≢false (sym some))
 
 -- the number at a place, read with any default
 pub number_at : (numbers : List ℕ) (k n : ℕ) → k < length numbers → slice_index_or numbers k n ≡ n → slice_index numbers k ≡ n
@@ -106,6 +118,11 @@ pub order_tie : (order : Order) (a b : Holding) → order_cmp order a b ≡ Equa
 order_tie ByPrefix a b tie = prefix_tie a b tie
 order_tie ByDeadline a b tie = prefix_tie a b (then_tie (nat_cmp (deadline a) (deadline b)) (prefix_cmp a b) tie)
 
+not_ge : (o : Ordering) → is_ge o ≡ false → o ≡ Less
+not_ge Less before = refl
+not_ge Equal before = absurd cc
+not_ge Greater before = absurd cc
+
 reverse_case : (o : Ordering) → o ≡ ordering_reverse o → o ≡ Equal
 reverse_case Less turned = absurd cc
 reverse_case Equal turned = refl
@@ -181,13 +198,11 @@ module _ (cmp : Holding → Holding → Ordering) (total : IsTotalOrder cmp) whe
       rising = λ i j d lt within. pair_case i j (slice_index (insert numbers place n) i) (slice_index (insert numbers place n) j) d lt (omega (arith, within, length-insert numbers place n le)) (inserted_from numbers place n i le) (inserted_from numbers place n j le);
     }
 
-  module _ (x : Holding) {A : Type 0} (probe : Probe A) (seeks : (h : Holding) → is_before probe h ≡ is_lt (cmp h x)) where
-    -- a row is sought by its order
-    pub falls : (rows : List Holding) (numbers : List ℕ) → Rises cmp rows numbers → Falls probe rows numbers
-    falls rows numbers rises i j d lt within before =
-        let later = less (cmp (row_at_place rows numbers j d) x) (sym (seeks (row_at_place rows numbers j d)) ∙ before) in
-        seeks (row_at_place rows numbers i d) ∙ ap is_lt (total.trans (row_at_place rows numbers i d) (row_at_place rows numbers j d) x (rises.rising i j d lt within) later)
+  -- a row is sought by its order
+  pub falls : (x : Holding) (rows : List Holding) (numbers : List ℕ) → Rises cmp rows numbers → (i j : ℕ) (d : Holding) → i < j → j < length numbers → is_lt (cmp (row_at_place rows numbers j d) x) ≡ true → is_lt (cmp (row_at_place rows numbers i d) x) ≡ true
+  falls x rows numbers rises i j d lt within before = ap is_lt (total.trans (row_at_place rows numbers i d) (row_at_place rows numbers j d) x (rises.rising i j d lt within) (less (cmp (row_at_place rows numbers j d) x) before))
 
+  module _ (x : Holding) {A : Type 0} (probe : Probe A) (seeks : (h : Holding) → is_before probe h ≡ is_lt (cmp h x)) where
     module _ (rows : List Holding) (numbers : List ℕ) (place : ℕ) (rises : Rises cmp rows numbers) (bound : IsBound probe rows numbers place) where
       -- a row that ties with what is sought is found
       pub exact : (p : ℕ) → p < length numbers → cmp (row_at_place rows numbers p x) x ≡ Equal → place ≡ p
@@ -245,18 +260,38 @@ module _ (order : Order) (rows : List Holding) (numbers : List ℕ) (number : �
         omega (arith, from.1, at));
   }
 
-  pub entered_at : {A : Type 0} (probe : Probe A) (place : ℕ) → ((h : Holding) → is_before probe h ≡ is_lt (order_cmp order h x)) → IsBound probe rows numbers place → number < length rows → IsFresh rows numbers number → x ≡ slice_index_or rows number x → Entered order rows numbers (insert numbers place number) number
-  entered_at probe place seeks bound row fresh read = record {
-    rises = rises_insert (order_cmp order) (order_total order) rows numbers place number bound.within row (λ i d lt. ap (order_cmp order (row_at_place rows numbers i d)) (sym (known d)) ∙ gap_below (order_cmp order) (order_total order) x probe seeks rows numbers place rises bound i d lt) (λ i d le lt. ap (λ (h : Holding). order_cmp order h (row_at_place rows numbers i d)) (sym (known d)) ∙ gap_above (order_cmp order) (order_total order) x probe seeks rows numbers place rises bound (no_tie fresh read) i d le lt) rises;
-    others = λ n held. moved n (suc held.0, omega (arith, held.1), held.2);
-    here = moved number (0, omega arith, refl);
-  }
-    where
-      known : (d : Holding) → x ≡ slice_index_or rows number d
-      known = get_or_read rows number x row read
+  -- a number that is put between the lesser and the greater rows
+  module _ (place : ℕ) (within : place ≤ length numbers) (below : (i : ℕ) (d : Holding) → i < place → order_cmp order (row_at_place rows numbers i d) x ≡ Less) (above : (i : ℕ) (d : Holding) → place ≤ i → i < length numbers → order_cmp order x (row_at_place rows numbers i d) ≡ Less) (row : number < length rows) (read : x ≡ slice_index_or rows number x) where
+    known : (d : Holding) → x ≡ slice_index_or rows number d
+    known = get_or_read rows number x row read
 
-      moved : (n : ℕ) → Contains (number ∷ numbers) n → Contains (insert numbers place number) n
-      moved n held = Contains-permutation (number ∷ numbers) (insert numbers place number) n (IsPermutation-insert numbers place number) held
+    moved : (n : ℕ) → Contains (number ∷ numbers) n → Contains (insert numbers place number) n
+    moved n held = Contains-permutation (number ∷ numbers) (insert numbers place number) n (IsPermutation-insert numbers place number) held
+
+    entered : Entered order rows numbers (insert numbers place number) number
+    entered = record {
+      rises = rises_insert (order_cmp order) (order_total order) rows numbers place number within row (λ i d lt. ap (order_cmp order (row_at_place rows numbers i d)) (sym (known d)) ∙ below i d lt) (λ i d le lt. ap (λ (h : Holding). order_cmp order h (row_at_place rows numbers i d)) (sym (known d)) ∙ above i d le lt) rises;
+      others = λ n held. moved n (suc held.0, omega (arith, held.1), held.2);
+      here = moved number (0, omega arith, refl);
+    }
+
+  pub entered_at : {A : Type 0} (probe : Probe A) (place : ℕ) → ((h : Holding) → is_before probe h ≡ is_lt (order_cmp order h x)) → IsBound probe rows numbers place → number < length rows → IsFresh rows numbers number → x ≡ slice_index_or rows number x → Entered order rows numbers (insert numbers place number) number
+  entered_at probe place seeks bound row fresh read = entered place bound.within (gap_below (order_cmp order) (order_total order) x probe seeks rows numbers place rises bound) (gap_above (order_cmp order) (order_total order) x probe seeks rows numbers place rises bound (no_tie fresh read)) row read
+
+  -- a row that stands behind all others
+  pub entered_last : ((i : ℕ) (d : Holding) → i < length numbers → order_cmp order (row_at_place rows numbers i d) x ≡ Less) → number < length rows → x ≡ slice_index_or rows number x → Entered order rows numbers (numbers ++ number ∷ []) number
+  entered_last below row read = subst (λ (new : List ℕ). Entered order rows numbers new number) (insert_end numbers number) (entered (length numbers) (omega arith) below (λ i d le lt. absurd (omega (arith, le, lt))) row read)
+
+  -- it does so where it stands behind the last one
+  pub behind_last : (k last : ℕ) (h : Holding) → k + 1 ≡ length numbers → last ≡ slice_index_or numbers k last → h ≡ slice_index_or rows last h → is_ge (order_cmp order h x) ≡ false → (i : ℕ) (d : Holding) → i < length numbers → order_cmp order (row_at_place rows numbers i d) x ≡ Less
+  behind_last k last h end last_read h_read before i d lt = either (cases_eq i k)
+    where
+      here : order_cmp order (row_at_place rows numbers k d) x ≡ Less
+      here = ap (λ (a : Holding). order_cmp order a x) (sym (row_read (order_cmp order) rows numbers k last h rises (omega (arith, end)) last_read h_read d)) ∙ not_ge (order_cmp order h x) before
+
+      either : (i ≡ k) ⊎ (i ≢ k) → order_cmp order (row_at_place rows numbers i d) x ≡ Less
+      either (inl same) = subst (λ (j : ℕ). order_cmp order (row_at_place rows numbers j d) x ≡ Less) (sym same) here
+      either (inr other) = (order_total order).trans (row_at_place rows numbers i d) (row_at_place rows numbers k d) x (rises.rising i k d (omega (arith, lt, other, end)) (omega (arith, end))) here
 
 prefix_case : (a b eid : Block) (first second : Ordering) → block_cmp a b ≡ first → ordering_then first second ≡ Less → is_lt (block_cmp b eid) ≡ true → is_lt (block_cmp a eid) ≡ true
 prefix_case a b eid Less second is up before = ap is_lt (block_total.trans a b eid is (less (block_cmp b eid) before))

@@ -7,11 +7,13 @@ ghost use Rattle.lisp_lookup.specs.Index.{order_cmp, Rises, Left, IsFresh, Enter
 
 use crate::find::place;
 use crate::order::Order;
+use crate::probe::Probe;
 use lisp_records::Row;
 use std::alloc::Allocator;
 use std::collections::VecDeque;
 
-/// Puts the number of a row into an order that has room for it. Takes no memory.
+/// Puts the number of a row into an order that has room for it: mostly at the end, which is looked at first. Takes no
+/// memory.
 #[inline(always)]
 pub(crate) fn enter<A: Allocator>(
     rows: &[Row<A>],
@@ -27,50 +29,18 @@ pub(crate) fn enter<A: Allocator>(
     ensures len { deque_len numbers.new ≡ deque_len numbers.old + 1 }
     ensures capacity { deque_capacity numbers.old ≤ deque_capacity numbers.new }
 {
-    let place = place_to_enter(rows, numbers, number, order);
-    put_at(numbers, place, number);
-}
-
-// The place at which the number of a row enters an order: mostly the end, which is looked at first.
-#[inline(always)]
-fn place_to_enter<A: Allocator>(
-    rows: &[Row<A>],
-    numbers: &VecDeque<usize, A>,
-    number: usize,
-    order: Order,
-) -> usize
-    requires rises { Rises (order_cmp order) rows.now numbers.now.items }
-    requires row { number < length rows.now }
-    requires fresh { IsFresh rows.now numbers.now.items number }
-    ensures within { result ≤ length numbers.now.items }
-    ensures entered { Entered order rows.now numbers.now.items (insert numbers.now.items result number) number }
-{
     let row = &rows[number];
-    let end = numbers.len();
-    if end > 0 && order.cmp(&rows[numbers[end - 1]], row).is_lt() {
-        return end;
-    }
-    place(rows, numbers, &order.probe(row))
-}
-
-// Puts a number at a place: mostly the end, where nothing moves and `push_back` is the shorter way.
-#[inline(always)]
-fn put_at<A: Allocator>(numbers: &mut VecDeque<usize, A>, place: usize, number: usize)
-    requires within { place ≤ length numbers.old.items }
-    requires room { deque_len numbers.old < deque_capacity numbers.old }
-    ensures items { numbers.new.items ≡ insert numbers.old.items place number }
-    ensures len { deque_len numbers.new ≡ deque_len numbers.old + 1 }
-    ensures capacity { deque_capacity numbers.old ≤ deque_capacity numbers.new }
-{
-    if place == numbers.len() {
-        numbers.push_back_reserved(number);
-    } else {
-        let _ = numbers.insert(place, number);
+    match numbers.back() {
+        Some(last) if order.cmp(&rows[*last], row).is_ge() => {
+            let place = place(rows, numbers, &Probe::Row(order, row));
+            let _ = numbers.insert(place, number);
+        }
+        _ => numbers.push_back_reserved(number),
     }
 }
 
-/// Takes the number of a row out of an order, where it has perhaps the place `near`. The answer is the place that it
-/// had.
+/// Takes the number of a row out of an order, where it is mostly the first one, or has the place `near`. The answer is
+/// the place that it had.
 #[inline(always)]
 pub(crate) fn leave<A: Allocator>(
     rows: &[Row<A>],
@@ -86,24 +56,17 @@ pub(crate) fn leave<A: Allocator>(
     ensures len { deque_len numbers.new + 1 ≡ deque_len numbers.old }
     ensures capacity { deque_capacity numbers.new ≡ deque_capacity numbers.old }
 {
-    let place = place_of(rows, numbers, number, order, near);
-    take_out(numbers, place);
-    place
-}
-
-// Takes out the number at a place: mostly the first one, for which nothing moves and `pop_front` is the shorter way.
-#[inline(always)]
-fn take_out<A: Allocator>(numbers: &mut VecDeque<usize, A>, place: usize)
-    requires within { place < length numbers.old.items }
-    ensures items { numbers.new.items ≡ remove numbers.old.items place }
-    ensures len { deque_len numbers.new + 1 ≡ deque_len numbers.old }
-    ensures capacity { deque_capacity numbers.new ≡ deque_capacity numbers.old }
-{
-    let _ = if place == 0 {
-        numbers.pop_front()
-    } else {
-        numbers.remove(place)
-    };
+    match numbers.front() {
+        Some(first) if *first == number => {
+            let _ = numbers.pop_front();
+            0
+        }
+        _ => {
+            let place = place_of(rows, numbers, number, order, near);
+            let _ = numbers.remove(place);
+            place
+        }
+    }
 }
 
 // The place of a number in an order, perhaps `near`.
@@ -123,7 +86,7 @@ fn place_of<A: Allocator>(
 {
     match numbers.get(near) {
         Some(there) if *there == number => near,
-        _ => place(rows, numbers, &order.probe(&rows[number])),
+        _ => place(rows, numbers, &Probe::Row(order, &rows[number])),
     }
 }
 

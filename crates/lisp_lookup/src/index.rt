@@ -13,6 +13,7 @@ ghost use Rattle.lisp_lookup.specs.Index.{prefix_cmp, deadline_cmp, order_cmp, r
 use crate::edits::{enter, leave, rename};
 use crate::find::place;
 use crate::order::{Order, deadline};
+use crate::probe::Probe;
 use lisp_records::Row;
 use std::alloc::Allocator;
 use std::collections::VecDeque;
@@ -34,6 +35,7 @@ impl Near {
 }
 
 /// Sets a row, for which there is room. Takes no memory.
+#[inline(always)]
 pub(crate) fn put<A: Allocator>(
     rows: &mut Vec<Row<A>, A>,
     by_prefix: &mut VecDeque<usize, A>,
@@ -84,7 +86,7 @@ fn number_of<A: Allocator>(
         *near = near.saturating_add(1);
         return Some(number);
     }
-    let place = place(rows, by_prefix, &Order::ByPrefix.probe(row));
+    let place = place(rows, by_prefix, &Probe::Row(Order::ByPrefix, row));
     *near = place.saturating_add(1);
     number_at(rows, by_prefix, row, place)
 }

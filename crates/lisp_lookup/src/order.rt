@@ -1,9 +1,8 @@
 //! The orders in which rows are found.
 
 ghost use Rattle.std.specs.Prelude.{◌≡◌};
-ghost use Rattle.lisp_lookup.specs.Index.{Seeks, deadline, prefix_cmp, order_cmp};
+ghost use Rattle.lisp_lookup.specs.Index.{deadline, prefix_cmp, order_cmp};
 
-use crate::probe::Probe;
 use lisp_records::Row;
 use std::alloc::Allocator;
 use std::cmp::Ordering;
@@ -18,13 +17,6 @@ pub(crate) enum Order {
 }
 
 impl Order {
-    /// What finds a row in the order.
-    pub(crate) fn probe<A: Allocator>(self, row: &Row<A>) -> Probe<'_, A>
-        ensures { Seeks self row.now result }
-    {
-        Probe::Row(self, row)
-    }
-
     /// How two rows stand in the order.
     #[inline(always)]
     pub(crate) fn cmp<A: Allocator>(self, one: &Row<A>, other: &Row<A>) -> Ordering

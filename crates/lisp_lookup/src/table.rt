@@ -97,6 +97,7 @@ impl<A: Allocator + Copy> Table<A> {
     }
 
     // Sets a row.
+    #[inline(always)]
     fn put(&mut self, row: Row<A>, near: &mut Near)
         requires { 0 < self.old.spare }
         ensures row { Sets self.old.rows self.new.rows (row ∷ []) }
