@@ -160,11 +160,8 @@ pub(crate) fn drop_dead<A: Allocator>(
     ensures indexed { Indexed rows.new.items by_prefix.new.items by_deadline.new.items }
     ensures expires { Expires rows.old.items rows.new.items now }
 {
-    for _turn in 0..rows.len() {
-        match first_dead(rows, by_deadline, now) {
-            Some(number) => remove(rows, by_prefix, by_deadline, number),
-            None => return,
-        }
+    while let Some(number) = first_dead(rows, by_deadline, now) {
+        remove(rows, by_prefix, by_deadline, number);
     }
 }
 
