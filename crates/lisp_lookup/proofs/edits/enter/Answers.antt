@@ -49,3 +49,9 @@ returns-in_default-clause-len g c = c.push_back_reserved.ensures.len
 
 pub returns-in_default-clause-capacity : goal.returns-in_default-clause-capacity
 returns-in_default-clause-capacity g c = omega (arith, c.push_back_reserved.ensures.capacity)
+
+pub offset_bounds-rows-number : goal.offset_bounds-rows-number
+offset_bounds-rows-number g c = omega (arith, c.requires.row)
+
+pub offset_bounds-rows-last : goal.offset_bounds-rows-last
+offset_bounds-rows-last g c = omega (arith, number_within (order_cmp c.args.order) c.args.rows.now c.args.numbers.now.items (deque_len c.args.numbers.now - 1) c.in-Some.last.now c.requires.rises (omega (arith, c.in-Some.ensures.variant.0 refl, c.args.numbers.now.ok.0)) c.in-Some.ensures.lookup)

@@ -15,23 +15,26 @@ use Rattle.lisp_lookup.proofs.RoomLaws.{one_more}
 use Rattle.lisp_lookup.proofs.TableLaws.{sets_set, sets_push}
 use Rattle.lisp_lookup.proofs.index.put.Goals as goal
 
-pub enter-requires-clause-rises : goal.enter-requires-clause-rises
-enter-requires-clause-rises g c =
+pub leave-near-requires : goal.leave-near-requires
+leave-near-requires g c =
     let own = own_key c.args.rows.now.items c.in-Some.number c.args.row (ap (position (is_row_of c.args.row.router c.args.row.mapping.eid)) (sym c.deref.ensures.value) ∙ sym c.in-Some.ensures) in
-    let left = subst (λ (rows : List Holding). Left ByDeadline rows c.args.by_deadline.now.items c.leave-near.new.numbers.items c.in-Some.number) c.deref-in-Some.ensures.value c.leave-near.ensures.left in
-    subst (λ (rows : List Holding). Rises deadline_cmp rows c.leave-near.new.numbers.items) (sym c.deref-in-Some-2.ensures.value) (rises_over ByDeadline c.args.rows.now.items c.args.by_deadline.now.items c.leave-near.new.numbers.items c.in-Some.number c.args.row own.0 left)
+    record {
+      rises = subst (λ (rows : List Holding). Rises deadline_cmp rows c.args.by_deadline.now.items) (sym c.deref-in-Some.ensures.value) c.requires.indexed.by_deadline.rises;
+      row = subst (λ (rows : List Holding). c.in-Some.number < length rows) (sym c.deref-in-Some.ensures.value) own.0;
+      held = c.requires.indexed.by_deadline.each c.in-Some.number own.0;
+    }
 
-pub enter-requires-clause-row : goal.enter-requires-clause-row
-enter-requires-clause-row g c =
-    let own = own_key c.args.rows.now.items c.in-Some.number c.args.row (ap (position (is_row_of c.args.row.router c.args.row.mapping.eid)) (sym c.deref.ensures.value) ∙ sym c.in-Some.ensures) in
-    rw (c.deref-in-Some-2.ensures.value, length-set) own.0
-
-pub enter-requires-clause-fresh : goal.enter-requires-clause-fresh
-enter-requires-clause-fresh g c =
+pub enter-requires : goal.enter-requires
+enter-requires g c =
     let own = own_key c.args.rows.now.items c.in-Some.number c.args.row (ap (position (is_row_of c.args.row.router c.args.row.mapping.eid)) (sym c.deref.ensures.value) ∙ sym c.in-Some.ensures) in
     let left = subst (λ (rows : List Holding). Left ByDeadline rows c.args.by_deadline.now.items c.leave-near.new.numbers.items c.in-Some.number) c.deref-in-Some.ensures.value c.leave-near.ensures.left in
     let each = one_each c.args.rows.now.items c.args.by_prefix.now.items c.requires.indexed.by_prefix in
-    subst (λ (rows : List Holding). IsFresh rows c.leave-near.new.numbers.items c.in-Some.number) (sym c.deref-in-Some-2.ensures.value) (fresh_over ByDeadline c.args.rows.now.items c.args.by_deadline.now.items c.leave-near.new.numbers.items c.in-Some.number c.args.row own.0 left each own.1)
+    record {
+      rises = subst (λ (rows : List Holding). Rises deadline_cmp rows c.leave-near.new.numbers.items) (sym c.deref-in-Some-2.ensures.value) (rises_over ByDeadline c.args.rows.now.items c.args.by_deadline.now.items c.leave-near.new.numbers.items c.in-Some.number c.args.row own.0 left);
+      row = rw (c.deref-in-Some-2.ensures.value, length-set) own.0;
+      fresh = subst (λ (rows : List Holding). IsFresh rows c.leave-near.new.numbers.items c.in-Some.number) (sym c.deref-in-Some-2.ensures.value) (fresh_over ByDeadline c.args.rows.now.items c.args.by_deadline.now.items c.leave-near.new.numbers.items c.in-Some.number c.args.row own.0 left each own.1);
+      room = omega (arith, c.leave-near.ensures.len, c.leave-near.ensures.capacity, c.requires.deadlines_room);
+    }
 
 pub returns-in-Some-clause-indexed : goal.returns-in-Some-clause-indexed
 returns-in-Some-clause-indexed g c =
@@ -70,26 +73,10 @@ number_of-requires g c = record {
   index = subst (λ (rows : List Holding). IsIndex prefix_cmp rows c.args.by_prefix.now.items) (sym c.deref.ensures.value) c.requires.indexed.by_prefix;
 }
 
-pub leave-near-requires-clause-rises : goal.leave-near-requires-clause-rises
-leave-near-requires-clause-rises g c = subst (λ (rows : List Holding). Rises deadline_cmp rows c.args.by_deadline.now.items) (sym c.deref-in-Some.ensures.value) c.requires.indexed.by_deadline.rises
-
-pub leave-near-requires-clause-row : goal.leave-near-requires-clause-row
-leave-near-requires-clause-row g c =
-    let own = own_key c.args.rows.now.items c.in-Some.number c.args.row (ap (position (is_row_of c.args.row.router c.args.row.mapping.eid)) (sym c.deref.ensures.value) ∙ sym c.in-Some.ensures) in
-    subst (λ (rows : List Holding). c.in-Some.number < length rows) (sym c.deref-in-Some.ensures.value) own.0
-
-pub leave-near-requires-clause-held : goal.leave-near-requires-clause-held
-leave-near-requires-clause-held g c =
-    let own = own_key c.args.rows.now.items c.in-Some.number c.args.row (ap (position (is_row_of c.args.row.router c.args.row.mapping.eid)) (sym c.deref.ensures.value) ∙ sym c.in-Some.ensures) in
-    c.requires.indexed.by_deadline.each c.in-Some.number own.0
-
 pub index_mut-requires : goal.index_mut-requires
 index_mut-requires g c =
     let own = own_key c.args.rows.now.items c.in-Some.number c.args.row (ap (position (is_row_of c.args.row.router c.args.row.mapping.eid)) (sym c.deref.ensures.value) ∙ sym c.in-Some.ensures) in
     omega (arith, own.0, c.args.rows.now.ok.0)
-
-pub enter-requires-clause-room : goal.enter-requires-clause-room
-enter-requires-clause-room g c = omega (arith, c.leave-near.ensures.len, c.leave-near.ensures.capacity, c.requires.deadlines_room)
 
 pub add-requires-clause-indexed : goal.add-requires-clause-indexed
 add-requires-clause-indexed g c = c.requires.indexed
