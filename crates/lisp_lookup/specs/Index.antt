@@ -65,10 +65,6 @@ pub record IsBound {A : Type 0} (probe : Probe A) (rows : List Holding) (numbers
   pub before : (i : ℕ) (d : Holding) → i < place → is_before probe (row_at_place rows numbers i d) ≡ true
   pub after : (i : ℕ) (d : Holding) → place ≤ i → i < length numbers → is_before probe (row_at_place rows numbers i d) ≡ false
 
--- a row is sought by the order
-abbrev pub Seeks : {A : Type 0} → Order → Holding → Probe A → Type 0
-Seeks order x probe = (h : Holding) → is_before probe h ≡ is_lt (order_cmp order h x)
-
 -- a number was taken out, and no other
 pub record Left (order : Order) (rows : List Holding) (old new : List ℕ) (number : ℕ) : Type 0 where
   pub rises : Rises (order_cmp order) rows new
