@@ -18,8 +18,8 @@ use lisp_records::Row;
 use std::alloc::Allocator;
 use std::collections::VecDeque;
 
-/// Where the next row is looked for first: behind the one that was set last by prefix, and by deadline where that one
-/// was. A Map-Register names its prefixes mostly in their order, and its rows were mostly set together.
+/// Where the next row is looked for first: by prefix behind the one that was set last, and by deadline, behind the front,
+/// where that one was. A Map-Register names its prefixes mostly in their order, and its rows were mostly set together.
 #[derive(Clone, Copy)]
 pub(crate) struct Near {
     prefix: usize,
