@@ -7,6 +7,7 @@ use Rattle.std.specs.Ordering.{eq_by_cmp, is_eq}
 use Rattle.std.specs.Cmp.{eq_by_cmp_equiv}
 use Rattle.std.specs.declared.cmp.Ordering.{Ordering}
 use Rattle.std.specs.declared.cmp.Ordering.TheVariants.{Less, Equal, Greater}
+use Rattle.std.proofs.lemmas.List.{append-nil}
 use Rattle.std.proofs.lemmas.List.Quantifiers.{position-Some}
 use Rattle.std.proofs.lemmas.List.Recursion.{found_set_other, found_push_other}
 use Rattle.std.proofs.lemmas.Iterator.Adapters.{position_from-zero}
@@ -60,18 +61,33 @@ module _ (q : Pair) where
       let place = position-Some (is_of q) es i y at in
       set_at es i y y place.0 place.2 is
 
-  pushed_case : (x : EntryOf) (xs : List EntryOf) (n : ℕ) (y : EntryOf) (b : Bool) → is_of q x ≡ b → cond b (Some n) (position_from (is_of q) (n + 1) xs) ≡ None → (position_from (is_of q) (n + 1) xs ≡ None → answers_of (xs ++ y ∷ []) q ≡ y.values)
-      → answers_of (x ∷ xs ++ y ∷ []) q ≡ y.values
-  pushed_case x xs n y true of at rest = absurd (let clash : ◌≡◌ {A = Option ℕ} (Some n) None = at in cc)
-  pushed_case x xs n y false of at rest = step q x (xs ++ y ∷ []) ∙ ap (λ b. cond b x.values (answers_of (xs ++ y ∷ []) q)) of ∙ rest at
+  -- the first entry of a pair has its values
+  at_place : (es : List EntryOf) (i : ℕ) (d : EntryOf) → i < length es → ((k : ℕ) → k < i → is_of q (slice_index_or es k d) ≡ false) → is_of q (slice_index_or es i d) ≡ true → answers_of es q ≡ (slice_index_or es i d).values
+  at_place [] i d lt before is = absurd (omega arith)
+  at_place (x ∷ xs) zero d lt before is = step q x xs ∙ ap (λ b. cond b x.values (answers_of xs q)) is
+  at_place (x ∷ xs) (suc i) d lt before is = step q x xs ∙ ap (λ b. cond b x.values (answers_of xs q)) (before 0 (omega arith)) ∙ at_place xs i d (omega arith) (λ k below. before (suc k) (omega arith)) is
 
-  pushed : (es : List EntryOf) (n : ℕ) (y : EntryOf) → position_from (is_of q) n es ≡ None → is_of q y ≡ true → answers_of (es ++ y ∷ []) q ≡ y.values
-  pushed [] n y at is = step q y [] ∙ ap (λ b. cond b y.values (answers_of [] q)) is
-  pushed (x ∷ xs) n y at is = pushed_case x xs n y (is_of q x) refl at (λ later. pushed xs (n + 1) y later is)
+  pub values_at : (es : List EntryOf) (i : ℕ) (d : EntryOf) → position (is_of q) es ≡ Some i → answers_of es q ≡ (slice_index_or es i d).values
+  values_at es i d at =
+      let place = position-Some (is_of q) es i d at in
+      at_place es i d place.0 place.2 place.1
+
+  past_case : (x : EntryOf) (xs ys : List EntryOf) (n : ℕ) (b : Bool) → is_of q x ≡ b → cond b (Some n) (position_from (is_of q) (n + 1) xs) ≡ None → (position_from (is_of q) (n + 1) xs ≡ None → answers_of (xs ++ ys) q ≡ answers_of ys q)
+      → answers_of (x ∷ xs ++ ys) q ≡ answers_of ys q
+  past_case x xs ys n true of at rest = absurd (let clash : ◌≡◌ {A = Option ℕ} (Some n) None = at in cc)
+  past_case x xs ys n false of at rest = step q x (xs ++ ys) ∙ ap (λ b. cond b x.values (answers_of (xs ++ ys) q)) of ∙ rest at
+
+  past : (es ys : List EntryOf) (n : ℕ) → position_from (is_of q) n es ≡ None → answers_of (es ++ ys) q ≡ answers_of ys q
+  past [] ys n at = refl
+  past (x ∷ xs) ys n at = past_case x xs ys n (is_of q x) refl at (λ later. past xs ys (n + 1) later)
+
+  -- the pair has no entry
+  pub nowhere : (es : List EntryOf) → position (is_of q) es ≡ None → answers_of es q ≡ None ∷ []
+  nowhere es at = ap (λ (l : List EntryOf). answers_of l q) (sym (append-nil es)) ∙ past es [] 0 (sym (position_from-zero (is_of q) es) ∙ at) ∙ none q
 
   -- the pair had no entry, and one was added
   pub push_here : (es : List EntryOf) (y : EntryOf) → position (is_of q) es ≡ None → is_of q y ≡ true → answers_of (es ++ y ∷ []) q ≡ y.values
-  push_here es y at is = pushed es 0 y (sym (position_from-zero (is_of q) es) ∙ at) is
+  push_here es y at is = past es (y ∷ []) 0 (sym (position_from-zero (is_of q) es) ∙ at) ∙ step q y [] ∙ ap (λ b. cond b y.values (answers_of [] q)) is
 
   -- another pair's entry was set
   pub set_there : (p : Pair) (es : List EntryOf) (i : ℕ) (y : EntryOf) → q ≢ p → position (is_of p) es ≡ Some i → q ≢ y.pair → answers_of (slice_set es i y) q ≡ answers_of es q

@@ -2,4 +2,3 @@ pub mod Pairs
 pub mod Entries
 pub mod Restart
 pub mod Digits
-pub mod Saved

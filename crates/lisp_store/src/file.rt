@@ -1,6 +1,6 @@
 //! A store in files, one for each pair.
 
-ghost use Rattle.std.specs.Prelude.{◌≡◌, ◌≢◌, ◌≤◌, ◌+◌, ◌-◌, ◌^◌, Err, false, IfOk, OnOk, OnErr, length, min};
+ghost use Rattle.std.specs.Prelude.{◌≡◌, ◌≢◌, ◌≤◌, ◌+◌, ◌-◌, ◌^◌, Err, false, IfOk, IfErr, OnErr, IsErrOf, length, min};
 ghost use Rattle.std.specs.FinMap.{empty};
 ghost use Rattle.lisp_store.specs.Store.{StoreState};
 ghost use Rattle.lisp_store.specs.declared.fault.StoreFault.{StoreFault};
@@ -62,18 +62,14 @@ impl<R: Files + AllocGlobal> NonceStore for FileStore<R> {
     /// `Damaged` where the file holds no text of a nonce, `Device` where reading failed. Memory is taken for
     /// its path alone.
     fn load(&mut self, pair: &Pair) -> Result<Option<u64>, StoreFault> {
-        let path = self.path(pair)?;
-        let answer = read_nonce(&self.rt, path.as_str());
-        self.counted(answer)
+        let loaded = self.read(pair);
+        self.counted(loaded)
     }
 
     /// `Device` where any step failed. Memory is taken for the two paths alone, before anything is written.
     fn save(&mut self, pair: &Pair, nonce: u64) -> Result<(), StoreFault> {
-        let path = self.path(pair)?;
-        let path = path.as_str();
-        let new = String::try_format(self.rt.alloc(), format_args!("{path}.new"))?;
-        let answer = write_nonce(&self.rt, self.dir.as_str(), path, new.as_str(), nonce);
-        self.counted(answer.map_err(|_| StoreFault::Device))
+        let saved = self.write(pair, nonce);
+        self.counted(saved)
     }
 }
 
@@ -86,6 +82,27 @@ impl<R: Files + AllocGlobal> WorldStore for FileStore<R> {
 }
 
 impl<R: Files + AllocGlobal> FileStore<R> {
+    // The nonce of a pair's file, `None` where there is no file.
+    fn read(&self, pair: &Pair) -> Result<Option<u64>, StoreFault>
+        ensures memory { IsErrOf result StoreFault.OutOfMemory → ⟦<Global as Memory>⟧.may_refuse }
+    {
+        let path = self.path(pair)?;
+        read_nonce(&self.rt, path.as_str())
+    }
+
+    // Puts a file of the nonce in the place of the pair's file; `Device` or `OutOfMemory`.
+    fn write(&self, pair: &Pair, nonce: u64) -> Result<(), StoreFault>
+        ensures sound { result ≢ Err StoreFault.Damaged }
+        ensures memory { IsErrOf result StoreFault.OutOfMemory → ⟦<Global as Memory>⟧.may_refuse }
+    {
+        let path = self.path(pair)?;
+        let path = path.as_str();
+        let new = String::try_format(self.rt.alloc(), format_args!("{path}.new"))?;
+        write_nonce(&self.rt, self.dir.as_str(), path, new.as_str(), nonce).map_err(
+            |_| StoreFault::Device,
+        )
+    }
+
     // The path of a pair's file.
     fn path(&self, pair: &Pair) -> Result<String, AllocError>
         ensures memory { OnErr result ⟦<Global as Memory>⟧.may_refuse }
@@ -107,14 +124,14 @@ impl<R: Files + AllocGlobal> FileStore<R> {
 }
 
 impl<R> FileStore<R> {
-    // The answer, which is counted if it is a fault.
+    // The answer, which is counted if it is a fault of the device.
     fn counted<T>(&mut self, answer: Result<T, StoreFault>) -> Result<T, StoreFault>
         ensures same { result ≡ answer }
-        ensures done { OnOk result (self.new.faults ≡ self.old.faults) }
-        ensures fault { OnErr result (self.new.faults ≡ min (self.old.faults + 1) (2 ^ 64 - 1)) }
+        ensures fault { IfErr result (λ f. f ≢ StoreFault.OutOfMemory → self.new.faults ≡ min (self.old.faults + 1) (2 ^ 64 - 1)) }
+        ensures memory { IsErrOf result StoreFault.OutOfMemory → self.new.faults ≡ self.old.faults }
         ensures count { self.old.faults ≤ self.new.faults }
     {
-        if answer.is_err() {
+        if let Err(StoreFault::Device | StoreFault::Damaged) = answer {
             self.faults = self.faults.saturating_add(1);
         }
         answer
@@ -134,9 +151,10 @@ fn read_nonce<R: Files>(files: &R, path: &str) -> Result<Option<u64>, StoreFault
     let Ok(count) = read_text(&mut file, &mut text) else {
         return Err(StoreFault::Device);
     };
-    nonce_from_text(&text[..count])
-        .ok_or(StoreFault::Damaged)
-        .map(Some)
+    match nonce_from_text(&text[..count]) {
+        Some(nonce) => Ok(Some(nonce)),
+        None => Err(StoreFault::Damaged),
+    }
 }
 
 // Reads until the file ends or the text is full, and says how many bytes it has.

@@ -5,8 +5,8 @@ ghost use Rattle.std.specs.List.{Contains, position};
 ghost use Rattle.std.specs.FinMap.{empty};
 ghost use Rattle.lisp_store.specs.Kept.{kept_at, SameElsewhere, InDoubt, Narrows};
 ghost use Rattle.lisp_store.specs.Store.{StoreState, Rose, Proceeds};
-ghost use Rattle.lisp_store.specs.Memory.{Memory, memory_state, failed_once, option_eq, has_value, with_value, saved, loaded, after_load, save_answer, faults_after_save};
-ghost use Rattle.lisp_store.specs.Entries.{kept_of, answers_of, is_of, picked, narrowed, HasValues};
+ghost use Rattle.lisp_store.specs.Memory.{Memory, memory_state, failed_once, with_value, saved, loaded, after_load, save_answer, faults_after_save};
+ghost use Rattle.lisp_store.specs.Entries.{kept_of, is_of, picked, narrowed, HasValues};
 ghost use Rattle.lisp_store.specs.declared.fault.StoreFault.{StoreFault};
 ghost use Rattle.lisp_store.specs.declared.fate.Fate.{Fate};
 ghost use Rattle.lisp_store.specs.declared.pair.Pair.{Pair};
@@ -158,13 +158,27 @@ impl<A: Memory + Copy> NonceStore for MemoryStore<A> {
         ensures memory { IsErrOf result StoreFault.OutOfMemory → A.may_refuse }
         ensures proceeds { Proceeds (memory_state self.old) (memory_state self.new) }
     {
-        let values = saved_values(self.alloc, self.fate, values_of(&self.entries, pair), nonce)?;
-        set(&mut self.entries, *pair, values)?;
+        self.keep(pair, nonce)?;
         if self.fate == Fate::Doubt {
             self.faults = self.faults.saturating_add(1);
             return Err(StoreFault::Device);
         }
         Ok(())
+    }
+}
+
+impl<A: Memory + Copy> MemoryStore<A> {
+    // Keeps what a save leaves of a pair.
+    fn keep(&mut self, pair: &Pair, nonce: u64) -> Result<(), AllocError>
+        ensures here { OnOk result (kept_at self.new.kept pair.now ≡ saved self.old.fate (kept_at self.old.kept pair.now) nonce) }
+        ensures others { SameElsewhere self.old.kept self.new.kept pair.now }
+        ensures faults { self.new.faults ≡ self.old.faults }
+        ensures fate { self.new.fate ≡ self.old.fate }
+        ensures err { OnErr result (self.new ≡ self.old) }
+        ensures memory { OnErr result A.may_refuse }
+    {
+        let values = saved_values(self.alloc, self.fate, values_of(&self.entries, pair), nonce)?;
+        set(&mut self.entries, *pair, values)
     }
 }
 
@@ -224,17 +238,8 @@ fn values_of<'a, A: Allocator>(entries: &'a [Entry<A>], pair: &Pair) -> &'a [Opt
     ensures values { result.now ≡ kept_at (kept_of entries.now) pair.now }
     ensures some { 0 < length result.now }
 {
-    answers(entries, pair)
-}
-
-// The values of the first entry of a pair.
-#[tactic(auto, unfolding(crate::specs::Entries::answers_of))]
-fn answers<'a, A: Allocator>(entries: &'a [Entry<A>], pair: &Pair) -> &'a [Option<u64>]
-    ensures values { result.now ≡ answers_of entries.now pair.now }
-    ensures some { 0 < length result.now }
-{
-    match entries.iter().find(|entry| pair.is_same(&entry.pair)) {
-        Some(entry) => entry.values(),
+    match place(entries, pair) {
+        Some(i) => entries[i].values(),
         None => &NOTHING,
     }
 }
@@ -276,26 +281,11 @@ fn with_value<A: Memory>(
     ensures memory { OnErr result A.may_refuse }
 {
     let mut kept = Vec::try_from_slice(alloc, values)?;
-    if has_value(values, nonce) {
+    if values.contains(&Some(nonce)) {
         return Ok(kept);
     }
     kept.try_push(Some(nonce))?;
     Ok(kept)
-}
-
-fn has_value(values: &[Option<u64>], nonce: u64) -> bool
-    ensures { result ≡ has_value values.now nonce }
-{
-    values.iter().any(|value| is_nonce(*value, nonce))
-}
-
-fn is_nonce(value: Option<u64>, nonce: u64) -> bool
-    ensures { result ≡ option_eq value nonce }
-{
-    match value {
-        None => false,
-        Some(kept) => kept == nonce,
-    }
 }
 
 // Makes the values those of the pair.

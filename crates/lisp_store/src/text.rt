@@ -24,7 +24,12 @@ pub fn nonce_from_text(text: &[u8]) -> Option<u64>
     ensures only { (nonce : ℕ) → nonce < 2 ^ 64 → text.now ≡ nonce_text nonce → result ≡ Some nonce }
 {
     let digits = text.get(FRONT..FRONT + DIGITS)?;
-    let nonce = str::from_utf8(digits).ok()?.parse().ok()?;
+    let Ok(digits) = str::from_utf8(digits) else {
+        return None;
+    };
+    let Ok(nonce) = digits.parse() else {
+        return None;
+    };
     (text == nonce_text(nonce).as_slice()).then_some(nonce)
 }
 

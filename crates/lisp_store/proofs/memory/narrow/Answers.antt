@@ -1,4 +1,4 @@
-use Rattle.std.proofs.Common.{All, subst, ◌∙◌, arith}
+use Rattle.std.proofs.Common.{All, refl, subst, ◌∙◌, arith}
 use Rattle.std.proofs.lemmas.List.{take_all}
 use Rattle.lisp_store.specs.Entries.{HasValues}
 use Rattle.lisp_store.proofs.Restart.{all_narrowed, narrowed_more, one_more, others_stay}
@@ -16,3 +16,6 @@ returns-clause-some g c = subst (All HasValues) (take_all c.loop-entry.entry-ind
 
 pub returns-clause-narrowed : goal.returns-clause-narrowed
 returns-clause-narrowed g c = all_narrowed c.args.pick c.loop-entry.entry-index c.loop-entry.entries c.args.entries.now (omega (arith, c.loop-entry-test.false, c.loop-entry.auto.entries)) c.loop-entry.invariant.narrowed
+
+pub loop-entry-init : goal.loop-entry-init
+loop-entry-init g c = record { narrowed = refl; some = λ k d lt. absurd (omega (arith, lt)); others = refl }
