@@ -1,12 +1,16 @@
 -- What a router makes of a message, check by check.
-use Rattle.std.proofs.Common.{◌≡◌, ◌≢◌, ℕ, ◌==◌, Bool, true, false, List, Option, Result, Ok, Err, ok_or, refl, sym, ap, ◌∙◌}
+use Rattle.std.proofs.Common.{◌≡◌, ◌≢◌, ◌<◌, ◌≤◌, ℕ, ◌==◌, nat_le, Bool, true, false, List, Option, Some, Result, Ok, Err, IfOk, IfErr, ok_or, refl, sym, ap, subst, ◌∙◌, arith}
+use Rattle.std.proofs.lemmas.Bool.{le-leb, leb-true}
 use Rattle.std.proofs.lemmas.Bool.Decides.{Decides-eqb}
 use Rattle.lisp_records.specs.declared.address.Addr.{Addr}
 use Rattle.lisp_messages.specs.Message.{Notification, Said}
 use Rattle.lisp_messages.specs.Authentic.{is_authentic}
 use Rattle.lisp_messages.specs.declared.fault.ReadFault.{ReadFault}
 use Rattle.lisp_etr.specs.Config.{Settings}
-use Rattle.lisp_etr.specs.Hearing.{Gives, Heard, notify_read, server_at, checked}
+use Rattle.lisp_records.specs.Result.{◌>>=◌}
+use Rattle.lisp_etr.specs.Etr.{EtrState}
+use Rattle.lisp_etr.specs.Hearing.{Gives, Heard, notify_read, server_at, checked, first_notice, notice_in, counted_in, seen_in}
+use Rattle.lisp_etr.specs.declared.seen.Seen.{Seen}
 use Rattle.lisp_etr.specs.declared.notify_fault.NotifyFault.{NotifyFault}
 use Rattle.lisp_etr.specs.declared.notify_fault.NotifyFault.TheVariants as faults
 
@@ -21,8 +25,8 @@ number_differs a b differ = by (a == b) refl
     by false other = other
 
 -- the Map-Server that was found is that of the router's list
-pub found : {given servers : List Addr} {place : Option ℕ} {r : Result ℕ NotifyFault} (from : Addr) (server : ℕ) → given ≡ servers → place ≡ server_at given from → r ≡ ok_or place faults.NotMine → r ≡ Ok server → ok_or (server_at servers from) faults.NotMine ≡ Ok server
-found from server all at is ok = ap (λ (place : Option ℕ). ok_or place faults.NotMine) (ap (λ (list : List Addr). server_at list from) (sym all) ∙ sym at) ∙ sym is ∙ ok
+pub found : {given servers : List Addr} (from : Addr) (server : ℕ) → given ≡ servers → Some server ≡ server_at given from → ok_or (server_at servers from) faults.NotMine ≡ Ok server
+found from server all at = ap (λ (place : Option ℕ). ok_or place faults.NotMine) (ap (λ (list : List Addr). server_at list from) (sym all) ∙ sym at)
 
 -- the fault of a refusal that has one
 fault_or : {X : Type 0} → NotifyFault → Result X NotifyFault → NotifyFault
@@ -58,3 +62,34 @@ module _ (c : Settings) (bytes : List ℕ) (read : Result Said ReadFault) (from 
         pub passes : is_authentic bytes c.secret ≡ true → checked c bytes read from ≡ Ok (record { server = server; message = m })
         unfolding checked
         passes authentic = rw (reads, its, number_same m.key_id c.key_id key, authentic) refl
+
+late_nonce : (nonce : ℕ) → first_notice ≤ nonce → nat_le first_notice nonce ≡ true
+late_nonce nonce late = le-leb first_notice nonce late
+
+early_nonce : (nonce : ℕ) → nonce < first_notice → nat_le first_notice nonce ≡ false
+early_nonce nonce early = by (nat_le first_notice nonce) refl
+  where
+    by : (t : Bool) → nat_le first_notice nonce ≡ t → nat_le first_notice nonce ≡ false
+    by true late = absurd (let le = leb-true first_notice nonce late in omega (arith, le, early))
+    by false is = is
+
+gives_same : {A : Type 0} (r expected : Result (Seen A) NotifyFault) → expected ≡ r → Gives (λ seen. seen) r expected
+gives_same (Ok seen) expected is = is
+gives_same (Err faults.OutOfMemory) expected is = tt
+gives_same (Err (faults.Read _)) expected is = is
+gives_same (Err faults.NotMine) expected is = is
+gives_same (Err faults.WrongKey) expected is = is
+gives_same (Err faults.BadAuth) expected is = is
+gives_same (Err (faults.Stale _)) expected is = is
+
+-- what a router makes of a Map-Notify that passed all checks: a notice is answered, or memory ran out
+module _ {A : Type 0} (e : EtrState) (h : Heard) {hears : Result Heard NotifyFault} (is : hears ≡ Ok h) {nonce : ℕ} (own : nonce ≡ h.message.nonce) where
+  pub noticed : first_notice ≤ nonce → (r : Result (Seen A) NotifyFault) → IfOk r (λ seen. seen ≡ notice_in e.config h) → IfErr r (λ fault. fault ≡ faults.OutOfMemory) → Gives (λ seen. seen) r (hears >>= seen_in e)
+  unfolding seen_in
+  noticed late (Ok seen) gives none = rw (is, late_nonce h.message.nonce (subst (λ (n : ℕ). first_notice ≤ n) own late)) (ap Ok (sym gives))
+  noticed late (Err fault) gives none = subst (λ (f : NotifyFault). Gives {X = Seen A} (λ seen. seen) (Err f) (hears >>= seen_in e)) (sym none) tt
+
+  -- any other nonce is counted
+  pub counts : nonce < first_notice → (r : Result (Seen A) NotifyFault) → r ≡ counted_in e.rounds h.server nonce → Gives (λ seen. seen) r (hears >>= seen_in e)
+  unfolding seen_in
+  counts early r same = gives_same r (hears >>= seen_in e) (rw (is, early_nonce h.message.nonce (subst (λ (n : ℕ). n < first_notice) own early)) (sym (same ∙ ap (λ (n : ℕ). counted_in e.rounds h.server n) own)))

@@ -1,6 +1,6 @@
 //! The site router.
 
-ghost use Rattle.std.specs.Prelude.{◌≡◌, ◌≢◌, ◌↔◌, ◌≤◌, ◌<◌, ◌+◌, ℕ, List, Some, Ok, Err, IsTrue, IfOk, IfErr, IfSome, OnOk, OnErr, IsErrOf, length, map, nat_le, position, replicate, slice_get};
+ghost use Rattle.std.specs.Prelude.{◌≡◌, ◌≢◌, ◌↔◌, ◌≤◌, ◌<◌, ◌+◌, ℕ, List, Some, Ok, Err, IsTrue, IfOk, IfErr, IfSome, OnOk, OnErr, IsErrOf, length, map, nat_le, position, slice_get};
 ghost use Rattle.std.specs.Option.{option_and_then};
 ghost use Rattle.lisp_store.specs.Kept.{kept_at, IsKept, NoneBelow, SameElsewhere};
 ghost use Rattle.lisp_store.specs.Store.{Rose, Proceeds};
@@ -10,7 +10,7 @@ ghost use Rattle.lisp_messages.specs.Reading.{kind_at};
 ghost use Rattle.lisp_messages.specs.declared.fault.ReadFault.{ReadFault};
 ghost use Rattle.lisp_etr.specs.Config.{Settings, sent_pair};
 ghost use Rattle.lisp_records.specs.Moment.{max_moment};
-ghost use Rattle.lisp_etr.specs.Round.{started, begun};
+ghost use Rattle.lisp_etr.specs.Round.{begun};
 ghost use Rattle.lisp_etr.specs.Faults.{fault_of_read};
 ghost use Rattle.lisp_etr.specs.Etr.{etr_started};
 ghost use Rattle.lisp_etr.specs.Sending.{last_nonce, registration_of, datagram_of, Sends, Settles, LeavesPair};
@@ -20,7 +20,7 @@ ghost use Rattle.lisp_etr.specs.declared.send_fault.SendFault.{SendFault};
 ghost use Rattle.lisp_etr.specs.declared.notify_fault.NotifyFault.{NotifyFault};
 
 use crate::config::EtrConfig;
-use crate::hearing::{hear, write_ack};
+use crate::hearing::hear;
 use crate::notify_fault::NotifyFault;
 use crate::round::{Round, begin_all};
 use crate::seen::Seen;
@@ -28,9 +28,9 @@ use crate::send_fault::SendFault;
 use crate::sending::{datagram, keep_block};
 use crate::start_fault::{StartFault, StartRefused};
 use lisp_memory::{FallibleCopies, Memory};
-use lisp_messages::MapNotify;
+use lisp_messages::{MapNotify, write_notify};
 use lisp_records::{Addr, Bytes, Database};
-use lisp_store::{FIRST_NOTICE_NONCE, LAST_ROUTER_NONCE, NonceStore, Pair};
+use lisp_store::{FIRST_NOTICE_NONCE, LAST_ROUTER_NONCE, NonceStore};
 use std::alloc::{Allocator, Global};
 use std::marker::Model;
 
@@ -79,17 +79,25 @@ impl<A: Memory + Copy> Etr<A> {
         ensures cause { IfErr result (λ r. (f : StoreFault) → r.fault ≡ StartFault.Store f → f ≢ StoreFault.OutOfMemory → Rose (S.seen store.old) (S.seen store.new)) }
         ensures proceeds { Proceeds (S.seen store.old) (S.seen store.new) }
     {
-        match begin(alloc, &config, store, now) {
-            Ok((rounds, last)) => Ok(Etr {
+        let servers = config.servers.as_slice().len();
+        let Ok(rounds) = Vec::try_from_elem(alloc, Round::start(now), servers) else {
+            return Err(StartRefused {
+                fault: StartFault::OutOfMemory,
+                config,
+                database,
+            });
+        };
+        match store.load(&config.pair()) {
+            Ok(last) => Ok(Etr {
                 alloc,
                 config,
                 database,
-                last,
+                last: last.unwrap_or(0),
                 safe: 0,
                 rounds,
             }),
             Err(fault) => Err(StartRefused {
-                fault,
+                fault: StartFault::Store(fault),
                 config,
                 database,
             }),
@@ -210,7 +218,7 @@ impl<A: Memory + Copy> Etr<A> {
             ack: true,
             ..notify
         };
-        let bytes = write_ack(self.alloc, &ack, &self.config.key)?;
+        let bytes = write_notify(self.alloc, &ack, &self.config.key)?;
         Ok(Seen::Notice {
             server,
             nonce: ack.nonce,
@@ -242,7 +250,10 @@ impl<A: Memory + Copy> Etr<A> {
     pub fn acked(&self, server: usize) -> Option<(u8, u64)>
         ensures { result ≡ option_and_then (λ round. round.acked) (slice_get self.now.rounds server) }
     {
-        self.rounds.get(server)?.acked
+        match self.rounds.get(server) {
+            Some(round) => round.acked,
+            None => None,
+        }
     }
 
     /// What it registers. Takes no memory.
@@ -250,45 +261,5 @@ impl<A: Memory + Copy> Etr<A> {
         ensures { result.now ≡ self.now.database }
     {
         &self.database
-    }
-}
-
-// The rounds of a router that starts, and its last nonce; `OutOfMemory`, `Store`.
-fn begin<S: NonceStore, A: Memory + Copy>(
-    alloc: A,
-    config: &EtrConfig<A>,
-    store: &mut S,
-    now: u64,
-) -> Result<(Vec<Round, A>, u64), StartFault>
-    ensures rounds { IfOk result (λ x. x.0.items ≡ replicate (length config.now.servers) (started now)) }
-    ensures last { IsTrue (S.seen store.old).is_honest → IfOk result (λ x. IsKept (kept_at (S.seen store.old).kept (sent_pair config.now)) x.1) }
-    ensures same { IsTrue (S.seen store.old).is_honest → (S.seen store.new).kept ≡ (S.seen store.old).kept }
-    ensures memory { IsErrOf result StartFault.OutOfMemory → A.may_refuse }
-    ensures unasked { IsErrOf result StartFault.OutOfMemory → S.seen store.new ≡ S.seen store.old }
-    ensures store_memory { IsErrOf result (StartFault.Store StoreFault.OutOfMemory) → S.may_refuse }
-    ensures refused { IsErrOf result (StartFault.Store StoreFault.OutOfMemory) → S.seen store.new ≡ S.seen store.old }
-    ensures cause { IfErr result (λ fault. (f : StoreFault) → fault ≡ StartFault.Store f → f ≢ StoreFault.OutOfMemory → Rose (S.seen store.old) (S.seen store.new)) }
-    ensures proceeds { Proceeds (S.seen store.old) (S.seen store.new) }
-{
-    let servers = config.servers.as_slice().len();
-    let Ok(rounds) = Vec::try_from_elem(alloc, Round::start(now), servers) else {
-        return Err(StartFault::OutOfMemory);
-    };
-    Ok((rounds, load_last(store, &config.pair())?))
-}
-
-// The nonce that the store keeps, 0 where it keeps none; `Store`.
-fn load_last<S: NonceStore>(store: &mut S, pair: &Pair) -> Result<u64, StartFault>
-    ensures last { IsTrue (S.seen store.old).is_honest → IfOk result (λ last. IsKept (kept_at (S.seen store.old).kept pair.now) last) }
-    ensures same { IsTrue (S.seen store.old).is_honest → (S.seen store.new).kept ≡ (S.seen store.old).kept }
-    ensures store { IfErr result (λ fault. (f : StoreFault) × (fault ≡ StartFault.Store f)) }
-    ensures memory { IsErrOf result (StartFault.Store StoreFault.OutOfMemory) → S.may_refuse }
-    ensures refused { IsErrOf result (StartFault.Store StoreFault.OutOfMemory) → S.seen store.new ≡ S.seen store.old }
-    ensures cause { IfErr result (λ fault. (f : StoreFault) → fault ≡ StartFault.Store f → f ≢ StoreFault.OutOfMemory → Rose (S.seen store.old) (S.seen store.new)) }
-    ensures proceeds { Proceeds (S.seen store.old) (S.seen store.new) }
-{
-    match store.load(pair) {
-        Ok(last) => Ok(last.unwrap_or(0)),
-        Err(fault) => Err(StartFault::Store(fault)),
     }
 }

@@ -1,22 +1,17 @@
 //! What a router checks of a message, and how it answers a notice.
 
-ghost use Rattle.std.specs.Prelude.{◌≡◌, ◌<◌, Err, IfOk, IsErrOf, OnErr, OnOk, length};
-ghost use Rattle.lisp_messages.specs.Message.{IsNotification};
+ghost use Rattle.std.specs.Prelude.{◌≡◌, ◌<◌, Err, IfOk, IsErrOf, length};
 ghost use Rattle.lisp_messages.specs.Reading.{kind_at, message_at};
 ghost use Rattle.lisp_messages.specs.declared.fault.ReadFault.{ReadFault};
-ghost use Rattle.lisp_messages.specs.Authentic.{signed};
-ghost use Rattle.lisp_messages.specs.Written.{written_notify};
 ghost use Rattle.lisp_etr.specs.Faults.{fault_of_read};
-ghost use Rattle.lisp_etr.specs.Hearing.{Gives, Heard, notify_read, server_at, heard, ack_of};
+ghost use Rattle.lisp_etr.specs.Hearing.{Gives, Heard, notify_read, server_at, heard};
 ghost use Rattle.lisp_etr.specs.declared.notify_fault.NotifyFault.{NotifyFault};
 
 use crate::config::EtrConfig;
 use crate::notify_fault::NotifyFault;
-use lisp_hmac::Key;
 use lisp_memory::Memory;
-use lisp_messages::{MapNotify, Message, authentic, read_message, write_notify};
+use lisp_messages::{MapNotify, Message, authentic, read_message};
 use lisp_records::Addr;
-use std::alloc::AllocError;
 
 /// The Map-Notify that bytes from an address spell and the number of the Map-Server there, or the
 /// first check that they fail: `Read`, `NotMine`, `WrongKey`, `BadAuth`; `OutOfMemory` in reading.
@@ -34,7 +29,9 @@ pub(crate) fn hear<A: Memory + Copy>(
     ensures memory { IsErrOf result NotifyFault.OutOfMemory → A.may_refuse }
 {
     let notify = read_notify(alloc, bytes)?;
-    let server = server_at(config.servers.as_slice(), from).ok_or(NotifyFault::NotMine)?;
+    let Some(server) = server_at(config.servers.as_slice(), from) else {
+        return Err(NotifyFault::NotMine);
+    };
     if notify.key_id != config.key_id {
         return Err(NotifyFault::WrongKey);
     }
@@ -62,17 +59,4 @@ fn server_at(servers: &[Addr], from: Addr) -> Option<usize>
     ensures { result ≡ server_at servers.now from }
 {
     servers.iter().position(|server| *server == from)
-}
-
-/// The bytes of the Map-Notify-Ack that answers a notice (RFC 9301 section 5.7).
-pub(crate) fn write_ack<A: Memory + Copy>(
-    alloc: A,
-    ack: &MapNotify<A>,
-    key: &Key,
-) -> Result<Vec<u8, A>, AllocError>
-    ensures written { IfOk result (λ bytes. bytes.items ≡ signed key.now (written_notify ack.now)) }
-    ensures known { OnOk result (IsNotification ack.now) }
-    ensures memory { OnErr result A.may_refuse }
-{
-    write_notify(alloc, ack, key)
 }

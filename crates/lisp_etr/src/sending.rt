@@ -1,7 +1,7 @@
 //! The Map-Registers of a router.
 
-ghost use Rattle.std.specs.Prelude.{◌≡◌, ◌≢◌, ◌≤◌, [], ◌∷◌, Some, Err, IsTrue, IfOk, IfErr, IsErrOf, OnErr, OnOk};
-ghost use Rattle.lisp_store.specs.Kept.{kept_at, NoneBelow, SameElsewhere, InDoubt};
+ghost use Rattle.std.specs.Prelude.{◌≡◌, ◌≢◌, ◌≤◌, IsTrue, IfOk, IfErr, IsErrOf, OnErr, OnOk};
+ghost use Rattle.lisp_store.specs.Kept.{kept_at, NoneBelow, SameElsewhere};
 ghost use Rattle.lisp_store.specs.Store.{Rose, Proceeds};
 ghost use Rattle.lisp_store.specs.declared.fault.StoreFault.{StoreFault};
 ghost use Rattle.lisp_messages.specs.Message.{IsRegistration};
@@ -14,7 +14,7 @@ use crate::send_fault::SendFault;
 use lisp_memory::Memory;
 use lisp_messages::{MapRegister, write_register};
 use lisp_records::Database;
-use lisp_store::{LAST_ROUTER_NONCE, MAX_NONCE_BLOCK, NonceStore, Pair};
+use lisp_store::{LAST_ROUTER_NONCE, MAX_NONCE_BLOCK, NonceStore};
 use std::alloc::{AllocError, Allocator};
 
 /// The bytes of the Map-Register of a database under a nonce (RFC 9301 section 5.6).
@@ -69,24 +69,10 @@ pub(crate) fn keep_block<S: NonceStore, A: Allocator>(
         return Ok(safe);
     }
     let end = block_end(nonce, config.nonce_block);
-    match keep(store, &config.pair(), end) {
+    match store.save(&config.pair(), end) {
         Ok(()) => Ok(end),
-        Err(fault) => Err(fault),
+        Err(fault) => Err(SendFault::Store(fault)),
     }
-}
-
-// Saves a nonce; `Store`.
-fn keep<S: NonceStore>(store: &mut S, pair: &Pair, nonce: u64) -> Result<(), SendFault>
-    ensures done { IsTrue (S.seen store.old).is_honest → OnOk result (kept_at (S.seen store.new).kept pair.now ≡ Some nonce ∷ []) }
-    ensures doubt { IsTrue (S.seen store.old).is_honest → OnErr result (InDoubt (kept_at (S.seen store.old).kept pair.now) (kept_at (S.seen store.new).kept pair.now) nonce) }
-    ensures others { IsTrue (S.seen store.old).is_honest → SameElsewhere (S.seen store.old).kept (S.seen store.new).kept pair.now }
-    ensures store { IfErr result (λ fault. (f : StoreFault) × (fault ≡ SendFault.Store f) × (f ≢ StoreFault.Damaged)) }
-    ensures memory { IsErrOf result (SendFault.Store StoreFault.OutOfMemory) → S.may_refuse }
-    ensures refused { IfErr result (λ fault. fault ≢ SendFault.Store StoreFault.Device → S.seen store.new ≡ S.seen store.old) }
-    ensures cause { IsErrOf result (SendFault.Store StoreFault.Device) → Rose (S.seen store.old) (S.seen store.new) }
-    ensures proceeds { Proceeds (S.seen store.old) (S.seen store.new) }
-{
-    store.save(pair, nonce).map_err(SendFault::Store)
 }
 
 // The last nonce of a block that begins with a nonce; none is above the last nonce of a router.

@@ -98,9 +98,8 @@ impl<R: Files + AllocGlobal> FileStore<R> {
         let path = self.path(pair)?;
         let path = path.as_str();
         let new = String::try_format(self.rt.alloc(), format_args!("{path}.new"))?;
-        write_nonce(&self.rt, self.dir.as_str(), path, new.as_str(), nonce).map_err(
-            |_| StoreFault::Device,
-        )
+        let written = write_nonce(&self.rt, self.dir.as_str(), path, new.as_str(), nonce);
+        written.map_err(|_| StoreFault::Device)
     }
 
     // The path of a pair's file.

@@ -1,5 +1,4 @@
 use Rattle.std.proofs.Common.{ℕ, ◌<◌, List, length, sym, ap, ◌∙◌, subst, is_ok, true≢false}
-use Rattle.std.specs.Result.{result_ok}
 use Rattle.std.proofs.lemmas.List.Quantifiers.{position-Some}
 use Rattle.lisp_records.specs.declared.address.Addr.{Addr}
 use Rattle.lisp_records.specs.Address.{addr_eq}
@@ -13,8 +12,8 @@ use Rattle.lisp_etr.specs.Hearing.{server_at}
 use Rattle.lisp_etr.proofs.HearingLaws.{found, unread, wrong_key, bad_auth, passes}
 use Rattle.lisp_etr.proofs.hearing.hear.Goals as goal
 
-pub returns-in_err-server-clause-early : goal.returns-in_err-server-clause-early
-returns-in_err-server-clause-early g c fault kind = absurd (true≢false (ap is_ok (c.in_ok-notify.ensures.early fault kind)))
+pub returns-in_default-clause-early : goal.returns-in_default-clause-early
+returns-in_default-clause-early g c fault kind = absurd (true≢false (ap is_ok (c.in_ok-notify.ensures.early fault kind)))
 
 pub returns-then-notify-config-clause-early : goal.returns-then-notify-config-clause-early
 returns-then-notify-config-clause-early g c fault kind = absurd (true≢false (ap is_ok (c.in_ok-notify.ensures.early fault kind)))
@@ -33,31 +32,30 @@ returns-in_err-notify-clause-exact g c =
 pub returns-then-notify-config-clause-exact : goal.returns-then-notify-config-clause-exact
 returns-then-notify-config-clause-exact g c =
     let config = c.config.view_is in
-    let its = found c.args.from c.in_ok-server.server (c.as_slice.ensures ∙ ap (λ (s : Settings). s.servers) config) c.server_at.ensures c.ok_or.ensures.value c.in_ok-server.was in
+    let its = found c.args.from c.in-Some.server (c.as_slice.ensures ∙ ap (λ (s : Settings). s.servers) config) c.in-Some.ensures in
     let own = ap (λ (m : Notification). m.key_id) c.notify.view_is in
-    wrong_key c.args.config.now c.args.bytes.now (message_at c.args.bytes.now) (server_at c.args.config.now.servers c.args.from) c.in_ok-notify.notify c.in_ok-notify.ensures.exact c.in_ok-server.server its
+    wrong_key c.args.config.now c.args.bytes.now (message_at c.args.bytes.now) (server_at c.args.config.now.servers c.args.from) c.in_ok-notify.notify c.in_ok-notify.ensures.exact c.in-Some.server its
     (λ same. c.if-notify-config.true (own ∙ same ∙ sym (ap (λ (s : Settings). s.key_id) config)))
 
 pub returns-then-not-authentic-clause-exact : goal.returns-then-not-authentic-clause-exact
 returns-then-not-authentic-clause-exact g c =
     let config = c.config.view_is in
-    let its = found c.args.from c.in_ok-server.server (c.as_slice.ensures ∙ ap (λ (s : Settings). s.servers) config) c.server_at.ensures c.ok_or.ensures.value c.in_ok-server.was in
+    let its = found c.args.from c.in-Some.server (c.as_slice.ensures ∙ ap (λ (s : Settings). s.servers) config) c.in-Some.ensures in
     let key = sym (ap (λ (m : Notification). m.key_id) c.notify.view_is) ∙ c.if-notify-config.false ∙ ap (λ (s : Settings). s.key_id) config in
     let secret = ap (λ (s : Settings). s.secret) config in
-    bad_auth c.args.config.now c.args.bytes.now (message_at c.args.bytes.now) (server_at c.args.config.now.servers c.args.from) c.in_ok-notify.notify c.in_ok-notify.ensures.exact c.in_ok-server.server its key
+    bad_auth c.args.config.now c.args.bytes.now (message_at c.args.bytes.now) (server_at c.args.config.now.servers c.args.from) c.in_ok-notify.notify c.in_ok-notify.ensures.exact c.in-Some.server its key
     (ap (is_authentic c.args.bytes.now) (sym secret) ∙ sym c.authentic.ensures.test ∙ c.if-not-authentic.true)
 
 pub returns-clause-exact : goal.returns-clause-exact
 returns-clause-exact g c =
     let config = c.config.view_is in
-    let its = found c.args.from c.in_ok-server.server (c.as_slice.ensures ∙ ap (λ (s : Settings). s.servers) config) c.server_at.ensures c.ok_or.ensures.value c.in_ok-server.was in
+    let its = found c.args.from c.in-Some.server (c.as_slice.ensures ∙ ap (λ (s : Settings). s.servers) config) c.in-Some.ensures in
     let key = sym (ap (λ (m : Notification). m.key_id) c.notify.view_is) ∙ c.if-notify-config.false ∙ ap (λ (s : Settings). s.key_id) config in
     let secret = ap (λ (s : Settings). s.secret) config in
-    passes c.args.config.now c.args.bytes.now (message_at c.args.bytes.now) (server_at c.args.config.now.servers c.args.from) c.in_ok-notify.notify c.in_ok-notify.ensures.exact c.in_ok-server.server its key
+    passes c.args.config.now c.args.bytes.now (message_at c.args.bytes.now) (server_at c.args.config.now.servers c.args.from) c.in_ok-notify.notify c.in_ok-notify.ensures.exact c.in-Some.server its key
     (ap (is_authentic c.args.bytes.now) (sym secret) ∙ sym c.authentic.ensures.test ∙ c.if-not-authentic.false)
 
 pub returns-clause-server : goal.returns-clause-server
 returns-clause-server g c =
-    let at = sym c.server_at.ensures ∙ c.ok_or.ensures.ok_part ∙ ap result_ok c.in_ok-server.was in
-    let place = position-Some (λ server. addr_eq server c.args.from) c.as_slice.result.now c.in_ok-server.server c.args.from at in
-    rw (← c.config.view_is) (subst (λ (servers : List Addr). c.in_ok-server.server < length servers) c.as_slice.ensures place.0)
+    let place = position-Some (λ server. addr_eq server c.args.from) c.as_slice.result.now c.in-Some.server c.args.from (sym c.in-Some.ensures) in
+    rw (← c.config.view_is) (subst (λ (servers : List Addr). c.in-Some.server < length servers) c.as_slice.ensures place.0)
