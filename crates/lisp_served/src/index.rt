@@ -5,7 +5,7 @@ ghost use Rattle.std.specs.Ordering.{nat_cmp};
 ghost use Rattle.lisp_served.specs.Order.{KeysRise, IsGap};
 ghost use Rattle.lisp_served.specs.Index.{is_for, place_in, Adds};
 
-use lisp_memory::{FallibleCopies, FallibleVec, Memory};
+use lisp_memory::{FallibleVec, Memory};
 use std::alloc::{AllocError, Allocator};
 use std::marker::Model;
 
@@ -71,18 +71,6 @@ impl<A: Memory> Index<A> {
             let _ = self.entries.insert(gap, Entry { number, place });
         }
         Ok(())
-    }
-}
-
-impl<A: Allocator> Index<A> {
-    /// An equal index, in memory of `alloc`.
-    pub(crate) fn copy<B: Memory>(&self, alloc: B) -> Result<Index<B>, AllocError>
-        ensures equal { IfOk result (λ i. i ≡ self.now) }
-        ensures memory { OnErr result B.may_refuse }
-    {
-        Ok(Index {
-            entries: Vec::try_from_slice(alloc, &self.entries)?,
-        })
     }
 }
 

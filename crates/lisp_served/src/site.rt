@@ -4,7 +4,7 @@ ghost use Rattle.std.specs.Prelude.{◌≡◌, ◌↔◌, IsTrue, IfOk, OnErr};
 ghost use Rattle.std.specs.List.{list_any};
 ghost use Rattle.std.specs.Option.{option_map};
 ghost use Rattle.lisp_served.specs.Index.{Indexes};
-ghost use Rattle.lisp_served.specs.Site.{Allowed, is_allowed, has_address, lets_in, key_of, secret_of};
+ghost use Rattle.lisp_served.specs.Site.{Allowed, is_allowed, has_address, lets_in, secret_of};
 
 use crate::index::Index;
 use lisp_hmac::Key;
@@ -135,19 +135,12 @@ impl<A: Allocator> Site<A> {
     }
 
     /// The key under a Key ID, made ready for tags; `None` where the site has no such key.
+    #[tactic(auto, using(crate::proofs::IndexLaws::in_list))]
     pub fn key(&self, key_id: u8) -> Option<&Key>
         ensures { option_map (λ k. k.now) result ≡ secret_of self.now key_id }
     {
-        Some(&self.site_key(key_id)?.key)
-    }
-
-    // The key with a Key ID.
-    #[tactic(auto, using(crate::proofs::IndexLaws::in_list))]
-    fn site_key(&self, key_id: u8) -> Option<&SiteKey>
-        ensures { option_map (λ k. k.now) result ≡ key_of self.now.keys key_id }
-    {
         match self.by_id.place(u64::from(key_id)) {
-            Some(place) => Some(&self.keys[place]),
+            Some(place) => Some(&self.keys[place].key),
             None => None,
         }
     }
@@ -179,12 +172,9 @@ impl<A: Allocator> Site<A> {
         ensures equal { IfOk result (λ s. s ≡ self.now) }
         ensures memory { OnErr result B.may_refuse }
     {
-        Ok(Site {
-            id: self.id,
-            keys: copy_keys(alloc, &self.keys)?,
-            by_id: self.by_id.copy(alloc)?,
-            prefixes: Vec::try_from_slice(alloc, &self.prefixes)?,
-        })
+        let keys = copy_keys(alloc, &self.keys)?;
+        let prefixes = Vec::try_from_slice(alloc, &self.prefixes)?;
+        Site::new(alloc, self.id, keys, prefixes)
     }
 }
 

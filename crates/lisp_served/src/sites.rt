@@ -75,9 +75,11 @@ impl<A: Allocator> Sites<A> {
         ensures equal { IfOk result (λ s. s ≡ self.now) }
         ensures memory { OnErr result B.may_refuse }
     {
-        let items = copy_sites(alloc, &self.items)?;
-        let by_id = self.by_id.copy(alloc)?;
-        Ok(Sites { items, by_id })
+        let mut copies = Sites::new(alloc);
+        for site in self.as_slice() {
+            copies.push(site.copy(alloc)?)?;
+        }
+        Ok(copies)
     }
 }
 
@@ -113,27 +115,13 @@ impl<A: Memory + Copy> Sites<A> {
             eid: prefix,
             more_specifics,
         };
-        let mut sites = Sites::new(alloc);
-        let keys = one_key(alloc, key_id, secret)?;
         let prefixes = Vec::try_from_slice(alloc, &[entry])?;
-        sites.push(Site::new(alloc, id, keys, prefixes)?)?;
+        let keys = one_key(alloc, key_id, secret)?;
+        let site = Site::new(alloc, id, keys, prefixes)?;
+        let mut sites = Sites::new(alloc);
+        sites.push(site)?;
         Ok(sites)
     }
-}
-
-// Equal sites, in memory of `alloc`.
-fn copy_sites<A: Allocator, B: Memory + Copy>(
-    alloc: B,
-    sites: &[Site<A>],
-) -> Result<Vec<Site<B>, B>, AllocError>
-    ensures equal { IfOk result (λ copies. copies.items ≡ sites.now) }
-    ensures memory { OnErr result B.may_refuse }
-{
-    let mut copies = Vec::new(alloc);
-    for site in sites {
-        copies.try_push(site.copy(alloc)?)?;
-    }
-    Ok(copies)
 }
 
 // One key, in memory of `alloc`.
