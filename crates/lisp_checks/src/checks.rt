@@ -56,9 +56,12 @@ fn first_not_allowed<A: Allocator, B: Allocator>(
 ) -> Option<usize>
     ensures { result ≡ first_not_allowed site.now records.now }
 {
-    records
-        .iter()
-        .position(|record| !site.allows(record.eid_ref()))
+    for (place, record) in records.iter().enumerate() {
+        if !site.allows(record.eid_ref()) {
+            return Some(place);
+        }
+    }
+    None
 }
 
 /// The key of a site under a Key ID, made ready for tags.
