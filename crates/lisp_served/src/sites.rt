@@ -111,25 +111,29 @@ impl<A: Memory + Copy> Sites<A> {
         ensures single { IfOk result (λ s. s ≡ single id key_id secret.now prefix more_specifics) }
         ensures memory { OnErr result A.may_refuse }
     {
+        let key = SiteKey::new(key_id, secret);
         let entry = SitePrefix {
             eid: prefix,
             more_specifics,
         };
-        let prefixes = Vec::try_from_slice(alloc, &[entry])?;
-        let keys = one_key(alloc, key_id, secret)?;
-        let site = Site::new(alloc, id, keys, prefixes)?;
         let mut sites = Sites::new(alloc);
-        sites.push(site)?;
+        sites.push(one_site(alloc, id, key, entry)?)?;
         Ok(sites)
     }
 }
 
-// One key, in memory of `alloc`.
-fn one_key<A: Memory>(alloc: A, id: u8, secret: &[u8]) -> Result<Vec<SiteKey, A>, AllocError>
-    ensures key { IfOk result (λ keys. keys.items ≡ record { id = id; secret = secret.now } ∷ []) }
+// A site with one key and one prefix, in memory of `alloc`.
+fn one_site<A: Memory + Copy>(
+    alloc: A,
+    id: u64,
+    key: SiteKey,
+    entry: SitePrefix,
+) -> Result<Site<A>, AllocError>
+    ensures site { IfOk result (λ s. s ≡ record { id = id; keys = key ∷ []; prefixes = entry ∷ [] }) }
     ensures memory { OnErr result A.may_refuse }
 {
     let mut keys = Vec::new(alloc);
-    keys.try_push(SiteKey::new(id, secret))?;
-    Ok(keys)
+    keys.try_push(key)?;
+    let prefixes = Vec::try_from_slice(alloc, &[entry])?;
+    Site::new(alloc, id, keys, prefixes)
 }
