@@ -49,11 +49,8 @@ pub fn record_to_text<A: Memory, B: Allocator>(
     // Every record of the program has this text, so that what is written is read again.
     ensures known { IsMapping entry.now }
 {
-    let (ttl, locators) = (entry.ttl(), entry.locators());
     let mut text = String::new(alloc);
-    put_prefix(&mut text, entry.eid())?;
-    text.try_write(format_args!("={ttl}"))?;
-    put_locators(&mut text, locators)?;
+    put_record(&mut text, entry)?;
     Ok(text)
 }
 
@@ -170,6 +167,22 @@ fn parted(text: &str, mark: char) -> Option<(&str, &str)>
     ensures { option_map (λ p. (p.0.now, p.1.now)) result ≡ cut mark text.now }
 {
     text.split_once(mark)
+}
+
+// Appends the text of a record. Out of memory, it may leave a part of it.
+#[tactic(auto, using(crate::proofs::Appends::steps))]
+fn put_record<A: Memory, B: Allocator>(
+    text: &mut String<A>,
+    entry: &MapRecord<B>,
+) -> Result<(), AllocError>
+    ensures text { OnOk result (string_bytes text.new ≡ string_bytes text.old ++ record_text entry.now) }
+    ensures memory { OnErr result A.may_refuse }
+    ensures known { IsMapping entry.now }
+{
+    let (ttl, locators) = (entry.ttl(), entry.locators());
+    put_prefix(text, entry.eid())?;
+    text.try_write(format_args!("={ttl}"))?;
+    put_locators(text, locators)
 }
 
 // Appends the texts of locators, each after a plus sign. Out of memory, it may leave a part of them.
