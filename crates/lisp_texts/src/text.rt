@@ -132,7 +132,7 @@ fn v6(text: &[u8]) -> Option<[u8; 16]>
 }
 
 // The number that one to four hexadecimal digits stand for.
-#[tactic(auto, using(crate::proofs::Hex::digits), unfolding(crate::specs::Reading::group_of))]
+#[tactic(auto, unfolding(crate::specs::Reading::group_of))]
 fn group(text: &[u8]) -> Option<u16>
     ensures { result ≡ group_of text.now }
 {
