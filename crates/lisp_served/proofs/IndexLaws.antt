@@ -1,5 +1,5 @@
 -- Looking up and adding the places of numbers.
-use Rattle.std.proofs.Common.{◌≡◌, ◌==◌, ℕ, suc, ◌+◌, ◌<◌, ◌≤◌, Bool, true, false, cond, List, [], ◌∷◌, ◌++◌, length, take, take_all, Option, Some, None, Result, IfOk, IfErr, refl, sym, ap, ◌∙◌, subst, slice_index_or, arith}
+use Rattle.std.proofs.Common.{◌≡◌, ◌==◌, ℕ, suc, ◌+◌, ◌<◌, ◌≤◌, Bool, true, false, cond, List, [], ◌∷◌, ◌++◌, length, take, Option, Some, None, Result, IfOk, IfErr, refl, sym, ap, ◌∙◌, subst, slice_index_or, arith}
 use Rattle.std.specs.Bool.{Decides}
 use Rattle.std.specs.Cmp.{nat_cmp_total}
 use Rattle.std.specs.List.{find, position, position_from, insert}
@@ -108,6 +108,3 @@ module _ {X : Type 0} (number : X → ℕ) where
       let taken : take (i + 1) xs ≡ take i xs ++ x ∷ [] = ap (λ (n : ℕ). take n xs) following ∙ take-suc xs i x lt ∙ ap (λ (y : X). take i xs ++ y ∷ []) (sym at) in
       let long : i ≡ length (take i xs) = sym (length-take-le i xs (omega (arith, lt))) in
       subst (Indexes new number) (sym taken) (one_more old new (take i xs) x so_far (subst (Adds old new (number x)) long adds))
-
-  pub all_indexed : (entries : List Entry) (xs : List X) (i : ℕ) → length xs ≤ i → Indexes entries number (take i xs) → Indexes entries number xs
-  all_indexed entries xs i le indexed = subst (Indexes entries number) (take_all i xs le) indexed

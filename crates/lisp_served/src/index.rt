@@ -60,7 +60,6 @@ impl<A: Allocator> Index<A> {
 
 impl<A: Memory> Index<A> {
     /// Adds the place of a number, unless it has one.
-    #[tactic(auto, using(crate::proofs::IndexLaws::adds_nothing, crate::proofs::IndexLaws::adds_one, crate::proofs::IndexLaws::rises_insert))]
     pub(crate) fn add(&mut self, number: u64, place: usize) -> Result<(), AllocError>
         ensures added { OnOk result (Adds self.old self.new number place) }
         ensures err { OnErr result (self.new ≡ self.old) }

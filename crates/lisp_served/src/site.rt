@@ -135,7 +135,6 @@ impl<A: Allocator> Site<A> {
     }
 
     /// The key under a Key ID, made ready for tags; `None` where the site has no such key.
-    #[tactic(auto, using(crate::proofs::IndexLaws::in_list))]
     pub fn key(&self, key_id: u8) -> Option<&Key>
         ensures { option_map (λ k. k.now) result ≡ secret_of self.now key_id }
     {
@@ -179,7 +178,6 @@ impl<A: Allocator> Site<A> {
 }
 
 // The places of keys, by their Key IDs.
-#[tactic(auto, using(crate::proofs::IndexLaws::nothing_indexed, crate::proofs::IndexLaws::next_indexed, crate::proofs::IndexLaws::all_indexed))]
 fn index_of<A: Memory>(alloc: A, keys: &[SiteKey]) -> Result<Index<A>, AllocError>
     ensures index { IfOk result (λ index. Indexes index (λ k. k.id) keys.now) }
     ensures memory { OnErr result A.may_refuse }

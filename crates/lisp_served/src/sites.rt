@@ -33,7 +33,6 @@ impl<A: Allocator> Model for Sites<A> {
 
 impl<A: Allocator> Sites<A> {
     /// No sites; takes no memory.
-    #[tactic(auto, using(crate::proofs::IndexLaws::nothing_indexed))]
     pub fn new(alloc: A) -> Sites<A>
     where
         A: Copy,
@@ -53,7 +52,6 @@ impl<A: Allocator> Sites<A> {
     }
 
     /// The site with a Site-ID, the first one where several have it; `None` where there is none.
-    #[tactic(auto, using(crate::proofs::IndexLaws::in_list))]
     pub fn site(&self, id: u64) -> Option<&Site<A>>
         ensures { option_map (λ s. s.now) result ≡ site_of self.now id }
     {
@@ -85,7 +83,6 @@ impl<A: Allocator> Sites<A> {
 
 impl<A: Memory> Sites<A> {
     /// Adds a site behind the others.
-    #[tactic(auto, using(crate::proofs::IndexLaws::one_more))]
     pub fn push(&mut self, site: Site<A>) -> Result<(), AllocError>
         ensures added { OnOk result (self.new ≡ self.old ++ site ∷ []) }
         ensures err { OnErr result (self.new ≡ self.old) }

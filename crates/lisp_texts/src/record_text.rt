@@ -170,7 +170,6 @@ fn parted(text: &str, mark: char) -> Option<(&str, &str)>
 }
 
 // Appends the text of a record. Out of memory, it may leave a part of it.
-#[tactic(auto, using(crate::proofs::Appends::steps))]
 fn put_record<A: Memory, B: Allocator>(
     text: &mut String<A>,
     entry: &MapRecord<B>,
@@ -186,7 +185,6 @@ fn put_record<A: Memory, B: Allocator>(
 }
 
 // Appends the texts of locators, each after a plus sign. Out of memory, it may leave a part of them.
-#[tactic(auto, using(crate::proofs::Appends::steps))]
 fn put_locators<A: Memory>(text: &mut String<A>, locators: &[Locator]) -> Result<(), AllocError>
     ensures text { OnOk result (string_bytes text.new ≡ string_bytes text.old ++ flat_map (λ l. 43 ∷ locator_text l) locators.now) }
     ensures memory { OnErr result A.may_refuse }
@@ -199,7 +197,6 @@ fn put_locators<A: Memory>(text: &mut String<A>, locators: &[Locator]) -> Result
 }
 
 // Appends the text of a locator. Out of memory, it may leave a part of it.
-#[tactic(auto, using(crate::proofs::Appends::steps))]
 fn put_locator<A: Memory>(text: &mut String<A>, locator: &Locator) -> Result<(), AllocError>
     ensures text { OnOk result (string_bytes text.new ≡ string_bytes text.old ++ locator_text locator.now) }
     ensures memory { OnErr result A.may_refuse }

@@ -159,7 +159,7 @@ fn hex_digit(digit: u8) -> Option<u8>
 }
 
 // The parts before and after the first mark.
-#[tactic(auto, using(std::proofs::lemmas::List::take_rest), unfolding(crate::specs::Reading::cut))]
+#[tactic(auto, unfolding(crate::specs::Reading::cut))]
 fn cut(text: &[u8], mark: u8) -> Option<(&[u8], &[u8])>
     ensures { option_map (λ p. (p.0.now, p.1.now)) result ≡ cut mark text.now }
 {
@@ -175,7 +175,6 @@ fn place_of(text: &[u8], mark: u8) -> Option<usize>
 }
 
 /// Appends the text of a prefix. Out of memory, it may leave a part of it.
-#[tactic(auto, using(crate::proofs::Appends::steps))]
 pub(crate) fn put_prefix<A: Memory>(text: &mut String<A>, prefix: Prefix) -> Result<(), AllocError>
     ensures text { OnOk result (string_bytes text.new ≡ string_bytes text.old ++ prefix_text prefix) }
     ensures memory { OnErr result A.may_refuse }
@@ -221,7 +220,6 @@ fn put_v6<A: Memory>(text: &mut String<A>, octets: [u8; 16]) -> Result<(), Alloc
 }
 
 // Appends the four digits of a group.
-#[tactic(auto, using(crate::proofs::Appends::octets))]
 fn put_group<A: Memory>(text: &mut String<A>, high: u8, low: u8) -> Result<(), AllocError>
     ensures text { OnOk result (string_bytes text.new ≡ string_bytes text.old ++ (hex_text high ++ hex_text low)) }
     ensures memory { OnErr result A.may_refuse }

@@ -1,8 +1,11 @@
-use Rattle.std.proofs.Common.{Some, sym, ap, ◌∙◌}
+use Rattle.std.proofs.Common.{arith, Some, sym, ap, ◌∙◌}
 use Rattle.std.specs.Option.{option_map}
 use Rattle.lisp_served.specs.Site.{KeyEntry}
-use Rattle.lisp_served.proofs.IndexLaws.{at_index, not_indexed}
+use Rattle.lisp_served.proofs.IndexLaws.{at_index, in_list, not_indexed}
 use Rattle.lisp_served.proofs.site.Site.key.Goals as goal
+
+pub index-requires : goal.index-requires
+index-requires g c = grind (arith, in_list)
 
 pub returns-in-Some : goal.returns-in-Some
 returns-in-Some g c = rw (← c.self.view_is) (ap (λ (k : KeyEntry). Some k.secret) (c.behind-self.view_is ∙ c.index.ensures) ∙ sym (ap (option_map (λ (k : KeyEntry). k.secret)) (at_index (λ k. k.id) c.self.inside.by_id _ c.args.key_id _ c.index.result.now c.self.invariant (sym (rw c.from.ensures at c.in-Some.ensures)))))

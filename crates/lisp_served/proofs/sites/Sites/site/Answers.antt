@@ -1,6 +1,9 @@
-use Rattle.std.proofs.Common.{Some, sym, ap, ◌∙◌}
-use Rattle.lisp_served.proofs.IndexLaws.{at_index, not_indexed}
+use Rattle.std.proofs.Common.{arith, Some, sym, ap, ◌∙◌}
+use Rattle.lisp_served.proofs.IndexLaws.{at_index, in_list, not_indexed}
 use Rattle.lisp_served.proofs.sites.Sites.site.Goals as goal
+
+pub index-requires : goal.index-requires
+index-requires g c = grind (arith, in_list)
 
 pub returns-in-Some : goal.returns-in-Some
 returns-in-Some g c = rw (← c.self.view_is) (ap Some c.index.ensures ∙ sym (at_index (λ x. x.id) c.self.inside.by_id _ c.args.id _ c.index.result.now c.self.invariant (sym c.in-Some.ensures)))
