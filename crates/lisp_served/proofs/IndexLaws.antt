@@ -1,5 +1,5 @@
 -- Looking up and adding the places of numbers.
-use Rattle.std.proofs.Common.{◌≡◌, ◌==◌, ℕ, suc, ◌+◌, ◌<◌, ◌≤◌, Bool, true, false, cond, List, [], ◌∷◌, ◌++◌, length, take, Option, Some, None, Result, IfOk, IfErr, refl, sym, ap, ◌∙◌, subst, slice_index_or, arith}
+use Rattle.std.proofs.Common.{◌≡◌, ◌==◌, ℕ, suc, ◌+◌, ◌<◌, Bool, true, false, cond, List, [], ◌∷◌, ◌++◌, length, take, Option, Some, None, Result, IfOk, IfErr, refl, sym, ap, ◌∙◌, subst, slice_index_or, arith}
 use Rattle.std.specs.Bool.{Decides}
 use Rattle.std.specs.Cmp.{nat_cmp_total}
 use Rattle.std.specs.List.{find, position, position_from, insert}
