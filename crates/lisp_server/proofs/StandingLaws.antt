@@ -51,6 +51,11 @@ pub notice_there : (ns : List Standing) (q : RouterId) (i : ℕ) → position (i
 unfolding notice_at
 notice_there ns q i at = there (is_notice_of q) ns i at
 
+-- the place of a router's notice is one of theirs
+pub place_within : (ns : List Standing) (q : RouterId) (i : ℕ) → position (is_notice_of q) ns ≡ Some i → i < length ns
+place_within [] q i at = absurd (let clash : ◌≡◌ {A = Option ℕ} None (Some i) = at in cc)
+place_within (n ∷ ns) q i at = (position-Some (is_notice_of q) (n ∷ ns) i n at).0
+
 pub no_notices : KeysRise {X = Standing} (λ x. x.router) router_cmp []
 unfolding IsStrictlySortedBy
 no_notices = tt

@@ -1,10 +1,13 @@
 use Rattle.std.proofs.Common.{ap, arith}
 use Rattle.lisp_server.specs.Notices.{Standing}
-use Rattle.lisp_server.proofs.StandingLaws.{notice_gap, notice_set, notice_inserted, rises_set, rises_insert}
+use Rattle.lisp_server.proofs.StandingLaws.{place_within, notice_gap, notice_set, notice_inserted, rises_set, rises_insert}
 use Rattle.lisp_server.proofs.standing_notices.StandingNotices.keep.Goals as goal
 
 pub invariant_of-self : goal.invariant_of-self
 invariant_of-self g c = rises_set c.self.inside.items.items c.in-Ok.place c.args.notice (rw (c.deref.ensures.value, ap (λ (n : Standing). n.router) c.notice.view_is) at c.in-Ok.ensures.found) c.self.invariant
+
+pub index_mut-requires : goal.index_mut-requires
+index_mut-requires g c = omega (arith, place_within c.self.inside.items.items _ _ (rw c.deref.ensures.value at c.in-Ok.ensures.found))
 
 pub returns-in-Ok : goal.returns-in-Ok
 returns-in-Ok g c = rw (← c.self.view_is) (notice_set c.self.inside.items.items c.in-Ok.place c.args.notice (rw (c.deref.ensures.value, ap (λ (n : Standing). n.router) c.notice.view_is) at c.in-Ok.ensures.found))

@@ -1,8 +1,14 @@
-use Rattle.std.proofs.Common.{sym, ap, ◌∙◌, true, false}
+use Rattle.std.proofs.Common.{sym, ap, ◌∙◌, true, false, arith}
 use Rattle.std.proofs.lemmas.Result.{err_from_is_err_and}
 use Rattle.lisp_server.specs.Notices.{Standing, is_due}
-use Rattle.lisp_server.proofs.StandingLaws.{none_due, due_there, same_there, same_set, rises_still, due_seldom, resends}
+use Rattle.lisp_server.proofs.StandingLaws.{place_within, none_due, due_there, same_there, same_set, rises_still, due_seldom, resends}
 use Rattle.lisp_server.proofs.standing_notices.StandingNotices.resend.Goals as goal
+
+pub index-requires : goal.index-requires
+index-requires g c = omega (arith, place_within c.self.inside.items.items c.args.router.now _ (rw c.deref.ensures.value at c.in-Ok.ensures.found))
+
+pub index_mut-requires : goal.index_mut-requires
+index_mut-requires g c = omega (arith, place_within c.self.inside.items.items c.args.router.now _ (rw c.deref.ensures.value at c.in-Ok.ensures.found))
 
 pub returns-in_default-clause-refused : goal.returns-in_default-clause-refused
 returns-in_default-clause-refused g c = rw (← c.self.view_is) (none_due c.self.inside.items.items c.args.router.now c.args.now _ (rw c.deref.ensures.value at c.in_default.ensures.gap))
