@@ -79,9 +79,9 @@ impl Recipient<'_> {
         ensures same { SameTables tables.old tables.new }
         ensures memory { OnErr result A.may_refuse }
     {
+        tables.prepare_notice(&self.contact.router)?;
         let bytes = self.notify(alloc, &tables.rows, now, nonce)?;
         let notice = self.notice(nonce, bytes.copy(alloc)?, now);
-        tables.prepare_notice(&self.contact.router)?;
         Ok((notice, bytes.into_vec()))
     }
 

@@ -1,5 +1,5 @@
 use Rattle.std.proofs.Common.{ℕ, Option, subst}
-use Rattle.std.proofs.lemmas.Result.{err_from_is_err_and}
+use Rattle.std.proofs.lemmas.Result.{IfOk-from_err, err_from_is_err_and}
 use Rattle.lisp_checks.specs.Nonces.{IsFresh, Unasked, Stops}
 use Rattle.lisp_server.specs.Server.{state_of}
 use Rattle.lisp_server.proofs.ReceivingLaws.{proceeds_on, accepts, save_fails, check_fails, stops, no_room}
@@ -25,6 +25,14 @@ returns-in_err-rows-clause-refused g c =
     let fresh = subst (λ (last : Option ℕ). IsFresh last (g.S.NonceStore.seen c.args.store.now) c.pair_of-pair.result c.nonce_of-nonce.result) c.get.ensures c.in_ok-check_nonce.ensures.fresh in
     let unasked = subst (λ (last : Option ℕ). Unasked last (g.S.NonceStore.seen c.args.store.now) (g.S.NonceStore.seen c.check_nonce.new.store)) c.get.ensures c.check_nonce.ensures.unasked in
     rw (p.1, p.2) (no_room c.args.sites.now c.args.arrival.bytes.now c.args.register c.in_ok-key.key.now (state_of c.args.sites.now c.args.tables.now) _ _ c.pair_of-pair.result c.nonce_of-nonce.result c.pair_of-pair.ensures c.nonce_of-nonce.ensures c.in_ok-key.ensures.secret fresh unasked c.check_nonce.ensures.same)
+
+pub returns-in_err-save_nonce-clause-accepted : goal.returns-in_err-save_nonce-clause-accepted
+returns-in_err-save_nonce-clause-accepted g c = IfOk-from_err _ _ c.from_residual-in_err-save_nonce.ensures.0
+
+pub returns-in_err-save_nonce-clause-err : goal.returns-in_err-save_nonce-clause-err
+returns-in_err-save_nonce-clause-err g c =
+    let p = err_from_is_err_and c.from_residual-in_err-save_nonce.result c.from_residual-in_err-save_nonce.ensures.1 in
+    rw p.1 c.prepared.ensures.same
 
 pub returns-in_err-save_nonce-clause-refused : goal.returns-in_err-save_nonce-clause-refused
 returns-in_err-save_nonce-clause-refused g c =

@@ -5,6 +5,7 @@ use Rattle.lisp_checks.specs.Nonces.{Follows}
 use Rattle.lisp_server.specs.declared.contacts.Contact.{Contact}
 use Rattle.lisp_server.specs.Server.{state_of}
 use Rattle.lisp_server.proofs.ContactLaws.{contact_router}
+use Rattle.lisp_server.proofs.ReceivingLaws.{proceeds_on}
 use Rattle.lisp_server.proofs.SendNoticeLaws.{few_records, announces, refuses_unregistered, refuses_unfollowed, without_room, refuses_unsaved}
 use Rattle.std.proofs.lemmas.Result.{err_from_is_err_and}
 use Rattle.lisp_server.proofs.send_notice.send_notice.Goals as goal
@@ -14,6 +15,15 @@ prepare-requires g c =
     let found = c.in_ok-recipient.ensures.registered in
     let own = ap (λ (k : Contact). k.router) found.1 ∙ contact_router c.args.tables.now.contacts.contacts c.args.router.now found.0.heard.contact found.0.heard.heard in
     record { moment = c.requires.moment; few = subst (λ (q : RouterId). length (live_of c.args.tables.now.rows.rows q c.args.now) ≤ 255) (sym own) (few_records _ found.0.fits) }
+
+pub keep_notice-requires : goal.keep_notice-requires
+keep_notice-requires g c = rw c.in_ok-notice.ensures.notice c.in_ok-notice.ensures.room
+
+pub returns-in_err-save_notice-clause-proceeds : goal.returns-in_err-save_notice-clause-proceeds
+returns-in_err-save_notice-clause-proceeds g c = proceeds_on c.next_nonce.ensures.proceeds c.save_notice.ensures.proceeds
+
+pub returns-clause-proceeds : goal.returns-clause-proceeds
+returns-clause-proceeds g c = proceeds_on c.next_nonce.ensures.proceeds c.save_notice.ensures.proceeds
 
 pub returns-clause-announces : goal.returns-clause-announces
 returns-clause-announces g c =
