@@ -1,10 +1,10 @@
 //! The codec and the tag, on the 84 byte Map-Register.
 
+use crate::stopwatch::Stopwatch;
 use lisp_hmac::Key;
 use lisp_messages::{MapNotify, Message, authentic, read_message, write_notify};
 use std::alloc::Global;
 use std::rt::Clock;
-use std::time::Instant;
 
 /// How often each is called.
 const CALLS: u32 = 200_000;
@@ -60,8 +60,7 @@ pub(crate) fn measure<R: Print + Clock + AllocGlobal>(rt: &R) -> Option<()> {
 fn measure_calls<R: Print + Clock + AllocGlobal>(rt: &R, notify: &MapNotify) -> Option<()> {
     let key = Key::new(&SECRET);
     for (name, call) in &NAMES {
-        let nanos = nanos(rt, &key, notify, *call)?;
-        let mean = nanos / u128::from(CALLS);
+        let mean = nanos(rt, &key, notify, *call)? / u128::from(CALLS);
         println!(rt; "{name}: {mean} ns, the mean of {CALLS} calls").ok()?;
     }
     Some(())
@@ -74,18 +73,13 @@ fn nanos<R: Clock + AllocGlobal>(
     notify: &MapNotify,
     call: Call,
 ) -> Option<u128> {
-    let Ok(start) = Instant::now(rt) else {
-        return None;
-    };
+    let watch = Stopwatch::start(rt)?;
     for _ in 0..CALLS {
         if !is_answered(rt.alloc(), key, notify, call) {
             return None;
         }
     }
-    match start.elapsed(rt) {
-        Ok(time) => Some(time.as_nanos()),
-        Err(_) => None,
-    }
+    watch.nanos(rt)
 }
 
 // Whether the call gives the answer that it should.

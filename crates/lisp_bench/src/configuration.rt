@@ -1,10 +1,10 @@
 //! Reading a configuration.
 
+use crate::stopwatch::Stopwatch;
 use lisp_memory::FallibleString;
 use lisp_sites::Config;
 use std::alloc::{AllocError, Global};
 use std::rt::Clock;
-use std::time::Instant;
 
 /// How many sites there are, with a key, a prefix and a router each.
 static SITES: [u32; 2] = [1_000, 10_000];
@@ -23,16 +23,15 @@ pub(crate) fn measure<R: Print + Clock + AllocGlobal>(rt: &R) -> Option<()> {
 
 // The microseconds of reading a configuration; `None` if it has a fault.
 fn micros<R: Clock + AllocGlobal>(rt: &R, text: &str) -> Option<u128> {
-    let Ok(start) = Instant::now(rt) else {
-        return None;
-    };
-    if Config::from_toml(rt.alloc(), rt.alloc(), text).is_err() {
+    let watch = Stopwatch::start(rt)?;
+    if !is_read(rt.alloc(), text) {
         return None;
     }
-    match start.elapsed(rt) {
-        Ok(time) => Some(time.as_micros()),
-        Err(_) => None,
-    }
+    Some(watch.nanos(rt)? / 1_000)
+}
+
+fn is_read(alloc: Global, text: &str) -> bool {
+    Config::from_toml(alloc, alloc, text).is_ok()
 }
 
 fn text(alloc: Global, sites: u32) -> Result<String, AllocError> {

@@ -1,13 +1,10 @@
 //! Lookups at a Map-Server, and dropping rows where none is dead.
 
-use crate::network::Network;
+use crate::stopwatch::Stopwatch;
 use lisp_lookup::Answer;
 use lisp_records::Addr;
+use lisp_server::Server;
 use std::rt::Clock;
-use std::time::Instant;
-
-/// How many rows the server holds.
-static HELD: [u32; 2] = [1_000, 100_000];
 
 /// How often each is called.
 const CALLS: u32 = 20_000;
@@ -32,56 +29,33 @@ static NAMES: [(&str, Call); 3] = [
     ("expire of nothing", Call::Expire),
 ];
 
-/// Prints how long each call takes, by the rows that are held; `None` where anything fails.
-pub(crate) fn measure<R: Print + Clock + AllocGlobal>(rt: &R) -> Option<()> {
-    match Network::new(rt.alloc()) {
-        Ok(mut network) => measure_held(rt, &mut network),
-        Err(_) => None,
-    }
-}
-
-fn measure_held<R: Print + Clock>(rt: &R, network: &mut Network) -> Option<()> {
-    let mut before = 0;
-    for held in &HELD {
-        network.fill(before, *held)?;
-        before = *held;
-        measure_calls(rt, network, *held)?;
-    }
-    Some(())
-}
-
-fn measure_calls<R: Print + Clock>(rt: &R, network: &mut Network, held: u32) -> Option<()> {
+/// Prints how long each call takes at a server that holds so many rows; `None` where anything fails.
+pub(crate) fn measure<R: Print + Clock>(rt: &R, server: &mut Server, held: u32) -> Option<()> {
     for (name, call) in &NAMES {
-        let nanos = nanos(rt, network, *call)?;
-        let mean = nanos / u128::from(CALLS);
+        let mean = nanos(rt, server, *call)? / u128::from(CALLS);
         println!(rt; "{held} rows held, {name}: {mean} ns, the mean of {CALLS} calls").ok()?;
     }
     Some(())
 }
 
 // The nanoseconds of all calls; `None` if one gives another answer.
-fn nanos<R: Clock>(rt: &R, network: &mut Network, call: Call) -> Option<u128> {
-    let Ok(start) = Instant::now(rt) else {
-        return None;
-    };
+fn nanos<R: Clock>(rt: &R, server: &mut Server, call: Call) -> Option<u128> {
+    let watch = Stopwatch::start(rt)?;
     for _ in 0..CALLS {
-        if !is_answered(network, call) {
+        if !is_answered(server, call) {
             return None;
         }
     }
-    match start.elapsed(rt) {
-        Ok(time) => Some(time.as_nanos()),
-        Err(_) => None,
-    }
+    watch.nanos(rt)
 }
 
 // Whether the call gives the answer that it should.
-fn is_answered(network: &mut Network, call: Call) -> bool {
+fn is_answered(server: &mut Server, call: Call) -> bool {
     match call {
-        Call::Found => matches!(network.server.answer(&HOST, 0), Answer::Reply(_)),
-        Call::NotFound => matches!(network.server.answer(&NO_HOST, 0), Answer::NotRegistered),
+        Call::Found => matches!(server.answer(&HOST, 0), Answer::Reply(_)),
+        Call::NotFound => matches!(server.answer(&NO_HOST, 0), Answer::NotRegistered),
         Call::Expire => {
-            network.server.expire(0);
+            server.expire(0);
             true
         }
     }

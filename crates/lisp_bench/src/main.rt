@@ -8,6 +8,7 @@ mod lookups;
 mod network;
 mod registers;
 mod saves;
+mod stopwatch;
 
 use std::rt::{Clock, Env};
 use std::{env, io};
@@ -24,7 +25,6 @@ fn run<R: Env + Print + Clock + AllocGlobal>(rt: &R) -> Option<()> {
     if has_word(rt)? {
         codec::measure(rt)?;
         network::measure(rt)?;
-        lookups::measure(rt)?;
         configuration::measure(rt)?;
         saves::measure(rt)?;
     }

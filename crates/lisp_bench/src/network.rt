@@ -1,6 +1,8 @@
-//! Registrations at a Map-Server whose store lies in memory.
+//! Registrations and lookups at a Map-Server whose store lies in memory.
 
+use crate::lookups;
 use crate::registers::{empty_register, host_records};
+use crate::stopwatch::Stopwatch;
 use lisp_hmac::Key;
 use lisp_messages::{MapRegister, write_register};
 use lisp_records::{Addr, Prefix};
@@ -9,20 +11,14 @@ use lisp_server::Server;
 use lisp_store::MemoryStore;
 use std::alloc::{AllocError, Global};
 use std::rt::Clock;
-use std::time::Instant;
 
-/// How many rows the server holds, and how many records the Map-Register has that is timed. The rows only become more.
-static POINTS: [(u32, u32); 9] = [
-    (1, 1),
-    (1, 10),
-    (1, 255),
-    (1_000, 1),
-    (1_000, 10),
-    (1_000, 255),
-    (100_000, 1),
-    (100_000, 10),
-    (100_000, 255),
-];
+/// How many rows the server holds; they only become more.
+static HELD: [u32; 3] = [1, 1_000, 100_000];
+
+/// How many records the Map-Register has that is timed.
+static RECORDS: [u32; 3] = [1, 10, MOST_RECORDS];
+
+const MOST_RECORDS: u32 = 255;
 
 /// So many Map-Registers are enough for a mean, or so many nanoseconds.
 const ENOUGH_CALLS: u32 = 1_000;
@@ -56,18 +52,18 @@ const SOURCE: Addr = Addr::V4([127, 0, 0, 21]);
 
 /// A server, its store, its time, and the last Map-Register that it was sent, under the key of its one site.
 #[derive(Drop)]
-pub(crate) struct Network {
+struct Network {
     alloc: Global,
     key: Key,
-    pub(crate) server: Server,
+    server: Server,
     now: u64,
     store: MemoryStore,
     register: MapRegister,
     datagram: Vec<u8>,
 }
 
-/// Prints how long a registration takes, by the rows that are held and the records that it has; `None` where
-/// anything fails.
+/// Prints how long registrations and lookups take, by the rows that are held and the records of a Map-Register; `None`
+/// where anything fails.
 pub(crate) fn measure<R: Print + Clock + AllocGlobal>(rt: &R) -> Option<()> {
     match Network::new(rt.alloc()) {
         Ok(mut network) => network.measure(rt),
@@ -76,8 +72,8 @@ pub(crate) fn measure<R: Print + Clock + AllocGlobal>(rt: &R) -> Option<()> {
 }
 
 impl Network {
-    /// A server that serves 10.0.0.0/8 and holds nothing.
-    pub(crate) fn new(alloc: Global) -> Result<Network, AllocError> {
+    // A server that serves 10.0.0.0/8 and holds nothing.
+    fn new(alloc: Global) -> Result<Network, AllocError> {
         let prefix = Prefix::new(Addr::V4([10, 0, 0, 0]), 8).unwrap();
         let sites = Sites::single(alloc, 1, 1, SECRET, prefix, true)?;
         Ok(Network {
@@ -93,17 +89,25 @@ impl Network {
 
     fn measure<R: Print + Clock>(&mut self, rt: &R) -> Option<()> {
         let mut before = 0;
-        for (held, records) in &POINTS {
+        for held in &HELD {
             self.fill(before, *held)?;
             before = *held;
-            self.name_hosts(held.saturating_sub(*records), *records)?;
-            self.time(rt, *held, *records)?;
+            self.measure_registrations(rt, *held)?;
+            lookups::measure(rt, &mut self.server, before.max(MOST_RECORDS))?;
         }
         Some(())
     }
 
-    /// Registers rows, where it holds so many, until it holds `held`; both are whole blocks, but for less than one.
-    pub(crate) fn fill(&mut self, before: u32, held: u32) -> Option<()> {
+    fn measure_registrations<R: Print + Clock>(&mut self, rt: &R, held: u32) -> Option<()> {
+        for records in &RECORDS {
+            self.name_hosts(held.saturating_sub(*records), *records)?;
+            self.time(rt, held, *records)?;
+        }
+        Some(())
+    }
+
+    // Registers rows, where it holds so many, until it holds `held`; both are whole blocks, but for less than one.
+    fn fill(&mut self, before: u32, held: u32) -> Option<()> {
         for block in before / BLOCK..held / BLOCK {
             self.name_hosts(block.saturating_mul(BLOCK), BLOCK)?;
             self.write()?;
@@ -174,16 +178,12 @@ impl Network {
     // The nanoseconds of one call; `None` if it fails.
     fn nanos<R: Clock>(&mut self, rt: &R, timed: Timed) -> Option<u128> {
         self.write()?;
-        let Ok(start) = Instant::now(rt) else {
-            return None;
-        };
+        let watch = Stopwatch::start(rt)?;
         let done = match timed {
             Timed::Registration => self.is_accepted(),
             Timed::Tags => self.has_tags(),
         };
-        match start.elapsed(rt) {
-            Ok(time) if done => Some(time.as_nanos()),
-            _ => None,
-        }
+        let nanos = watch.nanos(rt)?;
+        if done { Some(nanos) } else { None }
     }
 }
