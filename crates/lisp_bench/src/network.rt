@@ -8,7 +8,7 @@ use lisp_messages::{MapRegister, write_register};
 use lisp_records::{Addr, Prefix};
 use lisp_served::Sites;
 use lisp_server::Server;
-use lisp_store::MemoryStore;
+use lisp_store::{MemoryStore, NonceStore};
 use std::alloc::{AllocError, Global};
 use std::rt::Clock;
 
@@ -139,10 +139,7 @@ impl Network {
     // Whether the server accepts the Map-Register, a millisecond after the last one.
     fn is_accepted(&mut self) -> bool {
         self.now = self.now.wrapping_add(1);
-        let took = self
-            .server
-            .receive(&mut self.store, SOURCE, &self.datagram, self.now);
-        took.is_ok()
+        accepts(&mut self.server, &mut self.store, &self.datagram, self.now)
     }
 
     // Whether the tag of the Map-Register is right; one for as many bytes as the Map-Notify has is made, too.
@@ -186,4 +183,9 @@ impl Network {
         let nanos = watch.nanos(rt)?;
         if done { Some(nanos) } else { None }
     }
+}
+
+// Whether the server accepts a Map-Register. Over a store of any kind less has to be proved than over one in memory.
+fn accepts<S: NonceStore>(server: &mut Server, store: &mut S, bytes: &[u8], now: u64) -> bool {
+    server.receive(store, SOURCE, bytes, now).is_ok()
 }
