@@ -4,7 +4,7 @@ use crate::streams::{Narrow, Stumbling};
 use crate::support::assert_at;
 use lisp_player::{PlayFault, play};
 use std::alloc::Global;
-use std::io::ErrorKind;
+use std::io::{ErrorKind, Read, Write};
 
 /// A Map-Server and a router: a Map-Register, its arrival, and what the Map-Server holds then.
 pub const SCHEDULE: &str = "\
@@ -63,7 +63,16 @@ fn ends_so(alloc: Global, before: usize, room: usize, fault: PlayFault, written:
     };
     let taken = Vec::new(alloc);
     let mut writer = Narrow { taken, room };
-    let ended = play(alloc, alloc, &mut reader, &mut writer);
+    let ended = played(alloc, &mut reader, &mut writer);
     let front = PRINTED.get(..written).unwrap_or(PRINTED);
     ended == Err(fault) && writer.taken.as_slice() == front.as_bytes()
+}
+
+// A function of its own, since what `play` promises would be proved of this reader and this writer too.
+fn played<R: Read, W: Write>(
+    alloc: Global,
+    reader: &mut R,
+    writer: &mut W,
+) -> Result<(), PlayFault> {
+    play(alloc, alloc, reader, writer)
 }
