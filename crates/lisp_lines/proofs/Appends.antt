@@ -1,12 +1,15 @@
 -- Appending to a text.
-use Rattle.std.proofs.Common.{◌≡◌, ℕ, ◌+◌, ◌<◌, List, [], ◌∷◌, ◌++◌, length, get_or, take, Result, Ok, Err, refl, sym, ap, ◌∙◌, append_assoc}
+use Rattle.std.proofs.Common.{◌≡◌, ℕ, ◌+◌, ◌-◌, ◌<◌, List, [], ◌∷◌, ◌++◌, length, get_or, take, Result, Ok, Err, refl, sym, ap, ◌∙◌, append_assoc}
 use Rattle.std.specs.Prelude.{codes, OnOk, is_ok, if◌then◌else◌}
 use Rattle.std.specs.Fmt.{decimal}
 use Rattle.std.specs.Char.{encode_utf8}
 use Rattle.std.specs.List.{flat_map}
 use Rattle.std.proofs.lemmas.List.{flat_map_more, take_more}
 use Rattle.lisp_sites.specs.Configuration.{Configuration}
-use Rattle.lisp_lines.specs.Name.{node_name}
+use Rattle.lisp_records.specs.Row.{Holding}
+use Rattle.lisp_texts.specs.Written.{record_text}
+use Rattle.lisp_lines.specs.Name.{node_name, router_name}
+use Rattle.lisp_lines.specs.Query.{row_text}
 
 pub ruleset steps = (append_assoc, flat_map_more)
 
@@ -30,3 +33,14 @@ one_more {X = X} shown head xs i x before after inside here so_far more =
 -- the line before the rows of a Map-Server
 abbrev pub head_text : Configuration → ℕ → ℕ → List ℕ
 head_text c server rows = codes "hold " ++ node_name c server ++ codes " " ++ decimal rows ++ 10 ∷ []
+
+-- the twelve pieces of a row's line
+pieces : (a b c d e f g h i j k l : List ℕ) → a ++ (b ++ (c ++ (d ++ (e ++ (f ++ (g ++ (h ++ (i ++ (j ++ (k ++ l)))))))))) ≡ a ++ (b ++ c ++ d ++ e ++ (f ++ g ++ h ++ i) ++ j ++ k ++ l)
+pieces a b c d e f g h i j k l = simp append_assoc refl
+
+-- the line of a row, appended
+pub row_line : (c : Configuration) (now : ℕ) (inside row : Holding) (text router mapping : List ℕ) (age : ℕ) → inside ≡ row → router ≡ router_name c inside.router → mapping ≡ record_text inside.mapping → age ≡ now - inside.accepted
+    → text ++ (codes "row " ++ (router ++ (codes " " ++ (mapping ++ (codes " key " ++ (decimal inside.key ++ (codes " nonce " ++ (decimal inside.nonce ++ (codes " age " ++ (decimal age ++ 10 ∷ [])))))))))) ≡ text ++ row_text c now row
+row_line c now inside row text router mapping age seen named mapped aged =
+    rw (named, mapped, aged) (pieces text (codes "row ") (router_name c inside.router) (codes " ") (record_text inside.mapping) (codes " key ") (decimal inside.key) (codes " nonce ") (decimal inside.nonce) (codes " age ") (decimal (now - inside.accepted)) (10 ∷ []))
+    ∙ ap (λ (h : Holding). text ++ row_text c now h) seen

@@ -20,13 +20,12 @@ pub fn put_carried<A: Memory>(text: &mut String<A>, refusal: &Refusal) -> Result
     ensures memory { OnErr result A.may_refuse }
 {
     match refusal {
-        Refusal::Send(SendFault::Store(fault)) => put_store(text, *fault),
         Refusal::Notify(NotifyFault::Read(fault)) => put_read(text, fault),
         Refusal::Notify(NotifyFault::Stale { latest }) => put_number(text, "latest", *latest),
         Refusal::Receive(refused) => put_refused(text, refused),
-        Refusal::Notice(NoticeFault::StoreLoad(fault)) => put_store(text, *fault),
-        Refusal::Notice(NoticeFault::StoreSave(fault)) => put_store(text, *fault),
-        Refusal::Start(StartFault::Store(fault)) => put_store(text, *fault),
+        Refusal::Send(SendFault::Store(fault))
+        | Refusal::Notice(NoticeFault::StoreLoad(fault) | NoticeFault::StoreSave(fault))
+        | Refusal::Start(StartFault::Store(fault)) => put_store(text, *fault),
         _ => Ok(()),
     }
 }
@@ -69,8 +68,12 @@ fn put_store<A: Memory>(text: &mut String<A>, fault: StoreFault) -> Result<(), A
     put_number(text, "store", u64::from(fault.number()))
 }
 
-// Appends a number, behind what it is. Out of memory, it may leave a part of it.
-fn put_number<A: Memory>(text: &mut String<A>, what: &str, number: u64) -> Result<(), AllocError>
+/// Appends a number, behind what it is. Out of memory, it may leave a part of it.
+pub(crate) fn put_number<A: Memory>(
+    text: &mut String<A>,
+    what: &str,
+    number: u64,
+) -> Result<(), AllocError>
     ensures text { OnOk result (string_bytes text.new ≡ string_bytes text.old ++ carried what.now number) }
     ensures memory { OnErr result A.may_refuse }
 {

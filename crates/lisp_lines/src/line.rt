@@ -5,7 +5,7 @@ ghost use Rattle.std.specs.String.{string_bytes};
 ghost use Rattle.lisp_lines.specs.Line.{pair_text, keyed_text, datagram_text, line_words, line_text};
 ghost use Rattle.lisp_lines.specs.Parts.{verb, nodes_text, refusal_text, details_text, datagram_of};
 
-use crate::carried::put_carried;
+use crate::carried::{put_carried, put_number};
 use crate::name::{node_name, router_name};
 use lisp_memory::{FallibleString, Memory};
 use lisp_schedules::{Line, Refusal};
@@ -110,14 +110,12 @@ fn put_details<A: Memory>(text: &mut String<A>, line: &Line) -> Result<(), Alloc
     ensures memory { OnErr result A.may_refuse }
 {
     match line {
-        Line::Changed { records, .. } => text.try_write(format_args!(" records {records}")),
+        Line::Changed { records, .. } => put_number(text, "records", *records as u64),
         Line::Sent { key, nonce, .. }
         | Line::Accepted { key, nonce, .. }
         | Line::Counted { key, nonce, .. }
         | Line::Notice { key, nonce, .. } => put_keyed(text, *key, *nonce),
-        Line::Done { nonce, .. } | Line::Noticed { nonce, .. } => {
-            text.try_write(format_args!(" nonce {nonce}"))
-        }
+        Line::Done { nonce, .. } | Line::Noticed { nonce, .. } => put_number(text, "nonce", *nonce),
         Line::Nowhere { datagram } => text.try_write(format_args!(" {datagram}")),
         Line::Ticked { ms, now } => text.try_write(format_args!(" {ms} now {now}")),
         Line::Refused { what, .. } => put_refusal(text, what),
@@ -149,7 +147,7 @@ fn put_datagram<A: Memory>(
     ensures memory { OnErr result A.may_refuse }
 {
     match datagram {
-        Some(datagram) if place => text.try_write(format_args!(" datagram {datagram}")),
+        Some(datagram) if place => put_number(text, "datagram", datagram as u64),
         _ => Ok(()),
     }
 }
@@ -173,12 +171,8 @@ fn put_node<A: Memory>(text: &mut String<A>, name: &str) -> Result<(), AllocErro
     text.try_write(format_args!(" {name}"))
 }
 
-/// Appends the names of two nodes, each after a space. Out of memory, it may leave a part of them.
-pub(crate) fn put_pair<A: Memory>(
-    text: &mut String<A>,
-    one: &str,
-    other: &str,
-) -> Result<(), AllocError>
+// Appends the names of two nodes, each after a space. Out of memory, it may leave a part of them.
+fn put_pair<A: Memory>(text: &mut String<A>, one: &str, other: &str) -> Result<(), AllocError>
     ensures text { OnOk result (string_bytes text.new ≡ string_bytes text.old ++ codes " " ++ pair_text one.now other.now) }
     ensures memory { OnErr result A.may_refuse }
 {

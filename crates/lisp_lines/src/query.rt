@@ -7,7 +7,7 @@ ghost use Rattle.lisp_lines.specs.Query.{row_text, hold_text, counted_words, ack
 ghost use Rattle.lisp_lines.specs.Line.{pair_text};
 ghost use Rattle.lisp_texts.specs.Written.{addr_text};
 
-use crate::line::{put_keyed, put_pair};
+use crate::line::put_keyed;
 use crate::name::{node_name, router_name};
 use lisp_lookup::Answer;
 use lisp_memory::{FallibleString, Memory};
@@ -30,25 +30,22 @@ pub fn hold_text<A: Memory + Copy, E: Allocator, F: Allocator>(
     ensures text { IfOk result (λ text. string_bytes text ≡ hold_text config.now server now rows.now) }
     ensures memory { OnErr result A.may_refuse }
 {
-    let mut text = String::new(alloc);
-    put_head(&mut text, node_name(config, server), rows.len())?;
+    let mut text = hold_head(alloc, node_name(config, server), rows.len())?;
     for row in rows {
         put_row(alloc, &mut text, config, now, row)?;
     }
     Ok(text)
 }
 
-// Appends the line before the rows of a Map-Server: how many they are. Out of memory, it may leave a part of it.
-#[tactic(auto, using(crate::proofs::Appends::steps))]
-fn put_head<A: Memory>(text: &mut String<A>, server: &str, rows: usize) -> Result<(), AllocError>
-    ensures text { OnOk result (string_bytes text.new ≡ string_bytes text.old ++ codes "hold " ++ server.now ++ codes " " ++ decimal rows ++ 10 ∷ []) }
+// The line before the rows of a Map-Server: how many they are.
+fn hold_head<A: Memory>(alloc: A, server: &str, rows: usize) -> Result<String<A>, AllocError>
+    ensures text { IfOk result (λ text. string_bytes text ≡ codes "hold " ++ server.now ++ codes " " ++ decimal rows ++ 10 ∷ []) }
     ensures memory { OnErr result A.may_refuse }
 {
-    text.try_write(format_args!("hold {server} {rows}\n"))
+    String::try_format(alloc, format_args!("hold {server} {rows}\n"))
 }
 
 // Appends the line of a row at a moment. Out of memory, it may leave a part of it.
-#[tactic(auto, using(crate::proofs::Appends::steps))]
 fn put_row<A: Memory + Copy, E: Allocator, F: Allocator>(
     alloc: A,
     text: &mut String<A>,
@@ -61,10 +58,9 @@ fn put_row<A: Memory + Copy, E: Allocator, F: Allocator>(
 {
     let router = router_name(config, &row.router);
     let record = record_to_text(alloc, &row.mapping)?;
-    text.try_write(format_args!("row {router} {record}"))?;
-    put_keyed(text, row.key, row.nonce)?;
+    let (key, nonce) = (row.key, row.nonce);
     let age = now.saturating_sub(row.accepted);
-    text.try_write(format_args!(" age {age}\n"))
+    text.try_write(format_args!("row {router} {record} key {key} nonce {nonce} age {age}\n"))
 }
 
 /// Appends the line of what a router counted last from a Map-Server: its Key ID and nonce. Out of memory, it may leave a
@@ -79,9 +75,8 @@ pub fn put_ack<A: Memory, E: Allocator>(
     ensures text { OnOk result (string_bytes text.new ≡ string_bytes text.old ++ ack_text config.now router server counted) }
     ensures memory { OnErr result A.may_refuse }
 {
-    let router = node_name(config, router);
-    text.try_write("acks")?;
-    put_pair(text, router, node_name(config, server))?;
+    let (router, server) = (node_name(config, router), node_name(config, server));
+    text.try_write(format_args!("acks {router} {server}"))?;
     put_counted(text, counted)?;
     text.try_push('\n')
 }
@@ -111,47 +106,30 @@ pub fn ask_text<A: Memory + Copy, E: Allocator, F: Allocator>(
     ensures text { IfOk result (λ text. string_bytes text ≡ ask_text config.now server addr.now answer.now) }
     ensures memory { OnErr result A.may_refuse }
 {
-    let mut text = String::new(alloc);
-    put_question(alloc, &mut text, node_name(config, server), addr)?;
-    put_answer(alloc, &mut text, answer)?;
-    text.try_push('\n')?;
-    Ok(text)
-}
-
-// Appends for which address a Map-Server was asked. Out of memory, it may leave a part of it.
-#[tactic(auto, using(crate::proofs::Appends::steps))]
-fn put_question<A: Memory>(
-    alloc: A,
-    text: &mut String<A>,
-    server: &str,
-    addr: &Addr,
-) -> Result<(), AllocError>
-    ensures text { OnOk result (string_bytes text.new ≡ string_bytes text.old ++ codes "ask " ++ server.now ++ codes " " ++ addr_text addr.now ++ codes " ") }
-    ensures memory { OnErr result A.may_refuse }
-{
+    let server = node_name(config, server);
     let addr = addr_to_text(alloc, addr)?;
-    text.try_write(format_args!("ask {server} {addr} "))
+    let answer = answer_text(alloc, answer)?;
+    String::try_format(alloc, format_args!("ask {server} {addr} {answer}\n"))
 }
 
-// Appends who answers. Out of memory, it may leave a part of it.
-fn put_answer<A: Memory, F: Allocator>(
+// Who answers.
+fn answer_text<A: Memory + Copy, F: Allocator>(
     alloc: A,
-    text: &mut String<A>,
     answer: &Answer<'_, F>,
-) -> Result<(), AllocError>
-    ensures text { OnOk result (string_bytes text.new ≡ string_bytes text.old ++ answer_words answer.now) }
+) -> Result<String<A>, AllocError>
+    ensures text { IfOk result (λ text. string_bytes text ≡ answer_words answer.now) }
     ensures memory { OnErr result A.may_refuse }
 {
     match answer {
-        Answer::NoSite => text.try_write("nosite 15"),
-        Answer::NotRegistered => text.try_write("unregistered 1"),
+        Answer::NoSite => String::try_from_str(alloc, "nosite 15"),
+        Answer::NotRegistered => String::try_from_str(alloc, "unregistered 1"),
         Answer::Reply(entry) => {
             let record = record_to_text(alloc, entry)?;
-            text.try_write(format_args!("reply {record}"))
+            String::try_format(alloc, format_args!("reply {record}"))
         }
         Answer::Forward(addr) => {
             let addr = addr_to_text(alloc, addr)?;
-            text.try_write(format_args!("forward {addr}"))
+            String::try_format(alloc, format_args!("forward {addr}"))
         }
     }
 }
@@ -191,12 +169,9 @@ pub fn due_router_text<A: Memory, E: Allocator>(
 }
 
 // Who is due to a node.
-#[tactic(auto, using(crate::proofs::Appends::steps))]
 fn due_text<A: Memory>(alloc: A, node: &str, whom: &str) -> Result<String<A>, AllocError>
     ensures text { IfOk result (λ text. string_bytes text ≡ codes "due " ++ pair_text node.now whom.now ++ 10 ∷ []) }
     ensures memory { OnErr result A.may_refuse }
 {
-    let mut text = String::new(alloc);
-    text.try_write(format_args!("due {node} {whom}\n"))?;
-    Ok(text)
+    String::try_format(alloc, format_args!("due {node} {whom}\n"))
 }

@@ -1,7 +1,7 @@
-use Rattle.std.proofs.Common.{refl, append_assoc}
-use Rattle.lisp_lines.proofs.Appends.{line_feed}
+use Rattle.std.proofs.Common.{refl, ◌∙◌, append_assoc}
+use Rattle.std.proofs.lemmas.Result.{IfOk-weaker}
 use Rattle.lisp_lines.proofs.query.ask_text.Goals as goal
 
 pub returns-clause-text : goal.returns-clause-text
 returns-clause-text g c =
-    rw (c.in_ok-try_push.ensures.bytes, line_feed, c.in_ok-put_answer.ensures.text, c.in_ok-put_question.ensures.text, c.node_name.ensures, c.new-text.ensures.bytes) (simp append_assoc refl)
+    IfOk-weaker c.try_format.result _ _ (λ text is. is ∙ rw (c.in_ok-answer.ensures.text, c.in_ok-addr.ensures.text, c.node_name-server.ensures) (simp append_assoc refl)) c.try_format.ensures.ok
