@@ -4,3 +4,4 @@ mod Verbs
 mod Records
 mod Lines
 mod Counts
+mod Commands

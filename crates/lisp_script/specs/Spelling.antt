@@ -143,6 +143,12 @@ with_line c before line = do
   found ← in_line c line
   Ok (before ++ option_to_list found)
 
+-- commands, and behind them that of the words of a line
+abbrev pub with_words : Configuration → List Order → List (List ℕ) → Result (List Order) ScriptWhat
+with_words c before words = do
+  found ← in_words c words
+  Ok (before ++ option_to_list found)
+
 -- the fault of a line, with its number
 abbrev pub at_line : {X : Type 0} → ℕ → Result X ScriptWhat → Result X ScriptFault
 at_line number (Ok x) = Ok x

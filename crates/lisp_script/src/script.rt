@@ -1,10 +1,9 @@
 //! Scripts.
 
 ghost use Rattle.std.specs.Prelude.{◌≡◌, ◌≢◌, map, Ok, Err, IfOk, IfErr};
-ghost use Rattle.std.specs.Option.{option_map};
 ghost use Rattle.lisp_script.specs.Fault.{Gives};
 ghost use Rattle.lisp_script.specs.Order.{order};
-ghost use Rattle.lisp_script.specs.Spelling.{script_of, in_line, with_line, is_comment, at_line};
+ghost use Rattle.lisp_script.specs.Spelling.{script_of, with_words, with_line, is_comment, at_line};
 ghost use Rattle.lisp_script.specs.declared.fault.ScriptWhat.TheVariants.{Memory};
 
 use crate::command::Command;
@@ -36,6 +35,7 @@ pub fn parse_script<A: Memory + Copy, E: Allocator>(
 }
 
 // Appends the command of a line, where it has one.
+#[tactic(auto, using(crate::proofs::Commands::steps))]
 fn read_line<A: Memory + Copy, E: Allocator>(
     alloc: A,
     config: &Config<E>,
@@ -45,26 +45,29 @@ fn read_line<A: Memory + Copy, E: Allocator>(
     ensures value { Gives (λ _. map order commands.new.items) result (with_line config.now (map order commands.old.items) line.now) }
     ensures memory { IfErr result (λ what. what ≡ ScriptWhat.Memory → A.may_refuse) }
 {
-    if let Some(command) = line_command(alloc, config, line)? {
-        commands.try_push(command)?;
-    }
-    Ok(())
-}
-
-// The command of a line, or `None` where it has none.
-fn line_command<A: Memory + Copy, E: Allocator>(
-    alloc: A,
-    config: &Config<E>,
-    line: &str,
-) -> Result<Option<Command<A>>, ScriptWhat>
-    ensures value { Gives (λ command. option_map order command) result (in_line config.now line.now) }
-    ensures memory { IfErr result (λ what. what ≡ ScriptWhat.Memory → A.may_refuse) }
-{
     if is_comment(line) {
-        return Ok(None);
+        return Ok(());
     }
     let words = words(alloc, line)?;
-    command(alloc, config, &words)
+    read_words(alloc, config, &words, commands)
+}
+
+// Appends the command of a line's words, where it has one.
+#[tactic(auto, using(crate::proofs::Commands::steps))]
+fn read_words<A: Memory + Copy, E: Allocator>(
+    alloc: A,
+    config: &Config<E>,
+    words: &[&str],
+    commands: &mut Vec<Command<A>, A>,
+) -> Result<(), ScriptWhat>
+    ensures value { Gives (λ _. map order commands.new.items) result (with_words config.now (map order commands.old.items) (map (λ w. w.now) words.now)) }
+    ensures memory { IfErr result (λ what. what ≡ ScriptWhat.Memory → A.may_refuse) }
+{
+    let [word, words @ ..] = words else {
+        return Ok(());
+    };
+    commands.try_push(command(alloc, config, word, words)?)?;
+    Ok(())
 }
 
 fn is_comment(line: &str) -> bool

@@ -1,12 +1,11 @@
 //! What the words of a line spell: a command.
 
 ghost use Rattle.std.specs.Prelude.{◌≡◌, ◌≢◌, [], ◌∷◌, map, IfErr};
-ghost use Rattle.std.specs.Option.{option_map};
 ghost use Rattle.lisp_records.specs.Result.{Reads};
 ghost use Rattle.lisp_sites.specs.Configuration.{Configuration};
 ghost use Rattle.lisp_script.specs.Fault.{Gives};
 ghost use Rattle.lisp_script.specs.Order.{order};
-ghost use Rattle.lisp_script.specs.Spelling.{change_of, send_of, deliver_of, restart_of, restart_with, notice_of, given_to, spelt, in_words};
+ghost use Rattle.lisp_script.specs.Spelling.{change_of, send_of, deliver_of, restart_of, restart_with, notice_of, given_to, spelt, command_of};
 ghost use Rattle.lisp_script.specs.declared.fault.ScriptWhat.TheVariants.{Memory};
 ghost use Rattle.lisp_script.specs.declared.verb.Verb.TheVariants as verbs;
 
@@ -20,20 +19,18 @@ use lisp_sites::Config;
 use lisp_store::Fate;
 use std::alloc::Allocator;
 
-/// The command of a line's words, or `None` where it has none.
+/// The command of a line's first word, and the words behind it.
 pub(crate) fn command<A: Memory + Copy, E: Allocator>(
     alloc: A,
     config: &Config<E>,
+    word: &str,
     words: &[&str],
-) -> Result<Option<Command<A>>, ScriptWhat>
-    ensures value { Gives (λ command. option_map order command) result (in_words config.now (map (λ w. w.now) words.now)) }
+) -> Result<Command<A>, ScriptWhat>
+    ensures value { Gives order result (command_of config.now word.now (map (λ w. w.now) words.now)) }
     ensures memory { IfErr result (λ what. what ≡ ScriptWhat.Memory → A.may_refuse) }
 {
-    let [word, words @ ..] = words else {
-        return Ok(None);
-    };
     let verb = Verb::from_word(word)?;
-    Ok(Some(spelt(alloc, config, verb, words)?))
+    spelt(alloc, config, verb, words)
 }
 
 // The command of a verb and the words behind it.

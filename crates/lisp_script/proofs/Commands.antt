@@ -1,0 +1,21 @@
+-- Commands, and behind them that of a line.
+use Rattle.std.proofs.Common.{◌≡◌, ℕ, ◌-◌, ◌≤◌, List, [], ◌∷◌, ◌++◌, length, get_or, map, take, drop, Ok, Bor, refl, sym, ap, ◌∙◌, arith}
+use Rattle.std.proofs.lemmas.Grind.{common_steps}
+use Rattle.std.proofs.lemmas.List.{append-nil, map-append}
+use Rattle.lisp_sites.specs.Configuration.{Configuration}
+use Rattle.lisp_script.specs.declared.command.Command.{Command}
+use Rattle.lisp_script.specs.Order.{order}
+use Rattle.lisp_script.specs.Spelling.{command_of, with_words}
+use Rattle.lisp_script.proofs.Records.{texts}
+
+pub ruleset steps = (append-nil, map-append)
+
+-- all words behind the first
+behind : (word : Bor (List ℕ)) (words : List (Bor (List ℕ))) → take (length (word ∷ words) - 1) (drop 1 (word ∷ words)) ≡ words
+behind word words = grind (arith, common_steps)
+
+-- a command is appended
+pub one_more : {A : Type 0} (c : Configuration) (before after : List (Command A)) (command : Command A) (words : List (Bor (List ℕ))) (d : Bor (List ℕ)) → 1 ≤ length words
+    → command_of c (get_or words 0 d).now (texts (take (length words - 1) (drop 1 words))) ≡ Ok (order command) → after ≡ before ++ command ∷ [] → with_words c (map order before) (texts words) ≡ Ok (map order after)
+one_more c before after command [] d some is all = absurd (omega arith)
+one_more c before after command (word ∷ words) d some is all = rw (← behind word words, is, all) (ap Ok (sym (map-append order before (command ∷ []))))

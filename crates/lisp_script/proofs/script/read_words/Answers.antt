@@ -1,0 +1,5 @@
+use Rattle.lisp_script.proofs.Commands.{one_more}
+use Rattle.lisp_script.proofs.script.read_words.Goals as goal
+
+pub returns-clause-value : goal.returns-clause-value
+returns-clause-value g c = one_more c.args.config.now c.args.commands.now.items c.try_push.new.self.items c.in_ok-command.field-0 c.args.words.now _ c.in-len1-up.len_at_least c.in_ok-command.ensures.value c.in_ok-try_push.ensures.items
