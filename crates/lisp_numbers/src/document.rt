@@ -70,7 +70,6 @@ fn write_rows<W: Write>(rows: &[Row], writer: &mut W) -> Result<(), ExplainFault
 }
 
 // Writes the line of a row.
-#[tactic(auto, using(crate::proofs::Writing::appends_two), unfolding(crate::specs::Document::row_line))]
 fn write_row<W: Write>(row: &Row, writer: &mut W) -> Result<(), ExplainFault>
     ensures ok { OnOk result (Appends (W.contents writer.old) (W.contents writer.new) (row_line row.now)) }
     ensures fault { IfErr result (λ fault. fault ≡ faults.Write) }
