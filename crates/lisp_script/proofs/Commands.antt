@@ -1,5 +1,5 @@
 -- Commands, and behind them that of a line.
-use Rattle.std.proofs.Common.{◌≡◌, ℕ, ◌-◌, ◌≤◌, List, [], ◌∷◌, ◌++◌, length, get_or, map, take, drop, Ok, Bor, refl, sym, ap, ◌∙◌, arith}
+use Rattle.std.proofs.Common.{◌≡◌, ℕ, ◌-◌, ◌<◌, ◌≤◌, List, [], ◌∷◌, ◌++◌, length, get_or, map, take, drop, Ok, Bor, refl, sym, ap, ◌∙◌, arith}
 use Rattle.std.proofs.lemmas.Grind.{common_steps}
 use Rattle.std.proofs.lemmas.List.{append-nil, map-append}
 use Rattle.lisp_sites.specs.Configuration.{Configuration}
@@ -19,3 +19,8 @@ pub one_more : {A : Type 0} (c : Configuration) (before after : List (Command A)
     → command_of c (get_or words 0 d).now (texts (take (length words - 1) (drop 1 words))) ≡ Ok (order command) → after ≡ before ++ command ∷ [] → with_words c (map order before) (texts words) ≡ Ok (map order after)
 one_more c before after command [] d some is all = absurd (omega arith)
 one_more c before after command (word ∷ words) d some is all = rw (← behind word words, is, all) (ap Ok (sym (map-append order before (command ∷ []))))
+
+-- no words, no command
+pub no_more : {A : Type 0} (c : Configuration) (before : List (Command A)) (words : List (Bor (List ℕ))) → length words < 1 → with_words c (map order before) (texts words) ≡ Ok (map order before)
+no_more c before [] none = ap Ok (append-nil (map order before))
+no_more c before (word ∷ words) none = absurd (omega arith)

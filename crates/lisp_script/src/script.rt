@@ -53,7 +53,6 @@ fn read_line<A: Memory + Copy, E: Allocator>(
 }
 
 // Appends the command of a line's words, where it has one.
-#[tactic(auto, using(crate::proofs::Commands::steps))]
 fn read_words<A: Memory + Copy, E: Allocator>(
     alloc: A,
     config: &Config<E>,

@@ -49,7 +49,6 @@ pub(crate) fn server<E: Allocator>(config: &Config<E>, word: &str) -> Result<usi
 }
 
 /// The router with a name, by its number.
-#[tactic(auto, unfolding(crate::specs::Words::router_of))]
 pub(crate) fn router<E: Allocator>(config: &Config<E>, word: &str) -> Result<usize, ScriptWhat>
     ensures value { result ≡ router_of config.now word.now }
     ensures plain { IfErr result (λ what. what ≢ ScriptWhat.Memory) }
