@@ -8,7 +8,7 @@ use Rattle.toml.specs.declared.value.Value.{Value}
 use Rattle.lisp_sites.specs.declared.fault.ConfigFault.{ConfigFault}
 use Rattle.lisp_sites.specs.declared.fault.ConfigFault.TheVariants.{Toml, Missing, BadValue, Repeated, OutOfMemory}
 use Rattle.lisp_records.specs.Result.{◌>>=◌}
-use Rattle.lisp_sites.specs.Table.{Fails, each}
+use Rattle.lisp_sites.specs.Table.{Fails, each, one_more}
 
 -- a fault of a part is the fault of the whole, where each is passed on
 pub Fails-passed : {X Y : Type 0} (e : ConfigFault) (part : Result X ConfigFault) (whole : Result Y ConfigFault) → ((f : ConfigFault) → part ≡ Err f → whole ≡ Err f) → Fails e part → Fails e whole
@@ -17,14 +17,6 @@ Fails-passed (Missing name) part whole pass fails = pass (Missing name) fails
 Fails-passed (BadValue name) part whole pass fails = pass (BadValue name) fails
 Fails-passed (Repeated name) part whole pass fails = pass (Repeated name) fails
 Fails-passed OutOfMemory part whole pass fails = tt
-
--- a fault is the one that reading meets
-Fails-met : {Y : Type 0} (e : ConfigFault) (read : Result Y ConfigFault) → read ≡ Err e → Fails e read
-Fails-met Toml read at = at
-Fails-met (Missing name) read at = at
-Fails-met (BadValue name) read at = at
-Fails-met (Repeated name) read at = at
-Fails-met OutOfMemory read at = tt
 
 module _ {X : Type 0} (read : List X → Data → Result X ConfigFault) (values : List Value) (before : List X) (i : ℕ) (total : Result (List X) ConfigFault)
     (so_far : each read before (items_view (drop i values)) ≡ total) where
@@ -39,19 +31,23 @@ module _ {X : Type 0} (read : List X → Data → Result X ConfigFault) (values 
       let rest : drop i values ≡ v ∷ drop (i + 1) values = drop-cons values i v lt ∙ ap (λ (n : ℕ). slice_index_or values i v ∷ drop n values) following ∙ ap (λ (w : Value). w ∷ drop (i + 1) values) (sym at) in
       sym so_far ∙ ap (λ (vs : List Value). each read before (items_view vs)) rest
 
-  -- one more entry is read
-  pub goes_on : (v : Value) (x : X) → i < length values → v ≡ slice_index_or values i v → read before (view v) ≡ Ok x → each read (before ++ x ∷ []) (items_view (drop (i + 1) values)) ≡ total
+  then : (r : Result X ConfigFault) (xs : List X) → (r >>= λ x. Ok (before ++ x ∷ [])) ≡ Ok xs → after r ≡ each read xs (items_view (drop (i + 1) values))
   unfolding after
-  goes_on v x lt at reads = sym (next v lt at ∙ ap after reads)
+  then (Ok x) xs e = let same : before ++ x ∷ [] ≡ xs = cc in ap (λ (ys : List X). each read ys (items_view (drop (i + 1) values))) same
+  then (Err e) xs h = cc h
+
+  stops : (r : Result X ConfigFault) (e : ConfigFault) → (r >>= λ x. Ok (before ++ x ∷ [])) ≡ Err e → after r ≡ Err e
+  unfolding after
+  stops (Ok x) e h = cc h
+  stops (Err f) e h = h
+
+  -- one more entry is read
+  pub goes_on : (v : Value) (xs : List X) → i < length values → v ≡ slice_index_or values i v → one_more read before (view v) ≡ Ok xs → each read xs (items_view (drop (i + 1) values)) ≡ total
+  goes_on v xs lt at reads = sym (next v lt at ∙ then (read before (view v)) xs reads)
 
   -- the next entry isn't read
-  pub ends : (v : Value) (e : ConfigFault) → i < length values → v ≡ slice_index_or values i v → Fails e (read before (view v)) → Fails e total
-  unfolding after
-  ends v e lt at fails = Fails-passed e (read before (view v)) total (λ f reads. next v lt at ∙ ap after reads) fails
-
-  -- the next entry isn't read, and nothing there takes memory
-  pub ends_at : (v : Value) (e : ConfigFault) → i < length values → v ≡ slice_index_or values i v → read before (view v) ≡ Err e → Fails e total
-  ends_at v e lt at fails = ends v e lt at (Fails-met e (read before (view v)) fails)
+  pub ends : (v : Value) (e : ConfigFault) → i < length values → v ≡ slice_index_or values i v → Fails e (one_more read before (view v)) → Fails e total
+  ends v e lt at fails = Fails-passed e (one_more read before (view v)) total (λ f reads. next v lt at ∙ stops (read before (view v)) f reads) fails
 
   -- all entries are read
   pub is_done : length values ≤ i → total ≡ Ok before

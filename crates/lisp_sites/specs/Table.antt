@@ -59,6 +59,14 @@ each read before (item d ds) = do
   x ← read before d
   each read (before ++ x ∷ []) ds
 
+-- one more item, behind those before it
+abbrev pub one_more : {X : Type 0} → (List X → Data → Result X ConfigFault) → List X → Data → Result (List X) ConfigFault
+one_more read before d = read before d >>= λ x. Ok (before ++ x ∷ [])
+
+-- the items of an array, none where it is absent, read so
+abbrev pub each_item : {X : Type 0} → Field → List ℕ → (List X → Data → Result X ConfigFault) → List X → Data → Result (List X) ConfigFault
+each_item name key read before d = items name key d >>= each read before
+
 -- site.key: id, no two alike in a site; secret
 abbrev pub fresh_key_id : List KeyEntry → Data → Result ℕ ConfigFault
 fresh_key_id before d = required fields.SiteKeyId (codes "id") byte_as d >>= λ id. fresh fields.SiteKeyId (has_key before id) id

@@ -8,7 +8,7 @@ ghost use Rattle.lisp_sites.specs.Table.{Gives, unplaced, document_of, configura
 
 use crate::fault::ConfigFault;
 use crate::place::{Place, PlacedFault};
-use crate::router::{RouterEntry, read_routers};
+use crate::router::{Network, RouterEntry, read_routers};
 use crate::server::{ServerEntry, read_servers};
 use crate::site_entries::read_sites;
 use lisp_memory::Memory;
@@ -126,10 +126,15 @@ fn read_configuration<A: Memory + Copy>(
 {
     let sites = read_sites(alloc, document, place)?;
     let servers = read_servers(alloc, document, place)?;
-    let routers = read_routers(alloc, document, &sites, &servers, place)?;
-    Ok(Config {
+    let network = Network {
+        alloc,
         sites,
-        servers: servers.into_vec(),
-        routers,
+        servers,
+    };
+    let routers = read_routers(&network, document, place)?;
+    Ok(Config {
+        sites: network.sites,
+        servers: network.servers.into_vec(),
+        routers: routers.into_vec(),
     })
 }

@@ -3,6 +3,7 @@
 #![tactic(auto)]
 
 mod config;
+mod entries;
 mod fault;
 mod field;
 mod keyed;

@@ -11,13 +11,6 @@ pub struct Entry {
     pub number: usize,
 }
 
-impl Entry {
-    fn after(array: Field, before: usize) -> Entry {
-        let number = before.saturating_add(1);
-        Entry { array, number }
-    }
-}
-
 impl Display for Entry {
     fn fmt<W: Write>(&self, f: &mut Formatter<W>) -> Result<(), Error> {
         let Entry { array, number } = self;
@@ -40,24 +33,30 @@ impl Place {
         part: None,
     };
 
-    /// An entry of `array` is read next, behind so many others.
-    pub(crate) fn enter(&mut self, array: Field, before: usize) {
-        self.entry = Some(Entry::after(array, before));
+    /// The next entry of `array` is read: the first one, if none was since `leave`.
+    pub(crate) fn enter(&mut self, array: Field) {
+        let level = self.level(array);
+        let before = match level {
+            Some(entry) => entry.number,
+            None => 0,
+        };
+        *level = Some(Entry {
+            array,
+            number: before.saturating_add(1),
+        });
     }
 
-    /// The entries of an array were read.
-    pub(crate) fn leave(&mut self) {
-        self.entry = None;
+    /// The entries of `array` were read.
+    pub(crate) fn leave(&mut self, array: Field) {
+        *self.level(array) = None;
     }
 
-    /// An entry of `array`, which is in the entry that is read, is read next, behind so many others.
-    pub(crate) fn enter_part(&mut self, array: Field, before: usize) {
-        self.part = Some(Entry::after(array, before));
-    }
-
-    /// The entries of an array in the entry that is read were read.
-    pub(crate) fn leave_part(&mut self) {
-        self.part = None;
+    // Where an entry of `array` is told: as one of the file, or as one within the entry that is read.
+    fn level(&mut self, array: Field) -> &mut Option<Entry> {
+        match array {
+            Field::Site | Field::Server | Field::Router => &mut self.entry,
+            _ => &mut self.part,
+        }
     }
 }
 

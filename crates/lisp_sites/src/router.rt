@@ -4,9 +4,10 @@ ghost use Rattle.std.specs.Prelude.{◌≡◌, []};
 ghost use Rattle.toml.specs.View.{view, items_view};
 ghost use Rattle.lisp_records.specs.Result.{Reads};
 ghost use Rattle.lisp_served.specs.Site.{has_key};
-ghost use Rattle.lisp_sites.specs.Table.{Gives, each, fresh_router_name, router_node, router_site, router_key, router_identity, place_of, place_at, places_of, router_flags, router_nonce_block, record_at, as_database, database_at, router_at, routers_of};
+ghost use Rattle.lisp_sites.specs.Table.{Gives, fresh_router_name, router_node, router_site, router_key, router_identity, place_of, place_at, places_of, router_flags, record_at, as_database, database_at, router_at, routers_of};
 
 use crate::fault::ConfigFault;
+use crate::entries::{Entries, read_each, read_tables};
 use crate::field::Field;
 use crate::keyed::Keyed;
 use crate::name::Name;
@@ -15,7 +16,7 @@ use crate::place::Place;
 use crate::places::Places;
 use crate::server::ServerEntry;
 use crate::value::{
-    address, array, byte, check_table, flag, name, nonce_block, site_id, tables, xtr,
+    address, array, byte, check_table, flag, name, nonce_block, site_id, xtr,
 };
 use lisp_memory::Memory;
 use lisp_records::{Addr, Database, MapRecord, RouterId};
@@ -64,88 +65,83 @@ impl<A: Allocator> Named for RouterEntry<A> {
     }
 }
 
+/// What routers name: sites and Map-Servers.
+#[derive(Drop)]
+pub(crate) struct Network<A: Allocator> {
+    pub(crate) alloc: A,
+    pub(crate) sites: Sites<A>,
+    pub(crate) servers: Nodes<ServerEntry<A>, A>,
+}
+
 /// The routers of the document, in its order; they name the sites and Map-Servers given.
 pub(crate) fn read_routers<A: Memory + Copy>(
-    alloc: A,
+    network: &Network<A>,
     document: &Value,
-    sites: &Sites<A>,
-    servers: &Nodes<ServerEntry<A>, A>,
     place: &mut Place,
-) -> Result<Vec<RouterEntry<A>, A>, ConfigFault>
-    ensures { Gives (λ routers. routers.items) result (routers_of sites.now servers.now (view document.now)) }
+) -> Result<Nodes<RouterEntry<A>, A>, ConfigFault>
+    ensures { Gives (λ routers. routers) result (routers_of network.now.sites network.now.servers (view document.now)) }
 {
-    each_router(
-        alloc,
-        tables(document, "router", Field::Router)?,
-        sites,
-        servers,
+    read_tables(
+        Nodes::new(network.alloc),
+        network,
+        Field::Router,
+        document,
+        "router",
         place,
     )
 }
 
-fn each_router<A: Memory + Copy>(
-    alloc: A,
-    entries: &[Value],
-    sites: &Sites<A>,
-    servers: &Nodes<ServerEntry<A>, A>,
-    place: &mut Place,
-) -> Result<Vec<RouterEntry<A>, A>, ConfigFault>
-    ensures { Gives (λ routers. routers.items) result (each (router_at sites.now servers.now) [] (items_view entries.now)) }
-{
-    let mut routers = Nodes::new(alloc);
-    for entry in entries {
-        place.enter(Field::Router, routers.len());
-        let router = read_router(alloc, entry, sites, servers, &routers, place)?;
-        routers.push(alloc, router)?;
-    }
-    place.leave();
-    Ok(routers.into_vec())
-}
+impl<A: Memory + Copy> Entries for Nodes<RouterEntry<A>, A> {
+    type Entry = RouterEntry<A>;
+    type Given = Network<A>;
 
-#[tactic(auto, unfolding(crate::specs::Table::router_at))]
-fn read_router<A: Memory + Copy>(
-    alloc: A,
-    entry: &Value,
-    sites: &Sites<A>,
-    servers: &Nodes<ServerEntry<A>, A>,
-    before: &Nodes<RouterEntry<A>, A>,
-    place: &mut Place,
-) -> Result<RouterEntry<A>, ConfigFault>
-    ensures { Gives (λ r. r) result (router_at sites.now servers.now before.now (view entry.now)) }
-{
-    let (name, address) = read_node(alloc, entry, servers, before)?;
-    let (me, key_id) = read_identity(entry, sites)?;
-    let servers = read_places(alloc, entry, servers, place)?;
-    let (proxy, use_ttl) = read_flags(entry)?;
-    let nonce_block = read_nonce_block(entry)?;
-    let database = read_database(alloc, entry, place)?;
-    Ok(RouterEntry {
-        name,
-        address,
-        me,
-        key_id,
-        servers,
-        proxy,
-        use_ttl,
-        nonce_block,
-        database,
-    })
+    ghost entries = { λ routers. routers };
+
+    ghost read = { λ network. router_at network.sites network.servers };
+
+    #[tactic(auto, unfolding(crate::specs::Table::router_at))]
+    fn read_next(
+        &mut self,
+        network: &Network<A>,
+        entry: &Value,
+        place: &mut Place,
+    ) -> Result<(), ConfigFault> {
+        let alloc = network.alloc;
+        let (name, address) = read_node(entry, &network.servers, self)?;
+        let (me, key_id) = read_identity(entry, &network.sites)?;
+        let servers = read_places(alloc, entry, &network.servers, place)?;
+        let (proxy, use_ttl) = read_flags(entry)?;
+        let nonce_block = nonce_block(entry, "nonce_block", Field::RouterNonceBlock)?;
+        let database = read_database(alloc, entry, place)?;
+        let router = RouterEntry {
+            name: Name::from_string(String::from_str(alloc, name)?),
+            address,
+            me,
+            key_id,
+            servers: Places::from_vec(servers.into_vec()),
+            proxy,
+            use_ttl,
+            nonce_block,
+            database,
+        };
+        self.push(alloc, router)?;
+        Ok(())
+    }
 }
 
 // Name and address.
 #[tactic(auto, unfolding(crate::specs::Table::router_node))]
-fn read_node<A: Allocator + Copy>(
-    alloc: A,
-    entry: &Value,
+fn read_node<'a, A: Allocator>(
+    entry: &'a Value,
     servers: &Nodes<ServerEntry<A>, A>,
     before: &Nodes<RouterEntry<A>, A>,
-) -> Result<(Name<A>, Addr), ConfigFault>
-    ensures { Gives (λ n. (n.0, n.1)) result (router_node servers.now before.now (view entry.now)) }
+) -> Result<(&'a str, Addr), ConfigFault>
+    ensures { Reads (λ n. (n.0.now, n.1)) result (router_node servers.now before.now (view entry.now)) }
 {
     check_table(entry, Field::Router)?;
     let name = fresh_router_name(entry, servers, before)?;
     let address = address(entry, "address", Field::RouterAddress)?;
-    Ok((Name::from_string(String::from_str(alloc, name)?), address))
+    Ok((name, address))
 }
 
 fn fresh_router_name<'a, A: Allocator>(
@@ -215,29 +211,36 @@ fn read_places<A: Allocator + Copy>(
     entry: &Value,
     servers: &Nodes<ServerEntry<A>, A>,
     place: &mut Place,
-) -> Result<Places<A>, ConfigFault>
+) -> Result<Keyed<usize, A>, ConfigFault>
     ensures { Gives (λ p. p) result (places_of servers.now (view entry.now)) }
 {
     let names = array(entry, "servers", Field::RouterServers)?;
-    Ok(Places::from_vec(each_place(alloc, names, servers, place)?))
+    read_each(
+        Keyed::new(alloc),
+        servers,
+        Field::RouterServers,
+        names,
+        place,
+    )
 }
 
-fn each_place<A: Allocator + Copy>(
-    alloc: A,
-    names: &[Value],
-    servers: &Nodes<ServerEntry<A>, A>,
-    place: &mut Place,
-) -> Result<Vec<usize, A>, ConfigFault>
-    ensures { Gives (λ places. places.items) result (each (place_at servers.now) [] (items_view names.now)) }
-{
-    let mut places = Keyed::new(alloc);
-    for name in names {
-        place.enter_part(Field::RouterServers, places.len());
-        let server = fresh_place(name, servers, &places)?;
-        places.push(server)?;
+impl<A: Allocator + Copy> Entries for Keyed<usize, A> {
+    type Entry = usize;
+    type Given = Nodes<ServerEntry<A>, A>;
+
+    ghost entries = { λ places. places };
+
+    ghost read = { place_at };
+
+    fn read_next(
+        &mut self,
+        servers: &Nodes<ServerEntry<A>, A>,
+        name: &Value,
+        _place: &mut Place,
+    ) -> Result<(), ConfigFault> {
+        self.push(fresh_place(name, servers, self)?)?;
+        Ok(())
     }
-    place.leave_part();
-    Ok(places.into_vec())
 }
 
 fn fresh_place<A: Allocator>(
@@ -278,13 +281,6 @@ fn read_flags(entry: &Value) -> Result<(bool, bool), ConfigFault>
     Ok((proxy, use_ttl))
 }
 
-// How many nonces one save serves.
-fn read_nonce_block(entry: &Value) -> Result<u16, ConfigFault>
-    ensures { result ≡ router_nonce_block (view entry.now) }
-{
-    nonce_block(entry, "nonce_block", Field::RouterNonceBlock)
-}
-
 // The records.
 #[tactic(auto, unfolding(crate::specs::Table::database_at))]
 fn read_database<A: Memory + Copy>(
@@ -294,29 +290,37 @@ fn read_database<A: Memory + Copy>(
 ) -> Result<Database<A>, ConfigFault>
     ensures { Gives (λ d. d) result (database_at (view entry.now)) }
 {
-    let texts = tables(entry, "records", Field::RouterRecords)?;
-    let records = each_record(alloc, texts, place)?;
+    let records = read_tables(
+        Vec::new(alloc),
+        &alloc,
+        Field::RouterRecords,
+        entry,
+        "records",
+        place,
+    )?;
     match Database::new(records) {
         Ok(database) => Ok(database),
         Err(_) => Err(ConfigFault::BadValue(Field::RouterRecords)),
     }
 }
 
-fn each_record<A: Memory + Copy>(
-    alloc: A,
-    texts: &[Value],
-    place: &mut Place,
-) -> Result<Vec<MapRecord<A>, A>, ConfigFault>
-    ensures { Gives (λ records. records.items) result (each record_at [] (items_view texts.now)) }
-{
-    let mut records = Vec::new(alloc);
-    for text in texts {
-        place.enter_part(Field::RouterRecords, records.len());
-        let record = read_record(alloc, text)?;
-        records.push(record)?;
+impl<A: Memory + Copy> Entries for Vec<MapRecord<A>, A> {
+    type Entry = MapRecord<A>;
+    type Given = A;
+
+    ghost entries = { λ records. records.items };
+
+    ghost read = { λ _. record_at };
+
+    fn read_next(
+        &mut self,
+        alloc: &A,
+        text: &Value,
+        _place: &mut Place,
+    ) -> Result<(), ConfigFault> {
+        self.push(read_record(*alloc, text)?)?;
+        Ok(())
     }
-    place.leave_part();
-    Ok(records)
 }
 
 fn read_record<A: Memory + Copy>(alloc: A, text: &Value) -> Result<MapRecord<A>, ConfigFault>

@@ -3,14 +3,15 @@
 ghost use Rattle.std.specs.Prelude.{◌≡◌, []};
 ghost use Rattle.toml.specs.View.{view, items_view};
 ghost use Rattle.lisp_records.specs.Result.{Reads};
-ghost use Rattle.lisp_sites.specs.Table.{Gives, each, fresh_server_name, server_at, servers_of};
+ghost use Rattle.lisp_sites.specs.Table.{Gives, fresh_server_name, server_at, servers_of};
 
 use crate::fault::ConfigFault;
+use crate::entries::{Entries, read_tables};
 use crate::field::Field;
 use crate::name::Name;
 use crate::nodes::{Named, Nodes};
 use crate::place::Place;
-use crate::value::{address, check_table, name, tables};
+use crate::value::{address, check_table, name};
 use lisp_records::Addr;
 use std::alloc::{Allocator, Global};
 use std::marker::Model;
@@ -49,41 +50,38 @@ pub(crate) fn read_servers<A: Allocator + Copy>(
 ) -> Result<Nodes<ServerEntry<A>, A>, ConfigFault>
     ensures { Gives (λ servers. servers) result (servers_of (view document.now)) }
 {
-    each_server(alloc, tables(document, "server", Field::Server)?, place)
+    read_tables(
+        Nodes::new(alloc),
+        &alloc,
+        Field::Server,
+        document,
+        "server",
+        place,
+    )
 }
 
-fn each_server<A: Allocator + Copy>(
-    alloc: A,
-    entries: &[Value],
-    place: &mut Place,
-) -> Result<Nodes<ServerEntry<A>, A>, ConfigFault>
-    ensures { Gives (λ servers. servers) result (each server_at [] (items_view entries.now)) }
-{
-    let mut servers = Nodes::new(alloc);
-    for entry in entries {
-        place.enter(Field::Server, servers.len());
-        let server = read_server(alloc, entry, &servers)?;
-        servers.push(alloc, server)?;
+impl<A: Allocator + Copy> Entries for Nodes<ServerEntry<A>, A> {
+    type Entry = ServerEntry<A>;
+    type Given = A;
+
+    ghost entries = { λ servers. servers };
+
+    ghost read = { λ _. server_at };
+
+    #[tactic(auto, unfolding(crate::specs::Table::server_at))]
+    fn read_next(
+        &mut self,
+        alloc: &A,
+        entry: &Value,
+        _place: &mut Place,
+    ) -> Result<(), ConfigFault> {
+        check_table(entry, Field::Server)?;
+        let name = fresh_server_name(entry, self)?;
+        let address = address(entry, "address", Field::ServerAddress)?;
+        let name = Name::from_string(String::from_str(*alloc, name)?);
+        self.push(*alloc, ServerEntry { name, address })?;
+        Ok(())
     }
-    place.leave();
-    Ok(servers)
-}
-
-#[tactic(auto, unfolding(crate::specs::Table::server_at))]
-fn read_server<A: Allocator + Copy>(
-    alloc: A,
-    entry: &Value,
-    before: &Nodes<ServerEntry<A>, A>,
-) -> Result<ServerEntry<A>, ConfigFault>
-    ensures { Gives (λ s. s) result (server_at before.now (view entry.now)) }
-{
-    check_table(entry, Field::Server)?;
-    let name = fresh_server_name(entry, before)?;
-    let address = address(entry, "address", Field::ServerAddress)?;
-    Ok(ServerEntry {
-        name: Name::from_string(String::from_str(alloc, name)?),
-        address,
-    })
 }
 
 fn fresh_server_name<'a, A: Allocator>(

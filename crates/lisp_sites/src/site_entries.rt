@@ -3,13 +3,14 @@
 ghost use Rattle.std.specs.Prelude.{◌≡◌, [], is_some};
 ghost use Rattle.toml.specs.View.{view, items_view};
 ghost use Rattle.lisp_served.specs.Site.{has_key};
-ghost use Rattle.lisp_sites.specs.Table.{Gives, each, fresh_key_id, key_at, keys_of, has_eid, fresh_eid, prefix_at, prefixes_of, has_site, fresh_site_id, site_at, sites_of};
+ghost use Rattle.lisp_sites.specs.Table.{Gives, fresh_key_id, key_at, keys_of, has_eid, fresh_eid, prefix_at, prefixes_of, has_site, fresh_site_id, site_at, sites_of};
 
 use crate::fault::ConfigFault;
+use crate::entries::{Entries, read_tables};
 use crate::field::Field;
 use crate::keyed::{HasKey, Keyed};
 use crate::place::Place;
-use crate::value::{byte, check_table, flag, prefix, secret, site_id, tables};
+use crate::value::{byte, check_table, flag, prefix, secret, site_id};
 use lisp_memory::Memory;
 use lisp_records::Prefix;
 use lisp_served::{Site, SiteKey, SitePrefix, Sites};
@@ -24,41 +25,38 @@ pub(crate) fn read_sites<A: Memory + Copy>(
 ) -> Result<Sites<A>, ConfigFault>
     ensures { Gives (λ sites. sites) result (sites_of (view document.now)) }
 {
-    each_site(alloc, tables(document, "site", Field::Site)?, place)
+    read_tables(
+        Sites::new(alloc),
+        &alloc,
+        Field::Site,
+        document,
+        "site",
+        place,
+    )
 }
 
-fn each_site<A: Memory + Copy>(
-    alloc: A,
-    entries: &[Value],
-    place: &mut Place,
-) -> Result<Sites<A>, ConfigFault>
-    ensures { Gives (λ sites. sites) result (each site_at [] (items_view entries.now)) }
-{
-    let mut sites = Sites::new(alloc);
-    for entry in entries {
-        place.enter(Field::Site, sites.as_slice().len());
-        let site = read_site(alloc, entry, &sites, place)?;
-        sites.push(site)?;
+impl<A: Memory + Copy> Entries for Sites<A> {
+    type Entry = Site<A>;
+    type Given = A;
+
+    ghost entries = { λ sites. sites };
+
+    ghost read = { λ _. site_at };
+
+    #[tactic(auto, unfolding(crate::specs::Table::site_at))]
+    fn read_next(
+        &mut self,
+        alloc: &A,
+        entry: &Value,
+        place: &mut Place,
+    ) -> Result<(), ConfigFault> {
+        check_table(entry, Field::Site)?;
+        let id = fresh_site_id(entry, self)?;
+        let keys = read_keys(*alloc, entry, place)?;
+        let prefixes = read_prefixes(*alloc, entry, place)?;
+        self.push(Site::new(*alloc, id, keys, prefixes.into_vec())?)?;
+        Ok(())
     }
-    place.leave();
-    Ok(sites)
-}
-
-// One site; `before` are those that stand before it.
-#[tactic(auto, unfolding(crate::specs::Table::site_at))]
-fn read_site<A: Memory + Copy>(
-    alloc: A,
-    entry: &Value,
-    before: &Sites<A>,
-    place: &mut Place,
-) -> Result<Site<A>, ConfigFault>
-    ensures { Gives (λ s. s) result (site_at before.now (view entry.now)) }
-{
-    check_table(entry, Field::Site)?;
-    let id = fresh_site_id(entry, before)?;
-    let keys = read_keys(alloc, entry, place)?;
-    let prefixes = read_prefixes(alloc, entry, place)?;
-    Ok(Site::new(alloc, id, keys, prefixes)?)
 }
 
 fn fresh_site_id<A: Allocator>(entry: &Value, before: &Sites<A>) -> Result<u64, ConfigFault>
@@ -85,38 +83,37 @@ fn read_keys<A: Allocator + Copy>(
 ) -> Result<Vec<SiteKey, A>, ConfigFault>
     ensures { Gives (λ keys. keys.items) result (keys_of (view entry.now)) }
 {
-    each_key(alloc, tables(entry, "key", Field::SiteKey)?, place)
+    read_tables(
+        Vec::new(alloc),
+        &alloc,
+        Field::SiteKey,
+        entry,
+        "key",
+        place,
+    )
 }
 
-fn each_key<A: Allocator + Copy>(
-    alloc: A,
-    entries: &[Value],
-    place: &mut Place,
-) -> Result<Vec<SiteKey, A>, ConfigFault>
-    ensures { Gives (λ keys. keys.items) result (each key_at [] (items_view entries.now)) }
-{
-    let mut keys = Vec::new(alloc);
-    for entry in entries {
-        place.enter_part(Field::SiteKey, keys.len());
-        let key = read_key(alloc, entry, &keys)?;
-        keys.push(key)?;
+impl<A: Allocator + Copy> Entries for Vec<SiteKey, A> {
+    type Entry = SiteKey;
+    type Given = A;
+
+    ghost entries = { λ keys. keys.items };
+
+    ghost read = { λ _. key_at };
+
+    #[tactic(auto, unfolding(crate::specs::Table::key_at))]
+    fn read_next(
+        &mut self,
+        alloc: &A,
+        entry: &Value,
+        _place: &mut Place,
+    ) -> Result<(), ConfigFault> {
+        check_table(entry, Field::SiteKey)?;
+        let id = fresh_key_id(entry, self.as_slice())?;
+        let secret = secret(*alloc, entry, "secret", Field::SiteKeySecret)?;
+        self.push(SiteKey::new(id, secret.as_slice()))?;
+        Ok(())
     }
-    place.leave_part();
-    Ok(keys)
-}
-
-#[tactic(auto, unfolding(crate::specs::Table::key_at))]
-fn read_key<A: Allocator + Copy>(
-    alloc: A,
-    entry: &Value,
-    before: &[SiteKey],
-) -> Result<SiteKey, ConfigFault>
-    ensures { Gives (λ k. k) result (key_at before.now (view entry.now)) }
-{
-    check_table(entry, Field::SiteKey)?;
-    let id = fresh_key_id(entry, before)?;
-    let secret = secret(alloc, entry, "secret", Field::SiteKeySecret)?;
-    Ok(SiteKey::new(id, secret.as_slice()))
 }
 
 fn fresh_key_id(entry: &Value, before: &[SiteKey]) -> Result<u8, ConfigFault>
@@ -151,43 +148,43 @@ fn read_prefixes<A: Allocator + Copy>(
     alloc: A,
     entry: &Value,
     place: &mut Place,
-) -> Result<Vec<SitePrefix, A>, ConfigFault>
-    ensures { Gives (λ prefixes. prefixes.items) result (prefixes_of (view entry.now)) }
+) -> Result<Keyed<SitePrefix, A>, ConfigFault>
+    ensures { Gives (λ prefixes. prefixes) result (prefixes_of (view entry.now)) }
 {
-    each_prefix(alloc, tables(entry, "prefix", Field::SitePrefix)?, place)
+    read_tables(
+        Keyed::new(alloc),
+        &(),
+        Field::SitePrefix,
+        entry,
+        "prefix",
+        place,
+    )
 }
 
-fn each_prefix<A: Allocator + Copy>(
-    alloc: A,
-    entries: &[Value],
-    place: &mut Place,
-) -> Result<Vec<SitePrefix, A>, ConfigFault>
-    ensures { Gives (λ prefixes. prefixes.items) result (each prefix_at [] (items_view entries.now)) }
-{
-    let mut prefixes = Keyed::new(alloc);
-    for entry in entries {
-        place.enter_part(Field::SitePrefix, prefixes.len());
-        let prefix = read_prefix(entry, &prefixes)?;
-        prefixes.push(prefix)?;
+impl<A: Allocator + Copy> Entries for Keyed<SitePrefix, A> {
+    type Entry = SitePrefix;
+    type Given = ();
+
+    ghost entries = { λ prefixes. prefixes };
+
+    ghost read = { λ _. prefix_at };
+
+    #[tactic(auto, unfolding(crate::specs::Table::prefix_at))]
+    fn read_next(
+        &mut self,
+        _given: &(),
+        entry: &Value,
+        _place: &mut Place,
+    ) -> Result<(), ConfigFault> {
+        check_table(entry, Field::SitePrefix)?;
+        let eid = fresh_eid(entry, self)?;
+        let more_specifics = flag(entry, "more_specifics", Field::SitePrefixMoreSpecifics)?;
+        self.push(SitePrefix {
+            eid,
+            more_specifics,
+        })?;
+        Ok(())
     }
-    place.leave_part();
-    Ok(prefixes.into_vec())
-}
-
-#[tactic(auto, unfolding(crate::specs::Table::prefix_at))]
-fn read_prefix<A: Allocator>(
-    entry: &Value,
-    before: &Keyed<SitePrefix, A>,
-) -> Result<SitePrefix, ConfigFault>
-    ensures { result ≡ prefix_at before.now (view entry.now) }
-{
-    check_table(entry, Field::SitePrefix)?;
-    let eid = fresh_eid(entry, before)?;
-    let more_specifics = flag(entry, "more_specifics", Field::SitePrefixMoreSpecifics)?;
-    Ok(SitePrefix {
-        eid,
-        more_specifics,
-    })
 }
 
 fn fresh_eid<A: Allocator>(
