@@ -1,9 +1,11 @@
 //! Elements that are told apart by keys.
 
-ghost use Rattle.std.specs.Prelude.{◌≡◌, [], ◌∷◌, ◌++◌, OnOk};
+ghost use Rattle.std.specs.Prelude.{◌≡◌, [], ◌∷◌, ◌++◌, OnOk, IfErr};
 ghost use Rattle.std.specs.List.{list_any};
+ghost use Rattle.lisp_sites.specs.declared.fault.ConfigFault.TheVariants.{OutOfMemory};
 
-use std::alloc::{AllocError, Allocator};
+use crate::fault::ConfigFault;
+use std::alloc::Allocator;
 use std::collections::BTreeSet;
 use std::marker::Model;
 
@@ -50,10 +52,11 @@ impl<T: HasKey, A: Allocator + Copy> Keyed<T, A> {
 
     /// Adds an element behind the others.
     #[tactic(auto, using(crate::proofs::Keys::one_more_key))]
-    pub(crate) fn push(&mut self, item: T) -> Result<(), AllocError>
+    pub(crate) fn push(&mut self, item: T) -> Result<(), ConfigFault>
     where
-        T: Drop,
-        ensures { OnOk result (self.new ≡ self.old ++ item ∷ []) }
+        T: Copy,
+        ensures added { OnOk result (self.new ≡ self.old ++ item ∷ []) }
+        ensures memory { IfErr result (λ fault. fault ≡ OutOfMemory) }
     {
         self.items.reserve(1)?;
         self.keys.insert(item.key())?;
@@ -63,11 +66,6 @@ impl<T: HasKey, A: Allocator + Copy> Keyed<T, A> {
 }
 
 impl<T: HasKey, A: Allocator> Keyed<T, A> {
-    /// How many there are.
-    pub(crate) fn len(&self) -> usize {
-        self.items.len()
-    }
-
     /// Whether one of them has the key.
     pub(crate) fn has(&self, key: &T::Key) -> bool
         ensures { result ≡ list_any (λ x. T.Key.eq (T.key x) key.now) self.now }

@@ -1,10 +1,12 @@
 //! Nodes of one kind, and their names.
 
-ghost use Rattle.std.specs.Prelude.{◌≡◌, [], ◌∷◌, ◌++◌, OnOk, position};
+ghost use Rattle.std.specs.Prelude.{◌≡◌, [], ◌∷◌, ◌++◌, OnOk, IfErr, position};
 ghost use Rattle.std.specs.List.{list_any};
 ghost use Rattle.std.specs.Str.{bytes_eq};
+ghost use Rattle.lisp_sites.specs.declared.fault.ConfigFault.TheVariants.{OutOfMemory};
 
-use std::alloc::{AllocError, Allocator};
+use crate::fault::ConfigFault;
+use std::alloc::Allocator;
 use std::collections::BTreeMap;
 use std::marker::Model;
 
@@ -51,13 +53,14 @@ impl<N: Named, A: Allocator + Copy> Nodes<N, A> {
     }
 
     /// Adds a node behind the others.
-    pub(crate) fn push(&mut self, alloc: A, node: N) -> Result<(), AllocError>
+    pub(crate) fn push(&mut self, alloc: A, node: N) -> Result<(), ConfigFault>
     where
         N: Drop,
-        ensures { OnOk result (self.new ≡ self.old ++ node ∷ []) }
+        ensures added { OnOk result (self.new ≡ self.old ++ node ∷ []) }
+        ensures memory { IfErr result (λ fault. fault ≡ OutOfMemory) }
     {
-        let name = String::from_str(alloc, node.name())?;
         self.items.reserve(1)?;
+        let name = String::from_str(alloc, node.name())?;
         self.places.entry(name)?.or_insert(self.items.len());
         self.items.push_reserved(node);
         Ok(())
@@ -65,11 +68,6 @@ impl<N: Named, A: Allocator + Copy> Nodes<N, A> {
 }
 
 impl<N: Named, A: Allocator> Nodes<N, A> {
-    /// How many there are.
-    pub(crate) fn len(&self) -> usize {
-        self.items.len()
-    }
-
     /// The place of the node with a name.
     pub(crate) fn place(&self, name: &str) -> Option<usize>
         ensures { result ≡ position (λ n. bytes_eq (N.name n) name.now) self.now }

@@ -99,34 +99,44 @@ impl<A: Memory + Copy> Entries for Nodes<RouterEntry<A>, A> {
 
     ghost read = { λ network. router_at network.sites network.servers };
 
-    #[tactic(auto, unfolding(crate::specs::Table::router_at))]
     fn read_next(
         &mut self,
         network: &Network<A>,
         entry: &Value,
         place: &mut Place,
     ) -> Result<(), ConfigFault> {
-        let alloc = network.alloc;
-        let (name, address) = read_node(entry, &network.servers, self)?;
-        let (me, key_id) = read_identity(entry, &network.sites)?;
-        let servers = read_places(alloc, entry, &network.servers, place)?;
-        let (proxy, use_ttl) = read_flags(entry)?;
-        let nonce_block = nonce_block(entry, "nonce_block", Field::RouterNonceBlock)?;
-        let database = read_database(alloc, entry, place)?;
-        let router = RouterEntry {
-            name: Name::from_string(String::from_str(alloc, name)?),
-            address,
-            me,
-            key_id,
-            servers: Places::from_vec(servers.into_vec()),
-            proxy,
-            use_ttl,
-            nonce_block,
-            database,
-        };
-        self.push(alloc, router)?;
-        Ok(())
+        let router = read_router(network, entry, self, place)?;
+        self.push(network.alloc, router)
     }
+}
+
+#[tactic(auto, unfolding(crate::specs::Table::router_at))]
+fn read_router<A: Memory + Copy>(
+    network: &Network<A>,
+    entry: &Value,
+    before: &Nodes<RouterEntry<A>, A>,
+    place: &mut Place,
+) -> Result<RouterEntry<A>, ConfigFault>
+    ensures { Gives (λ r. r) result (router_at network.now.sites network.now.servers before.now (view entry.now)) }
+{
+    let alloc = network.alloc;
+    let (name, address) = read_node(entry, &network.servers, before)?;
+    let (me, key_id) = read_identity(entry, &network.sites)?;
+    let servers = read_places(alloc, entry, &network.servers, place)?;
+    let (proxy, use_ttl) = read_flags(entry)?;
+    let nonce_block = nonce_block(entry, "nonce_block", Field::RouterNonceBlock)?;
+    let database = read_database(alloc, entry, place)?;
+    Ok(RouterEntry {
+        name: Name::from_string(String::from_str(alloc, name)?),
+        address,
+        me,
+        key_id,
+        servers: Places::from_vec(servers.into_vec()),
+        proxy,
+        use_ttl,
+        nonce_block,
+        database,
+    })
 }
 
 // Name and address.
@@ -238,8 +248,7 @@ impl<A: Allocator + Copy> Entries for Keyed<usize, A> {
         name: &Value,
         _place: &mut Place,
     ) -> Result<(), ConfigFault> {
-        self.push(fresh_place(name, servers, self)?)?;
-        Ok(())
+        self.push(fresh_place(name, servers, self)?)
     }
 }
 

@@ -79,8 +79,7 @@ impl<A: Allocator + Copy> Entries for Nodes<ServerEntry<A>, A> {
         let name = fresh_server_name(entry, self)?;
         let address = address(entry, "address", Field::ServerAddress)?;
         let name = Name::from_string(String::from_str(*alloc, name)?);
-        self.push(*alloc, ServerEntry { name, address })?;
-        Ok(())
+        self.push(*alloc, ServerEntry { name, address })
     }
 }
 

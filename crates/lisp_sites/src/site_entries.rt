@@ -182,8 +182,7 @@ impl<A: Allocator + Copy> Entries for Keyed<SitePrefix, A> {
         self.push(SitePrefix {
             eid,
             more_specifics,
-        })?;
-        Ok(())
+        })
     }
 }
 
