@@ -4,7 +4,7 @@ ghost use Rattle.std.specs.Prelude.{◌≡◌};
 ghost use Rattle.toml.specs.Parse.{parse_document};
 ghost use Rattle.toml.specs.View.{view};
 ghost use Rattle.lisp_sites.specs.Configuration.{IsConfiguration};
-ghost use Rattle.lisp_sites.specs.Table.{Gives, unplaced, document_of, configuration_of, config_of};
+ghost use Rattle.lisp_sites.specs.Table.{Gives, unplaced, configuration_of, config_of};
 
 use crate::fault::ConfigFault;
 use crate::place::{Place, PlacedFault};
@@ -101,16 +101,8 @@ fn read_text<A: Memory + Copy>(
 ) -> Result<Config<A>, ConfigFault>
     ensures { Gives (λ c. c) result (config_of (parse_document text.now)) }
 {
-    let document = read_document(heap, text)?;
-    read_configuration(alloc, &document, place)
-}
-
-// The text as a TOML value.
-fn read_document(heap: Global, text: &str) -> Result<Value, ConfigFault>
-    ensures { Gives view result (document_of (parse_document text.now)) }
-{
     match toml::table_from_str(heap, text) {
-        Ok(table) => Ok(Value::Table(table)),
+        Ok(table) => read_configuration(alloc, &Value::Table(table), place),
         Err(error) if error.is_memory() => Err(ConfigFault::OutOfMemory),
         Err(_) => Err(ConfigFault::Toml),
     }

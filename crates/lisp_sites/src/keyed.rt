@@ -51,7 +51,7 @@ impl<T: HasKey, A: Allocator + Copy> Keyed<T, A> {
     }
 
     /// Adds an element behind the others.
-    #[tactic(auto, using(crate::proofs::Keys::one_more_key))]
+    #[tactic(auto)]
     pub(crate) fn push(&mut self, item: T) -> Result<(), ConfigFault>
     where
         T: Copy,

@@ -63,10 +63,12 @@ impl Place {
 impl Display for Place {
     /// Each entry with a colon behind it, as in `site 2, key 1: `; nothing for no entry.
     fn fmt<W: Write>(&self, f: &mut Formatter<W>) -> Result<(), Error> {
-        match (self.entry, self.part) {
-            (Some(entry), Some(part)) => write!(f, "{entry}, {part}: "),
-            (Some(entry), None) => write!(f, "{entry}: "),
-            (None, _) => Ok(()),
+        let Some(entry) = self.entry else {
+            return Ok(());
+        };
+        match self.part {
+            Some(part) => write!(f, "{entry}, {part}: "),
+            None => write!(f, "{entry}: "),
         }
     }
 }

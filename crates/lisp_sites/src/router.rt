@@ -120,18 +120,18 @@ fn read_router<A: Memory + Copy>(
     ensures { Gives (λ r. r) result (router_at network.now.sites network.now.servers before.now (view entry.now)) }
 {
     let alloc = network.alloc;
-    let (name, address) = read_node(entry, &network.servers, before)?;
+    let (name, address) = read_node(alloc, entry, &network.servers, before)?;
     let (me, key_id) = read_identity(entry, &network.sites)?;
     let servers = read_places(alloc, entry, &network.servers, place)?;
     let (proxy, use_ttl) = read_flags(entry)?;
     let nonce_block = nonce_block(entry, "nonce_block", Field::RouterNonceBlock)?;
     let database = read_database(alloc, entry, place)?;
     Ok(RouterEntry {
-        name: Name::from_string(String::from_str(alloc, name)?),
+        name,
         address,
         me,
         key_id,
-        servers: Places::from_vec(servers.into_vec()),
+        servers,
         proxy,
         use_ttl,
         nonce_block,
@@ -141,17 +141,18 @@ fn read_router<A: Memory + Copy>(
 
 // Name and address.
 #[tactic(auto, unfolding(crate::specs::Table::router_node))]
-fn read_node<'a, A: Allocator>(
-    entry: &'a Value,
+fn read_node<A: Allocator + Copy>(
+    alloc: A,
+    entry: &Value,
     servers: &Nodes<ServerEntry<A>, A>,
     before: &Nodes<RouterEntry<A>, A>,
-) -> Result<(&'a str, Addr), ConfigFault>
-    ensures { Reads (λ n. (n.0.now, n.1)) result (router_node servers.now before.now (view entry.now)) }
+) -> Result<(Name<A>, Addr), ConfigFault>
+    ensures { Gives (λ n. (n.0, n.1)) result (router_node servers.now before.now (view entry.now)) }
 {
     check_table(entry, Field::Router)?;
     let name = fresh_router_name(entry, servers, before)?;
     let address = address(entry, "address", Field::RouterAddress)?;
-    Ok((name, address))
+    Ok((Name::from_string(String::from_str(alloc, name)?), address))
 }
 
 fn fresh_router_name<'a, A: Allocator>(
@@ -221,17 +222,18 @@ fn read_places<A: Allocator + Copy>(
     entry: &Value,
     servers: &Nodes<ServerEntry<A>, A>,
     place: &mut Place,
-) -> Result<Keyed<usize, A>, ConfigFault>
+) -> Result<Places<A>, ConfigFault>
     ensures { Gives (λ p. p) result (places_of servers.now (view entry.now)) }
 {
     let names = array(entry, "servers", Field::RouterServers)?;
-    read_each(
+    let places = read_each(
         Keyed::new(alloc),
         servers,
         Field::RouterServers,
         names,
         place,
-    )
+    )?;
+    Ok(Places::from_vec(places.into_vec()))
 }
 
 impl<A: Allocator + Copy> Entries for Keyed<usize, A> {
