@@ -9,12 +9,16 @@ use Rattle.toml.specs.Data.{Data, Items, no_items, item, get, as_str}
 use Rattle.lisp_texts.proofs.Options.{bind_some}
 use Rattle.lisp_sites.specs.declared.field.Field.{Field}
 use Rattle.lisp_sites.specs.declared.fault.ConfigFault.{ConfigFault}
-use Rattle.lisp_sites.specs.declared.fault.ConfigFault.TheVariants.{BadValue}
+use Rattle.lisp_sites.specs.declared.fault.ConfigFault.TheVariants.{Missing, BadValue, Repeated}
 use Rattle.lisp_sites.specs.Form.{text_as}
 use Rattle.lisp_records.specs.Result.{◌>>=◌}
 use Rattle.lisp_sites.specs.Table.{required_at, required, fresh, each}
 
 -- ---- one value
+
+-- a fault is no value
+pub not_ok : {X E : Type 0} (w : E) (x : X) → ◌≡◌ {A = Result X E} (Err w) (Ok x) → ⊥
+not_ok w x e = cc e
 
 pub same_ok : {X E : Type 0} (x y : X) → ◌≡◌ {A = Result X E} (Ok x) (Ok y) → x ≡ y
 same_ok x y e = cc
@@ -22,11 +26,11 @@ same_ok x y e = cc
 -- the value of a step that was taken
 pub bind_ok : {A B : Type 0} (r : Result A ConfigFault) (f : A → Result B ConfigFault) (y : B) → (r >>= f) ≡ Ok y → (x : A) × (r ≡ Ok x) × (f x ≡ Ok y)
 bind_ok (Ok x) f y e = (x, refl, e)
-bind_ok (Err w) f y e = cc e
+bind_ok (Err w) f y e = absurd (not_ok w y e)
 
 pub ok_or-Ok : {X : Type 0} (o : Option X) (w : ConfigFault) (x : X) → ok_or o w ≡ Ok x → o ≡ Some x
 ok_or-Ok (Some y) w x e = ap Some (same_ok y x e)
-ok_or-Ok None w x e = cc e
+ok_or-Ok None w x e = absurd (not_ok w x e)
 
 pub result_ok-Some : {X E : Type 0} (r : Result X E) (x : X) → result_ok r ≡ Some x → r ≡ Ok x
 result_ok-Some (Ok y) x e = cc
@@ -41,7 +45,7 @@ pub required-Ok : {X : Type 0} (name : Field) (key : List ℕ) (form : Data → 
 required-Ok {X} name key form entry x e = at (get key entry) e
   where
     at : (found : Option Data) → required_at name form found ≡ Ok x → (v : Data) × (form v ≡ Some x)
-    at None e = cc e
+    at None e = absurd (not_ok (Missing name) x e)
     at (Some v) e = (v, ok_or-Ok (form v) (BadValue name) x e)
 
 -- the same of one that is a text
@@ -59,7 +63,7 @@ fresh-Ok {X} name read is_taken x e =
     (y.1 ∙ ap Ok new.1, subst (λ (z : X). is_taken z ≡ false) new.1 new.0)
   where
     at : (taken : Bool) (y : X) → fresh name taken y ≡ Ok x → (taken ≡ false) × (y ≡ x)
-    at true y e = cc e
+    at true y e = absurd (not_ok (Repeated name) x e)
     at false y e = (refl, same_ok y x e)
 
 -- none of the earlier ones is like it, as a fact

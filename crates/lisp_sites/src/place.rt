@@ -13,9 +13,7 @@ pub struct Entry {
 
 impl Display for Entry {
     fn fmt<W: Write>(&self, f: &mut Formatter<W>) -> Result<(), Error> {
-        let Entry { array, number } = self;
-        let key = array.key();
-        write!(f, "{key} {number}")
+        write!(f, "{} {}", self.array.key(), self.number)
     }
 }
 

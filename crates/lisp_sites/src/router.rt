@@ -73,7 +73,7 @@ pub(crate) struct Network<A: Allocator> {
     pub(crate) servers: Nodes<ServerEntry<A>, A>,
 }
 
-/// The routers of the document, in its order; they name the sites and Map-Servers given.
+/// The routers of the document, in its order; they name sites and Map-Servers of the network.
 pub(crate) fn read_routers<A: Memory + Copy>(
     network: &Network<A>,
     document: &Value,
@@ -81,14 +81,8 @@ pub(crate) fn read_routers<A: Memory + Copy>(
 ) -> Result<Nodes<RouterEntry<A>, A>, ConfigFault>
     ensures { Gives (λ routers. routers) result (routers_of network.now.sites network.now.servers (view document.now)) }
 {
-    read_tables(
-        Nodes::new(network.alloc),
-        network,
-        Field::Router,
-        document,
-        "router",
-        place,
-    )
+    let routers = Nodes::new(network.alloc);
+    read_tables(routers, network, Field::Router, document, "router", place)
 }
 
 impl<A: Memory + Copy> Entries for Nodes<RouterEntry<A>, A> {
@@ -250,22 +244,12 @@ impl<A: Allocator + Copy> Entries for Keyed<usize, A> {
         name: &Value,
         _place: &mut Place,
     ) -> Result<(), ConfigFault> {
-        self.push(fresh_place(name, servers, self)?)
+        let server = place(name, servers)?;
+        if self.has(&server) {
+            return Err(ConfigFault::Repeated(Field::RouterServers));
+        }
+        self.push(server)
     }
-}
-
-fn fresh_place<A: Allocator>(
-    name: &Value,
-    servers: &Nodes<ServerEntry<A>, A>,
-    before: &Keyed<usize, A>,
-) -> Result<usize, ConfigFault>
-    ensures { result ≡ place_at servers.now before.now (view name.now) }
-{
-    let place = place(name, servers)?;
-    if before.has(&place) {
-        return Err(ConfigFault::Repeated(Field::RouterServers));
-    }
-    Ok(place)
 }
 
 fn place<A: Allocator>(
@@ -329,19 +313,13 @@ impl<A: Memory + Copy> Entries for Vec<MapRecord<A>, A> {
         text: &Value,
         _place: &mut Place,
     ) -> Result<(), ConfigFault> {
-        self.push(read_record(*alloc, text)?)?;
+        let Some(text) = text.as_str() else {
+            return Err(ConfigFault::BadValue(Field::RouterRecords));
+        };
+        let Some(record) = record_from_text(*alloc, text)? else {
+            return Err(ConfigFault::BadValue(Field::RouterRecords));
+        };
+        self.push(record)?;
         Ok(())
-    }
-}
-
-fn read_record<A: Memory + Copy>(alloc: A, text: &Value) -> Result<MapRecord<A>, ConfigFault>
-    ensures { Gives (λ r. r) result (record_at [] (view text.now)) }
-{
-    let Some(text) = text.as_str() else {
-        return Err(ConfigFault::BadValue(Field::RouterRecords));
-    };
-    match record_from_text(alloc, text)? {
-        Some(record) => Ok(record),
-        None => Err(ConfigFault::BadValue(Field::RouterRecords)),
     }
 }

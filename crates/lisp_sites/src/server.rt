@@ -3,7 +3,7 @@
 ghost use Rattle.std.specs.Prelude.{◌≡◌, []};
 ghost use Rattle.toml.specs.View.{view, items_view};
 ghost use Rattle.lisp_records.specs.Result.{Reads};
-ghost use Rattle.lisp_sites.specs.Table.{Gives, fresh_server_name, server_at, servers_of};
+ghost use Rattle.lisp_sites.specs.Table.{Gives, server_at, servers_of};
 
 use crate::fault::ConfigFault;
 use crate::entries::{Entries, read_tables};
@@ -50,14 +50,8 @@ pub(crate) fn read_servers<A: Allocator + Copy>(
 ) -> Result<Nodes<ServerEntry<A>, A>, ConfigFault>
     ensures { Gives (λ servers. servers) result (servers_of (view document.now)) }
 {
-    read_tables(
-        Nodes::new(alloc),
-        &alloc,
-        Field::Server,
-        document,
-        "server",
-        place,
-    )
+    let servers = Nodes::new(alloc);
+    read_tables(servers, &alloc, Field::Server, document, "server", place)
 }
 
 impl<A: Allocator + Copy> Entries for Nodes<ServerEntry<A>, A> {
@@ -76,22 +70,12 @@ impl<A: Allocator + Copy> Entries for Nodes<ServerEntry<A>, A> {
         _place: &mut Place,
     ) -> Result<(), ConfigFault> {
         check_table(entry, Field::Server)?;
-        let name = fresh_server_name(entry, self)?;
+        let name = name(entry, "name", Field::ServerName)?;
+        if self.has(name) {
+            return Err(ConfigFault::Repeated(Field::ServerName));
+        }
         let address = address(entry, "address", Field::ServerAddress)?;
         let name = Name::from_string(String::from_str(*alloc, name)?);
         self.push(*alloc, ServerEntry { name, address })
     }
-}
-
-fn fresh_server_name<'a, A: Allocator>(
-    entry: &'a Value,
-    before: &Nodes<ServerEntry<A>, A>,
-) -> Result<&'a str, ConfigFault>
-    ensures { Reads (λ n. n.now) result (fresh_server_name before.now (view entry.now)) }
-{
-    let name = name(entry, "name", Field::ServerName)?;
-    if before.has(name) {
-        return Err(ConfigFault::Repeated(Field::ServerName));
-    }
-    Ok(name)
 }

@@ -3,7 +3,7 @@
 ghost use Rattle.std.specs.Prelude.{◌≡◌, [], is_some};
 ghost use Rattle.toml.specs.View.{view, items_view};
 ghost use Rattle.lisp_served.specs.Site.{has_key};
-ghost use Rattle.lisp_sites.specs.Table.{Gives, fresh_key_id, key_at, keys_of, has_eid, fresh_eid, prefix_at, prefixes_of, has_site, fresh_site_id, site_at, sites_of};
+ghost use Rattle.lisp_sites.specs.Table.{Gives, fresh_key_id, key_at, has_eid, prefix_at, has_site, fresh_site_id, site_at, sites_of};
 
 use crate::fault::ConfigFault;
 use crate::entries::{Entries, read_tables};
@@ -25,14 +25,8 @@ pub(crate) fn read_sites<A: Memory + Copy>(
 ) -> Result<Sites<A>, ConfigFault>
     ensures { Gives (λ sites. sites) result (sites_of (view document.now)) }
 {
-    read_tables(
-        Sites::new(alloc),
-        &alloc,
-        Field::Site,
-        document,
-        "site",
-        place,
-    )
+    let sites = Sites::new(alloc);
+    read_tables(sites, &alloc, Field::Site, document, "site", place)
 }
 
 impl<A: Memory + Copy> Entries for Sites<A> {
@@ -52,8 +46,10 @@ impl<A: Memory + Copy> Entries for Sites<A> {
     ) -> Result<(), ConfigFault> {
         check_table(entry, Field::Site)?;
         let id = fresh_site_id(entry, self)?;
-        let keys = read_keys(*alloc, entry, place)?;
-        let prefixes = read_prefixes(*alloc, entry, place)?;
+        let keys = Vec::new(*alloc);
+        let keys = read_tables(keys, alloc, Field::SiteKey, entry, "key", place)?;
+        let prefixes = Keyed::new(*alloc);
+        let prefixes = read_tables(prefixes, &(), Field::SitePrefix, entry, "prefix", place)?;
         self.push(Site::new(*alloc, id, keys, prefixes.into_vec())?)?;
         Ok(())
     }
@@ -73,24 +69,6 @@ fn has_site<A: Allocator>(sites: &Sites<A>, id: u64) -> bool
     ensures { result ≡ has_site sites.now id }
 {
     sites.site(id).is_some()
-}
-
-// The keys of a site.
-fn read_keys<A: Allocator + Copy>(
-    alloc: A,
-    entry: &Value,
-    place: &mut Place,
-) -> Result<Vec<SiteKey, A>, ConfigFault>
-    ensures { Gives (λ keys. keys.items) result (keys_of (view entry.now)) }
-{
-    read_tables(
-        Vec::new(alloc),
-        &alloc,
-        Field::SiteKey,
-        entry,
-        "key",
-        place,
-    )
 }
 
 impl<A: Allocator + Copy> Entries for Vec<SiteKey, A> {
@@ -143,24 +121,6 @@ impl HasKey for SitePrefix {
     }
 }
 
-// The prefixes of a site.
-fn read_prefixes<A: Allocator + Copy>(
-    alloc: A,
-    entry: &Value,
-    place: &mut Place,
-) -> Result<Keyed<SitePrefix, A>, ConfigFault>
-    ensures { Gives (λ prefixes. prefixes) result (prefixes_of (view entry.now)) }
-{
-    read_tables(
-        Keyed::new(alloc),
-        &(),
-        Field::SitePrefix,
-        entry,
-        "prefix",
-        place,
-    )
-}
-
 impl<A: Allocator + Copy> Entries for Keyed<SitePrefix, A> {
     type Entry = SitePrefix;
     type Given = ();
@@ -177,26 +137,16 @@ impl<A: Allocator + Copy> Entries for Keyed<SitePrefix, A> {
         _place: &mut Place,
     ) -> Result<(), ConfigFault> {
         check_table(entry, Field::SitePrefix)?;
-        let eid = fresh_eid(entry, self)?;
+        let eid = prefix(entry, "eid", Field::SitePrefixEid)?;
+        if has_eid(self, &eid) {
+            return Err(ConfigFault::Repeated(Field::SitePrefixEid));
+        }
         let more_specifics = flag(entry, "more_specifics", Field::SitePrefixMoreSpecifics)?;
         self.push(SitePrefix {
             eid,
             more_specifics,
         })
     }
-}
-
-fn fresh_eid<A: Allocator>(
-    entry: &Value,
-    before: &Keyed<SitePrefix, A>,
-) -> Result<Prefix, ConfigFault>
-    ensures { result ≡ fresh_eid before.now (view entry.now) }
-{
-    let eid = prefix(entry, "eid", Field::SitePrefixEid)?;
-    if has_eid(before, &eid) {
-        return Err(ConfigFault::Repeated(Field::SitePrefixEid));
-    }
-    Ok(eid)
 }
 
 // Whether one of the prefixes has the EID-Prefix.
