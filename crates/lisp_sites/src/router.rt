@@ -4,10 +4,10 @@ ghost use Rattle.std.specs.Prelude.{◌≡◌, []};
 ghost use Rattle.toml.specs.View.{view, items_view};
 ghost use Rattle.lisp_records.specs.Result.{Reads};
 ghost use Rattle.lisp_served.specs.Site.{has_key};
-ghost use Rattle.lisp_sites.specs.Table.{Gives, fresh_router_name, router_node, router_site, router_key, router_identity, place_of, place_at, places_of, router_flags, record_at, as_database, database_at, router_at, routers_of};
+ghost use Rattle.lisp_sites.specs.Table.{Gives, router_node, router_site, router_key, router_identity, place_of, place_at, places_of, router_flags, record_at, as_database, database_at, router_at, routers_of};
 
-use crate::fault::ConfigFault;
 use crate::entries::{Entries, read_each, read_tables};
+use crate::fault::ConfigFault;
 use crate::field::Field;
 use crate::keyed::Keyed;
 use crate::name::Name;
@@ -15,9 +15,7 @@ use crate::nodes::{Named, Nodes};
 use crate::place::Place;
 use crate::places::Places;
 use crate::server::ServerEntry;
-use crate::value::{
-    address, array, byte, check_table, flag, name, nonce_block, site_id, xtr,
-};
+use crate::value::{address, array, byte, check_table, flag, name, nonce_block, site_id, xtr};
 use lisp_memory::Memory;
 use lisp_records::{Addr, Database, MapRecord, RouterId};
 use lisp_served::{Site, Sites};
@@ -87,6 +85,7 @@ pub(crate) fn read_routers<A: Memory + Copy>(
 
 impl<A: Memory + Copy> Entries for Nodes<RouterEntry<A>, A> {
     type Entry = RouterEntry<A>;
+
     type Given = Network<A>;
 
     ghost entries = { λ routers. routers };
@@ -133,7 +132,7 @@ fn read_router<A: Memory + Copy>(
     })
 }
 
-// Name and address.
+// Name, which no other node has, and address.
 #[tactic(auto, unfolding(crate::specs::Table::router_node))]
 fn read_node<A: Allocator + Copy>(
     alloc: A,
@@ -144,23 +143,12 @@ fn read_node<A: Allocator + Copy>(
     ensures { Gives (λ n. (n.0, n.1)) result (router_node servers.now before.now (view entry.now)) }
 {
     check_table(entry, Field::Router)?;
-    let name = fresh_router_name(entry, servers, before)?;
-    let address = address(entry, "address", Field::RouterAddress)?;
-    Ok((Name::from_string(String::from_str(alloc, name)?), address))
-}
-
-fn fresh_router_name<'a, A: Allocator>(
-    entry: &'a Value,
-    servers: &Nodes<ServerEntry<A>, A>,
-    before: &Nodes<RouterEntry<A>, A>,
-) -> Result<&'a str, ConfigFault>
-    ensures { Reads (λ n. n.now) result (fresh_router_name servers.now before.now (view entry.now)) }
-{
     let name = name(entry, "name", Field::RouterName)?;
     if servers.has(name) || before.has(name) {
         return Err(ConfigFault::Repeated(Field::RouterName));
     }
-    Ok(name)
+    let address = address(entry, "address", Field::RouterAddress)?;
+    Ok((Name::from_string(String::from_str(alloc, name)?), address))
 }
 
 // Site, xTR-ID and key.
@@ -232,6 +220,7 @@ fn read_places<A: Allocator + Copy>(
 
 impl<A: Allocator + Copy> Entries for Keyed<usize, A> {
     type Entry = usize;
+
     type Given = Nodes<ServerEntry<A>, A>;
 
     ghost entries = { λ places. places };
@@ -301,6 +290,7 @@ fn read_database<A: Memory + Copy>(
 
 impl<A: Memory + Copy> Entries for Vec<MapRecord<A>, A> {
     type Entry = MapRecord<A>;
+
     type Given = A;
 
     ghost entries = { λ records. records.items };

@@ -5,8 +5,8 @@ ghost use Rattle.toml.specs.View.{view, items_view};
 ghost use Rattle.lisp_records.specs.Result.{Reads};
 ghost use Rattle.lisp_sites.specs.Table.{Gives, server_at, servers_of};
 
-use crate::fault::ConfigFault;
 use crate::entries::{Entries, read_tables};
+use crate::fault::ConfigFault;
 use crate::field::Field;
 use crate::name::Name;
 use crate::nodes::{Named, Nodes};
@@ -56,6 +56,7 @@ pub(crate) fn read_servers<A: Allocator + Copy>(
 
 impl<A: Allocator + Copy> Entries for Nodes<ServerEntry<A>, A> {
     type Entry = ServerEntry<A>;
+
     type Given = A;
 
     ghost entries = { λ servers. servers };

@@ -5,8 +5,8 @@ ghost use Rattle.toml.specs.View.{view, items_view};
 ghost use Rattle.lisp_served.specs.Site.{has_key};
 ghost use Rattle.lisp_sites.specs.Table.{Gives, fresh_key_id, key_at, has_eid, prefix_at, has_site, fresh_site_id, site_at, sites_of};
 
-use crate::fault::ConfigFault;
 use crate::entries::{Entries, read_tables};
+use crate::fault::ConfigFault;
 use crate::field::Field;
 use crate::keyed::{HasKey, Keyed};
 use crate::place::Place;
@@ -31,6 +31,7 @@ pub(crate) fn read_sites<A: Memory + Copy>(
 
 impl<A: Memory + Copy> Entries for Sites<A> {
     type Entry = Site<A>;
+
     type Given = A;
 
     ghost entries = { λ sites. sites };
@@ -73,6 +74,7 @@ fn has_site<A: Allocator>(sites: &Sites<A>, id: u64) -> bool
 
 impl<A: Allocator + Copy> Entries for Vec<SiteKey, A> {
     type Entry = SiteKey;
+
     type Given = A;
 
     ghost entries = { λ keys. keys.items };
@@ -123,6 +125,7 @@ impl HasKey for SitePrefix {
 
 impl<A: Allocator + Copy> Entries for Keyed<SitePrefix, A> {
     type Entry = SitePrefix;
+
     type Given = ();
 
     ghost entries = { λ prefixes. prefixes };
