@@ -13,7 +13,7 @@ use crate::authentication::sign;
 use crate::fault::ReadFault;
 use crate::kind::Kind;
 use crate::reading::read_nonce;
-use crate::writing::{common_head, make_room, put_records};
+use crate::writing::{head, make_room, put_records};
 use lisp_hmac::Key;
 use lisp_memory::{FallibleCopies, Memory};
 use lisp_records::{MapRecord, Records};
@@ -109,8 +109,8 @@ fn put_notify<A: Memory, B: Allocator>(
     };
     let records = message.records.as_slice();
     make_room(out, records.len())?;
-    out.try_extend_from_slice(&[kind.number() * 16, 0, 0])?;
-    out.try_extend_from_slice(&common_head(records.len() as u8, message.nonce, message.key_id))?;
+    let (count, nonce, key_id) = (records.len() as u8, message.nonce, message.key_id);
+    out.try_extend_from_slice(&head(kind.number() * 16, 0, count, nonce, key_id))?;
     put_records(out, records)?;
     Ok(())
 }

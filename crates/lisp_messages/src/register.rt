@@ -15,7 +15,7 @@ use crate::authentication::sign;
 use crate::fault::ReadFault;
 use crate::kind::Kind;
 use crate::reading::read_nonce;
-use crate::writing::{common_head, make_room, put_records};
+use crate::writing::{head, make_room, put_records};
 use lisp_hmac::Key;
 use lisp_memory::{FallibleCopies, Memory};
 use lisp_records::{MapRecord, Records, is_set};
@@ -120,27 +120,10 @@ fn put_register<A: Memory, B: Allocator>(
 {
     let records = message.records.as_slice();
     make_room(out, records.len())?;
-    put_head(out, message)?;
+    let (count, nonce, key_id) = (records.len() as u8, message.nonce, message.key_id);
+    out.try_extend_from_slice(&head(kind_of(message), flags_of(message), count, nonce, key_id))?;
     put_records(out, records)?;
     put_ids(out, message.xtr, message.site)?;
-    Ok(())
-}
-
-// The 32 bytes before the records, the Authentication Data zeros.
-fn put_head<A: Memory, B: Allocator>(
-    out: &mut Vec<u8, A>,
-    message: &MapRegister<B>,
-) -> Result<(), AllocError>
-    requires { out.old.items ≡ [] }
-    ensures head { OnOk result (out.new.items ≡ written_register_head message.now (replicate 16 0)) }
-    ensures fits { (message.now.nonce < 2 ^ 64) × (message.now.key_id < 256) }
-    ensures few { length message.now.records < 256 }
-    ensures memory { OnErr result A.may_refuse }
-{
-    let count = message.records.as_slice().len() as u8;
-    let common = common_head(count, message.nonce, message.key_id);
-    out.try_extend_from_slice(&[kind_of(message), 0, flags_of(message)])?;
-    out.try_extend_from_slice(&common)?;
     Ok(())
 }
 

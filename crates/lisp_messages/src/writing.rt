@@ -1,11 +1,11 @@
 //! What is written in each message alike.
 
-ghost use Rattle.std.specs.Prelude.{◌≡◌, ◌++◌, ◌<◌, ◌^◌, length, replicate, All, OnErr, OnOk};
+ghost use Rattle.std.specs.Prelude.{◌≡◌, ◌∷◌, ◌++◌, ◌<◌, ◌^◌, length, replicate, All, OnErr, OnOk};
 ghost use Rattle.lisp_records.specs.Record.{IsMapping};
 ghost use Rattle.lisp_messages.specs.Spelling.{common};
 ghost use Rattle.lisp_messages.specs.Written.{written_records};
 
-use crate::reading::HMAC_SHA_256_128_NONE;
+use crate::reading::{HEAD_LEN, HMAC_SHA_256_128_NONE};
 use lisp_hmac::TAG_LEN;
 use lisp_memory::{FallibleVec, Memory};
 use lisp_records::{MapRecord, write_record};
@@ -17,15 +17,17 @@ const MESSAGE_LEN: usize = 56;
 // The bytes of a record with one IPv4 locator.
 const RECORD_LEN: usize = 28;
 
-/// The bytes from the Record Count to the Authentication Data, that one as zeros.
+/// The bytes before the records, by the first byte, the third and the fields of each message; the Authentication Data
+/// as zeros.
 #[rattlefmt::skip]
-pub(crate) fn common_head(count: u8, nonce: u64, key_id: u8) -> [u8; 29]
-    ensures head { result ≡ common count nonce key_id (replicate 16 0) }
+pub(crate) fn head(kind: u8, flags: u8, count: u8, nonce: u64, key_id: u8) -> [u8; HEAD_LEN]
+    ensures head { result ≡ kind ∷ 0 ∷ flags ∷ common count nonce key_id (replicate 16 0) }
     ensures fits { (nonce < 2 ^ 64) × (key_id < 256) }
 {
     let [n0, n1, n2, n3, n4, n5, n6, n7] = nonce.to_be_bytes();
     [
-        count, n0, n1, n2, n3, n4, n5, n6, n7, key_id, HMAC_SHA_256_128_NONE, 0, TAG_LEN as u8,
+        kind, 0, flags, count, n0, n1, n2, n3, n4, n5, n6, n7,
+        key_id, HMAC_SHA_256_128_NONE, 0, TAG_LEN as u8,
         0, 0, 0, 0, 0, 0, 0, 0, 0, 0, 0, 0, 0, 0, 0, 0,
     ]
 }

@@ -38,7 +38,7 @@ high_bits-le : (byte k : ℕ) → high_bits byte k ≤ byte
 high_bits-le byte k = omega (arith, shr_split byte (8 - k))
 
 -- bytes with bits cleared are bytes
-masked-bytes : (bytes : List ℕ) (n : ℕ) → AllByRecursion (λ b. b < 256) bytes → AllByRecursion (λ b. b < 256) (masked bytes n)
+pub masked-bytes : (bytes : List ℕ) (n : ℕ) → AllByRecursion (λ b. b < 256) bytes → AllByRecursion (λ b. b < 256) (masked bytes n)
 unfolding masked
 masked-bytes [] n all = tt
 masked-bytes (byte ∷ bytes) n all = (omega (arith, all.0, high_bits-le byte (min n 8)), masked-bytes bytes (n - 8) all.1)

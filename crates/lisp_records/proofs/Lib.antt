@@ -6,7 +6,7 @@ pub mod FitLaws
 pub mod Grown
 pub mod LocatorLaws
 pub mod Loop
-pub mod Masks
+pub mod Numbers
 pub mod Positions
 pub mod RecordLaws
 pub mod RisingLaws

@@ -1,9 +1,8 @@
 //! Addresses of the two families that EIDs and locators may have.
 
-ghost use Rattle.std.specs.Prelude.{◌≡◌, ◌*◌, ◌<◌, ◌≤◌, ◌++◌, length, if◌then◌else◌, is_ok, IfOk, IsErrOf, OnErr};
+ghost use Rattle.std.specs.Prelude.{◌≡◌, ◌*◌, ◌/◌, ◌^◌, ◌<◌, ◌≤◌, ◌++◌, if◌then◌else◌, is_ok, IfOk, IsErrOf, OnErr};
 ghost use Rattle.std.specs.List.{AllByRecursion};
-ghost use Rattle.std.specs.Str.{bytes_eq};
-ghost use Rattle.lisp_records.specs.Address.{afi, width, family, octets, IsWhole, high_bits, masked, cleared, addr_eq};
+ghost use Rattle.lisp_records.specs.Address.{afi, width, family, octets, IsWhole, cleared, addr_eq, addr_cmp};
 ghost use Rattle.lisp_records.specs.Result.{Reads};
 ghost use Rattle.lisp_records.specs.Reading.{family_of, address_at};
 ghost use Rattle.lisp_records.specs.declared.fault.RecordFault.{RecordFault};
@@ -11,6 +10,7 @@ ghost use Rattle.lisp_records.specs.declared.fault.RecordFault.{RecordFault};
 use crate::fault::RecordFault;
 use lisp_memory::{FallibleCopies, Memory};
 use std::alloc::AllocError;
+use std::cmp::Ordering;
 
 /// An address family, as an AFI field names it (RFC 9301 section 5.4).
 #[derive(Clone, Copy, Debug, PartialEq, Eq)]
@@ -97,27 +97,41 @@ impl Addr {
         ensures cleared { result ≡ cleared self mask_len }
         ensures whole { IsWhole result }
     {
+        // A proof learns here that each byte is below 256.
+        let _ = self.octets();
         match self {
-            Addr::V4(mut bytes) => {
-                clear_past(&mut bytes, mask_len);
-                Addr::V4(bytes)
+            Addr::V4(bytes) => {
+                let past = u32::from(32_u8.saturating_sub(mask_len));
+                Addr::V4(clear_last_u32(u32::from_be_bytes(bytes), past).to_be_bytes())
             }
-            Addr::V6(mut bytes) => {
-                clear_past(&mut bytes, mask_len);
-                Addr::V6(bytes)
+            Addr::V6(bytes) => {
+                let past = u32::from(128_u8.saturating_sub(mask_len));
+                Addr::V6(clear_last_u128(u128::from_be_bytes(bytes), past).to_be_bytes())
             }
         }
     }
 
     /// Whether the address is in the block of a first address and a mask length.
     pub(crate) fn is_in(&self, first: &Addr, mask_len: u8) -> bool
-        requires { cleared first.now mask_len ≡ first.now }
         ensures { result ≡ addr_eq (cleared self.now mask_len) first.now }
     {
-        match (self, first) {
-            (Addr::V4(bytes), Addr::V4(first)) => are_in(bytes, first, mask_len),
-            (Addr::V6(bytes), Addr::V6(first)) => are_in(bytes, first, mask_len),
-            _ => false,
+        self.cleared(mask_len) == *first
+    }
+
+    /// As `cmp`, by the numbers that the bytes spell.
+    pub(crate) fn order(&self, other: &Addr) -> Ordering
+        requires whole { IsWhole self.now × IsWhole other.now }
+        ensures { result ≡ addr_cmp self.now other.now }
+    {
+        match (self, other) {
+            (Addr::V4(one), Addr::V4(other)) => {
+                u32::from_be_bytes(*one).cmp(&u32::from_be_bytes(*other))
+            }
+            (Addr::V6(one), Addr::V6(other)) => {
+                u128::from_be_bytes(*one).cmp(&u128::from_be_bytes(*other))
+            }
+            (Addr::V4(_), Addr::V6(_)) => Ordering::Less,
+            (Addr::V6(_), Addr::V4(_)) => Ordering::Greater,
         }
     }
 }
@@ -167,53 +181,24 @@ pub(crate) fn put_octets<A: Memory>(out: &mut Vec<u8, A>, addr: &Addr) -> Result
     }
 }
 
-// As `is_in`, byte by byte, as far as the mask goes.
-fn are_in(bytes: &[u8], first: &[u8], mask_len: u8) -> bool
-    requires width { length bytes.now ≡ length first.now }
-    requires block { masked first.now mask_len ≡ first.now }
-    ensures { result ≡ bytes_eq (masked bytes.now mask_len) first.now }
+// The number with its last bits cleared, so many.
+fn clear_last_u32(number: u32, count: u32) -> u32
+    requires { count ≤ 32 }
+    ensures { result ≡ number / 2 ^ count * 2 ^ count }
 {
-    let mut left = mask_len;
-    for (i, byte) in bytes.iter().enumerate() {
-        if left == 0 {
-            return true;
-        }
-        let kept = left.min(8);
-        if first_bits(*byte, kept) != first[i] {
-            return false;
-        }
-        left -= kept;
-    }
-    true
-}
-
-// Clears all bits but the first `mask_len`.
-fn clear_past(bytes: &mut [u8], mask_len: u8)
-    ensures cleared { bytes.new ≡ masked bytes.old mask_len }
-    ensures bytes { AllByRecursion (λ n. n < 256) bytes.new }
-{
-    let whole = usize::from(mask_len / 8).min(bytes.len());
-    let (_, past) = bytes.split_at_mut(whole);
-    clear_each(past, mask_len % 8);
-}
-
-// As `clear_past`, byte by byte.
-fn clear_each(bytes: &mut [u8], mask_len: u8)
-    ensures { bytes.new ≡ masked bytes.old mask_len }
-{
-    let mut left = mask_len;
-    for byte in bytes.iter_mut() {
-        let kept = left.min(8);
-        *byte = first_bits(*byte, kept);
-        left -= kept;
+    match number.checked_shr(count) {
+        Some(kept) => kept << count,
+        None => 0,
     }
 }
 
-// The byte with all but its first `count` bits cleared.
-fn first_bits(byte: u8, count: u8) -> u8
-    requires { count ≤ 8 }
-    ensures { result ≡ high_bits byte count }
+// As `clear_last_u32`.
+fn clear_last_u128(number: u128, count: u32) -> u128
+    requires { count ≤ 128 }
+    ensures { result ≡ number / 2 ^ count * 2 ^ count }
 {
-    let cleared = 8 - count;
-    (u16::from(byte) >> cleared << cleared) as u8
+    match number.checked_shr(count) {
+        Some(kept) => kept << count,
+        None => 0,
+    }
 }

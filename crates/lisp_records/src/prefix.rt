@@ -1,9 +1,10 @@
 //! EID-Prefixes: blocks of addresses.
 
 ghost use Rattle.std.specs.Prelude.{◌≡◌, ◌≤◌, ◌↔◌, IsTrue, IsSome, IfSome};
-ghost use Rattle.lisp_records.specs.Address.{IsWhole, IsBlock, Covers, covers, Holds, holds, max_len, cleared};
+ghost use Rattle.lisp_records.specs.Address.{IsWhole, IsBlock, Covers, covers, Holds, holds, max_len, cleared, block_cmp};
 
 use crate::address::Addr;
+use std::cmp::Ordering;
 use std::marker::Model;
 
 /// A block of addresses: those that begin with the first `mask_len` bits of `addr`. Prefixes are
@@ -67,6 +68,16 @@ impl Prefix {
         ensures { result.now ≡ self.now.addr }
     {
         &self.addr
+    }
+
+    /// As `cmp`, but the bytes of the addresses are compared as numbers.
+    pub(crate) fn order(&self, other: &Prefix) -> Ordering
+        ensures { result ≡ block_cmp self.now other.now }
+    {
+        match self.addr.order(&other.addr) {
+            Ordering::Equal => self.mask_len.cmp(&other.mask_len),
+            order => order,
+        }
     }
 
     /// How many leading bits the addresses of the block share.

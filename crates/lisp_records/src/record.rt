@@ -140,7 +140,7 @@ impl<A: Allocator> MapRecord<A> {
     pub fn eid_cmp<B: Allocator>(&self, other: &MapRecord<B>) -> Ordering
         ensures { result ≡ block_cmp self.now.eid other.now.eid }
     {
-        Prefix::cmp(&self.eid, &other.eid)
+        Prefix::order(&self.eid, &other.eid)
     }
 
     /// The locators, in the record's order; at most 255.

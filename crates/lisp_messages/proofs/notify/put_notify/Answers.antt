@@ -5,4 +5,4 @@ use Rattle.lisp_messages.proofs.notify.put_notify.Goals as goal
 pub returns-clause-known : goal.returns-clause-known
 returns-clause-known g c =
     let known = rw c.as_slice-records.ensures at c.in_ok-put_records.ensures.known in
-    rw (← c.message.view_is) (record { nonce = c.common_head.ensures.fits.0; key = c.common_head.ensures.fits.1; records = (c.message.invariant, recursion_from_All IsMapping c.message.inside.records known) })
+    rw (← c.message.view_is) (record { nonce = c.head.ensures.fits.0; key = c.head.ensures.fits.1; records = (c.message.invariant, recursion_from_All IsMapping c.message.inside.records known) })

@@ -6,9 +6,9 @@ pub returns-clause-known : goal.returns-clause-known
 returns-clause-known g c =
     let known = rw c.as_slice-records.ensures at c.in_ok-put_records.ensures.known in
     rw (← c.message.view_is) (record {
-      nonce = (rw (← c.message.view_is) at c.in_ok-put_head.ensures.fits).0;
-      key = (rw (← c.message.view_is) at c.in_ok-put_head.ensures.fits).1;
-      records = (rw (← c.message.view_is) at c.in_ok-put_head.ensures.few, recursion_from_All IsMapping c.message.inside.records known);
+      nonce = c.head.ensures.fits.0;
+      key = c.head.ensures.fits.1;
+      records = (c.message.invariant, recursion_from_All IsMapping c.message.inside.records known);
       xtr = c.in_ok-put_ids.ensures.fits.0;
       xtr_bytes = c.in_ok-put_ids.ensures.bytes;
       site = c.in_ok-put_ids.ensures.fits.1;
