@@ -1,6 +1,7 @@
 -- What is known of an answer of `read_message`.
 use Rattle.std.proofs.Common.{◌≡◌, ℕ, List, Result, Ok, Err, sym, ◌∙◌}
 use Rattle.std.specs.Prelude.{IfOk}
+use Rattle.lisp_records.specs.Result.{Reads}
 use Rattle.lisp_records.specs.Spelling.{IsBytes}
 use Rattle.lisp_messages.specs.declared.fault.ReadFault.{ReadFault}
 use Rattle.lisp_messages.specs.declared.fault.ReadFault.TheVariants as faults
@@ -32,3 +33,15 @@ Fails-never (faults.Record i f) bytes x reads fails = sym reads ∙ fails
 pub message_only : {A : Type 0} (bytes : List ℕ) (r : Result (Message A) ReadFault) → Gives said r (message_at bytes) → (x : Said) → Spells bytes x → Gives said r (Ok x)
 message_only bytes (Ok m) given x spells = sym (message_again bytes x spells) ∙ given
 message_only bytes (Err e) given x spells = Fails-never e bytes x (message_again bytes x spells) given
+
+-- what is read with its fault is given
+pub reads_gives : {X : Type 0} (view : X → Said) (r : Result X ReadFault) (read : Result Said ReadFault) → Reads view r read → Gives view r read
+reads_gives view (Ok x) read is = is
+reads_gives view (Err faults.OutOfMemory) read is = tt
+reads_gives view (Err faults.Short) read is = is
+reads_gives view (Err faults.Kind) read is = is
+reads_gives view (Err faults.Algorithm) read is = is
+reads_gives view (Err faults.AuthLength) read is = is
+reads_gives view (Err faults.NoIds) read is = is
+reads_gives view (Err faults.Trailing) read is = is
+reads_gives view (Err (faults.Record i f)) read is = is

@@ -3,6 +3,7 @@
 ghost use Rattle.std.specs.Prelude.{◌≡◌, ◌<◌, ◌≤◌, [], length, replicate, IfOk, IsErrOf, OnOk, OnErr};
 ghost use Rattle.lisp_messages.specs.declared.fault.ReadFault.{ReadFault};
 ghost use Rattle.lisp_messages.specs.Message.{Notifies, IsNotification};
+ghost use Rattle.lisp_messages.specs.Meaning.{said};
 ghost use Rattle.lisp_messages.specs.Spelling.{Spells};
 ghost use Rattle.lisp_messages.specs.Authentic.{IsAuthentic, signed};
 ghost use Rattle.lisp_messages.specs.Written.{written_notify};
@@ -12,6 +13,7 @@ ghost use Rattle.lisp_messages.specs.Reading.{notify_at};
 use crate::authentication::sign;
 use crate::fault::ReadFault;
 use crate::kind::Kind;
+use crate::message::Message;
 use crate::reading::read_nonce;
 use crate::writing::{head, make_room, put_records};
 use lisp_hmac::Key;
@@ -46,29 +48,29 @@ impl<A: Allocator> Model for MapNotify<A> {
     ghost invariant = { λ m. length m.records < 256 };
 }
 
-/// The Map-Notify, or Map-Notify-Ack, of these bytes and records; `Trailing` where neither nothing
-/// nor 24 bytes stand after the records.
+/// The message that is a Map-Notify, or Map-Notify-Ack, of these bytes and records; `Trailing` where
+/// neither nothing nor 24 bytes stand after the records.
 #[tactic(auto, unfolding(crate::specs::Reading::notify_at))]
 pub(crate) fn read_notify<A: Allocator>(
     ack: bool,
     bytes: &[u8],
     records: Vec<MapRecord<A>, A>,
     tail: &[u8],
-) -> Result<MapNotify<A>, ReadFault>
+) -> Result<Message<A>, ReadFault>
     requires head { 32 ≤ length bytes.now }
     requires few { length records.items < 256 }
-    ensures read { Reads Notifies result (notify_at ack bytes.now records.items tail.now) }
+    ensures read { Reads said result (notify_at ack bytes.now records.items tail.now) }
     ensures plain { ¬ (IsErrOf result ReadFault.OutOfMemory) }
 {
     if !(tail.is_empty() || tail.len() == 24) {
         return Err(ReadFault::Trailing);
     }
-    Ok(MapNotify {
+    Ok(Message::Notify(MapNotify {
         ack,
         nonce: read_nonce(bytes),
         key_id: bytes[12],
         records: Records::from_vec(records),
-    })
+    }))
 }
 
 /// The written spelling of a Map-Notify or Map-Notify-Ack, authentic under the key: all reserved

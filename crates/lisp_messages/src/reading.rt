@@ -47,7 +47,7 @@ pub fn read_message<A: Memory + Copy>(alloc: A, bytes: &[u8]) -> Result<Message<
     read_whole(alloc, bytes)
 }
 
-#[tactic(auto, unfolding(crate::specs::Reading::message_at))]
+#[tactic(auto, using(crate::proofs::ReadLemmas::reads_gives), unfolding(crate::specs::Reading::message_at))]
 fn read_whole<A: Memory + Copy>(alloc: A, bytes: &[u8]) -> Result<Message<A>, ReadFault>
     ensures exact { Gives said result (message_at bytes.now) }
     ensures early { (fault : ReadFault) → kind_at bytes.now ≡ Err fault → result ≡ Err fault }
@@ -57,9 +57,9 @@ fn read_whole<A: Memory + Copy>(alloc: A, bytes: &[u8]) -> Result<Message<A>, Re
     let kind = read_kind(bytes)?;
     let (records, tail) = read_records(alloc, bytes)?;
     match kind {
-        Kind::Register => Ok(Message::Register(read_register(bytes, records, tail)?)),
-        Kind::Notify => Ok(Message::Notify(read_notify(false, bytes, records, tail)?)),
-        Kind::NotifyAck => Ok(Message::Notify(read_notify(true, bytes, records, tail)?)),
+        Kind::Register => read_register(bytes, records, tail),
+        Kind::Notify => read_notify(false, bytes, records, tail),
+        Kind::NotifyAck => read_notify(true, bytes, records, tail),
     }
 }
 

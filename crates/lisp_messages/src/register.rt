@@ -1,19 +1,21 @@
 //! The Map-Register.
 
-ghost use Rattle.std.specs.Prelude.{◌≡◌, ◌^◌, ◌<◌, ◌≤◌, [], ◌∷◌, ◌++◌, length, replicate, IfOk, IsErrOf, OnOk, OnErr};
+ghost use Rattle.std.specs.Prelude.{◌≡◌, ◌^◌, ◌<◌, ◌≤◌, [], ◌++◌, length, replicate, IfOk, IsErrOf, OnOk, OnErr};
 ghost use Rattle.std.specs.Int.{w64, to_be_bytes};
 ghost use Rattle.std.specs.List.{AllByRecursion};
 ghost use Rattle.lisp_messages.specs.declared.fault.ReadFault.{ReadFault};
 ghost use Rattle.lisp_messages.specs.Message.{Registers, IsRegistration};
 ghost use Rattle.lisp_messages.specs.Spelling.{Spells};
 ghost use Rattle.lisp_messages.specs.Authentic.{IsAuthentic, signed};
-ghost use Rattle.lisp_messages.specs.Written.{register_kind, register_flags, written_register_head, written_register};
+ghost use Rattle.lisp_messages.specs.Written.{register_kind, register_flags, written_register};
 ghost use Rattle.lisp_records.specs.Result.{Reads};
+ghost use Rattle.lisp_messages.specs.Meaning.{said};
 ghost use Rattle.lisp_messages.specs.Reading.{ids_at, register_at};
 
 use crate::authentication::sign;
 use crate::fault::ReadFault;
 use crate::kind::Kind;
+use crate::message::Message;
 use crate::reading::read_nonce;
 use crate::writing::{head, make_room, put_records};
 use lisp_hmac::Key;
@@ -159,24 +161,24 @@ fn put_ids<A: Memory>(out: &mut Vec<u8, A>, xtr: [u8; 16], site: u64) -> Result<
     Ok(())
 }
 
-/// The Map-Register of these bytes and records, by what stands after the records: `NoIds`, then
-/// `Short` or `Trailing`.
+/// The message that is the Map-Register of these bytes and records, by what stands after the
+/// records: `NoIds`, then `Short` or `Trailing`.
 #[tactic(auto, unfolding(crate::specs::Reading::register_at))]
 pub(crate) fn read_register<A: Allocator>(
     bytes: &[u8],
     records: Vec<MapRecord<A>, A>,
     tail: &[u8],
-) -> Result<MapRegister<A>, ReadFault>
+) -> Result<Message<A>, ReadFault>
     requires head { 32 ≤ length bytes.now }
     requires few { length records.items < 256 }
-    ensures read { Reads Registers result (register_at bytes.now records.items tail.now) }
+    ensures read { Reads said result (register_at bytes.now records.items tail.now) }
     ensures plain { ¬ (IsErrOf result ReadFault.OutOfMemory) }
 {
     if !is_set(bytes[0], IDS) {
         return Err(ReadFault::NoIds);
     }
     let (xtr, site) = read_ids(tail)?;
-    Ok(MapRegister {
+    Ok(Message::Register(MapRegister {
         proxy: is_set(bytes[0], PROXY),
         sec: is_set(bytes[0], SEC),
         eid_notify: is_set(bytes[2], EID_NOTIFY),
@@ -188,7 +190,7 @@ pub(crate) fn read_register<A: Allocator>(
         records: Records::from_vec(records),
         xtr,
         site,
-    })
+    }))
 }
 
 // xTR-ID and Site-ID, which end the message.
