@@ -9,6 +9,11 @@ use Rattle.std.specs.Slice.Scan.{big_endian}
 use Rattle.std.specs.Ordering.{nat_cmp, ordering_then, MatchOrdering}
 use Rattle.std.specs.declared.cmp.Ordering.{Ordering}
 use Rattle.std.specs.declared.cmp.Ordering.TheVariants.{Less, Equal, Greater}
+use Rattle.std.specs.Prelude.{nat_eq}
+use Rattle.std.specs.Str.{bytes_eq}
+use Rattle.std.specs.Ordering.{is_eq}
+use Rattle.std.proofs.lemmas.Bool.{eq-eqb, ne_eqb}
+use Rattle.std.proofs.lemmas.Map.Text.{is_eq-slice_cmp}
 use Rattle.std.proofs.lemmas.Nat.{pow-add}
 use Rattle.lisp_records.specs.Address.{high_bits, masked}
 use Rattle.lisp_records.proofs.AddressLemmas.{length-masked, masked-bytes}
@@ -138,20 +143,45 @@ in_order a (u ∷ us) (v ∷ vs) same left right = by (nat_cmp u v) (ranks u v) 
         let level : u ≡ v = lies in
         subst (λ n. nat_cmp (big_endian (a * 256 + u) us) (big_endian (a * 256 + n) vs) ≡ slice_cmp nat_cmp us vs) level rest
 
--- addresses of the two families: their bytes as a number, its last bits cleared
-pub cleared_four : (bytes : List ℕ) (number cleared past kept : ℕ) → length bytes ≡ 4 → Bytes bytes → number ≡ from_be_bytes w32 bytes → past ≡ 32 - kept → cleared ≡ number / 2 ^ past * 2 ^ past → to_be_bytes w32 cleared ≡ masked bytes kept
-cleared_four bytes number cleared past kept sized fit number-is past-is cleared-is =
-    let bits : 8 * length bytes - kept ≡ past = omega (arith, sized, past-is) in
-    let is : cleared ≡ big_endian 0 (masked bytes kept) = rw (cleared-is, number-is, four bytes sized) (rw bits at (cleared_number 0 bytes kept fit)) in
-    let size : length (masked bytes kept) ≡ 4 = length-masked bytes kept ∙ sized in
-    rw is (rw size at (spelt 0 (masked bytes kept) (masked-bytes bytes kept fit)))
+-- as equal as the numbers are
+alike : (us vs : List ℕ) → length us ≡ length vs → Bytes us → Bytes vs → nat_eq (big_endian 0 us) (big_endian 0 vs) ≡ bytes_eq us vs
+alike us vs same left right = by _ _ _ (ranks (big_endian 0 us) (big_endian 0 vs)) refl ∙ ap is_eq (in_order 0 us vs same left right) ∙ is_eq-slice_cmp us vs
+  where
+    by : (x y : ℕ) (order : Ordering) → MatchOrdering order (x < y) (x ≡ y) (y < x) → order ≡ nat_cmp x y → nat_eq x y ≡ is_eq order
+    by x y Less lies is = let less : x < y = lies in ne_eqb x y (λ e. omega (arith, less, e))
+    by x y Equal lies is = let level : x ≡ y = lies in eq-eqb x y level
+    by x y Greater lies is = let less : y < x = lies in ne_eqb x y (λ e. omega (arith, less, e))
 
-pub cleared_sixteen : (bytes : List ℕ) (number cleared past kept : ℕ) → length bytes ≡ 16 → Bytes bytes → number ≡ from_be_bytes w128 bytes → past ≡ 128 - kept → cleared ≡ number / 2 ^ past * 2 ^ past → to_be_bytes w128 cleared ≡ masked bytes kept
-cleared_sixteen bytes number cleared past kept sized fit number-is past-is cleared-is =
-    let bits : 8 * length bytes - kept ≡ past = omega (arith, sized, past-is) in
-    let is : cleared ≡ big_endian 0 (masked bytes kept) = rw (cleared-is, number-is, sixteen bytes sized) (rw bits at (cleared_number 0 bytes kept fit)) in
+-- the first bits of an address as a number: of four bytes, and of sixteen
+first_of_four : (bytes : List ℕ) (number kept : ℕ) → length bytes ≡ 4 → Bytes bytes → number ≡ from_be_bytes w32 bytes / 2 ^ (32 - kept) * 2 ^ (32 - kept) → number ≡ big_endian 0 (masked bytes kept)
+first_of_four bytes number kept sized fit is =
+    let bits : 8 * length bytes - kept ≡ 32 - kept = omega (arith, sized) in
+    rw (is, four bytes sized) (rw bits at (cleared_number 0 bytes kept fit))
+
+first_of_sixteen : (bytes : List ℕ) (number kept : ℕ) → length bytes ≡ 16 → Bytes bytes → number ≡ from_be_bytes w128 bytes / 2 ^ (128 - kept) * 2 ^ (128 - kept) → number ≡ big_endian 0 (masked bytes kept)
+first_of_sixteen bytes number kept sized fit is =
+    let bits : 8 * length bytes - kept ≡ 128 - kept = omega (arith, sized) in
+    rw (is, sixteen bytes sized) (rw bits at (cleared_number 0 bytes kept fit))
+
+-- written as bytes again
+pub cleared_four : (bytes : List ℕ) (number kept : ℕ) → length bytes ≡ 4 → Bytes bytes → number ≡ from_be_bytes w32 bytes / 2 ^ (32 - kept) * 2 ^ (32 - kept) → to_be_bytes w32 number ≡ masked bytes kept
+cleared_four bytes number kept sized fit is =
+    let size : length (masked bytes kept) ≡ 4 = length-masked bytes kept ∙ sized in
+    rw (first_of_four bytes number kept sized fit is) (rw size at (spelt 0 (masked bytes kept) (masked-bytes bytes kept fit)))
+
+pub cleared_sixteen : (bytes : List ℕ) (number kept : ℕ) → length bytes ≡ 16 → Bytes bytes → number ≡ from_be_bytes w128 bytes / 2 ^ (128 - kept) * 2 ^ (128 - kept) → to_be_bytes w128 number ≡ masked bytes kept
+cleared_sixteen bytes number kept sized fit is =
     let size : length (masked bytes kept) ≡ 16 = length-masked bytes kept ∙ sized in
-    rw is (rw size at (spelt 0 (masked bytes kept) (masked-bytes bytes kept fit)))
+    rw (first_of_sixteen bytes number kept sized fit is) (rw size at (spelt 0 (masked bytes kept) (masked-bytes bytes kept fit)))
+
+-- compared with the first address of a block
+pub in_four : (bytes first : List ℕ) (number kept : ℕ) → length bytes ≡ 4 → Bytes bytes → length first ≡ 4 → Bytes first → number ≡ from_be_bytes w32 bytes / 2 ^ (32 - kept) * 2 ^ (32 - kept) → nat_eq number (from_be_bytes w32 first) ≡ bytes_eq (masked bytes kept) first
+in_four bytes first number kept sized fit first-sized first-fit is =
+    rw (first_of_four bytes number kept sized fit is, four first first-sized) (alike (masked bytes kept) first (length-masked bytes kept ∙ sized ∙ sym first-sized) (masked-bytes bytes kept fit) first-fit)
+
+pub in_sixteen : (bytes first : List ℕ) (number kept : ℕ) → length bytes ≡ 16 → Bytes bytes → length first ≡ 16 → Bytes first → number ≡ from_be_bytes w128 bytes / 2 ^ (128 - kept) * 2 ^ (128 - kept) → nat_eq number (from_be_bytes w128 first) ≡ bytes_eq (masked bytes kept) first
+in_sixteen bytes first number kept sized fit first-sized first-fit is =
+    rw (first_of_sixteen bytes number kept sized fit is, sixteen first first-sized) (alike (masked bytes kept) first (length-masked bytes kept ∙ sized ∙ sym first-sized) (masked-bytes bytes kept fit) first-fit)
 
 -- and how two of them stand
 pub four_in_order : (us vs : List ℕ) → length us ≡ 4 → length vs ≡ 4 → Bytes us → Bytes vs → nat_cmp (from_be_bytes w32 us) (from_be_bytes w32 vs) ≡ slice_cmp nat_cmp us vs

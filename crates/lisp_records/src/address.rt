@@ -1,6 +1,7 @@
 //! Addresses of the two families that EIDs and locators may have.
 
-ghost use Rattle.std.specs.Prelude.{◌≡◌, ◌*◌, ◌/◌, ◌^◌, ◌<◌, ◌≤◌, ◌++◌, if◌then◌else◌, is_ok, IfOk, IsErrOf, OnErr};
+ghost use Rattle.std.specs.Prelude.{◌≡◌, ◌-◌, ◌*◌, ◌/◌, ◌^◌, ◌<◌, ◌≤◌, ◌++◌, if◌then◌else◌, is_ok, IfOk, IsErrOf, OnErr};
+ghost use Rattle.std.specs.Int.{w32, w128, from_be_bytes};
 ghost use Rattle.std.specs.List.{AllByRecursion};
 ghost use Rattle.lisp_records.specs.Address.{afi, width, family, octets, IsWhole, cleared, addr_eq, addr_cmp};
 ghost use Rattle.lisp_records.specs.Result.{Reads};
@@ -100,14 +101,8 @@ impl Addr {
         // A proof learns here that each byte is below 256.
         let _ = self.octets();
         match self {
-            Addr::V4(bytes) => {
-                let past = u32::from(32_u8.saturating_sub(mask_len));
-                Addr::V4(clear_last_u32(u32::from_be_bytes(bytes), past).to_be_bytes())
-            }
-            Addr::V6(bytes) => {
-                let past = u32::from(128_u8.saturating_sub(mask_len));
-                Addr::V6(clear_last_u128(u128::from_be_bytes(bytes), past).to_be_bytes())
-            }
+            Addr::V4(bytes) => Addr::V4(first_bits_v4(bytes, mask_len).to_be_bytes()),
+            Addr::V6(bytes) => Addr::V6(first_bits_v6(bytes, mask_len).to_be_bytes()),
         }
     }
 
@@ -115,7 +110,18 @@ impl Addr {
     pub(crate) fn is_in(&self, first: &Addr, mask_len: u8) -> bool
         ensures { result ≡ addr_eq (cleared self.now mask_len) first.now }
     {
-        self.cleared(mask_len) == *first
+        // As in `cleared`.
+        let _ = self.octets();
+        let _ = first.octets();
+        match (self, first) {
+            (Addr::V4(bytes), Addr::V4(first)) => {
+                first_bits_v4(*bytes, mask_len) == u32::from_be_bytes(*first)
+            }
+            (Addr::V6(bytes), Addr::V6(first)) => {
+                first_bits_v6(*bytes, mask_len) == u128::from_be_bytes(*first)
+            }
+            _ => false,
+        }
     }
 
     /// As `cmp`, by the numbers that the bytes spell.
@@ -181,24 +187,24 @@ pub(crate) fn put_octets<A: Memory>(out: &mut Vec<u8, A>, addr: &Addr) -> Result
     }
 }
 
-// The number with its last bits cleared, so many.
-fn clear_last_u32(number: u32, count: u32) -> u32
-    requires { count ≤ 32 }
-    ensures { result ≡ number / 2 ^ count * 2 ^ count }
+// The number that the bytes spell, with all but its first `mask_len` bits cleared.
+fn first_bits_v4(bytes: [u8; 4], mask_len: u8) -> u32
+    ensures { result ≡ from_be_bytes w32 bytes / 2 ^ (32 - mask_len) * 2 ^ (32 - mask_len) }
 {
-    match number.checked_shr(count) {
-        Some(kept) => kept << count,
+    let past = u32::from(32_u8.saturating_sub(mask_len));
+    match u32::from_be_bytes(bytes).checked_shr(past) {
+        Some(kept) => kept << past,
         None => 0,
     }
 }
 
-// As `clear_last_u32`.
-fn clear_last_u128(number: u128, count: u32) -> u128
-    requires { count ≤ 128 }
-    ensures { result ≡ number / 2 ^ count * 2 ^ count }
+// As `first_bits_v4`.
+fn first_bits_v6(bytes: [u8; 16], mask_len: u8) -> u128
+    ensures { result ≡ from_be_bytes w128 bytes / 2 ^ (128 - mask_len) * 2 ^ (128 - mask_len) }
 {
-    match number.checked_shr(count) {
-        Some(kept) => kept << count,
+    let past = u32::from(128_u8.saturating_sub(mask_len));
+    match u128::from_be_bytes(bytes).checked_shr(past) {
+        Some(kept) => kept << past,
         None => 0,
     }
 }
