@@ -1,6 +1,6 @@
 //! Addresses of the two families that EIDs and locators may have.
 
-ghost use Rattle.std.specs.Prelude.{◌≡◌, ◌-◌, ◌*◌, ◌/◌, ◌^◌, ◌<◌, ◌≤◌, ◌++◌, if◌then◌else◌, is_ok, IfOk, IsErrOf, OnErr};
+ghost use Rattle.std.specs.Prelude.{◌≡◌, ◌-◌, ◌*◌, ◌/◌, ◌^◌, ◌<◌, ◌++◌, if◌then◌else◌, is_ok, IfOk, IsErrOf, OnErr};
 ghost use Rattle.std.specs.Int.{w32, w128, from_be_bytes};
 ghost use Rattle.std.specs.List.{AllByRecursion};
 ghost use Rattle.lisp_records.specs.Address.{afi, width, family, octets, IsWhole, cleared, addr_eq, addr_cmp};

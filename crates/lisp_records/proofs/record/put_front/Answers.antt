@@ -1,6 +1,4 @@
 use Rattle.std.proofs.Common.{refl, sym, ◌∙◌}
-use Rattle.std.specs.Prelude.{if◌then◌else◌, is_ok}
-use Rattle.lisp_records.specs.Address.{octets}
 use Rattle.lisp_records.proofs.record.put_front.Goals as goal
 
 pub returns-in-V4-clause-items : goal.returns-in-V4-clause-items
