@@ -1,6 +1,6 @@
 //! Reading a message.
 
-ghost use Rattle.std.specs.Prelude.{◌≡◌, ◌<◌, ◌≤◌, [], length, drop, slice_index, IfOk, IsErrOf, OnOk, Ok, Err};
+ghost use Rattle.std.specs.Prelude.{◌≡◌, ◌<◌, ◌≤◌, length, drop, slice_index, IfOk, IsErrOf, OnOk, Ok, Err};
 ghost use Rattle.lisp_messages.specs.declared.fault.ReadFault.{ReadFault};
 ghost use Rattle.lisp_messages.specs.Message.{Said};
 ghost use Rattle.lisp_messages.specs.Meaning.{said};
@@ -100,23 +100,6 @@ fn read_records<A: Memory + Copy>(
     ensures grows { IsErrOf result ReadFault.OutOfMemory → HasRecords bytes.now }
 {
     let mut records = Vec::new(alloc);
-    let tail = take_records(&mut records, alloc, bytes)?;
-    Ok((records, tail))
-}
-
-// As `read_records`, into an empty list.
-fn take_records<'b, A: Memory + Copy>(
-    records: &mut Vec<MapRecord<A>, A>,
-    alloc: A,
-    bytes: &'b [u8],
-) -> Result<&'b [u8], ReadFault>
-    requires empty { records.old.items ≡ [] }
-    requires head { 32 ≤ length bytes.now }
-    ensures records { Gives (λ tail. (records.new.items, tail.now)) result (records_at 0 (slice_index bytes.now 3) (drop 32 bytes.now)) }
-    ensures few { OnOk result (length records.new.items < 256) }
-    ensures memory { IsErrOf result ReadFault.OutOfMemory → A.may_refuse }
-    ensures grows { IsErrOf result ReadFault.OutOfMemory → HasRecords bytes.now }
-{
     records.make_room(usize::from(bytes[3]))?;
     let mut at = HEAD_LEN;
     for place in 0..bytes[3] {
@@ -129,7 +112,7 @@ fn take_records<'b, A: Memory + Copy>(
         }
     }
     let (_, tail) = bytes.split_at(at);
-    Ok(tail)
+    Ok((records, tail))
 }
 
 /// The nonce of a message.

@@ -1,7 +1,7 @@
 use Rattle.std.proofs.Common.{◌+◌, ap, arith}
 use Rattle.std.proofs.lemmas.List.{length-append}
 use Rattle.lisp_messages.proofs.Loop.{goes_on, fails, is_done, ran_out}
-use Rattle.lisp_messages.proofs.reading.take_records.Goals as goal
+use Rattle.lisp_messages.proofs.reading.read_records.Goals as goal
 
 pub returns-in-Err : goal.returns-in-Err
 returns-in-Err g c = record {

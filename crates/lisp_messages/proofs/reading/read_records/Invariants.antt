@@ -1,7 +1,7 @@
 use Rattle.std.proofs.Common.{◌≡◌, ◌≤◌, ◌-◌, length, drop}
 use Rattle.lisp_messages.specs.Reading.{records_at}
 use Rattle.lisp_messages.proofs.Loop.{with_front}
-use Rattle.lisp_messages.proofs.reading.take_records.Given as goal
+use Rattle.lisp_messages.proofs.reading.read_records.Given as goal
 
 -- the records so far, and those still to read, are what was to be read
 abbrev pub invariant-loop-place : goal.invariant-loop-place
