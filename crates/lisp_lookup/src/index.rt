@@ -116,7 +116,7 @@ fn number_at<A: Allocator>(
 fn is_row_of<A: Allocator>(one: &Row<A>, other: &Row<A>) -> bool
     ensures { result ≡ is_row_of one.now.router one.now.mapping.eid other.now }
 {
-    other.router == one.router && other.mapping.eid() == one.mapping.eid()
+    other.router.is_same(&one.router) && other.mapping.eid() == one.mapping.eid()
 }
 
 // Adds a row for a router and prefix that has none.

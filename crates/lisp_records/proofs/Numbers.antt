@@ -189,3 +189,7 @@ four_in_order us vs first second left right = rw (four us first, four vs second)
 
 pub sixteen_in_order : (us vs : List ℕ) → length us ≡ 16 → length vs ≡ 16 → Bytes us → Bytes vs → nat_cmp (from_be_bytes w128 us) (from_be_bytes w128 vs) ≡ slice_cmp nat_cmp us vs
 sixteen_in_order us vs first second left right = rw (sixteen us first, sixteen vs second) (in_order 0 us vs (first ∙ sym second) left right)
+
+-- and whether they are alike
+pub sixteen_alike : (us vs : List ℕ) → length us ≡ 16 → length vs ≡ 16 → Bytes us → Bytes vs → nat_eq (from_be_bytes w128 us) (from_be_bytes w128 vs) ≡ bytes_eq us vs
+sixteen_alike us vs first second left right = rw (sixteen us first, sixteen vs second) (alike us vs (first ∙ sym second) left right)

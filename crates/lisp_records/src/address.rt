@@ -142,9 +142,9 @@ impl Addr {
     }
 }
 
-// The bytes as they are. A proof learns that each is below 256 only of a slice that is passed in.
+/// The bytes as they are. A proof learns that each is below 256 only of a slice that is passed in.
 #[tactic(auto, using(crate::proofs::Fields::each_byte))]
-fn as_bytes(bytes: &[u8]) -> &[u8]
+pub(crate) fn as_bytes(bytes: &[u8]) -> &[u8]
     ensures same { result.now ≡ bytes.now }
     ensures bytes { AllByRecursion (λ n. n < 256) bytes.now }
 {
