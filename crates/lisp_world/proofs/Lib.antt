@@ -6,3 +6,5 @@ pub mod Running
 pub mod MakingChecks
 pub mod MakingNodes
 pub mod Making
+pub mod Telling
+pub mod Refusing

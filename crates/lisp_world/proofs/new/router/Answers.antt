@@ -24,3 +24,6 @@ returns-clause-router g c =
 
 pub bounds-routers-place : goal.bounds-routers-place
 bounds-routers-place g c = (let long = ap length c.routers.ensures.routers in omega (arith, c.requires.place, long))
+
+pub offset_bounds-routers-place : goal.offset_bounds-routers-place
+offset_bounds-routers-place g c = (let long = ap length c.routers.ensures.routers in omega (arith, c.requires.place, long))

@@ -1,4 +1,5 @@
 use Rattle.std.proofs.Common.{◌+◌, ◌<◌, length, Err, arith, refl, sym, ap, subst}
+use borrow.Author.Rules.{scaled_Fits}
 use Rattle.lisp_turns.specs.World.{RouterNode}
 use Rattle.lisp_world.specs.Making.{HasStarted}
 use Rattle.lisp_world.proofs.MakingNodes.{started_to_none, started_more, all_started}
@@ -19,3 +20,7 @@ loop-i-preserved g c =
 pub returns-clause-started : goal.returns-clause-started
 returns-clause-started g c =
     all_started c.args.routers.now c.loop-i.routers c.loop-i.i c.loop-i.invariant (omega (arith, c.loop-i-test.false, c.loop-i.auto.routers))
+
+-- a node's size is a long term, over which a search takes seconds: the lemma and its facts are named
+pub offset_bounds-routers-i : goal.offset_bounds-routers-i
+offset_bounds-routers-i g c = scaled_Fits _ (length c.args.routers.now) _ (omega (arith, c.loop-i-test.true)) c.well_formed.1.0.1

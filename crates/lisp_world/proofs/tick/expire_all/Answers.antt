@@ -1,8 +1,11 @@
-use Rattle.std.proofs.Common.{arith}
+use Rattle.std.proofs.Common.{arith, refl}
 use Rattle.std.proofs.lemmas.Option.{slice_get_within}
 use Rattle.lisp_turns.specs.Turns.{ExpiresNode}
 use Rattle.lisp_world.proofs.Loops.{done_more, same_more}
 use Rattle.lisp_world.proofs.tick.expire_all.Goals as goal
+
+pub loop-server-init : goal.loop-server-init
+loop-server-init g c = record { done = λ k x y below was is. absurd (omega (arith, below)); others = λ k above. refl }
 
 pub loop-server-preserved : goal.loop-server-preserved
 loop-server-preserved g c =

@@ -1,6 +1,7 @@
 use Rattle.std.proofs.Common.{◌∙◌, [], append-nil, sym, arith}
 use Rattle.std.proofs.lemmas.List.{length-set}
 use Rattle.lisp_nodes.proofs.RouterCalls.{acted, same_bag, line_up, line_down}
+use Rattle.lisp_world.proofs.Refusing.{no_fault, out_of_memory}
 use Rattle.lisp_world.proofs.world.World.change.Goals as goal
 use Rattle.lisp_world.proofs.world.World.change.Goals.{then-change, else-change}
 
@@ -27,3 +28,9 @@ index_mut-requires g c =
 pub invariant_of-self : goal.invariant_of-self
 invariant_of-self g c =
     (c.self.invariant.0, omega (arith, length-set c.self.inside.routers.items c.in_ok-place.place c.change.new.self, c.self.invariant.1))
+
+pub returns-clause-fault : goal.returns-clause-fault
+returns-clause-fault g c = no_fault _ _ c.in_ok-place.ensures.fault
+
+pub returns-in_err-copy-clause-fault : goal.returns-in_err-copy-clause-fault
+returns-in_err-copy-clause-fault g c = out_of_memory _ _ c.in_ok-place.ensures.fault c.from_residual-in_err-copy.ensures.1

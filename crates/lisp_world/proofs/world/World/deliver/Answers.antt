@@ -4,6 +4,7 @@ use Rattle.std.proofs.lemmas.Option.{slice_get-get_or}
 use Rattle.lisp_turns.specs.World.{Posted, WorldState}
 use Rattle.lisp_turns.specs.Turns.{node_with, posted}
 use Rattle.lisp_world.proofs.Arrivals.{addressed_there, arrived, datagram_there, delivered, read_again}
+use Rattle.lisp_world.proofs.Refusing.{no_fault, out_of_memory, only_room}
 use Rattle.lisp_world.proofs.world.World.deliver.Goals as goal
 
 pub index-datagram-requires : goal.index-datagram-requires
@@ -65,3 +66,21 @@ returns-clause-delivers g c =
     (arrived _ _ c.in-Some.node c.args.fate from bytes _ c.hear-line.result.1 _ _ _ _ _ all_servers all_routers
     (c.post_reply.ensures ∙ (λ i. c.make_room.ensures.items i ++ posted (c.address-address.ensures i) from c.hear-line.result.1))
     (c.hear-line.ensures.hears _ (sym c.deref_mut.ensures.value) (sym c.deref_mut-2.ensures.value) refl count)))
+
+pub returns-in_default-clause-fault : goal.returns-in_default-clause-fault
+returns-in_default-clause-fault g c = no_fault _ _ c.in_ok-check_datagram.ensures
+
+pub returns-clause-fault : goal.returns-clause-fault
+returns-clause-fault g c = no_fault _ _ c.in_ok-check_datagram.ensures
+
+pub returns-in_err-make_room-clause-fault : goal.returns-in_err-make_room-clause-fault
+returns-in_err-make_room-clause-fault g c = out_of_memory _ _ c.in_ok-check_datagram.ensures c.from_residual-in_err-make_room.ensures.1
+
+pub returns-in_err-make_room-clause-err : goal.returns-in_err-make_room-clause-err
+returns-in_err-make_room-clause-err g c = only_room _ _ _ _ c.make_room.ensures.items c.self.view_is
+
+pub post_reply-requires : goal.post_reply-requires
+post_reply-requires g c = (let room = c.in_ok-make_room.ensures.ok in omega (arith, room))
+
+pub returns-clause-tells : goal.returns-clause-tells
+returns-clause-tells g c = c.hear-line.ensures.tells

@@ -1,12 +1,40 @@
-use Rattle.std.proofs.Common.{◌≡◌, ◌+◌, ◌++◌, List, length, map, take, drop, arith, refl, sym, ap, subst, ◌∙◌}
+use Rattle.std.proofs.Common.{◌≡◌, ℕ, Bool, true, false, true≢false, Result, Ok, Err, ◌+◌, ◌++◌, List, length, map, take, drop, arith, refl, sym, ap, subst, ◌∙◌}
 use Rattle.std.proofs.lemmas.List.{length-append, length-map}
+use Rattle.std.specs.Prelude.{◌↔◌, ◌≢◌, IsErrAnd, IsErrOf}
+use Rattle.lisp_store.specs.declared.fault.StoreFault.TheVariants as store_faults
+use Rattle.lisp_etr.specs.declared.start_fault.StartFault.TheVariants as starts
+use Rattle.lisp_nodes.proofs.NodeCalls.{err_is}
 use Rattle.lisp_store.specs.Store.{StoreState}
 use Rattle.lisp_turns.specs.World.{RouterNode, WorldState}
-use Rattle.lisp_world.specs.Making.{HaveStarted}
+use Rattle.lisp_world.specs.Making.{HaveStarted, IsStartFault}
 use Rattle.lisp_world.proofs.MakingNodes.{written_whole}
 use Rattle.lisp_world.proofs.Making.{IsMade, lists_same, stays_calm, made_stands}
 use Rattle.lisp_turns.proofs.Headlines.{networks_promise}
+use Rattle.lisp_world.specs.declared.fault.WorldFault.{WorldFault}
+use Rattle.lisp_world.specs.declared.fault.WorldFault.TheVariants as faults
 use Rattle.lisp_world.proofs.world.World.new.Goals as goal
+
+-- a configuration without repeats is refused for something else
+unrepeated : {X : Type 0} (twice : Bool) (r : Result X WorldFault) → twice ≡ false → r ≢ Err faults.Repeated → (r ≡ Err faults.Repeated) ↔ (twice ≡ true)
+unrepeated twice r once other = (λ is. absurd (other is), λ repeated. absurd (true≢false (sym repeated ∙ once)))
+
+memory_alone : {X : Type 0} (r : Result X WorldFault) → IsErrAnd r (λ e. e ≡ faults.OutOfMemory) → r ≢ Err faults.Repeated
+memory_alone (Ok x) is same = absurd is
+memory_alone (Err e) is same = absurd cc
+
+-- a router that doesn't start says why
+module _ {X : Type 0} (r : Result X WorldFault) (fault : WorldFault) (Refused StoreRefused : Type 0) (is : r ≡ Err fault) (why : IsStartFault fault Refused StoreRefused) where
+  unstarted_alone : r ≢ Err faults.Repeated
+  unstarted_alone same = (let both = sym is ∙ same in let start = why.is in cc)
+
+  unstarted_memory : IsErrOf r faults.OutOfMemory → Refused
+  unstarted_memory same = absurd (let both = sym is ∙ same in let start = why.is in cc)
+
+  unstarted_start : (node : ℕ) → IsErrOf r (faults.Start node starts.OutOfMemory) → Refused
+  unstarted_start node same = why.memory (let both = sym is ∙ same in let start = why.is in cc)
+
+  unstarted_store : (node : ℕ) → IsErrOf r (faults.Start node (starts.Store store_faults.OutOfMemory)) → StoreRefused
+  unstarted_store node same = why.store_memory (let both = sym is ∙ same in let start = why.is in cc)
 
 module _ (g : _) (c : goal.After-new g) where
   -- the routers started
@@ -71,3 +99,28 @@ returns-clause-calm g c = λ calm. stays_calm c.args.config.now (stores g c) (wo
 
 pub returns-clause-headline : goal.returns-clause-headline
 returns-clause-headline g c = networks_promise _
+
+pub returns-then-repeats-clause-repeated : goal.returns-then-repeats-clause-repeated
+returns-then-repeats-clause-repeated g c = (λ is. sym c.repeats.ensures.exact ∙ c.if-repeats.true, λ twice. refl)
+
+pub returns-in_err-addresses-clause-repeated : goal.returns-in_err-addresses-clause-repeated
+returns-in_err-addresses-clause-repeated g c = unrepeated _ _ (sym c.repeats.ensures.exact ∙ c.if-repeats.false) (memory_alone _ c.from_residual.ensures.1)
+
+pub returns-in_err-servers-clause-repeated : goal.returns-in_err-servers-clause-repeated
+returns-in_err-servers-clause-repeated g c = unrepeated _ _ (sym c.repeats.ensures.exact ∙ c.if-repeats.false) (memory_alone _ c.from_residual-in_err-servers.ensures.1)
+
+pub returns-clause-repeated : goal.returns-clause-repeated
+returns-clause-repeated g c = unrepeated _ _ (sym c.repeats.ensures.exact ∙ c.if-repeats.false) (λ is. absurd cc)
+
+pub returns-in_err-start_all-clause-repeated : goal.returns-in_err-start_all-clause-repeated
+returns-in_err-start_all-clause-repeated g c =
+    unrepeated _ _ (sym c.repeats.ensures.exact ∙ c.if-repeats.false) (unstarted_alone _ _ _ _ (err_is c.from_residual-in_err-start_all.result c.in_err-start_all.field-0.0 c.from_residual-in_err-start_all.ensures.1) c.in_err-start_all.ensures.faults)
+
+pub returns-in_err-start_all-clause-memory : goal.returns-in_err-start_all-clause-memory
+returns-in_err-start_all-clause-memory g c = unstarted_memory _ _ _ _ (err_is c.from_residual-in_err-start_all.result c.in_err-start_all.field-0.0 c.from_residual-in_err-start_all.ensures.1) c.in_err-start_all.ensures.faults
+
+pub returns-in_err-start_all-clause-start_memory : goal.returns-in_err-start_all-clause-start_memory
+returns-in_err-start_all-clause-start_memory g c = unstarted_start _ _ _ _ (err_is c.from_residual-in_err-start_all.result c.in_err-start_all.field-0.0 c.from_residual-in_err-start_all.ensures.1) c.in_err-start_all.ensures.faults
+
+pub returns-in_err-start_all-clause-store_memory : goal.returns-in_err-start_all-clause-store_memory
+returns-in_err-start_all-clause-store_memory g c = unstarted_store _ _ _ _ (err_is c.from_residual-in_err-start_all.result c.in_err-start_all.field-0.0 c.from_residual-in_err-start_all.ensures.1) c.in_err-start_all.ensures.faults

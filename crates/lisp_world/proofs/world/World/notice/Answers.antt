@@ -5,6 +5,8 @@ use Rattle.lisp_records.specs.declared.address.Addr.{Addr}
 use Rattle.lisp_schedules.specs.declared.line.Line.TheVariants as lines
 use Rattle.lisp_turns.specs.World.{Posted}
 use Rattle.lisp_nodes.proofs.ServerCalls.{server_acted, notice_head}
+use Rattle.lisp_world.proofs.Telling.{notice_tells}
+use Rattle.lisp_world.proofs.Refusing.{no_fault, out_of_memory, only_room}
 use Rattle.lisp_world.proofs.world.World.notice.Goals as goal
 
 pub post_message-head-requires-clause-head : goal.post_message-head-requires-clause-head
@@ -74,3 +76,20 @@ index_mut-requires g c =
 
 pub invariant_of-self-in-Ok : goal.invariant_of-self-in-Ok
 invariant_of-self-in-Ok g c = (c.self.invariant.0, omega (arith, length-set c.self.inside.servers.items c.args.server c.notify.new.self, c.self.invariant.1))
+
+pub returns-in-Err-clause-tells : goal.returns-in-Err-clause-tells
+returns-in-Err-clause-tells g c =
+    let e = c.in-Err.ensures in
+    notice_tells _ _ c.args.server c.in-Err.fault (λ is. e.memory (ap Err is)) (λ is. e.load_memory (ap Err is)) (λ is. e.save_memory (ap Err is))
+
+pub returns-in-Ok-clause-fault : goal.returns-in-Ok-clause-fault
+returns-in-Ok-clause-fault g c = no_fault _ _ c.in_ok-place.ensures.fault
+
+pub returns-in-Err-clause-fault : goal.returns-in-Err-clause-fault
+returns-in-Err-clause-fault g c = no_fault _ _ c.in_ok-place.ensures.fault
+
+pub returns-in_err-make_room-clause-fault : goal.returns-in_err-make_room-clause-fault
+returns-in_err-make_room-clause-fault g c = out_of_memory _ _ c.in_ok-place.ensures.fault c.from_residual-in_err-make_room.ensures.1
+
+pub returns-in_err-make_room-clause-err : goal.returns-in_err-make_room-clause-err
+returns-in_err-make_room-clause-err g c = only_room _ _ _ _ c.make_room.ensures.items c.self.view_is

@@ -1,7 +1,8 @@
-use Rattle.std.proofs.Common.{ap, ◌∙◌, sym, arith, ◌-◌, ◌+◌, ◌<◌, ◌≡◌, ℕ, length}
+use Rattle.std.proofs.Common.{ap, ◌∙◌, sym, arith, ◌-◌, ◌+◌, ◌<◌, ◌≡◌, ℕ, length, Err}
 use Rattle.std.proofs.lemmas.List.{length-set}
 use Rattle.lisp_turns.specs.Turns.{start_line}
 use Rattle.lisp_nodes.proofs.RouterCalls.{router_changed}
+use Rattle.lisp_world.proofs.Telling.{start_tells}
 use Rattle.lisp_world.proofs.world.World.restart_router.Goals as goal
 use Rattle.lisp_world.proofs.world.World.restart_router.Goals.{in-Ok, in-Err}
 
@@ -41,3 +42,10 @@ index_mut-requires g c =
 pub invariant_of-self : goal.invariant_of-self
 invariant_of-self g c =
     (c.self.invariant.0, omega (arith, length-set c.self.inside.routers.items (c.args.node - c.len.result) c.restart.new.self, c.self.invariant.1))
+
+pub returns-clause-tells : goal.returns-clause-tells
+returns-clause-tells g c =
+    elim c.match-restart.branch [
+      | in-Ok w ↦ rw w.result-is tt
+      | in-Err w ↦ rw w.result-is (start_tells _ _ c.args.node w.in-Err.fault (λ is. w.in-Err.ensures.memory (ap Err is)) (λ is. w.in-Err.ensures.store_memory (ap Err is)))
+    ]

@@ -1,8 +1,10 @@
-use Rattle.std.proofs.Common.{◌∙◌, ◌++◌, ◌∷◌, [], List, append-nil, ap, sym, refl, arith}
+use Rattle.std.proofs.Common.{◌∙◌, ◌++◌, ◌∷◌, [], List, Err, append-nil, ap, sym, refl, arith}
 use Rattle.std.proofs.lemmas.List.{length-set}
 use Rattle.lisp_schedules.specs.declared.line.Line.TheVariants as lines
 use Rattle.lisp_turns.specs.World.{Posted}
 use Rattle.lisp_nodes.proofs.RouterCalls.{acted, same_bag, sent_head, sends_up, sends_down}
+use Rattle.lisp_world.proofs.Telling.{send_tells}
+use Rattle.lisp_world.proofs.Refusing.{no_fault, out_of_memory, only_room}
 use Rattle.lisp_world.proofs.world.World.send.Goals as goal
 
 pub returns-in_default-clause-sends : goal.returns-in_default-clause-sends
@@ -79,3 +81,22 @@ invariant_of-self-in_default g c =
 pub invariant_of-self-in-Ok : goal.invariant_of-self-in-Ok
 invariant_of-self-in-Ok g c =
     (c.self.invariant.0, omega (arith, length-set c.self.inside.routers.items c.in_ok-place.place c.send.new.self, c.self.invariant.1))
+
+pub returns-in-Err-clause-tells : goal.returns-in-Err-clause-tells
+returns-in-Err-clause-tells g c =
+    send_tells _ _ c.args.router c.in-Err.fault (λ e. c.in-Some.ensures.memory (c.in-Err.is ∙ ap Err e)) (λ e. c.in-Some.ensures.store_memory (c.in-Err.is ∙ ap Err e))
+
+pub returns-in_default-clause-fault : goal.returns-in_default-clause-fault
+returns-in_default-clause-fault g c = no_fault _ _ c.in_ok-place.ensures.fault
+
+pub returns-in-Ok-clause-fault : goal.returns-in-Ok-clause-fault
+returns-in-Ok-clause-fault g c = no_fault _ _ c.in_ok-place.ensures.fault
+
+pub returns-in-Err-clause-fault : goal.returns-in-Err-clause-fault
+returns-in-Err-clause-fault g c = no_fault _ _ c.in_ok-place.ensures.fault
+
+pub returns-in_err-make_room-clause-fault : goal.returns-in_err-make_room-clause-fault
+returns-in_err-make_room-clause-fault g c = out_of_memory _ _ c.in_ok-place.ensures.fault c.from_residual-in_err-make_room.ensures.1
+
+pub returns-in_err-make_room-clause-err : goal.returns-in_err-make_room-clause-err
+returns-in_err-make_room-clause-err g c = only_room _ _ _ _ c.make_room.ensures.items c.self.view_is

@@ -1,0 +1,60 @@
+-- The line of a refusal says out of memory only where the node's memory may be refused, or its store's.
+use Rattle.std.proofs.Common.{◌≡◌, ℕ, true, List, refl, ap}
+use Rattle.lisp_records.specs.declared.router.RouterId.{RouterId}
+use Rattle.lisp_store.specs.declared.fault.StoreFault.{StoreFault}
+use Rattle.lisp_store.specs.declared.fault.StoreFault.TheVariants as stores
+use Rattle.lisp_etr.specs.declared.send_fault.SendFault.{SendFault}
+use Rattle.lisp_etr.specs.declared.send_fault.SendFault.TheVariants as sends
+use Rattle.lisp_etr.specs.declared.start_fault.StartFault.{StartFault}
+use Rattle.lisp_etr.specs.declared.start_fault.StartFault.TheVariants as starts
+use Rattle.lisp_checks.specs.declared.notice_fault.NoticeFault.{NoticeFault}
+use Rattle.lisp_checks.specs.declared.notice_fault.NoticeFault.TheVariants as notices
+use Rattle.lisp_server.specs.Notices.{Standing, RefusesResend}
+use Rattle.lisp_schedules.specs.declared.line.Line.TheVariants as lines
+use Rattle.lisp_schedules.specs.declared.refusal.Refusal.TheVariants as refusals
+use Rattle.lisp_schedules.specs.Memory.{MayTell, is_store_memory}
+
+module _ (node_may store_may : Type 0) (node : ℕ) where
+  -- of a Map-Register
+  in_store_sent : (fault : StoreFault) → (fault ≡ stores.OutOfMemory → store_may) → is_store_memory (refusals.Send (sends.Store fault)) ≡ true → store_may
+  in_store_sent stores.OutOfMemory may out = may refl
+  in_store_sent _ may out = absurd cc
+
+  pub send_tells : (fault : SendFault) → (fault ≡ sends.OutOfMemory → node_may) → (fault ≡ sends.Store stores.OutOfMemory → store_may)
+      → MayTell node_may store_may (lines.Refused node (refusals.Send fault))
+  send_tells sends.OutOfMemory may store = (λ out. may refl, λ out. absurd cc)
+  send_tells (sends.Store fault) may store = (λ out. absurd cc, in_store_sent fault (λ is. store (ap sends.Store is)))
+  send_tells _ may store = (λ out. absurd cc, λ out. absurd cc)
+
+  -- of a start
+  in_store_started : (fault : StoreFault) → (fault ≡ stores.OutOfMemory → store_may) → is_store_memory (refusals.Start (starts.Store fault)) ≡ true → store_may
+  in_store_started stores.OutOfMemory may out = may refl
+  in_store_started _ may out = absurd cc
+
+  pub start_tells : (fault : StartFault) → (fault ≡ starts.OutOfMemory → node_may) → (fault ≡ starts.Store stores.OutOfMemory → store_may)
+      → MayTell node_may store_may (lines.Refused node (refusals.Start fault))
+  start_tells starts.OutOfMemory may store = (λ out. may refl, λ out. absurd cc)
+  start_tells (starts.Store fault) may store = (λ out. absurd cc, in_store_started fault (λ is. store (ap starts.Store is)))
+
+  -- of a notice
+  in_store_loaded : (fault : StoreFault) → (fault ≡ stores.OutOfMemory → store_may) → is_store_memory (refusals.Notice (notices.StoreLoad fault)) ≡ true → store_may
+  in_store_loaded stores.OutOfMemory may out = may refl
+  in_store_loaded _ may out = absurd cc
+
+  in_store_saved : (fault : StoreFault) → (fault ≡ stores.OutOfMemory → store_may) → is_store_memory (refusals.Notice (notices.StoreSave fault)) ≡ true → store_may
+  in_store_saved stores.OutOfMemory may out = may refl
+  in_store_saved _ may out = absurd cc
+
+  pub notice_tells : (fault : NoticeFault) → (fault ≡ notices.OutOfMemory → node_may) → (fault ≡ notices.StoreLoad stores.OutOfMemory → store_may)
+      → (fault ≡ notices.StoreSave stores.OutOfMemory → store_may) → MayTell node_may store_may (lines.Refused node (refusals.Notice fault))
+  notice_tells notices.OutOfMemory may load save = (λ out. may refl, λ out. absurd cc)
+  notice_tells (notices.StoreLoad fault) may load save = (λ out. absurd cc, in_store_loaded fault (λ is. load (ap notices.StoreLoad is)))
+  notice_tells (notices.StoreSave fault) may load save = (λ out. absurd cc, in_store_saved fault (λ is. save (ap notices.StoreSave is)))
+  notice_tells _ may load save = (λ out. absurd cc, λ out. absurd cc)
+
+  -- of one that is sent again, whose store isn't used
+  pub resend_tells : (old : List Standing) (router : RouterId) (now : ℕ) (fault : NoticeFault) → RefusesResend old router now fault → (fault ≡ notices.OutOfMemory → node_may)
+      → MayTell node_may store_may (lines.Refused node (refusals.Notice fault))
+  resend_tells old router now notices.OutOfMemory refused may = (λ out. may refl, λ out. absurd cc)
+  resend_tells old router now notices.NotDue refused may = (λ out. absurd cc, λ out. absurd cc)
+  resend_tells old router now _ refused may = absurd refused
