@@ -1,11 +1,13 @@
-use Rattle.std.proofs.Common.{arith, refl}
+use Rattle.std.proofs.Common.{length, arith}
 use Rattle.std.proofs.lemmas.Option.{slice_get_within}
+use borrow.Author.Rules.{scaled_Fits}
 use Rattle.lisp_turns.specs.Turns.{ExpiresNode}
 use Rattle.lisp_world.proofs.Loops.{done_more, same_more}
 use Rattle.lisp_world.proofs.tick.expire_all.Goals as goal
 
-pub loop-server-init : goal.loop-server-init
-loop-server-init g c = record { done = λ k x y below was is. absurd (omega (arith, below)); others = λ k above. refl }
+-- a node's size is a long term, over which a search takes seconds: the lemma and its facts are named
+pub offset_bounds-servers-server-index : goal.offset_bounds-servers-server-index
+offset_bounds-servers-server-index g c = scaled_Fits _ (length c.args.servers.now) _ c.loop-server-test.true c.well_formed.0.1
 
 pub loop-server-preserved : goal.loop-server-preserved
 loop-server-preserved g c =
