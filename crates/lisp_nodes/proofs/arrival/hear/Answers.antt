@@ -7,30 +7,6 @@ use Rattle.lisp_turns.specs.Turns.{address_of, posted, server_line}
 use Rattle.lisp_turns.specs.World.{ServerNode, RouterNode}
 use Rattle.lisp_nodes.proofs.arrival.hear.Goals as goal
 
-pub overflow_sub-node : goal.overflow_sub-node
-overflow_sub-node g c = c.if-node-servers.true
-
--- a node's size is a long term, over which a search takes seconds: where it stands, the lemma and its facts are named
-pub offset_bounds-routers-node : goal.offset_bounds-routers-node
-offset_bounds-routers-node g c =
-    let within : c.args.node - length c.args.servers.now < length c.args.routers.now = omega (arith, c.requires, c.if-node-servers.true) in
-    scaled_Fits _ (length c.args.routers.now) _ within c.well_formed.1.0.1
-
-pub bounds-routers-node : goal.bounds-routers-node
-bounds-routers-node g c = omega (arith, c.requires, c.if-node-servers.true)
-
-pub returns-then-node-servers-clause-tells : goal.returns-then-node-servers-clause-tells
-returns-then-node-servers-clause-tells g c = c.router_hears.ensures.tells
-
-pub offset_bounds-servers-node : goal.offset_bounds-servers-node
-offset_bounds-servers-node g c = scaled_Fits _ (length c.args.servers.now) _ c.if-node-servers.false c.well_formed.0.1
-
-pub bounds-servers-node : goal.bounds-servers-node
-bounds-servers-node g c = c.if-node-servers.false
-
-pub returns-clause-tells : goal.returns-clause-tells
-returns-clause-tells g c = c.server_hears.ensures.tells
-
 pub returns-then-node-servers-clause-hears : goal.returns-then-node-servers-clause-hears
 returns-then-node-servers-clause-hears g c = λ w servers routers clock next.
     let place = c.args.node - length c.args.servers.now in
@@ -70,3 +46,27 @@ returns-clause-hears g c = λ w servers routers clock next.
       receives = subst (λ (now : ℕ). Receives before after how.fate how.from c.args.bytes.now now heard.0) (sym clock) heard.1;
       said = heard.2 ∙ ap (λ (number : ℕ). server_line c.args.node number heard.0) (sym next);
     })
+
+pub overflow_sub-node : goal.overflow_sub-node
+overflow_sub-node g c = c.if-node-servers.true
+
+-- a node's size is a long term, over which a search takes seconds: where it stands, the lemma and its facts are named
+pub offset_bounds-routers-node : goal.offset_bounds-routers-node
+offset_bounds-routers-node g c =
+    let within : c.args.node - length c.args.servers.now < length c.args.routers.now = omega (arith, c.requires, c.if-node-servers.true) in
+    scaled_Fits _ (length c.args.routers.now) _ within c.well_formed.1.0.1
+
+pub bounds-routers-node : goal.bounds-routers-node
+bounds-routers-node g c = omega (arith, c.requires, c.if-node-servers.true)
+
+pub returns-then-node-servers-clause-tells : goal.returns-then-node-servers-clause-tells
+returns-then-node-servers-clause-tells g c = c.router_hears.ensures.tells
+
+pub offset_bounds-servers-node : goal.offset_bounds-servers-node
+offset_bounds-servers-node g c = scaled_Fits _ (length c.args.servers.now) _ c.if-node-servers.false c.well_formed.0.1
+
+pub bounds-servers-node : goal.bounds-servers-node
+bounds-servers-node g c = c.if-node-servers.false
+
+pub returns-clause-tells : goal.returns-clause-tells
+returns-clause-tells g c = c.server_hears.ensures.tells
