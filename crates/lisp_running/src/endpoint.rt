@@ -3,7 +3,7 @@
 use crate::fault::RunFault;
 use crate::output::{Call, print_failed};
 use lisp_records::Addr;
-use std::io::{self, ErrorKind, Write};
+use std::io::{ErrorKind, Write};
 use std::net::{IpAddr, Ipv4Addr, Ipv6Addr, Net, SocketAddr, UdpSocket};
 use std::time::Duration;
 
@@ -26,6 +26,17 @@ pub(crate) struct Endpoint<'a> {
     socket: UdpSocket,
 }
 
+/// What came of waiting for a datagram.
+#[derive(Drop)]
+pub(crate) enum Received<'b> {
+    /// A datagram, and the address that it comes from.
+    Datagram { from: Addr, bytes: &'b [u8] },
+    /// None came in time.
+    Nothing,
+    /// The socket failed.
+    Failed,
+}
+
 impl<'a> Endpoint<'a> {
     /// A socket at the address, UDP port 4342, which waits so long for a datagram, in ms. Fault: 92.
     pub(crate) fn bind<R: Net>(
@@ -43,13 +54,18 @@ impl<'a> Endpoint<'a> {
         }
     }
 
-    /// The next datagram, taken into `buffer`, and the address that it comes from; `None` where none came in time.
-    pub(crate) fn receive<'b>(&self, buffer: &'b mut [u8]) -> io::Result<Option<(Addr, &'b [u8])>> {
+    /// The next datagram, taken into `buffer`.
+    pub(crate) fn receive<'b>(&self, buffer: &'b mut [u8]) -> Received<'b> {
         match self.socket.recv_from(buffer) {
-            Ok((count, from)) => Ok(Some((address_of(&from), &buffer[..count]))),
+            Ok((count, from)) => Received::Datagram {
+                from: address_of(&from),
+                bytes: &buffer[..count],
+            },
             Err(error) => match error.kind() {
-                ErrorKind::WouldBlock | ErrorKind::TimedOut | ErrorKind::Interrupted => Ok(None),
-                _ => Err(error),
+                ErrorKind::WouldBlock | ErrorKind::TimedOut | ErrorKind::Interrupted => {
+                    Received::Nothing
+                }
+                _ => Received::Failed,
             },
         }
     }

@@ -37,6 +37,12 @@ impl RunFault {
         line: 0,
     };
 
+    // A line can't be written.
+    pub(crate) const WRITE: RunFault = RunFault {
+        number: 88,
+        line: 0,
+    };
+
     /// Out of memory in a call that has no number of its own for it.
     pub const MEMORY: RunFault = RunFault {
         number: 97,

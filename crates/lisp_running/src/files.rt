@@ -11,6 +11,9 @@ use std::fs::{self, File, Files};
 use std::io::{BufReader, ErrorKind};
 use std::str;
 
+/// A file is not UTF-8.
+const NOT_UTF8: InputFault = InputFault::Input(PlayFault::NotUtf8);
+
 /// The configuration of a file. Faults: 93 where it can't be opened, 87 and 89 by the two bounds of an input, 95 where it is
 /// not UTF-8, then its own.
 pub(crate) fn read_config<R: Files + AllocGlobal>(
@@ -18,7 +21,10 @@ pub(crate) fn read_config<R: Files + AllocGlobal>(
     path: &str,
 ) -> Result<Config, InputFault> {
     let bytes = read_file(rt, path)?;
-    Ok(Config::read(rt.alloc(), rt.alloc(), text_of(&bytes)?)?)
+    let Ok(text) = str::from_utf8(&bytes) else {
+        return Err(NOT_UTF8);
+    };
+    Ok(Config::read(rt.alloc(), rt.alloc(), text)?)
 }
 
 /// The commands of a file, a script. Faults: 93, 87, 89 and 95 as of a configuration, then that of its first faulty line.
@@ -28,7 +34,10 @@ pub(crate) fn read_script<R: Files + AllocGlobal>(
     path: &str,
 ) -> Result<Vec<Command>, InputFault> {
     let bytes = read_file(rt, path)?;
-    match parse_script(rt.alloc(), config, text_of(&bytes)?) {
+    let Ok(text) = str::from_utf8(&bytes) else {
+        return Err(NOT_UTF8);
+    };
+    match parse_script(rt.alloc(), config, text) {
         Ok(commands) => Ok(commands),
         Err(fault) => Err(InputFault::Input(PlayFault::Script(fault))),
     }
@@ -43,13 +52,6 @@ fn read_file<R: Files + AllocGlobal>(rt: &R, path: &str) -> Result<Vec<u8>, Inpu
         return Err(InputFault::Input(PlayFault::OutOfMemory));
     };
     Ok(read_to_end(rt.alloc(), &mut reader)?)
-}
-
-fn text_of(bytes: &[u8]) -> Result<&str, InputFault> {
-    match str::from_utf8(bytes) {
-        Ok(text) => Ok(text),
-        Err(_) => Err(InputFault::Input(PlayFault::NotUtf8)),
-    }
 }
 
 /// A store of nonces in a node's folder, and the lock that keeps other processes out of it while this value lives.

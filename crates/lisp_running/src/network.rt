@@ -76,7 +76,7 @@ fn run_over<R: Net + AllocGlobal, S: WorldStore + Drop, W: Write>(
 {
     let world = World::new(rt.alloc(), config, stores)?;
     let sockets = Sockets::bind(rt, config)?;
-    let network = RunningNetwork {
+    let mut network = RunningNetwork {
         alloc: rt.alloc(),
         config,
         world,
@@ -135,7 +135,7 @@ struct RunningNetwork<'a, S: WorldStore> {
 
 impl<S: WorldStore + Drop> RunningNetwork<'_, S> {
     // Takes the commands, one after the other.
-    fn run<W: Write>(mut self, commands: &[Command], writer: &mut W) -> Result<(), RunFault> {
+    fn run<W: Write>(&mut self, commands: &[Command], writer: &mut W) -> Result<(), RunFault> {
         for command in commands.chunks(1) {
             self.take(command, writer)?;
         }
@@ -154,7 +154,7 @@ impl<S: WorldStore + Drop> RunningNetwork<'_, S> {
     }
 
     // Whether the datagram that the command delivers arrives, if it delivers one that was sent.
-    fn arrives<W: Write>(&mut self, command: &[Command], writer: &mut W) -> Result<bool, RunFault> {
+    fn arrives<W: Write>(&self, command: &[Command], writer: &mut W) -> Result<bool, RunFault> {
         let Some(k) = delivered(command) else {
             return Ok(true);
         };

@@ -96,7 +96,7 @@ fn run_at<R: Net + Clock + AllocGlobal, N: Node + Drop, W: Write>(
 ) -> Result<(), RunFault>
     requires { number < length config.now.servers + length config.now.routers }
 {
-    let node = node?;
+    let mut node = node?;
     let station = Station::bind(rt, config, number)?;
-    take_turns(rt, node, &station, turns, writer)
+    take_turns(rt, &mut node, &station, turns, writer)
 }

@@ -1,7 +1,7 @@
 //! What is printed: each line at once, so that a pipe sees it.
 
 use crate::fault::RunFault;
-use lisp_playing::{PlayFault, write_line};
+use lisp_playing::write_line;
 use lisp_schedules::Line;
 use lisp_sites::Config;
 use std::alloc::Global;
@@ -39,7 +39,7 @@ pub(crate) fn print_line<W: Write>(
 pub(crate) fn print_lost<W: Write>(datagram: usize, writer: &mut W) -> Result<(), RunFault> {
     match writeln!(writer, "lost {datagram}") {
         Ok(()) => flush(writer),
-        Err(_) => Err(RunFault::from(PlayFault::Write)),
+        Err(_) => Err(RunFault::WRITE),
     }
 }
 
@@ -52,7 +52,7 @@ pub(crate) fn print_failed<W: Write>(
     let number = call.number();
     match writeln!(writer, "refused {name} {number}") {
         Ok(()) => flush(writer),
-        Err(_) => Err(RunFault::from(PlayFault::Write)),
+        Err(_) => Err(RunFault::WRITE),
     }
 }
 
@@ -60,6 +60,6 @@ pub(crate) fn print_failed<W: Write>(
 pub(crate) fn flush<W: Write>(writer: &mut W) -> Result<(), RunFault> {
     match writer.flush() {
         Ok(()) => Ok(()),
-        Err(_) => Err(RunFault::from(PlayFault::Write)),
+        Err(_) => Err(RunFault::WRITE),
     }
 }

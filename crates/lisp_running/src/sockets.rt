@@ -2,11 +2,11 @@
 
 ghost use Rattle.std.specs.Prelude.{◌<◌, ◌+◌, length};
 
-use crate::endpoint::{DELIVERY, Endpoint, MOST_BYTES};
+use crate::endpoint::{DELIVERY, Endpoint, MOST_BYTES, Received};
 use crate::fault::RunFault;
 use crate::named::{Entry, entry_at, node_count};
 use crate::output::{Call, print_failed, print_lost};
-use lisp_memory::{FallibleCopies, FallibleVec};
+use lisp_memory::FallibleVec;
 use lisp_records::Addr;
 use lisp_sites::Config;
 use lisp_world::Datagram;
@@ -17,7 +17,6 @@ use std::net::Net;
 #[derive(Drop)]
 pub(crate) struct Sockets<'a> {
     peers: Vec<Peer<'a>>,
-    buffer: Vec<u8>,
 }
 
 /// A node, as the sockets see it.
@@ -33,15 +32,17 @@ impl<'a> Sockets<'a> {
         rt: &R,
         config: &'a Config,
     ) -> Result<Sockets<'a>, RunFault> {
-        let peers = bind_all(rt, config)?;
-        let buffer = Vec::try_from_elem(rt.alloc(), 0, MOST_BYTES)?;
-        Ok(Sockets { peers, buffer })
+        let mut peers = Vec::new(rt.alloc());
+        for number in 0..node_count(config) {
+            peers.try_push(Peer::bind(rt, config, number)?)?;
+        }
+        Ok(Sockets { peers })
     }
 
     /// Whether the next datagram at the node that datagram k was sent to is datagram k, or it was sent to no node. Else it
     /// prints that datagram k is lost, or that the socket failed. Fault: 88.
     pub(crate) fn arrives<W: Write>(
-        &mut self,
+        &self,
         k: usize,
         datagram: &Datagram,
         writer: &mut W,
@@ -49,10 +50,13 @@ impl<'a> Sockets<'a> {
         let Some(peer) = peer_at(&self.peers, &datagram.to) else {
             return Ok(true);
         };
-        match peer.endpoint.receive(&mut self.buffer) {
-            Ok(Some((_, bytes))) if bytes == datagram.bytes.as_slice() => return Ok(true),
-            Ok(_) => print_lost(k, writer)?,
-            Err(_) => print_failed(peer.endpoint.name, Call::Receive, writer)?,
+        let mut buffer = [0; MOST_BYTES];
+        match peer.endpoint.receive(&mut buffer) {
+            Received::Datagram { bytes, .. } if bytes == datagram.bytes.as_slice() => {
+                return Ok(true);
+            }
+            Received::Failed => print_failed(peer.endpoint.name, Call::Receive, writer)?,
+            _ => print_lost(k, writer)?,
         }
         Ok(false)
     }
@@ -74,25 +78,18 @@ impl<'a> Sockets<'a> {
     }
 }
 
-fn bind_all<'a, R: Net + AllocGlobal>(
-    rt: &R,
-    config: &'a Config,
-) -> Result<Vec<Peer<'a>>, RunFault> {
-    let mut peers = Vec::new(rt.alloc());
-    for number in 0..node_count(config) {
-        peers.try_push(bind_one(rt, config, number)?)?;
+impl<'a> Peer<'a> {
+    // The node with a number, and a socket at its address. Fault: 92.
+    fn bind<R: Net>(rt: &R, config: &'a Config, number: usize) -> Result<Peer<'a>, RunFault>
+        requires { number < length config.now.servers + length config.now.routers }
+    {
+        let Entry { name, address, .. } = entry_at(config, number);
+        let endpoint = Endpoint::bind(rt, name, address, DELIVERY)?;
+        Ok(Peer {
+            address: *address,
+            endpoint,
+        })
     }
-    Ok(peers)
-}
-
-fn bind_one<'a, R: Net>(rt: &R, config: &'a Config, number: usize) -> Result<Peer<'a>, RunFault>
-    requires { number < length config.now.servers + length config.now.routers }
-{
-    let Entry { name, address, .. } = entry_at(config, number);
-    Ok(Peer {
-        address: *address,
-        endpoint: Endpoint::bind(rt, name, address, DELIVERY)?,
-    })
 }
 
 // The node at an address.

@@ -1,12 +1,11 @@
 //! The turns of a node.
 
 use crate::clock::Stopwatch;
-use crate::endpoint::MOST_BYTES;
+use crate::endpoint::{MOST_BYTES, Received};
 use crate::fault::RunFault;
 use crate::node::Node;
 use crate::output::{Call, print_failed};
 use crate::station::Station;
-use lisp_memory::FallibleCopies;
 use lisp_nodes::Arrival;
 use lisp_records::Addr;
 use lisp_store::Fate;
@@ -14,17 +13,17 @@ use std::io::Write;
 use std::time::Clock;
 
 /// Takes so many turns. Faults: 92 for the clock, 97, 88.
-pub(crate) fn take_turns<R: Clock + AllocGlobal, N: Node + Drop, W: Write>(
+pub(crate) fn take_turns<R: Clock, N: Node, W: Write>(
     rt: &R,
-    mut node: N,
+    node: &mut N,
     station: &Station,
     turns: u64,
     writer: &mut W,
 ) -> Result<(), RunFault> {
     let mut clock = Stopwatch::start(rt)?;
-    let mut buffer = Vec::try_from_elem(rt.alloc(), 0, MOST_BYTES)?;
+    let mut buffer = [0; MOST_BYTES];
     for _ in 0..turns {
-        take_turn(rt, &mut node, station, &mut clock, &mut buffer, writer)?;
+        take_turn(rt, node, station, &mut clock, &mut buffer, writer)?;
     }
     Ok(())
 }
@@ -39,9 +38,11 @@ fn take_turn<C: Clock, N: Node, W: Write>(
     writer: &mut W,
 ) -> Result<(), RunFault> {
     match station.endpoint.receive(buffer) {
-        Ok(Some((from, bytes))) => hear(node, station, from, bytes, clock.now(rt), writer)?,
-        Ok(None) => {}
-        Err(_) => print_failed(station.endpoint.name, Call::Receive, writer)?,
+        Received::Datagram { from, bytes } => {
+            hear(node, station, from, bytes, clock.now(rt), writer)?;
+        }
+        Received::Nothing => {}
+        Received::Failed => print_failed(station.endpoint.name, Call::Receive, writer)?,
     }
     node.send_due(station, clock.now(rt), writer)
 }
