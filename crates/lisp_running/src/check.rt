@@ -4,11 +4,12 @@ use crate::files::read_config;
 use crate::input_fault::InputFault;
 use lisp_memory::FallibleString;
 use lisp_playing::PlayFault;
-use lisp_records::MapRecord;
+use lisp_records::{Addr, MapRecord};
 use lisp_served::{Site, SitePrefix};
-use lisp_sites::{Config, RouterEntry, ServerEntry};
+use lisp_sites::{Config, Name, RouterEntry, ServerEntry};
 use lisp_texts::{addr_to_text, prefix_to_text, record_to_text};
 use std::alloc::{AllocError, Global};
+use std::fmt::Display;
 use std::fs::Files;
 use std::io::Write;
 
@@ -46,7 +47,10 @@ fn print_servers<W: Write>(
     writer: &mut W,
 ) -> Result<(), InputFault> {
     for server in servers {
-        print(server_line(alloc, server), writer)?;
+        print(
+            node_line(alloc, "server", &server.name, &server.address),
+            writer,
+        )?;
     }
     Ok(())
 }
@@ -75,79 +79,80 @@ fn site_line(alloc: Global, site: &Site) -> Result<String, AllocError> {
     let id = site.id();
     let mut line = String::try_format(alloc, format_args!("site {id:016x}"))?;
     for key in site.keys() {
-        let id = key.id;
-        line.try_write(format_args!(" key {id}"))?;
+        put(&mut line, "key", key.id)?;
     }
-    for prefix in site.prefixes() {
-        put_prefix(&mut line, alloc, prefix)?;
-    }
+    put_prefixes(&mut line, alloc, site.prefixes())?;
     Ok(line)
 }
 
-fn put_prefix(line: &mut String, alloc: Global, prefix: &SitePrefix) -> Result<(), AllocError> {
-    let eid = prefix_to_text(alloc, &prefix.eid)?;
-    line.try_write(format_args!(" prefix {eid}"))?;
-    if prefix.more_specifics {
-        line.try_write(format_args!(" more-specifics"))?;
+fn put_prefixes(
+    line: &mut String,
+    alloc: Global,
+    prefixes: &[SitePrefix],
+) -> Result<(), AllocError> {
+    for prefix in prefixes {
+        put(line, "prefix", prefix_to_text(alloc, &prefix.eid)?)?;
+        if prefix.more_specifics {
+            line.try_write(" more-specifics")?;
+        }
     }
     Ok(())
 }
 
-fn server_line(alloc: Global, server: &ServerEntry) -> Result<String, AllocError> {
-    let name = server.name.as_str();
-    let address = addr_to_text(alloc, &server.address)?;
-    String::try_format(alloc, format_args!("server {name} {address}"))
-}
-
 fn router_line(alloc: Global, config: &Config, router: &RouterEntry) -> Result<String, AllocError> {
-    let mut line = identity_of(alloc, router)?;
+    let mut line = node_line(alloc, "router", &router.name, &router.address)?;
+    put_identity(&mut line, router)?;
     put_servers(&mut line, config, router.servers.as_slice())?;
     put_flags(&mut line, router)?;
     put_records(&mut line, alloc, router.database.records())?;
     Ok(line)
 }
 
+// A node's name and address, behind what it is.
+fn node_line(alloc: Global, what: &str, name: &Name, address: &Addr) -> Result<String, AllocError> {
+    let name = name.as_str();
+    let address = addr_to_text(alloc, address)?;
+    String::try_format(alloc, format_args!("{what} {name} {address}"))
+}
+
+// A router's site, xTR-ID and Key ID.
+fn put_identity(line: &mut String, router: &RouterEntry) -> Result<(), AllocError> {
+    let site = router.me.site;
+    let xtr = u128::from_be_bytes(router.me.xtr);
+    let key = router.key_id;
+    line.try_write(format_args!(" site {site:016x} xtr {xtr:032x} key {key}"))
+}
+
 fn put_servers(line: &mut String, config: &Config, places: &[usize]) -> Result<(), AllocError> {
     for place in places {
         if let Some(server) = config.servers().get(*place) {
-            let name = server.name.as_str();
-            line.try_write(format_args!(" server {name}"))?;
+            put(line, "server", server.name.as_str())?;
         }
+    }
+    Ok(())
+}
+
+fn put_flags(line: &mut String, router: &RouterEntry) -> Result<(), AllocError> {
+    if router.proxy {
+        line.try_write(" proxy")?;
+    }
+    if router.use_ttl {
+        line.try_write(" use-ttl")?;
+    }
+    if router.nonce_block > 1 {
+        put(line, "nonce-block", router.nonce_block)?;
     }
     Ok(())
 }
 
 fn put_records(line: &mut String, alloc: Global, records: &[MapRecord]) -> Result<(), AllocError> {
     for record in records {
-        let record = record_to_text(alloc, record)?;
-        line.try_write(format_args!(" record {record}"))?;
+        put(line, "record", record_to_text(alloc, record)?)?;
     }
     Ok(())
 }
 
-// A router's name, address, site, xTR-ID and Key ID.
-fn identity_of(alloc: Global, router: &RouterEntry) -> Result<String, AllocError> {
-    let name = router.name.as_str();
-    let address = addr_to_text(alloc, &router.address)?;
-    let site = router.me.site;
-    let xtr = u128::from_be_bytes(router.me.xtr);
-    let key = router.key_id;
-    String::try_format(
-        alloc,
-        format_args!("router {name} {address} site {site:016x} xtr {xtr:032x} key {key}"),
-    )
-}
-
-fn put_flags(line: &mut String, router: &RouterEntry) -> Result<(), AllocError> {
-    if router.proxy {
-        line.try_write(format_args!(" proxy"))?;
-    }
-    if router.use_ttl {
-        line.try_write(format_args!(" use-ttl"))?;
-    }
-    if router.nonce_block > 1 {
-        let nonces = router.nonce_block;
-        line.try_write(format_args!(" nonce-block {nonces}"))?;
-    }
-    Ok(())
+// A value, behind what it is.
+fn put<D: Display + Drop>(line: &mut String, what: &str, value: D) -> Result<(), AllocError> {
+    line.try_write(format_args!(" {what} {value}"))
 }

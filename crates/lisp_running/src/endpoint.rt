@@ -19,10 +19,11 @@ pub(crate) const DELIVERY: u64 = 1_000;
 /// The most bytes of a datagram.
 pub(crate) const MOST_BYTES: usize = 65_535;
 
-/// A socket at a node's address, and the node's name.
+/// A socket at a node's address, and the node's name and address.
 #[derive(Drop)]
 pub(crate) struct Endpoint<'a> {
     pub(crate) name: &'a str,
+    pub(crate) address: &'a Addr,
     socket: UdpSocket,
 }
 
@@ -42,14 +43,18 @@ impl<'a> Endpoint<'a> {
     pub(crate) fn bind<R: Net>(
         rt: &R,
         name: &'a str,
-        address: &Addr,
+        address: &'a Addr,
         patience: u64,
     ) -> Result<Endpoint<'a>, RunFault> {
         let Ok(socket) = UdpSocket::bind(rt, at(address)) else {
             return Err(RunFault::BIND);
         };
         match socket.set_read_timeout(Some(Duration::from_millis(patience))) {
-            Ok(()) => Ok(Endpoint { name, socket }),
+            Ok(()) => Ok(Endpoint {
+                name,
+                address,
+                socket,
+            }),
             Err(_) => Err(RunFault::BIND),
         }
     }

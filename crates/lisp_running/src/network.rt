@@ -46,22 +46,12 @@ fn run_script<R: Files<File = File> + Net + AllocGlobal + Clone + Drop, W: Write
     writer: &mut W,
 ) -> Result<(), RunFault> {
     let commands = read_script(rt, config, file)?;
-    run_commands(rt, config, dir, &commands, writer)
-}
-
-fn run_commands<R: Files<File = File> + Net + AllocGlobal + Clone + Drop, W: Write>(
-    rt: &R,
-    config: &Config,
-    dir: &str,
-    commands: &[Command],
-    writer: &mut W,
-) -> Result<(), RunFault> {
     // The locks keep other processes out of the folders.
     let Folders {
         stores,
         locks: _locks,
     } = open_folders(rt, config, dir)?;
-    run_over(rt, config, stores, commands, writer)
+    run_over(rt, config, stores, &commands, writer)
 }
 
 // Runs commands in the network over the stores, with a socket for each node. Faults: 74 to 76, 92, 97, 88.

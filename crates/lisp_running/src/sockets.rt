@@ -16,14 +16,7 @@ use std::net::Net;
 /// A socket for each node, Map-Servers first.
 #[derive(Drop)]
 pub(crate) struct Sockets<'a> {
-    peers: Vec<Peer<'a>>,
-}
-
-/// A node, as the sockets see it.
-#[derive(Drop)]
-struct Peer<'a> {
-    address: Addr,
-    endpoint: Endpoint<'a>,
+    endpoints: Vec<Endpoint<'a>>,
 }
 
 impl<'a> Sockets<'a> {
@@ -32,11 +25,23 @@ impl<'a> Sockets<'a> {
         rt: &R,
         config: &'a Config,
     ) -> Result<Sockets<'a>, RunFault> {
-        let mut peers = Vec::new(rt.alloc());
+        let mut sockets = Sockets {
+            endpoints: Vec::new(rt.alloc()),
+        };
         for number in 0..node_count(config) {
-            peers.try_push(Peer::bind(rt, config, number)?)?;
+            sockets.add(rt, config, number)?;
         }
-        Ok(Sockets { peers })
+        Ok(sockets)
+    }
+
+    // A socket at the address of the node with a number, too. Faults: 92, 97.
+    fn add<R: Net>(&mut self, rt: &R, config: &'a Config, number: usize) -> Result<(), RunFault>
+        requires { number < length config.now.servers + length config.now.routers }
+    {
+        let Entry { name, address, .. } = entry_at(config, number);
+        let endpoint = Endpoint::bind(rt, name, address, DELIVERY)?;
+        self.endpoints.try_push(endpoint)?;
+        Ok(())
     }
 
     /// Whether the next datagram at the node that datagram k was sent to is datagram k, or it was sent to no node. Else it
@@ -47,15 +52,15 @@ impl<'a> Sockets<'a> {
         datagram: &Datagram,
         writer: &mut W,
     ) -> Result<bool, RunFault> {
-        let Some(peer) = peer_at(&self.peers, &datagram.to) else {
+        let Some(endpoint) = endpoint_at(&self.endpoints, &datagram.to) else {
             return Ok(true);
         };
         let mut buffer = [0; MOST_BYTES];
-        match peer.endpoint.receive(&mut buffer) {
+        match endpoint.receive(&mut buffer) {
             Received::Datagram { bytes, .. } if bytes == datagram.bytes.as_slice() => {
                 return Ok(true);
             }
-            Received::Failed => print_failed(peer.endpoint.name, Call::Receive, writer)?,
+            Received::Failed => print_failed(endpoint.name, Call::Receive, writer)?,
             _ => print_lost(k, writer)?,
         }
         Ok(false)
@@ -67,32 +72,17 @@ impl<'a> Sockets<'a> {
         datagram: &Datagram,
         writer: &mut W,
     ) -> Result<(), RunFault> {
-        let to = peer_at(&self.peers, &datagram.to);
-        match (to, peer_at(&self.peers, &datagram.from)) {
-            (Some(_), Some(from)) => {
-                from.endpoint
-                    .send(&datagram.to, datagram.bytes.as_slice(), writer)
-            }
+        let to = endpoint_at(&self.endpoints, &datagram.to);
+        match (to, endpoint_at(&self.endpoints, &datagram.from)) {
+            (Some(_), Some(from)) => from.send(&datagram.to, datagram.bytes.as_slice(), writer),
             _ => Ok(()),
         }
     }
 }
 
-impl<'a> Peer<'a> {
-    // The node with a number, and a socket at its address. Fault: 92.
-    fn bind<R: Net>(rt: &R, config: &'a Config, number: usize) -> Result<Peer<'a>, RunFault>
-        requires { number < length config.now.servers + length config.now.routers }
-    {
-        let Entry { name, address, .. } = entry_at(config, number);
-        let endpoint = Endpoint::bind(rt, name, address, DELIVERY)?;
-        Ok(Peer {
-            address: *address,
-            endpoint,
-        })
-    }
-}
-
-// The node at an address.
-fn peer_at<'p, 'a>(peers: &'p [Peer<'a>], address: &Addr) -> Option<&'p Peer<'a>> {
-    peers.iter().find(|peer| peer.address == *address)
+// The socket at an address.
+fn endpoint_at<'e, 'a>(endpoints: &'e [Endpoint<'a>], address: &Addr) -> Option<&'e Endpoint<'a>> {
+    endpoints
+        .iter()
+        .find(|endpoint| *endpoint.address == *address)
 }
