@@ -28,7 +28,9 @@ use Rattle.lisp_turns.specs.Asked.{ServerTells, RouterTells}
 use Rattle.lisp_turns.proofs.Gets.{none_is_some, same_some, get_within}
 use Rattle.lisp_turns.proofs.Asking.{servers_tell, routers_tell}
 use Rattle.lisp_lines.specs.Query.{hold_text, ack_text, ask_text, due_text, due_server, due_router}
-use Rattle.lisp_playing.specs.Asked.{Where, Holds, Asks, Acknowledges, IsDue, IsDueAtRouter, OfTraces, CountedFrom, router_in, due_in, is_router, of_router, down_text, missing_text}
+use Rattle.lisp_playing.specs.Asked.{Where, Holds, Asks, Acknowledges, IsDue, IsDueAtRouter, OfTraces, CountedFrom, router_in, due_in, is_router, of_router, down_text, fault_text, missing_text}
+use Rattle.lisp_world.specs.declared.fault.WorldFault.{WorldFault}
+use Rattle.lisp_world.specs.declared.fault.WorldFault.TheVariants.{NoNode, WrongKind}
 
 -- of two, the one that a test picks
 where_true : (test : Bool) (Yes No : Type 0) → test ≡ true → Yes → Where test Yes No
@@ -139,6 +141,13 @@ router_missing c node at = by (is_router c node) at
     by : (b : Bool) → None ≡ (if b then Some (router_at c node) else None) → b ≡ false
     by true same = absurd (none_is_some same)
     by false same = refl
+
+-- a node that is missing: of the other kind, or there is none
+pub missing_wrong : (c : Configuration) (node : ℕ) (fault : WorldFault) → fault ≡ WrongKind → node < length c.servers + length c.routers → fault_text fault ≡ missing_text c node
+missing_wrong c node fault is below = ap fault_text is ∙ sym (ap (λ (b : Bool). if b then fault_text WrongKind else fault_text NoNode) (lt-ltb node (length c.servers + length c.routers) below))
+
+pub missing_none : (c : Configuration) (node : ℕ) (fault : WorldFault) → fault ≡ NoNode → length c.servers + length c.routers ≤ node → fault_text fault ≡ missing_text c node
+missing_none c node fault is past = ap fault_text is ∙ sym (ap (λ (b : Bool). if b then fault_text WrongKind else fault_text NoNode) (le-ltb node (length c.servers + length c.routers) past))
 
 -- what is found first stands at the first place
 found_first : {X : Type 0} (p : X → Bool) (xs : List X) → find p xs ≡ option_and_then (slice_get xs) (position p xs)

@@ -152,10 +152,12 @@ fn missing_line<A: Memory, E: Allocator>(
     ensures text { IfOk result (λ text. string_bytes text ≡ missing_text config.now node) }
     ensures memory { OnErr result A.may_refuse }
 {
-    if node < config.servers().len() + config.routers().len() {
-        return fault_line(alloc, WorldFault::WrongKind);
-    }
-    fault_line(alloc, WorldFault::NoNode)
+    let fault = if node < config.servers().len() + config.routers().len() {
+        WorldFault::WrongKind
+    } else {
+        WorldFault::NoNode
+    };
+    fault_line(alloc, fault)
 }
 
 /// The line for what the network doesn't take.
