@@ -66,10 +66,6 @@ impl RunFault {
             line => Some(line),
         }
     }
-
-    const fn new(number: u16) -> RunFault {
-        RunFault { number, line: 0 }
-    }
 }
 
 // Whether the number is that of something that failed.
@@ -100,13 +96,19 @@ impl From<InputFault> for RunFault {
 
 impl From<WorldFault> for RunFault {
     fn from(fault: WorldFault) -> RunFault {
-        RunFault::new(fault.number())
+        RunFault {
+            number: fault.number(),
+            line: 0,
+        }
     }
 }
 
 impl From<StartFault> for RunFault {
     fn from(fault: StartFault) -> RunFault {
-        RunFault::new(fault.number())
+        RunFault {
+            number: fault.number(),
+            line: 0,
+        }
     }
 }
 

@@ -1,10 +1,6 @@
 //! What is printed: each line at once, so that a pipe sees it.
 
 use crate::fault::RunFault;
-use lisp_playing::write_line;
-use lisp_schedules::Line;
-use lisp_sites::Config;
-use std::alloc::Global;
 use std::io::Write;
 
 /// A call of a socket.
@@ -22,17 +18,6 @@ impl Call {
             Call::Send => 91,
         }
     }
-}
-
-/// Prints the line of an event, without a datagram's number. Faults: 88, 97.
-pub(crate) fn print_line<W: Write>(
-    alloc: Global,
-    config: &Config,
-    line: &Line,
-    writer: &mut W,
-) -> Result<(), RunFault> {
-    write_line(alloc, config, line, false, writer)?;
-    flush(writer)
 }
 
 /// Prints that a datagram didn't arrive. Fault: 88.

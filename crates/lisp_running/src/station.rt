@@ -5,7 +5,8 @@ ghost use Rattle.std.specs.Prelude.{◌<◌, ◌+◌, length};
 use crate::endpoint::{Endpoint, TURN};
 use crate::fault::RunFault;
 use crate::named::{Entry, entry_at};
-use crate::output::print_line;
+use crate::output::flush;
+use lisp_playing::write_line;
 use lisp_records::{Addr, Bytes, RouterId};
 use lisp_schedules::{Line, Refusal};
 use lisp_sites::Config;
@@ -56,9 +57,10 @@ impl<'a> Station<'a> {
         self.config.servers().len() + place.unwrap_or(routers.len())
     }
 
-    /// Prints the line of an event. Faults: 88, 97.
+    /// Prints the line of an event, without a datagram's number. Faults: 88, 97.
     pub(crate) fn print<W: Write>(&self, line: &Line, writer: &mut W) -> Result<(), RunFault> {
-        print_line(self.alloc, self.config, line, writer)
+        write_line(self.alloc, self.config, line, false, writer)?;
+        flush(writer)
     }
 
     /// Prints why the node did not do what was due: it did not, false. Faults: 88, 97.
