@@ -6,7 +6,7 @@ use lisp_memory::FallibleString;
 use lisp_playing::PlayFault;
 use lisp_records::{Addr, MapRecord};
 use lisp_served::{Site, SitePrefix};
-use lisp_sites::{Config, Name, RouterEntry, ServerEntry};
+use lisp_sites::{Config, Name, RouterEntry};
 use lisp_texts::{addr_to_text, prefix_to_text, record_to_text};
 use std::alloc::{AllocError, Global};
 use std::fmt::Display;
@@ -29,37 +29,13 @@ fn print_config<W: Write>(
     config: &Config,
     writer: &mut W,
 ) -> Result<(), InputFault> {
-    print_sites(alloc, config.sites().as_slice(), writer)?;
-    print_servers(alloc, config.servers(), writer)?;
-    print_routers(alloc, config, writer)
-}
-
-fn print_sites<W: Write>(alloc: Global, sites: &[Site], writer: &mut W) -> Result<(), InputFault> {
-    for site in sites {
+    for site in config.sites().as_slice() {
         print(site_line(alloc, site), writer)?;
     }
-    Ok(())
-}
-
-fn print_servers<W: Write>(
-    alloc: Global,
-    servers: &[ServerEntry],
-    writer: &mut W,
-) -> Result<(), InputFault> {
-    for server in servers {
-        print(
-            node_line(alloc, "server", &server.name, &server.address),
-            writer,
-        )?;
+    for server in config.servers() {
+        let line = node_line(alloc, "server", &server.name, &server.address);
+        print(line, writer)?;
     }
-    Ok(())
-}
-
-fn print_routers<W: Write>(
-    alloc: Global,
-    config: &Config,
-    writer: &mut W,
-) -> Result<(), InputFault> {
     for router in config.routers() {
         print(router_line(alloc, config, router), writer)?;
     }

@@ -56,13 +56,14 @@ impl<'a> Sockets<'a> {
             return Ok(true);
         };
         let mut buffer = [0; MOST_BYTES];
-        match endpoint.receive(&mut buffer) {
+        let printed = match endpoint.receive(&mut buffer) {
             Received::Datagram { bytes, .. } if bytes == datagram.bytes.as_slice() => {
                 return Ok(true);
             }
-            Received::Failed => print_failed(endpoint.name, Call::Receive, writer)?,
-            _ => print_lost(k, writer)?,
-        }
+            Received::Failed => print_failed(endpoint.name, Call::Receive, writer),
+            _ => print_lost(k, writer),
+        };
+        printed?;
         Ok(false)
     }
 

@@ -37,13 +37,14 @@ fn take_turn<C: Clock, N: Node, W: Write>(
     buffer: &mut [u8],
     writer: &mut W,
 ) -> Result<(), RunFault> {
-    match station.endpoint.receive(buffer) {
+    let heard = match station.endpoint.receive(buffer) {
         Received::Datagram { from, bytes } => {
-            hear(node, station, from, bytes, clock.now(rt), writer)?;
+            hear(node, station, from, bytes, clock.now(rt), writer)
         }
-        Received::Nothing => {}
-        Received::Failed => print_failed(station.endpoint.name, Call::Receive, writer)?,
-    }
+        Received::Nothing => Ok(()),
+        Received::Failed => print_failed(station.endpoint.name, Call::Receive, writer),
+    };
+    heard?;
     node.send_due(station, clock.now(rt), writer)
 }
 
