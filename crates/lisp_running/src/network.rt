@@ -145,11 +145,11 @@ impl<S: WorldStore + Drop> RunningNetwork<'_, S> {
 
     // Whether the datagram that the command delivers arrives, if it delivers one that was sent.
     fn arrives<W: Write>(&self, command: &[Command], writer: &mut W) -> Result<bool, RunFault> {
-        let Some(k) = delivered(command) else {
+        let Some(Command::Act(Event::Deliver { k, .. })) = command.first() else {
             return Ok(true);
         };
-        match self.world.datagram(k) {
-            Some(datagram) => self.sockets.arrives(k, datagram, writer),
+        match self.world.datagram(*k) {
+            Some(datagram) => self.sockets.arrives(*k, datagram, writer),
             None => Ok(true),
         }
     }
@@ -162,13 +162,5 @@ impl<S: WorldStore + Drop> RunningNetwork<'_, S> {
             }
         }
         Ok(())
-    }
-}
-
-// The number of the datagram that the first command delivers.
-fn delivered(commands: &[Command]) -> Option<usize> {
-    match commands.first() {
-        Some(Command::Act(Event::Deliver { k, .. })) => Some(*k),
-        _ => None,
     }
 }
