@@ -1,7 +1,8 @@
 //! The whole document.
 
-ghost use Rattle.std.specs.Prelude.{◌≡◌, ℕ, List, OnOk, IfErr};
+ghost use Rattle.std.specs.Prelude.{◌≡◌, ◌++◌, ℕ, List, OnOk, IfErr, codes};
 ghost use Rattle.std.specs.List.{flat_map};
+ghost use Rattle.std.specs.Fmt.{decimal};
 ghost use Rattle.std.specs.Io.KnownBytes.{Appends};
 ghost use Rattle.lisp_numbers.specs.Numbers.{HasNumbers};
 ghost use Rattle.lisp_numbers.specs.Document.{document, section_document, section_head, row_line};
@@ -70,13 +71,22 @@ fn write_rows<W: Write>(rows: &[Row], writer: &mut W) -> Result<(), ExplainFault
 }
 
 // Writes the line of a row.
+#[tactic(auto, using(crate::proofs::Writing::appends_two))]
 fn write_row<W: Write>(row: &Row, writer: &mut W) -> Result<(), ExplainFault>
     ensures ok { OnOk result (Appends (W.contents writer.old) (W.contents writer.new) (row_line row.now)) }
     ensures fault { IfErr result (λ fault. fault ≡ faults.Write) }
 {
     write_text("| ", writer)?;
     write_number(row.number, writer)?;
-    let rest = [
+    write_texts(&texts_behind_number(row), writer)
+}
+
+// What stands behind the number in the line of a row.
+#[tactic(auto, unfolding(crate::specs::Document::row_line))]
+fn texts_behind_number(row: &Row) -> [&'static str; 14]
+    ensures { codes "| " ++ decimal row.now.number ++ flat_map (λ text. text.now) result ≡ row_line row.now }
+{
+    [
         mark_at(row.carried, " `"),
         row.carried,
         mark_at(row.carried, "`"),
@@ -91,6 +101,5 @@ fn write_row<W: Write>(row: &Row, writer: &mut W) -> Result<(), ExplainFault>
         mark_at(row.status, " | "),
         row.remedy,
         " |\n",
-    ];
-    write_texts(&rest, writer)
+    ]
 }

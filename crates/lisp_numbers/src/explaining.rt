@@ -1,6 +1,8 @@
 //! What is known of one number.
 
-ghost use Rattle.std.specs.Prelude.{◌≡◌, ◌↔◌, List, OnOk, IfErr, IsErrOf, true, false};
+ghost use Rattle.std.specs.Prelude.{◌≡◌, ◌↔◌, ◌++◌, List, OnOk, IfErr, IsErrOf, true, false};
+ghost use Rattle.std.specs.List.{flat_map};
+ghost use Rattle.std.specs.Fmt.{decimal};
 ghost use Rattle.std.specs.Io.KnownBytes.{Appends, Keeps};
 ghost use Rattle.lisp_numbers.specs.Numbers.{is_known, HasNumbers};
 ghost use Rattle.lisp_numbers.specs.Table.{has_row, is_in, explained, section_text, row_text_if, row_text};
@@ -9,6 +11,7 @@ ghost use Rattle.lisp_numbers.specs.declared.fault.ExplainFault.{ExplainFault};
 ghost use Rattle.lisp_numbers.specs.declared.fault.ExplainFault.TheVariants as faults;
 
 use crate::fault::ExplainFault;
+use crate::first_row::{first_row, first_section};
 use crate::output::{mark_at, write_number, write_texts};
 use crate::row::{Row, Section};
 use crate::table::sections;
@@ -39,14 +42,14 @@ pub fn explain<W: Write>(number: u16, writer: &mut W) -> Result<(), ExplainFault
 fn is_in(sections: &[Section], number: u16) -> bool
     ensures { result ≡ is_in number sections.now }
 {
-    sections.iter().any(|section| has_row(section, number))
+    first_section(sections, number).is_some()
 }
 
 // Whether a row of the section has the number.
 pub(crate) fn has_row(section: &Section, number: u16) -> bool
     ensures { result ≡ has_row number section.now }
 {
-    section.rows.iter().any(|row| row.number == number)
+    first_row(section, number).is_some()
 }
 
 // Writes the rows with the number.
@@ -97,12 +100,21 @@ fn explain_if<W: Write>(
 }
 
 // Writes a row of a section.
+#[tactic(auto, using(crate::proofs::Writing::appends_two))]
 fn explain_row<W: Write>(section: &Section, row: &Row, writer: &mut W) -> Result<(), ExplainFault>
     ensures ok { OnOk result (Appends (W.contents writer.old) (W.contents writer.new) (row_text section.now row.now)) }
     ensures fault { IfErr result (λ fault. fault ≡ faults.Write) }
 {
     write_number(row.number, writer)?;
-    let rest = [
+    write_texts(&texts_behind_number(section, row), writer)
+}
+
+// What is told of a row behind its number.
+#[tactic(auto, unfolding(crate::specs::Table::row_text))]
+fn texts_behind_number(section: &Section, row: &Row) -> [&'static str; 13]
+    ensures { decimal row.now.number ++ flat_map (λ text. text.now) result ≡ row_text section.now row.now }
+{
+    [
         mark_at(row.carried, " "),
         row.carried,
         mark_at(row.name, ", "),
@@ -116,6 +128,5 @@ fn explain_row<W: Write>(section: &Section, row: &Row, writer: &mut W) -> Result
         "\n  what to do: ",
         row.remedy,
         "\n",
-    ];
-    write_texts(&rest, writer)
+    ]
 }

@@ -4,11 +4,11 @@ ghost use Rattle.std.specs.Prelude.{◌≡◌, List};
 ghost use Rattle.std.specs.Option.{option_map};
 ghost use Rattle.std.specs.List.{find};
 ghost use Rattle.lisp_numbers.specs.Numbers.{HasNumbers};
-ghost use Rattle.lisp_numbers.specs.Table.{has_number, has_row, remedy_of, remedy_in};
+ghost use Rattle.lisp_numbers.specs.Table.{has_number, has_row, remedy_in};
 ghost use Rattle.lisp_numbers.specs.declared.row.Section.{Section};
 
 use crate::explaining::has_row;
-use crate::row::Section;
+use crate::row::{Row, Section};
 use crate::table::sections;
 
 /// What an operator does about the number, of the first row that has it, in the order of the table; `None` where no row has it.
@@ -21,25 +21,21 @@ pub fn remedy(number: u16) -> Option<&'static str>
 fn remedy_in(sections: &[Section], number: u16) -> Option<&'static str>
     ensures { option_map (λ text. text.now) result ≡ remedy_in number sections.now }
 {
-    match first_section(sections, number) {
-        Some(section) => section_remedy(section, number),
-        None => None,
-    }
+    let section = first_section(sections, number)?;
+    let row = first_row(section, number)?;
+    Some(row.remedy)
 }
 
-// The first section with the number.
-fn first_section(sections: &[Section], number: u16) -> Option<&Section>
+/// The first section with the number.
+pub(crate) fn first_section(sections: &[Section], number: u16) -> Option<&Section>
     ensures { option_map (λ section. section.now) result ≡ find (has_row number) sections.now }
 {
     sections.iter().find(|section| has_row(section, number))
 }
 
-// What an operator does about the first row of the section with the number.
-fn section_remedy(section: &Section, number: u16) -> Option<&'static str>
-    ensures { option_map (λ text. text.now) result ≡ remedy_of (find (has_number number) section.now.rows.now) }
+/// The first row of the section with the number.
+pub(crate) fn first_row(section: &Section, number: u16) -> Option<&Row>
+    ensures { option_map (λ row. row.now) result ≡ find (has_number number) section.now.rows.now }
 {
-    match section.rows.iter().find(|row| row.number == number) {
-        Some(row) => Some(row.remedy),
-        None => None,
-    }
+    section.rows.iter().find(|row| row.number == number)
 }
