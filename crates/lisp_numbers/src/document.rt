@@ -34,40 +34,31 @@ fn write_sections<W: Write>(sections: &[Section], writer: &mut W) -> Result<(), 
     Ok(())
 }
 
-#[tactic(auto, using(crate::proofs::Writing::appends_two))]
+#[tactic(auto, using(crate::proofs::Writing::appends_more))]
 fn write_section<W: Write>(section: &Section, writer: &mut W) -> Result<(), ExplainFault>
     ensures ok { OnOk result (Appends (W.contents writer.old) (W.contents writer.new) (section_document section.now)) }
     ensures fault { IfErr result (λ fault. fault ≡ faults.Write) }
 {
-    write_head(section, writer)?;
-    write_rows(section.rows, writer)
+    write_texts(&texts_before_rows(section), writer)?;
+    for row in section.rows {
+        write_row(row, writer)?;
+    }
+    Ok(())
 }
 
-// Writes what stands before the rows of a section.
+// What stands before the rows of a section.
 #[tactic(auto, unfolding(crate::specs::Document::section_head))]
-fn write_head<W: Write>(section: &Section, writer: &mut W) -> Result<(), ExplainFault>
-    ensures ok { OnOk result (Appends (W.contents writer.old) (W.contents writer.new) (section_head section.now)) }
-    ensures fault { IfErr result (λ fault. fault ≡ faults.Write) }
+fn texts_before_rows(section: &Section) -> [&'static str; 6]
+    ensures { flat_map (λ text. text.now) result ≡ section_head section.now }
 {
-    let head = [
+    [
         "\n## ",
         section.title,
         "\n\n",
         section.introduction,
         "\n\n",
         section.header,
-    ];
-    write_texts(&head, writer)
-}
-
-fn write_rows<W: Write>(rows: &[Row], writer: &mut W) -> Result<(), ExplainFault>
-    ensures ok { OnOk result (Appends (W.contents writer.old) (W.contents writer.new) (flat_map row_line rows.now)) }
-    ensures fault { IfErr result (λ fault. fault ≡ faults.Write) }
-{
-    for row in rows {
-        write_row(row, writer)?;
-    }
-    Ok(())
+    ]
 }
 
 // Writes the line of a row.

@@ -1,9 +1,0 @@
-use Rattle.std.proofs.Common.{take}
-use Rattle.std.specs.List.{flat_map}
-use Rattle.std.specs.Io.KnownBytes.{Appends}
-use Rattle.lisp_numbers.specs.Document.{row_line}
-use Rattle.lisp_numbers.proofs.document.write_rows.Given as goal
-
--- what was written so far
-abbrev pub invariant-loop-row : goal.invariant-loop-row
-invariant-loop-row g l = Appends (g.W.Write.contents l.fn.writer) (g.W.Write.contents l.writer) (flat_map (row_line) (take l.row-index l.rows))
