@@ -60,10 +60,14 @@ pub(crate) fn measure<R: Print + Clock + AllocGlobal>(rt: &R) -> Option<()> {
 fn measure_calls<R: Print + Clock + AllocGlobal>(rt: &R, notify: &MapNotify) -> Option<()> {
     let key = Key::new(&SECRET);
     for (name, call) in &NAMES {
-        let mean = nanos(rt, &key, notify, *call)? / u128::from(CALLS);
-        println!(rt; "{name}: {mean} ns, the mean of {CALLS} calls").ok()?;
+        let nanos = nanos(rt, &key, notify, *call)?;
+        print_mean(rt, name, nanos / u128::from(CALLS))?;
     }
     Some(())
+}
+
+fn print_mean<R: Print>(rt: &R, name: &str, mean: u128) -> Option<()> {
+    println!(rt; "{name}: {mean} ns, the mean of {CALLS} calls").ok()
 }
 
 // The nanoseconds of all calls; `None` if one gives another answer.

@@ -16,9 +16,13 @@ pub(crate) fn measure<R: Print + Clock + AllocGlobal>(rt: &R) -> Option<()> {
             return None;
         };
         let micros = micros(rt, text.as_str())?;
-        println!(rt; "a configuration of {sites} sites and as many routers: {micros} us").ok()?;
+        print_micros(rt, *sites, micros)?;
     }
     Some(())
+}
+
+fn print_micros<R: Print>(rt: &R, sites: u32, micros: u128) -> Option<()> {
+    println!(rt; "a configuration of {sites} sites and as many routers: {micros} us").ok()
 }
 
 // The microseconds of reading a configuration; `None` if it has a fault.

@@ -32,10 +32,14 @@ static NAMES: [(&str, Call); 3] = [
 /// Prints how long each call takes at a server that holds so many rows; `None` where anything fails.
 pub(crate) fn measure<R: Print + Clock>(rt: &R, server: &mut Server, held: u32) -> Option<()> {
     for (name, call) in &NAMES {
-        let mean = nanos(rt, server, *call)? / u128::from(CALLS);
-        println!(rt; "{held} rows held, {name}: {mean} ns, the mean of {CALLS} calls").ok()?;
+        let nanos = nanos(rt, server, *call)?;
+        print_mean(rt, held, name, nanos / u128::from(CALLS))?;
     }
     Some(())
+}
+
+fn print_mean<R: Print>(rt: &R, held: u32, name: &str, mean: u128) -> Option<()> {
+    println!(rt; "{held} rows held, {name}: {mean} ns, the mean of {CALLS} calls").ok()
 }
 
 // The nanoseconds of all calls; `None` if one gives another answer.

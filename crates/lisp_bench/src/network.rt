@@ -154,9 +154,7 @@ impl Network {
     fn time<R: Print + Clock>(&mut self, rt: &R, held: u32, records: u32) -> Option<()> {
         let (tags, _) = self.mean(rt, Timed::Tags)?;
         let (mean, calls) = self.mean(rt, Timed::Registration)?;
-        println!(rt;
-            "{held} rows held, {records} records: {mean} ns, their two tags alone {tags} ns, the mean of {calls} calls"
-        ).ok()
+        print_means(rt, held, records, mean, tags, calls)
     }
 
     // The mean nanoseconds, and of how many calls.
@@ -183,6 +181,19 @@ impl Network {
         let nanos = watch.nanos(rt)?;
         if done { Some(nanos) } else { None }
     }
+}
+
+fn print_means<R: Print>(
+    rt: &R,
+    held: u32,
+    records: u32,
+    mean: u128,
+    tags: u128,
+    calls: u32,
+) -> Option<()> {
+    println!(rt;
+        "{held} rows held, {records} records: {mean} ns, their two tags alone {tags} ns, the mean of {calls} calls"
+    ).ok()
 }
 
 // Whether the server accepts a Map-Register. Over a store of any kind less has to be proved than over one in memory.

@@ -6,7 +6,7 @@ use clap::ArgMatches;
 use lisp_player::{PlayFault, play};
 use lisp_texts::number_from_text;
 use lispd::{
-    AnswerFault, AnswerSetup, ExplainFault, InputFault, ProgramFault, answer, check_config,
+    AnswerFault, AnswerSetup, ExplainFault, InputFault, ProgramFault, RunFault, answer, check_config,
     explain, explain_all, keep_router_running, keep_server_running, run_loop, run_router,
     run_server, setup,
 };
@@ -25,9 +25,16 @@ const STANDARD_INPUT: &str = "-";
 pub(crate) fn run_subcommand<
     R: Print + Input + Files<File = File> + Net + Clock + AllocGlobal + Clone + Drop,
 >(rt: &R, matches: &ArgMatches<'_>) -> Result<ExitCode, ProgramFault> {
-    let Some((name, words)) = matches.subcommand() else {
-        return run_answer(rt, None);
-    };
+    match matches.subcommand() {
+        Some((name, words)) => run_named(rt, name, words)?,
+        None => run_answer(rt, None)?,
+    }
+    Ok(ExitCode::SUCCESS)
+}
+
+fn run_named<
+    R: Print + Input + Files<File = File> + Net + Clock + AllocGlobal + Clone + Drop,
+>(rt: &R, name: &str, words: &ArgMatches<'_>) -> Result<(), ProgramFault> {
     match name {
         "play" => run_play(rt, words),
         "server" => serve(rt, words),
@@ -80,49 +87,63 @@ fn turns(words: &ArgMatches<'_>) -> Result<Option<u32>, ProgramFault> {
 fn serve<R: Print + Files<File = File> + Net + Clock + AllocGlobal + Clone + Drop>(
     rt: &R,
     words: &ArgMatches<'_>,
-) -> Result<ExitCode, ProgramFault> {
+) -> Result<(), ProgramFault> {
     let node = node_words(words)?;
-    let writer = &mut io::writer(rt);
-    let ran = match node.turns {
+    serve_over(rt, &node, &mut io::writer(rt))?;
+    Ok(())
+}
+
+// A Map-Server, for its turns or until it is killed. It promises nothing, so that nothing need be proved of standard output.
+fn serve_over<R: Files<File = File> + Net + Clock + AllocGlobal + Clone + Drop, W: Write>(
+    rt: &R,
+    node: &NodeWords<'_>,
+    writer: &mut W,
+) -> Result<(), RunFault> {
+    match node.turns {
         Some(turns) => run_server(rt, node.config, node.name, node.dir, turns, writer),
         None => keep_server_running(rt, node.config, node.name, node.dir, writer),
-    };
-    ran?;
-    Ok(ExitCode::SUCCESS)
+    }
 }
 
 fn register<R: Print + Files<File = File> + Net + Clock + AllocGlobal + Clone + Drop>(
     rt: &R,
     words: &ArgMatches<'_>,
-) -> Result<ExitCode, ProgramFault> {
+) -> Result<(), ProgramFault> {
     let node = node_words(words)?;
-    let writer = &mut io::writer(rt);
-    let ran = match node.turns {
+    register_over(rt, &node, &mut io::writer(rt))?;
+    Ok(())
+}
+
+// A router, likewise.
+fn register_over<R: Files<File = File> + Net + Clock + AllocGlobal + Clone + Drop, W: Write>(
+    rt: &R,
+    node: &NodeWords<'_>,
+    writer: &mut W,
+) -> Result<(), RunFault> {
+    match node.turns {
         Some(turns) => run_router(rt, node.config, node.name, node.dir, turns, writer),
         None => keep_router_running(rt, node.config, node.name, node.dir, writer),
-    };
-    ran?;
-    Ok(ExitCode::SUCCESS)
+    }
 }
 
 fn run_network<R: Print + Files<File = File> + Net + AllocGlobal + Clone + Drop>(
     rt: &R,
     words: &ArgMatches<'_>,
-) -> Result<ExitCode, ProgramFault> {
+) -> Result<(), ProgramFault> {
     let config = word(words, CONFIG);
     let file = word(words, FILE);
     let dir = word(words, STORE);
     run_loop(rt, config, file, dir, &mut io::writer(rt))?;
-    Ok(ExitCode::SUCCESS)
+    Ok(())
 }
 
 // Prints what was understood of a configuration, or its fault in words.
 fn check<R: Print + Files + AllocGlobal>(
     rt: &R,
     words: &ArgMatches<'_>,
-) -> Result<ExitCode, ProgramFault> {
+) -> Result<(), ProgramFault> {
     match check_config(rt, word(words, CONFIG), &mut io::writer(rt)) {
-        Ok(()) => Ok(ExitCode::SUCCESS),
+        Ok(()) => Ok(()),
         Err(fault) => {
             print_fault(rt, fault);
             Err(ProgramFault::from(fault))
@@ -142,25 +163,27 @@ fn print_fault<R: Print>(rt: &R, why: InputFault) {
     };
 }
 
-// Explains a number; with none, all of them.
-fn explain_number<R: Print>(rt: &R, words: &ArgMatches<'_>) -> Result<ExitCode, ProgramFault> {
-    let writer = &mut io::writer(rt);
-    let explained = match words.get_str(NUMBER) {
-        Some(text) => match number_from_text(text).map(u16::try_from) {
-            Some(Ok(number)) => explain(number, writer),
-            _ => Err(ExplainFault::Unknown),
-        },
-        None => explain_all(writer),
+fn explain_number<R: Print>(rt: &R, words: &ArgMatches<'_>) -> Result<(), ProgramFault> {
+    explain_over(words.get_str(NUMBER), &mut io::writer(rt))?;
+    Ok(())
+}
+
+// Explains a number; with none, all of them. It promises nothing, so that nothing need be proved of standard output.
+fn explain_over<W: Write>(number: Option<&str>, writer: &mut W) -> Result<(), ExplainFault> {
+    let Some(text) = number else {
+        return explain_all(writer);
     };
-    explained?;
-    Ok(ExitCode::SUCCESS)
+    match number_from_text(text).map(u16::try_from) {
+        Some(Ok(number)) => explain(number, writer),
+        _ => Err(ExplainFault::Unknown),
+    }
 }
 
 // Answers the line on standard input, with the options that were given.
 fn run_answer<R: Print + Input + AllocGlobal>(
     rt: &R,
     matches: Option<&ArgMatches<'_>>,
-) -> Result<ExitCode, ProgramFault> {
+) -> Result<(), ProgramFault> {
     let setup = setup(rt.alloc(), matches)?;
     answer_from(rt, &setup)
 }
@@ -168,9 +191,9 @@ fn run_answer<R: Print + Input + AllocGlobal>(
 fn answer_from<R: Print + Input + AllocGlobal>(
     rt: &R,
     setup: &AnswerSetup,
-) -> Result<ExitCode, ProgramFault> {
+) -> Result<(), ProgramFault> {
     answer_over(rt.alloc(), setup, &mut rt.reader(), &mut io::writer(rt))?;
-    Ok(ExitCode::SUCCESS)
+    Ok(())
 }
 
 // As `answer`. It promises nothing, so that nothing need be proved of standard input and output.
@@ -187,7 +210,7 @@ fn answer_over<R: Read, W: Write>(
 fn run_play<R: Print + Input + Files + AllocGlobal>(
     rt: &R,
     words: &ArgMatches<'_>,
-) -> Result<ExitCode, ProgramFault> {
+) -> Result<(), ProgramFault> {
     let name = word(words, FILE);
     if name == STANDARD_INPUT {
         return play_from(rt, &mut rt.reader());
@@ -201,7 +224,7 @@ fn run_play<R: Print + Input + Files + AllocGlobal>(
 fn play_file<R: Print + Files + AllocGlobal>(
     rt: &R,
     file: R::File,
-) -> Result<ExitCode, ProgramFault> {
+) -> Result<(), ProgramFault> {
     match BufReader::new(rt.alloc(), file) {
         Ok(mut reader) => play_from(rt, &mut reader),
         Err(_) => Err(ProgramFault::Play(PlayFault::OutOfMemory)),
@@ -211,9 +234,9 @@ fn play_file<R: Print + Files + AllocGlobal>(
 fn play_from<R: Print + AllocGlobal, T: Read>(
     rt: &R,
     reader: &mut T,
-) -> Result<ExitCode, ProgramFault> {
+) -> Result<(), ProgramFault> {
     play_over(rt.alloc(), reader, &mut io::writer(rt))?;
-    Ok(ExitCode::SUCCESS)
+    Ok(())
 }
 
 // As `play`. It promises nothing, so that nothing need be proved of standard output.
