@@ -163,13 +163,23 @@ impl Subcommand {
     }
 
     fn to_command<'a>(&self, alloc: Global) -> Result<Command<'a>, AllocError> {
-        let mut command = Command::new(alloc, self.name).about(self.about);
-        if let Some(text) = self.after_help {
-            command = command.after_help(text);
-        }
-        for argument in self.arguments {
-            command = command.arg(argument.to_arg(alloc))?;
-        }
-        Ok(command)
+        let command = Command::new(alloc, self.name).about(self.about);
+        let command = match self.after_help {
+            Some(text) => command.after_help(text),
+            None => command,
+        };
+        add_arguments(command, self.arguments, alloc)
     }
+}
+
+// The command with the arguments too.
+fn add_arguments<'a>(
+    mut command: Command<'a>,
+    arguments: &[Argument],
+    alloc: Global,
+) -> Result<Command<'a>, AllocError> {
+    for argument in arguments {
+        command = command.arg(argument.to_arg(alloc))?;
+    }
+    Ok(command)
 }
