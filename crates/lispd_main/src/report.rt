@@ -42,8 +42,10 @@ struct Words<'a>(&'a [String]);
 
 impl Display for Words<'_> {
     fn fmt<W: Write>(&self, formatter: &mut Formatter<W>) -> fmt::Result {
-        for word in self.0.iter().skip(1) {
-            write!(formatter, " {word}")?;
+        if let [_, words @ ..] = self.0 {
+            for word in words {
+                write!(formatter, " {word}")?;
+            }
         }
         Ok(())
     }
@@ -70,10 +72,9 @@ pub(crate) fn report<R: Eprint>(
 
 // A fault of a file, a schedule or a node comes with the words that name them.
 fn explain<R: Eprint>(rt: &R, fault: &ProgramFault, words: &[String]) {
-    let _ = match fault {
-        ProgramFault::File | ProgramFault::Play(_) | ProgramFault::Run(_) => {
-            eprintln!(rt; "lispd{}: {}", Words(words), InWords(fault))
-        }
-        _ => eprintln!(rt; "lispd: {}", InWords(fault)),
+    let words = match fault {
+        ProgramFault::File | ProgramFault::Play(_) | ProgramFault::Run(_) => words,
+        _ => &[],
     };
+    let _ = eprintln!(rt; "lispd{}: {}", Words(words), InWords(fault));
 }

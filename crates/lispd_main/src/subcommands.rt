@@ -6,11 +6,11 @@ use clap::ArgMatches;
 use lisp_player::{PlayFault, play};
 use lisp_texts::number_from_text;
 use lispd::{
-    AnswerFault, AnswerSetup, ExplainFault, InputFault, ProgramFault, RunFault, answer, check_config,
-    explain, explain_all, keep_router_running, keep_server_running, run_loop, run_router,
-    run_server, setup,
+    AnswerSetup, ExplainFault, InputFault, ProgramFault, answer, check_config, explain,
+    explain_all, keep_router_running, keep_server_running, run_loop, run_router, run_server, setup,
 };
 use std::alloc::Global;
+use std::fmt::Display;
 use std::fs::{self, File};
 use std::io::{self, BufReader, Read, Write};
 use std::net::Net;
@@ -25,24 +25,27 @@ const STANDARD_INPUT: &str = "-";
 pub(crate) fn run_subcommand<
     R: Print + Input + Files<File = File> + Net + Clock + AllocGlobal + Clone + Drop,
 >(rt: &R, matches: &ArgMatches<'_>) -> Result<ExitCode, ProgramFault> {
-    match matches.subcommand() {
-        Some((name, words)) => run_named(rt, name, words)?,
-        None => run_answer(rt, None)?,
-    }
+    let writer = &mut io::writer(rt);
+    let ran = match matches.subcommand() {
+        Some((name, words)) => run_named(rt, name, words, writer),
+        None => run_answer(rt, None, writer),
+    };
+    ran?;
     Ok(ExitCode::SUCCESS)
 }
 
 fn run_named<
     R: Print + Input + Files<File = File> + Net + Clock + AllocGlobal + Clone + Drop,
->(rt: &R, name: &str, words: &ArgMatches<'_>) -> Result<(), ProgramFault> {
+    W: Write,
+>(rt: &R, name: &str, words: &ArgMatches<'_>, writer: &mut W) -> Result<(), ProgramFault> {
     match name {
-        "play" => run_play(rt, words),
-        "server" => serve(rt, words),
-        "router" => register(rt, words),
-        "loop" => run_network(rt, words),
-        "check" => check(rt, words),
-        "explain" => explain_number(rt, words),
-        _ => run_answer(rt, Some(words)),
+        "play" => run_play(rt, words, writer),
+        "server" => serve(rt, words, writer),
+        "router" => register(rt, words, writer),
+        "loop" => run_network(rt, words, writer),
+        "check" => check(rt, words, writer),
+        "explain" => explain_number(words, writer),
+        _ => run_answer(rt, Some(words), writer),
     }
 }
 
@@ -55,7 +58,6 @@ fn word<'a>(words: &ArgMatches<'a>, name: &str) -> &'a str {
 }
 
 // The words of `server` and `router`.
-#[derive(Drop)]
 struct NodeWords<'a> {
     config: &'a str,
     name: &'a str,
@@ -84,65 +86,61 @@ fn turns(words: &ArgMatches<'_>) -> Result<Option<u32>, ProgramFault> {
     }
 }
 
-fn serve<R: Print + Files<File = File> + Net + Clock + AllocGlobal + Clone + Drop>(
+fn serve<R: Files<File = File> + Net + Clock + AllocGlobal + Clone + Drop, W: Write>(
     rt: &R,
     words: &ArgMatches<'_>,
-) -> Result<(), ProgramFault> {
-    let node = node_words(words)?;
-    serve_over(rt, &node, &mut io::writer(rt))?;
-    Ok(())
-}
-
-// A Map-Server, for its turns or until it is killed. It promises nothing, so that nothing need be proved of standard output.
-fn serve_over<R: Files<File = File> + Net + Clock + AllocGlobal + Clone + Drop, W: Write>(
-    rt: &R,
-    node: &NodeWords<'_>,
     writer: &mut W,
-) -> Result<(), RunFault> {
-    match node.turns {
-        Some(turns) => run_server(rt, node.config, node.name, node.dir, turns, writer),
-        None => keep_server_running(rt, node.config, node.name, node.dir, writer),
-    }
-}
-
-fn register<R: Print + Files<File = File> + Net + Clock + AllocGlobal + Clone + Drop>(
-    rt: &R,
-    words: &ArgMatches<'_>,
 ) -> Result<(), ProgramFault> {
-    let node = node_words(words)?;
-    register_over(rt, &node, &mut io::writer(rt))?;
-    Ok(())
+    let NodeWords {
+        config,
+        name,
+        dir,
+        turns,
+    } = node_words(words)?;
+    let ran = match turns {
+        Some(turns) => run_server(rt, config, name, dir, turns, writer),
+        None => keep_server_running(rt, config, name, dir, writer),
+    };
+    Ok(ran?)
 }
 
-// A router, likewise.
-fn register_over<R: Files<File = File> + Net + Clock + AllocGlobal + Clone + Drop, W: Write>(
-    rt: &R,
-    node: &NodeWords<'_>,
-    writer: &mut W,
-) -> Result<(), RunFault> {
-    match node.turns {
-        Some(turns) => run_router(rt, node.config, node.name, node.dir, turns, writer),
-        None => keep_router_running(rt, node.config, node.name, node.dir, writer),
-    }
-}
-
-fn run_network<R: Print + Files<File = File> + Net + AllocGlobal + Clone + Drop>(
+fn register<R: Files<File = File> + Net + Clock + AllocGlobal + Clone + Drop, W: Write>(
     rt: &R,
     words: &ArgMatches<'_>,
+    writer: &mut W,
+) -> Result<(), ProgramFault> {
+    let NodeWords {
+        config,
+        name,
+        dir,
+        turns,
+    } = node_words(words)?;
+    let ran = match turns {
+        Some(turns) => run_router(rt, config, name, dir, turns, writer),
+        None => keep_router_running(rt, config, name, dir, writer),
+    };
+    Ok(ran?)
+}
+
+fn run_network<R: Files<File = File> + Net + AllocGlobal + Clone + Drop, W: Write>(
+    rt: &R,
+    words: &ArgMatches<'_>,
+    writer: &mut W,
 ) -> Result<(), ProgramFault> {
     let config = word(words, CONFIG);
     let file = word(words, FILE);
     let dir = word(words, STORE);
-    run_loop(rt, config, file, dir, &mut io::writer(rt))?;
+    run_loop(rt, config, file, dir, writer)?;
     Ok(())
 }
 
 // Prints what was understood of a configuration, or its fault in words.
-fn check<R: Print + Files + AllocGlobal>(
+fn check<R: Print + Files + AllocGlobal, W: Write>(
     rt: &R,
     words: &ArgMatches<'_>,
+    writer: &mut W,
 ) -> Result<(), ProgramFault> {
-    match check_config(rt, word(words, CONFIG), &mut io::writer(rt)) {
+    match check_config(rt, word(words, CONFIG), writer) {
         Ok(()) => Ok(()),
         Err(fault) => {
             print_fault(rt, fault);
@@ -154,96 +152,86 @@ fn check<R: Print + Files + AllocGlobal>(
 // Prints a fault of a configuration, and its place there; where the file can't be opened, nothing.
 fn print_fault<R: Print>(rt: &R, why: InputFault) {
     let fault = ProgramFault::from(why);
-    let number = fault.number();
-    let words = InWords(&fault);
-    let _ = match why {
-        InputFault::File => Ok(()),
-        InputFault::Config(placed) => println!(rt; "fault {number}: {}{words}", placed.place),
-        InputFault::Input(_) => println!(rt; "fault {number}: {words}"),
-    };
-}
-
-fn explain_number<R: Print>(rt: &R, words: &ArgMatches<'_>) -> Result<(), ProgramFault> {
-    explain_over(words.get_str(NUMBER), &mut io::writer(rt))?;
-    Ok(())
-}
-
-// Explains a number; with none, all of them. It promises nothing, so that nothing need be proved of standard output.
-fn explain_over<W: Write>(number: Option<&str>, writer: &mut W) -> Result<(), ExplainFault> {
-    let Some(text) = number else {
-        return explain_all(writer);
-    };
-    match number_from_text(text).map(u16::try_from) {
-        Some(Ok(number)) => explain(number, writer),
-        _ => Err(ExplainFault::Unknown),
+    match why {
+        InputFault::File => {}
+        InputFault::Config(placed) => print_placed(rt, placed.place, &fault),
+        InputFault::Input(_) => print_placed(rt, "", &fault),
     }
 }
 
-// Answers the line on standard input, with the options that were given.
-fn run_answer<R: Print + Input + AllocGlobal>(
-    rt: &R,
-    matches: Option<&ArgMatches<'_>>,
-) -> Result<(), ProgramFault> {
-    let setup = setup(rt.alloc(), matches)?;
-    answer_from(rt, &setup)
+fn print_placed<R: Print, D: Display + Drop>(rt: &R, place: D, fault: &ProgramFault) {
+    let number = fault.number();
+    let words = InWords(fault);
+    let _ = println!(rt; "fault {number}: {place}{words}");
 }
 
-fn answer_from<R: Print + Input + AllocGlobal>(
-    rt: &R,
-    setup: &AnswerSetup,
-) -> Result<(), ProgramFault> {
-    answer_over(rt.alloc(), setup, &mut rt.reader(), &mut io::writer(rt))?;
+// Explains a number; with none, all of them.
+fn explain_number<W: Write>(words: &ArgMatches<'_>, writer: &mut W) -> Result<(), ProgramFault> {
+    let explained = match words.get_str(NUMBER) {
+        Some(text) => match number_from_text(text).map(u16::try_from) {
+            Some(Ok(number)) => explain(number, writer),
+            _ => Err(ExplainFault::Unknown),
+        },
+        None => explain_all(writer),
+    };
+    explained?;
     Ok(())
 }
 
-// As `answer`. It promises nothing, so that nothing need be proved of standard input and output.
-fn answer_over<R: Read, W: Write>(
+// Answers the line on standard input, with the options that were given.
+fn run_answer<R: Input + AllocGlobal, W: Write>(
+    rt: &R,
+    matches: Option<&ArgMatches<'_>>,
+    writer: &mut W,
+) -> Result<(), ProgramFault> {
+    let setup = setup(rt.alloc(), matches)?;
+    answer_from(rt.alloc(), &setup, &mut rt.reader(), writer)
+}
+
+// It promises nothing, so that nothing need be proved of standard input.
+fn answer_from<R: Read, W: Write>(
     alloc: Global,
     setup: &AnswerSetup,
     reader: &mut R,
     writer: &mut W,
-) -> Result<(), AnswerFault> {
-    answer(alloc, setup, reader, writer)
+) -> Result<(), ProgramFault> {
+    answer(alloc, setup, reader, writer)?;
+    Ok(())
 }
 
 // Plays the schedule of a file.
-fn run_play<R: Print + Input + Files + AllocGlobal>(
+fn run_play<R: Input + Files + AllocGlobal, W: Write>(
     rt: &R,
     words: &ArgMatches<'_>,
+    writer: &mut W,
 ) -> Result<(), ProgramFault> {
     let name = word(words, FILE);
     if name == STANDARD_INPUT {
-        return play_from(rt, &mut rt.reader());
+        return play_from(rt.alloc(), &mut rt.reader(), writer);
     }
     match fs::open(rt, name) {
-        Ok(file) => play_file(rt, file),
+        Ok(file) => play_file(rt.alloc(), file, writer),
         Err(_) => Err(ProgramFault::File),
     }
 }
 
-fn play_file<R: Print + Files + AllocGlobal>(
-    rt: &R,
-    file: R::File,
+fn play_file<R: Read + Drop, W: Write>(
+    alloc: Global,
+    file: R,
+    writer: &mut W,
 ) -> Result<(), ProgramFault> {
-    match BufReader::new(rt.alloc(), file) {
-        Ok(mut reader) => play_from(rt, &mut reader),
+    match BufReader::new(alloc, file) {
+        Ok(mut reader) => play_from(alloc, &mut reader, writer),
         Err(_) => Err(ProgramFault::Play(PlayFault::OutOfMemory)),
     }
 }
 
-fn play_from<R: Print + AllocGlobal, T: Read>(
-    rt: &R,
-    reader: &mut T,
-) -> Result<(), ProgramFault> {
-    play_over(rt.alloc(), reader, &mut io::writer(rt))?;
-    Ok(())
-}
-
-// As `play`. It promises nothing, so that nothing need be proved of standard output.
-fn play_over<R: Read, W: Write>(
+// It promises nothing, so that nothing need be proved of standard input.
+fn play_from<R: Read, W: Write>(
     alloc: Global,
     reader: &mut R,
     writer: &mut W,
-) -> Result<(), PlayFault> {
-    play(alloc, alloc, reader, writer)
+) -> Result<(), ProgramFault> {
+    play(alloc, alloc, reader, writer)?;
+    Ok(())
 }
