@@ -139,13 +139,19 @@ const STORE_ARGUMENT: Argument = Argument::Value {
 
 /// The words that the program takes. With no words it is `answer` with its defaults.
 pub(crate) fn command<'a>(alloc: Global) -> Result<Command<'a>, AllocError> {
-    let mut command = Command::new(alloc, "lispd").version("0.1.0").about(
-        "Map-Server registration of LISP (RFC 9301); with no words, `answer`",
-    );
+    let subcommands = all_subcommands(alloc)?;
+    Command::new(alloc, "lispd")
+        .version("0.1.0")
+        .about("Map-Server registration of LISP (RFC 9301); with no words, `answer`")
+        .subcommands(subcommands)
+}
+
+fn all_subcommands<'a>(alloc: Global) -> Result<Vec<Command<'a>>, AllocError> {
+    let mut commands = Vec::new(alloc);
     for subcommand in subcommands() {
-        command = subcommand.add_to(command, alloc)?;
+        commands.push(subcommand.to_command(alloc)?)?;
     }
-    Ok(command)
+    Ok(commands)
 }
 
 // A function of its own, since `command` would be proved over all that the table holds.
@@ -154,14 +160,6 @@ fn subcommands() -> &'static [Subcommand] {
 }
 
 impl Subcommand {
-    // A command with this subcommand too.
-    fn add_to<'a>(&self, command: Command<'a>, alloc: Global) -> Result<Command<'a>, AllocError> {
-        match self.to_command(alloc) {
-            Ok(subcommand) => command.subcommand(subcommand),
-            Err(error) => Err(error),
-        }
-    }
-
     fn to_command<'a>(&self, alloc: Global) -> Result<Command<'a>, AllocError> {
         let command = Command::new(alloc, self.name).about(self.about);
         let command = match self.after_help {
