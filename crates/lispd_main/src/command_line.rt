@@ -5,7 +5,7 @@ use crate::help::{
     ANSWER_ABOUT, ANSWER_EXAMPLE, CHECK_ABOUT, EXPLAIN_ABOUT, LOOP_ABOUT, LOOP_FORM, NODE_RUNS,
     PLAY_ABOUT, PLAY_FORM, ROUTER_ABOUT, SERVER_ABOUT,
 };
-use clap::Command;
+use clap::{Arg, Command};
 use lispd::AnswerOption;
 use std::alloc::{AllocError, Global};
 
@@ -161,23 +161,20 @@ fn subcommands() -> &'static [Subcommand] {
 
 impl Subcommand {
     fn to_command<'a>(&self, alloc: Global) -> Result<Command<'a>, AllocError> {
+        let arguments = self.to_args(alloc)?;
         let command = Command::new(alloc, self.name).about(self.about);
         let command = match self.after_help {
             Some(text) => command.after_help(text),
             None => command,
         };
-        add_arguments(command, self.arguments, alloc)
+        command.args(arguments)
     }
-}
 
-// The command with the arguments too.
-fn add_arguments<'a>(
-    mut command: Command<'a>,
-    arguments: &[Argument],
-    alloc: Global,
-) -> Result<Command<'a>, AllocError> {
-    for argument in arguments {
-        command = command.arg(argument.to_arg(alloc))?;
+    fn to_args<'a>(&self, alloc: Global) -> Result<Vec<Arg<'a>>, AllocError> {
+        let mut args = Vec::new(alloc);
+        for argument in self.arguments {
+            args.push(argument.to_arg(alloc))?;
+        }
+        Ok(args)
     }
-    Ok(command)
 }
