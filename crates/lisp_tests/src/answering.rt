@@ -5,7 +5,7 @@ use crate::support::assert_at;
 use crate::worked::{NOTIFY_LINE, REGISTER_DIGITS};
 use lisp_answer::{AnswerFault, AnswerSetup, answer};
 use std::alloc::Global;
-use std::io::ErrorKind;
+use std::io::{ErrorKind, Read, Write};
 use std::process::Abort;
 
 /// How many bytes of the worked Map-Register are read before reads fail, how many reads fail, the error; how many bytes
@@ -59,7 +59,17 @@ fn ends_so(
     let setup = AnswerSetup::defaults(alloc).expect(rt, "the setup");
     let taken = Vec::new(alloc);
     let mut writer = Narrow { taken, room };
-    let ended = answer(alloc, &setup, reader, &mut writer).err();
+    let ended = answered(alloc, &setup, reader, &mut writer);
     let front = NOTIFY_LINE.get(..written).unwrap_or(NOTIFY_LINE);
     ended == fault && writer.taken.as_slice() == front.as_bytes()
+}
+
+// A function of its own, since what `answer` promises would be proved of this reader and this writer too.
+fn answered<R: Read, W: Write>(
+    alloc: Global,
+    setup: &AnswerSetup,
+    reader: &mut R,
+    writer: &mut W,
+) -> Option<AnswerFault> {
+    answer(alloc, setup, reader, writer).err()
 }

@@ -7,9 +7,10 @@ use lisp_playing::{Command, PlayFault, play_on};
 use lisp_records::RouterId;
 use lisp_script::parse_script;
 use lisp_sites::Config;
-use lisp_store::{Failing, Liar, NonceStore, Pair, PairKind};
+use lisp_store::{Failing, Liar, NonceStore, Pair, PairKind, WorldStore};
 use lisp_world::{World, WorldFault};
 use std::alloc::{AllocError, Global};
+use std::io::Write;
 use std::process::Abort;
 
 /// A registration, a repeat, both restarts, a later registration, a notice and one after a restart.
@@ -191,9 +192,20 @@ fn printed(
     command: &[Command],
 ) -> Result<String, PlayFault> {
     let mut printed = Vec::new(alloc);
-    play_on(alloc, world, config, command, &mut printed)?;
+    play_over(alloc, world, config, command, &mut printed)?;
     match String::from_utf8(printed) {
         Ok(text) => Ok(text),
         Err(_) => Err(PlayFault::NotUtf8),
     }
+}
+
+// A function of its own, since what `play_on` promises would be proved of these stores and this writer too.
+fn play_over<S: WorldStore, W: Write>(
+    alloc: Global,
+    world: &mut World<S>,
+    config: &Config,
+    command: &[Command],
+    writer: &mut W,
+) -> Result<(), PlayFault> {
+    play_on(alloc, world, config, command, writer)
 }
