@@ -51,14 +51,14 @@ fn text(alloc: Global, sites: u32) -> Result<String, AllocError> {
 
 fn put_site(text: &mut String, site: u32) -> Result<(), AllocError> {
     text.try_write(format_args!(
-        "[[site]]\nid = \"{site:016x}\"\n[[site.key]]\nid = 1\nsecret = \"736563726574\"\n"
-    ))?;
-    text.try_write(format_args!("[[site.prefix]]\neid = \"10.1.0.0/16\"\n"))
+        "[[site]]\nid = \"{site:016x}\"\n[[site.key]]\nid = 1\nsecret = \"736563726574\"\n\
+         [[site.prefix]]\neid = \"10.1.0.0/16\"\n"
+    ))
 }
 
 fn put_router(text: &mut String, site: u32) -> Result<(), AllocError> {
     text.try_write(format_args!(
-        "[[router]]\nname = \"r{site}\"\naddress = \"10.0.0.1\"\nsite = \"{site:016x}\"\n"
-    ))?;
-    text.try_write(format_args!("xtr = \"{site:032x}\"\nkey = 1\nservers = []\n"))
+        "[[router]]\nname = \"r{site}\"\naddress = \"10.0.0.1\"\nsite = \"{site:016x}\"\n\
+         xtr = \"{site:032x}\"\nkey = 1\nservers = []\n"
+    ))
 }

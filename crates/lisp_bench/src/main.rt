@@ -22,13 +22,13 @@ fn main(rt: HostRuntime) -> io::Result<()> {
 
 // `None` where anything fails.
 fn run<R: Env + Print + Clock + AllocGlobal>(rt: &R) -> Option<()> {
-    if has_word(rt)? {
-        codec::measure(rt)?;
-        network::measure(rt)?;
-        configuration::measure(rt)?;
-        saves::measure(rt)?;
+    if !has_word(rt)? {
+        return Some(());
     }
-    Some(())
+    codec::measure(rt)?;
+    network::measure(rt)?;
+    configuration::measure(rt)?;
+    saves::measure(rt)
 }
 
 fn has_word<R: Env + AllocGlobal>(rt: &R) -> Option<bool> {
