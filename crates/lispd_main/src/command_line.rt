@@ -154,7 +154,7 @@ fn all_subcommands<'a>(alloc: Global) -> Result<Vec<Command<'a>>, AllocError> {
     Ok(commands)
 }
 
-// A function of its own, since `command` would be proved over all that the table holds.
+// A function of its own, since `all_subcommands` would be proved over all that the table holds.
 fn subcommands() -> &'static [Subcommand] {
     &SUBCOMMANDS
 }

@@ -188,7 +188,7 @@ fn run_answer<R: Input + AllocGlobal, W: Write>(
     answer_from(rt.alloc(), &setup, &mut rt.reader(), writer)
 }
 
-// It promises nothing, so that nothing need be proved of standard input.
+// As `answer`. It promises nothing, so that nothing need be proved of standard input.
 fn answer_from<R: Read, W: Write>(
     alloc: Global,
     setup: &AnswerSetup,
@@ -226,7 +226,7 @@ fn play_file<R: Read + Drop, W: Write>(
     }
 }
 
-// It promises nothing, so that nothing need be proved of standard input.
+// As `play`. It promises nothing, so that nothing need be proved of standard input.
 fn play_from<R: Read, W: Write>(
     alloc: Global,
     reader: &mut R,
