@@ -7,4 +7,6 @@ pub mod MakingChecks
 pub mod MakingNodes
 pub mod Making
 pub mod Telling
+pub mod Noticing
+pub mod Sending
 pub mod Refusing

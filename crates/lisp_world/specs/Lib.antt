@@ -3,3 +3,4 @@ pub mod Runs
 pub mod Quiet
 pub mod Openings
 pub mod Making
+pub mod Asked

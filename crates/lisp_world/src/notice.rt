@@ -1,15 +1,20 @@
 //! A Map-Server sends an unsolicited Map-Notify (notice).
 
-ghost use Rattle.std.specs.Prelude.{◌≡◌, IfOk, OnErr, IsErrOf};
+ghost use Rattle.std.specs.Prelude.{◌≡◌, ◌<◌, ◌++◌, List, IfOk, IsSome, OnErr, IsErrOf};
+ghost use Rattle.std.specs.Vec.{vec_len, vec_capacity};
+ghost use Rattle.lisp_messages.specs.Head.{head_at};
 ghost use Rattle.lisp_schedules.specs.Memory.{MayTell};
 ghost use Rattle.lisp_world.specs.Faults.{Faults, pair_fault};
-ghost use Rattle.lisp_turns.specs.Turns.{NoticesFrom};
+ghost use Rattle.lisp_turns.specs.World.{Posted, WorldState};
+ghost use Rattle.lisp_turns.specs.Turns.{address_of, NoticesFrom, SaysNotice};
 
 use crate::fault::WorldFault;
 use crate::world::World;
 use lisp_memory::{FallibleVec, Memory};
 use lisp_nodes::{Datagram, post_message};
+use lisp_records::{Addr, Bytes};
 use lisp_schedules::{Line, Refusal};
+use lisp_server::NoticeFault;
 use lisp_store::{Fate, WorldStore};
 
 impl<S: WorldStore, A: Memory + Copy> World<S, A> {
@@ -29,23 +34,39 @@ impl<S: WorldStore, A: Memory + Copy> World<S, A> {
         let place = self.place_beside(server, router)?;
         self.bag.make_room(1)?;
         let (from, me) = (self.address(server), self.routers[place].me());
-        let datagram = self.bag.len();
         let clock = self.clock;
-        Ok(match self.servers[server].notify(fate, &me, clock) {
-            Ok((to, bytes)) => {
-                let head = post_message(&mut self.bag, Datagram { from, to, bytes });
-                Line::Notice {
-                    server,
-                    router,
-                    key: head.key_id,
-                    nonce: head.nonce,
-                    datagram,
-                }
+        let notice = self.servers[server].notify(fate, &me, clock);
+        Ok(notice_line(&mut self.bag, from, server, router, notice))
+    }
+}
+
+// The line of a notice; where it was made it goes to the end of the datagrams, which have room for it.
+fn notice_line<A: Memory>(
+    bag: &mut Vec<Datagram<A>, A>,
+    from: Addr,
+    server: usize,
+    router: usize,
+    notice: Result<(Addr, Bytes<A>), NoticeFault>,
+) -> Line
+    requires room { vec_len bag.old < vec_capacity bag.old }
+    requires head { IfOk notice (λ sent. IsSome (head_at sent.1)) }
+    ensures { (w : WorldState) → bag.old.items ≡ w.bag → from ≡ address_of w server → (more : List Posted) × (bag.new.items ≡ w.bag ++ more) × SaysNotice w server router notice result more }
+{
+    match notice {
+        Ok((to, bytes)) => {
+            let datagram = bag.len();
+            let head = post_message(bag, Datagram { from, to, bytes });
+            Line::Notice {
+                server,
+                router,
+                key: head.key_id,
+                nonce: head.nonce,
+                datagram,
             }
-            Err(fault) => Line::Refused {
-                node: server,
-                what: Refusal::Notice(fault),
-            },
-        })
+        }
+        Err(fault) => Line::Refused {
+            node: server,
+            what: Refusal::Notice(fault),
+        },
     }
 }

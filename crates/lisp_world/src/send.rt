@@ -1,14 +1,20 @@
 //! A router sends a Map-Register.
 
-ghost use Rattle.std.specs.Prelude.{◌≡◌, IfOk, OnErr, IsErrOf};
+ghost use Rattle.std.specs.Prelude.{◌≡◌, ◌<◌, ◌++◌, List, IfOk, IfSome, IsSome, OnErr, IsErrOf};
+ghost use Rattle.std.specs.Vec.{vec_len, vec_capacity};
+ghost use Rattle.lisp_messages.specs.Head.{head_at};
 ghost use Rattle.lisp_schedules.specs.Memory.{MayTell};
+ghost use Rattle.lisp_turns.specs.World.{Posted, WorldState};
+ghost use Rattle.lisp_turns.specs.Turns.{address_of, SendsFrom};
 ghost use Rattle.lisp_world.specs.Faults.{Faults, pair_fault};
-ghost use Rattle.lisp_turns.specs.Turns.{SendsFrom};
+ghost use Rattle.lisp_world.specs.Asked.{SaysAsked};
 
 use crate::fault::WorldFault;
 use crate::world::World;
+use lisp_etr::SendFault;
 use lisp_memory::{FallibleVec, Memory};
 use lisp_nodes::{Datagram, post_message};
+use lisp_records::{Addr, Bytes};
 use lisp_schedules::{Line, Refusal};
 use lisp_store::{Fate, WorldStore};
 
@@ -30,25 +36,41 @@ impl<S: WorldStore, A: Memory + Copy> World<S, A> {
         self.bag.make_room(1)?;
         let (from, to) = (self.address(router), self.address(server));
         let clock = self.clock;
-        let Some(answer) = self.routers[place].send(server, fate, clock) else {
-            return Ok(Line::Down { router });
-        };
-        let datagram = self.bag.len();
-        Ok(match answer {
-            Ok(bytes) => {
-                let head = post_message(&mut self.bag, Datagram { from, to, bytes });
-                Line::Sent {
-                    router,
-                    server,
-                    key: head.key_id,
-                    nonce: head.nonce,
-                    datagram,
-                }
+        let answer = self.routers[place].send(server, fate, clock);
+        Ok(send_line(&mut self.bag, from, to, router, server, answer))
+    }
+}
+
+// The line of a router that was asked for a Map-Register; where it made one it goes to the end of the datagrams, which have
+// room for it.
+fn send_line<A: Memory>(
+    bag: &mut Vec<Datagram<A>, A>,
+    from: Addr,
+    to: Addr,
+    router: usize,
+    server: usize,
+    answer: Option<Result<Bytes<A>, SendFault>>,
+) -> Line
+    requires room { vec_len bag.old < vec_capacity bag.old }
+    requires head { IfSome answer (λ sent. IfOk sent (λ bytes. IsSome (head_at bytes))) }
+    ensures { (w : WorldState) → bag.old.items ≡ w.bag → from ≡ address_of w router → to ≡ address_of w server → (more : List Posted) × (bag.new.items ≡ w.bag ++ more) × SaysAsked w router server answer result more }
+{
+    match answer {
+        Some(Ok(bytes)) => {
+            let datagram = bag.len();
+            let head = post_message(bag, Datagram { from, to, bytes });
+            Line::Sent {
+                router,
+                server,
+                key: head.key_id,
+                nonce: head.nonce,
+                datagram,
             }
-            Err(fault) => Line::Refused {
-                node: router,
-                what: Refusal::Send(fault),
-            },
-        })
+        }
+        Some(Err(fault)) => Line::Refused {
+            node: router,
+            what: Refusal::Send(fault),
+        },
+        None => Line::Down { router },
     }
 }

@@ -1,60 +1,23 @@
-use Rattle.std.proofs.Common.{ℕ, List, refl, sym, ap, ◌∙◌, [], ◌∷◌, ◌++◌, Ok, Err, arith}
-use Rattle.std.proofs.lemmas.List.{append-nil, length-set}
-use Rattle.std.proofs.lemmas.Option.{slice_get_read}
-use Rattle.lisp_records.specs.declared.address.Addr.{Addr}
-use Rattle.lisp_schedules.specs.declared.line.Line.TheVariants as lines
-use Rattle.lisp_turns.specs.World.{Posted}
-use Rattle.lisp_nodes.proofs.ServerCalls.{server_acted}
-use Rattle.lisp_world.proofs.Telling.{resend_tells}
+use Rattle.std.proofs.Common.{arith}
+use Rattle.std.proofs.lemmas.List.{length-set}
+use Rattle.lisp_turns.specs.World.{WorldState}
+use Rattle.lisp_world.proofs.Noticing.{resent}
+use Rattle.lisp_world.proofs.Telling.{resent_tells}
 use Rattle.lisp_world.proofs.Refusing.{no_fault, out_of_memory, only_room}
 use Rattle.lisp_world.proofs.world.World.resend.Goals as goal
 
-pub returns-in-Ok-clause-resends : goal.returns-in-Ok-clause-resends
-returns-in-Ok-clause-resends g c =
+pub invariant_of-self-3 : goal.invariant_of-self-3
+invariant_of-self-3 g c = (c.self.invariant.0, omega (arith, length-set c.self.inside.servers.items c.args.server c.resend-notice.new.self, c.self.invariant.1))
+
+pub returns-clause-resends : goal.returns-clause-resends
+returns-clause-resends g c =
     let router = rw (← c.self.view_is) at c.in_ok-place.ensures.place in
     let server = rw (← c.self.view_is) at c.in_ok-place.ensures.server in
-    let count = c.len-datagram.ensures ∙ c.make_room.ensures.len ∙ c.self.inside.bag.ok.0 in
-    let more : List Posted = record { from = c.address-from.result; to = c.in-Ok.to; bytes = c.in-Ok.bytes } ∷ [] in
-    let posts = c.post.ensures ∙ ap (λ (bag : List Posted). bag ++ more) c.make_room.ensures.items in
+    let inside = c.self.inside in
+    let w : WorldState = record { addresses = inside.addresses.items; clock = inside.clock; bag = inside.bag.items; servers = inside.servers.items; routers = inside.routers.items } in
     rw (← c.self.view_is)
-    (record {
-      place = c.in_ok-place.place;
-      number = router.0;
-      node = c.index.result.now;
-      there = slice_get_read c.self.inside.routers.items _ _ _ refl router.1 c.index.ensures;
-      more = more;
-      acts = server_acted _ c.args.server c.index_mut.result.now c.resend.new.self c.post.new.bag.items more server c.index_mut.ensures.value posts;
-      rest = c.resend.ensures.rest;
-      answer = Ok (c.in-Ok.to, c.in-Ok.bytes);
-      resends = rw (← c.me-me.ensures) c.in-Ok.ensures.resends;
-      says = (
-        ap (λ (k : ℕ). lines.Resent c.args.server c.args.router k) count,
-        ap (λ (from : Addr). record { from = from; to = c.in-Ok.to; bytes = c.in-Ok.bytes } ∷ []) c.address-from.ensures,
-      );
-    })
-
-pub returns-in-Err-clause-resends : goal.returns-in-Err-clause-resends
-returns-in-Err-clause-resends g c =
-    let router = rw (← c.self.view_is) at c.in_ok-place.ensures.place in
-    let server = rw (← c.self.view_is) at c.in_ok-place.ensures.server in
-    let bag = c.make_room.ensures.items ∙ sym (append-nil c.self.inside.bag.items) in
-    rw (← c.self.view_is)
-    (record {
-      place = c.in_ok-place.place;
-      number = router.0;
-      node = c.index.result.now;
-      there = slice_get_read c.self.inside.routers.items _ _ _ refl router.1 c.index.ensures;
-      more = [];
-      acts = server_acted _ c.args.server c.index_mut.result.now c.resend.new.self c.make_room.new.self.items [] server c.index_mut.ensures.value bag;
-      rest = c.resend.ensures.rest;
-      answer = Err c.in-Err.fault;
-      resends = rw (← c.me-me.ensures) c.in-Err.ensures.resends;
-      says = (refl, refl);
-    })
-
--- as many Map-Servers as before
-pub invariant_of-self-in-Err : goal.invariant_of-self-in-Err
-invariant_of-self-in-Err g c = (c.self.invariant.0, omega (arith, length-set c.self.inside.servers.items c.args.server c.resend.new.self, c.self.invariant.1))
+    (resent _ _ _ _ _ c.index_mut.result.now c.resend-notice.new.self c.index.result.now _ _ router server c.index_mut.ensures.value c.index.ensures c.me-me.ensures _
+    c.resend-notice.ensures.rest c.resend-notice.ensures.resends (c.resend_line.ensures w c.make_room.ensures.items c.address-from.ensures))
 
 pub address-from-requires : goal.address-from-requires
 address-from-requires g c =
@@ -71,18 +34,16 @@ index_mut-requires g c =
     let server = rw (← c.self.view_is) at c.in_ok-place.ensures.server in
     omega (arith, server, c.self.inside.servers.ok.0)
 
-pub invariant_of-self-in-Ok : goal.invariant_of-self-in-Ok
-invariant_of-self-in-Ok g c = (c.self.invariant.0, omega (arith, length-set c.self.inside.servers.items c.args.server c.resend.new.self, c.self.invariant.1))
+pub returns-clause-tells : goal.returns-clause-tells
+returns-clause-tells g c =
+    let e = c.resend-notice.ensures in
+    let inside = c.self.inside in
+    let w : WorldState = record { addresses = inside.addresses.items; clock = inside.clock; bag = inside.bag.items; servers = inside.servers.items; routers = inside.routers.items } in
+    let told = c.resend_line.ensures w c.make_room.ensures.items c.address-from.ensures in
+    resent_tells _ _ c.args.server w c.args.router _ _ told.0 told.2 c.index_mut.result.now c.resend-notice.new.self c.self.inside.clock c.me-me.result e.resends e.memory
 
-pub returns-in-Err-clause-tells : goal.returns-in-Err-clause-tells
-returns-in-Err-clause-tells g c =
-    resend_tells _ _ c.args.server _ _ _ c.in-Err.fault c.in-Err.ensures.resends.0 (λ is. c.in-Err.ensures.memory (ap Err is))
-
-pub returns-in-Ok-clause-fault : goal.returns-in-Ok-clause-fault
-returns-in-Ok-clause-fault g c = no_fault _ _ c.in_ok-place.ensures.fault
-
-pub returns-in-Err-clause-fault : goal.returns-in-Err-clause-fault
-returns-in-Err-clause-fault g c = no_fault _ _ c.in_ok-place.ensures.fault
+pub returns-clause-fault : goal.returns-clause-fault
+returns-clause-fault g c = no_fault _ _ c.in_ok-place.ensures.fault
 
 pub returns-in_err-make_room-clause-fault : goal.returns-in_err-make_room-clause-fault
 returns-in_err-make_room-clause-fault g c = out_of_memory _ _ c.in_ok-place.ensures.fault c.from_residual-in_err-make_room.ensures.1

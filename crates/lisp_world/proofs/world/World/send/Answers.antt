@@ -1,63 +1,26 @@
-use Rattle.std.proofs.Common.{◌∙◌, ◌++◌, ◌∷◌, [], List, Err, append-nil, ap, sym, refl, arith}
+use Rattle.std.proofs.Common.{arith}
 use Rattle.std.proofs.lemmas.List.{length-set}
-use Rattle.lisp_schedules.specs.declared.line.Line.TheVariants as lines
-use Rattle.lisp_turns.specs.World.{Posted}
-use Rattle.lisp_nodes.proofs.RouterCalls.{acted, same_bag, sent_head, sends_up, sends_down}
-use Rattle.lisp_world.proofs.Telling.{send_tells}
+use Rattle.lisp_turns.specs.World.{WorldState}
+use Rattle.lisp_world.proofs.Sending.{sent, sent_headed}
+use Rattle.lisp_world.proofs.Telling.{sent_tells}
 use Rattle.lisp_world.proofs.Refusing.{no_fault, out_of_memory, only_room}
 use Rattle.lisp_world.proofs.world.World.send.Goals as goal
 
-pub returns-in_default-clause-sends : goal.returns-in_default-clause-sends
-returns-in_default-clause-sends g c =
+pub send_line-requires-clause-head : goal.send_line-requires-clause-head
+send_line-requires-clause-head g c = sent_headed _ _ _ _ _ _ c.send-answer.ensures.up
+
+pub invariant_of-self-4 : goal.invariant_of-self-4
+invariant_of-self-4 g c = (c.self.invariant.0, omega (arith, length-set c.self.inside.routers.items c.in_ok-place.place c.send-answer.new.self, c.self.invariant.1))
+
+pub returns-clause-sends : goal.returns-clause-sends
+returns-clause-sends g c =
     let there = rw (← c.self.view_is) at c.in_ok-place.ensures.place in
-    let down = c.in_default.ensures.down refl in
+    let server = rw (← c.self.view_is) at c.in_ok-place.ensures.server in
+    let inside = c.self.inside in
+    let w : WorldState = record { addresses = inside.addresses.items; clock = inside.clock; bag = inside.bag.items; servers = inside.servers.items; routers = inside.routers.items } in
     rw (← c.self.view_is)
-    (record {
-      kind = rw (← c.self.view_is) at c.in_ok-place.ensures.server;
-      more = [];
-      acts = acted _ _ _ c.in_ok-place.place [] c.index_mut.result.now c.send.new.self there c.index_mut.ensures.value
-          (same_bag _ _ (c.make_room.ensures.items ∙ sym (append-nil c.self.inside.bag.items)));
-      sends = sends_down _ c.args.router c.args.server c.args.fate _ _ c.index_mut.result.now.core down.0 down.1;
-    })
-
-pub post_message-head-requires-clause-head : goal.post_message-head-requires-clause-head
-post_message-head-requires-clause-head g c =
-    let up = rw c.in-Ok.is at c.in-Some.ensures.up in
-    sent_head _ _ _ _ _ _ _ up.call.call
-
-pub invariant_of-self-in-Err : goal.invariant_of-self-in-Err
-invariant_of-self-in-Err g c = rw (length-set c.self.inside.routers.items c.in_ok-place.place c.send.new.self) c.self.invariant
-
-pub returns-in-Ok-clause-sends : goal.returns-in-Ok-clause-sends
-returns-in-Ok-clause-sends g c =
-    let there = rw (← c.self.view_is) at c.in_ok-place.ensures.place in
-    let sent : List Posted = record { from = c.address-from.result; to = c.address-to.result; bytes = c.in-Ok.bytes } ∷ [] in
-    rw (← c.self.view_is)
-    (record {
-      kind = rw (← c.self.view_is) at c.in_ok-place.ensures.server;
-      more = sent;
-      acts = acted _ _ _ c.in_ok-place.place sent c.index_mut.result.now c.send.new.self there c.index_mut.ensures.value
-          (same_bag _ _ (c.post_message-head.ensures.bag ∙ ap (λ (bag : List Posted). bag ++ sent) c.make_room.ensures.items));
-      sends = sends_up _ c.args.router c.args.server c.args.fate _ _ c.in-Some.answer _ sent c.in-Some.ensures.up (rw c.in-Ok.is (record {
-        head = c.post_message-head.result;
-        read = c.post_message-head.ensures.head;
-        said = ap (lines.Sent c.args.router c.args.server c.post_message-head.result.key_id c.post_message-head.result.nonce)
-            (c.len-datagram.ensures ∙ c.make_room.ensures.len ∙ c.self.inside.bag.ok.0);
-        posts = λ i. record { from = c.address-from.ensures i; to = c.address-to.ensures i; bytes = c.in-Ok.bytes } ∷ [];
-      }));
-    })
-
-pub returns-in-Err-clause-sends : goal.returns-in-Err-clause-sends
-returns-in-Err-clause-sends g c =
-    let there = rw (← c.self.view_is) at c.in_ok-place.ensures.place in
-    rw (← c.self.view_is)
-    (record {
-      kind = rw (← c.self.view_is) at c.in_ok-place.ensures.server;
-      more = [];
-      acts = acted _ _ _ c.in_ok-place.place [] c.index_mut.result.now c.send.new.self there c.index_mut.ensures.value
-          (same_bag _ _ (c.make_room.ensures.items ∙ sym (append-nil c.self.inside.bag.items)));
-      sends = sends_up _ c.args.router c.args.server c.args.fate _ _ c.in-Some.answer _ [] c.in-Some.ensures.up (rw c.in-Err.is (refl, refl));
-    })
+    (sent _ _ _ _ _ _ c.index_mut.result.now c.send-answer.new.self _ there server c.index_mut.ensures.value _ c.send-answer.ensures.up c.send-answer.ensures.down
+    (c.send_line.ensures w c.make_room.ensures.items c.address-from.ensures c.address-to.ensures))
 
 pub address-from-requires : goal.address-from-requires
 address-from-requires g c =
@@ -74,26 +37,16 @@ index_mut-requires g c =
     let router = rw (← c.self.view_is) at c.in_ok-place.ensures.place in
     omega (arith, router.1, c.self.inside.routers.ok.0)
 
-pub invariant_of-self-in_default : goal.invariant_of-self-in_default
-invariant_of-self-in_default g c =
-    (c.self.invariant.0, omega (arith, length-set c.self.inside.routers.items c.in_ok-place.place c.send.new.self, c.self.invariant.1))
+pub returns-clause-tells : goal.returns-clause-tells
+returns-clause-tells g c =
+    let e = c.send-answer.ensures in
+    let inside = c.self.inside in
+    let w : WorldState = record { addresses = inside.addresses.items; clock = inside.clock; bag = inside.bag.items; servers = inside.servers.items; routers = inside.routers.items } in
+    let told = c.send_line.ensures w c.make_room.ensures.items c.address-from.ensures c.address-to.ensures in
+    sent_tells _ _ c.args.router w c.args.server _ _ told.0 told.2 e.memory e.store_memory
 
-pub invariant_of-self-in-Ok : goal.invariant_of-self-in-Ok
-invariant_of-self-in-Ok g c =
-    (c.self.invariant.0, omega (arith, length-set c.self.inside.routers.items c.in_ok-place.place c.send.new.self, c.self.invariant.1))
-
-pub returns-in-Err-clause-tells : goal.returns-in-Err-clause-tells
-returns-in-Err-clause-tells g c =
-    send_tells _ _ c.args.router c.in-Err.fault (λ e. c.in-Some.ensures.memory (c.in-Err.is ∙ ap Err e)) (λ e. c.in-Some.ensures.store_memory (c.in-Err.is ∙ ap Err e))
-
-pub returns-in_default-clause-fault : goal.returns-in_default-clause-fault
-returns-in_default-clause-fault g c = no_fault _ _ c.in_ok-place.ensures.fault
-
-pub returns-in-Ok-clause-fault : goal.returns-in-Ok-clause-fault
-returns-in-Ok-clause-fault g c = no_fault _ _ c.in_ok-place.ensures.fault
-
-pub returns-in-Err-clause-fault : goal.returns-in-Err-clause-fault
-returns-in-Err-clause-fault g c = no_fault _ _ c.in_ok-place.ensures.fault
+pub returns-clause-fault : goal.returns-clause-fault
+returns-clause-fault g c = no_fault _ _ c.in_ok-place.ensures.fault
 
 pub returns-in_err-make_room-clause-fault : goal.returns-in_err-make_room-clause-fault
 returns-in_err-make_room-clause-fault g c = out_of_memory _ _ c.in_ok-place.ensures.fault c.from_residual-in_err-make_room.ensures.1

@@ -1,0 +1,55 @@
+-- A Map-Server's notice, made or made again, and what the network says of it.
+use Rattle.std.proofs.Common.{◌≡◌, ℕ, ◌+◌, ◌<◌, List, get_or, ◌++◌, Result, Ok, Err, refl, ap, subst, ◌∙◌, length}
+use Rattle.std.specs.Prelude.{IfOk, IsSome, slice_set}
+use Rattle.std.proofs.lemmas.Option.{slice_get_read}
+use Rattle.lisp_records.specs.declared.address.Addr.{Addr}
+use Rattle.lisp_records.specs.declared.router.RouterId.{RouterId}
+use Rattle.lisp_store.specs.declared.fate.Fate.{Fate}
+use Rattle.lisp_checks.specs.declared.notice_fault.NoticeFault.{NoticeFault}
+use Rattle.lisp_schedules.specs.declared.line.Line.{Line}
+use Rattle.lisp_messages.specs.Head.{head_at}
+use Rattle.lisp_nodes.proofs.ServerCalls.{server_acted, notice_head}
+use Rattle.lisp_turns.specs.Calls.{Notifies}
+use Rattle.lisp_turns.specs.World.{Posted, ServerNode, RouterNode, WorldState}
+use Rattle.lisp_turns.specs.Turns.{NoticesFrom, ResendsFrom, ResendsTo, SaysNotice, SaysResend}
+
+-- the bytes of a notice that was made have a Key ID and a nonce
+pub notice_headed : (before after : ServerNode) (fate : Fate) (me : RouterId) (now : ℕ) {answer : Result (Addr × List ℕ) NoticeFault}
+    → Notifies before after fate me now answer → IfOk answer (λ sent. IsSome (head_at sent.1))
+notice_headed before after fate me now {answer = Ok sent} notifies = notice_head _ _ _ _ _ _ _ _ notifies.announces
+notice_headed before after fate me now {answer = Err fault} notifies = tt
+
+-- a Map-Server that was read by its number was asked for a notice of a router that was read by its place
+module _ (old : WorldState) (server router place : ℕ) (line : Line) (before after : ServerNode) (node : RouterNode) (me : RouterId) (bag : List Posted)
+    (beside : (router ≡ length old.servers + place) × (place < length old.routers)) (serves : server < length old.servers)
+    (read_server : before ≡ get_or old.servers server before) (read_router : node ≡ get_or old.routers place node) (is_me : me ≡ node.me)
+    (answer : Result (Addr × List ℕ) NoticeFault) where
+  pub noticed : (fate : Fate) → Notifies before after fate me old.clock answer → (more : List Posted) × (bag ≡ old.bag ++ more) × SaysNotice old server router answer line more
+      → NoticesFrom old (record old { bag = bag; servers = slice_set old.servers server after }) server router fate line
+  noticed fate notifies told = record {
+    place = place;
+    number = beside.0;
+    node = node;
+    there = slice_get_read old.routers _ place node refl beside.1 read_router;
+    more = told.0;
+    acts = server_acted old server before after bag told.0 serves read_server told.1;
+    answer = answer;
+    notifies = subst (λ (r : RouterId). Notifies before after fate r old.clock answer) is_me notifies;
+    says = told.2;
+  }
+
+  pub resent : after ≡ record before { core = record before.core { notices = after.core.notices } } → ResendsTo before after old.clock me answer
+      → (more : List Posted) × (bag ≡ old.bag ++ more) × SaysResend old server router answer line more
+      → ResendsFrom old (record old { bag = bag; servers = slice_set old.servers server after }) server router line
+  resent rest resends told = record {
+    place = place;
+    number = beside.0;
+    node = node;
+    there = slice_get_read old.routers _ place node refl beside.1 read_router;
+    more = told.0;
+    acts = server_acted old server before after bag told.0 serves read_server told.1;
+    rest = rest;
+    answer = answer;
+    resends = subst (λ (r : RouterId). ResendsTo before after old.clock r answer) is_me resends;
+    says = told.2;
+  }
