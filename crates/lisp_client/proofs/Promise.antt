@@ -1,7 +1,7 @@
 -- From the network's contracts to the client's.
-use Rattle.std.proofs.Common.{◌≡◌, ℕ, zero, suc, List, [], ◌∷◌, ◌++◌, Option, Some, map, refl, sym, ap, subst, ◌∙◌}
+use Rattle.std.proofs.Common.{◌≡◌, ℕ, zero, suc, List, [], ◌∷◌, ◌++◌, Option, Some, None, map, refl, sym, ap, subst, ◌∙◌}
 use Rattle.std.proofs.lemmas.List.{append-nil}
-use Rattle.std.specs.Prelude.{slice_get, IsTrue}
+use Rattle.std.specs.Prelude.{IfSome, slice_get, IsTrue}
 use Rattle.std.specs.Option.{option_and_then}
 use Rattle.lisp_store.specs.Memory.{Memory, memory_state}
 use Rattle.lisp_store.specs.Store.{StoreState}
@@ -62,3 +62,8 @@ promised c events w ran server router place listed counted core serves holds etr
       accepted = λ clean key nonce target is_place is.
           (headline.over_clean clean).counts_are_accepted router place key nonce target (subst (λ (d : Configuration). slice_get (router_at d router).servers place ≡ Some target) (sym ran.config) is_place) (record { core = etr; running = is_up; counted = sym told ∙ is });
     }
+
+-- what follows from it for each value
+pub if_some : {X : Type 0} (o : Option X) (P Q : X → Type 0) → ((x : X) → P x → Q x) → IfSome o P → IfSome o Q
+if_some (Some x) P Q follows is = follows x is
+if_some None P Q follows is = tt

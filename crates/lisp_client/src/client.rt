@@ -1,8 +1,9 @@
 //! What a client asks of a network, and what it is promised of the answers.
 
-ghost use Rattle.std.specs.Prelude.{◌≡◌, IfOk, IfSome, length, map};
+ghost use Rattle.std.specs.Prelude.{◌≡◌, List, IfOk, IfSome, length, map};
 ghost use Rattle.lisp_store.specs.Memory.{memory_state};
-ghost use Rattle.lisp_schedules.specs.Trace.{happening};
+ghost use Rattle.lisp_sites.specs.Configuration.{Configuration};
+ghost use Rattle.lisp_schedules.specs.Trace.{Happening, happening};
 ghost use Rattle.lisp_world.specs.Quiet.{AllHonest};
 ghost use Rattle.lisp_client.specs.Promised.{HasRun, IsPromised};
 
@@ -37,6 +38,18 @@ pub fn ask<A: Memory + Copy, E: Allocator, F: Allocator>(
     ensures { IfSome result (λ told. IsPromised config.now (map happening events.now) server router place told.rows.items told.counted) }
 {
     let world = run(alloc, config, events)?;
+    heard(&world, server, router, place)
+}
+
+// What the client hears from the Map-Server and the router of a network.
+fn heard<A: Memory + Copy>(
+    world: &World<MemoryStore<A>, A>,
+    server: usize,
+    router: usize,
+    place: usize,
+) -> Option<Told<A>>
+    ensures { IfSome result (λ told. (c : Configuration) (events : List Happening) → HasRun c events world.now → IsPromised c events server router place told.rows.items told.counted) }
+{
     let counted = world.router(router)?.acked(place);
     match world.server(server)?.held(world.clock()) {
         Ok(rows) => Some(Told { rows, counted }),

@@ -1,9 +1,5 @@
-use Rattle.std.proofs.Common.{ℕ, sym, subst}
-use Rattle.lisp_lookup.specs.Table.{IsHeld}
-use Rattle.lisp_client.proofs.Promise.{promised}
+use Rattle.lisp_client.proofs.Promise.{if_some}
 use Rattle.lisp_client.proofs.client.ask.Goals as goal
 
-pub returns-in-Ok : goal.returns-in-Ok
-returns-in-Ok g c =
-    let held = subst (λ (now : ℕ). IsHeld c.in_ok-server.field-0.now.rows now c.in-Ok.rows.items) c.clock.ensures c.in-Ok.ensures.held in
-    promised _ _ _ c.in_ok-world.ensures _ _ _ _ _ _ (sym c.in_ok-server.ensures) held _ (sym c.in_ok-router.ensures) c.acked-counted.ensures
+pub returns : goal.returns
+returns g c = if_some c.heard.result _ _ (λ told promised. promised _ _ c.in_ok-world.ensures) c.heard.ensures
