@@ -1,6 +1,6 @@
 -- An input is read, and its network begins.
 use Rattle.std.proofs.Common.{IfErr, ◌≡◌, ℕ, zero, suc, Bool, true, false, List, [], ◌∷◌, map, replicate, Option, Some, None, Result, Ok, Err, ◌<◌, length, take, refl, sym, ap, subst, ◌∙◌}
-use Rattle.std.specs.Prelude.{◌⊎◌, ◌≢◌, IsTrue, IfSome}
+use Rattle.std.specs.Prelude.{◌⊎◌, ◌≢◌, IsErrAnd, IsTrue, IfSome}
 use Rattle.std.proofs.Common.{inl, inr}
 use Rattle.std.specs.Io.KnownBytes.{Keeps}
 use Rattle.std.specs.FinMap.{empty}
@@ -251,3 +251,27 @@ never x fault false means = refl
 pub neither : {P : Type 0} (fault : PlayFault) → (fault ≡ faults.OutOfMemory) ⊎ (fault ≡ faults.Write) → fault ≢ faults.Write → fault ≢ faults.OutOfMemory → P
 neither fault (inl is) not_write not_memory = absurd (not_memory is)
 neither fault (inr is) not_write not_memory = absurd (not_write is)
+
+-- memory ran out for a network's stores
+module _ {X : Type 0} where
+  pub memory_no_world : {P : Type 0} (r : Result X PlayFault) (why : WorldFault) → IsErrAnd r (λ e. e ≡ faults.OutOfMemory) → r ≡ Err (faults.World why) → P
+  memory_no_world (Ok x) why is clash = absurd is
+  memory_no_world (Err e) why is clash = absurd cc
+
+  pub memory_ends : (r : Result X PlayFault) → IsErrAnd r (λ e. e ≡ faults.OutOfMemory) → IfErr r (λ f. (f ≡ faults.OutOfMemory) ⊎ ((why : WorldFault) × (f ≡ faults.World why)))
+  memory_ends (Ok x) is = tt
+  memory_ends (Err e) is = inl is
+
+  -- a network isn't made
+  module _ (why : WorldFault) where
+    pub world_is : (r : Result X PlayFault) (other : WorldFault) → IsErrAnd r (λ e. e ≡ faults.World why) → r ≡ Err (faults.World other) → why ≡ other
+    world_is (Ok x) other is same = absurd is
+    world_is (Err e) other is same = cc
+
+    pub world_no_memory : {P : Type 0} (r : Result X PlayFault) → IsErrAnd r (λ e. e ≡ faults.World why) → r ≡ Err faults.OutOfMemory → P
+    world_no_memory (Ok x) is clash = absurd is
+    world_no_memory (Err e) is clash = absurd cc
+
+    pub world_ends : (r : Result X PlayFault) → IsErrAnd r (λ e. e ≡ faults.World why) → IfErr r (λ f. (f ≡ faults.OutOfMemory) ⊎ ((w : WorldFault) × (f ≡ faults.World w)))
+    world_ends (Ok x) is = tt
+    world_ends (Err e) is = inr (why, is)
