@@ -1,6 +1,7 @@
 -- The nodes of a network: made one after the other, each over its store, and then the routers started one after the other.
 use Rattle.std.proofs.Common.{◌≡◌, ◌⊎◌, inl, inr, ℕ, suc, zero, ◌+◌, ◌<◌, ◌≤◌, List, [], ◌∷◌, ◌++◌, length, map, get_or, take, drop, Some, refl, sym, ap, subst, ◌∙◌, add-one, arith, length-append, length-set, append-nil}
 use Rattle.std.specs.Prelude.{◌≢◌, slice_get, slice_set}
+use Rattle.std.specs.List.{AllByRecursion}
 use Rattle.std.proofs.Math.Seq.{take-suc, take-length}
 use Rattle.std.proofs.Math.ListN.{drop_of_length-le}
 use Rattle.std.proofs.lemmas.List.{map-append, append_assoc}
@@ -19,6 +20,12 @@ module _ {X Y : Type 0} where
       let taken : take (i + 1) xs ≡ take i xs ++ x ∷ [] = ap (λ n. take n xs) (add-one i) ∙ take-suc xs i x low ∙ ap (λ (y : X). take i xs ++ y ∷ []) (sym at) in
       let mapped : map f (take (i + 1) xs) ≡ map f (take i xs) ++ f x ∷ [] = ap (map f) taken ∙ map-append f (take i xs) (x ∷ []) in
       pushed ∙ ap (λ (l : List Y). l ++ f x ∷ []) so_far ∙ append_assoc before (map f (take i xs)) (f x ∷ []) ∙ ap (λ (l : List Y). before ++ l) (sym mapped)
+
+-- what holds of each element holds of the one at a place
+pub each_at : {X : Type 0} (P : X → Type 0) (xs : List X) (i : ℕ) (d : X) → AllByRecursion P xs → i < length xs → P (get_or xs i d)
+each_at P [] i d each low = absurd (omega (arith, low))
+each_at P (x ∷ xs) zero d each low = each.0
+each_at P (x ∷ xs) (suc i) d each low = each_at P xs i d each.1 (omega (arith, low))
 
 module _ {X : Type 0} where
   -- what stands in a list with one more at its end stood there, or is that one
