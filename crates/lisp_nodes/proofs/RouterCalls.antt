@@ -1,5 +1,5 @@
 -- What the calls of a router come to, as the turns of a change, a send and a restart want it.
-use Rattle.std.proofs.Common.{◌≡◌, ℕ, ◌+◌, ◌<◌, true, false, true≢false, List, [], ◌++◌, length, get_or, Result, Option, refl, sym, ap, subst, ◌∙◌}
+use Rattle.std.proofs.Common.{◌≡◌, ℕ, ◌+◌, ◌<◌, true, false, true≢false, List, [], ◌++◌, length, get_or, Result, Ok, Err, Option, refl, sym, ap, subst, ◌∙◌}
 use Rattle.std.specs.Prelude.{IsSome, slice_set}
 use Rattle.std.proofs.lemmas.List.{append-nil}
 use Rattle.std.proofs.lemmas.Option.{slice_get_read}
@@ -69,3 +69,11 @@ module _ (old : WorldState) (router server : ℕ) (fate : Fate) (before after : 
   pub sends_down : (core : RouterCore) → is_up core ≡ false → after ≡ before → SendsAt old router server fate before after core (lines.Down router) []
   sends_down (Up e) down same = absurd (true≢false down)
   sends_down (Down config database) down same = (same, refl, refl)
+
+-- what a router that was started says, and one that wasn't
+module _ {X E : Type 0} where
+  pub no_fault : {P : Type 0} (x : X) (why : E) → ◌≡◌ {A = Result X E} (Ok x) (Err why) → P
+  no_fault x why clash = absurd cc
+
+  pub same_fault : (one other : E) → ◌≡◌ {A = Result X E} (Err one) (Err other) → one ≡ other
+  same_fault one other is = cc

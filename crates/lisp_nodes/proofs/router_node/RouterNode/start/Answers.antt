@@ -1,10 +1,12 @@
-use Rattle.std.proofs.Common.{List, ap, refl, subst, ◌∙◌}
+use Rattle.std.proofs.Common.{List, ap, refl, subst, sym, ◌∙◌}
 use Rattle.std.specs.Option.{unwrap_or}
 use Rattle.lisp_records.specs.Record.{Mapping}
 use Rattle.lisp_etr.specs.Config.{Settings}
+use Rattle.lisp_etr.specs.Etr.{EtrState}
 use Rattle.lisp_turns.specs.World.{Down}
 use Rattle.lisp_turns.specs.Calls.{Starts}
 use Rattle.lisp_nodes.specs.Cores.{core_of}
+use Rattle.lisp_nodes.proofs.RouterCalls.{no_fault, same_fault}
 use Rattle.lisp_nodes.proofs.router_node.RouterNode.start.Goals as goal
 use Rattle.lisp_nodes.proofs.router_node.RouterNode.start.Goals.{in-Ok, in-Err}
 
@@ -21,3 +23,24 @@ returns-clause-starts g c =
       same = c.start.ensures.same;
       proceeds = c.start.ensures.proceeds;
     })
+
+-- its key is that of what it started from
+pub invariant_of-result : goal.invariant_of-result
+invariant_of-result g c =
+    let same = c.self.invariant ∙ ap (λ (s : Settings). s.key_id) (sym c.stopped-config.ensures.config) in
+    elim c.match-start.branch [
+      | in-Ok w ↦ rw w.core-is (same ∙ ap (λ (e : EtrState). e.config.key_id) (sym w.in-Ok.ensures.started))
+      | in-Err w ↦ rw w.core-is (same ∙ ap (λ (s : Settings). s.key_id) (sym w.in-Err.ensures.back.0))
+    ]
+
+pub returns-clause-memory : goal.returns-clause-memory
+returns-clause-memory g c = elim c.match-start.branch [
+  | in-Ok w ↦ rw w.core-is (no_fault _ _)
+  | in-Err w ↦ rw w.core-is (λ is. w.in-Err.ensures.memory (same_fault _ _ is))
+]
+
+pub returns-clause-store_memory : goal.returns-clause-store_memory
+returns-clause-store_memory g c = elim c.match-start.branch [
+  | in-Ok w ↦ rw w.core-is (no_fault _ _)
+  | in-Err w ↦ rw w.core-is (λ is. w.in-Err.ensures.store_memory (same_fault _ _ is))
+]
