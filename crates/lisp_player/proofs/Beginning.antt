@@ -254,6 +254,9 @@ neither fault (inr is) not_write not_memory = absurd (not_write is)
 
 -- memory ran out for a network's stores
 module _ {X : Type 0} where
+  pub made_no_fault : {P : Type 0} (x : X) (fault : PlayFault) → ◌≡◌ {A = Result X PlayFault} (Ok x) (Err fault) → P
+  made_no_fault x fault clash = absurd cc
+
   pub memory_no_world : {P : Type 0} (r : Result X PlayFault) (why : WorldFault) → IsErrAnd r (λ e. e ≡ faults.OutOfMemory) → r ≡ Err (faults.World why) → P
   memory_no_world (Ok x) why is clash = absurd is
   memory_no_world (Err e) why is clash = absurd cc

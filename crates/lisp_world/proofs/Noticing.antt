@@ -1,5 +1,5 @@
 -- A Map-Server's notice, made or made again, and what the network says of it.
-use Rattle.std.proofs.Common.{◌≡◌, ℕ, ◌+◌, ◌<◌, List, get_or, ◌++◌, Result, Ok, Err, refl, ap, subst, ◌∙◌, length}
+use Rattle.std.proofs.Common.{◌≡◌, ℕ, ◌+◌, ◌<◌, List, get_or, ◌++◌, Result, Ok, Err, refl, subst, length}
 use Rattle.std.specs.Prelude.{IfOk, IsSome, slice_set}
 use Rattle.std.proofs.lemmas.Option.{slice_get_read}
 use Rattle.lisp_records.specs.declared.address.Addr.{Addr}

@@ -1,13 +1,12 @@
 -- A router that was asked for a Map-Register, and what the network says of it.
-use Rattle.std.proofs.Common.{◌≡◌, ℕ, ◌+◌, ◌<◌, List, get_or, ◌++◌, Option, Some, None, Result, Ok, Err, false, refl, sym, ap, subst, ◌∙◌, length}
+use Rattle.std.proofs.Common.{◌≡◌, ℕ, ◌+◌, ◌<◌, List, get_or, ◌++◌, Option, Some, None, Result, Ok, Err, false, refl, sym, ap, subst, length}
 use Rattle.std.specs.Prelude.{IfOk, IfSome, IsSome, slice_set}
 use Rattle.lisp_messages.specs.Head.{head_at}
 use Rattle.lisp_store.specs.declared.fate.Fate.{Fate}
 use Rattle.lisp_etr.specs.declared.send_fault.SendFault.{SendFault}
 use Rattle.lisp_schedules.specs.declared.line.Line.{Line}
-use Rattle.lisp_schedules.specs.declared.line.Line.TheVariants as lines
 use Rattle.lisp_nodes.proofs.RouterCalls.{acted, sent_head, sends_up, sends_down}
-use Rattle.lisp_turns.specs.World.{Posted, RouterNode, RouterCore, WorldState}
+use Rattle.lisp_turns.specs.World.{Posted, RouterNode, WorldState}
 use Rattle.lisp_turns.specs.Turns.{SendsFrom, SendsAt, SendsWhileUp, is_up}
 use Rattle.lisp_world.specs.Asked.{SaysAsked}
 

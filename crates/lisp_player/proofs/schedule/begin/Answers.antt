@@ -1,7 +1,7 @@
 use Rattle.std.proofs.Common.{Err, ◌+◌, length, ap, ◌∙◌}
 use Rattle.std.proofs.lemmas.List.{length-replicate}
 use Rattle.lisp_world.specs.Openings.{repeats}
-use Rattle.lisp_player.proofs.Beginning.{begins, never, memory_no_world, memory_ends, world_is, world_no_memory, world_ends}
+use Rattle.lisp_player.proofs.Beginning.{begins, never, made_no_fault, memory_no_world, memory_ends, world_is, world_no_memory, world_ends}
 use Rattle.lisp_player.proofs.schedule.begin.Goals as goal
 
 pub returns-in_err-stores-clause-repeated : goal.returns-in_err-stores-clause-repeated
@@ -31,7 +31,7 @@ pub returns-clause-repeats : goal.returns-clause-repeats
 returns-clause-repeats g c = never _ _ (repeats c.args.config.now) c.in_ok-new.ensures.repeated.1
 
 pub returns-clause-repeated : goal.returns-clause-repeated
-returns-clause-repeated g c = λ same. absurd cc
+returns-clause-repeated g c = made_no_fault _ _
 
 pub returns-clause-memory : goal.returns-clause-memory
-returns-clause-memory g c = λ same. absurd cc
+returns-clause-memory g c = made_no_fault _ _

@@ -1,7 +1,7 @@
 use Rattle.std.proofs.Common.{◌∙◌, [], append-nil, sym, arith}
 use Rattle.std.proofs.lemmas.List.{length-set}
 use Rattle.lisp_nodes.proofs.RouterCalls.{acted, same_bag, line_up, line_down}
-use Rattle.lisp_world.proofs.Refusing.{no_fault, out_of_memory}
+use Rattle.lisp_world.proofs.Refusing.{no_fault, out_of_memory, taken}
 use Rattle.lisp_world.proofs.world.World.change.Goals as goal
 use Rattle.lisp_world.proofs.world.World.change.Goals.{then-change, else-change}
 
@@ -34,3 +34,6 @@ returns-clause-fault g c = no_fault _ _ c.in_ok-place.ensures.fault
 
 pub returns-in_err-copy-clause-fault : goal.returns-in_err-copy-clause-fault
 returns-in_err-copy-clause-fault g c = out_of_memory _ _ c.in_ok-place.ensures.fault c.from_residual-in_err-copy.ensures.1
+
+pub returns-clause-memory : goal.returns-clause-memory
+returns-clause-memory g c = taken _ _

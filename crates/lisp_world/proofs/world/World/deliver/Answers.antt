@@ -4,7 +4,7 @@ use Rattle.std.proofs.lemmas.Option.{slice_get-get_or}
 use Rattle.lisp_turns.specs.World.{Posted, WorldState}
 use Rattle.lisp_turns.specs.Turns.{node_with, posted}
 use Rattle.lisp_world.proofs.Arrivals.{addressed_there, arrived, datagram_there, delivered, read_again}
-use Rattle.lisp_world.proofs.Refusing.{no_fault, out_of_memory, only_room}
+use Rattle.lisp_world.proofs.Refusing.{no_fault, out_of_memory, only_room, taken}
 use Rattle.lisp_world.proofs.world.World.deliver.Goals as goal
 
 pub index-datagram-requires : goal.index-datagram-requires
@@ -84,3 +84,9 @@ post_reply-requires g c = (let room = c.in_ok-make_room.ensures.ok in omega (ari
 
 pub returns-clause-tells : goal.returns-clause-tells
 returns-clause-tells g c = c.hear-line.ensures.tells
+
+pub returns-clause-memory : goal.returns-clause-memory
+returns-clause-memory g c = taken _ _
+
+pub returns-in_default-clause-memory : goal.returns-in_default-clause-memory
+returns-in_default-clause-memory g c = taken _ _

@@ -3,7 +3,7 @@ use Rattle.std.specs.List.{length_refill}
 use Rattle.lisp_store.specs.declared.fate.Fate.TheVariants.{Done}
 use Rattle.lisp_turns.specs.Turns.{posted}
 use Rattle.lisp_world.proofs.Arrivals.{arrived, node_there}
-use Rattle.lisp_world.proofs.Refusing.{no_fault, out_of_memory, only_room}
+use Rattle.lisp_world.proofs.Refusing.{no_fault, out_of_memory, only_room, taken}
 use Rattle.lisp_world.proofs.world.World.junk.Goals as goal
 
 pub address-address-requires : goal.address-address-requires
@@ -50,3 +50,6 @@ post_reply-requires g c = (let room = c.in_ok-make_room.ensures.ok in omega (ari
 
 pub returns-clause-tells : goal.returns-clause-tells
 returns-clause-tells g c = c.hear-line.ensures.tells
+
+pub returns-clause-memory : goal.returns-clause-memory
+returns-clause-memory g c = taken _ _

@@ -12,6 +12,7 @@ use Rattle.lisp_world.proofs.Making.{IsMade, lists_same, stays_calm, made_stands
 use Rattle.lisp_turns.proofs.Headlines.{networks_promise}
 use Rattle.lisp_world.specs.declared.fault.WorldFault.{WorldFault}
 use Rattle.lisp_world.specs.declared.fault.WorldFault.TheVariants as faults
+use Rattle.lisp_world.proofs.Refusing.{taken, repeated_no_memory, repeated_no_start, memory_no_start}
 use Rattle.lisp_world.proofs.world.World.new.Goals as goal
 
 -- a configuration without repeats is refused for something else
@@ -124,3 +125,39 @@ returns-in_err-start_all-clause-start_memory g c = unstarted_start _ _ _ _ (err_
 
 pub returns-in_err-start_all-clause-store_memory : goal.returns-in_err-start_all-clause-store_memory
 returns-in_err-start_all-clause-store_memory g c = unstarted_store _ _ _ _ (err_is c.from_residual-in_err-start_all.result c.in_err-start_all.field-0.0 c.from_residual-in_err-start_all.ensures.1) c.in_err-start_all.ensures.faults
+
+pub returns-clause-memory : goal.returns-clause-memory
+returns-clause-memory g c = taken _ _
+
+pub returns-clause-start_memory : goal.returns-clause-start_memory
+returns-clause-start_memory g c = λ node. taken _ _
+
+pub returns-clause-store_memory : goal.returns-clause-store_memory
+returns-clause-store_memory g c = λ node. taken _ _
+
+pub returns-then-repeats-clause-memory : goal.returns-then-repeats-clause-memory
+returns-then-repeats-clause-memory g c = repeated_no_memory
+
+pub returns-then-repeats-clause-start_memory : goal.returns-then-repeats-clause-start_memory
+returns-then-repeats-clause-start_memory g c = λ node. repeated_no_start node _
+
+pub returns-then-repeats-clause-store_memory : goal.returns-then-repeats-clause-store_memory
+returns-then-repeats-clause-store_memory g c = λ node. repeated_no_start node _
+
+pub returns-in_err-addresses-clause-memory : goal.returns-in_err-addresses-clause-memory
+returns-in_err-addresses-clause-memory g c = λ is. c.in_err-addresses.ensures.memory
+
+pub returns-in_err-addresses-clause-start_memory : goal.returns-in_err-addresses-clause-start_memory
+returns-in_err-addresses-clause-start_memory g c = λ node. memory_no_start _ node _ c.from_residual.ensures.1
+
+pub returns-in_err-addresses-clause-store_memory : goal.returns-in_err-addresses-clause-store_memory
+returns-in_err-addresses-clause-store_memory g c = λ node. memory_no_start _ node _ c.from_residual.ensures.1
+
+pub returns-in_err-servers-clause-memory : goal.returns-in_err-servers-clause-memory
+returns-in_err-servers-clause-memory g c = λ is. c.in_err-servers.ensures.memory
+
+pub returns-in_err-servers-clause-start_memory : goal.returns-in_err-servers-clause-start_memory
+returns-in_err-servers-clause-start_memory g c = λ node. memory_no_start _ node _ c.from_residual-in_err-servers.ensures.1
+
+pub returns-in_err-servers-clause-store_memory : goal.returns-in_err-servers-clause-store_memory
+returns-in_err-servers-clause-store_memory g c = λ node. memory_no_start _ node _ c.from_residual-in_err-servers.ensures.1

@@ -3,7 +3,7 @@ use Rattle.std.proofs.lemmas.List.{length-set}
 use Rattle.lisp_turns.specs.World.{WorldState}
 use Rattle.lisp_world.proofs.Noticing.{noticed, notice_headed}
 use Rattle.lisp_world.proofs.Telling.{noticed_tells}
-use Rattle.lisp_world.proofs.Refusing.{no_fault, out_of_memory, only_room}
+use Rattle.lisp_world.proofs.Refusing.{no_fault, out_of_memory, only_room, taken}
 use Rattle.lisp_world.proofs.world.World.notice.Goals as goal
 
 pub notice_line-requires-clause-head : goal.notice_line-requires-clause-head
@@ -53,3 +53,6 @@ returns-in_err-make_room-clause-fault g c = out_of_memory _ _ c.in_ok-place.ensu
 
 pub returns-in_err-make_room-clause-err : goal.returns-in_err-make_room-clause-err
 returns-in_err-make_room-clause-err g c = only_room _ _ _ _ c.make_room.ensures.items c.self.view_is
+
+pub returns-clause-memory : goal.returns-clause-memory
+returns-clause-memory g c = taken _ _

@@ -3,7 +3,7 @@ use Rattle.lisp_records.specs.Record.{Mapping}
 use Rattle.lisp_schedules.specs.Legal.{Fits}
 use Rattle.lisp_schedules.specs.Memory.{MayTell}
 use Rattle.lisp_turns.specs.Turns.{RestartsAt}
-use Rattle.lisp_world.proofs.Refusing.{no_fault, out_of_memory}
+use Rattle.lisp_world.proofs.Refusing.{no_fault, out_of_memory, taken}
 use Rattle.lisp_world.proofs.world.World.restart.Goals as goal
 
 pub returns-then-is_server-clause-restarts : goal.returns-then-is_server-clause-restarts
@@ -32,3 +32,9 @@ returns-clause-fault g c = no_fault _ _ c.in_ok-check_restart.ensures.fault
 
 pub returns-in_err-db-clause-fault : goal.returns-in_err-db-clause-fault
 returns-in_err-db-clause-fault g c = out_of_memory _ _ c.in_ok-check_restart.ensures.fault c.from_residual-in_err-db.ensures.1
+
+pub returns-clause-memory : goal.returns-clause-memory
+returns-clause-memory g c = taken _ _
+
+pub returns-then-is_server-clause-memory : goal.returns-then-is_server-clause-memory
+returns-then-is_server-clause-memory g c = taken _ _
