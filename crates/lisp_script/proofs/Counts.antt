@@ -1,10 +1,15 @@
 -- The words behind a verb, by their number.
-use Rattle.std.proofs.Common.{◌≡◌, ℕ, ◌<◌, ◌≤◌, ◌≢◌, List, [], ◌∷◌, length, get_or, map, Err, Bor, refl, arith}
+use Rattle.std.proofs.Common.{◌≡◌, ℕ, ◌-◌, ◌<◌, ◌≤◌, ◌≢◌, List, [], ◌∷◌, length, get_or, map, take, drop, Result, Ok, Err, Bor, refl, arith}
+use Rattle.std.proofs.lemmas.Grind.{common_steps}
+use Rattle.lisp_records.specs.Result.{Reads}
 use Rattle.lisp_sites.specs.Configuration.{Configuration}
 use Rattle.lisp_script.specs.declared.fault.ScriptWhat.TheVariants.{Count}
 use Rattle.lisp_script.specs.declared.verb.Verb.{Verb}
 use Rattle.lisp_script.specs.declared.verb.Verb.TheVariants as verbs
-use Rattle.lisp_script.specs.Spelling.{spelt}
+use Rattle.lisp_script.specs.declared.fault.ScriptWhat.{ScriptWhat}
+use Rattle.lisp_script.specs.Fault.{Gives}
+use Rattle.lisp_script.specs.Order.{Order}
+use Rattle.lisp_script.specs.Spelling.{change_of, restart_with, spelt}
 
 -- the texts of words
 abbrev pub texts : List (Bor (List ℕ)) → List (List ℕ)
@@ -67,3 +72,58 @@ miscounted c verb (a ∷ []) one two three change restart = absurd (one refl)
 miscounted c verb (a ∷ b ∷ []) one two three change restart = absurd (two refl)
 miscounted c verb (a ∷ b ∷ e ∷ []) one two three change restart = absurd (three refl)
 miscounted c verb (a ∷ b ∷ e ∷ f ∷ words) one two three change restart = too_many c verb a.now b.now e.now f.now (texts words) change restart
+
+-- what never runs out of memory
+pub reads_gives : {X Y : Type 0} (view : X → Y) (result : Result X ScriptWhat) (read : Result Y ScriptWhat) → Reads view result read → Gives view result read
+reads_gives view (Ok x) read is = is
+reads_gives view (Err what) read is = λ _. is
+
+-- a definition at the texts of one word, and of two
+pub by_one : {X Y : Type 0} (view : X → Y) (result : Result X ScriptWhat) (f : List (List ℕ) → Result Y ScriptWhat) (words : List (Bor (List ℕ))) (d : Bor (List ℕ)) → 1 ≤ length words → length words < 2
+    → Reads view result (f ((get_or words 0 d).now ∷ [])) → Gives view result (f (texts words))
+by_one view result f words d some few is = rw (one words d some few) (reads_gives view result _ is)
+
+pub by_two : {X Y : Type 0} (view : X → Y) (result : Result X ScriptWhat) (f : List (List ℕ) → Result Y ScriptWhat) (words : List (Bor (List ℕ))) (d : Bor (List ℕ)) → 2 ≤ length words → length words < 3
+    → Reads view result (f ((get_or words 0 d).now ∷ (get_or words 1 d).now ∷ [])) → Gives view result (f (texts words))
+by_two view result f words d some few is = rw (two words d some few) (reads_gives view result _ is)
+
+-- and of three
+pub by_three : {X Y : Type 0} (view : X → Y) (result : Result X ScriptWhat) (f : List (List ℕ) → Result Y ScriptWhat) (words : List (Bor (List ℕ))) (d : Bor (List ℕ)) → 3 ≤ length words → length words < 4
+    → Gives view result (f ((get_or words 0 d).now ∷ (get_or words 1 d).now ∷ (get_or words 2 d).now ∷ [])) → Gives view result (f (texts words))
+by_three view result f words d some few is = rw (three words d some few) is
+
+-- all words behind the first, and behind the first two
+behind_one : (a : Bor (List ℕ)) (words : List (Bor (List ℕ))) → take (length (a ∷ words) - 1) (drop 1 (a ∷ words)) ≡ words
+behind_one a words = grind (arith, common_steps)
+
+behind_two : (a b : Bor (List ℕ)) (words : List (Bor (List ℕ))) → take (length (a ∷ b ∷ words) - 2) (drop 2 (a ∷ b ∷ words)) ≡ words
+behind_two a b words = grind (arith, common_steps)
+
+-- a change with too few words, and with enough of them
+pub change_none : (c : Configuration) (words : List (Bor (List ℕ))) → length words < 2 → spelt c verbs.Change (texts words) ≡ Err Count
+unfolding spelt
+change_none c [] few = refl
+change_none c (a ∷ []) few = refl
+change_none c (a ∷ b ∷ words) few = absurd (omega arith)
+
+pub change_more : {X : Type 0} (view : X → Order) (result : Result X ScriptWhat) (c : Configuration) (words : List (Bor (List ℕ))) (d : Bor (List ℕ)) → 2 ≤ length words
+    → Gives view result (change_of c (get_or words 0 d).now (texts (take (length words - 1) (drop 1 words)))) → Gives view result (spelt c verbs.Change (texts words))
+unfolding spelt
+change_more view result c [] d some is = absurd (omega arith)
+change_more view result c (a ∷ []) d some is = absurd (omega arith)
+change_more view result c (a ∷ b ∷ words) d some is = rw (behind_one a (b ∷ words)) at is
+
+-- the same for a restart
+pub restart_none : (c : Configuration) (words : List (Bor (List ℕ))) → length words < 2 → spelt c verbs.Restart (texts words) ≡ Err Count
+unfolding spelt
+restart_none c [] few = refl
+restart_none c (a ∷ []) few = refl
+restart_none c (a ∷ b ∷ words) few = absurd (omega arith)
+
+pub restart_more : {X : Type 0} (view : X → Order) (result : Result X ScriptWhat) (c : Configuration) (words : List (Bor (List ℕ))) (d : Bor (List ℕ)) → 3 ≤ length words
+    → Gives view result (restart_with c (get_or words 0 d).now (get_or words 1 d).now (texts (take (length words - 2) (drop 2 words)))) → Gives view result (spelt c verbs.Restart (texts words))
+unfolding spelt
+restart_more view result c [] d some is = absurd (omega arith)
+restart_more view result c (a ∷ []) d some is = absurd (omega arith)
+restart_more view result c (a ∷ b ∷ []) d some is = absurd (omega arith)
+restart_more view result c (a ∷ b ∷ e ∷ words) d some is = rw (behind_two a b (e ∷ words)) at is

@@ -1,5 +1,6 @@
 -- Reading lines one after the other, as a loop does.
 use Rattle.std.proofs.Common.{◌≡◌, ◌≢◌, ℕ, ◌+◌, ◌<◌, List, [], ◌∷◌, ◌++◌, length, get_or, map, take, drop, Option, Some, None, Result, Ok, Err, Bor, refl, sym, ap, ◌∙◌, arith, add-one, drop-cons}
+use Rattle.std.specs.Prelude.{IfErr}
 use Rattle.std.specs.List.{enumerate_from}
 use Rattle.std.specs.Option.{option_to_list}
 use Rattle.std.proofs.lemmas.List.{length-map, map-append, take-map, take-append-drop}
@@ -133,3 +134,10 @@ stops c lines xs x before after fault (Err what) so_far gives is next other =
     ∙ in_faulty c (texts xs) x.1.now (drop (length xs + 1) lines) before what so_far wrong
     ∙ ap (λ (n : ℕ). Err (record { line = n; what = what })) number
     ∙ ap Err (sym same)
+
+-- memory runs out where it does in a line
+pub runs_out : {X May : Type 0} (n : ℕ) (fault : ScriptFault) (read : Result X ScriptWhat) → IfErr read (λ what. what ≡ Memory → May) → Err fault ≡ at_line n read → fault.what ≡ Memory → May
+runs_out n fault (Ok _) may is e = absurd cc
+runs_out n fault (Err what) may is e =
+    let same : fault ≡ record { line = n; what = what } = cc in
+    may (sym (ap (λ (f : ScriptFault). f.what) same) ∙ e)

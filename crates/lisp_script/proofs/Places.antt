@@ -80,3 +80,12 @@ node_by_kind c word =
     let both : position named (map (λ s. s.name) c.servers ++ map (λ r. r.name) c.routers) ≡ or_behind (position (λ s. is_word s.name word) c.servers) (length c.servers) (position (λ r. is_word r.name word) c.routers) =
     position_both named (λ s. s.name) c.servers _ ∙ ap (λ (o : Option ℕ). or_behind (position (λ s. is_word s.name word) c.servers) (length c.servers) o) routers in
     ap (λ (o : Option ℕ). ok_or o Name) both ∙ either_place (position (λ s. is_word s.name word) c.servers) (length c.servers) (position (λ r. is_word r.name word) c.routers)
+
+-- a router by its place
+pub router_at : (c : Configuration) (word : List ℕ) (n : ℕ) (place : ℕ) → n ≡ length c.servers → position (λ r. is_word r.name word) c.routers ≡ Some place → Ok (n + place) ≡ router_of c word
+unfolding router_of
+router_at c word n place count at = rw (count, at) refl
+
+pub no_router : (c : Configuration) (word : List ℕ) → position (λ r. is_word r.name word) c.routers ≡ None → Err Name ≡ router_of c word
+unfolding router_of
+no_router c word none = rw none refl

@@ -29,29 +29,14 @@ pub(crate) fn command<A: Memory + Copy, E: Allocator>(
     ensures value { Gives order result (command_of config.now word.now (map (λ w. w.now) words.now)) }
     ensures memory { IfErr result (λ what. what ≡ ScriptWhat.Memory → A.may_refuse) }
 {
-    let verb = Verb::from_word(word)?;
-    spelt(alloc, config, verb, words)
-}
-
-// The command of a verb and the words behind it.
-fn spelt<A: Memory + Copy, E: Allocator>(
-    alloc: A,
-    config: &Config<E>,
-    verb: Verb,
-    words: &[&str],
-) -> Result<Command<A>, ScriptWhat>
-    ensures value { Gives order result (spelt config.now verb (map (λ w. w.now) words.now)) }
-    ensures memory { IfErr result (λ what. what ≡ ScriptWhat.Memory → A.may_refuse) }
-{
-    match verb {
+    match Verb::from_word(word)? {
         Verb::Change => change(alloc, config, words),
         Verb::Restart => restart(alloc, config, words),
-        _ => counted(alloc, config, verb, words),
+        verb => counted(alloc, config, verb, words),
     }
 }
 
 // The command of a verb that no records follow, and the words behind it.
-#[tactic(auto, using(crate::proofs::Counts::one, crate::proofs::Counts::two, crate::proofs::Counts::three, crate::proofs::Counts::miscounted))]
 fn counted<A: Memory + Copy, E: Allocator>(
     alloc: A,
     config: &Config<E>,
@@ -132,7 +117,6 @@ fn with_three<A: Memory + Copy, E: Allocator>(
 }
 
 // change R, with a database
-#[tactic(auto, unfolding(crate::specs::Spelling::spelt))]
 fn change<A: Memory + Copy, E: Allocator>(
     alloc: A,
     config: &Config<E>,
@@ -175,7 +159,6 @@ fn tick<A: Allocator>(ms: &str) -> Result<Command<A>, ScriptWhat>
 }
 
 // restart N P, and perhaps with a database
-#[tactic(auto, unfolding(crate::specs::Spelling::spelt))]
 fn restart<A: Memory + Copy, E: Allocator>(
     alloc: A,
     config: &Config<E>,

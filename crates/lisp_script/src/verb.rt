@@ -7,7 +7,7 @@ ghost use Rattle.lisp_script.specs.declared.fault.ScriptWhat.TheVariants.{Memory
 use crate::fault::ScriptWhat;
 
 /// What a command does, by its first word.
-#[derive(Clone, Copy, Debug, PartialEq, Eq)]
+#[derive(Clone, Copy)]
 pub(crate) enum Verb {
     Change,
     Send,

@@ -4,7 +4,7 @@ use Rattle.std.proofs.lemmas.Iterator.Splits.{YieldsList-from_lines}
 use Rattle.std.proofs.lemmas.Result.{err_from_is_err_and}
 use Rattle.std.specs.Str.Lines.{lines}
 use Rattle.lisp_script.specs.Order.{order}
-use Rattle.lisp_script.proofs.Lines.{in_none, goes_on, stops, next_line, all_yielded}
+use Rattle.lisp_script.proofs.Lines.{in_none, goes_on, stops, runs_out, next_line, all_yielded}
 use Rattle.lisp_script.proofs.script.parse_script.Goals as goal
 
 pub loop-place-init : goal.loop-place-init
@@ -23,6 +23,11 @@ returns-in_err-at_line-clause-fault g c =
     let p = err_from_is_err_and c.from_residual.result c.from_residual.ensures.1 in
     rw (p.1, p.2) (stops c.args.config.now (lines c.args.text.now) c.loop-place.yielded (c.in-Some.place, c.in-Some.line) (map order c.loop-place.commands.items) (map order c.read_line.new.commands.items) c.in_err-at_line.field-0.0 c.read_line.result
     c.loop-place.invariant c.read_line.ensures.value c.in_err-at_line.ensures next)
+
+pub returns-in_err-at_line-clause-memory : goal.returns-in_err-at_line-clause-memory
+returns-in_err-at_line-clause-memory g c =
+    let p = err_from_is_err_and c.from_residual.result c.from_residual.ensures.1 in
+    rw (p.1, p.2) (runs_out _ c.in_err-at_line.field-0.0 c.read_line.result c.read_line.ensures.memory c.in_err-at_line.ensures)
 
 pub returns-clause-commands : goal.returns-clause-commands
 returns-clause-commands g c =

@@ -1,14 +1,12 @@
-use Rattle.std.proofs.Common.{refl, arith}
-use Rattle.lisp_script.specs.Words.{router_of}
+use Rattle.std.proofs.Common.{length, sym, ap, ◌∙◌, arith}
+use Rattle.lisp_script.proofs.Places.{router_at, no_router}
 use Rattle.lisp_script.proofs.words.router.Goals as goal
 
 pub returns-in-Some-clause-value : goal.returns-in-Some-clause-value
-unfolding router_of
-returns-in-Some-clause-value g c = rw (c.servers.ensures, ← c.routers.ensures.routers, ← c.router_place.ensures.value, c.in-Some.is) refl
+returns-in-Some-clause-value g c = router_at c.args.config.now c.args.word.now _ c.in-Some.place (ap length c.servers.ensures) (rw (← c.routers.ensures.routers) (sym c.router_place.ensures.value ∙ c.in-Some.is))
 
 pub returns-in-None-clause-value : goal.returns-in-None-clause-value
-unfolding router_of
-returns-in-None-clause-value g c = rw (← c.routers.ensures.routers, ← c.router_place.ensures.value, c.in-None.is) refl
+returns-in-None-clause-value g c = no_router c.args.config.now c.args.word.now (rw (← c.routers.ensures.routers) (sym c.router_place.ensures.value ∙ c.in-None.is))
 
 pub overflow_add-result : goal.overflow_add-result
 overflow_add-result g c = omega (arith, c.in-Some.ensures.within)
