@@ -8,7 +8,6 @@ use Rattle.lisp_records.specs.declared.router.RouterId.{RouterId}
 use Rattle.lisp_served.specs.Site.{SiteEntry}
 use Rattle.lisp_store.specs.declared.fault.StoreFault.{StoreFault}
 use Rattle.lisp_store.specs.declared.fault.StoreFault.TheVariants as faults
-use Rattle.lisp_store.specs.declared.fate.Fate.TheVariants.{Done}
 use Rattle.lisp_store.specs.declared.pair.Pair.{Pair}
 use Rattle.lisp_store.specs.Pair.{pair_cmp}
 use Rattle.lisp_store.specs.Kept.{kept_at}
@@ -24,19 +23,17 @@ use Rattle.lisp_server.specs.LastNonces.{nonce_at}
 use Rattle.lisp_checks.specs.Nonces.{IsBase, HasCause}
 use Rattle.lisp_server.specs.Receiving.{Takes, RefusesRegister, RefusesRead, Refuses}
 use Rattle.lisp_checks.specs.Pairs.{pair_of}
-use Rattle.lisp_server.specs.Server.{ServerState}
 use Rattle.lisp_server.specs.Took.{reply_in}
 use Rattle.lisp_server.specs.declared.took.Took.{Took}
 use Rattle.lisp_server.specs.declared.took.Took.TheVariants.{Accepted, NoticeDone}
 use Rattle.lisp_checks.specs.declared.refused.Refused.{Refused}
 use Rattle.lisp_checks.specs.declared.refused.Refused.TheVariants as refusals
+use Rattle.lisp_server.specs.Server.{ServerState}
+use Rattle.lisp_answer.specs.Fresh.{fresh_server, fresh_memory}
 use Rattle.lisp_answer.specs.Answer.{answer_to, read_answer, answer_of, RanOut}
 
-abbrev fresh_server : List SiteEntry → ServerState
-fresh_server sites = record { sites = sites; rows = []; nonces = empty; contacts = []; notices = [] }
-
 abbrev fresh_store : StoreState
-fresh_store = memory_state (record { kept = empty; faults = 0; fate = Done })
+fresh_store = memory_state fresh_memory
 
 nothing_at : (pair : Pair) → nonce_at empty pair ≡ None
 unfolding nonce_at

@@ -25,6 +25,15 @@ Took-more (Some old) (Some mid) None line b other took read = absurd read
 Took-more (Some old) (Some mid) (Some new) line b other took read =
     took ∙ rw (read, take_through-more b new other) (sym (append_assoc line (b ∷ []) (take_through 10 new)))
 
+-- the line feed, which ends it
+pub Took-last : (old mid new : Option (List ℕ)) (line all : List ℕ) (b : ℕ) → b ≡ 10 → all ≡ line ++ b ∷ [] → Took old mid line → Consumes mid new (b ∷ []) → IfSome old (λ input. all ≡ take_through 10 input)
+Took-last None mid new line all b ends is took read = tt
+Took-last (Some old) None new line all b ends is took read = absurd took
+Took-last (Some old) (Some mid) None line all b ends is took read = absurd read
+Took-last (Some old) (Some mid) (Some new) line all b ends is took read =
+    let last : take_through 10 mid ≡ b ∷ [] = rw (read, ends) refl in
+    is ∙ sym (took ∙ ap (λ (t : List ℕ). line ++ t) last)
+
 -- nothing more of it
 pub Took-end : (old mid new : Option (List ℕ)) (line : List ℕ) → Took old mid line → Consumes mid new [] → IsAtEnd new → IfSome old (λ input. line ≡ take_through 10 input)
 Took-end None mid new line took read end = tt

@@ -1,5 +1,6 @@
 pub mod Block
 pub mod Setup
+pub mod Fresh
 pub mod Words
 pub mod Answer
 pub mod Line

@@ -1,6 +1,9 @@
 //! The answer of a fresh Map-Server to one datagram.
 
+ghost use Rattle.std.specs.Prelude.{◌≡◌, List};
+ghost use Rattle.lisp_served.specs.Site.{SiteEntry};
 ghost use Rattle.lisp_answer.specs.Answer.{Answers};
+ghost use Rattle.lisp_answer.specs.Fresh.{fresh_server, fresh_memory};
 
 use lisp_memory::Memory;
 use lisp_records::{Addr, Bytes};
@@ -22,7 +25,18 @@ pub(crate) fn respond<A: Memory + Copy>(
 {
     let mut server = Server::start(alloc, sites);
     let mut store = MemoryStore::new(alloc);
-    match server.receive(&mut store, SOURCE, bytes, 0) {
+    answered(&mut server, &mut store, bytes)
+}
+
+// What a server answers to the bytes: as a fresh one of its sites would, where it is one over an empty store.
+fn answered<A: Memory + Copy>(
+    server: &mut Server<A>,
+    store: &mut MemoryStore<A>,
+    bytes: &[u8],
+) -> Result<Option<Bytes<A>>, Refused>
+    ensures { (sites : List SiteEntry) → server.old ≡ fresh_server sites → store.old ≡ fresh_memory → Answers A.may_refuse sites bytes.now result }
+{
+    match server.receive(store, SOURCE, bytes, 0) {
         Ok(took) => Ok(took.into_reply()),
         Err(refused) => Err(refused),
     }
