@@ -1,15 +1,15 @@
 -- Appending to a text.
-use Rattle.std.proofs.Common.{◌≡◌, ℕ, ◌+◌, ◌-◌, ◌<◌, List, [], ◌∷◌, ◌++◌, length, get_or, take, Result, Ok, Err, refl, sym, ap, ◌∙◌, append_assoc}
+use Rattle.std.proofs.Common.{◌≡◌, ℕ, ◌+◌, ◌-◌, ◌<◌, ◌≤◌, List, [], ◌∷◌, ◌++◌, length, get_or, take, Result, Ok, Err, refl, sym, ap, ◌∙◌, append_assoc}
 use Rattle.std.specs.Prelude.{codes, OnOk, is_ok, if◌then◌else◌}
 use Rattle.std.specs.Fmt.{decimal}
 use Rattle.std.specs.Char.{encode_utf8}
 use Rattle.std.specs.List.{flat_map}
-use Rattle.std.proofs.lemmas.List.{flat_map_more, take_more}
+use Rattle.std.proofs.lemmas.List.{append-nil, flat_map_more, take_all, take_more}
 use Rattle.lisp_sites.specs.Configuration.{Configuration}
 use Rattle.lisp_records.specs.Row.{Holding}
 use Rattle.lisp_texts.specs.Written.{record_text}
 use Rattle.lisp_lines.specs.Name.{node_name, router_name}
-use Rattle.lisp_lines.specs.Query.{row_text}
+use Rattle.lisp_lines.specs.Query.{hold_text, row_text}
 
 pub ruleset steps = (append_assoc, flat_map_more)
 
@@ -33,6 +33,17 @@ one_more {X = X} shown head xs i x before after inside here so_far more =
 -- the line before the rows of a Map-Server
 abbrev pub head_text : Configuration → ℕ → ℕ → List ℕ
 head_text c server rows = codes "hold " ++ node_name c server ++ codes " " ++ decimal rows ++ 10 ∷ []
+
+-- that line before any row
+pub head_alone : (c : Configuration) (server rows n : ℕ) (name text : List ℕ) → name ≡ node_name c server → n ≡ rows → text ≡ codes "hold " ++ name ++ codes " " ++ decimal n ++ 10 ∷ []
+    → text ≡ head_text c server rows ++ []
+head_alone c server rows n name text named counted is = is ∙ rw (named, counted) (sym (append-nil (head_text c server rows)))
+
+-- and behind it the lines of all rows
+pub all_rows : (c : Configuration) (server now : ℕ) (rows : List Holding) (i : ℕ) (text : List ℕ) → length rows ≤ i → text ≡ head_text c server (length rows) ++ flat_map (row_text c now) (take i rows)
+    → text ≡ hold_text c server now rows
+all_rows c server now rows i text le is =
+    is ∙ ap (λ (hs : List Holding). head_text c server (length rows) ++ flat_map (row_text c now) hs) (take_all i rows le) ∙ simp append_assoc refl
 
 -- the twelve pieces of a row's line
 pieces : (a b c d e f g h i j k l : List ℕ) → a ++ (b ++ (c ++ (d ++ (e ++ (f ++ (g ++ (h ++ (i ++ (j ++ (k ++ l)))))))))) ≡ a ++ (b ++ c ++ d ++ e ++ (f ++ g ++ h ++ i) ++ j ++ k ++ l)
