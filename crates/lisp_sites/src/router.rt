@@ -266,7 +266,6 @@ fn read_flags(entry: &Value) -> Result<(bool, bool), ConfigFault>
 }
 
 // The records.
-#[tactic(auto, unfolding(crate::specs::Table::database_at))]
 fn read_database<A: Memory + Copy>(
     alloc: A,
     entry: &Value,
