@@ -1,5 +1,5 @@
 -- Where names stand: those of two lists, one behind the other.
-use Rattle.std.proofs.Common.{◌≡◌, ℕ, suc, ◌+◌, Bool, true, false, cond, not, List, [], ◌∷◌, ◌++◌, length, map, position, ltb, Option, Some, None, Result, Ok, Err, inl, inr, refl, sym, ap, ◌∙◌, arith}
+use Rattle.std.proofs.Common.{◌≡◌, ℕ, zero, suc, ◌+◌, ◌*◌, ◌^◌, ◌<◌, Bool, true, false, cond, not, List, [], ◌∷◌, ◌++◌, length, map, position, ltb, Option, Some, None, Result, Ok, Err, inl, inr, refl, sym, ap, ◌∙◌, arith}
 use Rattle.std.specs.List.{position_or_len}
 use Rattle.std.specs.Option.{option_map, ok_or}
 use Rattle.std.proofs.lemmas.Bool.{lt-ltb, le-ltb, cases_lt}
@@ -89,3 +89,12 @@ router_at c word n place count at = rw (count, at) refl
 pub no_router : (c : Configuration) (word : List ℕ) → position (λ r. is_word r.name word) c.routers ≡ None → Err Name ≡ router_of c word
 unfolding router_of
 no_router c word none = rw none refl
+
+-- as many as fit, where each takes some room
+few : (n size : ℕ) → 0 < size → n * size < 2 ^ 63 → n < 2 ^ 63
+few n zero some room = absurd (omega (arith, some))
+few n (suc size) some room = omega (arith, room)
+
+-- a place behind a list is a number
+pub sum_below : (m n place one other : ℕ) → m * one < 2 ^ 63 → n * other < 2 ^ 63 → 0 < one → 0 < other → place < n → m + place < 2 ^ 64
+sum_below m n place one other first second some more within = let a = few m one some first in let b = few n other more second in omega (arith, a, b, within)

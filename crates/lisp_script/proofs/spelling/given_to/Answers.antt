@@ -7,3 +7,9 @@ returns-then-node-servers-clause-value g c = grind (arith, common_steps)
 
 pub returns-else-node-servers-clause-value : goal.returns-else-node-servers-clause-value
 returns-else-node-servers-clause-value g c = grind (arith, common_steps)
+
+pub returns-then-node-servers-clause-plain : goal.returns-then-node-servers-clause-plain
+returns-then-node-servers-clause-plain g c e = absurd cc
+
+pub returns-else-node-servers-clause-plain : goal.returns-else-node-servers-clause-plain
+returns-else-node-servers-clause-plain g c = tt
