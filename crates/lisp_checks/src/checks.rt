@@ -26,8 +26,12 @@ pub fn key_under<'s, A: Allocator, B: Allocator>(
     ensures plain { ¬ (IsErrOf result Refused.OutOfMemory) }
     ensures storeless { (¬ (IsErrOf result (Refused.StoreLoad StoreFault.OutOfMemory))) × (¬ (IsErrOf result (Refused.StoreSave StoreFault.OutOfMemory))) }
 {
-    let site = sites.site(register.site).ok_or(Refused::UnknownSite)?;
-    let key = site.key(register.key_id).ok_or(Refused::UnknownKey)?;
+    let Some(site) = sites.site(register.site) else {
+        return Err(Refused::UnknownSite);
+    };
+    let Some(key) = site.key(register.key_id) else {
+        return Err(Refused::UnknownKey);
+    };
     if !authentic(bytes, key) {
         return Err(Refused::BadAuth);
     }
