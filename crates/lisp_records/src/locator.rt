@@ -119,6 +119,5 @@ pub(crate) fn put_locator<A: Memory>(
         afi_high,
         afi_low,
     ])?;
-    put_octets(out, &locator.addr)?;
-    Ok(())
+    put_octets(out, &locator.addr)
 }
