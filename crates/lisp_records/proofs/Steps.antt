@@ -1,6 +1,6 @@
 -- Reading from left to right: what the steps give, the whole gives.
-use Rattle.std.proofs.Common.{◌≡◌, ℕ, ◌+◌, ◌-◌, ◌*◌, ◌%◌, ◌≤◌, bit_and, List, ◌∷◌, length, take, drop, Ok, Err, refl, sym, ap, ◌∙◌, arith}
-use Rattle.std.proofs.lemmas.Bool.{le-ltb}
+use Rattle.std.proofs.Common.{◌≡◌, ℕ, ◌+◌, ◌-◌, ◌*◌, ◌%◌, ◌<◌, ◌≤◌, bit_and, List, ◌∷◌, length, take, drop, Ok, Err, refl, sym, ap, ◌∙◌, arith}
+use Rattle.std.proofs.lemmas.Bool.{le-ltb, lt-ltb}
 use Rattle.std.proofs.lemmas.List.{take_all, length-drop}
 use Rattle.std.proofs.lemmas.Nat.{and_mask}
 use Rattle.std.specs.Int.{w32, from_be_bytes}
@@ -8,6 +8,7 @@ use Rattle.std.specs.Prelude.{slice_index}
 use Rattle.lisp_records.specs.declared.address.Addr.{Addr}
 use Rattle.lisp_records.specs.declared.address.Family.{Family}
 use Rattle.lisp_records.specs.declared.fault.RecordFault.{RecordFault}
+use Rattle.lisp_records.specs.declared.fault.RecordFault.TheVariants.{Short}
 use Rattle.lisp_records.specs.declared.locator.Locator.{Locator}
 use Rattle.lisp_records.specs.Reading.{Fails, after, number_at, family_of, address_at, locator_of, locator_at, locators_at, mask_of, mapping_of, start_at, record_at}
 use Rattle.lisp_records.proofs.Fields.{done}
@@ -33,6 +34,11 @@ unfolding locator_at
 locator_is bytes rest f a long named taken =
     let all = take_all (length bytes - 8) (drop 8 bytes) (omega (arith, length-drop 8 bytes)) in
     rw (after_is 8 bytes long, named, ← all, taken) refl
+
+-- bytes that are too few
+pub locator_cut : (bytes : List ℕ) → length bytes < 8 → locator_at bytes ≡ Err Short
+unfolding locator_at
+locator_cut bytes few = rw (lt-ltb (length bytes) 8 few) refl
 
 -- ---- the start of a record
 

@@ -1,6 +1,6 @@
 use Rattle.std.proofs.Common.{sym, ap, ◌∙◌, arith}
 use Rattle.lisp_records.specs.Reading.{family_of}
-use Rattle.lisp_records.proofs.Steps.{locator_is}
+use Rattle.lisp_records.proofs.Steps.{locator_cut, locator_is}
 use Rattle.lisp_records.proofs.locator.read_locator.Goals as goal
 
 pub returns-clause-read : goal.returns-clause-read
@@ -16,3 +16,6 @@ returns-clause-fits c = record {
   m_weight = omega (arith, c.type_inv.bytes 3);
   addr = c.in_ok-addr.ensures.whole;
 }
+
+pub returns-in_default-clause-read : goal.returns-in_default-clause-read
+returns-in_default-clause-read c = locator_cut c.args.bytes.now c.in_default.len_below

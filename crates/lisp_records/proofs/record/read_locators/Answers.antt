@@ -1,4 +1,4 @@
-use Rattle.std.proofs.Common.{◌+◌, ap, length-append}
+use Rattle.std.proofs.Common.{◌+◌, ap, arith, length-append}
 use Rattle.std.proofs.lemmas.Result.{err_from_is_err_and}
 use Rattle.std.proofs.lemmas.List.Elements.{All-push, recursion_from_All}
 use Rattle.lisp_records.specs.Record.{IsLocator}
@@ -25,3 +25,6 @@ returns-clause-locators g c = is_done c.loop.locators.items c.args.count c.loop.
 
 pub returns-clause-fits : goal.returns-clause-fits
 returns-clause-fits g c = recursion_from_All IsLocator c.loop.locators.items c.loop.invariant.fits
+
+pub returns-clause-count : goal.returns-clause-count
+returns-clause-count g c = omega (arith, c.loop.invariant.count, c.loop.auto.counter-end, c.loop-test.false)
