@@ -1,15 +1,17 @@
 -- What is known of an answer of `read_message`.
-use Rattle.std.proofs.Common.{◌≡◌, ℕ, List, Result, Ok, Err, sym, ◌∙◌}
-use Rattle.std.specs.Prelude.{IfOk}
+use Rattle.std.proofs.Common.{◌≡◌, ℕ, List, drop, Result, Ok, Err, sym, ◌∙◌}
+use Rattle.std.specs.Prelude.{IfOk, slice_index}
+use Rattle.lisp_records.specs.Record.{Mapping}
 use Rattle.lisp_records.specs.Result.{Reads}
 use Rattle.lisp_records.specs.Spelling.{IsBytes}
 use Rattle.lisp_messages.specs.declared.fault.ReadFault.{ReadFault}
 use Rattle.lisp_messages.specs.declared.fault.ReadFault.TheVariants as faults
+use Rattle.lisp_messages.specs.declared.kind.Kind.{Kind}
 use Rattle.lisp_messages.specs.declared.message.Message.{Message}
 use Rattle.lisp_messages.specs.Message.{Said}
 use Rattle.lisp_messages.specs.Meaning.{said}
 use Rattle.lisp_messages.specs.Spelling.{Spells}
-use Rattle.lisp_messages.specs.Reading.{Fails, Gives, message_at}
+use Rattle.lisp_messages.specs.Reading.{Fails, Gives, kind_at, records_at, tail_at, message_at}
 use Rattle.lisp_messages.proofs.Fields.{done}
 use Rattle.lisp_messages.proofs.MessageLaws.{message_takes, message_again}
 
@@ -45,3 +47,8 @@ reads_gives view (Err faults.AuthLength) read is = is
 reads_gives view (Err faults.NoIds) read is = is
 reads_gives view (Err faults.Trailing) read is = is
 reads_gives view (Err (faults.Record i f)) read is = is
+
+-- a message whose head, records and end are read
+pub whole_given : {X : Type 0} (view : X → Said) (r : Result X ReadFault) (bytes : List ℕ) (kind : Kind) (records : List Mapping) (tail : List ℕ) → kind_at bytes ≡ Ok kind → records_at 0 (slice_index bytes 3) (drop 32 bytes) ≡ Ok (records, tail) → Reads view r (tail_at kind bytes records tail) → Gives view r (message_at bytes)
+unfolding message_at
+whole_given view r bytes kind records tail head body end = rw (head, body) (reads_gives view r (tail_at kind bytes records tail) end)
