@@ -1,5 +1,5 @@
 -- What is known of an answer of `read_message`.
-use Rattle.std.proofs.Common.{◌≡◌, ℕ, List, drop, Result, Ok, Err, sym, ◌∙◌}
+use Rattle.std.proofs.Common.{◌≡◌, ℕ, List, drop, Result, Ok, Err, refl, sym, ◌∙◌}
 use Rattle.std.specs.Prelude.{IfOk, slice_index}
 use Rattle.lisp_records.specs.Record.{Mapping}
 use Rattle.lisp_records.specs.Result.{Reads}
@@ -52,3 +52,20 @@ reads_gives view (Err (faults.Record i f)) read is = is
 pub whole_given : {X : Type 0} (view : X → Said) (r : Result X ReadFault) (bytes : List ℕ) (kind : Kind) (records : List Mapping) (tail : List ℕ) → kind_at bytes ≡ Ok kind → records_at 0 (slice_index bytes 3) (drop 32 bytes) ≡ Ok (records, tail) → Reads view r (tail_at kind bytes records tail) → Gives view r (message_at bytes)
 unfolding message_at
 whole_given view r bytes kind records tail head body end = rw (head, body) (reads_gives view r (tail_at kind bytes records tail) end)
+
+-- a message whose head has a fault
+pub head_fails : {X : Type 0} (view : X → Said) (e : ReadFault) (bytes : List ℕ) → kind_at bytes ≡ Err e → Gives view (Err e) (message_at bytes)
+unfolding message_at
+head_fails view e bytes fails = rw fails (reads_gives view (Err e) (Err e) refl)
+
+-- a message of which a record has a fault
+pub record_fails : {X : Type 0} (view : X → Said) (e : ReadFault) (bytes : List ℕ) (kind : Kind) → kind_at bytes ≡ Ok kind → Fails e (records_at 0 (slice_index bytes 3) (drop 32 bytes)) → Gives view (Err e) (message_at bytes)
+unfolding message_at
+record_fails view faults.OutOfMemory bytes kind head fails = tt
+record_fails view faults.Short bytes kind head fails = rw (head, fails) refl
+record_fails view faults.Kind bytes kind head fails = rw (head, fails) refl
+record_fails view faults.Algorithm bytes kind head fails = rw (head, fails) refl
+record_fails view faults.AuthLength bytes kind head fails = rw (head, fails) refl
+record_fails view faults.NoIds bytes kind head fails = rw (head, fails) refl
+record_fails view faults.Trailing bytes kind head fails = rw (head, fails) refl
+record_fails view (faults.Record i f) bytes kind head fails = rw (head, fails) refl

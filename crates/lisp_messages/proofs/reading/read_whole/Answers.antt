@@ -1,7 +1,8 @@
 use Rattle.std.proofs.Common.{Ok, ap, ◌∙◌}
+use Rattle.std.proofs.lemmas.Result.{err_from_is_err_and}
 use Rattle.lisp_messages.specs.Meaning.{said}
 use Rattle.lisp_messages.specs.declared.kind.Kind.TheVariants.{Register, Notify, NotifyAck}
-use Rattle.lisp_messages.proofs.ReadLemmas.{whole_given}
+use Rattle.lisp_messages.proofs.ReadLemmas.{head_fails, record_fails, whole_given}
 use Rattle.lisp_messages.proofs.reading.read_whole.Goals as goal
 
 pub returns-in-Register-clause-exact : goal.returns-in-Register-clause-exact
@@ -12,3 +13,13 @@ returns-in-Notify-clause-exact g c = whole_given said c.read_notify.result c.arg
 
 pub returns-in-NotifyAck-clause-exact : goal.returns-in-NotifyAck-clause-exact
 returns-in-NotifyAck-clause-exact g c = whole_given said c.read_notify-in-NotifyAck.result c.args.bytes.now NotifyAck c.in_ok-records.records.items c.in_ok-records.tail.now (c.in_ok-kind.ensures.kind ∙ ap Ok c.in-NotifyAck.is) c.in_ok-records.ensures.records c.read_notify-in-NotifyAck.ensures.read
+
+pub returns-in_err-kind-clause-exact : goal.returns-in_err-kind-clause-exact
+returns-in_err-kind-clause-exact g c =
+    let p = err_from_is_err_and c.from_residual.result c.from_residual.ensures.1 in
+    rw (p.1, p.2) (head_fails (said {A = g.row.A.Denot}) c.in_err-kind.field-0.0 c.args.bytes.now c.in_err-kind.ensures.kind)
+
+pub returns-in_err-records-clause-exact : goal.returns-in_err-records-clause-exact
+returns-in_err-records-clause-exact g c =
+    let p = err_from_is_err_and c.from_residual-in_err-records.result c.from_residual-in_err-records.ensures.1 in
+    rw (p.1, p.2) (record_fails (said {A = g.row.A.Denot}) c.in_err-records.field-0.0 c.args.bytes.now c.in_ok-kind.kind c.in_ok-kind.ensures.kind c.in_err-records.ensures.records)
