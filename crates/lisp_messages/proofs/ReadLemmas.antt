@@ -1,5 +1,5 @@
 -- What is known of an answer of `read_message`.
-use Rattle.std.proofs.Common.{◌≡◌, ℕ, List, drop, Result, Ok, Err, refl, sym, ◌∙◌}
+use Rattle.std.proofs.Common.{◌≡◌, ℕ, List, drop, Result, Ok, Err, is_ok, true≢false, refl, sym, ap, ◌∙◌}
 use Rattle.std.specs.Prelude.{IfOk, slice_index}
 use Rattle.lisp_records.specs.Record.{Mapping}
 use Rattle.lisp_records.specs.Result.{Reads}
@@ -69,3 +69,7 @@ record_fails view faults.AuthLength bytes kind head fails = rw (head, fails) ref
 record_fails view faults.NoIds bytes kind head fails = rw (head, fails) refl
 record_fails view faults.Trailing bytes kind head fails = rw (head, fails) refl
 record_fails view (faults.Record i f) bytes kind head fails = rw (head, fails) refl
+
+-- a head that was read has no fault
+pub head_holds : (bytes : List ℕ) (kind : Kind) (e : ReadFault) → kind_at bytes ≡ Ok kind → kind_at bytes ≡ Err e → ⊥
+head_holds bytes kind e head fails = true≢false (ap is_ok (sym head ∙ fails))

@@ -2,7 +2,7 @@ use Rattle.std.proofs.Common.{Ok, ap, ◌∙◌}
 use Rattle.std.proofs.lemmas.Result.{err_from_is_err_and}
 use Rattle.lisp_messages.specs.Meaning.{said}
 use Rattle.lisp_messages.specs.declared.kind.Kind.TheVariants.{Register, Notify, NotifyAck}
-use Rattle.lisp_messages.proofs.ReadLemmas.{head_fails, record_fails, whole_given}
+use Rattle.lisp_messages.proofs.ReadLemmas.{head_fails, head_holds, record_fails, whole_given}
 use Rattle.lisp_messages.proofs.reading.read_whole.Goals as goal
 
 pub returns-in-Register-clause-exact : goal.returns-in-Register-clause-exact
@@ -23,3 +23,33 @@ pub returns-in_err-records-clause-exact : goal.returns-in_err-records-clause-exa
 returns-in_err-records-clause-exact g c =
     let p = err_from_is_err_and c.from_residual-in_err-records.result c.from_residual-in_err-records.ensures.1 in
     rw (p.1, p.2) (record_fails (said {A = g.row.A.Denot}) c.in_err-records.field-0.0 c.args.bytes.now c.in_ok-kind.kind c.in_ok-kind.ensures.kind c.in_err-records.ensures.records)
+
+pub returns-in-Register-clause-early : goal.returns-in-Register-clause-early
+returns-in-Register-clause-early g c fault fails = absurd (head_holds c.args.bytes.now c.in_ok-kind.kind fault c.in_ok-kind.ensures.kind fails)
+
+pub returns-in-Register-clause-memory : goal.returns-in-Register-clause-memory
+returns-in-Register-clause-memory g c out = absurd (c.read_register.ensures.plain out)
+
+pub returns-in-Register-clause-grows : goal.returns-in-Register-clause-grows
+returns-in-Register-clause-grows g c out = absurd (c.read_register.ensures.plain out)
+
+pub returns-in-Notify-clause-early : goal.returns-in-Notify-clause-early
+returns-in-Notify-clause-early g c fault fails = absurd (head_holds c.args.bytes.now c.in_ok-kind.kind fault c.in_ok-kind.ensures.kind fails)
+
+pub returns-in-Notify-clause-memory : goal.returns-in-Notify-clause-memory
+returns-in-Notify-clause-memory g c out = absurd (c.read_notify.ensures.plain out)
+
+pub returns-in-Notify-clause-grows : goal.returns-in-Notify-clause-grows
+returns-in-Notify-clause-grows g c out = absurd (c.read_notify.ensures.plain out)
+
+pub returns-in-NotifyAck-clause-early : goal.returns-in-NotifyAck-clause-early
+returns-in-NotifyAck-clause-early g c fault fails = absurd (head_holds c.args.bytes.now c.in_ok-kind.kind fault c.in_ok-kind.ensures.kind fails)
+
+pub returns-in-NotifyAck-clause-memory : goal.returns-in-NotifyAck-clause-memory
+returns-in-NotifyAck-clause-memory g c out = absurd (c.read_notify-in-NotifyAck.ensures.plain out)
+
+pub returns-in-NotifyAck-clause-grows : goal.returns-in-NotifyAck-clause-grows
+returns-in-NotifyAck-clause-grows g c out = absurd (c.read_notify-in-NotifyAck.ensures.plain out)
+
+pub returns-in_err-records-clause-early : goal.returns-in_err-records-clause-early
+returns-in_err-records-clause-early g c fault fails = absurd (head_holds c.args.bytes.now c.in_ok-kind.kind fault c.in_ok-kind.ensures.kind fails)
