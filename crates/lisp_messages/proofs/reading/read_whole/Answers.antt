@@ -1,4 +1,4 @@
-use Rattle.std.proofs.Common.{Ok, ap, ◌∙◌}
+use Rattle.std.proofs.Common.{Ok, Err, sym, ap, ◌∙◌}
 use Rattle.std.proofs.lemmas.Result.{err_from_is_err_and}
 use Rattle.lisp_messages.specs.Meaning.{said}
 use Rattle.lisp_messages.specs.declared.kind.Kind.TheVariants.{Register, Notify, NotifyAck}
@@ -53,3 +53,28 @@ returns-in-NotifyAck-clause-grows g c out = absurd (c.read_notify-in-NotifyAck.e
 
 pub returns-in_err-records-clause-early : goal.returns-in_err-records-clause-early
 returns-in_err-records-clause-early g c fault fails = absurd (head_holds c.args.bytes.now c.in_ok-kind.kind fault c.in_ok-kind.ensures.kind fails)
+
+pub returns-in_err-kind-clause-early : goal.returns-in_err-kind-clause-early
+returns-in_err-kind-clause-early g c fault fails =
+    let p = err_from_is_err_and c.from_residual.result c.from_residual.ensures.1 in
+    p.1 ∙ ap Err (p.2 ∙ (let same = sym c.in_err-kind.ensures.kind ∙ fails in cc))
+
+pub returns-in_err-kind-clause-memory : goal.returns-in_err-kind-clause-memory
+returns-in_err-kind-clause-memory g c out =
+    let p = err_from_is_err_and c.from_residual.result c.from_residual.ensures.1 in
+    absurd (c.in_err-kind.ensures.plain (ap Err (let same = rw (p.1, p.2) at out in cc)))
+
+pub returns-in_err-kind-clause-grows : goal.returns-in_err-kind-clause-grows
+returns-in_err-kind-clause-grows g c out =
+    let p = err_from_is_err_and c.from_residual.result c.from_residual.ensures.1 in
+    absurd (c.in_err-kind.ensures.plain (ap Err (let same = rw (p.1, p.2) at out in cc)))
+
+pub returns-in_err-records-clause-memory : goal.returns-in_err-records-clause-memory
+returns-in_err-records-clause-memory g c out =
+    let p = err_from_is_err_and c.from_residual-in_err-records.result c.from_residual-in_err-records.ensures.1 in
+    c.in_err-records.ensures.memory (ap Err (let same = rw (p.1, p.2) at out in cc))
+
+pub returns-in_err-records-clause-grows : goal.returns-in_err-records-clause-grows
+returns-in_err-records-clause-grows g c out =
+    let p = err_from_is_err_and c.from_residual-in_err-records.result c.from_residual-in_err-records.ensures.1 in
+    (λ fault fails. head_holds c.args.bytes.now c.in_ok-kind.kind fault c.in_ok-kind.ensures.kind fails, c.in_err-records.ensures.grows (ap Err (let same = rw (p.1, p.2) at out in cc)))
