@@ -5,19 +5,22 @@ ghost use Rattle.lisp_answer.specs.Fault.{fault_number};
 ghost use Rattle.lisp_answer.specs.declared.fault.AnswerFault.TheVariants.{OutOfMemory};
 
 use std::alloc::{AllocError, AllocFailed};
-use std::fmt::{self, Display, Formatter, Write};
 use thiserror::Error;
 
 /// What kept `answer` from answering. Nothing was written, unless it is `Write`.
 #[derive(Clone, Copy, Debug, PartialEq, Eq, Error)]
 pub enum AnswerFault {
     /// The input could not be read, or took too many reads.
+    #[error("standard input can't be read")]
     Read,
     /// The answer could not be written; a part of it may have been.
+    #[error("standard output can't be written")]
     Write,
     /// The line has more than 1,048,576 bytes.
+    #[error("the line on standard input has more than 1,048,576 bytes")]
     TooLong,
     /// Out of memory for the site, the line or the text of the answer.
+    #[error("out of memory: free some and try again")]
     OutOfMemory,
 }
 
@@ -39,17 +42,6 @@ impl AnswerFault {
         ensures { result ≡ 1 }
     {
         1
-    }
-}
-
-impl Display for AnswerFault {
-    fn fmt<W: Write>(&self, f: &mut Formatter<W>) -> fmt::Result {
-        f.write_str(match self {
-            AnswerFault::Read => "standard input can't be read",
-            AnswerFault::Write => "standard output can't be written",
-            AnswerFault::TooLong => "the line on standard input has more than 1,048,576 bytes",
-            AnswerFault::OutOfMemory => "out of memory: free some and try again",
-        })
     }
 }
 

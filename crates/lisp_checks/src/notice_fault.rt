@@ -6,26 +6,32 @@ ghost use Rattle.lisp_checks.specs.declared.notice_fault.NoticeFault.TheVariants
 
 use lisp_store::StoreFault;
 use std::alloc::{AllocError, AllocFailed};
-use std::error::Error;
-use std::fmt::{self, Display, Formatter, Write};
+use thiserror::Error;
 
 /// The first thing that keeps a Map-Server from sending a notice, in this order; where one is sent again,
 /// `NotDue`, then `OutOfMemory`.
-#[derive(Clone, Copy, Debug, PartialEq, Eq)]
+#[derive(Clone, Copy, Debug, PartialEq, Eq, Error)]
 pub enum NoticeFault {
     /// No record of the router is alive.
+    #[error("the router has no registered record")]
     NotRegistered,
     /// The router's records are too many, or too long, for one message.
+    #[error("the router's records are too many, or too long, for one message")]
     TooLarge,
     /// The last nonce of the notices can't be loaded from the store.
+    #[error("the last nonce of the notices can't be loaded: {0}")]
     StoreLoad(StoreFault),
     /// The last nonce of the notices is 2^64 - 1: the Map-Server can send no more of them.
+    #[error("the nonces of the notices are spent")]
     NonceSpent,
     /// Out of memory to build the Map-Notify, to keep it or to copy it.
+    #[error("out of memory")]
     OutOfMemory,
     /// The nonce can't be saved: at `Device` it is open whether it was.
+    #[error("the nonce can't be saved: {0}")]
     StoreSave(StoreFault),
     /// No notice to the router is due.
+    #[error("no notice is due")]
     NotDue,
 }
 
@@ -46,27 +52,6 @@ impl NoticeFault {
         }
     }
 }
-
-impl Display for NoticeFault {
-    fn fmt<W: Write>(&self, f: &mut Formatter<W>) -> fmt::Result {
-        let words = match self {
-            NoticeFault::NotRegistered => "the router has no registered record",
-            NoticeFault::TooLarge =>
-                "the router's records are too many, or too long, for one message",
-            NoticeFault::StoreLoad(fault) => return write!(
-                f,
-                "the last nonce of the notices can't be loaded: {fault}"
-            ),
-            NoticeFault::NonceSpent => "the nonces of the notices are spent",
-            NoticeFault::OutOfMemory => "out of memory",
-            NoticeFault::StoreSave(fault) => return write!(f, "the nonce can't be saved: {fault}"),
-            NoticeFault::NotDue => "no notice is due",
-        };
-        f.write_str(words)
-    }
-}
-
-impl Error for NoticeFault {}
 
 impl From<AllocError> for NoticeFault {
     ghost from_gives = { λ _ fault. fault ≡ OutOfMemory };

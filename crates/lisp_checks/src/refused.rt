@@ -7,39 +7,50 @@ ghost use Rattle.lisp_checks.specs.declared.refused.Refused.TheVariants.{OutOfMe
 use lisp_messages::ReadFault;
 use lisp_store::StoreFault;
 use std::alloc::{AllocError, AllocFailed};
-use std::error::Error;
-use std::fmt::{self, Display, Formatter, Write};
+use thiserror::Error;
 
 /// The first check that a message fails, in the order of the checks (RFC 9301 section 8.2).
-#[derive(Clone, Copy, Debug, PartialEq, Eq)]
+#[derive(Clone, Copy, Debug, PartialEq, Eq, Error)]
 pub enum Refused {
     /// The bytes spell no message.
+    #[error("the message can't be read: {0}")]
     Read(ReadFault),
     /// A Map-Notify: those are for routers.
+    #[error("a Map-Notify is for a router")]
     NotMine,
     /// A Site-ID that isn't configured.
+    #[error("the site is unknown")]
     UnknownSite,
     /// A Key ID that the site has no secret for.
+    #[error("the key is unknown")]
     UnknownKey,
     /// Authentication Data that isn't the tag of the message under that secret; for a Map-Notify-Ack, under the
     /// secret of the unsolicited Map-Notify (notice) that it is for.
+    #[error("the Authentication Data is wrong")]
     BadAuth,
     /// Bit a: merging isn't served.
+    #[error("merging is asked for")]
     MergeAsked,
     /// The place, from 0 on, of the first record whose prefix the site may not register.
+    #[error("record {0} is not allowed")]
     NotAllowed(usize),
     /// The last nonce of the router under that key can't be loaded from the store.
+    #[error("the last nonce can't be loaded: {0}")]
     StoreLoad(StoreFault),
     /// The nonce isn't above the last one of the router under that key.
+    #[error("the nonce is not above {saved}")]
     Replay {
         /// That last nonce.
         saved: u64,
     },
     /// Out of memory to read the message, to hold its records or to build the Map-Notify.
+    #[error("out of memory")]
     OutOfMemory,
     /// The nonce can't be saved: at `Device` it is open whether it was.
+    #[error("the nonce can't be saved: {0}")]
     StoreSave(StoreFault),
     /// A Map-Notify-Ack that no notice waits for: none that went to its source address has its key and nonce.
+    #[error("no notice stands")]
     NoNotice,
 }
 
@@ -76,31 +87,6 @@ impl Refused {
         }
     }
 }
-
-impl Display for Refused {
-    fn fmt<W: Write>(&self, f: &mut Formatter<W>) -> fmt::Result {
-        let words = match self {
-            Refused::Read(fault) => return write!(f, "the message can't be read: {fault}"),
-            Refused::NotMine => "a Map-Notify is for a router",
-            Refused::UnknownSite => "the site is unknown",
-            Refused::UnknownKey => "the key is unknown",
-            Refused::BadAuth => "the Authentication Data is wrong",
-            Refused::MergeAsked => "merging is asked for",
-            Refused::NotAllowed(place) => return write!(f, "record {place} is not allowed"),
-            Refused::StoreLoad(fault) => return write!(
-                f,
-                "the last nonce can't be loaded: {fault}"
-            ),
-            Refused::Replay { saved } => return write!(f, "the nonce is not above {saved}"),
-            Refused::OutOfMemory => "out of memory",
-            Refused::StoreSave(fault) => return write!(f, "the nonce can't be saved: {fault}"),
-            Refused::NoNotice => "no notice stands",
-        };
-        f.write_str(words)
-    }
-}
-
-impl Error for Refused {}
 
 impl From<AllocError> for Refused {
     ghost from_gives = { λ _ refused. refused ≡ OutOfMemory };

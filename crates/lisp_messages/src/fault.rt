@@ -6,28 +6,35 @@ ghost use Rattle.lisp_messages.specs.declared.fault.ReadFault.TheVariants.{OutOf
 
 use lisp_records::RecordFault;
 use std::alloc::{AllocError, AllocFailed};
-use std::error::Error;
-use std::fmt::{self, Display, Formatter, Write};
+use thiserror::Error;
 
 /// What is wrong with the bytes of a message: the first fault from left to right.
-#[derive(Clone, Copy, Debug, PartialEq, Eq)]
+#[derive(Clone, Copy, Debug, PartialEq, Eq, Error)]
 pub enum ReadFault {
     /// The bytes end before the message does.
+    #[error("the message is cut short")]
     Short,
     /// No memory for the records; nothing is known of the bytes after them.
+    #[error("out of memory")]
     OutOfMemory,
     /// A message type other than 3, 4 and 5.
+    #[error("the message is no Map-Register, Map-Notify or Map-Notify-Ack")]
     Kind,
     /// An Algorithm ID other than 2, HMAC-SHA-256-128-None.
+    #[error("the Algorithm ID is not HMAC-SHA-256-128-None")]
     Algorithm,
     /// An Authentication Data Length other than 16.
+    #[error("the Authentication Data has not 16 bytes")]
     AuthLength,
     /// A Map-Register with bit I clear: it has no xTR-ID and Site-ID.
+    #[error("the Map-Register has no xTR-ID and Site-ID")]
     NoIds,
     /// Bytes after the end of the message.
+    #[error("bytes stand behind the message")]
     Trailing,
     /// The first record that can't be read, by its place from 0 on, and what is wrong with it;
     /// never `RecordFault::OutOfMemory`.
+    #[error("record {0}: {1}")]
     Record(u8, RecordFault),
 }
 
@@ -59,24 +66,6 @@ impl ReadFault {
         }
     }
 }
-
-impl Display for ReadFault {
-    fn fmt<W: Write>(&self, f: &mut Formatter<W>) -> fmt::Result {
-        let words = match self {
-            ReadFault::Short => "the message is cut short",
-            ReadFault::OutOfMemory => "out of memory",
-            ReadFault::Kind => "the message is no Map-Register, Map-Notify or Map-Notify-Ack",
-            ReadFault::Algorithm => "the Algorithm ID is not HMAC-SHA-256-128-None",
-            ReadFault::AuthLength => "the Authentication Data has not 16 bytes",
-            ReadFault::NoIds => "the Map-Register has no xTR-ID and Site-ID",
-            ReadFault::Trailing => "bytes stand behind the message",
-            ReadFault::Record(place, fault) => return write!(f, "record {place}: {fault}"),
-        };
-        f.write_str(words)
-    }
-}
-
-impl Error for ReadFault {}
 
 impl From<AllocError> for ReadFault {
     ghost from_gives = { λ _ fault. fault ≡ OutOfMemory };

@@ -9,9 +9,8 @@ use crate::record::MapRecord;
 use crate::records::Records;
 use lisp_memory::{FallibleVec, Memory};
 use std::alloc::{AllocError, Allocator, Global};
-use std::error::Error;
-use std::fmt::{self, Display, Formatter, Write};
 use std::marker::Model;
+use thiserror::Error;
 
 /// The most records of a database: a message counts them in one byte.
 pub const MAX_RECORDS: usize = 255;
@@ -20,11 +19,13 @@ pub const MAX_RECORDS: usize = 255;
 pub const MAX_SIZE: usize = 16384;
 
 /// Why records are no database.
-#[derive(Clone, Copy, Debug, PartialEq, Eq)]
+#[derive(Clone, Copy, Debug, PartialEq, Eq, Error)]
 pub enum DatabaseFault {
     /// Two records are of the same EID-Prefix.
+    #[error("two records are of the same EID-Prefix")]
     RepeatedPrefix,
     /// More than 255 records, or more than 16,384 bytes of them.
+    #[error("there are too many records, or too many bytes of them")]
     TooLarge,
 }
 
@@ -39,17 +40,6 @@ impl DatabaseFault {
         }
     }
 }
-
-impl Display for DatabaseFault {
-    fn fmt<W: Write>(&self, f: &mut Formatter<W>) -> fmt::Result {
-        f.write_str(match self {
-            DatabaseFault::RepeatedPrefix => "two records are of the same EID-Prefix",
-            DatabaseFault::TooLarge => "there are too many records, or too many bytes of them",
-        })
-    }
-}
-
-impl Error for DatabaseFault {}
 
 /// What a router registers: records of different EID-Prefixes, in their order, seen as a list.
 #[derive(Debug, Drop)]

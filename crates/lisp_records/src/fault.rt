@@ -5,19 +5,22 @@ ghost use Rattle.lisp_records.specs.Fault.{fault_number};
 ghost use Rattle.lisp_records.specs.declared.fault.RecordFault.TheVariants.{OutOfMemory};
 
 use std::alloc::{AllocError, AllocFailed};
-use std::error::Error;
-use std::fmt::{self, Display, Formatter, Write};
+use thiserror::Error;
 
 /// What is wrong with the bytes of a record: the first fault from left to right.
-#[derive(Clone, Copy, Debug, PartialEq, Eq)]
+#[derive(Clone, Copy, Debug, PartialEq, Eq, Error)]
 pub enum RecordFault {
     /// The bytes end before the record does.
+    #[error("the record is cut short")]
     Short,
     /// An address family that is neither IPv4 (1) nor IPv6 (2).
+    #[error("an address family is neither IPv4 nor IPv6")]
     Afi,
     /// An EID mask longer than its address.
+    #[error("the EID mask is longer than its address")]
     Mask,
     /// No memory for the locators; nothing is known of the bytes after them.
+    #[error("out of memory")]
     OutOfMemory,
 }
 
@@ -34,19 +37,6 @@ impl RecordFault {
         }
     }
 }
-
-impl Display for RecordFault {
-    fn fmt<W: Write>(&self, f: &mut Formatter<W>) -> fmt::Result {
-        f.write_str(match self {
-            RecordFault::Short => "the record is cut short",
-            RecordFault::Afi => "an address family is neither IPv4 nor IPv6",
-            RecordFault::Mask => "the EID mask is longer than its address",
-            RecordFault::OutOfMemory => "out of memory",
-        })
-    }
-}
-
-impl Error for RecordFault {}
 
 impl From<AllocError> for RecordFault {
     ghost from_gives = { λ _ fault. fault ≡ OutOfMemory };

@@ -5,7 +5,6 @@ ghost use Rattle.lisp_script.specs.Fault.{what_number};
 ghost use Rattle.lisp_script.specs.declared.fault.ScriptWhat.TheVariants.{Memory};
 
 use std::alloc::{AllocError, AllocFailed};
-use std::fmt::{self, Display, Formatter, Write};
 use thiserror::Error;
 
 /// What is wrong in the first faulty line of a script: its first word is looked at first, then the number of its words,
@@ -13,18 +12,25 @@ use thiserror::Error;
 #[derive(Clone, Copy, Debug, PartialEq, Eq, Error)]
 pub enum ScriptWhat {
     /// No command begins with the line's first word; or a fate that the command doesn't take.
+    #[error("unknown word: a command or a fate (doubt, loadfails) is meant")]
     Word,
     /// The command takes more words, or fewer.
+    #[error("wrong number of words for this command")]
     Count,
     /// No node has the name, or it is of the wrong kind; or records for a Map-Server.
+    #[error("no node of the right kind has this name")]
     Name,
     /// A word that is no decimal number of 1 to 20 digits, of at most 2^64 - 1.
+    #[error("a decimal number is meant")]
     Number,
     /// Words that are no records of a database, or no address.
+    #[error("records of different prefixes, the word empty, or an address are meant")]
     Record,
     /// A word that is neither hexadecimal nor `-`.
+    #[error("hexadecimal digits, or - for no bytes, are meant")]
     Hex,
     /// Out of memory.
+    #[error("out of memory: free some and try again")]
     Memory,
 }
 
@@ -42,21 +48,6 @@ impl ScriptWhat {
             ScriptWhat::Hex => 85,
             ScriptWhat::Memory => 86,
         }
-    }
-}
-
-impl Display for ScriptWhat {
-    fn fmt<W: Write>(&self, f: &mut Formatter<W>) -> fmt::Result {
-        f.write_str(match self {
-            ScriptWhat::Word => "unknown word: a command or a fate (doubt, loadfails) is meant",
-            ScriptWhat::Count => "wrong number of words for this command",
-            ScriptWhat::Name => "no node of the right kind has this name",
-            ScriptWhat::Number => "a decimal number is meant",
-            ScriptWhat::Record =>
-                "records of different prefixes, the word empty, or an address are meant",
-            ScriptWhat::Hex => "hexadecimal digits, or - for no bytes, are meant",
-            ScriptWhat::Memory => "out of memory: free some and try again",
-        })
     }
 }
 
