@@ -21,13 +21,13 @@ use Rattle.lisp_turns.specs.Stands.{Stands}
 use Rattle.lisp_turns.proofs.Gets.{none_is_some, same_some}
 use Rattle.lisp_world.specs.Openings.{opening, lists_of, repeats}
 use Rattle.lisp_world.specs.Quiet.{AllHonest, AllCalm, IsCalm, stores_of, failures}
-use Rattle.lisp_world.specs.declared.fault.WorldFault.{WorldFault}
+use Rattle.lisp_schedules.specs.declared.world_fault.WorldFault.{WorldFault}
 use Rattle.lisp_script.specs.Order.{Order}
 use Rattle.lisp_script.specs.Spelling.{script_of}
 use Rattle.lisp_script.specs.declared.fault.ScriptFault.{ScriptFault}
-use Rattle.lisp_playing.specs.declared.fault.PlayFault.{PlayFault}
-use Rattle.lisp_playing.specs.declared.fault.PlayFault.TheVariants as faults
-use Rattle.lisp_playing.specs.Input.{most_bytes}
+use Rattle.lisp_inputs.specs.declared.fault.PlayFault.{PlayFault}
+use Rattle.lisp_inputs.specs.declared.fault.PlayFault.TheVariants as faults
+use Rattle.lisp_inputs.specs.Input.{most_bytes}
 use Rattle.lisp_playing.specs.Playing.{Wrote, StopsAt}
 use Rattle.lisp_player.specs.Input.{parted}
 use Rattle.lisp_player.specs.Schedule.{script_in, parts_in, schedule_of, playable, asked_for, Refuses, IsEmpty, Begins, IsPlay, PlayedFrom, Played, Stopped}

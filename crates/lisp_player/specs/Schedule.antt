@@ -15,13 +15,13 @@ use Rattle.lisp_turns.specs.World.{WorldState}
 use Rattle.lisp_turns.specs.Stands.{Stands}
 use Rattle.lisp_world.specs.Openings.{repeats, opening}
 use Rattle.lisp_world.specs.Quiet.{AllCalm, stores_of}
-use Rattle.lisp_world.specs.declared.fault.WorldFault.{WorldFault}
+use Rattle.lisp_schedules.specs.declared.world_fault.WorldFault.{WorldFault}
 use Rattle.lisp_script.specs.declared.fault.ScriptWhat.TheVariants.{Memory}
 use Rattle.lisp_script.specs.Order.{Order}
 use Rattle.lisp_script.specs.Spelling.{script_of}
-use Rattle.lisp_playing.specs.declared.fault.PlayFault.{PlayFault}
-use Rattle.lisp_playing.specs.declared.fault.PlayFault.TheVariants as faults
-use Rattle.lisp_playing.specs.Input.{most_bytes}
+use Rattle.lisp_inputs.specs.declared.fault.PlayFault.{PlayFault}
+use Rattle.lisp_inputs.specs.declared.fault.PlayFault.TheVariants as faults
+use Rattle.lisp_inputs.specs.Input.{most_bytes}
 use Rattle.lisp_playing.specs.Playing.{Plays, FailsAsAsked}
 use Rattle.lisp_player.specs.Input.{parted}
 

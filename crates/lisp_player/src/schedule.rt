@@ -5,14 +5,15 @@ ghost use Rattle.std.specs.FinMap.{empty};
 ghost use Rattle.std.specs.Io.KnownBytes.{Keeps};
 ghost use Rattle.lisp_store.specs.declared.fate.Fate.TheVariants.{Done};
 ghost use Rattle.lisp_world.specs.Openings.{repeats};
-ghost use Rattle.lisp_world.specs.declared.fault.WorldFault.{WorldFault};
+ghost use Rattle.lisp_schedules.specs.declared.world_fault.WorldFault.{WorldFault};
 ghost use Rattle.lisp_script.specs.Order.{order};
 ghost use Rattle.lisp_player.specs.Schedule.{schedule_of, Refuses, IsSilent, Begins, PlayedFrom, Played, Stopped};
-ghost use Rattle.lisp_playing.specs.declared.fault.PlayFault.TheVariants as faults;
+ghost use Rattle.lisp_inputs.specs.declared.fault.PlayFault.TheVariants as faults;
 
 use crate::parts::parted;
+use lisp_inputs::read_to_end;
 use lisp_memory::{FallibleVec, Memory};
-use lisp_playing::{Command, PlayFault, play_on, read_to_end};
+use lisp_playing::{Command, PlayFault, play_on};
 use lisp_script::parse_script;
 use lisp_sites::Config;
 use lisp_store::MemoryStore;

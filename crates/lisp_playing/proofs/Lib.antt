@@ -1,4 +1,3 @@
-mod InputLemmas
 mod Queries
 mod Failures
 pub mod Turning

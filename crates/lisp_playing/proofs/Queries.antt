@@ -29,8 +29,8 @@ use Rattle.lisp_turns.proofs.Gets.{none_is_some, same_some, get_within}
 use Rattle.lisp_turns.proofs.Asking.{servers_tell, routers_tell}
 use Rattle.lisp_lines.specs.Query.{hold_text, ack_text, ask_text, due_text, due_server, due_router}
 use Rattle.lisp_playing.specs.Asked.{Where, Holds, Asks, Acknowledges, IsDue, IsDueAtRouter, OfTraces, CountedFrom, router_in, due_in, is_router, of_router, down_text, fault_text, missing_text}
-use Rattle.lisp_world.specs.declared.fault.WorldFault.{WorldFault}
-use Rattle.lisp_world.specs.declared.fault.WorldFault.TheVariants.{NoNode, WrongKind}
+use Rattle.lisp_schedules.specs.declared.world_fault.WorldFault.{WorldFault}
+use Rattle.lisp_schedules.specs.declared.world_fault.WorldFault.TheVariants.{NoNode, WrongKind}
 
 -- of two, the one that a test picks
 where_true : (test : Bool) (Yes No : Type 0) → test ≡ true → Yes → Where test Yes No

@@ -18,9 +18,9 @@ use Rattle.lisp_etr.specs.Etr.{EtrState}
 use Rattle.lisp_turns.specs.World.{WorldState}
 use Rattle.lisp_turns.specs.Stands.{Stands}
 use Rattle.lisp_turns.specs.Asked.{IsNextNotice}
-use Rattle.lisp_world.specs.declared.fault.WorldFault.{WorldFault}
-use Rattle.lisp_world.specs.declared.fault.WorldFault.TheVariants.{NoNode, WrongKind}
-use Rattle.lisp_world.specs.Faults.{world_fault_number}
+use Rattle.lisp_schedules.specs.declared.world_fault.WorldFault.{WorldFault}
+use Rattle.lisp_schedules.specs.declared.world_fault.WorldFault.TheVariants.{NoNode, WrongKind}
+use Rattle.lisp_schedules.specs.Faults.{world_fault_number}
 use Rattle.lisp_lines.specs.Line.{line_text}
 use Rattle.lisp_lines.specs.Query.{hold_text, ack_text, ask_text, due_text, due_server, due_router}
 

@@ -1,4 +1,2 @@
-pub mod Fault
 pub mod Asked
-pub mod Input
 pub mod Playing

@@ -3,11 +3,11 @@
 ghost use Rattle.std.specs.Prelude.{◌≡◌, ◌⊎◌, OnOk, IfErr, IsErrOf};
 ghost use Rattle.std.specs.Io.KnownBytes.{Appends, Keeps};
 ghost use Rattle.lisp_lines.specs.Line.{line_text};
-ghost use Rattle.lisp_playing.specs.declared.fault.PlayFault.TheVariants.{OutOfMemory};
-ghost use Rattle.lisp_playing.specs.declared.fault.PlayFault.TheVariants as faults;
+ghost use Rattle.lisp_inputs.specs.declared.fault.PlayFault.TheVariants.{OutOfMemory};
+ghost use Rattle.lisp_inputs.specs.declared.fault.PlayFault.TheVariants as faults;
 
-use crate::fault::PlayFault;
 use crate::output::write_text;
+use lisp_inputs::PlayFault;
 use lisp_lines::line_text;
 use lisp_memory::Memory;
 use lisp_schedules::Line;

@@ -4,13 +4,10 @@
 mod asked;
 mod command;
 mod event_line;
-mod fault;
-mod input;
 mod output;
 mod playing;
 
 pub use event_line::write_line;
-pub use fault::PlayFault;
-pub use input::read_to_end;
+pub use lisp_inputs::PlayFault;
 pub use lisp_script::{Command, ScriptFault, ScriptWhat};
 pub use playing::play_on;

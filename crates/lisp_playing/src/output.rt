@@ -2,9 +2,9 @@
 
 ghost use Rattle.std.specs.Prelude.{◌≡◌, OnOk, IfErr};
 ghost use Rattle.std.specs.Io.KnownBytes.{Appends};
-ghost use Rattle.lisp_playing.specs.declared.fault.PlayFault.TheVariants as faults;
+ghost use Rattle.lisp_inputs.specs.declared.fault.PlayFault.TheVariants as faults;
 
-use crate::fault::PlayFault;
+use lisp_inputs::PlayFault;
 use std::io::Write;
 
 /// Writes a text; at `Write` it is open how much of it went out.

@@ -3,9 +3,8 @@
 ghost use Rattle.std.specs.Prelude.{◌≡◌};
 ghost use Rattle.lisp_running.specs.Fault.{is_failure, run_status, run_line};
 
-use crate::input_fault::InputFault;
 use lisp_etr::StartFault;
-use lisp_playing::PlayFault;
+use lisp_inputs::{InputFault, PlayFault};
 use lisp_world::WorldFault;
 use std::alloc::{AllocError, AllocFailed};
 use thiserror::Error;

@@ -3,10 +3,11 @@
 ghost use Rattle.std.specs.Prelude.{◌≡◌, ◌+◌, IfOk, OnOk, length};
 
 use crate::fault::RunFault;
-use crate::files::{Folder, open_folder, read_config, read_script};
+use crate::folder::{Folder, open_folder};
 use crate::named::{entry_at, node_count};
 use crate::output::flush;
 use crate::sockets::Sockets;
+use lisp_inputs::{read_config, read_script};
 use lisp_memory::FallibleVec;
 use lisp_playing::{Command, play_on};
 use lisp_schedules::Event;

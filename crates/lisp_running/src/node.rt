@@ -4,12 +4,13 @@ ghost use Rattle.std.specs.Prelude.{◌<◌, ◌≤◌, ◌+◌, length};
 ghost use Rattle.lisp_records.specs.Moment.{max_moment};
 
 use crate::fault::RunFault;
-use crate::files::{Folder, open_folder, read_config};
+use crate::folder::{Folder, open_folder};
 use crate::named::{Kind, number_named};
 use crate::router::start_router;
 use crate::server::start_server;
 use crate::station::Station;
 use crate::turns::take_turns;
+use lisp_inputs::read_config;
 use lisp_nodes::Arrival;
 use lisp_records::Bytes;
 use lisp_schedules::Line;

@@ -6,7 +6,9 @@ mod event;
 pub mod laws;
 mod line;
 mod refusal;
+mod world_fault;
 
 pub use event::Event;
 pub use line::Line;
 pub use refusal::Refusal;
+pub use world_fault::WorldFault;

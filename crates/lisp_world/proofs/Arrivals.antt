@@ -12,7 +12,7 @@ use Rattle.lisp_schedules.specs.declared.line.Line.{Line}
 use Rattle.lisp_turns.specs.World.{Posted, ServerNode, RouterNode, WorldState}
 use Rattle.lisp_turns.specs.Turns.{address_of, node_with, posted, Arrives, ArrivesWhere, Delivers}
 use Rattle.lisp_world.specs.Faults.{datagram_fault, node_fault}
-use Rattle.lisp_world.specs.declared.fault.WorldFault.{WorldFault}
+use Rattle.lisp_schedules.specs.declared.world_fault.WorldFault.{WorldFault}
 use Rattle.lisp_world.proofs.Loops.{rewritten}
 
 -- a test that a check lets through fails

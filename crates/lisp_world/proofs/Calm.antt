@@ -15,7 +15,7 @@ use Rattle.lisp_turns.specs.World.{Posted, ServerNode, RouterNode, RouterCore, U
 use Rattle.lisp_turns.specs.Calls.{Uses}
 use Rattle.lisp_turns.specs.Turns.{ServerActs, RouterActs, ExpiresEach, Ticks, Changes, SendsAt, SendsFrom, HearsAt, Arrives, ArrivesWhere, Delivers, RestartsNode, NoticesFrom, ResendsFrom, node_with}
 use Rattle.lisp_world.specs.Quiet.{stores_of, IsCalm, AllCalm, failures, KeepsCalm}
-use Rattle.lisp_world.specs.declared.fault.WorldFault.{WorldFault}
+use Rattle.lisp_schedules.specs.declared.world_fault.WorldFault.{WorldFault}
 use Rattle.lisp_turns.proofs.Gets.{AtSet, get_set, get_before}
 
 -- what a call makes of one calm store

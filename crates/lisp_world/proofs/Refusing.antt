@@ -4,8 +4,8 @@ use Rattle.std.specs.Prelude.{IfErr, IsErrAnd, OnErr}
 use Rattle.lisp_etr.specs.declared.start_fault.StartFault.{StartFault}
 use Rattle.lisp_turns.specs.World.{Posted, WorldState}
 use Rattle.lisp_world.specs.Faults.{Faults}
-use Rattle.lisp_world.specs.declared.fault.WorldFault.{WorldFault}
-use Rattle.lisp_world.specs.declared.fault.WorldFault.TheVariants.{OutOfMemory, Repeated, Start}
+use Rattle.lisp_schedules.specs.declared.world_fault.WorldFault.{WorldFault}
+use Rattle.lisp_schedules.specs.declared.world_fault.WorldFault.TheVariants.{OutOfMemory, Repeated, Start}
 
 module _ {X : Type 0} (fault : Option WorldFault) where
   -- it is taken

@@ -13,8 +13,8 @@ use Rattle.lisp_turns.specs.World.{WorldState}
 use Rattle.lisp_world.specs.Faults.{Faults, fault_of}
 use Rattle.lisp_turns.specs.Stands.{StandsAfter}
 use Rattle.lisp_world.specs.Runs.{Follows, RunsOn, StopsAt}
-use Rattle.lisp_world.specs.declared.fault.WorldFault.{WorldFault}
-use Rattle.lisp_world.specs.declared.fault.WorldFault.TheVariants.{OutOfMemory}
+use Rattle.lisp_schedules.specs.declared.world_fault.WorldFault.{WorldFault}
+use Rattle.lisp_schedules.specs.declared.world_fault.WorldFault.TheVariants.{OutOfMemory}
 
 -- the event that a loop reads, in any memory, is the one at its place
 pub event_there : {A : Type 0} (events : List (Event A)) (i : ℕ) (event : Event A) → i < length events → event ≡ get_or events i event

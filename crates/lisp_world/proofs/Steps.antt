@@ -10,7 +10,7 @@ use Rattle.lisp_schedules.specs.declared.line.Line.{Line}
 use Rattle.lisp_schedules.specs.Legal.{Fits}
 use Rattle.lisp_turns.specs.World.{WorldState}
 use Rattle.lisp_turns.specs.Turns.{node_with, Arrives, ArrivesWhere, Delivers, RestartsNode}
-use Rattle.lisp_world.specs.declared.fault.WorldFault.{WorldFault}
+use Rattle.lisp_schedules.specs.declared.world_fault.WorldFault.{WorldFault}
 use Rattle.lisp_turns.specs.Stands.{StandsAfter}
 use Rattle.lisp_turns.proofs.ServerArrivals.{deliver_to_server_stands, junk_to_server_stands, nowhere_stands}
 use Rattle.lisp_turns.proofs.RouterArrivals.{deliver_to_router_stands, junk_to_router_stands}

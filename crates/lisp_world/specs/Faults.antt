@@ -1,20 +1,11 @@
--- A network's faults: what keeps it from taking an event, and their numbers.
+-- A network's faults: what keeps it from taking an event.
 use Rattle.std.specs.Prelude.{◌≡◌, ℕ, ◌+◌, ◌&&◌, ◌||◌, nat_le, nat_lt, not, is_some, Bool, length, Option, Some, None, Result, Ok, Err, IfErr, if◌then◌else◌}
 use Rattle.lisp_records.specs.Moment.{max_moment}
 use Rattle.lisp_schedules.specs.Trace.{Happening}
 use Rattle.lisp_schedules.specs.declared.event.Event.TheVariants as events
 use Rattle.lisp_turns.specs.World.{WorldState}
-use Rattle.lisp_world.specs.declared.fault.WorldFault.{WorldFault}
-use Rattle.lisp_world.specs.declared.fault.WorldFault.TheVariants as faults
-
-abbrev pub world_fault_number : WorldFault → ℕ
-world_fault_number faults.NoNode = 70
-world_fault_number faults.WrongKind = 71
-world_fault_number faults.NoDatagram = 72
-world_fault_number faults.Clock = 73
-world_fault_number faults.Repeated = 74
-world_fault_number faults.OutOfMemory = 75
-world_fault_number (faults.Start _ _) = 76
+use Rattle.lisp_schedules.specs.declared.world_fault.WorldFault.{WorldFault}
+use Rattle.lisp_schedules.specs.declared.world_fault.WorldFault.TheVariants as faults
 
 -- no node has the number; a Map-Server has it
 abbrev pub is_missing : WorldState → ℕ → Bool

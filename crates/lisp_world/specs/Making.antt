@@ -9,8 +9,8 @@ use Rattle.lisp_etr.specs.declared.start_fault.StartFault.TheVariants as start_f
 use Rattle.lisp_schedules.specs.Trace.{settings_of}
 use Rattle.lisp_turns.specs.World.{ServerNode, RouterNode, Down}
 use Rattle.lisp_turns.specs.Calls.{StartsOver, config_of, database_of}
-use Rattle.lisp_world.specs.declared.fault.WorldFault.{WorldFault}
-use Rattle.lisp_world.specs.declared.fault.WorldFault.TheVariants.{Start}
+use Rattle.lisp_schedules.specs.declared.world_fault.WorldFault.{WorldFault}
+use Rattle.lisp_schedules.specs.declared.world_fault.WorldFault.TheVariants.{Start}
 
 -- a Map-Server of a configuration that holds nothing, over its store
 abbrev pub server_over : Configuration → StoreState → ServerNode

@@ -4,11 +4,10 @@ ghost use Rattle.std.specs.Prelude.{◌≡◌, IfOk, OnErr, IsErrOf};
 ghost use Rattle.lisp_world.specs.Faults.{Faults, router_fault};
 ghost use Rattle.lisp_turns.specs.Turns.{Changes};
 
-use crate::fault::WorldFault;
 use crate::world::World;
 use lisp_memory::Memory;
 use lisp_records::Database;
-use lisp_schedules::Line;
+use lisp_schedules::{Line, WorldFault};
 use lisp_store::WorldStore;
 use std::alloc::Allocator;
 

@@ -5,11 +5,10 @@ ghost use Rattle.lisp_schedules.specs.Memory.{MayTell};
 ghost use Rattle.lisp_world.specs.Faults.{Faults, datagram_fault, refusal_of};
 ghost use Rattle.lisp_turns.specs.Turns.{Delivers};
 
-use crate::fault::WorldFault;
 use crate::world::World;
 use lisp_memory::{FallibleVec, Memory};
 use lisp_nodes::{Arrival, hear, post_reply};
-use lisp_schedules::Line;
+use lisp_schedules::{Line, WorldFault};
 use lisp_store::{Fate, WorldStore};
 
 impl<S: WorldStore, A: Memory + Copy> World<S, A> {

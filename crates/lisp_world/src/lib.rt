@@ -4,7 +4,6 @@
 
 mod change;
 mod deliver;
-mod fault;
 mod junk;
 mod new;
 mod nodes;
@@ -17,8 +16,7 @@ mod step;
 mod tick;
 mod world;
 
-pub use fault::WorldFault;
 pub use lisp_nodes::Datagram;
-pub use lisp_schedules::{Event, Line, Refusal};
+pub use lisp_schedules::{Event, Line, Refusal, WorldFault};
 pub use new::router_node;
 pub use world::World;

@@ -8,7 +8,7 @@ ghost use Rattle.lisp_records.specs.declared.address.Addr.TheVariants.{V4};
 ghost use Rattle.lisp_sites.specs.Configuration.{HasServers};
 ghost use Rattle.lisp_store.specs.declared.fault.StoreFault.{StoreFault};
 ghost use Rattle.lisp_etr.specs.declared.start_fault.StartFault.{StartFault};
-ghost use Rattle.lisp_world.specs.declared.fault.WorldFault.{WorldFault};
+ghost use Rattle.lisp_schedules.specs.declared.world_fault.WorldFault.{WorldFault};
 ghost use Rattle.lisp_schedules.specs.Trace.{addresses as addresses_of, settings_of, secret_at};
 ghost use Rattle.lisp_schedules.specs.Network.{IsNetwork};
 ghost use Rattle.lisp_world.specs.Making.{server_over, router_over, IsRouterOver, AreNodes, HasStarted, HaveStarted, IsStartFault};
@@ -17,7 +17,6 @@ ghost use Rattle.lisp_world.specs.Quiet.{AllHonest, AllCalm, stores_of, failures
 ghost use Rattle.lisp_turns.specs.Headline.{Promises};
 ghost use Rattle.lisp_turns.specs.Stands.{Stands};
 
-use crate::fault::WorldFault;
 use crate::world::World;
 use core::mem::replace_with;
 use lisp_checks::key_at;
@@ -26,6 +25,7 @@ use lisp_hmac::Key;
 use lisp_memory::{FallibleCopies, FallibleVec, Memory};
 use lisp_nodes::{RouterNode, ServerNode, Start};
 use lisp_records::{Addr, RouterId};
+use lisp_schedules::WorldFault;
 use lisp_sites::{Config, Places, RouterEntry, ServerEntry};
 use lisp_store::WorldStore;
 use std::alloc::{AllocError, Allocator};

@@ -4,9 +4,9 @@ ghost use Rattle.std.specs.Prelude.{◌≡◌, ◌+◌, ◌<◌, IfOk, length, s
 ghost use Rattle.lisp_world.specs.Faults.{is_missing, is_server, node_fault, router_fault, pair_fault, refusal_of};
 ghost use Rattle.lisp_turns.specs.Turns.{address_of, node_with};
 
-use crate::fault::WorldFault;
 use crate::world::World;
 use lisp_records::Addr;
+use lisp_schedules::WorldFault;
 use lisp_store::WorldStore;
 use std::alloc::Allocator;
 

@@ -8,12 +8,11 @@ ghost use Rattle.lisp_world.specs.Faults.{Faults, pair_fault};
 ghost use Rattle.lisp_turns.specs.World.{Posted, WorldState};
 ghost use Rattle.lisp_turns.specs.Turns.{address_of, NoticesFrom, SaysNotice};
 
-use crate::fault::WorldFault;
 use crate::world::World;
 use lisp_memory::{FallibleVec, Memory};
 use lisp_nodes::{Datagram, post_message};
 use lisp_records::{Addr, Bytes};
-use lisp_schedules::{Line, Refusal};
+use lisp_schedules::{Line, Refusal, WorldFault};
 use lisp_server::NoticeFault;
 use lisp_store::{Fate, WorldStore};
 

@@ -6,12 +6,11 @@ ghost use Rattle.lisp_schedules.specs.Legal.{Fits};
 ghost use Rattle.lisp_world.specs.Faults.{Faults, is_server, refusal_of, restart_fault};
 ghost use Rattle.lisp_turns.specs.Turns.{RestartsServer, RestartsAt, RestartsNode};
 
-use crate::fault::WorldFault;
 use crate::world::World;
 use lisp_memory::Memory;
 use lisp_nodes::Start;
 use lisp_records::Database;
-use lisp_schedules::{Line, Refusal};
+use lisp_schedules::{Line, Refusal, WorldFault};
 use lisp_store::WorldStore;
 use std::alloc::{AllocError, Allocator};
 

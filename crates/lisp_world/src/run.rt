@@ -5,13 +5,12 @@ ghost use Rattle.std.specs.Vec.{vec_len, vec_capacity};
 ghost use Rattle.lisp_schedules.specs.Trace.{happening};
 ghost use Rattle.lisp_world.specs.Quiet.{AllCalm, stores_of};
 ghost use Rattle.lisp_world.specs.Runs.{RunsOn, StopsAt};
-ghost use Rattle.lisp_world.specs.declared.fault.WorldFault.TheVariants.{OutOfMemory};
+ghost use Rattle.lisp_schedules.specs.declared.world_fault.WorldFault.TheVariants.{OutOfMemory};
 ghost use Rattle.lisp_turns.specs.Headline.{Promises};
 
-use crate::fault::WorldFault;
 use crate::world::World;
 use lisp_memory::{FallibleVec, Memory};
-use lisp_schedules::{Event, Line};
+use lisp_schedules::{Event, Line, WorldFault};
 use lisp_store::WorldStore;
 use std::alloc::Allocator;
 

@@ -9,13 +9,12 @@ ghost use Rattle.lisp_turns.specs.Turns.{address_of, SendsFrom};
 ghost use Rattle.lisp_world.specs.Faults.{Faults, pair_fault};
 ghost use Rattle.lisp_world.specs.Asked.{SaysAsked};
 
-use crate::fault::WorldFault;
 use crate::world::World;
 use lisp_etr::SendFault;
 use lisp_memory::{FallibleVec, Memory};
 use lisp_nodes::{Datagram, post_message};
 use lisp_records::{Addr, Bytes};
-use lisp_schedules::{Line, Refusal};
+use lisp_schedules::{Line, Refusal, WorldFault};
 use lisp_store::{Fate, WorldStore};
 
 impl<S: WorldStore, A: Memory + Copy> World<S, A> {

@@ -8,10 +8,9 @@ ghost use Rattle.lisp_world.specs.Quiet.{KeepsCalm, fate_of};
 ghost use Rattle.lisp_turns.specs.Headline.{Promises};
 ghost use Rattle.lisp_turns.specs.Stands.{StandsAfter};
 
-use crate::fault::WorldFault;
 use crate::world::World;
 use lisp_memory::Memory;
-use lisp_schedules::{Event, Line};
+use lisp_schedules::{Event, Line, WorldFault};
 use lisp_store::WorldStore;
 use std::alloc::Allocator;
 

@@ -5,12 +5,11 @@ ghost use Rattle.lisp_records.specs.Moment.{max_moment};
 ghost use Rattle.lisp_world.specs.Faults.{tick_fault, refusal_of};
 ghost use Rattle.lisp_turns.specs.Turns.{Ticks, ExpiresEach};
 
-use crate::fault::WorldFault;
 use crate::world::World;
 use lisp_memory::Memory;
 use lisp_nodes::ServerNode;
 use lisp_records::MAX_MOMENT;
-use lisp_schedules::Line;
+use lisp_schedules::{Line, WorldFault};
 use lisp_store::WorldStore;
 
 impl<S: WorldStore, A: Memory + Copy> World<S, A> {

@@ -2,7 +2,7 @@
 -- words of the command line.
 use Rattle.std.specs.Prelude.{ℕ, Option, None}
 use Rattle.lisp_answer.specs.Fault.{fault_number}
-use Rattle.lisp_playing.specs.Fault.{play_fault_number, play_fault_status, play_fault_line}
+use Rattle.lisp_inputs.specs.Fault.{play_fault_number, play_fault_status, play_fault_line}
 use Rattle.lisp_numbers.specs.Fault.{explain_fault_number, explain_fault_status}
 use Rattle.lisp_running.specs.Fault.{run_status, run_line}
 use Rattle.lispd.specs.declared.fault.SetupFault.{SetupFault}

@@ -6,9 +6,9 @@ ghost use Rattle.lispd.specs.Fault.{setup_fault_number, setup_fault_status, prog
 
 use crate::option::AnswerOption;
 use lisp_answer::AnswerFault;
+use lisp_inputs::{InputFault, PlayFault};
 use lisp_numbers::ExplainFault;
-use lisp_playing::PlayFault;
-use lisp_running::{InputFault, RunFault};
+use lisp_running::RunFault;
 use std::alloc::AllocError;
 use thiserror::Error;
 

@@ -11,10 +11,10 @@ mod remedy;
 
 pub use fault::{ProgramFault, SetupFault};
 pub use lisp_answer::{AnswerFault, AnswerSetup, answer};
+pub use lisp_inputs::{InputFault, check_config};
 pub use lisp_numbers::{ExplainFault, explain, explain_all};
 pub use lisp_running::{
-    InputFault, RunFault, check_config, keep_router_running, keep_server_running, run_loop,
-    run_router, run_server,
+    RunFault, keep_router_running, keep_server_running, run_loop, run_router, run_server,
 };
 pub use option::AnswerOption;
 pub use options::setup;

@@ -1,6 +1,6 @@
 //! What would be right where a configuration has a fault.
 
-use lisp_playing::PlayFault;
+use lisp_inputs::PlayFault;
 use lisp_sites::{ConfigFault, Field};
 
 /// What an operator may do about a fault of a schedule's configuration, in words; `None` for every other fault, whose own

@@ -10,8 +10,8 @@ use Rattle.lisp_world.specs.Making.{HaveStarted, IsStartFault}
 use Rattle.lisp_world.proofs.MakingNodes.{written_whole}
 use Rattle.lisp_world.proofs.Making.{IsMade, lists_same, stays_calm, made_stands}
 use Rattle.lisp_turns.proofs.Headlines.{networks_promise}
-use Rattle.lisp_world.specs.declared.fault.WorldFault.{WorldFault}
-use Rattle.lisp_world.specs.declared.fault.WorldFault.TheVariants as faults
+use Rattle.lisp_schedules.specs.declared.world_fault.WorldFault.{WorldFault}
+use Rattle.lisp_schedules.specs.declared.world_fault.WorldFault.TheVariants as faults
 use Rattle.lisp_world.proofs.Refusing.{taken, repeated_no_memory, repeated_no_start, memory_no_start}
 use Rattle.lisp_world.proofs.world.World.new.Goals as goal
 

@@ -2,7 +2,7 @@ use Rattle.std.proofs.Common.{◌∙◌, ap, refl, inr, sym, arith, map, Result,
 use Rattle.std.proofs.lemmas.List.{length-map}
 use Rattle.lisp_schedules.specs.Trace.{happening}
 use Rattle.lisp_schedules.specs.declared.line.Line.{Line}
-use Rattle.lisp_world.specs.declared.fault.WorldFault.{WorldFault}
+use Rattle.lisp_schedules.specs.declared.world_fault.WorldFault.{WorldFault}
 use Rattle.lisp_world.proofs.Running.{event_there, runs_none, runs_all, runs_next, stops_here, why_refused, at_error, at_value}
 use Rattle.lisp_turns.proofs.Headlines.{networks_promise}
 use Rattle.lisp_world.proofs.world.World.run.Goals as goal

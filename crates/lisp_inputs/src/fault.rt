@@ -1,12 +1,12 @@
 //! Why a play ends before its end.
 
 ghost use Rattle.std.specs.Prelude.{◌≡◌};
-ghost use Rattle.lisp_playing.specs.Fault.{play_fault_number, play_fault_status, play_fault_line};
-ghost use Rattle.lisp_playing.specs.declared.fault.PlayFault.TheVariants.{Config, Script, World, OutOfMemory};
+ghost use Rattle.lisp_inputs.specs.Fault.{play_fault_number, play_fault_status, play_fault_line};
+ghost use Rattle.lisp_inputs.specs.declared.fault.PlayFault.TheVariants.{Config, Script, World, OutOfMemory};
 
+use lisp_schedules::WorldFault;
 use lisp_script::{ScriptFault, ScriptWhat};
 use lisp_sites::ConfigFault;
-use lisp_world::WorldFault;
 use std::alloc::{AllocError, AllocFailed};
 use thiserror::Error;
 

@@ -1,8 +1,8 @@
 use Rattle.std.specs.Prelude.{vec_len}
 use Rattle.std.proofs.Common.{◌≤◌}
 use Rattle.std.specs.Io.KnownBytes.{Consumes}
-use Rattle.lisp_playing.specs.Input.{most_bytes}
-use Rattle.lisp_playing.proofs.input.read_to_end.Given as goal
+use Rattle.lisp_inputs.specs.Input.{most_bytes}
+use Rattle.lisp_inputs.proofs.input.read_to_end.Given as goal
 
 -- these bytes were read, and there are not too many
 abbrev pub invariant-loop : goal.invariant-loop

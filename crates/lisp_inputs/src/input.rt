@@ -1,8 +1,8 @@
 //! Reading the whole input.
 
 ghost use Rattle.std.specs.Prelude.{◌≡◌, ◌<◌, ◌≤◌, ◌⊎◌, length, vec_len, IfOk, IfErr, IfSome, IsErrOf};
-ghost use Rattle.lisp_playing.specs.Input.{most_bytes};
-ghost use Rattle.lisp_playing.specs.declared.fault.PlayFault.TheVariants as faults;
+ghost use Rattle.lisp_inputs.specs.Input.{most_bytes};
+ghost use Rattle.lisp_inputs.specs.declared.fault.PlayFault.TheVariants as faults;
 
 use crate::fault::PlayFault;
 use lisp_memory::{FallibleVec, Memory};

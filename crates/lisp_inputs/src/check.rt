@@ -1,9 +1,9 @@
 //! What was understood of a configuration, a line for each site and each node.
 
+use crate::fault::PlayFault;
 use crate::files::read_config;
 use crate::input_fault::InputFault;
 use lisp_memory::FallibleString;
-use lisp_playing::PlayFault;
 use lisp_records::{Addr, MapRecord};
 use lisp_served::{Site, SitePrefix};
 use lisp_sites::{Config, Name, RouterEntry};

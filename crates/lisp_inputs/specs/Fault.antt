@@ -7,11 +7,11 @@ use Rattle.lisp_sites.specs.declared.fault.ConfigFault.TheVariants as config_fau
 use Rattle.lisp_script.specs.Fault.{what_number}
 use Rattle.lisp_script.specs.declared.fault.ScriptWhat.{ScriptWhat}
 use Rattle.lisp_script.specs.declared.fault.ScriptWhat.TheVariants as whats
-use Rattle.lisp_world.specs.Faults.{world_fault_number}
-use Rattle.lisp_world.specs.declared.fault.WorldFault.{WorldFault}
-use Rattle.lisp_world.specs.declared.fault.WorldFault.TheVariants as world_faults
-use Rattle.lisp_playing.specs.declared.fault.PlayFault.{PlayFault}
-use Rattle.lisp_playing.specs.declared.fault.PlayFault.TheVariants.{Read, Write, TooLong, NotUtf8, NoScript, Config, Script, World, OutOfMemory}
+use Rattle.lisp_schedules.specs.Faults.{world_fault_number}
+use Rattle.lisp_schedules.specs.declared.world_fault.WorldFault.{WorldFault}
+use Rattle.lisp_schedules.specs.declared.world_fault.WorldFault.TheVariants as world_faults
+use Rattle.lisp_inputs.specs.declared.fault.PlayFault.{PlayFault}
+use Rattle.lisp_inputs.specs.declared.fault.PlayFault.TheVariants.{Read, Write, TooLong, NotUtf8, NoScript, Config, Script, World, OutOfMemory}
 
 abbrev pub play_fault_number : PlayFault → ℕ
 play_fault_number Read = 87

@@ -1,6 +1,6 @@
 //! Why a file can't be taken as an input.
 
-use lisp_playing::PlayFault;
+use crate::fault::PlayFault;
 use lisp_sites::PlacedFault;
 use std::alloc::{AllocError, AllocFailed};
 

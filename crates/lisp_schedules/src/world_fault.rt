@@ -1,8 +1,8 @@
 //! Why a network doesn't take an event, or isn't made.
 
 ghost use Rattle.std.specs.Prelude.{◌≡◌};
-ghost use Rattle.lisp_world.specs.Faults.{world_fault_number};
-ghost use Rattle.lisp_world.specs.declared.fault.WorldFault.TheVariants.{OutOfMemory};
+ghost use Rattle.lisp_schedules.specs.Faults.{world_fault_number};
+ghost use Rattle.lisp_schedules.specs.declared.world_fault.WorldFault.TheVariants.{OutOfMemory};
 
 use lisp_etr::StartFault;
 use std::alloc::{AllocError, AllocFailed};

@@ -1,8 +1,8 @@
 use Rattle.std.proofs.Common.{◌≡◌, ◌+◌, ◌∷◌, [], ◌≤◌, length, get_or, take, ap, ◌∙◌, length-append, arith}
-use Rattle.lisp_playing.specs.Input.{most_bytes}
-use Rattle.lisp_playing.proofs.InputLemmas.{take-one, Consumes-more, Consumes-same, Consumes-all, Consumes-long}
-use Rattle.lisp_playing.proofs.input.read_to_end.Goals as goal
-use Rattle.lisp_playing.proofs.input.read_to_end.Goals.{in-Ok+else-len-eq-MOST_BYTES+in_ok-try_push-in-Ok, in-Err+else-ne}
+use Rattle.lisp_inputs.specs.Input.{most_bytes}
+use Rattle.lisp_inputs.proofs.InputLemmas.{take-one, Consumes-more, Consumes-same, Consumes-all, Consumes-long}
+use Rattle.lisp_inputs.proofs.input.read_to_end.Goals as goal
+use Rattle.lisp_inputs.proofs.input.read_to_end.Goals.{in-Ok+else-len-eq-MOST_BYTES+in_ok-try_push-in-Ok, in-Err+else-ne}
 
 pub returns-in-Ok-eq0-clause-whole : goal.returns-in-Ok-eq0-clause-whole
 returns-in-Ok-eq0-clause-whole g c =
