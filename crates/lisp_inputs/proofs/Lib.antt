@@ -1,1 +1,3 @@
 mod InputLemmas
+mod PartsLemmas
+mod Scheduled

@@ -1,2 +1,4 @@
 pub mod Fault
 pub mod Input
+pub mod Parts
+pub mod Schedule

@@ -29,8 +29,8 @@ use Rattle.lisp_inputs.specs.declared.fault.PlayFault.{PlayFault}
 use Rattle.lisp_inputs.specs.declared.fault.PlayFault.TheVariants as faults
 use Rattle.lisp_inputs.specs.Input.{most_bytes}
 use Rattle.lisp_playing.specs.Playing.{Wrote, StopsAt}
-use Rattle.lisp_player.specs.Input.{parted}
-use Rattle.lisp_player.specs.Schedule.{script_in, parts_in, schedule_of, playable, asked_for, Refuses, IsEmpty, Begins, IsPlay, PlayedFrom, Played, Stopped}
+use Rattle.lisp_inputs.specs.Schedule.{schedule_of, IsFaulty}
+use Rattle.lisp_player.specs.Schedule.{playable, asked_for, Refuses, IsEmpty, Begins, IsPlay, PlayedFrom, Played, Stopped}
 
 module _ (input : List ℕ) where
   -- what is wrong with a schedule is wrong with the input
@@ -48,40 +48,21 @@ module _ (input : List ℕ) where
     unfolding asked_for
     asked none = ap (λ (r : Result (Configuration × List Order) PlayFault). r >>= playable) is ∙ rw none refl
 
-  -- it is no text
-  pub no_text : (IsUtf8 input → ⊥) → asked_for input ≡ Err faults.NotUtf8
-  unfolding schedule_of
-  no_text not = refused faults.NotUtf8 (rw (is_no_utf8 (is_utf8 input) refl) refl)
-    where
-      is_no_utf8 : (test : Bool) → is_utf8 input ≡ test → is_utf8 input ≡ false
-      is_no_utf8 true is = absurd (not (IsUtf8-from_is_utf8 input is))
-      is_no_utf8 false is = is
+-- what is wrong with an input is why it is refused
+pub refuses_so : (input : List ℕ) (fault : PlayFault) → IsFaulty input fault → Refuses input fault
+refuses_so input faults.NotUtf8 faulty = refused input faults.NotUtf8 faulty
+refuses_so input faults.NoScript faulty = refused input faults.NoScript faulty
+refuses_so input (faults.Config why) faulty = λ other. refused input (faults.Config why) (faulty other)
+refuses_so input (faults.Script why) faulty = λ other. refused input (faults.Script why) (faulty other)
+refuses_so input faults.Read faulty = tt
+refuses_so input faults.Write faulty = tt
+refuses_so input faults.OutOfMemory faulty = tt
+refuses_so input faults.TooLong faulty = absurd faulty
+refuses_so input (faults.World why) faulty = absurd faulty
 
-  module _ (utf8 : IsUtf8 input) where
-    -- it has no two parts
-    pub no_parts : parted input ≡ None → asked_for input ≡ Err faults.NoScript
-    unfolding schedule_of
-    no_parts none = refused faults.NoScript (rw (is_utf8-from_IsUtf8 input utf8, none) refl)
-
-    module _ (configuration script : List ℕ) (parts : parted input ≡ Some (configuration, script)) where
-      in_parts : schedule_of input ≡ parts_in (configuration, script)
-      unfolding schedule_of
-      in_parts = rw (is_utf8-from_IsUtf8 input utf8, parts) refl
-
-      -- the first one is no configuration
-      pub no_configuration : (why : ConfigFault) → config_of (parse_document configuration) ≡ Err why → asked_for input ≡ Err (faults.Config why)
-      unfolding parts_in
-      no_configuration why is = refused (faults.Config why) (in_parts ∙ rw is refl)
-
-      module _ (c : Configuration) (config : config_of (parse_document configuration) ≡ Ok c) where
-        -- the second one is no script, or one
-        pub no_script : (why : ScriptFault) → script_of c script ≡ Err why → asked_for input ≡ Err (faults.Script why)
-        unfolding parts_in script_in
-        no_script why is = refused (faults.Script why) (in_parts ∙ rw (config, is) refl)
-
-        pub a_schedule : (orders : List Order) → script_of c script ≡ Ok orders → schedule_of input ≡ Ok (c, orders)
-        unfolding parts_in script_in
-        a_schedule orders is = in_parts ∙ rw (config, is) refl
+-- it is no fault of memory or of writing
+pub no_memory : {P : Type 0} (input : List ℕ) (fault : PlayFault) → IsFaulty input fault → fault ≡ faults.OutOfMemory → P
+no_memory input fault faulty is = absurd (subst (λ (f : PlayFault). IsFaulty input f) is faulty)
 
 -- a store that was made
 abbrev pub fresh : Memory
@@ -223,21 +204,6 @@ ended_refuses input c orders (Ok x) is ends twice = tt
 ended_refuses input c orders (Err fault) is (inl memory) twice = not_begun input c orders fault is (inl memory) (λ same. twice (ap Err same))
 ended_refuses input c orders (Err fault) is (inr (inl write)) twice = subst (λ (f : PlayFault). Refuses input f) (sym write) tt
 ended_refuses input c orders (Err fault) is (inr (inr world)) twice = not_begun input c orders fault is (inr world) (λ same. twice (ap Err same))
-
--- what is wrong with a configuration, unless memory ran out
-pub fails_so : {Y : Type 0} (why : ConfigFault) (read : Result Y ConfigFault) → Fails why read → why ≢ ConfigFault.OutOfMemory → read ≡ Err why
-fails_so config_faults.Toml read fails other = fails
-fails_so (config_faults.Missing name) read fails other = fails
-fails_so (config_faults.BadValue name) read fails other = fails
-fails_so (config_faults.Repeated name) read fails other = fails
-fails_so config_faults.OutOfMemory read fails other = absurd (other refl)
-
--- they are no faults of reading and writing
-pub config_known : (why : ConfigFault) → (faults.Config why ≢ faults.Write) × (faults.Config why ≢ faults.OutOfMemory)
-config_known why = (λ e. absurd cc, λ e. absurd cc)
-
-pub script_known : (why : ScriptFault) → (faults.Script why ≢ faults.Write) × (faults.Script why ≢ faults.OutOfMemory)
-script_known why = (λ e. absurd cc, λ e. absurd cc)
 
 -- a test that would mean a fault fails where there is none
 pub never : {X E : Type 0} (x : X) (fault : E) (test : Bool) → (test ≡ true → ◌≡◌ {A = Result X E} (Ok x) (Err fault)) → test ≡ false

@@ -1,2 +1,1 @@
-mod PartsLemmas
 mod Beginning

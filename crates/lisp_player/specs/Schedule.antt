@@ -25,29 +25,7 @@ use Rattle.lisp_inputs.specs.Input.{most_bytes}
 use Rattle.lisp_playing.specs.Playing.{Plays, FailsAsAsked}
 use Rattle.lisp_player.specs.Input.{parted}
 
--- a fault of one kind as one of a play
-abbrev pub as_fault : {X E : Type 0} → (E → PlayFault) → Result X E → Result X PlayFault
-as_fault kind (Ok x) = Ok x
-as_fault kind (Err e) = Err (kind e)
-
--- the schedule of an input, or the first thing that is wrong with it: no UTF-8, no line ---, a configuration, a script
-unfoldable pub script_in : Configuration → List ℕ → Result (Configuration × List Order) PlayFault
-script_in c text = do
-  orders ← as_fault faults.Script (script_of c text)
-  Ok (c, orders)
-
-unfoldable pub parts_in : List ℕ × List ℕ → Result (Configuration × List Order) PlayFault
-parts_in parts = do
-  c ← as_fault faults.Config (config_of (parse_document parts.0))
-  script_in c parts.1
-
-unfoldable pub schedule_of : List ℕ → Result (Configuration × List Order) PlayFault
-schedule_of input = do
-  text ← if is_utf8 input then Ok input else Err faults.NotUtf8
-  parts ← ok_or (parted text) faults.NoScript
-  parts_in parts
-
--- and a network can be made of it: no two nodes are alike
+-- a network can be made of a schedule: no two nodes are alike
 abbrev pub playable : Configuration × List Order → Result (Configuration × List Order) PlayFault
 playable schedule = if repeats schedule.0 then Err (faults.World WorldFault.Repeated) else Ok schedule
 

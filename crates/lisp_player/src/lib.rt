@@ -1,7 +1,6 @@
 //! Plays a schedule: a configuration and a script, over a network that begins with stores that keep nothing.
 #![tactic(auto)]
 
-mod parts;
 mod schedule;
 
 pub use lisp_playing::{Command, PlayFault, ScriptFault, ScriptWhat, play_on, write_line};

@@ -7,20 +7,17 @@ ghost use Rattle.lisp_store.specs.declared.fate.Fate.TheVariants.{Done};
 ghost use Rattle.lisp_world.specs.Openings.{repeats};
 ghost use Rattle.lisp_schedules.specs.declared.world_fault.WorldFault.{WorldFault};
 ghost use Rattle.lisp_script.specs.Order.{order};
-ghost use Rattle.lisp_player.specs.Schedule.{schedule_of, Refuses, IsSilent, Begins, PlayedFrom, Played, Stopped};
+ghost use Rattle.lisp_player.specs.Schedule.{Refuses, IsSilent, Begins, PlayedFrom, Played, Stopped};
 ghost use Rattle.lisp_inputs.specs.declared.fault.PlayFault.TheVariants as faults;
 
-use crate::parts::parted;
-use lisp_inputs::read_to_end;
+use lisp_inputs::{read_schedule, read_to_end};
 use lisp_memory::{FallibleVec, Memory};
 use lisp_playing::{Command, PlayFault, play_on};
-use lisp_script::parse_script;
 use lisp_sites::Config;
 use lisp_store::MemoryStore;
 use lisp_world::World;
 use std::alloc::{AllocError, Allocator, Global};
 use std::io::{Read, Write};
-use std::str;
 
 /// Reads a configuration, a line `---` and a script, and plays the script over a network of the configuration, with stores
 /// in memory that open empty and fail only where an event says so: writes one line for each event, `fault N` for one that
@@ -78,27 +75,6 @@ fn play_commands<A: Memory + Copy, E: Allocator, F: Allocator, W: Write>(
 {
     let mut world = begin(alloc, config)?;
     play_on(alloc, &mut world, config, commands, writer)
-}
-
-// The configuration and the commands of an input.
-fn read_schedule<A: Memory + Copy>(
-    heap: Global,
-    alloc: A,
-    input: &[u8],
-) -> Result<(Config<A>, Vec<Command<A>, A>), PlayFault>
-    ensures schedule { IfOk result (λ s. schedule_of input.now ≡ Ok (s.0, map order s.1.items)) }
-    ensures refuses { IfErr result (λ fault. Refuses input.now fault) }
-    ensures known { IfErr result (λ fault. (fault ≢ faults.Write) × (fault ≢ PlayFault.OutOfMemory)) }
-{
-    let Ok(text) = str::from_utf8(input) else {
-        return Err(PlayFault::NotUtf8);
-    };
-    let Some((configuration, script)) = parted(text) else {
-        return Err(PlayFault::NoScript);
-    };
-    let config = Config::from_toml(heap, alloc, configuration)?;
-    let commands = parse_script(alloc, &config, script)?;
-    Ok((config, commands))
 }
 
 // A network of a configuration, over stores that keep nothing.

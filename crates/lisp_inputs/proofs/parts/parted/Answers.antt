@@ -1,7 +1,7 @@
 use Rattle.std.proofs.lemmas.Str.Pattern.{split_parts}
 use Rattle.std.proofs.Common.{◌∙◌, sym, Some, None, rules, arith}
-use Rattle.lisp_player.proofs.PartsLemmas.{mark_found, line_passed, last_line, told_where}
-use Rattle.lisp_player.proofs.parts.parted.Goals as goal
+use Rattle.lisp_inputs.proofs.PartsLemmas.{mark_found, line_passed, last_line, told_where}
+use Rattle.lisp_inputs.proofs.parts.parted.Goals as goal
 
 pub returns-then-is_mark : goal.returns-then-is_mark
 returns-then-is_mark c =

@@ -1,8 +1,8 @@
 use Rattle.std.proofs.Common.{length}
 use denote.Text.{Utf8}
 use denote.Shadow.{shadow}
-use Rattle.lisp_player.proofs.PartsLemmas.{GoesOn}
-use Rattle.lisp_player.proofs.parts.parted.Given as goal
+use Rattle.lisp_inputs.proofs.PartsLemmas.{GoesOn}
+use Rattle.lisp_inputs.proofs.parts.parted.Given as goal
 
 -- no line so far parts the text; each `&str` that the loop changes is text
 abbrev pub invariant-loop-line : goal.invariant-loop-line

@@ -2,7 +2,7 @@
 
 ghost use Rattle.std.specs.Prelude.{◌≡◌, ◌++◌};
 ghost use Rattle.std.specs.Option.{option_map};
-ghost use Rattle.lisp_player.specs.Input.{IsEndOf, is_mark, parted};
+ghost use Rattle.lisp_inputs.specs.Parts.{IsEndOf, is_mark, parted};
 
 /// The text before the first line `---`, and the text behind that line; `None` where no line is `---`.
 pub(crate) fn parted(text: &str) -> Option<(&str, &str)>

@@ -10,7 +10,7 @@ use Rattle.std.proofs.lemmas.List.{get_or_default}
 use Rattle.std.proofs.lemmas.List.Splits.{slice_split_at, slice_split_none, join_with_byte-slice_split}
 use Rattle.std.specs.Prelude.{◌==◌}
 use Rattle.std.proofs.lemmas.Str.{IsCharBoundary-at_seam}
-use Rattle.lisp_player.specs.Input.{IsEndOf, is_mark, behind_line, parts_of, parted}
+use Rattle.lisp_inputs.specs.Parts.{IsEndOf, is_mark, behind_line, parts_of, parted}
 
 -- where the rest begins
 pub before_rest : (text rest : List ℕ) → IsEndOf text rest → IsUtf8 rest → IsCharBoundary text (length text - length rest)
