@@ -60,10 +60,6 @@ refuses_so input faults.OutOfMemory faulty = tt
 refuses_so input faults.TooLong faulty = absurd faulty
 refuses_so input (faults.World why) faulty = absurd faulty
 
--- it is no fault of memory or of writing
-pub no_memory : {P : Type 0} (input : List ℕ) (fault : PlayFault) → IsFaulty input fault → fault ≡ faults.OutOfMemory → P
-no_memory input fault faulty is = absurd (subst (λ (f : PlayFault). IsFaulty input f) is faulty)
-
 -- a store that was made
 abbrev pub fresh : Memory
 fresh = record { kept = empty; faults = 0; fate = Done }

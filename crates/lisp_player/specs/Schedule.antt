@@ -2,13 +2,9 @@
 use Rattle.std.specs.Prelude.{◌≡◌, ◌≢◌, ◌<◌, ◌⊎◌, ℕ, false, List, [], length, take, Option, Result, Ok, Err, if◌then◌else◌}
 use Rattle.std.specs.FinMap.{empty}
 use Rattle.std.specs.List.{AllByRecursion}
-use Rattle.std.specs.Option.{ok_or}
-use Rattle.std.specs.Str.{is_utf8}
 use Rattle.std.specs.Io.KnownBytes.{Appends, Keeps}
-use Rattle.toml.specs.Parse.{parse_document}
 use Rattle.lisp_records.specs.Result.{◌>>=◌}
 use Rattle.lisp_sites.specs.Configuration.{Configuration}
-use Rattle.lisp_sites.specs.Table.{config_of}
 use Rattle.lisp_sites.specs.declared.fault.ConfigFault.{ConfigFault}
 use Rattle.lisp_schedules.specs.Trace.{Shown, Step, Opening}
 use Rattle.lisp_turns.specs.World.{WorldState}
@@ -18,12 +14,11 @@ use Rattle.lisp_world.specs.Quiet.{AllCalm, stores_of}
 use Rattle.lisp_schedules.specs.declared.world_fault.WorldFault.{WorldFault}
 use Rattle.lisp_script.specs.declared.fault.ScriptWhat.TheVariants.{Memory}
 use Rattle.lisp_script.specs.Order.{Order}
-use Rattle.lisp_script.specs.Spelling.{script_of}
 use Rattle.lisp_inputs.specs.declared.fault.PlayFault.{PlayFault}
 use Rattle.lisp_inputs.specs.declared.fault.PlayFault.TheVariants as faults
 use Rattle.lisp_inputs.specs.Input.{most_bytes}
+use Rattle.lisp_inputs.specs.Schedule.{schedule_of}
 use Rattle.lisp_playing.specs.Playing.{Plays, FailsAsAsked}
-use Rattle.lisp_player.specs.Input.{parted}
 
 -- a network can be made of a schedule: no two nodes are alike
 abbrev pub playable : Configuration × List Order → Result (Configuration × List Order) PlayFault

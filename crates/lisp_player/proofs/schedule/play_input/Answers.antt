@@ -1,7 +1,8 @@
 use Rattle.std.proofs.Common.{map}
+use Rattle.std.proofs.lemmas.Result.{err_from_is_err_and}
 use Rattle.lisp_script.specs.Order.{order}
 use Rattle.lisp_playing.proofs.Turning.{at_ok}
-use Rattle.lisp_player.proofs.Beginning.{played, stopped, ended_refuses}
+use Rattle.lisp_player.proofs.Beginning.{played, stopped, ended_refuses, refuses_so}
 use Rattle.lisp_player.proofs.schedule.play_input.Goals as goal
 
 pub returns-clause-plays : goal.returns-clause-plays
@@ -14,3 +15,8 @@ returns-clause-stops g c = λ memory.
 
 pub returns-clause-refuses : goal.returns-clause-refuses
 returns-clause-refuses g c = ended_refuses c.args.input.now c.in_ok-config.config (map order c.in_ok-config.commands.items) c.play_commands.result c.in_ok-config.ensures.schedule c.play_commands.ensures.faults c.play_commands.ensures.repeated
+
+pub returns-in_err-config-clause-refuses : goal.returns-in_err-config-clause-refuses
+returns-in_err-config-clause-refuses g c =
+    let p = err_from_is_err_and c.from_residual.result c.from_residual.ensures.1 in
+    rw (p.1, p.2) (refuses_so c.args.input.now c.in_err-config.field-0.0 c.in_err-config.ensures.faults)
