@@ -5,17 +5,11 @@ use Rattle.std.proofs.Common.{inl, inr}
 use Rattle.std.specs.Io.KnownBytes.{Keeps}
 use Rattle.std.specs.FinMap.{empty}
 use Rattle.std.specs.List.{AllByRecursion}
-use Rattle.std.specs.Str.{IsUtf8, is_utf8}
-use Rattle.std.proofs.lemmas.Str.{is_utf8-from_IsUtf8, IsUtf8-from_is_utf8}
-use Rattle.toml.specs.Parse.{parse_document}
 use Rattle.lisp_records.specs.Result.{◌>>=◌}
 use Rattle.lisp_store.specs.Memory.{Memory, memory_state}
 use Rattle.lisp_store.specs.Store.{StoreState}
 use Rattle.lisp_store.specs.declared.fate.Fate.TheVariants.{Done}
 use Rattle.lisp_sites.specs.Configuration.{Configuration}
-use Rattle.lisp_sites.specs.Table.{config_of, Fails}
-use Rattle.lisp_sites.specs.declared.fault.ConfigFault.{ConfigFault}
-use Rattle.lisp_sites.specs.declared.fault.ConfigFault.TheVariants as config_faults
 use Rattle.lisp_turns.specs.World.{WorldState}
 use Rattle.lisp_turns.specs.Stands.{Stands}
 use Rattle.lisp_turns.proofs.Gets.{none_is_some, same_some}
@@ -23,8 +17,6 @@ use Rattle.lisp_world.specs.Openings.{opening, lists_of, repeats}
 use Rattle.lisp_world.specs.Quiet.{AllHonest, AllCalm, IsCalm, stores_of, failures}
 use Rattle.lisp_schedules.specs.declared.world_fault.WorldFault.{WorldFault}
 use Rattle.lisp_script.specs.Order.{Order}
-use Rattle.lisp_script.specs.Spelling.{script_of}
-use Rattle.lisp_script.specs.declared.fault.ScriptFault.{ScriptFault}
 use Rattle.lisp_inputs.specs.declared.fault.PlayFault.{PlayFault}
 use Rattle.lisp_inputs.specs.declared.fault.PlayFault.TheVariants as faults
 use Rattle.lisp_inputs.specs.Input.{most_bytes}
