@@ -1,9 +1,10 @@
--- What a Map-Server checks of a Map-Register before it looks at its nonce (RFC 9301 section 8.2).
-use Rattle.std.specs.Prelude.{ℕ, Bool, not, List, Option, Some, None, Result, Ok, Err, position, ok_or, if◌then◌else◌}
+-- What a Map-Server checks of a Map-Register before it looks at its nonce (RFC 9301 section 8.2), and the Map-Notify
+-- that answers it.
+use Rattle.std.specs.Prelude.{ℕ, Bool, false, not, List, Option, Some, None, Result, Ok, Err, position, ok_or, if◌then◌else◌}
 use Rattle.std.specs.Option.{option_and_then}
 use Rattle.lisp_records.specs.Record.{Mapping}
 use Rattle.lisp_records.specs.Result.{◌>>=◌}
-use Rattle.lisp_messages.specs.Message.{Registration}
+use Rattle.lisp_messages.specs.Message.{Registration, Notification}
 use Rattle.lisp_messages.specs.Authentic.{is_authentic}
 use Rattle.lisp_served.specs.Site.{SiteEntry, is_allowed, site_of, secret_of}
 use Rattle.lisp_checks.specs.declared.refused.Refused.{Refused}
@@ -33,3 +34,12 @@ secret_under sites bytes m = do
   _ ← check (is_authentic bytes secret) BadAuth
   _ ← check (not m.merge) MergeAsked
   refused_at (first_not_allowed site m.records) secret
+
+-- bytes are authentic under a secret, if there is one
+abbrev pub signed_by : Option (List ℕ) → List ℕ → Bool
+signed_by None bytes = false
+signed_by (Some secret) bytes = is_authentic bytes secret
+
+-- the Map-Notify of a Map-Register has its nonce, Key ID and records (RFC 9301 section 5.7)
+abbrev pub notification_of : Registration → Notification
+notification_of m = record { ack = false; nonce = m.nonce; key_id = m.key_id; records = m.records }

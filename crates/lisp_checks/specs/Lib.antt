@@ -3,3 +3,5 @@ pub mod NoticeFault
 pub mod Pairs
 pub mod Checks
 pub mod Nonces
+pub mod AcceptedRows
+pub mod NoticeTimer

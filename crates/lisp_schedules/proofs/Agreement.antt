@@ -10,8 +10,8 @@ use Rattle.lisp_records.specs.Router.{router_eq}
 use Rattle.lisp_records.specs.Row.{Holding, is_alive}
 use Rattle.lisp_lookup.specs.Table.{is_row_of, if_alive}
 use Rattle.lisp_checks.specs.Pairs.{router_of}
-use Rattle.lisp_server.specs.AcceptedRows.{origin_of, holding, holdings}
-use Rattle.lisp_server.proofs.KnownLaws.{turned}
+use Rattle.lisp_checks.specs.AcceptedRows.{holding, holdings}
+use Rattle.lisp_checks.proofs.Turned.{turned}
 use Rattle.lisp_schedules.specs.Held.{Acceptance, named, held}
 use Rattle.lisp_schedules.proofs.ListLemmas.{at_head, in_tail}
 
@@ -47,7 +47,7 @@ pub record Found (since : List Acceptance) (router : RouterId) (eid : Block) (g 
   pub taken : Contains since acceptance
   pub mapping : Mapping
   pub last : find (λ r. router_eq (router_of acceptance.message) router && block_eq r.eid eid) (reverse acceptance.message.records) ≡ Some mapping
-  pub is : g ≡ holding (origin_of acceptance.message acceptance.from acceptance.moment) mapping
+  pub is : g ≡ holding acceptance.message acceptance.from acceptance.moment mapping
 
 found_in : (since : List Acceptance) (router : RouterId) (eid : Block) (g : Holding) → find (is_row_of router eid) (named since) ≡ Some g → Found since router eid g
 found_in [] router eid g e = absurd (clash e)
@@ -58,7 +58,7 @@ found_in (a ∷ since) router eid g e = at (find_either (is_row_of router eid) (
   where
     at : (find (is_row_of router eid) (reverse (holdings a.message a.from a.moment)) ≡ Some g) ⊎ (find (is_row_of router eid) (named since) ≡ Some g) → (find (is_row_of router eid) (named since) ≡ Some g → Found since router eid g) → Found (a ∷ since) router eid g
     at (inl here) later =
-        let one = find_map (holding (origin_of a.message a.from a.moment)) (is_row_of router eid) (reverse a.message.records) g (ap (find (is_row_of router eid)) (turned (holding (origin_of a.message a.from a.moment)) a.message.records) ∙ here) in
+        let one = find_map (holding a.message a.from a.moment) (is_row_of router eid) (reverse a.message.records) g (ap (find (is_row_of router eid)) (turned (holding a.message a.from a.moment) a.message.records) ∙ here) in
         record { acceptance = a; taken = at_head a since; mapping = one.value; last = one.found; is = one.is }
     at (inr there) later = let f = later there in record { acceptance = f.acceptance; taken = in_tail a since f.acceptance f.taken; mapping = f.mapping; last = f.last; is = f.is }
 

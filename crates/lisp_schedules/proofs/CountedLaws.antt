@@ -7,7 +7,7 @@ use Rattle.std.proofs.lemmas.Bool.Decides.{Decides-eqb}
 use Rattle.std.proofs.lemmas.List.Elements.{Contains-append_right}
 use Rattle.lisp_messages.specs.Message.{Said, Registration, Notification, Notifies}
 use Rattle.lisp_etr.specs.Hearing.{first_notice, is_latest}
-use Rattle.lisp_server.specs.Checks.{notification_of}
+use Rattle.lisp_checks.specs.Checks.{notification_of}
 use Rattle.lisp_schedules.specs.declared.line.Line.{Line}
 use Rattle.lisp_schedules.specs.declared.line.Line.TheVariants as lines
 use Rattle.lisp_schedules.specs.Trace.{Happening, Step, Opening, Shown, addresses, address_at, is_server, is_router, router_at}

@@ -10,7 +10,7 @@ use Rattle.lisp_records.specs.declared.router.RouterId.{RouterId}
 use Rattle.lisp_sites.specs.Configuration.{Configuration, HasServers}
 use Rattle.lisp_messages.specs.Message.{Notification}
 use Rattle.lisp_messages.specs.Authentic.{is_authentic}
-use Rattle.lisp_server.specs.Checks.{signed_by}
+use Rattle.lisp_checks.specs.Checks.{signed_by}
 use Rattle.lisp_checks.specs.Checks.{secret_at as known_secret}
 use Rattle.lisp_schedules.specs.declared.line.Line.{Line}
 use Rattle.lisp_schedules.specs.declared.line.Line.TheVariants as lines

@@ -25,7 +25,7 @@ use Rattle.lisp_store.specs.declared.pair.PairKind.TheVariants as kinds
 use Rattle.lisp_store.specs.declared.fate.Fate.TheVariants as fates
 use Rattle.lisp_checks.specs.declared.refused.Refused.TheVariants as refuseds
 use Rattle.lisp_checks.specs.Pairs.{notice_pair}
-use Rattle.lisp_server.specs.Notices.{due_after}
+use Rattle.lisp_checks.specs.NoticeTimer.{due_after}
 use Rattle.lisp_etr.specs.declared.send_fault.SendFault.TheVariants as send_faults
 use Rattle.lisp_etr.specs.declared.notify_fault.NotifyFault.TheVariants as notify_faults
 use Rattle.lisp_schedules.specs.declared.event.Event.TheVariants as events

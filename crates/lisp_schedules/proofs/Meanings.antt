@@ -16,7 +16,7 @@ use Rattle.lisp_store.specs.declared.fate.Fate.TheVariants as fates
 use Rattle.lisp_records.specs.Row.{Holding}
 use Rattle.lisp_messages.specs.declared.fault.ReadFault.TheVariants as reads
 use Rattle.lisp_etr.specs.Timers.{due_after}
-use Rattle.lisp_server.specs.Notices.{due_after as notice_due_after}
+use Rattle.lisp_checks.specs.NoticeTimer.{due_after as notice_due_after}
 use Rattle.lisp_schedules.specs.declared.event.Event.TheVariants as events
 use Rattle.lisp_schedules.specs.declared.line.Line.TheVariants as lines
 use Rattle.lisp_schedules.specs.Trace.{Step}

@@ -15,7 +15,7 @@ use Rattle.lisp_checks.specs.Nonces.{IsBelow, nonce_after}
 use Rattle.lisp_schedules.specs.Counted.{heard}
 use Rattle.lisp_checks.specs.Checks.{secret_under}
 use Rattle.lisp_checks.specs.Pairs.{notice_pair, pair_of}
-use Rattle.lisp_server.specs.Notices.{due_after}
+use Rattle.lisp_checks.specs.NoticeTimer.{due_after}
 use Rattle.lisp_checks.specs.declared.notice_fault.NoticeFault.TheVariants as notice_faults
 use Rattle.lisp_checks.specs.declared.refused.Refused.TheVariants as refuseds
 use Rattle.lisp_etr.specs.declared.start_fault.StartFault.TheVariants as start_faults

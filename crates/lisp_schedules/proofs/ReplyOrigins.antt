@@ -7,7 +7,7 @@ use Rattle.std.proofs.lemmas.List.Elements.{Contains-append_cases, Contains-appe
 use Rattle.lisp_messages.specs.declared.fault.ReadFault.{ReadFault}
 use Rattle.lisp_messages.specs.Message.{Said, Registration, Notification, Registers, Notifies}
 use Rattle.lisp_etr.specs.Hearing.{first_notice, ack_of}
-use Rattle.lisp_server.specs.Checks.{notification_of}
+use Rattle.lisp_checks.specs.Checks.{notification_of}
 use Rattle.lisp_checks.specs.Nonces.{nonce_after}
 use Rattle.lisp_schedules.specs.declared.event.Event.TheVariants as events
 use Rattle.lisp_schedules.specs.declared.line.Line.{Line}

@@ -10,7 +10,7 @@ use Rattle.lisp_messages.specs.Written.{written}
 use Rattle.lisp_messages.specs.Reading.{message_at}
 use Rattle.lisp_etr.specs.Hearing.{ack_of}
 use Rattle.lisp_etr.specs.Sending.{registration_of}
-use Rattle.lisp_server.specs.Checks.{notification_of}
+use Rattle.lisp_checks.specs.Checks.{notification_of}
 use Rattle.lisp_schedules.specs.declared.event.Event.TheVariants as events
 use Rattle.lisp_schedules.specs.declared.line.Line.{Line}
 use Rattle.lisp_schedules.specs.declared.line.Line.TheVariants as lines

@@ -16,7 +16,7 @@ use Rattle.lisp_store.specs.Pair.{pair_cmp}
 use Rattle.lisp_messages.specs.Message.{Registration}
 use Rattle.lisp_lookup.specs.Table.{is_row_of, if_alive, row_cmp}
 use Rattle.lisp_checks.specs.Pairs.{router_of, pair_of}
-use Rattle.lisp_server.specs.AcceptedRows.{holdings}
+use Rattle.lisp_checks.specs.AcceptedRows.{holdings}
 
 -- a Map-Register that a server accepted, from which address and at which moment
 pub record Acceptance : Type 0 where

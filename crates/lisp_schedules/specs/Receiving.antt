@@ -13,7 +13,7 @@ use Rattle.lisp_checks.specs.declared.refused.Refused.TheVariants.{Read, NotMine
 use Rattle.lisp_checks.specs.Nonces.{IsBelow}
 use Rattle.lisp_checks.specs.Pairs.{router_of, pair_of}
 use Rattle.lisp_checks.specs.Checks.{secret_under, secret_at}
-use Rattle.lisp_server.specs.Checks.{signed_by}
+use Rattle.lisp_checks.specs.Checks.{signed_by}
 use Rattle.lisp_messages.specs.Reading.{HasHead}
 use Rattle.lisp_schedules.specs.Held.{last_of}
 use Rattle.lisp_schedules.specs.Timers.{Notice, notices}

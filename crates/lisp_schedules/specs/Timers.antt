@@ -6,7 +6,7 @@ use Rattle.lisp_records.specs.Moment.{minute}
 use Rattle.lisp_records.specs.Router.{router_eq}
 use Rattle.lisp_sites.specs.Configuration.{Configuration}
 use Rattle.lisp_etr.specs.Timers.{due_after}
-use Rattle.lisp_server.specs.Notices.{due_after as notice_due_after, has_come}
+use Rattle.lisp_checks.specs.NoticeTimer.{due_after as notice_due_after, has_come}
 use Rattle.lisp_schedules.specs.declared.line.Line.{Line}
 use Rattle.lisp_schedules.specs.declared.line.Line.TheVariants as lines
 use Rattle.lisp_schedules.specs.Trace.{Step, Opening, clock, router_at}

@@ -3,8 +3,8 @@
 ghost use Rattle.std.specs.Prelude.{◌≡◌};
 ghost use Rattle.lisp_schedules.specs.Faults.{refusal_number};
 
+use lisp_checks::{NoticeFault, Refused};
 use lisp_etr::{NotifyFault, SendFault, StartFault};
-use lisp_server::{NoticeFault, Refused};
 
 /// Why a node refused an event.
 #[derive(Clone, Copy, Debug, PartialEq, Eq)]

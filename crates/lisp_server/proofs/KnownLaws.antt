@@ -20,7 +20,6 @@ use Rattle.lisp_lookup.proofs.TableLaws.{found_holds, has_key, some_inj}
 use Rattle.lisp_server.specs.declared.contacts.Contact.{Contact}
 use Rattle.lisp_checks.specs.declared.refused.Refused.{Refused}
 use Rattle.lisp_checks.specs.declared.refused.Refused.TheVariants as refusals
-use Rattle.lisp_server.specs.declared.accepted_rows.Origin.{Origin}
 use Rattle.lisp_server.specs.declared.tables.Tables.{Tables}
 use Rattle.lisp_server.specs.declared.took.Took.{Took}
 use Rattle.lisp_records.specs.Result.{◌>>=◌}
@@ -29,7 +28,8 @@ use Rattle.lisp_server.specs.Checks.{Passed, register_checked}
 use Rattle.lisp_server.specs.Contacts.{SetsContact, IsHeard, Knows}
 use Rattle.lisp_server.specs.Receiving.{Accepts, contact_of}
 use Rattle.lisp_checks.specs.Pairs.{router_of}
-use Rattle.lisp_server.specs.AcceptedRows.{origin_of, holding, holdings}
+use Rattle.lisp_checks.specs.AcceptedRows.{holding, holdings}
+use Rattle.lisp_checks.proofs.Turned.{turned}
 use Rattle.lisp_server.specs.Server.{SameTables, state_of}
 
 -- no row, no router
@@ -60,18 +60,13 @@ signs sites bytes m passed e = by_site (site_of sites m.site) e
     by_site None e = absurd (let clash : ◌≡◌ {A = Result Passed Refused} (Err refusals.UnknownSite) (Ok passed) = e in cc)
     by_site (Some site) e = by_secret site (secret_of site m.key_id) e
 
--- what is made of each is made of each in any order
-pub turned : {X Y : Type 0} (f : X → Y) (xs : List X) → map f (reverse xs) ≡ reverse (map f xs)
-turned f [] = refl
-turned f (x ∷ xs) = ap (map f) (reverse-append (x ∷ []) xs) ∙ map-append f (reverse xs) (x ∷ []) ∙ ap (λ l. l ++ f x ∷ []) (turned f xs) ∙ sym (reverse-append (f x ∷ []) (map f xs))
-
 -- the rows of a Map-Register are its router's
-its_router : (o : Origin) (ms : List Mapping) (p : Holding → Bool) (g : Holding) → find p (map (holding o) ms) ≡ Some g → g.router ≡ o.router
-its_router o [] p g e = absurd (let clash : ◌≡◌ {A = Option Holding} None (Some g) = e in cc)
-its_router o (m ∷ ms) p g e = by (p (holding o m)) (its_router o ms p g) e
+its_router : (m : Registration) (from : Addr) (now : ℕ) (rs : List Mapping) (p : Holding → Bool) (g : Holding) → find p (map (holding m from now) rs) ≡ Some g → g.router ≡ router_of m
+its_router m from now [] p g e = absurd (let clash : ◌≡◌ {A = Option Holding} None (Some g) = e in cc)
+its_router m from now (r ∷ rs) p g e = by (p (holding m from now r)) (its_router m from now rs p g) e
   where
-    by : (b : Bool) → (find p (map (holding o) ms) ≡ Some g → g.router ≡ o.router) → cond b (Some (holding o m)) (find p (map (holding o) ms)) ≡ Some g → g.router ≡ o.router
-    by true rest e = ap (λ (h : Holding). h.router) (sym (some_inj (holding o m) g e))
+    by : (b : Bool) → (find p (map (holding m from now) rs) ≡ Some g → g.router ≡ router_of m) → cond b (Some (holding m from now r)) (find p (map (holding m from now) rs)) ≡ Some g → g.router ≡ router_of m
+    by true rest e = ap (λ (h : Holding). h.router) (sym (some_inj (holding m from now r) g e))
     by false rest e = rest e
 
 module _ (sites : List SiteEntry) (m : Registration) (from : Addr) (now : ℕ) (old new : List Contact) (secret : List ℕ) (signed : secret_at sites m.site m.key_id ≡ Some secret) (sets : SetsContact old new (contact_of m from)) where
@@ -98,7 +93,7 @@ module _ (sites : List SiteEntry) (m : Registration) (from : Addr) (now : ℕ) (
 
       by : (o : Option Holding) → last_of (holdings m from now) router eid ≡ o → option_or o (row_at rows router eid) ≡ Some h → IsHeard sites new router
       by None was at = still router (known router eid h at)
-      by (Some g) was at = here router (sym (own g was) ∙ its_router (origin_of m from now) (reverse m.records) (is_row_of router eid) g (ap (find (is_row_of router eid)) (turned (holding (origin_of m from now)) m.records) ∙ was))
+      by (Some g) was at = here router (sym (own g was) ∙ its_router m from now (reverse m.records) (is_row_of router eid) g (ap (find (is_row_of router eid)) (turned (holding m from now) m.records) ∙ was))
 
 -- what an accepted Map-Register, or a refused message, leaves
 pub known_after : {A : Type 0} (sites : List SiteEntry) (bytes : List ℕ) (m : Registration) (old new : Tables A) (before after : StoreState) (from : Addr) (now : ℕ) (r : Result (Took A) Refused) → IfOk r (λ took. Accepts (register_checked sites bytes m) (state_of sites old) (state_of sites new) before after from now took) → OnErr r (SameTables old new) → Knows sites old.rows.rows old.contacts.contacts → Knows sites new.rows.rows new.contacts.contacts

@@ -12,7 +12,8 @@ use Rattle.lisp_served.proofs.Halving as halving
 use Rattle.lisp_lookup.proofs.Apart.{found}
 use Rattle.lisp_lookup.proofs.Orders.{router_total, same_router}
 use Rattle.lisp_lookup.proofs.TableLaws.{found_holds, some_inj}
-use Rattle.lisp_server.specs.Notices.{Standing, gaps, elapsed, due_after, IsPrompt, PromptNotices, NoticesKeepTime, is_due, is_due_at, notice_at, is_notice_of, IsDueRouter}
+use Rattle.lisp_checks.specs.NoticeTimer.{gaps, elapsed, due_after, IsPrompt, PromptNotices}
+use Rattle.lisp_server.specs.Notices.{Standing, NoticesKeepTime, is_due, is_due_at, notice_at, is_notice_of, IsDueRouter}
 use Rattle.lisp_server.proofs.StandingLaws.{decides, notice_own, notice_held, one_for_each}
 
 -- of the notices that are due the first one is that of the least router

@@ -24,7 +24,7 @@ use Rattle.lisp_server.specs.declared.took.Took.{Took}
 use Rattle.lisp_server.specs.declared.took.Took.TheVariants.{Accepted, NoticeDone}
 use Rattle.lisp_checks.specs.Refused.{refused_of_read}
 use Rattle.lisp_checks.specs.Pairs.{router_of, pair_of}
-use Rattle.lisp_server.specs.AcceptedRows.{holdings}
+use Rattle.lisp_checks.specs.AcceptedRows.{holdings}
 use Rattle.lisp_lookup.specs.Table.{Sets}
 use Rattle.lisp_server.specs.LastNonces.{Nonces, nonce_at, SetsNonce}
 use Rattle.lisp_server.specs.Contacts.{SetsContact}
@@ -32,7 +32,8 @@ use Rattle.lisp_server.specs.Notices.{Standing, EndsNotice}
 use Rattle.lisp_server.specs.Server.{ServerState, SameTables, state_of}
 use Rattle.lisp_records.specs.Result.{◌>>=◌}
 use Rattle.lisp_checks.specs.Checks.{secret_under, check, refused_at, first_not_allowed}
-use Rattle.lisp_server.specs.Checks.{Passed, register_checked, Acknowledges, RefusesAck, notification_of, reply_of}
+use Rattle.lisp_checks.specs.Checks.{notification_of}
+use Rattle.lisp_server.specs.Checks.{Passed, register_checked, Acknowledges, RefusesAck, reply_of}
 use Rattle.lisp_checks.specs.Nonces.{IsFresh, KeepsLists, Unasked, HasCause, Stops, NotKept}
 use Rattle.lisp_server.specs.Receiving.{Accepts, Takes, OutOfRoom, RefusesRegister, RefusesRead, Refuses, SaveFailed}
 

@@ -18,7 +18,8 @@ use Rattle.lisp_served.specs.Order.{KeysRise, IsGap}
 use Rattle.lisp_served.proofs.Halving as halving
 use Rattle.lisp_served.proofs.Found.{not_true, nowhere, there, at_place, put_set, has_own, has_no_other}
 use Rattle.lisp_lookup.proofs.TableLaws.{found_holds, some_inj}
-use Rattle.lisp_server.specs.Notices.{Standing, is_notice_of, notice_at, OneForEach, SetsNotice, EndsNotice, awaits, Awaited, gaps, has_come, is_due, is_due_at, resent, Resends}
+use Rattle.lisp_checks.specs.NoticeTimer.{gaps, has_come}
+use Rattle.lisp_server.specs.Notices.{Standing, is_notice_of, notice_at, OneForEach, SetsNotice, EndsNotice, awaits, Awaited, is_due, is_due_at, resent, Resends}
 
 pub decides : (q : RouterId) (n : Standing) → Decides (is_notice_of q n) (n.router ≡ q)
 decides q n = router_eq-Decides n.router q

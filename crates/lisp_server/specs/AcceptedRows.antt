@@ -1,23 +1,13 @@
--- The rows that an accepted Map-Register sets: whose they are, and how long they live (RFC 9301 sections 5.6 and
--- 8.2).
-use Rattle.std.specs.Prelude.{ℕ, ◌*◌, ◌==◌, Bool, List, map, if◌then◌else◌}
+-- What all rows of a Map-Register have alike, and the row of one of its records.
+use Rattle.std.specs.Prelude.{ℕ}
 use Rattle.lisp_records.specs.declared.address.Addr.{Addr}
 use Rattle.lisp_records.specs.Record.{Mapping}
 use Rattle.lisp_records.specs.Row.{Holding}
 use Rattle.lisp_messages.specs.Message.{Registration}
-use Rattle.lisp_server.specs.declared.accepted_rows.Origin.{Origin}
+use Rattle.lisp_checks.specs.AcceptedRows.{life_of}
 use Rattle.lisp_checks.specs.Pairs.{router_of}
+use Rattle.lisp_server.specs.declared.accepted_rows.Origin.{Origin}
 
--- three minutes, in ms
-abbrev pub three_minutes : ℕ
-three_minutes = 180000
-
--- the life in ms: none where the TTL is 0; three minutes where it is 0xffffffff, or bit T is clear; else
--- the TTL, which counts minutes
-abbrev pub life_of : Bool → ℕ → ℕ
-life_of use_ttl ttl = if ttl == 0 then 0 else (if ttl == 0xffffffff then three_minutes else (if use_ttl then ttl * 60000 else three_minutes))
-
--- what all its records have alike
 abbrev pub origin_of : Registration → Addr → ℕ → Origin
 origin_of m from now = record {
   router = router_of m;
@@ -29,9 +19,8 @@ origin_of m from now = record {
   from = from;
 }
 
--- what is held of one of its records
-abbrev pub holding : Origin → Mapping → Holding
-holding o r = record {
+abbrev pub row_of : Origin → Mapping → Holding
+row_of o r = record {
   router = o.router;
   key = o.key;
   nonce = o.nonce;
@@ -41,7 +30,3 @@ holding o r = record {
   proxy = o.proxy;
   from = o.from;
 }
-
--- what is held of all of them
-abbrev pub holdings : Registration → Addr → ℕ → List Holding
-holdings m from now = map (holding (origin_of m from now)) m.records

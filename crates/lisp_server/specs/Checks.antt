@@ -3,12 +3,12 @@ use Rattle.std.specs.Prelude.{◌≡◌, ℕ, Bool, true, false, List, Option, S
 use Rattle.lisp_records.specs.Result.{◌>>=◌}
 use Rattle.lisp_messages.specs.Message.{Registration, Notification}
 use Rattle.lisp_records.specs.declared.address.Addr.{Addr}
-use Rattle.lisp_messages.specs.Authentic.{is_authentic, signed}
+use Rattle.lisp_messages.specs.Authentic.{signed}
 use Rattle.lisp_messages.specs.Written.{written_notify}
 use Rattle.lisp_served.specs.Site.{SiteEntry}
 use Rattle.lisp_checks.specs.declared.refused.Refused.{Refused}
 use Rattle.lisp_checks.specs.declared.refused.Refused.TheVariants.{BadAuth, NoNotice, NotMine}
-use Rattle.lisp_checks.specs.Checks.{secret_under, secret_at}
+use Rattle.lisp_checks.specs.Checks.{secret_under, secret_at, signed_by, notification_of}
 use Rattle.lisp_server.specs.Notices.{Standing, IsAwaiting, NoneAwaits}
 
 -- a Map-Register that passes all checks, with its secret
@@ -18,10 +18,6 @@ pub record Passed : Type 0 where
 
 abbrev pub register_checked : List SiteEntry → List ℕ → Registration → Result Passed Refused
 register_checked sites bytes m = secret_under sites bytes m >>= λ secret. Ok (record { message = m; secret = secret })
-
-abbrev pub signed_by : Option (List ℕ) → List ℕ → Bool
-signed_by None bytes = false
-signed_by (Some secret) bytes = is_authentic bytes secret
 
 -- the bytes are authentic under the secret of the site and key of an unsolicited Map-Notify (notice)
 abbrev pub answers_under : List SiteEntry → List ℕ → Standing → Bool
@@ -39,10 +35,6 @@ RefusesAck sites notices from bytes m NotMine = m.ack ≡ false
 RefusesAck sites notices from bytes m NoNotice = (m.ack ≡ true) × NoneAwaits notices from m.key_id m.nonce
 RefusesAck sites notices from bytes m BadAuth = (m.ack ≡ true) × (n : Standing) × IsAwaiting notices from m.key_id m.nonce n × (answers_under sites bytes n ≡ false)
 RefusesAck sites notices from bytes m _ = ⊥
-
--- the Map-Notify of a Map-Register has its nonce, Key ID and records (RFC 9301 section 5.7)
-abbrev pub notification_of : Registration → Notification
-notification_of m = record { ack = false; nonce = m.nonce; key_id = m.key_id; records = m.records }
 
 -- bit M asks for the Map-Notify
 abbrev pub reply_of : List ℕ → Registration → Option (List ℕ)

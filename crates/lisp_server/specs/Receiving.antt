@@ -15,13 +15,14 @@ use Rattle.lisp_server.specs.declared.took.Took.{Took}
 use Rattle.lisp_server.specs.declared.took.Took.TheVariants.{Accepted, NoticeDone}
 use Rattle.lisp_server.specs.declared.contacts.Contact.{Contact}
 use Rattle.lisp_checks.specs.Pairs.{router_of, pair_of}
-use Rattle.lisp_server.specs.AcceptedRows.{holdings}
+use Rattle.lisp_checks.specs.AcceptedRows.{holdings}
 use Rattle.lisp_lookup.specs.Table.{Sets}
 use Rattle.lisp_server.specs.LastNonces.{nonce_at, SetsNonce}
 use Rattle.lisp_server.specs.Contacts.{SetsContact}
 use Rattle.lisp_server.specs.Notices.{Standing, EndsNotice}
 use Rattle.lisp_server.specs.Server.{ServerState}
-use Rattle.lisp_server.specs.Checks.{Passed, register_checked, Acknowledges, RefusesAck, notification_of, reply_of}
+use Rattle.lisp_checks.specs.Checks.{notification_of}
+use Rattle.lisp_server.specs.Checks.{Passed, register_checked, Acknowledges, RefusesAck, reply_of}
 use Rattle.lisp_checks.specs.Nonces.{IsBase, IsBelow, IsFresh, KeepsLists, Unasked, HasCause}
 
 -- the nonce is above each value that may be its base

@@ -2,7 +2,8 @@
 
 ghost use Rattle.std.specs.Prelude.{◌≡◌, map, IfOk, OnErr};
 ghost use Rattle.lisp_checks.specs.Pairs.{router_of};
-ghost use Rattle.lisp_server.specs.AcceptedRows.{life_of, origin_of, holding, holdings};
+ghost use Rattle.lisp_checks.specs.AcceptedRows.{life_of, holdings};
+ghost use Rattle.lisp_server.specs.AcceptedRows.{origin_of, row_of};
 ghost use Rattle.lisp_server.specs.Checks.{reply_of};
 
 use crate::reply::reply;
@@ -48,7 +49,7 @@ impl Origin {
 
     // The row of one of the records.
     fn row<A: Allocator>(&self, mapping: MapRecord<A>) -> Row<A>
-        ensures { result ≡ holding self.now mapping }
+        ensures { result ≡ row_of self.now mapping }
     {
         Row {
             router: self.router,
@@ -67,7 +68,7 @@ impl Origin {
         alloc: A,
         records: Vec<MapRecord<A>, A>,
     ) -> Result<Vec<Row<A>, A>, AllocError>
-        ensures rows { IfOk result (λ rows. rows.items ≡ map (holding self.now) records.items) }
+        ensures rows { IfOk result (λ rows. rows.items ≡ map (row_of self.now) records.items) }
         ensures memory { OnErr result A.may_refuse }
     {
         let mut rows = Vec::new(alloc);

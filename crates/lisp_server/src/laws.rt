@@ -4,7 +4,8 @@
 ghost use Rattle.std.specs.Prelude.{IfOk, IsOk};
 ghost use Rattle.lisp_store.specs.Store.{Rose};
 ghost use Rattle.lisp_messages.specs.Reading.{message_at};
-ghost use Rattle.lisp_server.specs.Notices.{PromptNotices, NoticesKeepTime};
+ghost use Rattle.lisp_checks.specs.NoticeTimer.{PromptNotices};
+ghost use Rattle.lisp_server.specs.Notices.{NoticesKeepTime};
 ghost use Rattle.lisp_server.specs.Receiving.{IsAcceptable, Takes};
 
 use crate::server::Server;

@@ -19,7 +19,7 @@ use Rattle.lisp_store.specs.Pair.{pair_cmp}
 use Rattle.lisp_lookup.specs.Table.{row_at, is_row_of, if_alive, last_of as last_given, Sets}
 use Rattle.lisp_checks.specs.Pairs.{router_of, pair_of, notice_pair}
 use Rattle.lisp_server.specs.declared.contacts.Contact.{Contact}
-use Rattle.lisp_server.specs.AcceptedRows.{origin_of, holding, holdings}
+use Rattle.lisp_checks.specs.AcceptedRows.{holding, holdings}
 use Rattle.lisp_server.specs.Contacts.{contact_at, SetsContact}
 use Rattle.lisp_server.specs.LastNonces.{Nonces, nonce_at, SetsNonce}
 use Rattle.lisp_server.specs.Receiving.{contact_of}
@@ -62,14 +62,14 @@ module _ (m : Registration) (from : Addr) (now : ℕ) (since : List Acceptance) 
         ∙ held_more
 
     -- none of them is another router's
-    none_in : router_eq (router_of m) router ≡ false → (xs : List Mapping) → find (is_row_of router eid) (map (holding (origin_of m from now)) xs) ≡ None
+    none_in : router_eq (router_of m) router ≡ false → (xs : List Mapping) → find (is_row_of router eid) (map (holding m from now) xs) ≡ None
     none_in other [] = refl
-    none_in other (x ∷ xs) = ap (λ b. cond (b && block_eq x.eid eid) (Some (holding (origin_of m from now) x)) (find (is_row_of router eid) (map (holding (origin_of m from now)) xs))) other ∙ none_in other xs
+    none_in other (x ∷ xs) = ap (λ b. cond (b && block_eq x.eid eid) (Some (holding m from now x)) (find (is_row_of router eid) (map (holding m from now) xs))) other ∙ none_in other xs
 
     -- what is held of another router stays
     held_other : router_eq (router_of m) router ≡ false → held since router eid now ≡ held (one ∷ since) router eid now
     held_other other =
-        ap (λ (x : Option Holding). option_and_then (if_alive now) (option_or x (find (is_row_of router eid) (named since)))) (sym (ap (find (is_row_of router eid)) (sym (turned (holding (origin_of m from now)) m.records)) ∙ none_in other (reverse m.records)))
+        ap (λ (x : Option Holding). option_and_then (if_alive now) (option_or x (find (is_row_of router eid) (named since)))) (sym (ap (find (is_row_of router eid)) (sym (turned (holding m from now) m.records)) ∙ none_in other (reverse m.records)))
         ∙ held_more
 
     -- where routers were heard

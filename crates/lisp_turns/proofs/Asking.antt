@@ -13,7 +13,8 @@ use Rattle.lisp_lookup.specs.Answer.{Answers}
 use Rattle.lisp_lookup.specs.Table.{row_at, OneEach, IsHeld}
 use Rattle.lisp_etr.specs.Etr.{EtrState}
 use Rattle.lisp_etr.specs.declared.round.Round.{Round}
-use Rattle.lisp_server.specs.Notices.{Standing, notice_at, gaps, due_at, due_after, has_come, is_due_at, IsDueRouter}
+use Rattle.lisp_checks.specs.NoticeTimer.{gaps, due_after, has_come}
+use Rattle.lisp_server.specs.Notices.{Standing, notice_at, due_at, is_due_at, IsDueRouter}
 use Rattle.lisp_schedules.specs.Trace.{Step, Opening, router_at, clock}
 use Rattle.lisp_schedules.specs.Held.{named, rows}
 use Rattle.lisp_schedules.specs.Answer.{IsAnswer}

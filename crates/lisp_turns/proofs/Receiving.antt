@@ -20,7 +20,8 @@ use Rattle.lisp_checks.specs.declared.refused.Refused.TheVariants as refuseds
 use Rattle.lisp_checks.specs.Pairs.{router_of, pair_of, notice_pair}
 use Rattle.lisp_server.specs.declared.took.Took.{Took}
 use Rattle.lisp_server.specs.declared.took.Took.TheVariants.{Accepted, NoticeDone}
-use Rattle.lisp_server.specs.Checks.{register_checked, notification_of, reply_of, answers_under}
+use Rattle.lisp_checks.specs.Checks.{notification_of}
+use Rattle.lisp_server.specs.Checks.{register_checked, reply_of, answers_under}
 use Rattle.lisp_server.specs.Contacts.{contact_at}
 use Rattle.lisp_server.specs.LastNonces.{nonce_at}
 use Rattle.lisp_server.specs.Notices.{Standing, notice_at}

@@ -10,7 +10,8 @@ use Rattle.lisp_checks.specs.declared.notice_fault.NoticeFault.TheVariants as no
 use Rattle.lisp_checks.specs.Pairs.{notice_pair}
 use Rattle.lisp_server.specs.LastNonces.{nonce_at}
 use Rattle.lisp_server.specs.Server.{ServerState}
-use Rattle.lisp_server.specs.Notices.{Standing, notice_at, is_due_at, is_due as standing_due, due_after, gaps, has_come, resent, Resends, RefusesResend}
+use Rattle.lisp_checks.specs.NoticeTimer.{due_after, gaps, has_come}
+use Rattle.lisp_server.specs.Notices.{Standing, notice_at, is_due_at, is_due as standing_due, resent, Resends, RefusesResend}
 use Rattle.lisp_schedules.specs.declared.event.Event.TheVariants as events
 use Rattle.lisp_schedules.specs.declared.line.Line.{Line}
 use Rattle.lisp_schedules.specs.declared.line.Line.TheVariants as lines

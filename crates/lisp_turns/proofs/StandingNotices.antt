@@ -12,7 +12,8 @@ use Rattle.lisp_records.proofs.RouterLaws.{router_eq-Decides}
 use Rattle.lisp_served.specs.Site.{SiteEntry}
 use Rattle.lisp_messages.specs.Message.{Notification}
 use Rattle.lisp_checks.specs.Checks.{secret_at}
-use Rattle.lisp_server.specs.Checks.{signed_by, answers_under}
+use Rattle.lisp_checks.specs.Checks.{signed_by}
+use Rattle.lisp_server.specs.Checks.{answers_under}
 use Rattle.lisp_server.specs.Notices.{Standing, notice_at, awaits as waits_for, IsAwaiting, NoneAwaits, EndsNotice}
 use Rattle.lisp_schedules.specs.Trace.{Shown, Step, Opening}
 use Rattle.lisp_schedules.specs.Timers.{Notice, notices, notice_to, without}
