@@ -17,11 +17,11 @@ use Rattle.lisp_world.specs.Openings.{opening, lists_of, repeats}
 use Rattle.lisp_world.specs.Quiet.{AllHonest, AllCalm, IsCalm, stores_of, failures}
 use Rattle.lisp_schedules.specs.declared.world_fault.WorldFault.{WorldFault}
 use Rattle.lisp_script.specs.Order.{Order}
-use Rattle.lisp_inputs.specs.declared.fault.PlayFault.{PlayFault}
-use Rattle.lisp_inputs.specs.declared.fault.PlayFault.TheVariants as faults
-use Rattle.lisp_inputs.specs.Input.{most_bytes}
+use Rattle.lisp_streams.specs.declared.play_fault.PlayFault.{PlayFault}
+use Rattle.lisp_streams.specs.declared.play_fault.PlayFault.TheVariants as faults
+use Rattle.lisp_streams.specs.Input.{most_bytes}
 use Rattle.lisp_playing.specs.Playing.{Wrote, StopsAt}
-use Rattle.lisp_inputs.specs.Schedule.{schedule_of, IsFaulty}
+use Rattle.lisp_streams.specs.Schedule.{schedule_of, IsFaulty}
 use Rattle.lisp_player.specs.Schedule.{playable, asked_for, Refuses, IsEmpty, Begins, IsPlay, PlayedFrom, Played, Stopped}
 
 module _ (input : List ℕ) where

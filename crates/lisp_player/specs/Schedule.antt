@@ -14,10 +14,10 @@ use Rattle.lisp_world.specs.Quiet.{AllCalm, stores_of}
 use Rattle.lisp_schedules.specs.declared.world_fault.WorldFault.{WorldFault}
 use Rattle.lisp_script.specs.declared.fault.ScriptWhat.TheVariants.{Memory}
 use Rattle.lisp_script.specs.Order.{Order}
-use Rattle.lisp_inputs.specs.declared.fault.PlayFault.{PlayFault}
-use Rattle.lisp_inputs.specs.declared.fault.PlayFault.TheVariants as faults
-use Rattle.lisp_inputs.specs.Input.{most_bytes}
-use Rattle.lisp_inputs.specs.Schedule.{schedule_of}
+use Rattle.lisp_streams.specs.declared.play_fault.PlayFault.{PlayFault}
+use Rattle.lisp_streams.specs.declared.play_fault.PlayFault.TheVariants as faults
+use Rattle.lisp_streams.specs.Input.{most_bytes}
+use Rattle.lisp_streams.specs.Schedule.{schedule_of}
 use Rattle.lisp_playing.specs.Playing.{Plays, FailsAsAsked}
 
 -- a network can be made of a schedule: no two nodes are alike

@@ -8,9 +8,9 @@ ghost use Rattle.lisp_world.specs.Openings.{repeats};
 ghost use Rattle.lisp_schedules.specs.declared.world_fault.WorldFault.{WorldFault};
 ghost use Rattle.lisp_script.specs.Order.{order};
 ghost use Rattle.lisp_player.specs.Schedule.{Refuses, IsSilent, Begins, PlayedFrom, Played, Stopped};
-ghost use Rattle.lisp_inputs.specs.declared.fault.PlayFault.TheVariants as faults;
+ghost use Rattle.lisp_streams.specs.declared.play_fault.PlayFault.TheVariants as faults;
 
-use lisp_inputs::{read_schedule, read_to_end};
+use lisp_streams::{read_schedule, read_to_end};
 use lisp_memory::{FallibleVec, Memory};
 use lisp_playing::{Command, PlayFault, play_on};
 use lisp_sites::Config;

@@ -3,11 +3,8 @@
 
 mod asked;
 mod command;
-mod event_line;
-mod output;
 mod playing;
 
-pub use event_line::write_line;
-pub use lisp_inputs::PlayFault;
 pub use lisp_script::{Command, ScriptFault, ScriptWhat};
+pub use lisp_streams::{PlayFault, write_line};
 pub use playing::play_on;

@@ -4,15 +4,14 @@ ghost use Rattle.std.specs.Prelude.{◌≡◌, ◌⊎◌, ℕ, List, map, OnOk, 
 ghost use Rattle.std.specs.Io.KnownBytes.{Keeps};
 ghost use Rattle.lisp_script.specs.Order.{order};
 ghost use Rattle.lisp_playing.specs.Playing.{Turns, Loses, WroteOne, Wrote, StopsAt, Breaks};
-ghost use Rattle.lisp_inputs.specs.declared.fault.PlayFault.TheVariants as faults;
+ghost use Rattle.lisp_streams.specs.declared.play_fault.PlayFault.TheVariants as faults;
 
 use crate::command::command_text;
-use crate::output::write_text;
-use lisp_inputs::PlayFault;
 use lisp_memory::Memory;
 use lisp_script::Command;
 use lisp_sites::Config;
 use lisp_store::WorldStore;
+use lisp_streams::{PlayFault, write_text};
 use lisp_world::World;
 use std::alloc::Allocator;
 use std::io::Write;

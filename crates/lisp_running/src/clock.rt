@@ -3,8 +3,8 @@
 ghost use Rattle.std.specs.Prelude.{◌≤◌};
 ghost use Rattle.lisp_records.specs.Moment.{max_moment};
 
-use crate::fault::RunFault;
 use lisp_records::MAX_MOMENT;
+use lisp_streams::RunFault;
 use std::time::{Clock, Instant};
 
 /// Milliseconds since the program's start.

@@ -1,8 +1,8 @@
 //! The UDP socket of a node.
 
-use crate::fault::RunFault;
 use crate::output::{Call, print_failed};
 use lisp_records::Addr;
+use lisp_streams::RunFault;
 use std::io::{ErrorKind, Write};
 use std::net::{IpAddr, Ipv4Addr, Ipv6Addr, Net, SocketAddr, UdpSocket};
 use std::time::Duration;
@@ -13,23 +13,20 @@ const PORT: u16 = 4342;
 /// How long a turn of a node waits for a datagram, in ms.
 pub(crate) const TURN: u64 = 100;
 
-/// How long a delivery waits for its datagram, in ms.
-pub(crate) const DELIVERY: u64 = 1_000;
-
 /// The most bytes of a datagram.
-pub(crate) const MOST_BYTES: usize = 65_535;
+pub const MOST_BYTES: usize = 65_535;
 
 /// A socket at a node's address, and the node's name and address.
 #[derive(Drop)]
-pub(crate) struct Endpoint<'a> {
-    pub(crate) name: &'a str,
-    pub(crate) address: &'a Addr,
+pub struct Endpoint<'a> {
+    pub name: &'a str,
+    pub address: &'a Addr,
     socket: UdpSocket,
 }
 
 /// What came of waiting for a datagram.
 #[derive(Drop)]
-pub(crate) enum Received<'b> {
+pub enum Received<'b> {
     /// A datagram, and the address that it comes from.
     Datagram { from: Addr, bytes: &'b [u8] },
     /// None came in time.
@@ -40,7 +37,7 @@ pub(crate) enum Received<'b> {
 
 impl<'a> Endpoint<'a> {
     /// A socket at the address, UDP port 4342, which waits so long for a datagram, in ms. Fault: 92.
-    pub(crate) fn bind<R: Net>(
+    pub fn bind<R: Net>(
         rt: &R,
         name: &'a str,
         address: &'a Addr,
@@ -60,7 +57,7 @@ impl<'a> Endpoint<'a> {
     }
 
     /// The next datagram, taken into `buffer`.
-    pub(crate) fn receive<'b>(&self, buffer: &'b mut [u8]) -> Received<'b> {
+    pub fn receive<'b>(&self, buffer: &'b mut [u8]) -> Received<'b> {
         match self.socket.recv_from(buffer) {
             Ok((count, from)) => Received::Datagram {
                 from: address_of(&from),
@@ -76,7 +73,7 @@ impl<'a> Endpoint<'a> {
     }
 
     /// Sends a message to an address, UDP port 4342; prints that the socket failed, where it did. Fault: 88.
-    pub(crate) fn send<W: Write>(
+    pub fn send<W: Write>(
         &self,
         to: &Addr,
         message: &[u8],

@@ -1,20 +1,20 @@
 //! The folders in which nodes keep their nonces.
 
-use crate::fault::RunFault;
 use lisp_memory::FallibleString;
 use lisp_store::FileStore;
+use lisp_streams::RunFault;
 use std::fs::{self, File, Files};
 use std::io::ErrorKind;
 
 /// A store of nonces in a node's folder, and the lock that keeps other processes out of it while this value lives.
 #[derive(Drop)]
-pub(crate) struct Folder<R> {
-    pub(crate) store: FileStore<R>,
-    pub(crate) lock: File,
+pub struct Folder<R> {
+    pub store: FileStore<R>,
+    pub lock: File,
 }
 
 /// The folder `dir`/`name`, made where it isn't there. Fault: 93 where it can't be made, or where another process has it.
-pub(crate) fn open_folder<R: Files<File = File> + AllocGlobal + Clone + Drop>(
+pub fn open_folder<R: Files<File = File> + AllocGlobal + Clone + Drop>(
     rt: &R,
     dir: &str,
     name: &str,

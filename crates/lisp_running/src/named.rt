@@ -2,29 +2,29 @@
 
 ghost use Rattle.std.specs.Prelude.{◌≡◌, ◌<◌, ◌+◌, IfOk, IfSome, length};
 
-use crate::fault::RunFault;
 use lisp_records::Addr;
+use lisp_schedules::WorldFault;
 use lisp_sites::Config;
-use lisp_world::WorldFault;
+use lisp_streams::RunFault;
 
 /// A node, as its socket and its folder see it.
 #[derive(Clone, Copy)]
-pub(crate) struct Entry<'a> {
-    pub(crate) name: &'a str,
-    pub(crate) address: &'a Addr,
+pub struct Entry<'a> {
+    pub name: &'a str,
+    pub address: &'a Addr,
     /// The numbers of the Map-Servers that a router registers with; none of a Map-Server.
-    pub(crate) servers: &'a [usize],
+    pub servers: &'a [usize],
 }
 
 /// How many nodes there are.
-pub(crate) fn node_count(config: &Config) -> usize
+pub fn node_count(config: &Config) -> usize
     ensures { result ≡ length config.now.servers + length config.now.routers }
 {
     config.servers().len() + config.routers().len()
 }
 
 /// The node with a number: Map-Servers first, then routers.
-pub(crate) fn entry_at(config: &Config, number: usize) -> Entry<'_>
+pub fn entry_at(config: &Config, number: usize) -> Entry<'_>
     requires { number < length config.now.servers + length config.now.routers }
 {
     let servers = config.servers();

@@ -3,19 +3,18 @@
 ghost use Rattle.std.specs.Prelude.{◌<◌, ◌≤◌, ◌+◌, length};
 ghost use Rattle.lisp_records.specs.Moment.{max_moment};
 
-use crate::fault::RunFault;
 use crate::folder::{Folder, open_folder};
 use crate::named::{Kind, number_named};
 use crate::router::start_router;
 use crate::server::start_server;
 use crate::station::Station;
 use crate::turns::take_turns;
-use lisp_inputs::read_config;
 use lisp_nodes::Arrival;
 use lisp_records::Bytes;
 use lisp_schedules::Line;
 use lisp_sites::Config;
 use lisp_store::WorldStore;
+use lisp_streams::{RunFault, read_config};
 use std::fs::{File, Files};
 use std::io::Write;
 use std::net::Net;

@@ -1,11 +1,11 @@
 //! What is printed: each line at once, so that a pipe sees it.
 
-use crate::fault::RunFault;
+use lisp_streams::RunFault;
 use std::io::Write;
 
 /// A call of a socket.
 #[derive(Clone, Copy)]
-pub(crate) enum Call {
+pub enum Call {
     Receive,
     Send,
 }
@@ -20,16 +20,8 @@ impl Call {
     }
 }
 
-/// Prints that a datagram didn't arrive. Fault: 88.
-pub(crate) fn print_lost<W: Write>(datagram: usize, writer: &mut W) -> Result<(), RunFault> {
-    match writeln!(writer, "lost {datagram}") {
-        Ok(()) => flush(writer),
-        Err(_) => Err(RunFault::WRITE),
-    }
-}
-
 /// Prints that a call of a node's socket failed. Fault: 88.
-pub(crate) fn print_failed<W: Write>(
+pub fn print_failed<W: Write>(
     name: &str,
     call: Call,
     writer: &mut W,
@@ -42,7 +34,7 @@ pub(crate) fn print_failed<W: Write>(
 }
 
 /// What was printed goes out. Fault: 88.
-pub(crate) fn flush<W: Write>(writer: &mut W) -> Result<(), RunFault> {
+pub fn flush<W: Write>(writer: &mut W) -> Result<(), RunFault> {
     match writer.flush() {
         Ok(()) => Ok(()),
         Err(_) => Err(RunFault::WRITE),

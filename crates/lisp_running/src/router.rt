@@ -4,7 +4,6 @@ ghost use Rattle.std.specs.Prelude.{◌≡◌, ◌<◌, ◌≤◌, ◌+◌, ◌^
 ghost use Rattle.lisp_messages.specs.Head.{head_at};
 ghost use Rattle.lisp_records.specs.Moment.{max_moment};
 
-use crate::fault::RunFault;
 use crate::named::Kind;
 use crate::node::{Node, run};
 use crate::station::Station;
@@ -15,6 +14,7 @@ use lisp_records::Bytes;
 use lisp_schedules::{Line, Refusal};
 use lisp_sites::Config;
 use lisp_store::{Fate, WorldStore};
+use lisp_streams::RunFault;
 use lisp_world::router_node;
 use std::alloc::Global;
 use std::fs::{File, Files};

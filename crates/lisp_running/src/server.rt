@@ -3,7 +3,6 @@
 ghost use Rattle.std.specs.Prelude.{◌≤◌};
 ghost use Rattle.lisp_records.specs.Moment.{max_moment};
 
-use crate::fault::RunFault;
 use crate::named::Kind;
 use crate::node::{Node, run};
 use crate::station::Station;
@@ -12,6 +11,7 @@ use lisp_records::{Bytes, RouterId};
 use lisp_schedules::{Line, Refusal};
 use lisp_sites::Config;
 use lisp_store::WorldStore;
+use lisp_streams::RunFault;
 use std::alloc::Global;
 use std::fs::{File, Files};
 use std::io::Write;

@@ -3,13 +3,12 @@
 ghost use Rattle.std.specs.Prelude.{◌<◌, ◌+◌, length};
 
 use crate::endpoint::{Endpoint, TURN};
-use crate::fault::RunFault;
 use crate::named::{Entry, entry_at};
 use crate::output::flush;
-use lisp_playing::write_line;
 use lisp_records::{Addr, Bytes, RouterId};
 use lisp_schedules::{Line, Refusal};
 use lisp_sites::Config;
+use lisp_streams::{RunFault, write_line};
 use std::alloc::Global;
 use std::io::Write;
 use std::net::Net;

@@ -2,13 +2,13 @@
 
 use crate::clock::Stopwatch;
 use crate::endpoint::{MOST_BYTES, Received};
-use crate::fault::RunFault;
 use crate::node::Node;
 use crate::output::{Call, print_failed};
 use crate::station::Station;
 use lisp_nodes::Arrival;
 use lisp_records::Addr;
 use lisp_store::Fate;
+use lisp_streams::RunFault;
 use std::io::Write;
 use std::time::Clock;
 

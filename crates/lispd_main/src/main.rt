@@ -1,17 +1,12 @@
 //! The program `lispd`: reads its words, runs the subcommand, and reports a fault on standard error.
 #![tactic(auto)]
 
-mod argument;
-mod command_line;
-mod help;
-mod report;
 mod subcommands;
 
-use crate::command_line::command;
-use crate::report::report;
-use crate::subcommands::run_subcommand;
 use clap::error::ErrorKind as WordsErrorKind;
+use crate::subcommands::run_subcommand;
 use lispd::{AnswerFault, ProgramFault, SetupFault};
+use lispd_words::{command, report};
 use std::env;
 use std::fs::File;
 use std::io::{self, ErrorKind, IsTerminal};

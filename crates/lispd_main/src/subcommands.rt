@@ -1,14 +1,13 @@
 //! What each subcommand runs.
 
-use crate::command_line::{CONFIG, FILE, NAME, NUMBER, STORE, TURNS};
-use crate::report::InWords;
 use clap::ArgMatches;
-use lisp_player::{PlayFault, play};
+use lisp_player::play;
 use lisp_texts::number_from_text;
 use lispd::{
-    AnswerSetup, ExplainFault, InputFault, ProgramFault, answer, check_config, explain,
+    AnswerSetup, ExplainFault, InputFault, PlayFault, ProgramFault, answer, check_config, explain,
     explain_all, keep_router_running, keep_server_running, run_loop, run_router, run_server, setup,
 };
+use lispd_words::{CONFIG, FILE, InWords, NAME, NUMBER, STORE, TURNS};
 use std::alloc::Global;
 use std::fmt::Display;
 use std::fs::{self, File};

@@ -1,0 +1,35 @@
+//! A schedule: a configuration and a script, parted by a line `---`.
+
+ghost use Rattle.std.specs.Prelude.{◌≡◌, map, Ok, IfOk, IfErr};
+ghost use Rattle.lisp_script.specs.Order.{order};
+ghost use Rattle.lisp_streams.specs.Schedule.{schedule_of, IsFaulty};
+
+use crate::parts::parted;
+use crate::play_fault::PlayFault;
+use lisp_memory::Memory;
+use lisp_script::{Command, parse_script};
+use lisp_sites::Config;
+use std::alloc::Global;
+use std::str;
+
+/// The configuration and the commands of an input, a schedule. `heap` serves the reading of TOML alone.
+///
+/// Faults, in this order: `NotUtf8`, `NoScript` where no line is `---`, `Config` and `Script`.
+pub fn read_schedule<A: Memory + Copy>(
+    heap: Global,
+    alloc: A,
+    input: &[u8],
+) -> Result<(Config<A>, Vec<Command<A>, A>), PlayFault>
+    ensures schedule { IfOk result (λ s. schedule_of input.now ≡ Ok (s.0, map order s.1.items)) }
+    ensures faults { IfErr result (λ fault. IsFaulty input.now fault) }
+{
+    let Ok(text) = str::from_utf8(input) else {
+        return Err(PlayFault::NotUtf8);
+    };
+    let Some((configuration, script)) = parted(text) else {
+        return Err(PlayFault::NoScript);
+    };
+    let config = Config::from_toml(heap, alloc, configuration)?;
+    let commands = parse_script(alloc, &config, script)?;
+    Ok((config, commands))
+}

@@ -1,0 +1,180 @@
+//! The words of the program.
+
+use crate::argument::Argument;
+use crate::help::{
+    ANSWER_ABOUT, ANSWER_EXAMPLE, CHECK_ABOUT, EXPLAIN_ABOUT, LOOP_ABOUT, LOOP_FORM, NODE_RUNS,
+    PLAY_ABOUT, PLAY_FORM, ROUTER_ABOUT, SERVER_ABOUT,
+};
+use crate::option::AnswerOption;
+use clap::{Arg, Command};
+use std::alloc::{AllocError, Global};
+
+/// The argument of `play` and `loop`.
+pub const FILE: &str = "FILE";
+
+/// The configuration of `server`, `router`, `loop` and `check`.
+pub const CONFIG: &str = "CONFIG";
+
+/// The name of a node.
+pub const NAME: &str = "NAME";
+
+/// The number of `explain`.
+pub const NUMBER: &str = "N";
+
+/// The option for the folder of the nonces.
+pub const STORE: &str = "store";
+
+/// The option for the number of turns.
+pub const TURNS: &str = "turns";
+
+/// A subcommand: what it does, what stands below its help, and its arguments.
+struct Subcommand {
+    name: &'static str,
+    about: &'static str,
+    after_help: Option<&'static str>,
+    arguments: &'static [Argument],
+}
+
+/// The subcommands, in the order of the help.
+static SUBCOMMANDS: [Subcommand; 7] = [
+    Subcommand {
+        name: "answer",
+        about: ANSWER_ABOUT,
+        after_help: Some(ANSWER_EXAMPLE),
+        arguments: &[
+            Argument::Answer(AnswerOption::Site, "H"),
+            Argument::Answer(AnswerOption::Key, "N"),
+            Argument::Answer(AnswerOption::Secret, "H"),
+            Argument::Answer(AnswerOption::Prefix, "P"),
+            Argument::Switch {
+                name: "more-specifics",
+                help: "Allow EID-Prefixes inside that prefix too (more-specifics)",
+            },
+        ],
+    },
+    Subcommand {
+        name: "play",
+        about: PLAY_ABOUT,
+        after_help: Some(PLAY_FORM),
+        arguments: &[Argument::Word {
+            name: FILE,
+            is_required: true,
+            help: "The schedule; `-` for standard input",
+        }],
+    },
+    Subcommand {
+        name: "server",
+        about: SERVER_ABOUT,
+        after_help: Some(NODE_RUNS),
+        arguments: NODE_ARGUMENTS,
+    },
+    Subcommand {
+        name: "router",
+        about: ROUTER_ABOUT,
+        after_help: Some(NODE_RUNS),
+        arguments: NODE_ARGUMENTS,
+    },
+    Subcommand {
+        name: "loop",
+        about: LOOP_ABOUT,
+        after_help: Some(LOOP_FORM),
+        arguments: &[
+            CONFIG_ARGUMENT,
+            Argument::Word {
+                name: FILE,
+                is_required: true,
+                help: "The script",
+            },
+            STORE_ARGUMENT,
+        ],
+    },
+    Subcommand {
+        name: "check",
+        about: CHECK_ABOUT,
+        after_help: None,
+        arguments: &[CONFIG_ARGUMENT],
+    },
+    Subcommand {
+        name: "explain",
+        about: EXPLAIN_ABOUT,
+        after_help: None,
+        arguments: &[Argument::Word {
+            name: NUMBER,
+            is_required: false,
+            help: "The number, such as 57",
+        }],
+    },
+];
+
+/// The arguments of `server` and `router`.
+const NODE_ARGUMENTS: &[Argument] = &[
+    CONFIG_ARGUMENT,
+    Argument::Word {
+        name: NAME,
+        is_required: true,
+        help: "The node's name there",
+    },
+    STORE_ARGUMENT,
+    Argument::Value {
+        name: TURNS,
+        letters: "N",
+        is_required: false,
+        help: "How many turns it takes, each of which waits at most 100 ms for a datagram, from 0 to 4294967295; left out, it \
+runs until it is killed",
+    },
+];
+
+const CONFIG_ARGUMENT: Argument = Argument::Word {
+    name: CONFIG,
+    is_required: true,
+    help: "The configuration, TOML",
+};
+
+const STORE_ARGUMENT: Argument = Argument::Value {
+    name: STORE,
+    letters: "DIR",
+    is_required: true,
+    help: "The folder of the nonces, made if it isn't there; each node has a folder of its name in it",
+};
+
+/// The words that the program takes. With no words it is `answer` with its defaults.
+pub fn command<'a>(alloc: Global) -> Result<Command<'a>, AllocError> {
+    let subcommands = all_subcommands(alloc)?;
+    Command::new(alloc, "lispd")
+        .version("0.1.0")
+        .about("Map-Server registration of LISP (RFC 9301); with no words, `answer`")
+        .subcommands(subcommands)
+}
+
+fn all_subcommands<'a>(alloc: Global) -> Result<Vec<Command<'a>>, AllocError> {
+    let mut commands = Vec::new(alloc);
+    for subcommand in subcommands() {
+        commands.push(subcommand.to_command(alloc)?)?;
+    }
+    Ok(commands)
+}
+
+// A function of its own, since `all_subcommands` would be proved over all that the table holds.
+fn subcommands() -> &'static [Subcommand] {
+    &SUBCOMMANDS
+}
+
+impl Subcommand {
+    fn to_command<'a>(&self, alloc: Global) -> Result<Command<'a>, AllocError> {
+        let arguments = self.to_args(alloc)?;
+        let command = Command::new(alloc, self.name).about(self.about);
+        let command = match self.after_help {
+            Some(text) => command.after_help(text),
+            None => command,
+        };
+        command.args(arguments)
+    }
+
+    fn to_args<'a>(&self, alloc: Global) -> Result<Vec<Arg<'a>>, AllocError> {
+        let mut args = Vec::new(alloc);
+        for argument in self.arguments {
+            args.push(argument.to_arg(alloc))?;
+        }
+        Ok(args)
+    }
+}
