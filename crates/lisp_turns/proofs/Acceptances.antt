@@ -23,7 +23,7 @@ use Rattle.lisp_checks.specs.AcceptedRows.{holding, holdings}
 use Rattle.lisp_server.specs.Contacts.{contact_at, SetsContact}
 use Rattle.lisp_server.specs.LastNonces.{Nonces, nonce_at, SetsNonce}
 use Rattle.lisp_server.specs.Receiving.{contact_of}
-use Rattle.lisp_server.proofs.KnownLaws.{turned}
+use Rattle.lisp_checks.proofs.Turned.{turned}
 use Rattle.lisp_schedules.specs.Held.{Acceptance, is_of_pair, last_of, heard_last, named, held}
 use Rattle.lisp_schedules.proofs.KeptLemmas.{pair_itself, pair_same}
 
