@@ -1,5 +1,5 @@
-//! The words of the program `lispd`: its subcommands with their arguments and help, the options of `answer`, and what is
-//! reported of a fault that ends it.
+//! The words of the program `lispd`: its subcommands with their arguments and help, the options of `answer`, what is reported
+//! of a fault that ends it; and the subcommands that need no network.
 #![tactic(auto)]
 
 mod argument;
@@ -9,10 +9,14 @@ mod help;
 mod option;
 mod options;
 mod remedy;
-mod report;
+mod reporting;
+mod subcommands;
+mod words;
 
 pub use command_line::{CONFIG, FILE, NAME, NUMBER, STORE, TURNS, command};
 pub use fault::{ProgramFault, SetupFault};
 pub use option::AnswerOption;
 pub use options::setup;
-pub use report::{InWords, report};
+pub use reporting::{InWords, report};
+pub use subcommands::{check, explain_number, run_answer};
+pub use words::{NodeWords, node_words, word};
