@@ -10,11 +10,11 @@ ghost use Rattle.lisp_script.specs.Order.{order};
 ghost use Rattle.lisp_player.specs.Schedule.{Refuses, IsSilent, Begins, PlayedFrom, Played, Stopped};
 ghost use Rattle.lisp_streams.specs.declared.play_fault.PlayFault.TheVariants as faults;
 
-use lisp_streams::{read_schedule, read_to_end};
 use lisp_memory::{FallibleVec, Memory};
 use lisp_playing::{Command, PlayFault, play_on};
 use lisp_sites::Config;
 use lisp_store::MemoryStore;
+use lisp_streams::{read_schedule, read_to_end};
 use lisp_world::World;
 use std::alloc::{AllocError, Allocator, Global};
 use std::io::{Read, Write};

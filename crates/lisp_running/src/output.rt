@@ -21,11 +21,7 @@ impl Call {
 }
 
 /// Prints that a call of a node's socket failed. Fault: 88.
-pub fn print_failed<W: Write>(
-    name: &str,
-    call: Call,
-    writer: &mut W,
-) -> Result<(), RunFault> {
+pub fn print_failed<W: Write>(name: &str, call: Call, writer: &mut W) -> Result<(), RunFault> {
     let number = call.number();
     match writeln!(writer, "refused {name} {number}") {
         Ok(()) => flush(writer),

@@ -3,8 +3,8 @@
 
 mod subcommands;
 
-use clap::error::ErrorKind as WordsErrorKind;
 use crate::subcommands::run_subcommand;
+use clap::error::ErrorKind as WordsErrorKind;
 use lispd::{AnswerFault, ProgramFault, SetupFault};
 use lispd_words::{command, report};
 use std::env;

@@ -68,7 +68,10 @@ fn print_placed<R: Print, D: Display + Drop>(rt: &R, place: D, fault: &ProgramFa
 }
 
 /// `explain`: explains a number; with none, all of them.
-pub fn explain_number<W: Write>(words: &ArgMatches<'_>, writer: &mut W) -> Result<(), ProgramFault> {
+pub fn explain_number<W: Write>(
+    words: &ArgMatches<'_>,
+    writer: &mut W,
+) -> Result<(), ProgramFault> {
     let explained = match words.get_str(NUMBER) {
         Some(text) => match number_from_text(text).map(u16::try_from) {
             Some(Ok(number)) => explain(number, writer),
