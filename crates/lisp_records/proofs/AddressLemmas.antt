@@ -1,11 +1,12 @@
 -- Clearing the bits of an address past a mask: twice is once, and it keeps family and length.
-use Rattle.std.proofs.Common.{◌≡◌, ℕ, ◌+◌, ◌-◌, ◌*◌, ◌/◌, ◌^◌, ◌<◌, ◌≤◌, List, [], ◌∷◌, length, min, refl, sym, ap, ◌∙◌, arith}
+use Rattle.std.proofs.Common.{◌≡◌, ℕ, ◌+◌, ◌-◌, ◌*◌, ◌/◌, ◌^◌, ◌<◌, ◌≤◌, List, [], ◌∷◌, length, min, refl, sym, ap, subst, ◌∙◌, arith}
 use Rattle.std.proofs.Math.Nat.{div-div-eq-div-mul}
 use Rattle.std.specs.List.{AllByRecursion}
 use Rattle.std.proofs.lemmas.Nat.{shl-shr, shr_split, pow-add}
 use Rattle.lisp_records.specs.declared.address.Addr.{Addr}
 use Rattle.lisp_records.specs.declared.address.Addr.TheVariants.{V4, V6}
-use Rattle.lisp_records.specs.Address.{family, IsWhole, max_len, high_bits, masked, cleared, Block, IsBlock, Covers, Holds}
+use Rattle.lisp_records.specs.declared.address.Family.{Family}
+use Rattle.lisp_records.specs.Address.{width, family, IsWhole, max_len, high_bits, masked, cleared, Block, IsBlock, Covers, Holds}
 
 -- clearing a byte's last bits twice is clearing them once
 pub high_bits-again : (byte k : ℕ) → high_bits (high_bits byte k) k ≡ high_bits byte k
@@ -36,6 +37,10 @@ family-cleared (V6 bytes) n = refl
 -- a byte with bits cleared is no greater
 high_bits-le : (byte k : ℕ) → high_bits byte k ≤ byte
 high_bits-le byte k = omega (arith, shr_split byte (8 - k))
+
+-- a mask that fits a cleared address fits the address
+pub fits-cleared : (a : Addr) (n : ℕ) → n ≤ max_len (cleared a n) → n ≤ max_len a
+fits-cleared a n fits = subst (λ (f : Family). n ≤ 8 * width f) (family-cleared a n) fits
 
 -- bytes with bits cleared are bytes
 pub masked-bytes : (bytes : List ℕ) (n : ℕ) → AllByRecursion (λ b. b < 256) bytes → AllByRecursion (λ b. b < 256) (masked bytes n)

@@ -1,6 +1,7 @@
 pub mod AddressLemmas
 pub mod DatabaseLaws
 pub mod DatabaseLemmas
+pub mod Faults
 pub mod Fields
 pub mod FitLaws
 pub mod Grown

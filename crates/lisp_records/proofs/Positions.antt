@@ -1,14 +1,18 @@
 -- Where a record ends among the bytes that it was read from.
-use Rattle.std.proofs.Common.{◌≡◌, ℕ, ◌+◌, ◌-◌, ◌≤◌, List, ◌++◌, length, drop, Result, Ok, Err, refl, sym, ap, ◌∙◌, arith}
-use Rattle.std.specs.Prelude.{IfOk, slice_range}
+use Rattle.std.proofs.Common.{◌≡◌, ℕ, ◌+◌, ◌-◌, ◌≤◌, List, ◌++◌, length, drop, Result, Ok, Err, refl, sym, ap, subst, ◌∙◌, arith}
+use Rattle.std.specs.Prelude.{IfOk, slice_index, slice_range}
 use Rattle.std.proofs.lemmas.List.{take_at, drop_at, drop-drop, length-append, length-drop, get_or-drop}
+use Rattle.lisp_records.specs.declared.address.Addr.{Addr}
 use Rattle.lisp_records.specs.declared.fault.RecordFault.{RecordFault}
-use Rattle.lisp_records.specs.Record.{Mapping}
+use Rattle.lisp_records.specs.declared.locator.Locator.{Locator}
+use Rattle.lisp_records.specs.Record.{Mapping, IsMapping}
 use Rattle.lisp_records.specs.Spelling.{IsBytes, Spells}
-use Rattle.lisp_records.specs.Reading.{Gives, record_at}
-use Rattle.lisp_records.proofs.Fields.{done, ok_is}
+use Rattle.lisp_records.specs.Reading.{Gives, locators_at, mapping_of, start_at, record_at}
+use Rattle.lisp_records.proofs.Fields.{IsBytes-first, done, ok_is}
+use Rattle.lisp_records.proofs.FitLaws.{record_fits}
 use Rattle.lisp_records.proofs.Loop.{Fails-passed}
 use Rattle.lisp_records.proofs.RecordLaws.{record_takes, record_again}
+use Rattle.lisp_records.proofs.Steps.{record_is}
 
 -- a text that stands at a place is the range from there to its end
 pub slice_range-text : (bytes text rest : List ℕ) (at : ℕ) → drop at bytes ≡ text ++ rest → slice_range bytes at (at + length text) ≡ text
@@ -26,10 +30,13 @@ pub record IsReadFrom (bytes : List ℕ) (at : ℕ) (m : Mapping) (rest : List �
   pub from : at ≤ length bytes - length rest
   pub behind : drop (length bytes - length rest) bytes ≡ rest
   pub text : Spells (slice_range bytes at (length bytes - length rest)) m
+  pub read : record_at (drop at bytes) ≡ Ok (m, rest)
+  pub fits : IsMapping m
 
-pub record_is_read : (bytes : List ℕ) (at : ℕ) (m : Mapping) (rest : List ℕ) → at ≤ length bytes → IsBytes bytes → record_at (drop at bytes) ≡ Ok (m, rest) → IsReadFrom bytes at m rest
+record_is_read : (bytes : List ℕ) (at : ℕ) (m : Mapping) (rest : List ℕ) → at ≤ length bytes → IsBytes bytes → record_at (drop at bytes) ≡ Ok (m, rest) → IsReadFrom bytes at m rest
 record_is_read bytes at m rest le fits e =
-    let t = record_takes (drop at bytes) (m, rest) (λ i. rw get_or-drop (fits (at + i))) e in
+    let behind_at : IsBytes (drop at bytes) = λ i. rw get_or-drop (fits (at + i)) in
+    let t = record_takes (drop at bytes) (m, rest) behind_at e in
     let sizes : length bytes - at ≡ length t.text + length rest = sym (length-drop at bytes) ∙ ap length t.parts ∙ length-append t.text rest in
     let ends : length bytes - length rest ≡ at + length t.text = omega arith in
     record {
@@ -37,7 +44,15 @@ record_is_read bytes at m rest le fits e =
       from = omega arith;
       behind = rw ends (drop-text bytes t.text rest at t.parts);
       text = rw (ends, slice_range-text bytes t.text rest at t.parts) t.kind;
+      read = e;
+      fits = record_fits t.text m (IsBytes-first t.text rest (subst IsBytes t.parts behind_at)) t.kind;
     }
+
+-- the same, where its start was read and then its locators
+pub parts_are_read : (bytes text rest behind : List ℕ) (at : ℕ) (a : Addr) (ls : List Locator) → at ≤ length bytes → IsBytes bytes → text ≡ drop at bytes → start_at text ≡ Ok (a, rest)
+    → locators_at (slice_index text 4) rest ≡ Ok (ls, behind) → IsReadFrom bytes at (mapping_of text a ls) behind
+parts_are_read bytes text rest behind at a ls le fits there started taken =
+    record_is_read bytes at (mapping_of text a ls) behind le fits (sym (ap record_at there) ∙ record_is text rest behind a ls started taken)
 
 -- a record and the place behind it, as they are answered
 abbrev pub Answered : Type 0

@@ -35,6 +35,18 @@ locator_is bytes rest f a long named taken =
     let all = take_all (length bytes - 8) (drop 8 bytes) (omega (arith, length-drop 8 bytes)) in
     rw (after_is 8 bytes long, named, ← all, taken) refl
 
+-- its family is not named
+pub locator_unnamed : (bytes : List ℕ) (e : RecordFault) → 8 ≤ length bytes → family_of (number_at bytes 6) ≡ Err e → locator_at bytes ≡ Err e
+unfolding locator_at
+locator_unnamed bytes e long unnamed = rw (after_is 8 bytes long, unnamed) refl
+
+-- its address is not read
+pub locator_fails : (bytes : List ℕ) (f : Family) (e : RecordFault) → 8 ≤ length bytes → family_of (number_at bytes 6) ≡ Ok f → address_at f (take (length bytes - 8) (drop 8 bytes)) ≡ Err e → locator_at bytes ≡ Err e
+unfolding locator_at
+locator_fails bytes f e long named fails =
+    let all = take_all (length bytes - 8) (drop 8 bytes) (omega (arith, length-drop 8 bytes)) in
+    rw (after_is 8 bytes long, named, ← all, fails) refl
+
 -- bytes that are too few
 pub locator_cut : (bytes : List ℕ) → length bytes < 8 → locator_at bytes ≡ Err Short
 unfolding locator_at
@@ -46,10 +58,20 @@ pub start_is : (bytes : List ℕ) (f : Family) (n : ℕ) → 12 ≤ length bytes
 unfolding start_at
 start_is bytes f n long named fits = rw (after_is 12 bytes long, named, fits) refl
 
+-- its family is not named
+pub start_unnamed : (bytes : List ℕ) (e : RecordFault) → 12 ≤ length bytes → family_of (number_at bytes 10) ≡ Err e → start_at bytes ≡ Err e
+unfolding start_at
+start_unnamed bytes e long unnamed = rw (after_is 12 bytes long, unnamed) refl
+
 -- its mask does not fit
 pub start_fails : (bytes : List ℕ) (f : Family) (e : RecordFault) → 12 ≤ length bytes → family_of (number_at bytes 10) ≡ Ok f → mask_of f (slice_index bytes 5) ≡ Err e → start_at bytes ≡ Err e
 unfolding start_at
 start_fails bytes f e long named fails = rw (after_is 12 bytes long, named, fails) refl
+
+-- bytes that are too few
+pub start_cut : (bytes : List ℕ) → length bytes < 12 → start_at bytes ≡ Err Short
+unfolding start_at
+start_cut bytes few = rw (lt-ltb (length bytes) 12 few) refl
 
 -- a start that failed, failed once
 pub start_fault : (bytes : List ℕ) (e f : RecordFault) → start_at bytes ≡ Err e → start_at bytes ≡ Err f → e ≡ f

@@ -23,8 +23,7 @@ pub enum Family {
 impl Family {
     /// The family that an AFI field names; `Afi` at any number but 1 and 2.
     pub(crate) fn from_afi(number: u16) -> Result<Family, RecordFault>
-        ensures family { Reads (λ f. f) result (family_of number) }
-        ensures plain { ¬ (IsErrOf result RecordFault.OutOfMemory) }
+        ensures { Reads (λ f. f) result (family_of number) }
     {
         match number {
             1 => Ok(Family::Ipv4),
@@ -155,10 +154,7 @@ pub(crate) fn as_bytes(bytes: &[u8]) -> &[u8]
 /// are too few.
 #[tactic(auto, unfolding(crate::specs::Reading::address_at))]
 pub(crate) fn read_address(expected: Family, bytes: &[u8]) -> Result<(Addr, &[u8]), RecordFault>
-    ensures read { Reads (λ x. (x.0, x.1.now)) result (address_at expected bytes.now) }
-    ensures family { IfOk result (λ x. family x.0 ≡ expected) }
-    ensures whole { IfOk result (λ x. IsWhole x.0) }
-    ensures plain { ¬ (IsErrOf result RecordFault.OutOfMemory) }
+    ensures { Reads (λ x. (x.0, x.1.now)) result (address_at expected bytes.now) }
 {
     match expected {
         Family::Ipv4 => {

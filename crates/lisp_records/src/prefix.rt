@@ -44,9 +44,7 @@ impl Prefix {
     /// As `new`, for a mask that is known to fit.
     pub(crate) fn masked(addr: Addr, mask_len: u8) -> Prefix
         requires { mask_len ≤ max_len addr }
-        ensures value { result ≡ record { addr = cleared addr mask_len; mask_len = mask_len } }
-        ensures whole { IsWhole result.addr }
-        ensures block { IsBlock result }
+        ensures { result ≡ record { addr = cleared addr mask_len; mask_len = mask_len } }
     {
         Prefix {
             addr: addr.cleared(mask_len),

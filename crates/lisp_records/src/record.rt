@@ -241,44 +241,34 @@ fn read_at<A: Memory>(
     ensures exact { Gives (λ x. (x.0, drop x.1 bytes.now)) result (record_at (drop at bytes.now)) }
     ensures within { IfOk result (λ x. (at ≤ x.1) × (x.1 ≤ length bytes.now)) }
     ensures early { (fault : RecordFault) → start_at (drop at bytes.now) ≡ Err fault → result ≡ Err fault }
-    ensures memory { IsErrOf result RecordFault.OutOfMemory → A.may_refuse }
-    ensures grows { IsErrOf result RecordFault.OutOfMemory → HasLocators (drop at bytes.now) }
+    ensures memory { IsErrOf result RecordFault.OutOfMemory → A.may_refuse × HasLocators (drop at bytes.now) }
 {
-    let (_, after) = bytes.split_at(at);
-    match read_front(alloc, after) {
-        Ok((record, rest)) => Ok((record, bytes.len() - rest.len())),
-        Err(fault) => Err(fault),
+    let (_, record) = bytes.split_at(at);
+    let (addr, rest) = read_start(record)?;
+    let (locators, rest) = read_locators(alloc, record[4], rest)?;
+    Ok((record_of(record, addr, locators), bytes.len() - rest.len()))
+}
+
+// The record whose first bytes are these, of the address and the locators that were read after them.
+fn record_of<A: Allocator>(head: &[u8], addr: Addr, locators: Vec<Locator, A>) -> MapRecord<A>
+    requires head { 12 ≤ length head.now }
+    requires fits { IsMapping (mapping_of head.now addr locators.items) }
+    ensures { result ≡ mapping_of head.now addr locators.items }
+{
+    MapRecord {
+        ttl: u32::from_be_bytes([head[0], head[1], head[2], head[3]]),
+        act: head[6] / ACT,
+        authoritative: is_set(head[6], AUTHORITATIVE),
+        version: u16::from_be_bytes([head[8] & 0x0f, head[9]]),
+        eid: Prefix::masked(addr, head[5]),
+        locators,
     }
 }
 
-// The record at the front of the bytes, and the bytes after it.
-fn read_front<A: Memory>(alloc: A, bytes: &[u8]) -> Result<(MapRecord<A>, &[u8]), RecordFault>
-    ensures read { Gives (λ x. (x.0, x.1.now)) result (record_at bytes.now) }
-    ensures early { (fault : RecordFault) → start_at bytes.now ≡ Err fault → result ≡ Err fault }
-    ensures memory { IsErrOf result RecordFault.OutOfMemory → A.may_refuse }
-    ensures grows { IsErrOf result RecordFault.OutOfMemory → HasLocators bytes.now }
-{
-    let (addr, rest) = read_start(bytes)?;
-    let (locators, rest) = read_locators(alloc, bytes[4], rest)?;
-    let record = MapRecord {
-        ttl: u32::from_be_bytes([bytes[0], bytes[1], bytes[2], bytes[3]]),
-        act: bytes[6] / ACT,
-        authoritative: is_set(bytes[6], AUTHORITATIVE),
-        version: u16::from_be_bytes([bytes[8] & 0x0f, bytes[9]]),
-        eid: Prefix::masked(addr, bytes[5]),
-        locators,
-    };
-    Ok((record, rest))
-}
-
 // The address of the EID-Prefix, and the bytes after it.
-#[tactic(auto, unfolding(crate::specs::Reading::start_at))]
 fn read_start(bytes: &[u8]) -> Result<(Addr, &[u8]), RecordFault>
     ensures start { Reads (λ x. (x.0, x.1.now)) result (start_at bytes.now) }
     ensures head { OnOk result (12 ≤ length bytes.now) }
-    ensures mask { IfOk result (λ x. slice_index bytes.now 5 ≤ max_len x.0) }
-    ensures whole { IfOk result (λ x. IsWhole x.0) }
-    ensures plain { ¬ (IsErrOf result RecordFault.OutOfMemory) }
 {
     if bytes.len() < HEAD_LEN {
         return Err(RecordFault::Short);
@@ -291,9 +281,7 @@ fn read_start(bytes: &[u8]) -> Result<(Addr, &[u8]), RecordFault>
 
 // `Mask` where the mask is longer than an address of the family.
 fn check_mask(family: Family, mask_len: u8) -> Result<(), RecordFault>
-    ensures mask { Reads (λ _. mask_len) result (mask_of family mask_len) }
-    ensures fits { OnOk result (mask_len ≤ 8 * width family) }
-    ensures plain { ¬ (IsErrOf result RecordFault.OutOfMemory) }
+    ensures { Reads (λ _. mask_len) result (mask_of family mask_len) }
 {
     if mask_len > family.max_mask_len() {
         return Err(RecordFault::Mask);
@@ -308,10 +296,7 @@ fn read_locators<A: Memory>(
     bytes: &[u8],
 ) -> Result<(Vec<Locator, A>, &[u8]), RecordFault>
     ensures locators { Gives (λ x. (x.0.items, x.1.now)) result (locators_at count bytes.now) }
-    ensures count { IfOk result (λ x. length x.0.items ≡ count) }
-    ensures fits { IfOk result (λ x. AllByRecursion IsLocator x.0.items) }
-    ensures memory { IsErrOf result RecordFault.OutOfMemory → A.may_refuse }
-    ensures grows { IsErrOf result RecordFault.OutOfMemory → 0 < count }
+    ensures memory { IsErrOf result RecordFault.OutOfMemory → A.may_refuse × (0 < count) }
 {
     let mut locators = Vec::new(alloc);
     let mut rest = bytes;

@@ -3,6 +3,3 @@ use Rattle.lisp_records.proofs.prefix.Prefix.masked.Goals as goal
 
 pub invariant_of-result : goal.invariant_of-result
 invariant_of-result c = (c.cleared.ensures.whole, rw c.cleared.ensures.cleared (IsBlock-cleared c.args.addr c.args.mask_len c.requires))
-
-pub returns-clause-block : goal.returns-clause-block
-returns-clause-block c = rw c.cleared.ensures.cleared (IsBlock-cleared c.args.addr c.args.mask_len c.requires)
