@@ -1,7 +1,7 @@
 -- The fields of a record, each way: what a step of reading took stands in the bytes, and what is
 -- written there is read again.
 use Rattle.std.proofs.Common.{◌≡◌, ℕ, zero, suc, ◌+◌, ◌*◌, ◌<◌, ◌≤◌, Bool, true, false, cond, eqb, ltb, List, [], ◌∷◌, ◌++◌, length, take, drop, Result, Ok, Err, refl, sym, ap, subst, ◌∙◌, arith}
-use Rattle.std.specs.Int.{w16, from_be_bytes, to_be_bytes}
+use Rattle.std.specs.Int.{w16, from_be_bytes, to_be_bytes, from_bool}
 use Rattle.std.specs.List.{AllByRecursion}
 use Rattle.std.proofs.lemmas.Bool.{ltb-false, le-ltb, eqb-true}
 use Rattle.std.proofs.lemmas.List.{take_at, drop_at, take-append-drop, length-append, length-take, get_or-append-add, get_or-drop}
@@ -99,6 +99,16 @@ eqb-bit false = refl
 pub bit_below : (b : Bool) → bit b < 2
 bit_below true = omega arith
 bit_below false = omega arith
+
+-- a flag as a byte is its bit
+pub flag_is : (b : Bool) (n : ℕ) → n ≡ from_bool b → n ≡ bit b
+flag_is true n is = is
+flag_is false n is = is
+
+-- and at most 1
+pub flag_below : (b : Bool) (n : ℕ) → n ≡ from_bool b → n ≤ 1
+flag_below true n is = omega (arith, is)
+flag_below false n is = omega (arith, is)
 
 -- ---- steps of reading
 

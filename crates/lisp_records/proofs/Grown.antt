@@ -7,6 +7,10 @@ use Rattle.lisp_records.specs.Grown.{Grew}
 pub Grew-step : (old mid new more : List ℕ) → mid ≡ old ++ more → Grew mid new → Grew old new
 Grew-step old mid new more e g = record { more = more ++ g.more; parts = g.parts ∙ ap (λ (xs : List ℕ). xs ++ g.more) e ∙ append_assoc old more g.more }
 
+-- what was appended to is a longer buffer
+pub Grew-to : (old new more : List ℕ) → new ≡ old ++ more → Grew old new
+Grew-to old new more e = record { more = more; parts = e }
+
 -- what holds, holds where an answer is an error
 pub on_err : {T E P : Type 0} (r : Result T E) → P → OnErr r P
 on_err (Ok x) holds = tt

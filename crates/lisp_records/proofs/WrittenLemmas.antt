@@ -1,7 +1,9 @@
 -- The written spelling: how long it is, and how it is appended part by part.
-use Rattle.std.proofs.Common.{◌≡◌, ℕ, ◌+◌, ◌<◌, List, [], ◌∷◌, ◌++◌, length, get_or, take, refl, sym, ap, ◌∙◌, append_assoc, arith, length-append}
+use Rattle.std.proofs.Common.{◌≡◌, ℕ, ◌+◌, ◌<◌, List, [], ◌∷◌, ◌++◌, length, get_or, take, Result, refl, sym, ap, ◌∙◌, append_assoc, arith, length-append}
+use Rattle.std.specs.Prelude.{is_ok, if◌then◌else◌}
 use Rattle.std.proofs.lemmas.Grind.{flat_map-append}
 use Rattle.std.proofs.lemmas.List.{append-nil, take_more}
+use Rattle.lisp_records.specs.declared.address.Addr.{Addr}
 use Rattle.lisp_records.specs.declared.locator.Locator.{Locator}
 use Rattle.lisp_records.specs.Address.{family, width, octets, IsWhole}
 use Rattle.lisp_records.specs.Record.{Mapping}
@@ -12,6 +14,12 @@ pub length-written : (m : Mapping) → IsWhole m.eid.addr → length (written m)
 unfolding written
 length-written m whole =
     omega (arith, length-append (written_head m) (written_address m.eid.addr ++ written_locators m.locators), length-append (written_address m.eid.addr) (written_locators m.locators), whole.width)
+
+-- bytes in front of an address, and its own, that were appended at once
+pub front_appended : {T E : Type 0} (r : Result T E) (old new part head front bytes : List ℕ) (a : Addr) → new ≡ (if is_ok r then old ++ part else old) → part ≡ head ++ bytes → head ≡ front → octets a ≡ bytes
+    → new ≡ (if is_ok r then old ++ (front ++ octets a) else old)
+front_appended r old new part head front bytes a items joined made own =
+    items ∙ ap (λ (t : List ℕ). if is_ok r then old ++ t else old) (joined ∙ ap (λ (t : List ℕ). t ++ bytes) made ∙ ap (λ (t : List ℕ). front ++ t) (sym own))
 
 -- a record that was appended part by part
 pub written_from : (m : Mapping) (a b c : List ℕ) → b ≡ a ++ ((written_head m ++ written_afi m.eid.addr) ++ octets m.eid.addr) → c ≡ b ++ written_locators m.locators → c ≡ a ++ written m

@@ -172,17 +172,6 @@ pub(crate) fn read_address(expected: Family, bytes: &[u8]) -> Result<(Addr, &[u8
     }
 }
 
-/// Appends the bytes of an address.
-pub(crate) fn put_octets<A: Memory>(out: &mut Vec<u8, A>, addr: &Addr) -> Result<(), AllocError>
-    ensures items { out.new.items ≡ (if is_ok result then out.old.items ++ octets addr.now else out.old.items) }
-    ensures memory { OnErr result A.may_refuse }
-{
-    match addr {
-        Addr::V4(bytes) => out.try_extend_from_slice(bytes),
-        Addr::V6(bytes) => out.try_extend_from_slice(bytes),
-    }
-}
-
 // The number that the bytes spell, with all but its first `mask_len` bits cleared.
 fn first_bits_v4(bytes: [u8; 4], mask_len: u8) -> u32
     ensures { result ≡ from_be_bytes w32 bytes / 2 ^ (32 - mask_len) * 2 ^ (32 - mask_len) }

@@ -1,16 +1,15 @@
 //! Locators: where the addresses of a prefix are reached.
 
-ghost use Rattle.std.specs.Prelude.{◌≡◌, ◌+◌, ◌*◌, ◌++◌, ◌∷◌, [], ◌<◌, ◌≤◌, length, IfOk, IsErrOf, OnOk, OnErr};
-ghost use Rattle.lisp_records.specs.Grown.{Grew};
-ghost use Rattle.lisp_records.specs.Record.{IsLocator, bit};
-ghost use Rattle.lisp_records.specs.Written.{written_address, written_locator};
+ghost use Rattle.std.specs.Prelude.{◌≡◌, ◌+◌, ◌*◌, ◌++◌, ◌∷◌, ◌≤◌, length, OnErr, is_ok, if◌then◌else◌};
+ghost use Rattle.lisp_records.specs.Record.{bit};
+ghost use Rattle.lisp_records.specs.Written.{written_afi, written_locator};
 ghost use Rattle.lisp_records.specs.Result.{Reads};
-ghost use Rattle.lisp_records.specs.Reading.{family_of, locator_at, locator_of};
-ghost use Rattle.lisp_records.specs.declared.fault.RecordFault.{RecordFault};
+ghost use Rattle.lisp_records.specs.Reading.{locator_at};
 
-use crate::address::{Addr, Family, put_octets, read_address};
+use crate::address::{Addr, Family, read_address};
 use crate::fault::RecordFault;
 use crate::flags::is_set;
+use crate::record::joined;
 use lisp_memory::{FallibleCopies, Memory};
 use std::alloc::AllocError;
 
@@ -93,20 +92,30 @@ pub(crate) fn read_locator(bytes: &[u8]) -> Result<(Locator, &[u8]), RecordFault
     Ok((locator, rest))
 }
 
-/// Appends the written spelling of a locator. Out of memory, it may leave a part of it.
+/// Appends the written spelling of a locator. Out of memory, it leaves `out` as it was.
 pub(crate) fn put_locator<A: Memory>(
     out: &mut Vec<u8, A>,
     locator: &Locator,
 ) -> Result<(), AllocError>
-    ensures ok { OnOk result (out.new.items ≡ out.old.items ++ written_locator locator.now) }
-    ensures err { OnErr result (Grew out.old.items out.new.items) }
+    ensures items { out.new.items ≡ (if is_ok result then out.old.items ++ written_locator locator.now else out.old.items) }
     ensures memory { OnErr result A.may_refuse }
+{
+    let head = head_of(locator);
+    match &locator.addr {
+        Addr::V4(octets) => out.try_extend_from_slice(&joined::<12>(&head, octets)),
+        Addr::V6(octets) => out.try_extend_from_slice(&joined::<24>(&head, octets)),
+    }
+}
+
+// The bytes before the address.
+fn head_of(locator: &Locator) -> [u8; 8]
+    ensures { result ≡ locator.now.priority ∷ locator.now.weight ∷ locator.now.m_priority ∷ locator.now.m_weight ∷ 0 ∷ (bit locator.now.local * 4 + bit locator.now.probe * 2 + bit locator.now.reachable) ∷ written_afi locator.now.addr }
 {
     let flags = u8::from(locator.local) * LOCAL
         + u8::from(locator.probe) * PROBE
         + u8::from(locator.reachable) * REACHABLE;
     let [afi_high, afi_low] = locator.addr.family().afi().to_be_bytes();
-    out.try_extend_from_slice(&[
+    [
         locator.priority,
         locator.weight,
         locator.m_priority,
@@ -115,6 +124,5 @@ pub(crate) fn put_locator<A: Memory>(
         flags,
         afi_high,
         afi_low,
-    ])?;
-    put_octets(out, &locator.addr)
+    ]
 }

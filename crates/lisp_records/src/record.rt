@@ -310,7 +310,6 @@ fn read_locators<A: Memory>(
 
 /// Appends the written spelling of a record: all reserved bits 0. Out of memory, it leaves `out` as
 /// it was.
-#[tactic(auto, using(crate::proofs::Grown::cut_back))]
 pub fn write_record<A: Allocator, B: Memory>(
     entry: &MapRecord<A>,
     out: &mut Vec<u8, B>,
@@ -323,26 +322,12 @@ pub fn write_record<A: Allocator, B: Memory>(
     ensures known { IsMapping entry.now }
 {
     let start = out.len();
-    if let Err(full) = put_record(out, entry) {
+    let locators = entry.locators();
+    put_front(out, entry)?;
+    if let Err(full) = put_locators(out, locators) {
         out.truncate(start);
         return Err(full);
     }
-    Ok(())
-}
-
-// As `write_record`, but out of memory it may leave a part of the record.
-fn put_record<A: Allocator, B: Memory>(
-    out: &mut Vec<u8, B>,
-    entry: &MapRecord<A>,
-) -> Result<(), AllocError>
-    ensures ok { OnOk result (out.new.items ≡ out.old.items ++ written entry.now) }
-    ensures err { OnErr result (Grew out.old.items out.new.items) }
-    ensures memory { OnErr result B.may_refuse }
-    ensures known { IsMapping entry.now }
-{
-    let locators = entry.locators();
-    put_front(out, entry)?;
-    put_locators(out, locators)?;
     Ok(())
 }
 
@@ -355,19 +340,19 @@ fn put_front<A: Allocator, B: Memory>(
     ensures memory { OnErr result B.may_refuse }
 {
     let head = head_of(entry);
-    match entry.eid.first() {
+    match entry.eid_ref().first() {
         Addr::V4(octets) => out.try_extend_from_slice(&joined::<16>(&head, octets)),
         Addr::V6(octets) => out.try_extend_from_slice(&joined::<28>(&head, octets)),
     }
 }
 
-// The bytes before the EID-Prefix, and its own: 16 of IPv4, 28 of IPv6.
-fn joined<const LEN: usize>(head: &[u8; HEAD_LEN], octets: &[u8]) -> [u8; LEN]
-    requires { LEN ≡ 12 + length octets.now }
+/// The bytes before an address, and its own.
+pub(crate) fn joined<const LEN: usize>(head: &[u8], octets: &[u8]) -> [u8; LEN]
+    requires { LEN ≡ length head.now + length octets.now }
     ensures { result ≡ head.now ++ octets.now }
 {
     let mut front = [0; LEN];
-    let (start, end) = front.split_at_mut(HEAD_LEN);
+    let (start, end) = front.split_at_mut(head.len());
     start.copy_from_slice(head);
     end.copy_from_slice(octets);
     front
