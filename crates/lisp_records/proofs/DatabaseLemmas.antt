@@ -2,15 +2,35 @@
 use Rattle.std.proofs.Common.{◌≡◌, ℕ, ◌+◌, ◌-◌, ◌<◌, ◌≤◌, Bool, true, false, ◌||◌, List, [], ◌∷◌, ◌++◌, length, get_or, take, drop, Result, Ok, Err, cond, ltb, refl, sym, ap, ◌∙◌, add-one, arith}
 use Rattle.std.proofs.Math.Seq.{drop-cons}
 use Rattle.std.proofs.Math.ListN.{drop_of_length-le}
-use Rattle.std.proofs.lemmas.Bool.{ltb-false}
+use Rattle.std.proofs.lemmas.Bool.{ltb-false, le-ltb, lt-ltb}
 use Rattle.std.proofs.lemmas.List.{take_all, take_more, length-drop}
 use Rattle.std.proofs.lemmas.List.Sums.{sum_by_more}
-use Rattle.lisp_records.specs.Address.{Block}
+use Rattle.lisp_records.specs.Address.{Block, block_eq}
 use Rattle.lisp_records.specs.Record.{Mapping}
 use Rattle.lisp_records.specs.declared.database.DatabaseFault.{DatabaseFault}
-use Rattle.lisp_records.specs.declared.database.DatabaseFault.TheVariants.{TooLarge}
+use Rattle.lisp_records.specs.declared.database.DatabaseFault.TheVariants.{RepeatedPrefix, TooLarge}
 use Rattle.lisp_records.specs.Database.{has_prefix, repeats, size, database_of}
 use Rattle.lisp_records.specs.Written.{written}
+
+-- the next record is looked at
+next_prefix : (ms : List Mapping) (i : ℕ) (m : Mapping) (eid own : Block) → i < length ms → m ≡ get_or ms i m → own ≡ m.eid → has_prefix eid (drop i ms) ≡ (block_eq eid own || has_prefix eid (drop (i + 1) ms))
+next_prefix ms i m eid own lt at of =
+    let here : own ≡ (get_or ms i m).eid = of ∙ ap (λ (x : Mapping). x.eid) at in
+    rw (here, drop-cons ms i m lt, add-one) refl
+
+-- it is of the EID-Prefix
+pub prefix_here : (ms : List Mapping) (i : ℕ) (m : Mapping) (eid own : Block) → i < length ms → m ≡ get_or ms i m → own ≡ m.eid → has_prefix eid (drop i ms) ≡ has_prefix eid ms → block_eq eid own ≡ true → true ≡ has_prefix eid ms
+prefix_here ms i m eid own lt at of so_far met = sym (next_prefix ms i m eid own lt at of ∙ ap (λ (b : Bool). b || has_prefix eid (drop (i + 1) ms)) met) ∙ so_far
+
+-- it is of another
+pub prefix_goes_on : (ms : List Mapping) (i : ℕ) (m : Mapping) (eid own : Block) → i < length ms → m ≡ get_or ms i m → own ≡ m.eid → has_prefix eid (drop i ms) ≡ has_prefix eid ms → block_eq eid own ≡ false → has_prefix eid (drop (i + 1) ms) ≡ has_prefix eid ms
+prefix_goes_on ms i m eid own lt at of so_far other = sym (next_prefix ms i m eid own lt at of ∙ ap (λ (b : Bool). b || has_prefix eid (drop (i + 1) ms)) other) ∙ so_far
+
+-- no record is left
+pub prefix_ends : (ms : List Mapping) (i : ℕ) (eid : Block) → length ms ≤ i → has_prefix eid (drop i ms) ≡ has_prefix eid ms → false ≡ has_prefix eid ms
+prefix_ends ms i eid le so_far =
+    let none : has_prefix eid (drop i ms) ≡ false = rw (drop_of_length-le ms le) refl in
+    sym none ∙ so_far
 
 -- the records behind a place
 abbrev pub behind : List Mapping → ℕ → List Mapping
@@ -63,3 +83,17 @@ not_refused false d other ms e = refl
 -- a database has at most 255 records
 pub database_few : (ms : List Mapping) → database_of ms ≡ Ok ms → length ms < 256
 database_few ms e = omega (arith, ltb-false _ _ (not_refused (ltb 255 (length ms)) TooLarge _ ms e))
+
+-- ---- the tests of a database, one after the other
+
+pub too_many : (ms : List Mapping) → 255 < length ms → Err TooLarge ≡ database_of ms
+too_many ms many = rw (lt-ltb 255 (length ms) many) refl
+
+pub repeated : (ms : List Mapping) → length ms ≤ 255 → repeats ms ≡ true → Err RepeatedPrefix ≡ database_of ms
+repeated ms few again = rw (le-ltb 255 (length ms) few, again) refl
+
+pub too_long : (ms : List Mapping) → length ms ≤ 255 → repeats ms ≡ false → 16384 < size ms → Err TooLarge ≡ database_of ms
+too_long ms few once long = rw (le-ltb 255 (length ms) few, once, lt-ltb 16384 (size ms) long) refl
+
+pub is_database : (ms : List Mapping) → length ms ≤ 255 → repeats ms ≡ false → size ms ≤ 16384 → database_of ms ≡ Ok ms
+is_database ms few once short = rw (le-ltb 255 (length ms) few, once, le-ltb 16384 (size ms) short) refl

@@ -125,7 +125,12 @@ fn repeats<A: Allocator>(records: &[MapRecord<A>]) -> bool
 fn has_prefix<A: Allocator>(records: &[MapRecord<A>], eid: Prefix) -> bool
     ensures { result ≡ has_prefix eid records.now }
 {
-    records.iter().any(|record| eid == record.eid())
+    for record in records {
+        if eid == record.eid() {
+            return true;
+        }
+    }
+    false
 }
 
 // The bytes of the written spellings of records.

@@ -175,8 +175,8 @@ impl<A: Allocator> MapRecord<A> {
         ensures len { result ≡ length (written self.now) }
         ensures small { result ≤ 6148 }
     {
-        let mut len = 12 + self.eid.addr().family().width() as usize;
-        for locator in &self.locators {
+        let mut len = HEAD_LEN + self.eid_ref().first().family().width() as usize;
+        for locator in self.locators() {
             len += locator.written_len();
         }
         len
