@@ -1,4 +1,6 @@
 pub mod AuthenticLaws
+pub mod Ends
+pub mod Faults
 pub mod Fields
 pub mod FitLaws
 pub mod Loop

@@ -1,9 +1,10 @@
 -- What is known of an answer of `read_message`.
-use Rattle.std.proofs.Common.{◌≡◌, ℕ, List, drop, Result, Ok, Err, is_ok, true≢false, refl, sym, ap, ◌∙◌}
+use Rattle.std.proofs.Common.{◌≡◌, ℕ, ◌<◌, List, length, drop, Result, Ok, Err, is_ok, true≢false, refl, sym, ap, ◌∙◌, arith}
 use Rattle.std.specs.Prelude.{IfOk, slice_index}
 use Rattle.lisp_records.specs.Record.{Mapping}
 use Rattle.lisp_records.specs.Result.{Reads}
 use Rattle.lisp_records.specs.Spelling.{IsBytes}
+use Rattle.lisp_records.proofs.Faults.{fault_is}
 use Rattle.lisp_messages.specs.declared.fault.ReadFault.{ReadFault}
 use Rattle.lisp_messages.specs.declared.fault.ReadFault.TheVariants as faults
 use Rattle.lisp_messages.specs.declared.kind.Kind.{Kind}
@@ -12,7 +13,8 @@ use Rattle.lisp_messages.specs.Message.{Said}
 use Rattle.lisp_messages.specs.Meaning.{said}
 use Rattle.lisp_messages.specs.Spelling.{Spells}
 use Rattle.lisp_messages.specs.Reading.{Fails, Gives, kind_at, records_at, tail_at, message_at}
-use Rattle.lisp_messages.proofs.Fields.{done}
+use Rattle.lisp_messages.proofs.Fields.{done, IsBytes-drop}
+use Rattle.lisp_messages.proofs.RecordsLaws.{records_take}
 use Rattle.lisp_messages.proofs.MessageLaws.{message_takes, message_again}
 
 -- what is answered is spelled
@@ -36,17 +38,32 @@ pub message_only : {A : Type 0} (bytes : List ℕ) (r : Result (Message A) ReadF
 message_only bytes (Ok m) given x spells = sym (message_again bytes x spells) ∙ given
 message_only bytes (Err e) given x spells = Fails-never e bytes x (message_again bytes x spells) given
 
+-- a fault is the one that reading meets
+Fails-met : {Y : Type 0} (e : ReadFault) (read : Result Y ReadFault) → read ≡ Err e → Fails e read
+Fails-met faults.OutOfMemory read at = tt
+Fails-met faults.Short read at = at
+Fails-met faults.Kind read at = at
+Fails-met faults.Algorithm read at = at
+Fails-met faults.AuthLength read at = at
+Fails-met faults.NoIds read at = at
+Fails-met faults.Trailing read at = at
+Fails-met (faults.Record i f) read at = at
+
+-- a fault of a part is the fault of the whole, where each is passed on
+Fails-passed : {X Y : Type 0} (e : ReadFault) (part : Result X ReadFault) (whole : Result Y ReadFault) → ((f : ReadFault) → part ≡ Err f → whole ≡ Err f) → Fails e part → Fails e whole
+Fails-passed faults.OutOfMemory part whole pass fails = tt
+Fails-passed faults.Short part whole pass fails = pass faults.Short fails
+Fails-passed faults.Kind part whole pass fails = pass faults.Kind fails
+Fails-passed faults.Algorithm part whole pass fails = pass faults.Algorithm fails
+Fails-passed faults.AuthLength part whole pass fails = pass faults.AuthLength fails
+Fails-passed faults.NoIds part whole pass fails = pass faults.NoIds fails
+Fails-passed faults.Trailing part whole pass fails = pass faults.Trailing fails
+Fails-passed (faults.Record i f) part whole pass fails = pass (faults.Record i f) fails
+
 -- what is read with its fault is given
-pub reads_gives : {X : Type 0} (view : X → Said) (r : Result X ReadFault) (read : Result Said ReadFault) → Reads view r read → Gives view r read
+reads_gives : {X : Type 0} (view : X → Said) (r : Result X ReadFault) (read : Result Said ReadFault) → Reads view r read → Gives view r read
 reads_gives view (Ok x) read is = is
-reads_gives view (Err faults.OutOfMemory) read is = tt
-reads_gives view (Err faults.Short) read is = is
-reads_gives view (Err faults.Kind) read is = is
-reads_gives view (Err faults.Algorithm) read is = is
-reads_gives view (Err faults.AuthLength) read is = is
-reads_gives view (Err faults.NoIds) read is = is
-reads_gives view (Err faults.Trailing) read is = is
-reads_gives view (Err (faults.Record i f)) read is = is
+reads_gives view (Err e) read is = Fails-met e read is
 
 -- a message whose head, records and end are read
 pub whole_given : {X : Type 0} (view : X → Said) (r : Result X ReadFault) (bytes : List ℕ) (kind : Kind) (records : List Mapping) (tail : List ℕ) → kind_at bytes ≡ Ok kind → records_at 0 (slice_index bytes 3) (drop 32 bytes) ≡ Ok (records, tail) → Reads view r (tail_at kind bytes records tail) → Gives view r (message_at bytes)
@@ -54,22 +71,23 @@ unfolding message_at
 whole_given view r bytes kind records tail head body end = rw (head, body) (reads_gives view r (tail_at kind bytes records tail) end)
 
 -- a message whose head has a fault
-pub head_fails : {X : Type 0} (view : X → Said) (e : ReadFault) (bytes : List ℕ) → kind_at bytes ≡ Err e → Gives view (Err e) (message_at bytes)
+pub head_fails : (e : ReadFault) (bytes : List ℕ) → kind_at bytes ≡ Err e → Fails e (message_at bytes)
 unfolding message_at
-head_fails view e bytes fails = rw fails (reads_gives view (Err e) (Err e) refl)
+head_fails e bytes fails = Fails-passed e (kind_at bytes) (message_at bytes) (λ f at. rw at refl) (Fails-met e (kind_at bytes) fails)
 
 -- a message of which a record has a fault
-pub record_fails : {X : Type 0} (view : X → Said) (e : ReadFault) (bytes : List ℕ) (kind : Kind) → kind_at bytes ≡ Ok kind → Fails e (records_at 0 (slice_index bytes 3) (drop 32 bytes)) → Gives view (Err e) (message_at bytes)
+pub record_fails : (e : ReadFault) (bytes : List ℕ) (kind : Kind) → kind_at bytes ≡ Ok kind → Fails e (records_at 0 (slice_index bytes 3) (drop 32 bytes)) → Fails e (message_at bytes)
 unfolding message_at
-record_fails view faults.OutOfMemory bytes kind head fails = tt
-record_fails view faults.Short bytes kind head fails = rw (head, fails) refl
-record_fails view faults.Kind bytes kind head fails = rw (head, fails) refl
-record_fails view faults.Algorithm bytes kind head fails = rw (head, fails) refl
-record_fails view faults.AuthLength bytes kind head fails = rw (head, fails) refl
-record_fails view faults.NoIds bytes kind head fails = rw (head, fails) refl
-record_fails view faults.Trailing bytes kind head fails = rw (head, fails) refl
-record_fails view (faults.Record i f) bytes kind head fails = rw (head, fails) refl
+record_fails e bytes kind head = Fails-passed e (records_at 0 (slice_index bytes 3) (drop 32 bytes)) (message_at bytes) (λ f at. rw (head, at) refl)
 
 -- a head that was read has no fault
 pub head_holds : (bytes : List ℕ) (kind : Kind) (e : ReadFault) → kind_at bytes ≡ Ok kind → kind_at bytes ≡ Err e → ⊥
 head_holds bytes kind e head fails = true≢false (ap is_ok (sym head ∙ fails))
+
+-- a head that failed, failed once
+pub head_fault : (bytes : List ℕ) (e f : ReadFault) → kind_at bytes ≡ Err e → kind_at bytes ≡ Err f → e ≡ f
+head_fault bytes e f one two = fault_is e f (sym one ∙ two)
+
+-- records that were read are few
+pub records_few : (bytes : List ℕ) (ms : List Mapping) (tail : List ℕ) → IsBytes bytes → records_at 0 (slice_index bytes 3) (drop 32 bytes) ≡ Ok (ms, tail) → length ms < 256
+records_few bytes ms tail fits listed = omega (arith, (records_take 0 (slice_index bytes 3) (drop 32 bytes) (ms, tail) (IsBytes-drop 32 bytes fits) listed).1, fits 3)

@@ -1,9 +1,12 @@
 -- The written spellings, by their Authentication Data, and their parts.
-use Rattle.std.proofs.Common.{◌≡◌, ℕ, List, ◌++◌, length, take, drop, replicate, All, ◌≤◌, refl, subst, arith}
+use Rattle.std.proofs.Common.{◌≡◌, ℕ, ◌*◌, ◌^◌, ◌<◌, List, [], ◌∷◌, ◌++◌, length, take, drop, replicate, All, ◌≤◌, refl, ap, subst, ◌∙◌, append_assoc, arith}
+use Rattle.std.specs.List.{AllByRecursion}
 use Rattle.std.proofs.lemmas.List.{length-append, take_at, drop_at}
-use Rattle.std.proofs.lemmas.List.Elements.{All-take, All-drop}
-use Rattle.lisp_messages.specs.Message.{Registration, Notification}
-use Rattle.lisp_messages.specs.Written.{written_notify_head, written_records, written_notify, written_register_head, written_ids, written_register}
+use Rattle.std.proofs.lemmas.List.Elements.{All-take, All-drop, recursion_from_All}
+use Rattle.lisp_records.specs.Record.{Mapping, IsMapping}
+use Rattle.lisp_messages.specs.Message.{Registration, Notification, IsRegistration, IsNotification}
+use Rattle.lisp_messages.specs.Spelling.{common, notify_type}
+use Rattle.lisp_messages.specs.Written.{register_kind, register_flags, written_notify_head, written_records, written_notify, written_register_head, written_ids, written_register}
 
 -- other Authentication Data in its place
 pub written_notify-put : (m : Notification) (tag : List ℕ) → take 16 (written_notify m (replicate 16 0)) ++ tag ++ drop 32 (written_notify m (replicate 16 0)) ≡ written_notify m tag
@@ -31,3 +34,46 @@ pub All-part : (P : ℕ → Type 0) (front part rest : List ℕ) → All P (fron
 All-part P front part rest all =
     let before : All P (front ++ part) = subst (All P) (take_at (front ++ part) rest (length (front ++ part)) refl) (All-take P (length (front ++ part)) (front ++ part ++ rest) all) in
     subst (All P) (drop_at front part (length front) refl) (All-drop P (length front) (front ++ part) before)
+
+-- ---- a message that was appended part by part
+
+-- its head, then its records
+pub notify_put : (m : Notification) (old mid new head : List ℕ) (rs : List Mapping) → old ≡ [] → head ≡ written_notify_head m (replicate 16 0) → rs ≡ m.records → mid ≡ old ++ head → new ≡ mid ++ written_records rs → new ≡ written_notify m (replicate 16 0)
+unfolding written_notify
+notify_put m old mid new head rs empty front listed first then = rw (then, first, empty, front, listed) refl
+
+-- and what its fields promise
+pub notify_known : (m : Notification) (rs : List Mapping) → rs ≡ m.records → (m.nonce < 2 ^ 64) × (m.key_id < 256) × (length m.records < 256) → All IsMapping rs → IsNotification m
+notify_known m rs listed fits all = record { nonce = fits.0; key = fits.1; records = (fits.2, recursion_from_All IsMapping m.records (subst (All IsMapping) listed all)) }
+
+-- its head, its records, then xTR-ID and Site-ID
+pub register_put : (inside m : Registration) (old mid body new head : List ℕ) (rs : List Mapping) → inside ≡ m → old ≡ [] → head ≡ written_register_head m (replicate 16 0) → rs ≡ inside.records → mid ≡ old ++ head → body ≡ mid ++ written_records rs → new ≡ body ++ written_ids inside → new ≡ written_register m (replicate 16 0)
+unfolding written_register
+register_put inside m old mid body new head rs same empty front listed first then last =
+    last ∙ rw (then, first, empty, front, listed, same) (append_assoc (written_register_head m (replicate 16 0)) (written_records m.records) (written_ids m))
+
+-- and what its fields promise
+pub register_known : (inside m : Registration) (rs : List Mapping) → inside ≡ m → rs ≡ inside.records → (m.nonce < 2 ^ 64) × (m.key_id < 256) × (length m.records < 256) → All IsMapping rs → (length inside.xtr ≡ 16) × (inside.site < 2 ^ 64)
+    → AllByRecursion (λ n. n < 256) inside.xtr → IsRegistration m
+register_known inside m rs same listed fits all wide bytes = record {
+  nonce = fits.0;
+  key = fits.1;
+  records = (fits.2, recursion_from_All IsMapping m.records (subst (All IsMapping) (listed ∙ ap (λ (x : Registration). x.records) same) all));
+  xtr = subst (λ (x : Registration). length x.xtr ≡ 16) same wide.0;
+  xtr_bytes = subst (λ (x : Registration). AllByRecursion (λ n. n < 256) x.xtr) same bytes;
+  site = subst (λ (x : Registration). x.site < 2 ^ 64) same wide.1;
+}
+
+-- ---- the bytes before the records, by what the program reads of a message
+
+pub notify_head : (inside m : Notification) (bytes : List ℕ) (number : ℕ) (rs : List Mapping) → inside ≡ m → number ≡ notify_type inside.ack → rs ≡ inside.records → bytes ≡ number * 16 ∷ 0 ∷ 0 ∷ common (length rs) inside.nonce inside.key_id (replicate 16 0) → bytes ≡ written_notify_head m (replicate 16 0)
+notify_head inside m bytes number rs same named listed made = made ∙ rw (named, listed, same) refl
+
+pub notify_fits : (inside m : Notification) → inside ≡ m → (inside.nonce < 2 ^ 64) × (inside.key_id < 256) → length inside.records < 256 → (m.nonce < 2 ^ 64) × (m.key_id < 256) × (length m.records < 256)
+notify_fits inside m same fits few = subst (λ (x : Notification). (x.nonce < 2 ^ 64) × (x.key_id < 256) × (length x.records < 256)) same (fits.0, fits.1, few)
+
+pub register_head : (inside m : Registration) (bytes : List ℕ) (kind flags : ℕ) (rs : List Mapping) → inside ≡ m → kind ≡ register_kind m → flags ≡ register_flags m → rs ≡ inside.records → bytes ≡ kind ∷ 0 ∷ flags ∷ common (length rs) inside.nonce inside.key_id (replicate 16 0) → bytes ≡ written_register_head m (replicate 16 0)
+register_head inside m bytes kind flags rs same first third listed made = made ∙ rw (first, third, listed, same) refl
+
+pub register_fits : (inside m : Registration) → inside ≡ m → (inside.nonce < 2 ^ 64) × (inside.key_id < 256) → length inside.records < 256 → (m.nonce < 2 ^ 64) × (m.key_id < 256) × (length m.records < 256)
+register_fits inside m same fits few = subst (λ (x : Registration). (x.nonce < 2 ^ 64) × (x.key_id < 256) × (length x.records < 256)) same (fits.0, fits.1, few)

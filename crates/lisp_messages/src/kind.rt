@@ -1,7 +1,6 @@
 //! The types of messages.
 
-ghost use Rattle.std.specs.Prelude.{◌≡◌, IsErrOf};
-ghost use Rattle.lisp_messages.specs.declared.fault.ReadFault.{ReadFault};
+ghost use Rattle.std.specs.Prelude.{◌≡◌};
 ghost use Rattle.lisp_records.specs.Result.{Reads};
 ghost use Rattle.lisp_messages.specs.Reading.{kind_of};
 ghost use Rattle.lisp_messages.specs.Written.{kind_number};
@@ -22,8 +21,7 @@ pub enum Kind {
 impl Kind {
     /// The kind of a type number; `Kind` at any number but 3, 4 and 5.
     pub(crate) fn from_number(number: u8) -> Result<Kind, ReadFault>
-        ensures kind { Reads (λ k. k) result (kind_of number) }
-        ensures plain { ¬ (IsErrOf result ReadFault.OutOfMemory) }
+        ensures { Reads (λ k. k) result (kind_of number) }
     {
         match number {
             3 => Ok(Kind::Register),

@@ -1,12 +1,12 @@
 //! The Map-Notify and the Map-Notify-Ack.
 
-ghost use Rattle.std.specs.Prelude.{◌≡◌, ◌<◌, ◌≤◌, [], length, replicate, IfOk, IsErrOf, OnOk, OnErr};
+ghost use Rattle.std.specs.Prelude.{◌≡◌, ◌^◌, ◌<◌, ◌≤◌, [], length, replicate, IfOk, IsErrOf, OnOk, OnErr};
 ghost use Rattle.lisp_messages.specs.declared.fault.ReadFault.{ReadFault};
 ghost use Rattle.lisp_messages.specs.Message.{Notifies, IsNotification};
 ghost use Rattle.lisp_messages.specs.Meaning.{said};
 ghost use Rattle.lisp_messages.specs.Spelling.{Spells};
 ghost use Rattle.lisp_messages.specs.Authentic.{IsAuthentic, signed};
-ghost use Rattle.lisp_messages.specs.Written.{written_notify};
+ghost use Rattle.lisp_messages.specs.Written.{written_notify, written_notify_head};
 ghost use Rattle.lisp_records.specs.Result.{Reads};
 ghost use Rattle.lisp_messages.specs.Reading.{notify_at};
 
@@ -14,10 +14,10 @@ use crate::authentication::sign;
 use crate::fault::ReadFault;
 use crate::kind::Kind;
 use crate::message::Message;
-use crate::reading::read_nonce;
-use crate::writing::{head, make_room, put_records};
+use crate::reading::{HEAD_LEN, read_nonce};
+use crate::writing::{head, put_head, put_records};
 use lisp_hmac::Key;
-use lisp_memory::{FallibleCopies, Memory};
+use lisp_memory::Memory;
 use lisp_records::{MapRecord, Records};
 use std::alloc::{AllocError, Allocator, Global};
 use std::marker::Model;
@@ -50,7 +50,6 @@ impl<A: Allocator> Model for MapNotify<A> {
 
 /// The message that is a Map-Notify, or Map-Notify-Ack, of these bytes and records; `Trailing` where
 /// neither nothing nor 24 bytes stand after the records.
-#[tactic(auto, unfolding(crate::specs::Reading::notify_at))]
 pub(crate) fn read_notify<A: Allocator>(
     ack: bool,
     bytes: &[u8],
@@ -59,8 +58,7 @@ pub(crate) fn read_notify<A: Allocator>(
 ) -> Result<Message<A>, ReadFault>
     requires head { 32 ≤ length bytes.now }
     requires few { length records.items < 256 }
-    ensures read { Reads said result (notify_at ack bytes.now records.items tail.now) }
-    ensures plain { ¬ (IsErrOf result ReadFault.OutOfMemory) }
+    ensures { Reads said result (notify_at ack bytes.now records.items tail.now) }
 {
     if !(tail.is_empty() || tail.len() == 24) {
         return Err(ReadFault::Trailing);
@@ -94,7 +92,6 @@ pub fn write_notify<A: Memory, B: Allocator>(
 }
 
 // The written spelling, its Authentication Data zeros.
-#[tactic(auto, unfolding(crate::specs::Written::written_notify))]
 fn put_notify<A: Memory, B: Allocator>(
     out: &mut Vec<u8, A>,
     message: &MapNotify<B>,
@@ -104,15 +101,23 @@ fn put_notify<A: Memory, B: Allocator>(
     ensures known { OnOk result (IsNotification message.now) }
     ensures memory { OnErr result A.may_refuse }
 {
+    let records = message.records.as_slice();
+    put_head(out, &head_of(message), records.len())?;
+    put_records(out, records)?;
+    Ok(())
+}
+
+// The bytes before the records.
+fn head_of<A: Allocator>(message: &MapNotify<A>) -> [u8; HEAD_LEN]
+    ensures head { result ≡ written_notify_head message.now (replicate 16 0) }
+    ensures fits { (message.now.nonce < 2 ^ 64) × (message.now.key_id < 256) × (length message.now.records < 256) }
+{
     let kind = if message.ack {
         Kind::NotifyAck
     } else {
         Kind::Notify
     };
     let records = message.records.as_slice();
-    make_room(out, records.len())?;
     let (count, nonce, key_id) = (records.len() as u8, message.nonce, message.key_id);
-    out.try_extend_from_slice(&head(kind.number() * 16, 0, count, nonce, key_id))?;
-    put_records(out, records)?;
-    Ok(())
+    head(kind.number() * 16, 0, count, nonce, key_id)
 }

@@ -15,6 +15,7 @@ use crate::notify::read_notify;
 use crate::register::read_register;
 use lisp_memory::{FallibleVec, Memory};
 use lisp_records::{MapRecord, read_record};
+use std::alloc::Allocator;
 
 /// The one Algorithm ID that is served: HMAC-SHA-256-128-None (RFC 9301 section 12.5).
 pub(crate) const HMAC_SHA_256_128_NONE: u8 = 2;
@@ -47,15 +48,27 @@ pub fn read_message<A: Memory + Copy>(alloc: A, bytes: &[u8]) -> Result<Message<
     read_whole(alloc, bytes)
 }
 
-#[tactic(auto, using(crate::proofs::ReadLemmas::reads_gives), unfolding(crate::specs::Reading::message_at))]
 fn read_whole<A: Memory + Copy>(alloc: A, bytes: &[u8]) -> Result<Message<A>, ReadFault>
     ensures exact { Gives said result (message_at bytes.now) }
     ensures early { (fault : ReadFault) → kind_at bytes.now ≡ Err fault → result ≡ Err fault }
-    ensures memory { IsErrOf result ReadFault.OutOfMemory → A.may_refuse }
-    ensures grows { IsErrOf result ReadFault.OutOfMemory → HasHead bytes.now × HasRecords bytes.now }
+    ensures memory { IsErrOf result ReadFault.OutOfMemory → A.may_refuse × HasHead bytes.now × HasRecords bytes.now }
 {
     let kind = read_kind(bytes)?;
     let (records, tail) = read_records(alloc, bytes)?;
+    read_tail(kind, bytes, records, tail)
+}
+
+// The message of a kind, by its records and what stands after them.
+fn read_tail<A: Allocator>(
+    kind: Kind,
+    bytes: &[u8],
+    records: Vec<MapRecord<A>, A>,
+    tail: &[u8],
+) -> Result<Message<A>, ReadFault>
+    requires head { 32 ≤ length bytes.now }
+    requires few { length records.items < 256 }
+    ensures { Reads said result (tail_at kind bytes.now records.items tail.now) }
+{
     match kind {
         Kind::Register => read_register(bytes, records, tail),
         Kind::Notify => read_notify(false, bytes, records, tail),
@@ -69,7 +82,6 @@ fn read_whole<A: Memory + Copy>(alloc: A, bytes: &[u8]) -> Result<Message<A>, Re
 fn read_kind(bytes: &[u8]) -> Result<Kind, ReadFault>
     ensures kind { Reads (λ k. k) result (kind_at bytes.now) }
     ensures head { OnOk result (32 ≤ length bytes.now) }
-    ensures plain { ¬ (IsErrOf result ReadFault.OutOfMemory) }
 {
     let [first, _, _, _, _, _, _, _, _, _, _, _, _, algorithm, length_high, length_low, ..] = bytes
     else {
@@ -95,9 +107,7 @@ fn read_records<A: Memory + Copy>(
 ) -> Result<(Vec<MapRecord<A>, A>, &[u8]), ReadFault>
     requires { 32 ≤ length bytes.now }
     ensures records { Gives (λ x. (x.0.items, x.1.now)) result (records_at 0 (slice_index bytes.now 3) (drop 32 bytes.now)) }
-    ensures few { IfOk result (λ x. length x.0.items < 256) }
-    ensures memory { IsErrOf result ReadFault.OutOfMemory → A.may_refuse }
-    ensures grows { IsErrOf result ReadFault.OutOfMemory → HasRecords bytes.now }
+    ensures memory { IsErrOf result ReadFault.OutOfMemory → A.may_refuse × HasRecords bytes.now }
 {
     let mut records = Vec::new(alloc);
     records.make_room(usize::from(bytes[3]))?;

@@ -7,7 +7,7 @@ ghost use Rattle.lisp_messages.specs.declared.fault.ReadFault.{ReadFault};
 ghost use Rattle.lisp_messages.specs.Message.{Registers, IsRegistration};
 ghost use Rattle.lisp_messages.specs.Spelling.{Spells};
 ghost use Rattle.lisp_messages.specs.Authentic.{IsAuthentic, signed};
-ghost use Rattle.lisp_messages.specs.Written.{register_kind, register_flags, written_register};
+ghost use Rattle.lisp_messages.specs.Written.{register_kind, register_flags, written_register, written_register_head};
 ghost use Rattle.lisp_records.specs.Result.{Reads};
 ghost use Rattle.lisp_messages.specs.Meaning.{said};
 ghost use Rattle.lisp_messages.specs.Reading.{ids_at, register_at};
@@ -16,8 +16,8 @@ use crate::authentication::sign;
 use crate::fault::ReadFault;
 use crate::kind::Kind;
 use crate::message::Message;
-use crate::reading::read_nonce;
-use crate::writing::{head, make_room, put_records};
+use crate::reading::{HEAD_LEN, read_nonce};
+use crate::writing::{head, put_head, put_records};
 use lisp_hmac::Key;
 use lisp_memory::{FallibleCopies, Memory};
 use lisp_records::{MapRecord, Records, is_set};
@@ -110,7 +110,6 @@ pub fn write_register<A: Memory, B: Allocator>(
 }
 
 // The written spelling, its Authentication Data zeros.
-#[tactic(auto, unfolding(crate::specs::Written::written_register))]
 fn put_register<A: Memory, B: Allocator>(
     out: &mut Vec<u8, A>,
     message: &MapRegister<B>,
@@ -121,12 +120,18 @@ fn put_register<A: Memory, B: Allocator>(
     ensures memory { OnErr result A.may_refuse }
 {
     let records = message.records.as_slice();
-    make_room(out, records.len())?;
-    let (count, nonce, key_id) = (records.len() as u8, message.nonce, message.key_id);
-    out.try_extend_from_slice(&head(kind_of(message), flags_of(message), count, nonce, key_id))?;
+    put_head(out, &head_of(message), records.len())?;
     put_records(out, records)?;
-    put_ids(out, message.xtr, message.site)?;
-    Ok(())
+    put_ids(out, message.xtr, message.site)
+}
+
+// The bytes before the records.
+fn head_of<A: Allocator>(message: &MapRegister<A>) -> [u8; HEAD_LEN]
+    ensures head { result ≡ written_register_head message.now (replicate 16 0) }
+    ensures fits { (message.now.nonce < 2 ^ 64) × (message.now.key_id < 256) × (length message.now.records < 256) }
+{
+    let count = message.records.as_slice().len() as u8;
+    head(kind_of(message), flags_of(message), count, message.nonce, message.key_id)
 }
 
 // The first byte: type, P, S and I.
@@ -163,7 +168,6 @@ fn put_ids<A: Memory>(out: &mut Vec<u8, A>, xtr: [u8; 16], site: u64) -> Result<
 
 /// The message that is the Map-Register of these bytes and records, by what stands after the
 /// records: `NoIds`, then `Short` or `Trailing`.
-#[tactic(auto, unfolding(crate::specs::Reading::register_at))]
 pub(crate) fn read_register<A: Allocator>(
     bytes: &[u8],
     records: Vec<MapRecord<A>, A>,
@@ -171,8 +175,7 @@ pub(crate) fn read_register<A: Allocator>(
 ) -> Result<Message<A>, ReadFault>
     requires head { 32 ≤ length bytes.now }
     requires few { length records.items < 256 }
-    ensures read { Reads said result (register_at bytes.now records.items tail.now) }
-    ensures plain { ¬ (IsErrOf result ReadFault.OutOfMemory) }
+    ensures { Reads said result (register_at bytes.now records.items tail.now) }
 {
     if !is_set(bytes[0], IDS) {
         return Err(ReadFault::NoIds);
@@ -196,8 +199,7 @@ pub(crate) fn read_register<A: Allocator>(
 // xTR-ID and Site-ID, which end the message.
 #[tactic(auto, unfolding(crate::specs::Reading::ids_at))]
 fn read_ids(tail: &[u8]) -> Result<([u8; 16], u64), ReadFault>
-    ensures ids { Reads (λ x. x) result (ids_at tail.now) }
-    ensures plain { ¬ (IsErrOf result ReadFault.OutOfMemory) }
+    ensures { Reads (λ x. x) result (ids_at tail.now) }
 {
     let Some((xtr, rest)) = tail.split_first_chunk::<16>() else {
         return Err(ReadFault::Short);

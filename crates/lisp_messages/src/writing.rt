@@ -7,7 +7,7 @@ ghost use Rattle.lisp_messages.specs.Written.{written_records};
 
 use crate::reading::{HEAD_LEN, HMAC_SHA_256_128_NONE};
 use lisp_hmac::TAG_LEN;
-use lisp_memory::{FallibleVec, Memory};
+use lisp_memory::{FallibleCopies, FallibleVec, Memory};
 use lisp_records::{MapRecord, write_record};
 use std::alloc::{AllocError, Allocator};
 
@@ -32,17 +32,22 @@ pub(crate) fn head(kind: u8, flags: u8, count: u8, nonce: u64, key_id: u8) -> [u
     ]
 }
 
-/// Makes room for a message with so many records, as if each had one IPv4 locator: mostly nothing moves while it is
-/// written.
-pub(crate) fn make_room<A: Memory>(out: &mut Vec<u8, A>, records: usize) -> Result<(), AllocError>
-    ensures same { out.new.items ≡ out.old.items }
+/// Makes room for a message with so many records, as if each had one IPv4 locator, so that mostly nothing moves while
+/// it is written, and appends the bytes before the records.
+pub(crate) fn put_head<A: Memory>(
+    out: &mut Vec<u8, A>,
+    head: &[u8; HEAD_LEN],
+    records: usize,
+) -> Result<(), AllocError>
+    ensures head { OnOk result (out.new.items ≡ out.old.items ++ head.now) }
     ensures memory { OnErr result A.may_refuse }
 {
     out.make_room(
         records
             .saturating_mul(RECORD_LEN)
             .saturating_add(MESSAGE_LEN),
-    )
+    )?;
+    out.try_extend_from_slice(head)
 }
 
 /// Appends the written spellings of the records, one after the other.

@@ -10,46 +10,43 @@ use Rattle.lisp_records.specs.Result.{◌>>=◌, Reads}
 use Rattle.lisp_records.specs.Reading.{Fails, Gives, after, number_at, family_of, address_of, address_at, locator_of, locator_at, mask_of, start_at}
 use Rattle.lisp_records.proofs.Fields.{done}
 
--- a fault as an answer
-abbrev pub failed : {X : Type 0} → RecordFault → Result X RecordFault
-failed e = Err e
+module _ {X E : Type 0} where
+  -- the answer of a `?`
+  abbrev pub Passes : Result X E → E → Type 0
+  Passes r e = IsErrAnd r (λ f. f ≡ e)
 
--- the answer of a `?`
-abbrev pub Passes : {X : Type 0} → Result X RecordFault → RecordFault → Type 0
-Passes r e = IsErrAnd r (λ f. f ≡ e)
+  -- faults that are equal as answers are equal
+  pub fault_is : (e f : E) → ◌≡◌ {A = Result X E} (Err e) (Err f) → e ≡ f
+  fault_is e f is = cc
 
--- faults that are equal as answers are equal
-fault_is : {X : Type 0} (e f : RecordFault) → failed {X = X} e ≡ failed f → e ≡ f
-fault_is e f is = cc
+  -- a value is no fault
+  pub no_fault : {P : Type 0} (x : X) (f : E) → ◌≡◌ {A = Result X E} (Ok x) (Err f) → P
+  no_fault x f is = absurd cc
 
-module _ {X : Type 0} where
   -- the fault that is passed on is the one answered
-  pub is_fault : (r : Result X RecordFault) (e f : RecordFault) → Passes r e → e ≡ f → r ≡ Err f
+  pub is_fault : (r : Result X E) (e f : E) → Passes r e → e ≡ f → r ≡ Err f
   is_fault (Ok x) e f passes same = absurd passes
   is_fault (Err d) e f passes same = ap Err (passes ∙ same)
 
   -- it is what reading gives, where reading meets it
-  pub gives_fault : {Y : Type 0} (view : X → Y) (r : Result X RecordFault) (e : RecordFault) (read : Result Y RecordFault) → Passes r e → Fails e read → Gives view r read
-  gives_fault view (Ok x) e read passes fails = absurd passes
-  gives_fault view (Err d) e read passes fails = subst (λ (f : RecordFault). Fails f read) (sym passes) fails
-
-  pub reads_fault : {Y : Type 0} (view : X → Y) (r : Result X RecordFault) (e : RecordFault) (read : Result Y RecordFault) → Passes r e → read ≡ Err e → Reads view r read
+  pub reads_fault : {Y : Type 0} (view : X → Y) (r : Result X E) (e : E) (read : Result Y E) → Passes r e → read ≡ Err e → Reads view r read
   reads_fault view (Ok x) e read passes fails = absurd passes
   reads_fault view (Err d) e read passes fails = fails ∙ ap Err (sym passes)
 
   -- what follows from a fault, follows where it is passed on
-  pub of_fault : {Y P : Type 0} (r : Result X RecordFault) (e f : RecordFault) → Passes r e → (failed {X = Y} e ≡ Err f → P) → r ≡ Err f → P
+  pub of_fault : {Y P : Type 0} (r : Result X E) (e f : E) → Passes r e → (◌≡◌ {A = Result Y E} (Err e) (Err f) → P) → r ≡ Err f → P
   of_fault (Ok x) e f passes follows is = absurd passes
   of_fault (Err d) e f passes follows is = follows (ap Err (sym passes ∙ fault_is d f is))
 
   -- a fault that reading never meets is not answered
-  pub not_met : {Y P : Type 0} (read : Result Y RecordFault) (r : Result X RecordFault) (e f : RecordFault) → (read ≡ Err f → ⊥) → Passes r e → read ≡ Err e → r ≡ Err f → P
+  pub not_met : {Y P : Type 0} (read : Result Y E) (r : Result X E) (e f : E) → (read ≡ Err f → ⊥) → Passes r e → read ≡ Err e → r ≡ Err f → P
   not_met read (Ok x) e f never passes met is = absurd passes
   not_met read (Err d) e f never passes met is = absurd (never (met ∙ ap Err (sym passes ∙ fault_is d f is)))
 
-  -- a value is no fault
-  pub no_fault : {P : Type 0} (x : X) (f : RecordFault) → done x ≡ Err f → P
-  no_fault x f is = absurd cc
+-- the same, where out of memory may come at any time
+pub gives_fault : {X Y : Type 0} (view : X → Y) (r : Result X RecordFault) (e : RecordFault) (read : Result Y RecordFault) → Passes r e → Fails e read → Gives view r read
+gives_fault view (Ok x) e read passes fails = absurd passes
+gives_fault view (Err d) e read passes fails = subst (λ (f : RecordFault). Fails f read) (sym passes) fails
 
 -- ---- reading never runs out of memory
 

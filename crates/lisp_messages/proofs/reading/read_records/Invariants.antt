@@ -7,6 +7,5 @@ use Rattle.lisp_messages.proofs.reading.read_records.Given as goal
 abbrev pub invariant-loop-place : goal.invariant-loop-place
 invariant-loop-place g l = record {
   within : l.at ≤ length l.bytes;
-  count : length l.records.items ≡ l.place;
   read : with_front l.records.items (records_at l.place (l.place-end - l.place) (drop l.at l.bytes)) ≡ records_at 0 l.place-end (drop 32 l.bytes);
 }

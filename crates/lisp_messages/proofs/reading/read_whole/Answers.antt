@@ -1,80 +1,40 @@
-use Rattle.std.proofs.Common.{Ok, Err, sym, ap, ◌∙◌}
-use Rattle.std.proofs.lemmas.Result.{err_from_is_err_and}
+use Rattle.std.proofs.Common.{arith}
+use Rattle.lisp_records.proofs.Faults.{is_fault, of_fault, not_met}
 use Rattle.lisp_messages.specs.Meaning.{said}
-use Rattle.lisp_messages.specs.declared.kind.Kind.TheVariants.{Register, Notify, NotifyAck}
-use Rattle.lisp_messages.proofs.ReadLemmas.{head_fails, head_holds, record_fails, whole_given}
+use Rattle.lisp_messages.proofs.Faults.{gives_fault, not_read, kind_plain, tail_plain}
+use Rattle.lisp_messages.proofs.ReadLemmas.{whole_given, head_fails, head_holds, head_fault, record_fails, records_few}
 use Rattle.lisp_messages.proofs.reading.read_whole.Goals as goal
 
-pub returns-in-Register-clause-exact : goal.returns-in-Register-clause-exact
-returns-in-Register-clause-exact g c = whole_given said c.read_register.result c.args.bytes.now Register c.in_ok-records.records.items c.in_ok-records.tail.now (c.in_ok-kind.ensures.kind ∙ ap Ok c.in-Register.is) c.in_ok-records.ensures.records c.read_register.ensures.read
-
-pub returns-in-Notify-clause-exact : goal.returns-in-Notify-clause-exact
-returns-in-Notify-clause-exact g c = whole_given said c.read_notify.result c.args.bytes.now Notify c.in_ok-records.records.items c.in_ok-records.tail.now (c.in_ok-kind.ensures.kind ∙ ap Ok c.in-Notify.is) c.in_ok-records.ensures.records c.read_notify.ensures.read
-
-pub returns-in-NotifyAck-clause-exact : goal.returns-in-NotifyAck-clause-exact
-returns-in-NotifyAck-clause-exact g c = whole_given said c.read_notify-in-NotifyAck.result c.args.bytes.now NotifyAck c.in_ok-records.records.items c.in_ok-records.tail.now (c.in_ok-kind.ensures.kind ∙ ap Ok c.in-NotifyAck.is) c.in_ok-records.ensures.records c.read_notify-in-NotifyAck.ensures.read
-
 pub returns-in_err-kind-clause-exact : goal.returns-in_err-kind-clause-exact
-returns-in_err-kind-clause-exact g c =
-    let p = err_from_is_err_and c.from_residual.result c.from_residual.ensures.1 in
-    rw (p.1, p.2) (head_fails (said {A = g.row.A.Denot}) c.in_err-kind.field-0.0 c.args.bytes.now c.in_err-kind.ensures.kind)
+returns-in_err-kind-clause-exact g c = gives_fault said c.from_residual.result c.in_err-kind.field-0.0 _ c.from_residual.ensures.1 (head_fails c.in_err-kind.field-0.0 c.args.bytes.now c.in_err-kind.ensures.kind)
+
+pub returns-in_err-kind-clause-early : goal.returns-in_err-kind-clause-early
+returns-in_err-kind-clause-early g c fault fails =
+    is_fault c.from_residual.result c.in_err-kind.field-0.0 fault c.from_residual.ensures.1 (head_fault c.args.bytes.now c.in_err-kind.field-0.0 fault c.in_err-kind.ensures.kind fails)
+
+pub returns-in_err-kind-clause-memory : goal.returns-in_err-kind-clause-memory
+returns-in_err-kind-clause-memory g c = not_met _ c.from_residual.result c.in_err-kind.field-0.0 _ (kind_plain c.args.bytes.now) c.from_residual.ensures.1 c.in_err-kind.ensures.kind
 
 pub returns-in_err-records-clause-exact : goal.returns-in_err-records-clause-exact
 returns-in_err-records-clause-exact g c =
-    let p = err_from_is_err_and c.from_residual-in_err-records.result c.from_residual-in_err-records.ensures.1 in
-    rw (p.1, p.2) (record_fails (said {A = g.row.A.Denot}) c.in_err-records.field-0.0 c.args.bytes.now c.in_ok-kind.kind c.in_ok-kind.ensures.kind c.in_err-records.ensures.records)
-
-pub returns-in-Register-clause-early : goal.returns-in-Register-clause-early
-returns-in-Register-clause-early g c fault fails = absurd (head_holds c.args.bytes.now c.in_ok-kind.kind fault c.in_ok-kind.ensures.kind fails)
-
-pub returns-in-Register-clause-memory : goal.returns-in-Register-clause-memory
-returns-in-Register-clause-memory g c out = absurd (c.read_register.ensures.plain out)
-
-pub returns-in-Register-clause-grows : goal.returns-in-Register-clause-grows
-returns-in-Register-clause-grows g c out = absurd (c.read_register.ensures.plain out)
-
-pub returns-in-Notify-clause-early : goal.returns-in-Notify-clause-early
-returns-in-Notify-clause-early g c fault fails = absurd (head_holds c.args.bytes.now c.in_ok-kind.kind fault c.in_ok-kind.ensures.kind fails)
-
-pub returns-in-Notify-clause-memory : goal.returns-in-Notify-clause-memory
-returns-in-Notify-clause-memory g c out = absurd (c.read_notify.ensures.plain out)
-
-pub returns-in-Notify-clause-grows : goal.returns-in-Notify-clause-grows
-returns-in-Notify-clause-grows g c out = absurd (c.read_notify.ensures.plain out)
-
-pub returns-in-NotifyAck-clause-early : goal.returns-in-NotifyAck-clause-early
-returns-in-NotifyAck-clause-early g c fault fails = absurd (head_holds c.args.bytes.now c.in_ok-kind.kind fault c.in_ok-kind.ensures.kind fails)
-
-pub returns-in-NotifyAck-clause-memory : goal.returns-in-NotifyAck-clause-memory
-returns-in-NotifyAck-clause-memory g c out = absurd (c.read_notify-in-NotifyAck.ensures.plain out)
-
-pub returns-in-NotifyAck-clause-grows : goal.returns-in-NotifyAck-clause-grows
-returns-in-NotifyAck-clause-grows g c out = absurd (c.read_notify-in-NotifyAck.ensures.plain out)
+    gives_fault said c.from_residual-in_err-records.result c.in_err-records.field-0.0 _ c.from_residual-in_err-records.ensures.1 (record_fails c.in_err-records.field-0.0 c.args.bytes.now c.in_ok-kind.kind c.in_ok-kind.ensures.kind c.in_err-records.ensures.records)
 
 pub returns-in_err-records-clause-early : goal.returns-in_err-records-clause-early
 returns-in_err-records-clause-early g c fault fails = absurd (head_holds c.args.bytes.now c.in_ok-kind.kind fault c.in_ok-kind.ensures.kind fails)
 
-pub returns-in_err-kind-clause-early : goal.returns-in_err-kind-clause-early
-returns-in_err-kind-clause-early g c fault fails =
-    let p = err_from_is_err_and c.from_residual.result c.from_residual.ensures.1 in
-    p.1 ∙ ap Err (p.2 ∙ (let same = sym c.in_err-kind.ensures.kind ∙ fails in cc))
-
-pub returns-in_err-kind-clause-memory : goal.returns-in_err-kind-clause-memory
-returns-in_err-kind-clause-memory g c out =
-    let p = err_from_is_err_and c.from_residual.result c.from_residual.ensures.1 in
-    absurd (c.in_err-kind.ensures.plain (ap Err (let same = rw (p.1, p.2) at out in cc)))
-
-pub returns-in_err-kind-clause-grows : goal.returns-in_err-kind-clause-grows
-returns-in_err-kind-clause-grows g c out =
-    let p = err_from_is_err_and c.from_residual.result c.from_residual.ensures.1 in
-    absurd (c.in_err-kind.ensures.plain (ap Err (let same = rw (p.1, p.2) at out in cc)))
-
 pub returns-in_err-records-clause-memory : goal.returns-in_err-records-clause-memory
-returns-in_err-records-clause-memory g c out =
-    let p = err_from_is_err_and c.from_residual-in_err-records.result c.from_residual-in_err-records.ensures.1 in
-    c.in_err-records.ensures.memory (ap Err (let same = rw (p.1, p.2) at out in cc))
+returns-in_err-records-clause-memory g c =
+    of_fault c.from_residual-in_err-records.result c.in_err-records.field-0.0 _ c.from_residual-in_err-records.ensures.1
+    (λ out. let ran = c.in_err-records.ensures.memory out in (ran.0, (λ fault fails. head_holds c.args.bytes.now c.in_ok-kind.kind fault c.in_ok-kind.ensures.kind fails), ran.1))
 
-pub returns-in_err-records-clause-grows : goal.returns-in_err-records-clause-grows
-returns-in_err-records-clause-grows g c out =
-    let p = err_from_is_err_and c.from_residual-in_err-records.result c.from_residual-in_err-records.ensures.1 in
-    (λ fault fails. head_holds c.args.bytes.now c.in_ok-kind.kind fault c.in_ok-kind.ensures.kind fails, c.in_err-records.ensures.grows (ap Err (let same = rw (p.1, p.2) at out in cc)))
+pub read_tail-requires-clause-few : goal.read_tail-requires-clause-few
+read_tail-requires-clause-few g c = records_few c.args.bytes.now c.in_ok-records.records.items c.in_ok-records.tail.now (λ i. omega (arith, c.type_inv.bytes i)) c.in_ok-records.ensures.records
+
+pub returns-clause-exact : goal.returns-clause-exact
+returns-clause-exact g c = whole_given said c.read_tail.result c.args.bytes.now c.in_ok-kind.kind c.in_ok-records.records.items c.in_ok-records.tail.now c.in_ok-kind.ensures.kind c.in_ok-records.ensures.records c.read_tail.ensures
+
+pub returns-clause-early : goal.returns-clause-early
+returns-clause-early g c fault fails = absurd (head_holds c.args.bytes.now c.in_ok-kind.kind fault c.in_ok-kind.ensures.kind fails)
+
+pub returns-clause-memory : goal.returns-clause-memory
+returns-clause-memory g c = not_read said c.read_tail.result _ _ (tail_plain c.in_ok-kind.kind c.args.bytes.now c.in_ok-records.records.items c.in_ok-records.tail.now) c.read_tail.ensures
