@@ -1,5 +1,5 @@
 -- What reading gives of the end of a message, by what the program reads there.
-use Rattle.std.proofs.Common.{◌≡◌, ◌⊎◌, inl, inr, ℕ, Bool, true, false, ◌||◌, eqb, List, length, Ok, Err, refl, sym, ◌∙◌}
+use Rattle.std.proofs.Common.{◌≡◌, ◌⊎◌, inl, inr, ℕ, Bool, true, false, eqb, List, length, Ok, Err, refl, sym, ◌∙◌}
 use Rattle.std.specs.Prelude.{slice_index}
 use Rattle.std.proofs.lemmas.Bool.{ne_eqb}
 use Rattle.lisp_records.specs.Record.{Mapping}

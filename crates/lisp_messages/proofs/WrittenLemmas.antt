@@ -1,9 +1,12 @@
 -- The written spellings, by their Authentication Data, and their parts.
-use Rattle.std.proofs.Common.{◌≡◌, ℕ, ◌*◌, ◌^◌, ◌<◌, List, [], ◌∷◌, ◌++◌, length, take, drop, replicate, All, ◌≤◌, refl, ap, subst, ◌∙◌, append_assoc, arith}
+use Rattle.std.proofs.Common.{◌≡◌, ℕ, ◌*◌, ◌^◌, ◌<◌, List, [], ◌∷◌, ◌++◌, length, take, drop, replicate, All, ◌≤◌, get_or, ◌+◌, refl, sym, ap, subst, ◌∙◌, append_assoc, arith}
 use Rattle.std.specs.List.{AllByRecursion}
-use Rattle.std.proofs.lemmas.List.{length-append, take_at, drop_at}
+use Rattle.std.proofs.Math.ListN.{drop_of_length-le}
+use Rattle.std.proofs.lemmas.Grind.{flat_map-append}
+use Rattle.std.proofs.lemmas.List.{append-nil, drop-drop, length-append, length-take, length-drop, take_all, take_at, take_more, drop_at}
 use Rattle.std.proofs.lemmas.List.Elements.{All-take, All-drop, recursion_from_All}
 use Rattle.lisp_records.specs.Record.{Mapping, IsMapping}
+use Rattle.lisp_records.specs.Written.{written as written_record}
 use Rattle.lisp_messages.specs.Message.{Registration, Notification, IsRegistration, IsNotification}
 use Rattle.lisp_messages.specs.Spelling.{common, notify_type}
 use Rattle.lisp_messages.specs.Written.{register_kind, register_flags, written_notify_head, written_records, written_notify, written_register_head, written_ids, written_register}
@@ -77,3 +80,26 @@ register_head inside m bytes kind flags rs same first third listed made = made �
 
 pub register_fits : (inside m : Registration) → inside ≡ m → (inside.nonce < 2 ^ 64) × (inside.key_id < 256) → length inside.records < 256 → (m.nonce < 2 ^ 64) × (m.key_id < 256) × (length m.records < 256)
 register_fits inside m same fits few = subst (λ (x : Registration). (x.nonce < 2 ^ 64) × (x.key_id < 256) × (length x.records < 256)) same (fits.0, fits.1, few)
+
+-- ---- records that are appended one after the other
+
+records_more : (rs : List Mapping) (i : ℕ) (m : Mapping) → i < length rs → m ≡ get_or rs i m → written_records (take (i + 1) rs) ≡ written_records (take i rs) ++ written_record m
+records_more rs i m lt at =
+    let one : written_records (get_or rs i m ∷ []) ≡ written_record m = append-nil (written_record (get_or rs i m)) ∙ ap written_record (sym at) in
+    ap written_records (take_more rs i m lt) ∙ flat_map-append written_record (take i rs) (get_or rs i m ∷ []) ∙ ap (λ (t : List ℕ). written_records (take i rs) ++ t) one
+
+pub records_go_on : (old out new : List ℕ) (rs : List Mapping) (i : ℕ) (m : Mapping) → i < length rs → m ≡ get_or rs i m → out ≡ old ++ written_records (take i rs) → new ≡ out ++ written_record m → new ≡ old ++ written_records (take (i + 1) rs)
+records_go_on old out new rs i m lt at so_far appended =
+    let front = written_records (take i rs) in
+    appended ∙ ap (λ (t : List ℕ). t ++ written_record m) so_far ∙ append_assoc old front (written_record m) ∙ ap (λ (t : List ℕ). old ++ t) (sym (records_more rs i m lt at))
+
+-- ---- a tag in its place
+
+-- a part of a buffer that was written over, and what stands behind it
+pub put_in_place : (len : ℕ) (items seen put tag : List ℕ) → len ≡ length items → 32 ≤ length items → seen ≡ items → put ≡ tag → length tag ≡ 16
+    → take len ((take 16 seen ++ (put ++ drop 16 (drop 16 seen))) ++ drop (length (take 16 seen ++ (put ++ drop 16 (drop 16 seen)))) items) ≡ take 16 items ++ tag ++ drop 32 items
+put_in_place len items seen put tag size long same written wide =
+    let whole : List ℕ = take 16 items ++ (tag ++ drop 32 items) in
+    let sizes : length whole ≡ length items = omega (arith, length-append (take 16 items) (tag ++ drop 32 items), length-append tag (drop 32 items), length-take 16 items, length-drop 32 items) in
+    let none : whole ++ drop (length whole) items ≡ whole = ap (λ (t : List ℕ). whole ++ t) (drop_of_length-le items (omega (arith, sizes))) ∙ append-nil whole in
+    rw (same, written, drop-drop 16 16 items) (ap (take len) none ∙ take_all len whole (omega (arith, size, sizes)) ∙ sym (append_assoc (take 16 items) tag (drop 32 items)))
