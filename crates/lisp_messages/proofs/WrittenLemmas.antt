@@ -1,5 +1,7 @@
 -- The written spellings, by their Authentication Data, and their parts.
-use Rattle.std.proofs.Common.{◌≡◌, ℕ, ◌*◌, ◌^◌, ◌<◌, List, [], ◌∷◌, ◌++◌, length, take, drop, replicate, All, ◌≤◌, get_or, ◌+◌, refl, sym, ap, subst, ◌∙◌, append_assoc, arith}
+use Rattle.std.proofs.Common.{◌≡◌, ℕ, ◌*◌, ◌^◌, ◌<◌, List, [], ◌∷◌, ◌++◌, length, take, drop, replicate, All, ◌≤◌, get_or, ◌+◌, Result, Ok, Err, refl, sym, ap, subst, ◌∙◌, append_assoc, arith}
+use Rattle.std.specs.Prelude.{OnOk, is_ok, if◌then◌else◌}
+use Rattle.std.specs.Int.{from_bool}
 use Rattle.std.specs.List.{AllByRecursion}
 use Rattle.std.proofs.Math.ListN.{drop_of_length-le}
 use Rattle.std.proofs.lemmas.Grind.{flat_map-append}
@@ -7,9 +9,12 @@ use Rattle.std.proofs.lemmas.List.{append-nil, drop-drop, length-append, length-
 use Rattle.std.proofs.lemmas.List.Elements.{All-take, All-drop, recursion_from_All}
 use Rattle.lisp_records.specs.Record.{Mapping, IsMapping}
 use Rattle.lisp_records.specs.Written.{written as written_record}
+use Rattle.lisp_records.proofs.Fields.{flag_is}
+use Rattle.lisp_messages.specs.declared.kind.Kind.{Kind}
+use Rattle.lisp_messages.specs.declared.kind.Kind.TheVariants as kinds
 use Rattle.lisp_messages.specs.Message.{Registration, Notification, IsRegistration, IsNotification}
 use Rattle.lisp_messages.specs.Spelling.{common, notify_type}
-use Rattle.lisp_messages.specs.Written.{register_kind, register_flags, written_notify_head, written_records, written_notify, written_register_head, written_ids, written_register}
+use Rattle.lisp_messages.specs.Written.{kind_number, register_kind, register_flags, written_notify_head, written_records, written_notify, written_register_head, written_ids, written_register}
 
 -- other Authentication Data in its place
 pub written_notify-put : (m : Notification) (tag : List ℕ) → take 16 (written_notify m (replicate 16 0)) ++ tag ++ drop 32 (written_notify m (replicate 16 0)) ≡ written_notify m tag
@@ -32,6 +37,11 @@ unfolding written_register
 length-written_register m =
     omega (arith, length-append (written_register_head m (replicate 16 0)) (written_records m.records ++ written_ids m))
 
+-- what was written where there was memory
+pub where_ok : {E : Type 0} (r : Result (Unit {0}) E) (new a b : List ℕ) → new ≡ (if is_ok r then a else b) → OnOk r (new ≡ a)
+where_ok (Ok x) new a b is = is
+where_ok (Err e) new a b is = tt
+
 -- what holds of each item holds of each item of a part
 pub All-part : (P : ℕ → Type 0) (front part rest : List ℕ) → All P (front ++ part ++ rest) → All P part
 All-part P front part rest all =
@@ -43,7 +53,7 @@ All-part P front part rest all =
 -- its head, then its records
 pub notify_put : (m : Notification) (old mid new head : List ℕ) (rs : List Mapping) → old ≡ [] → head ≡ written_notify_head m (replicate 16 0) → rs ≡ m.records → mid ≡ old ++ head → new ≡ mid ++ written_records rs → new ≡ written_notify m (replicate 16 0)
 unfolding written_notify
-notify_put m old mid new head rs empty front listed first then = rw (then, first, empty, front, listed) refl
+notify_put m old mid new head rs empty front listed first next = rw (next, first, empty, front, listed) refl
 
 -- and what its fields promise
 pub notify_known : (m : Notification) (rs : List Mapping) → rs ≡ m.records → (m.nonce < 2 ^ 64) × (m.key_id < 256) × (length m.records < 256) → All IsMapping rs → IsNotification m
@@ -52,8 +62,8 @@ notify_known m rs listed fits all = record { nonce = fits.0; key = fits.1; recor
 -- its head, its records, then xTR-ID and Site-ID
 pub register_put : (inside m : Registration) (old mid body new head : List ℕ) (rs : List Mapping) → inside ≡ m → old ≡ [] → head ≡ written_register_head m (replicate 16 0) → rs ≡ inside.records → mid ≡ old ++ head → body ≡ mid ++ written_records rs → new ≡ body ++ written_ids inside → new ≡ written_register m (replicate 16 0)
 unfolding written_register
-register_put inside m old mid body new head rs same empty front listed first then last =
-    last ∙ rw (then, first, empty, front, listed, same) (append_assoc (written_register_head m (replicate 16 0)) (written_records m.records) (written_ids m))
+register_put inside m old mid body new head rs same empty front listed first next last =
+    last ∙ rw (next, first, empty, front, listed, same) (append_assoc (written_register_head m (replicate 16 0)) (written_records m.records) (written_ids m))
 
 -- and what its fields promise
 pub register_known : (inside m : Registration) (rs : List Mapping) → inside ≡ m → rs ≡ inside.records → (m.nonce < 2 ^ 64) × (m.key_id < 256) × (length m.records < 256) → All IsMapping rs → (length inside.xtr ≡ 16) × (inside.site < 2 ^ 64)
@@ -68,6 +78,19 @@ register_known inside m rs same listed fits all wide bytes = record {
 }
 
 -- ---- the bytes before the records, by what the program reads of a message
+
+pub kind_small : (k : Kind) → kind_number k ≤ 5
+kind_small kinds.Register = omega arith
+kind_small kinds.Notify = omega arith
+kind_small kinds.NotifyAck = omega arith
+
+pub kind_made : (inside m : Registration) (number proxy sec : ℕ) → inside ≡ m → number ≡ 3 → proxy ≡ from_bool inside.proxy → sec ≡ from_bool inside.sec → number * 16 + proxy * 8 + sec * 4 + 2 ≡ register_kind m
+kind_made inside m number proxy sec same n p s = rw (n, flag_is inside.proxy proxy p, flag_is inside.sec sec s, same) refl
+
+pub flags_made : (inside m : Registration) (eid_notify use_ttl merge want_notify : ℕ) → inside ≡ m → eid_notify ≡ from_bool inside.eid_notify → use_ttl ≡ from_bool inside.use_ttl → merge ≡ from_bool inside.merge → want_notify ≡ from_bool inside.want_notify → eid_notify * 16 + use_ttl * 8 + merge * 4 + want_notify * 1 ≡ register_flags m
+flags_made inside m eid_notify use_ttl merge want_notify same e t a n =
+    let one : want_notify * 1 ≡ want_notify = omega arith in
+    rw (one, flag_is inside.eid_notify eid_notify e, flag_is inside.use_ttl use_ttl t, flag_is inside.merge merge a, flag_is inside.want_notify want_notify n, same) refl
 
 pub notify_head : (inside m : Notification) (bytes : List ℕ) (number : ℕ) (rs : List Mapping) → inside ≡ m → number ≡ notify_type inside.ack → rs ≡ inside.records → bytes ≡ number * 16 ∷ 0 ∷ 0 ∷ common (length rs) inside.nonce inside.key_id (replicate 16 0) → bytes ≡ written_notify_head m (replicate 16 0)
 notify_head inside m bytes number rs same named listed made = made ∙ rw (named, listed, same) refl

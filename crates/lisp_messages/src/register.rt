@@ -162,8 +162,7 @@ fn put_ids<A: Memory>(out: &mut Vec<u8, A>, xtr: [u8; 16], site: u64) -> Result<
     ensures memory { OnErr result A.may_refuse }
 {
     out.try_extend_from_slice(&xtr)?;
-    out.try_extend_from_slice(&site.to_be_bytes())?;
-    Ok(())
+    out.try_extend_from_slice(&site.to_be_bytes())
 }
 
 /// The message that is the Map-Register of these bytes and records, by what stands after the

@@ -1,3 +1,4 @@
+use Rattle.std.proofs.Common.{length, ap, arith}
 use Rattle.lisp_messages.proofs.WrittenLemmas.{register_head, register_fits}
 use Rattle.lisp_messages.proofs.register.head_of.Goals as goal
 
@@ -6,3 +7,6 @@ returns-clause-head g c = register_head _ c.args.message.now c.head.result c.kin
 
 pub returns-clause-fits : goal.returns-clause-fits
 returns-clause-fits g c = register_fits _ c.args.message.now c.message.view_is c.head.ensures.fits c.message.invariant
+
+pub overflow_cast-count : goal.overflow_cast-count
+overflow_cast-count g c = omega (arith, c.message.invariant, ap length c.as_slice.ensures)
