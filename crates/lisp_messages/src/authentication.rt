@@ -1,6 +1,6 @@
 //! Authentication of a message: the tag in its Authentication Data.
 
-ghost use Rattle.std.specs.Prelude.{◌≡◌, ◌+◌, ◌++◌, ◌≤◌, ◌↔◌, length, take, drop, vec_len, IsTrue};
+ghost use Rattle.std.specs.Prelude.{◌≡◌, ◌+◌, ◌++◌, ◌≤◌, ◌↔◌, take, drop, vec_len, IsTrue};
 ghost use Rattle.lisp_hmac.specs.Tag.{tag};
 ghost use Rattle.lisp_messages.specs.Authentic.{IsAuthentic, is_authentic};
 

@@ -6,7 +6,7 @@ ghost use Rattle.lisp_messages.specs.Message.{Said};
 ghost use Rattle.lisp_messages.specs.Meaning.{said};
 ghost use Rattle.lisp_messages.specs.Spelling.{Spells};
 ghost use Rattle.lisp_records.specs.Result.{Reads};
-ghost use Rattle.lisp_messages.specs.Reading.{Gives, HasHead, HasRecords, kind_at, records_at, nonce_of, tail_at, notify_at, register_at, message_at};
+ghost use Rattle.lisp_messages.specs.Reading.{Gives, HasHead, HasRecords, kind_at, records_at, nonce_of, tail_at, message_at};
 
 use crate::fault::ReadFault;
 use crate::kind::Kind;

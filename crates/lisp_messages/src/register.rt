@@ -1,9 +1,8 @@
 //! The Map-Register.
 
-ghost use Rattle.std.specs.Prelude.{◌≡◌, ◌^◌, ◌<◌, ◌≤◌, [], ◌++◌, length, replicate, IfOk, IsErrOf, OnOk, OnErr};
+ghost use Rattle.std.specs.Prelude.{◌≡◌, ◌^◌, ◌<◌, ◌≤◌, [], ◌++◌, length, replicate, IfOk, OnOk, OnErr};
 ghost use Rattle.std.specs.Int.{w64, to_be_bytes};
 ghost use Rattle.std.specs.List.{AllByRecursion};
-ghost use Rattle.lisp_messages.specs.declared.fault.ReadFault.{ReadFault};
 ghost use Rattle.lisp_messages.specs.Message.{Registers, IsRegistration};
 ghost use Rattle.lisp_messages.specs.Spelling.{Spells};
 ghost use Rattle.lisp_messages.specs.Authentic.{IsAuthentic, signed};
@@ -131,7 +130,13 @@ fn head_of<A: Allocator>(message: &MapRegister<A>) -> [u8; HEAD_LEN]
     ensures fits { (message.now.nonce < 2 ^ 64) × (message.now.key_id < 256) × (length message.now.records < 256) }
 {
     let count = message.records.as_slice().len() as u8;
-    head(kind_of(message), flags_of(message), count, message.nonce, message.key_id)
+    head(
+        kind_of(message),
+        flags_of(message),
+        count,
+        message.nonce,
+        message.key_id,
+    )
 }
 
 // The first byte: type, P, S and I.

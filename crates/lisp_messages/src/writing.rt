@@ -1,6 +1,6 @@
 //! What is written in each message alike.
 
-ghost use Rattle.std.specs.Prelude.{◌≡◌, ◌∷◌, ◌++◌, ◌<◌, ◌^◌, length, replicate, All, OnErr, OnOk};
+ghost use Rattle.std.specs.Prelude.{◌≡◌, ◌∷◌, ◌++◌, ◌<◌, ◌^◌, replicate, All, OnErr, OnOk};
 ghost use Rattle.lisp_records.specs.Record.{IsMapping};
 ghost use Rattle.lisp_messages.specs.Spelling.{common};
 ghost use Rattle.lisp_messages.specs.Written.{written_records};

@@ -1,14 +1,14 @@
 //! The record: an EID-Prefix and its locators, read from bytes and written as bytes.
 
-ghost use Rattle.std.specs.Prelude.{◌≡◌, ℕ, ◌+◌, ◌*◌, ◌/◌, ◌%◌, ◌<◌, ◌≤◌, ◌↔◌, List, [], ◌∷◌, ◌++◌, length, drop, slice_index, slice_range, IsSome, IfSome, IfOk, IfErr, IsErrOf, OnOk, OnErr, Ok, Err, is_ok, if◌then◌else◌};
+ghost use Rattle.std.specs.Prelude.{◌≡◌, ℕ, ◌+◌, ◌<◌, ◌≤◌, ◌↔◌, List, ◌++◌, length, drop, slice_range, IsSome, IfSome, IfOk, IsErrOf, OnOk, OnErr, Ok, Err, is_ok, if◌then◌else◌};
 ghost use Rattle.std.specs.List.{AllByRecursion};
-ghost use Rattle.lisp_records.specs.Address.{IsWhole, IsBlock, block_cmp, family, width, octets, max_len};
+ghost use Rattle.lisp_records.specs.Address.{IsWhole, IsBlock, block_cmp, family, octets};
 ghost use Rattle.lisp_records.specs.Grown.{Grew};
-ghost use Rattle.lisp_records.specs.Record.{Mapping, IsLocator, IsMapping, bit};
+ghost use Rattle.lisp_records.specs.Record.{Mapping, IsLocator, IsMapping};
 ghost use Rattle.lisp_records.specs.Spelling.{Spells};
 ghost use Rattle.lisp_records.specs.Written.{written, written_head, written_afi, written_locators};
 ghost use Rattle.lisp_records.specs.Result.{Reads};
-ghost use Rattle.lisp_records.specs.Reading.{Gives, HasLocators, start_at, family_of, number_at, mask_of, locators_at, mapping_of, record_at};
+ghost use Rattle.lisp_records.specs.Reading.{Gives, HasLocators, start_at, mask_of, locators_at, mapping_of, record_at};
 ghost use Rattle.lisp_records.specs.declared.fault.RecordFault.{RecordFault};
 
 use crate::address::{Addr, Family, read_address};

@@ -1,4 +1,4 @@
-use Rattle.std.proofs.Common.{ap, sym, ◌∙◌, arith}
+use Rattle.std.proofs.Common.{ap, ◌∙◌, arith}
 use Rattle.lisp_records.specs.Reading.{start_at}
 use Rattle.lisp_records.proofs.Faults.{is_fault, gives_fault, of_fault, not_met, no_fault, start_plain}
 use Rattle.lisp_records.proofs.Positions.{parts_are_read}

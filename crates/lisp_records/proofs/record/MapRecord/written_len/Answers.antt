@@ -1,6 +1,5 @@
-use Rattle.std.proofs.Common.{sym, ap, ◌∙◌, arith}
+use Rattle.std.proofs.Common.{sym, ◌∙◌, arith}
 use Rattle.std.proofs.lemmas.List.{take_all}
-use Rattle.lisp_records.specs.Address.{Block, family, width}
 use Rattle.lisp_records.proofs.WrittenLemmas.{length-written, length_goes_on}
 use Rattle.lisp_records.proofs.record.MapRecord.written_len.Goals as goal
 
