@@ -50,10 +50,6 @@ each_byte (b ∷ bytes) fits = (fits 0, each_byte bytes (λ i. fits (suc i)))
 pub IsBytes-behind : (n : ℕ) (bytes text rest : List ℕ) → drop n bytes ≡ text ++ rest → IsBytes bytes → IsBytes rest
 IsBytes-behind n bytes text rest parts fits = IsBytes-rest (drop n bytes) text rest parts (λ i. rw get_or-drop (fits (n + i)))
 
--- the bytes in front of a rest are as many as were taken
-pub length_front : (n : ℕ) (bytes front rest : List ℕ) → front ≡ take n bytes → length rest + n ≡ length bytes → length front ≡ n
-length_front n bytes front rest taken sizes = omega (arith, ap length taken, length-take n bytes, sizes)
-
 -- the value of a step that did not fail
 pub bind_ok : {A B : Type 0} (r : Result A RecordFault) (f : A → Result B RecordFault) (y : B) → (r >>= f) ≡ Ok y → (x : A) × (r ≡ Ok x) × (f x ≡ Ok y)
 bind_ok (Ok x) f y e = (x, refl, e)

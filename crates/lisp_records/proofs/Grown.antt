@@ -16,6 +16,8 @@ pub on_err : {T E P : Type 0} (r : Result T E) → P → OnErr r P
 on_err (Ok x) holds = tt
 on_err (Err e) holds = holds
 
--- cutting a buffer back to its old length gives the old bytes
-pub cut_back : (old new : List ℕ) (n : ℕ) → n ≡ length old → Grew old new → take n new ≡ old
-cut_back old new n e g = rw (e, g.parts) (take-append_seam old g.more)
+-- a buffer to which a part and then more was appended, and that was cut back to its old length, is the old one
+pub cut_back : (cut old mid new part : List ℕ) (n : ℕ) → n ≡ length old → mid ≡ old ++ part → Grew mid new → cut ≡ take n new → cut ≡ old
+cut_back cut old mid new part n e first g is =
+    let all = Grew-step old mid new part first g in
+    is ∙ rw (e, all.parts) (take-append_seam old all.more)
