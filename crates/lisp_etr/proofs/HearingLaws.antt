@@ -1,5 +1,5 @@
 -- What a router makes of a message, check by check.
-use Rattle.std.proofs.Common.{◌≡◌, ◌≢◌, ◌<◌, ◌≤◌, ℕ, ◌==◌, nat_le, Bool, true, false, List, Option, Some, Result, Ok, Err, IfOk, IfErr, ok_or, refl, sym, ap, subst, ◌∙◌, arith}
+use Rattle.std.proofs.Common.{◌≡◌, ◌≢◌, ◌<◌, ◌≤◌, ℕ, ◌==◌, nat_le, Bool, true, false, List, Option, Some, Result, Ok, Err, IfOk, IfErr, ok_or, refl, sym, ap, subst, ◌∙◌, arith, true≢false, cond}
 use Rattle.std.proofs.lemmas.Bool.{le-leb, leb-true}
 use Rattle.std.proofs.lemmas.Bool.Decides.{Decides-eqb}
 use Rattle.lisp_records.specs.declared.address.Addr.{Addr}
@@ -9,8 +9,10 @@ use Rattle.lisp_messages.specs.declared.fault.ReadFault.{ReadFault}
 use Rattle.lisp_etr.specs.Config.{Settings}
 use Rattle.lisp_records.specs.Result.{◌>>=◌}
 use Rattle.lisp_etr.specs.Etr.{EtrState}
-use Rattle.lisp_etr.specs.Hearing.{Gives, Heard, notify_read, server_at, checked, first_notice, notice_in, counted_in, seen_in}
+use Rattle.lisp_etr.specs.Hearing.{Gives, Heard, notify_read, server_at, checked, first_notice, notice_in, counted_in, seen_in, AnswerFits, is_latest, round_at}
+use Rattle.lisp_etr.specs.declared.round.Round.{Round}
 use Rattle.lisp_etr.specs.declared.seen.Seen.{Seen}
+use Rattle.lisp_etr.specs.declared.seen.Seen.TheVariants.{Counted}
 use Rattle.lisp_etr.specs.declared.notify_fault.NotifyFault.{NotifyFault}
 use Rattle.lisp_etr.specs.declared.notify_fault.NotifyFault.TheVariants as faults
 
@@ -37,6 +39,22 @@ fault_or other (Err fault) = fault
 pub same_fault : {X Y : Type 0} {a b : NotifyFault} → ◌≡◌ {A = Result X NotifyFault} (Err a) (Err b) → ◌≡◌ {A = Result Y NotifyFault} (Err a) (Err b)
 unfolding fault_or
 same_fault {X} {Y} {a} same = ap (λ (r : Result X NotifyFault). Err (fault_or a r)) same
+
+-- the answer is want of memory
+abbrev pub is_out : {X : Type 0} → Result X NotifyFault → Bool
+is_out (Err faults.OutOfMemory) = true
+is_out _ = false
+
+pub not_out : {X P : Type 0} (answer : Result X NotifyFault) → is_out answer ≡ false → answer ≡ Err faults.OutOfMemory → P
+not_out answer other out = absurd (true≢false (sym (ap is_out out) ∙ other))
+
+either_fits : (A : Type 0) (server nonce key latest : ℕ) (same : Bool) → IfOk {T = Seen A} {E = NotifyFault} (cond same (Ok (Counted server nonce)) (Err (faults.Stale latest))) (λ s. AnswerFits key s)
+either_fits A server nonce key latest true = tt
+either_fits A server nonce key latest false = tt
+
+-- an acknowledgement has no answer
+pub counted_fits : {A : Type 0} (seen : Result (Seen A) NotifyFault) (rounds : List Round) (server nonce key : ℕ) → seen ≡ counted_in rounds server nonce → IfOk seen (λ s. AnswerFits key s)
+counted_fits {A} seen rounds server nonce key is = subst (λ (r : Result (Seen A) NotifyFault). IfOk r (λ s. AnswerFits key s)) (sym is) (either_fits A server nonce key (round_at rounds server).latest (is_latest nonce (round_at rounds server).latest))
 
 module _ (c : Settings) (bytes : List ℕ) (read : Result Said ReadFault) (from : Option ℕ) where
   pub unread : {X : Type 0} (view : X → Heard) (fault : NotifyFault) → Gives {X = Notification} (λ m. m) (Err fault) (notify_read read) → Gives view (Err fault) (checked c bytes read from)

@@ -1,3 +1,4 @@
 pub mod TimerLaws
 pub mod SafeLaws
+pub mod Refusals
 pub mod HearingLaws

@@ -1,5 +1,5 @@
--- What a save that failed leaves.
-use Rattle.std.proofs.Common.{◌≡◌, ◌⊎◌, inl, inr, ℕ, ◌≤◌, List, Option, Some, subst}
+-- What a save leaves.
+use Rattle.std.proofs.Common.{◌≡◌, ◌⊎◌, inl, inr, ℕ, zero, suc, ◌≤◌, List, [], ◌∷◌, Option, Some, subst, arith}
 use Rattle.std.specs.List.{Contains}
 use Rattle.std.proofs.lemmas.List.Elements.{Contains-push_cases}
 use Rattle.lisp_store.specs.Kept.{number, InDoubt, NoneBelow}
@@ -12,3 +12,11 @@ none_below n m old new within (inr more) none v has = here (Contains-push_cases 
     here : Contains old v ⊎ (Some m ≡ v) → n ≤ number v
     here (inl was) = none v was
     here (inr is) = subst (λ (x : Option ℕ). n ≤ number x) is within
+
+-- a number is below no value of a list of which it is the only one
+pub alone : (n : ℕ) (new : List (Option ℕ)) → new ≡ Some n ∷ [] → NoneBelow n new
+alone n new is v has = here v (subst (λ (vs : List (Option ℕ)). Contains vs v) is has)
+  where
+    here : (v : Option ℕ) → Contains (Some n ∷ []) v → n ≤ number v
+    here v (zero, lt, at) = subst (λ (x : Option ℕ). n ≤ number x) at (omega arith)
+    here v (suc k, lt, at) = absurd (omega (arith, lt))

@@ -1,10 +1,11 @@
 //! What a router checks of a message, and how it answers a notice.
 
 ghost use Rattle.std.specs.Prelude.{◌≡◌, ◌<◌, Err, IfOk, IsErrOf, length};
+ghost use Rattle.lisp_messages.specs.Meaning.{said};
 ghost use Rattle.lisp_messages.specs.Reading.{kind_at, message_at};
 ghost use Rattle.lisp_messages.specs.declared.fault.ReadFault.{ReadFault};
 ghost use Rattle.lisp_etr.specs.Faults.{fault_of_read};
-ghost use Rattle.lisp_etr.specs.Hearing.{Gives, Heard, notify_read, server_at, heard};
+ghost use Rattle.lisp_etr.specs.Hearing.{Gives, Heard, notify_in, notify_read, server_at, heard};
 ghost use Rattle.lisp_etr.specs.declared.notify_fault.NotifyFault.{NotifyFault};
 
 use crate::config::EtrConfig;
@@ -12,6 +13,7 @@ use crate::notify_fault::NotifyFault;
 use lisp_memory::Memory;
 use lisp_messages::{MapNotify, Message, authentic, read_message};
 use lisp_records::Addr;
+use std::alloc::Allocator;
 
 /// The Map-Notify that bytes from an address spell and the number of the Map-Server there, or the
 /// first check that they fail: `Read`, `NotMine`, `WrongKey`, `BadAuth`; `OutOfMemory` in reading.
@@ -48,9 +50,18 @@ fn read_notify<A: Memory + Copy>(alloc: A, bytes: &[u8]) -> Result<MapNotify<A>,
     ensures memory { IsErrOf result NotifyFault.OutOfMemory → A.may_refuse }
 {
     match read_message(alloc, bytes) {
-        Ok(Message::Notify(notify)) if !notify.ack => Ok(notify),
-        Ok(_) => Err(NotifyFault::NotMine),
+        Ok(message) => notify_of(message),
         Err(fault) => Err(NotifyFault::of_read(fault)),
+    }
+}
+
+// The Map-Notify of a message; `NotMine`.
+fn notify_of<A: Allocator>(message: Message<A>) -> Result<MapNotify<A>, NotifyFault>
+    ensures { result ≡ notify_in (said message) }
+{
+    match message {
+        Message::Notify(notify) if !notify.ack => Ok(notify),
+        _ => Err(NotifyFault::NotMine),
     }
 }
 

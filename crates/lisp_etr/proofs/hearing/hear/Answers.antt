@@ -1,4 +1,4 @@
-use Rattle.std.proofs.Common.{ℕ, ◌<◌, List, length, sym, ap, ◌∙◌, subst, is_ok, true≢false}
+use Rattle.std.proofs.Common.{ℕ, ◌<◌, List, length, sym, ap, ◌∙◌, subst, is_ok, true≢false, refl}
 use Rattle.std.proofs.lemmas.List.Quantifiers.{position-Some}
 use Rattle.lisp_records.specs.declared.address.Addr.{Addr}
 use Rattle.lisp_records.specs.Address.{addr_eq}
@@ -9,7 +9,7 @@ use Rattle.lisp_messages.specs.Reading.{message_at}
 use Rattle.lisp_messages.specs.declared.notify.MapNotify.{MapNotify}
 use Rattle.lisp_etr.specs.Config.{Settings}
 use Rattle.lisp_etr.specs.Hearing.{server_at}
-use Rattle.lisp_etr.proofs.HearingLaws.{found, unread, wrong_key, bad_auth, passes}
+use Rattle.lisp_etr.proofs.HearingLaws.{found, unread, wrong_key, bad_auth, passes, not_out}
 use Rattle.lisp_etr.proofs.hearing.hear.Goals as goal
 
 pub returns-in_default-clause-early : goal.returns-in_default-clause-early
@@ -59,3 +59,15 @@ pub returns-clause-server : goal.returns-clause-server
 returns-clause-server g c =
     let place = position-Some (λ server. addr_eq server c.args.from) c.as_slice.result.now c.in-Some.server c.args.from (sym c.in-Some.ensures) in
     rw (← c.config.view_is) (subst (λ (servers : List Addr). c.in-Some.server < length servers) c.as_slice.ensures place.0)
+
+pub returns-then-not-authentic-clause-memory : goal.returns-then-not-authentic-clause-memory
+returns-then-not-authentic-clause-memory g c = not_out _ refl
+
+pub returns-clause-memory : goal.returns-clause-memory
+returns-clause-memory g c = not_out _ refl
+
+pub returns-clause-key : goal.returns-clause-key
+returns-clause-key g c = ap (λ (m : Notification). m.key_id) (sym c.notify.view_is) ∙ c.if-notify-config.false ∙ ap (λ (s : Settings). s.key_id) c.config.view_is
+
+pub returns-then-notify-config-clause-memory : goal.returns-then-notify-config-clause-memory
+returns-then-notify-config-clause-memory g c = not_out _ refl

@@ -1,9 +1,9 @@
-use Rattle.std.proofs.Common.{ap, is_ok, sym, ◌∙◌, Err, true≢false}
-use Rattle.std.proofs.lemmas.Result.{err_from_is_err_and}
+use Rattle.std.proofs.Common.{ap, is_ok, sym, ◌∙◌, Err, true≢false, ℕ, ◌<◌, length, IfOk, subst}
+use Rattle.std.proofs.lemmas.Result.{err_from_is_err_and, IfErr-at_err}
 use Rattle.lisp_messages.specs.Message.{Notification}
 use Rattle.lisp_etr.specs.Etr.{EtrState}
-use Rattle.lisp_etr.specs.Hearing.{heard}
-use Rattle.lisp_etr.proofs.HearingLaws.{same_fault, noticed, counts}
+use Rattle.lisp_etr.specs.Hearing.{heard, AnswerFits}
+use Rattle.lisp_etr.proofs.HearingLaws.{same_fault, noticed, counts, counted_fits}
 use Rattle.lisp_etr.proofs.etr.Etr.receive.Goals as goal
 
 pub returns-in_err-server-clause-early : goal.returns-in_err-server-clause-early
@@ -28,3 +28,18 @@ returns-clause-answer g c =
     let own = ap (λ (m : Notification). m.nonce) c.notify.view_is in
     let hears = ap (λ (e : EtrState). heard e.config c.args.from c.args.bytes.now) (sym c.self.view_is) ∙ c.in_ok-server.ensures.exact in
     counts c.args.self.now (record { server = c.in_ok-server.server; message = c.in_ok-server.notify }) hears own c.if-notify-ge-FIRST_NOTICE_NONCE.false c.count.result c.count.ensures.answer
+
+pub returns-clause-fits : goal.returns-clause-fits
+returns-clause-fits g c = counted_fits c.count.result c.args.self.now.rounds c.in_ok-server.server c.notify.inside.nonce c.args.self.now.config.key_id c.count.ensures.answer
+
+pub returns-then-notify-ge-FIRST_NOTICE_NONCE-clause-fits : goal.returns-then-notify-ge-FIRST_NOTICE_NONCE-clause-fits
+returns-then-notify-ge-FIRST_NOTICE_NONCE-clause-fits g c = subst (λ (key : ℕ). IfOk c.notice.result (λ seen. AnswerFits key seen)) (c.in_ok-server.ensures.key ∙ ap (λ (e : EtrState). e.config.key_id) c.self.view_is) c.notice.ensures.fits
+
+pub count-requires : goal.count-requires
+count-requires g c = subst (λ (e : EtrState). c.in_ok-server.server < length e.config.servers) c.self.view_is c.in_ok-server.ensures.server
+
+pub returns-clause-memory : goal.returns-clause-memory
+returns-clause-memory g c out = absurd (c.count.ensures.plain out)
+
+pub returns-then-notify-ge-FIRST_NOTICE_NONCE-clause-memory : goal.returns-then-notify-ge-FIRST_NOTICE_NONCE-clause-memory
+returns-then-notify-ge-FIRST_NOTICE_NONCE-clause-memory g c out = IfErr-at_err (λ _. g.A.Memory.may_refuse) out c.notice.ensures.memory
