@@ -72,6 +72,11 @@ module _ (q : Pair) where
       let place = position-Some (is_of q) es i d at in
       at_place es i d place.0 place.2 place.1
 
+  -- the place of the first entry of a pair is one of the list
+  pub place_within : (es : List EntryOf) (i : ℕ) → position (is_of q) es ≡ Some i → i < length es
+  place_within [] i at = absurd (let clash : ◌≡◌ {A = Option ℕ} None (Some i) = at in cc)
+  place_within (x ∷ xs) i at = (position-Some (is_of q) (x ∷ xs) i x at).0
+
   past_case : (x : EntryOf) (xs ys : List EntryOf) (n : ℕ) (b : Bool) → is_of q x ≡ b → cond b (Some n) (position_from (is_of q) (n + 1) xs) ≡ None → (position_from (is_of q) (n + 1) xs ≡ None → answers_of (xs ++ ys) q ≡ answers_of ys q)
       → answers_of (x ∷ xs ++ ys) q ≡ answers_of ys q
   past_case x xs ys n true of at rest = absurd (let clash : ◌≡◌ {A = Option ℕ} (Some n) None = at in cc)

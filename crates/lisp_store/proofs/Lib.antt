@@ -1,4 +1,5 @@
 pub mod Pairs
 pub mod Entries
 pub mod Restart
+pub mod Saving
 pub mod Digits

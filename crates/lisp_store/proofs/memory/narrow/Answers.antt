@@ -1,5 +1,6 @@
-use Rattle.std.proofs.Common.{All, refl, subst, ◌∙◌, arith}
+use Rattle.std.proofs.Common.{All, length, refl, subst, ◌∙◌, arith}
 use Rattle.std.proofs.lemmas.List.{take_all}
+use borrow.Author.Rules.{scaled_Fits}
 use Rattle.lisp_store.specs.Entries.{HasValues}
 use Rattle.lisp_store.proofs.Restart.{all_narrowed, narrowed_more, one_more, others_stay}
 use Rattle.lisp_store.proofs.memory.narrow.Goals as goal
@@ -19,3 +20,7 @@ returns-clause-narrowed g c = all_narrowed c.args.pick c.loop-entry.entry-index 
 
 pub loop-entry-init : goal.loop-entry-init
 loop-entry-init g c = record { narrowed = refl; some = λ k d lt. absurd (omega (arith, lt)); others = refl }
+
+-- the size of an entry is a long term, over which a search takes seconds: the lemma and its facts are named
+pub offset_bounds-entries-entry-index : goal.offset_bounds-entries-entry-index
+offset_bounds-entries-entry-index g c = scaled_Fits _ (length c.args.entries.now) _ c.loop-entry-test.true c.well_formed.0.1

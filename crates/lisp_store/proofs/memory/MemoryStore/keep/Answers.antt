@@ -1,0 +1,19 @@
+use Rattle.std.proofs.Common.{ap}
+use Rattle.std.proofs.lemmas.Result.{IfErr-weaker}
+use Rattle.lisp_store.specs.Entries.{kept_of}
+use Rattle.lisp_store.specs.Kept.{SameElsewhere, kept_at}
+use Rattle.lisp_store.specs.Memory.{Memory}
+use Rattle.lisp_store.proofs.Saving.{either}
+use Rattle.lisp_store.proofs.memory.MemoryStore.keep.Goals as goal
+
+pub returns-clause-fate : goal.returns-clause-fate
+returns-clause-fate g c = ap (λ (m : Memory). m.fate) c.self.view_is
+
+pub returns-clause-faults : goal.returns-clause-faults
+returns-clause-faults g c = ap (λ (m : Memory). m.faults) c.self.view_is
+
+pub returns-clause-err : goal.returns-clause-err
+returns-clause-err g c = rw (← c.self.view_is) (IfErr-weaker c.set.result _ _ (λ fault same. λ i. record { kept = kept_of (same i); faults = c.self.inside.faults; fate = c.self.inside.fate }) c.set.ensures.err)
+
+pub returns-clause-others : goal.returns-clause-others
+returns-clause-others g c = rw (← c.self.view_is) (either c.set.result c.set.ensures.others (IfErr-weaker c.set.result _ (λ _. SameElsewhere (kept_of c.self.inside.entries.items) (kept_of c.set.new.entries.items) c.args.pair.now) (λ fault same q differ. ap (λ es. kept_at (kept_of es) q) same) c.set.ensures.err))
