@@ -31,6 +31,13 @@ Seen rows numbers first upto h = (k : ℕ) × (first ≤ k) × (k < upto) × (ro
 abbrev pub of_prefix : List Holding → Block → List Holding
 of_prefix rows eid = filter (λ h. block_eq h.mapping.eid eid) rows
 
+-- the places up to an end are within a list that ends there, and none is behind them
+pub within_end : (first place end long : ℕ) → end ≡ long → first ≤ long → (first ≤ end → place ≤ end) → place ≤ long
+within_end first place end long is low upto = omega (arith, is, upto (omega (arith, is, low)))
+
+pub past_end : {P : Type 0} (k place end long : ℕ) → end ≡ long → end ≤ place → place ≤ k → k < long → P
+past_end k place end long is done low lt = absurd (omega (arith, is, done, low, lt))
+
 module _ {A : Type 0} (rows : List Holding) (numbers : List ℕ) (eid : Block) (first : ℕ) (index : IsIndex prefix_cmp rows numbers) (bound : IsBound {A = A} (Prefix eid) rows numbers first) where
   -- no row before the first has the prefix
   before_first : (k : ℕ) (d : Holding) → k < first → (row_at_place rows numbers k d).mapping.eid ≢ eid

@@ -32,6 +32,12 @@ cost_more looks left next all cost some halves =
     let one = mul-le-mul_left (2 ^ looks) some in
     (omega (arith, all_next, fits, cost.0), omega (arith, twice, one, cost.0))
 
+-- the same of a count that a look raises
+pub cost_look : (start steps ticked left next all : ℕ) → ticked ≡ steps + 1 → start ≤ steps → Cost (steps - start) left all → 0 < left → 2 * next ≤ left → Cost (ticked - start) next all
+cost_look start steps ticked left next all is grown cost some halves =
+    let looks : ticked - start ≡ (steps - start) + 1 = omega (arith, is, grown) in
+    subst (λ (n : ℕ). Cost n next all) (sym looks) (cost_more (steps - start) left next all cost some halves)
+
 module _ {A : Type 0} (probe : Probe A) (rows : List Holding) (numbers : List ℕ) (p number : ℕ) (x : Holding) (within : p < length numbers) (below : (k : ℕ) → k < length numbers → slice_index numbers k < length rows) (falls : Falls probe rows numbers) (read : number ≡ slice_index_or numbers p number) (at : x ≡ slice_index_or rows number x) where
   number_at : number ≡ slice_index numbers p
   number_at = get_or_read numbers p number within read 0

@@ -1,5 +1,5 @@
 -- Numbers of rows in rising order: what is sought in them, and what an edit leaves.
-use Rattle.std.proofs.Common.{◌≡◌, ◌≢◌, ◌⊎◌, inl, inr, ℕ, zero, suc, ◌+◌, ◌-◌, ◌<◌, ◌≤◌, true, false, List, [], ◌∷◌, ◌++◌, length, slice_index, slice_index_or, Option, Some, None, Result, Ok, Err, refl, sym, ap, ◌∙◌, subst, true≢false, arith}
+use Rattle.std.proofs.Common.{◌≡◌, ◌≢◌, ◌⊎◌, inl, inr, ℕ, zero, suc, ◌+◌, ◌-◌, ◌<◌, ◌≤◌, true, false, List, [], ◌∷◌, ◌++◌, length, slice_index, slice_index_or, Option, Some, None, Result, Ok, Err, refl, sym, ap, ◌∙◌, subst, true≢false, arith, IfSome, is_some}
 use Rattle.std.specs.List.{Contains, insert, remove}
 use Rattle.std.specs.Option.{OnSome, IsSome}
 use Rattle.std.specs.Result.{OnOk, OnErr}
@@ -309,3 +309,14 @@ falls_prefix eid rows numbers rises i j d lt within before =
 pub left_at : (order : Order) (rows : List Holding) (numbers : List ℕ) (number place : ℕ) → Rises (order_cmp order) rows numbers → number < length rows → place < length numbers → slice_index numbers place ≡ number → Left order rows numbers (remove numbers place) number
 left_at order [] numbers number place rises row lt was = absurd (omega (arith, row))
 left_at order (x ∷ xs) numbers number place rises row lt was = left_of order (x ∷ xs) numbers number x rises place lt was
+
+-- an answer that there is none has nothing to show
+pub none_shows : {X : Type 0} (answer : Option X) (P : X → Type 0) → answer ≡ None → IfSome answer P
+none_shows answer P is = subst (λ (o : Option _). IfSome o P) (sym is) tt
+
+pub some_is_found : {X P : Type 0} (x : X) → ◌≡◌ {A = Option X} (Some x) None → P
+some_is_found x clash = absurd (true≢false (ap is_some clash))
+
+-- what is below an end is at most the end
+pub below_most : (i n : ℕ) → i < n → i ≤ n
+below_most i n lt = omega (arith, lt)

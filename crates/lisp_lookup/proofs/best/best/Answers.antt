@@ -20,3 +20,9 @@ loop-shorter-init g c = λ h held may. omega (arith, none_longer c.args.rows.now
 
 pub returns-in_err-prefix : goal.returns-in_err-prefix
 returns-in_err-prefix g c = absurd (false≢true (c.in_err-prefix.ensures.valid.1 (omega (arith, c.max_mask_len-longest.ensures, ap width c.family.ensures))))
+
+pub overflow_sub-longest : goal.overflow_sub-longest
+overflow_sub-longest g c = omega (arith, c.loop-shorter-test.true)
+
+pub best_of-best-requires : goal.best_of-best-requires
+best_of-best-requires g c = record { index = c.requires.index }

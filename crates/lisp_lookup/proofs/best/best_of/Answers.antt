@@ -2,8 +2,8 @@ use Rattle.std.proofs.Common.{◌+◌, ◌<◌, length, Some, inl, inr, sym, ap,
 use Rattle.std.specs.Option.{option_map}
 use Rattle.lisp_lookup.specs.Index.{prefix_cmp}
 use Rattle.lisp_lookup.proofs.AnswerLaws.{best_next}
-use Rattle.lisp_lookup.proofs.BestLaws.{Seen, best_seen, behind, seen_more, seen_last, seen_splits, same_more, other_block}
-use Rattle.lisp_lookup.proofs.IndexLaws.{falls_prefix, number_within, row_read}
+use Rattle.lisp_lookup.proofs.BestLaws.{Seen, best_seen, behind, seen_more, seen_last, seen_splits, same_more, other_block, within_end, past_end}
+use Rattle.lisp_lookup.proofs.IndexLaws.{below_most, falls_prefix, number_within, row_read}
 use Rattle.lisp_lookup.proofs.best.best_of.Goals.{then-may_answer, else-may_answer}
 use Rattle.lisp_lookup.proofs.best.best_of.Goals as goal
 
@@ -14,7 +14,7 @@ pub bounds-rows-index : goal.bounds-rows-index
 bounds-rows-index g c = number_within prefix_cmp c.args.rows.now c.args.by_prefix.now.items c.loop-place.place c.index.result.now c.requires.index.rises (omega (arith, c.loop-place-test.true, c.args.by_prefix.now.ok.0)) c.index.ensures
 
 pub offset_bounds-rows-index : goal.offset_bounds-rows-index
-offset_bounds-rows-index g c = omega (arith, number_within prefix_cmp c.args.rows.now c.args.by_prefix.now.items c.loop-place.place c.index.result.now c.requires.index.rises (omega (arith, c.loop-place-test.true, c.args.by_prefix.now.ok.0)) c.index.ensures)
+offset_bounds-rows-index g c = below_most c.index.result.now (length c.args.rows.now) (number_within prefix_cmp c.args.rows.now c.args.by_prefix.now.items c.loop-place.place c.index.result.now c.requires.index.rises (omega (arith, c.loop-place-test.true, c.args.by_prefix.now.ok.0)) c.index.ensures)
 
 pub returns-then-not-is_of : goal.returns-then-not-is_of
 returns-then-not-is_of g c =
@@ -43,9 +43,15 @@ loop-place-preserved g c =
     }
 
 pub returns : goal.returns
-returns g c = best_seen c.args.rows.now c.args.by_prefix.now.items c.args.prefix.now c.place-first.result c.requires.index c.place-first.ensures.bound c.loop-place.place (omega (arith, c.loop-place.auto.place-end, c.place-first.ensures.bound.within, c.len-place-end.ensures, c.args.by_prefix.now.ok.0)) c.loop-place.invariant.same
-    (λ k d low lt. absurd (omega (arith, low, lt, c.loop-place-test.false, c.len-place-end.ensures, c.args.by_prefix.now.ok.0)))
+returns g c =
+    let long = c.len-place-end.ensures ∙ c.args.by_prefix.now.ok.0 in
+    let all = within_end c.place-first.result c.loop-place.place c.len-place-end.result (length c.args.by_prefix.now.items) long c.place-first.ensures.bound.within c.loop-place.auto.place-end in
+    best_seen c.args.rows.now c.args.by_prefix.now.items c.args.prefix.now c.place-first.result c.requires.index c.place-first.ensures.bound c.loop-place.place all c.loop-place.invariant.same
+    (λ k d low lt. past_end k c.loop-place.place c.len-place-end.result (length c.args.by_prefix.now.items) long c.loop-place-test.false low lt)
     c.args.addr.now c.args.now (option_map (λ row. row.now) c.loop-place.best) c.loop-place.invariant.best
 
 pub place-first-requires-clause-below : goal.place-first-requires-clause-below
 place-first-requires-clause-below g c = c.requires.index.rises.below
+
+pub index-requires : goal.index-requires
+index-requires g c = omega (arith, c.loop-place-test.true, c.len-place-end.ensures)

@@ -27,3 +27,6 @@ returns-in-Some-clause-capacity g c = c.pop_front.ensures.capacity
 
 pub returns-in_default-clause-capacity : goal.returns-in_default-clause-capacity
 returns-in_default-clause-capacity g c = c.remove.ensures.capacity
+
+pub place_of-place-requires-clause-row : goal.place_of-place-requires-clause-row
+place_of-place-requires-clause-row g c = c.requires.row

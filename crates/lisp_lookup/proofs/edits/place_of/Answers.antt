@@ -21,3 +21,9 @@ returns-in-Some-clause-within g c = omega (arith, c.in-Some.ensures.variant.0 re
 
 pub returns-in-Some-clause-here : goal.returns-in-Some-clause-here
 returns-in-Some-clause-here g c = sym (get_or_read c.args.numbers.now.items c.args.near c.in-Some.there.now (omega (arith, c.in-Some.ensures.variant.0 refl, c.args.numbers.now.ok.0)) c.in-Some.ensures.lookup 0) ∙ c.if-there-number.true
+
+pub bounds-rows-number : goal.bounds-rows-number
+bounds-rows-number g c = c.requires.row
+
+pub offset_bounds-rows-number : goal.offset_bounds-rows-number
+offset_bounds-rows-number g c = omega (arith, c.requires.row)

@@ -32,3 +32,12 @@ first_dead-requires-clause-index g c = subst (λ (rows : List Holding). IsIndex 
 
 pub remove-requires-clause-within : goal.remove-requires-clause-within
 remove-requires-clause-within g c = subst (λ (rows : List Holding). c.in-Some.number < length rows) c.deref.ensures.value c.in-Some.ensures.dead.0
+
+pub first_dead-requires-clause-now : goal.first_dead-requires-clause-now
+first_dead-requires-clause-now g c = c.requires.now
+
+pub remove-requires-clause-indexed : goal.remove-requires-clause-indexed
+remove-requires-clause-indexed g c = c.loop-number.invariant.indexed
+
+pub returns-clause-indexed : goal.returns-clause-indexed
+returns-clause-indexed g c = c.loop-number.invariant.indexed

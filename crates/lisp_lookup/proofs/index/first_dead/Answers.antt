@@ -2,7 +2,7 @@ use Rattle.std.proofs.Common.{ap, slice_index_or, arith}
 use Rattle.std.proofs.lemmas.Bool.{false≢true}
 use Rattle.std.proofs.lemmas.List.{get_or_read}
 use Rattle.lisp_lookup.specs.Index.{deadline}
-use Rattle.lisp_lookup.proofs.IndexLaws.{first_within}
+use Rattle.lisp_lookup.proofs.IndexLaws.{first_within, none_shows, some_is_found}
 use Rattle.lisp_lookup.proofs.DeadlineLaws.{dead, all_alive}
 use Rattle.lisp_lookup.proofs.index.first_dead.Goals as goal
 
@@ -24,3 +24,9 @@ returns-then-deadline-now-clause-dead g c =
 
 pub returns-else-deadline-now-clause-alive : goal.returns-else-deadline-now-clause-alive
 returns-else-deadline-now-clause-alive g c = λ none. all_alive c.args.rows.now c.args.by_deadline.now.items c.requires.index c.in_ok-number.field-0.now c.in_ok-number.ensures.item.3.0 c.in_ok-number.ensures.lookup c.args.now c.index-rows-number.result c.index-rows-number.is (omega (arith, c.deadline.ensures, c.if-deadline-now.false))
+
+pub returns-in_err-number-clause-dead : goal.returns-in_err-number-clause-dead
+returns-in_err-number-clause-dead g c = none_shows c.from_residual.result _ c.from_residual.ensures
+
+pub returns-then-deadline-now-clause-alive : goal.returns-then-deadline-now-clause-alive
+returns-then-deadline-now-clause-alive g c none = some_is_found _ none

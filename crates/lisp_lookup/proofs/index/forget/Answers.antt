@@ -17,3 +17,12 @@ leave-last-requires-clause-held g c = c.requires.index.each c.args.number c.requ
 
 pub rename-requires-clause-held : goal.rename-requires-clause-held
 rename-requires-clause-held g c = c.leave-last.ensures.left.others (length c.args.rows.now - 1) (c.requires.index.each (length c.args.rows.now - 1) (omega (arith, c.requires.within))) (λ same. c.if-number-last.true (sym same))
+
+pub rename-requires-clause-row : goal.rename-requires-clause-row
+rename-requires-clause-row g c = omega (arith, c.requires.within)
+
+pub leave-last-requires-clause-row : goal.leave-last-requires-clause-row
+leave-last-requires-clause-row g c = c.requires.within
+
+pub overflow_sub-last : goal.overflow_sub-last
+overflow_sub-last g c = omega (arith, c.requires.within)

@@ -2,8 +2,9 @@ use Rattle.std.proofs.Common.{refl, sym, ap, ◌∙◌, arith}
 use Rattle.std.proofs.lemmas.List.{get_or_read}
 use Rattle.lisp_lookup.specs.Table.{is_row_of}
 use Rattle.lisp_lookup.specs.Index.{prefix_cmp}
-use Rattle.lisp_lookup.proofs.IndexLaws.{number_within, row_read}
+use Rattle.lisp_lookup.proofs.IndexLaws.{number_within, row_read, none_shows, some_is_found}
 use Rattle.lisp_lookup.proofs.PutLaws.{found_here}
+use Rattle.std.proofs.lemmas.Bool.{false≢true}
 use Rattle.lisp_lookup.proofs.index.number_at.Goals as goal
 
 pub bounds-rows-number : goal.bounds-rows-number
@@ -19,3 +20,12 @@ returns-then-is_row_of-clause-found g c =
 
 pub returns-else-is_row_of-clause-other : goal.returns-else-is_row_of-clause-other
 returns-else-is_row_of-clause-other g c = λ none lt. ap (is_row_of c.args.row.now.router c.args.row.now.mapping.eid) (sym (row_read prefix_cmp c.args.rows.now c.args.by_prefix.now.items c.args.place c.in_ok-number.field-0.now c.index-rows-number.result c.requires.index.rises lt c.in_ok-number.ensures.lookup c.index-rows-number.is c.args.row.now)) ∙ sym c.if-is_row_of.ensures
+
+pub returns-in_err-number-clause-found : goal.returns-in_err-number-clause-found
+returns-in_err-number-clause-found g c = none_shows c.from_residual.result _ c.from_residual.ensures
+
+pub returns-then-is_row_of-clause-other : goal.returns-then-is_row_of-clause-other
+returns-then-is_row_of-clause-other g c none = some_is_found _ none
+
+pub returns-in_err-number-clause-other : goal.returns-in_err-number-clause-other
+returns-in_err-number-clause-other g c none lt = absurd (false≢true (c.in_err-number.ensures.variant.1 (omega (arith, lt, c.args.by_prefix.now.ok.0))))

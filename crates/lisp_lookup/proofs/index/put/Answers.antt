@@ -1,4 +1,4 @@
-use Rattle.std.proofs.Common.{◌-◌, ◌<◌, ◌∷◌, [], List, length, sym, ap, ◌∙◌, subst, arith}
+use Rattle.std.proofs.Common.{ℕ, ◌-◌, ◌<◌, ◌∷◌, [], List, length, sym, ap, ◌∙◌, subst, arith}
 use Rattle.std.specs.List.{position}
 use Rattle.std.specs.Vec.{vec_len, vec_capacity}
 use Rattle.std.specs.VecDeque.{deque_len, deque_capacity}
@@ -31,7 +31,7 @@ enter-requires g c =
     let each = one_each c.args.rows.now.items c.args.by_prefix.now.items c.requires.indexed.by_prefix in
     record {
       rises = subst (λ (rows : List Holding). Rises deadline_cmp rows c.leave-near.new.numbers.items) (sym c.deref-in-Some-2.ensures.value) (rises_over ByDeadline c.args.rows.now.items c.args.by_deadline.now.items c.leave-near.new.numbers.items c.in-Some.number c.args.row own.0 left);
-      row = rw (c.deref-in-Some-2.ensures.value, length-set) own.0;
+      row = subst (λ (rows : List Holding). c.in-Some.number < length rows) (sym c.deref-in-Some-2.ensures.value) (subst (λ (n : ℕ). c.in-Some.number < n) (sym (length-set c.args.rows.now.items c.in-Some.number c.args.row)) own.0);
       fresh = subst (λ (rows : List Holding). IsFresh rows c.leave-near.new.numbers.items c.in-Some.number) (sym c.deref-in-Some-2.ensures.value) (fresh_over ByDeadline c.args.rows.now.items c.args.by_deadline.now.items c.leave-near.new.numbers.items c.in-Some.number c.args.row own.0 left each own.1);
       room = omega (arith, c.leave-near.ensures.len, c.leave-near.ensures.capacity, c.requires.deadlines_room);
     }

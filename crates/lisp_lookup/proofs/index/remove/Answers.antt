@@ -1,4 +1,4 @@
-use Rattle.std.proofs.Common.{◌∷◌, List, sym, ap, ◌∙◌, subst}
+use Rattle.std.proofs.Common.{◌∷◌, List, sym, ap, ◌∙◌, subst, ◌<◌, length, arith}
 use Rattle.std.specs.List.{All, swap_remove}
 use Rattle.std.specs.List.Sorted.{IsPermutation}
 use Rattle.std.proofs.lemmas.List.Elements.{All-tail}
@@ -27,3 +27,12 @@ forget-requires-clause-index g c = subst (λ (rows : List Holding). IsIndex pref
 
 pub forget-requires-2-clause-index : goal.forget-requires-2-clause-index
 forget-requires-2-clause-index g c = subst (λ (rows : List Holding). IsIndex deadline_cmp rows c.args.by_deadline.now.items) (sym c.deref-2.ensures.value) c.requires.indexed.by_deadline
+
+pub forget-requires-2-clause-within : goal.forget-requires-2-clause-within
+forget-requires-2-clause-within g c = subst (λ (rows : List Holding). c.args.number < length rows) (sym c.deref-2.ensures.value) c.requires.within
+
+pub swap_remove-requires : goal.swap_remove-requires
+swap_remove-requires g c = omega (arith, c.requires.within, c.args.rows.now.ok.0)
+
+pub forget-requires-clause-within : goal.forget-requires-clause-within
+forget-requires-clause-within g c = subst (λ (rows : List Holding). c.args.number < length rows) (sym c.deref.ensures.value) c.requires.within

@@ -1,4 +1,4 @@
-use Rattle.std.proofs.Common.{inl, inr, sym, ap, ◌∙◌, [], ◌∷◌, ◌++◌}
+use Rattle.std.proofs.Common.{inl, inr, sym, ap, ◌∙◌, [], ◌∷◌, ◌++◌, arith}
 use Rattle.std.proofs.lemmas.List.{append-nil, take_all}
 use Rattle.std.proofs.lemmas.Result.{IfOk-from_err}
 use Rattle.lisp_records.specs.Record.{Mapping}
@@ -29,3 +29,9 @@ returns-in_err-try_push-clause-memory g c = on_err c.from_residual-in_err-try_pu
 
 pub returns-clause-records : goal.returns-clause-records
 returns-clause-records g c = c.loop-row.invariant ∙ ap (λ rows. live_of rows c.args.router.now c.args.now) (take_all c.loop-row.row-index c.args.rows.now c.loop-row-test.false)
+
+pub bounds-rows-row-index : goal.bounds-rows-row-index
+bounds-rows-row-index g c = c.loop-row-test.true
+
+pub offset_bounds-rows-row-index : goal.offset_bounds-rows-row-index
+offset_bounds-rows-row-index g c = omega (arith, c.loop-row-test.true)

@@ -1,4 +1,4 @@
-use Rattle.std.proofs.Common.{inl, inr, sym, ap, ◌+◌, ◌∙◌, length}
+use Rattle.std.proofs.Common.{inl, inr, sym, ap, ◌+◌, ◌∙◌, length, arith}
 use Rattle.lisp_records.specs.Row.{Holding}
 use Rattle.lisp_records.specs.Written.{written}
 use Rattle.lisp_lookup.proofs.LiveLaws.{counts_next, counts_all, too_large, fits}
@@ -31,3 +31,12 @@ returns-clause-fits g c = fits c.args.rows.now c.args.router.now c.args.now c.lo
 
 pub returns-clause-count : goal.returns-clause-count
 returns-clause-count g c = (counts_all c.args.rows.now c.loop-row.row-index c.args.router.now c.args.now c.loop-row.count c.loop-row.size c.loop-row-test.false c.loop-row.invariant.counts).records
+
+pub overflow_add-size : goal.overflow_add-size
+overflow_add-size g c = record { fits = omega (arith, c.loop-row.invariant.small, c.written_len-size.ensures.small) }
+
+pub overflow_add-count : goal.overflow_add-count
+overflow_add-count g c = record { fits = omega (arith, c.loop-row.invariant.few) }
+
+pub offset_bounds-rows-row-index : goal.offset_bounds-rows-row-index
+offset_bounds-rows-row-index g c = omega (arith, c.loop-row-test.true)

@@ -21,3 +21,6 @@ returns-clause-cost g c = rw (← c.self.view_is) (omega (arith, c.find.ensures.
 
 pub find-requires-clause-below : goal.find-requires-clause-below
 find-requires-clause-below g c = subst (λ (rows : List Holding). (k : ℕ) → k < length c.self.inside.by_prefix.items → slice_index c.self.inside.by_prefix.items k < length rows) (sym c.deref.ensures.value) c.self.invariant.by_prefix.rises.below
+
+pub returns-clause-grows : goal.returns-clause-grows
+returns-clause-grows g c = c.find.ensures.rises
