@@ -3,10 +3,11 @@ use Rattle.std.proofs.Common.{true≢false, ◌≡◌, ◌≢◌, ◌⊎◌, inl
 use Rattle.std.specs.Prelude.{OnOk, OnErr}
 use Rattle.std.proofs.lemmas.Bool.{cases_lt}
 use Rattle.lisp_store.specs.declared.fault.StoreFault.{StoreFault}
-use Rattle.lisp_store.specs.declared.fault.StoreFault.TheVariants.{Device, OutOfMemory}
+use Rattle.lisp_store.specs.declared.fault.StoreFault.TheVariants.{Device, Damaged, OutOfMemory}
 use Rattle.lisp_store.specs.declared.fate.Fate.{Fate}
 use Rattle.lisp_store.specs.declared.fate.Fate.TheVariants.{Done, Doubt, LoadFails}
 use Rattle.lisp_store.specs.Kept.{InDoubt}
+use Rattle.lisp_store.specs.Failing.{Failing, fails}
 use Rattle.lisp_store.specs.Memory.{Memory, match_fate, loaded, failed_once, after_load, has_value, saved, save_answer, faults_after_save}
 
 -- an answer with a value is no fault
@@ -82,3 +83,22 @@ save_done test doubt fate not = settled test doubt fate not (Ok tt) (Err Device)
 
 pub none_counted : (test : Fate → Bool) → test Doubt ≡ true → (m : Memory) (faults : ℕ) → false ≡ test m.fate → faults ≡ m.faults → faults ≡ faults_after_save m
 none_counted test doubt m faults not is = is ∙ settled test doubt m.fate not m.faults (failed_once m).faults
+
+-- a damaged text is not want of memory, nor a failed device a damaged text
+pub damaged_not_out : {X P : Type 0} → ◌≡◌ {A = Result X StoreFault} (Err Damaged) (Err OutOfMemory) → P
+damaged_not_out clash = absurd cc
+
+pub not_damaged : {X P : Type 0} → ◌≡◌ {A = Result X StoreFault} (Err Device) (Err Damaged) → P
+not_damaged clash = absurd cc
+
+-- a call that was counted and not refused is not the one that fails
+pub not_failing : (old : Failing) → ◌≡◌ {A = Result (Unit {0}) StoreFault} (Ok tt) (cond (fails old) (Err Device) (Ok tt)) → fails old ≡ false
+not_failing old counted = here (fails old) counted
+  where
+    here : (b : Bool) → ◌≡◌ {A = Result (Unit {0}) StoreFault} (Ok tt) (cond b (Err Device) (Ok tt)) → b ≡ false
+    here true clash = no_fault tt Device clash
+    here false same = refl
+
+-- its store in memory is then as it was
+pub as_it_was : (inside now old : Failing) → inside ≡ now → fails old ≡ false → now.memory ≡ cond (fails old) (failed_once old.memory) old.memory → inside.memory ≡ old.memory
+as_it_was inside now old same not is = ap (λ (f : Failing). f.memory) same ∙ is ∙ ap (λ (b : Bool). cond b (failed_once old.memory) old.memory) not

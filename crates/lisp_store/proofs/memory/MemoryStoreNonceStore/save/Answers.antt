@@ -4,7 +4,7 @@ use Rattle.lisp_store.specs.declared.fate.Fate.TheVariants.{Doubt}
 use Rattle.lisp_store.specs.contracts.fate.Fate.{the_type}
 use Rattle.lisp_store.specs.Kept.{kept_at}
 use Rattle.lisp_store.specs.Memory.{Memory}
-use Rattle.lisp_store.proofs.Saving.{no_fault, not_out, rose, in_doubt, was_doubt, save_doubted, doubt_counted, save_done, none_counted}
+use Rattle.lisp_store.proofs.Saving.{no_fault, not_out, rose, in_doubt, was_doubt, save_doubted, doubt_counted, save_done, none_counted, not_damaged}
 use Rattle.lisp_store.proofs.memory.MemoryStoreNonceStore.save.Goals as goal
 
 pub returns-then-eq-clause-memory : goal.returns-then-eq-clause-memory
@@ -54,3 +54,6 @@ returns-clause-answer g c other = save_done (λ f. sameb the_type f Doubt) refl 
 
 pub returns-clause-faults : goal.returns-clause-faults
 returns-clause-faults g c other = none_counted (λ f. sameb the_type f Doubt) refl c.args.self.now _ (c.if-eq.ensures ∙ ap (λ f. sameb the_type f Doubt) (ap (λ (m : Memory). m.fate) c.self.view_is ∙ c.in_ok-keep.ensures.fate)) c.in_ok-keep.ensures.faults
+
+pub returns-then-eq-clause-sound : goal.returns-then-eq-clause-sound
+returns-then-eq-clause-sound g c = not_damaged
