@@ -1,15 +1,15 @@
 -- What a router makes of a message, check by check.
-use Rattle.std.proofs.Common.{◌≡◌, ◌≢◌, ◌<◌, ◌≤◌, ℕ, ◌==◌, nat_le, Bool, true, false, List, Option, Some, Result, Ok, Err, IfOk, IfErr, ok_or, refl, sym, ap, subst, ◌∙◌, arith, true≢false, cond}
+use Rattle.std.proofs.Common.{◌≡◌, ◌≢◌, ◌<◌, ◌≤◌, ℕ, ◌==◌, nat_le, Bool, true, false, List, Option, Some, Result, Ok, Err, IfOk, IfErr, ok_or, refl, sym, ap, subst, ◌∙◌, arith, true≢false, cond, None}
 use Rattle.std.proofs.lemmas.Bool.{le-leb, leb-true}
 use Rattle.std.proofs.lemmas.Bool.Decides.{Decides-eqb}
 use Rattle.lisp_records.specs.declared.address.Addr.{Addr}
-use Rattle.lisp_messages.specs.Message.{Notification, Said}
+use Rattle.lisp_messages.specs.Message.{Notification, Said, Registers, Notifies}
 use Rattle.lisp_messages.specs.Authentic.{is_authentic}
 use Rattle.lisp_messages.specs.declared.fault.ReadFault.{ReadFault}
 use Rattle.lisp_etr.specs.Config.{Settings}
 use Rattle.lisp_records.specs.Result.{◌>>=◌}
 use Rattle.lisp_etr.specs.Etr.{EtrState}
-use Rattle.lisp_etr.specs.Hearing.{Gives, Heard, notify_read, server_at, checked, first_notice, notice_in, counted_in, seen_in, AnswerFits, is_latest, round_at}
+use Rattle.lisp_etr.specs.Hearing.{Gives, Heard, notify_in, notify_read, server_at, checked, first_notice, notice_in, counted_in, seen_in, AnswerFits, is_latest, round_at}
 use Rattle.lisp_etr.specs.declared.round.Round.{Round}
 use Rattle.lisp_etr.specs.declared.seen.Seen.{Seen}
 use Rattle.lisp_etr.specs.declared.seen.Seen.TheVariants.{Counted}
@@ -29,6 +29,9 @@ number_differs a b differ = by (a == b) refl
 -- the Map-Server that was found is that of the router's list
 pub found : {given servers : List Addr} (from : Addr) (server : ℕ) → given ≡ servers → Some server ≡ server_at given from → ok_or (server_at servers from) faults.NotMine ≡ Ok server
 found from server all at = ap (λ (place : Option ℕ). ok_or place faults.NotMine) (ap (λ (list : List Addr). server_at list from) (sym all) ∙ sym at)
+
+pub missed : {given servers : List Addr} (from : Addr) → given ≡ servers → server_at given from ≡ None → ok_or (server_at servers from) faults.NotMine ≡ Err faults.NotMine
+missed from all none = ap (λ (place : Option ℕ). ok_or place faults.NotMine) (ap (λ (list : List Addr). server_at list from) (sym all) ∙ none)
 
 -- the fault of a refusal that has one
 fault_or : {X : Type 0} → NotifyFault → Result X NotifyFault → NotifyFault
@@ -52,6 +55,15 @@ either_fits : (A : Type 0) (server nonce key latest : ℕ) (same : Bool) → IfO
 either_fits A server nonce key latest true = tt
 either_fits A server nonce key latest false = tt
 
+no_memory : {P : Type 0} (m : Notification) (ack : Bool) → cond ack (Err faults.NotMine) (Ok m) ≡ Err faults.OutOfMemory → P
+no_memory m true out = not_out (Err faults.NotMine) refl out
+no_memory m false out = not_out (Ok m) refl out
+
+-- whether a message is for routers takes no memory
+pub never_out : {P : Type 0} (x : Said) → notify_in x ≡ Err faults.OutOfMemory → P
+never_out (Registers m) out = not_out {X = Notification} (Err faults.NotMine) refl out
+never_out (Notifies m) out = no_memory m m.ack out
+
 -- an acknowledgement has no answer
 pub counted_fits : {A : Type 0} (seen : Result (Seen A) NotifyFault) (rounds : List Round) (server nonce key : ℕ) → seen ≡ counted_in rounds server nonce → IfOk seen (λ s. AnswerFits key s)
 counted_fits {A} seen rounds server nonce key is = subst (λ (r : Result (Seen A) NotifyFault). IfOk r (λ s. AnswerFits key s)) (sym is) (either_fits A server nonce key (round_at rounds server).latest (is_latest nonce (round_at rounds server).latest))
@@ -67,6 +79,10 @@ module _ (c : Settings) (bytes : List ℕ) (read : Result Said ReadFault) (from 
   unread view (faults.Stale _) at = rw at refl
 
   module _ (m : Notification) (reads : notify_read read ≡ Ok m) where
+    pub not_mine : ok_or from faults.NotMine ≡ Err faults.NotMine → checked c bytes read from ≡ Err faults.NotMine
+    unfolding checked
+    not_mine none = rw (reads, none) refl
+
     module _ (server : ℕ) (its : ok_or from faults.NotMine ≡ Ok server) where
       pub wrong_key : m.key_id ≢ c.key_id → checked c bytes read from ≡ Err faults.WrongKey
       unfolding checked

@@ -9,7 +9,7 @@ use Rattle.lisp_messages.specs.Reading.{message_at}
 use Rattle.lisp_messages.specs.declared.notify.MapNotify.{MapNotify}
 use Rattle.lisp_etr.specs.Config.{Settings}
 use Rattle.lisp_etr.specs.Hearing.{server_at}
-use Rattle.lisp_etr.proofs.HearingLaws.{found, unread, wrong_key, bad_auth, passes, not_out}
+use Rattle.lisp_etr.proofs.HearingLaws.{found, unread, wrong_key, bad_auth, passes, not_out, not_mine, missed}
 use Rattle.lisp_etr.proofs.hearing.hear.Goals as goal
 
 pub returns-in_default-clause-early : goal.returns-in_default-clause-early
@@ -71,3 +71,10 @@ returns-clause-key g c = ap (λ (m : Notification). m.key_id) (sym c.notify.view
 
 pub returns-then-notify-config-clause-memory : goal.returns-then-notify-config-clause-memory
 returns-then-notify-config-clause-memory g c = not_out _ refl
+
+pub returns-in_default-clause-memory : goal.returns-in_default-clause-memory
+returns-in_default-clause-memory g c = not_out _ refl
+
+pub returns-in_default-clause-exact : goal.returns-in_default-clause-exact
+returns-in_default-clause-exact g c = not_mine c.args.config.now c.args.bytes.now (message_at c.args.bytes.now) (server_at c.args.config.now.servers c.args.from) c.in_ok-notify.notify c.in_ok-notify.ensures.exact
+    (missed c.args.from (c.as_slice.ensures ∙ ap (λ (s : Settings). s.servers) c.config.view_is) (sym c.server_at.ensures ∙ c.in_default.is))

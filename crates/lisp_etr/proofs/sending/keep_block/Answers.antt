@@ -1,8 +1,8 @@
-use Rattle.std.proofs.Common.{arith, Err, inr, refl, sym, ap, ◌∙◌, subst}
+use Rattle.std.proofs.Common.{arith, Err, inr, refl, sym, ap, ◌∙◌, subst, inl}
 use Rattle.lisp_etr.proofs.SafeLaws.{none_below, alone}
 use Rattle.lisp_store.specs.declared.pair.Pair.{Pair}
 use Rattle.lisp_store.specs.Kept.{kept_at, InDoubt}
-use Rattle.lisp_etr.proofs.Refusals.{store_fault, unsaved}
+use Rattle.lisp_etr.proofs.Refusals.{store_fault, unsaved, apart}
 use Rattle.lisp_etr.proofs.sending.keep_block.Goals as goal
 
 pub returns-in-Err-clause-still_safe : goal.returns-in-Err-clause-still_safe
@@ -31,3 +31,15 @@ returns-in-Err-clause-store g c = (c.in-Err.fault, refl, λ damaged. c.in-Err.en
 
 pub returns-in-Err-clause-cause : goal.returns-in-Err-clause-cause
 returns-in-Err-clause-cause g c failed = c.in-Err.ensures.cause (ap Err (store_fault failed))
+
+pub returns-in-Err-clause-memory : goal.returns-in-Err-clause-memory
+returns-in-Err-clause-memory g c out = c.in-Err.ensures.memory (ap Err (store_fault out))
+
+pub returns-in-Ok-clause-cause : goal.returns-in-Ok-clause-cause
+returns-in-Ok-clause-cause g c = apart _ _ (λ k. absurd (omega (arith, k)))
+
+pub returns-in-Ok-clause-memory : goal.returns-in-Ok-clause-memory
+returns-in-Ok-clause-memory g c = apart _ _ (λ k. absurd (omega (arith, k)))
+
+pub returns-then-nonce-safe-clause-settles : goal.returns-then-nonce-safe-clause-settles
+returns-then-nonce-safe-clause-settles g c honest = inl refl
