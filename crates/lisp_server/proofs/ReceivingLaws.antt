@@ -1,6 +1,6 @@
 -- What a Map-Register that is taken, or refused, amounts to.
 use Rattle.std.proofs.Common.{◌≡◌, ◌≤◌, ℕ, Bool, true, false, List, [], ◌∷◌, Option, Some, None, Result, Ok, Err, ok_or, IsTrue, not, refl, sym, ap, ◌∙◌, subst, inl, inr, arith}
-use Rattle.std.specs.Result.{IfErr}
+use Rattle.std.specs.Result.{IfErr, IsErrAnd}
 use Rattle.lisp_records.specs.declared.address.Addr.{Addr}
 use Rattle.lisp_records.specs.Row.{Holding}
 use Rattle.lisp_messages.specs.Message.{Registration, Registers, Notification, IsNotification, Notifies, Said}
@@ -14,6 +14,7 @@ use Rattle.lisp_messages.specs.Authentic.{is_authentic}
 use Rattle.lisp_served.specs.Site.{SiteEntry, site_of, secret_of}
 use Rattle.lisp_store.specs.declared.pair.Pair.{Pair}
 use Rattle.lisp_store.specs.declared.fault.StoreFault.{StoreFault}
+use Rattle.lisp_store.specs.declared.fault.StoreFault.TheVariants as stores
 use Rattle.lisp_store.specs.Kept.{Kept, kept_at, SameElsewhere, InDoubt}
 use Rattle.lisp_store.specs.Store.{StoreState, Rose, Proceeds}
 use Rattle.lisp_checks.specs.declared.refused.Refused.{Refused}
@@ -294,3 +295,26 @@ read_fails (reads.Record i fault) said from bytes old before at = subst (λ (s :
 -- the Map-Notify of a Map-Register that was read from bytes fits the format
 pub notification_fits : (bytes : List ℕ) (m : Registration) → IsBytes bytes → Spells bytes (Registers m) → IsNotification (notification_of m)
 notification_fits bytes m bytewise s = (let fits = said_fits bytes (Registers m) bytewise s in record { nonce = fits.nonce; key = fits.key; records = fits.records })
+
+-- what the exit of a `?` is refused for
+pub exit_for : {X E : Type 0} (r : Result X E) (e : E) (P : E → Type 0) → IsErrAnd r (λ y. y ≡ e) → P e → IfErr r P
+exit_for (Ok x) e P never at = absurd never
+exit_for (Err y) e P is at = subst P (sym is) at
+
+-- where memory is told to have run out, it may have been refused: that of the tables, or the store's
+module _ (A S : Type 0) where
+  abbrev MemoryTold : Refused → Type 0
+  MemoryTold why = (why ≡ refusals.OutOfMemory → A) × (why ≡ refusals.StoreLoad stores.OutOfMemory → S) × (why ≡ refusals.StoreSave stores.OutOfMemory → S)
+
+  pub told_stopped : (last : Option ℕ) (before after : StoreState) (pair : Pair) (nonce : ℕ) (e : Refused) → Stops last before after pair nonce e → (e ≡ refusals.StoreLoad stores.OutOfMemory → S) → MemoryTold e
+  told_stopped last before after pair nonce e why load = ((λ is. absurd (subst (Stops last before after pair nonce) is why)), load, (λ is. absurd (subst (Stops last before after pair nonce) is why)))
+
+  pub told_unsaved : (before after : StoreState) (pair : Pair) (nonce : ℕ) (e : Refused) → NotKept before after pair nonce e → (e ≡ refusals.StoreSave stores.OutOfMemory → S) → MemoryTold e
+  told_unsaved before after pair nonce e why save = ((λ is. absurd (subst (NotKept before after pair nonce) is why)), (λ is. absurd (subst (NotKept before after pair nonce) is why)), save)
+
+  abbrev IsOutOfMemory : Refused → Type 0
+  IsOutOfMemory refusals.OutOfMemory = Unit {0}
+  IsOutOfMemory _ = ⊥
+
+  pub told_memory : A → MemoryTold refusals.OutOfMemory
+  told_memory may = ((λ _. may), (λ is. absurd (subst IsOutOfMemory is tt)), (λ is. absurd (subst IsOutOfMemory is tt)))

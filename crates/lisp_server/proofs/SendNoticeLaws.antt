@@ -1,7 +1,7 @@
 -- What a notice that is sent, or isn't, amounts to.
 use Rattle.std.proofs.Common.{◌≡◌, ◌≢◌, ℕ, ◌<◌, ◌≤◌, nat_lt, Bool, true, false, true≢false, List, [], ◌∷◌, length, Option, Some, None, Result, Ok, Err, ok_or, IsTrue, refl, sym, ap, ◌∙◌, subst, arith}
 use Rattle.std.specs.Option.{IfSome}
-use Rattle.std.specs.Result.{IfOk, IfErr}
+use Rattle.std.specs.Result.{IfOk, IfErr, OnErr}
 use Rattle.std.proofs.lemmas.List.Sorted.{length_permutation}
 use Rattle.lisp_records.specs.declared.router.RouterId.{RouterId}
 use Rattle.std.proofs.lemmas.Bool.{lt-ltb}
@@ -14,6 +14,7 @@ use Rattle.lisp_messages.specs.Message.{IsNotification}
 use Rattle.lisp_messages.specs.Authentic.{signed}
 use Rattle.lisp_messages.specs.Written.{written_notify}
 use Rattle.lisp_served.specs.Site.{SiteEntry}
+use Rattle.lisp_store.specs.declared.fault.StoreFault.TheVariants as stores
 use Rattle.lisp_store.specs.Kept.{Kept, kept_at, SameElsewhere, InDoubt}
 use Rattle.lisp_store.specs.Store.{StoreState, Proceeds}
 use Rattle.lisp_lookup.specs.Records.{live_of, ByPrefix}
@@ -162,3 +163,29 @@ module _ (s : ServerState) (router : RouterId) (now : ℕ) where
   refuses_unsaved faults.NonceSpent before between after known nonce is registered next went loaded others never = absurd never
   refuses_unsaved faults.OutOfMemory before between after known nonce is registered next went loaded others never = absurd never
   refuses_unsaved faults.NotDue before between after known nonce is registered next went loaded others never = absurd never
+
+-- where memory is told to have run out, it may have been refused: that of the tables, or the store's
+module _ (A S : Type 0) where
+  abbrev MemoryTold : NoticeFault → Type 0
+  MemoryTold fault = (fault ≡ faults.OutOfMemory → A) × (fault ≡ faults.StoreLoad stores.OutOfMemory → S) × (fault ≡ faults.StoreSave stores.OutOfMemory → S)
+
+  pub told_unregistered : (live : List Mapping) (e : NoticeFault) → Unregistered live e → MemoryTold e
+  told_unregistered live e why = ((λ is. absurd (subst (Unregistered live) is why)), (λ is. absurd (subst (Unregistered live) is why)), (λ is. absurd (subst (Unregistered live) is why)))
+
+  pub told_unfollowed : (known : Option ℕ) (before after : StoreState) (e : NoticeFault) → FollowsNone known before after e → (e ≡ faults.StoreLoad stores.OutOfMemory → S) → MemoryTold e
+  told_unfollowed known before after e why load = ((λ is. absurd (subst (FollowsNone known before after) is why)), load, (λ is. absurd (subst (FollowsNone known before after) is why)))
+
+  pub told_unsaved : (before after : StoreState) (nonce : ℕ) (e : NoticeFault) → NoticeNotKept before after nonce e → (e ≡ faults.StoreSave stores.OutOfMemory → S) → MemoryTold e
+  told_unsaved before after nonce e why save = ((λ is. absurd (subst (NoticeNotKept before after nonce) is why)), (λ is. absurd (subst (NoticeNotKept before after nonce) is why)), save)
+
+  abbrev IsOutOfMemory : NoticeFault → Type 0
+  IsOutOfMemory faults.OutOfMemory = Unit {0}
+  IsOutOfMemory _ = ⊥
+
+  pub told_memory : A → MemoryTold faults.OutOfMemory
+  told_memory may = ((λ _. may), (λ is. absurd (subst IsOutOfMemory is tt)), (λ is. absurd (subst IsOutOfMemory is tt)))
+
+-- a notice that is sent, or isn't, leaves the rows and the contacts
+pub known_still : {A X : Type 0} (sites : List SiteEntry) (old new : Tables A) (r : Result X NoticeFault) (P : X → Type 0) → ((x : X) → P x → state_of sites new ≡ record (state_of sites old) { notices = new.notices.notices; nonces = new.nonces.nonces }) → IfOk r P → OnErr r (SameTables old new) → Knows sites old.rows.rows old.contacts.contacts → Knows sites new.rows.rows new.contacts.contacts
+known_still sites old new (Ok x) P rest sent same = subst (λ (s : ServerState). Knows sites s.rows s.contacts) (sym (rest x sent))
+known_still sites old new (Err why) P rest sent same = subst (λ (x : List Holding × List Contact). Knows sites x.0 x.1) (λ i. (sym same.rows i, sym same.contacts i))

@@ -1,6 +1,6 @@
 //! Receiving a Map-Register.
 
-ghost use Rattle.std.specs.Prelude.{◌≡◌, length, IfOk, IfErr, IsErrOf, OnErr};
+ghost use Rattle.std.specs.Prelude.{◌≡◌, length, IfOk, IfErr, OnErr};
 ghost use Rattle.lisp_store.specs.declared.fault.StoreFault.{StoreFault};
 ghost use Rattle.lisp_store.specs.Store.{Proceeds};
 ghost use Rattle.lisp_checks.specs.Pairs.{pair_of};
@@ -39,9 +39,7 @@ pub(crate) fn receive_register<S: NonceStore, A: Memory + Copy>(
     ensures accepted { IfOk result (λ took. Accepts (register_checked sites.now arrival.entry.bytes.now register) (state_of sites.now tables.old) (state_of sites.now tables.new) (S.seen store.old) (S.seen store.new) arrival.entry.from arrival.entry.now took) }
     ensures refused { IfErr result (λ why. RefusesRegister (register_checked sites.now arrival.entry.bytes.now register) (state_of sites.now tables.old) (S.seen store.old) (S.seen store.new) why) }
     ensures err { OnErr result (SameTables tables.old tables.new) }
-    ensures memory { IsErrOf result Refused.OutOfMemory → A.may_refuse }
-    ensures load_memory { IsErrOf result (Refused.StoreLoad StoreFault.OutOfMemory) → S.may_refuse }
-    ensures save_memory { IsErrOf result (Refused.StoreSave StoreFault.OutOfMemory) → S.may_refuse }
+    ensures memory { IfErr result (λ why. (why ≡ Refused.OutOfMemory → A.may_refuse) × (why ≡ Refused.StoreLoad StoreFault.OutOfMemory → S.may_refuse) × (why ≡ Refused.StoreSave StoreFault.OutOfMemory → S.may_refuse)) }
     ensures proceeds { Proceeds (S.seen store.old) (S.seen store.new) }
 {
     let key = key_under(sites, arrival.bytes, &register)?;

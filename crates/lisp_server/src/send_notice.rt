@@ -1,6 +1,6 @@
 //! Sending a router an unsolicited Map-Notify (notice) of what is held for it.
 
-ghost use Rattle.std.specs.Prelude.{◌≡◌, ◌≤◌, None, length, IfOk, IfErr, IfSome, IsErrOf, OnOk, OnErr};
+ghost use Rattle.std.specs.Prelude.{◌≡◌, ◌≤◌, None, length, IfOk, IfErr, IfSome, OnOk, OnErr};
 ghost use Rattle.lisp_records.specs.Moment.{max_moment};
 ghost use Rattle.lisp_store.specs.declared.fault.StoreFault.{StoreFault};
 ghost use Rattle.lisp_store.specs.Store.{Proceeds};
@@ -39,11 +39,7 @@ pub(crate) fn send_notice<S: NonceStore, A: Memory + Copy>(
     ensures announces { IfOk result (λ x. Announces (state_of sites.now tables.old) (state_of sites.now tables.new) (S.seen store.old) (S.seen store.new) router.now now x.0 x.1.items) }
     ensures refused { IfErr result (λ fault. RefusesNotice (state_of sites.now tables.old) (S.seen store.old) (S.seen store.new) router.now now fault) }
     ensures err { OnErr result (SameTables tables.old tables.new) }
-    ensures memory { IsErrOf result NoticeFault.OutOfMemory → A.may_refuse }
-    ensures load_memory { IsErrOf result (NoticeFault.StoreLoad StoreFault.OutOfMemory) → S.may_refuse }
-    ensures save_memory { IsErrOf result (NoticeFault.StoreSave StoreFault.OutOfMemory) → S.may_refuse }
-    ensures rows { tables.new.rows.rows ≡ tables.old.rows.rows }
-    ensures contacts { tables.new.contacts.contacts ≡ tables.old.contacts.contacts }
+    ensures memory { IfErr result (λ fault. (fault ≡ NoticeFault.OutOfMemory → A.may_refuse) × (fault ≡ NoticeFault.StoreLoad StoreFault.OutOfMemory → S.may_refuse) × (fault ≡ NoticeFault.StoreSave StoreFault.OutOfMemory → S.may_refuse)) }
     ensures one_each { OneEach tables.old.rows.rows }
     ensures proceeds { Proceeds (S.seen store.old) (S.seen store.new) }
 {
@@ -133,7 +129,6 @@ fn recipient_of<'s, A: Allocator + Copy>(
     requires { Knows sites.now tables.now.rows.rows tables.now.contacts.contacts }
     ensures registered { IfOk result (λ to. (r : IsRegistered (state_of sites.now tables.now) router.now now) × (to.contact ≡ r.heard.contact) × (to.key.now ≡ r.heard.secret)) }
     ensures refused { IfErr result (λ fault. Unregistered (live_of tables.now.rows.rows router.now now) fault) }
-    ensures plain { ¬ (IsErrOf result NoticeFault.OutOfMemory) }
     ensures one_each { OneEach tables.now.rows.rows }
 {
     let Ok(count) = tables.rows.count_live(router, now) else {

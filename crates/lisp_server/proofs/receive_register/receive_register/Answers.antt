@@ -1,8 +1,8 @@
-use Rattle.std.proofs.Common.{ℕ, Option, subst}
+use Rattle.std.proofs.Common.{ℕ, Option, Err, ap, subst}
 use Rattle.std.proofs.lemmas.Result.{IfOk-from_err, err_from_is_err_and}
 use Rattle.lisp_checks.specs.Nonces.{IsFresh, Unasked, Stops}
 use Rattle.lisp_server.specs.Server.{state_of}
-use Rattle.lisp_server.proofs.ReceivingLaws.{proceeds_on, accepts, save_fails, check_fails, stops, no_room}
+use Rattle.lisp_server.proofs.ReceivingLaws.{proceeds_on, accepts, save_fails, check_fails, stops, no_room, exit_for, told_stopped, told_memory, told_unsaved}
 use Rattle.lisp_server.proofs.receive_register.receive_register.Goals as goal
 
 pub returns-in_err-key-clause-refused : goal.returns-in_err-key-clause-refused
@@ -71,3 +71,24 @@ returns-in_err-save_nonce-clause-proceeds g c = proceeds_on c.check_nonce.ensure
 
 pub returns-clause-proceeds : goal.returns-clause-proceeds
 returns-clause-proceeds g c = proceeds_on c.check_nonce.ensures.proceeds c.save_nonce.ensures.proceeds
+
+pub returns-in_err-key-clause-accepted : goal.returns-in_err-key-clause-accepted
+returns-in_err-key-clause-accepted g c = IfOk-from_err _ _ c.from_residual.ensures.0
+
+pub returns-in_err-check_nonce-clause-accepted : goal.returns-in_err-check_nonce-clause-accepted
+returns-in_err-check_nonce-clause-accepted g c = IfOk-from_err _ _ c.from_residual-in_err-check_nonce.ensures.0
+
+pub returns-in_err-rows-clause-accepted : goal.returns-in_err-rows-clause-accepted
+returns-in_err-rows-clause-accepted g c = IfOk-from_err _ _ c.from_residual-in_err-rows.ensures.0
+
+pub returns-in_err-key-clause-memory : goal.returns-in_err-key-clause-memory
+returns-in_err-key-clause-memory g c = exit_for _ _ _ c.from_residual.ensures.1 ((λ is. absurd (c.in_err-key.ensures.plain (ap Err is))), (λ is. absurd (c.in_err-key.ensures.storeless.0 (ap Err is))), (λ is. absurd (c.in_err-key.ensures.storeless.1 (ap Err is))))
+
+pub returns-in_err-check_nonce-clause-memory : goal.returns-in_err-check_nonce-clause-memory
+returns-in_err-check_nonce-clause-memory g c = exit_for _ _ _ c.from_residual-in_err-check_nonce.ensures.1 (told_stopped _ _ _ _ _ _ _ _ c.in_err-check_nonce.ensures.refused (λ is. c.in_err-check_nonce.ensures.store_memory (ap Err is)))
+
+pub returns-in_err-rows-clause-memory : goal.returns-in_err-rows-clause-memory
+returns-in_err-rows-clause-memory g c = exit_for _ _ _ c.from_residual-in_err-rows.ensures.1 (told_memory _ _ c.in_err-rows.ensures.memory)
+
+pub returns-in_err-save_nonce-clause-memory : goal.returns-in_err-save_nonce-clause-memory
+returns-in_err-save_nonce-clause-memory g c = exit_for _ _ _ c.from_residual-in_err-save_nonce.ensures.1 (told_unsaved _ _ _ _ _ _ _ c.in_err-save_nonce.ensures.refused (λ is. c.in_err-save_nonce.ensures.store_memory (ap Err is)))

@@ -1,13 +1,13 @@
-use Rattle.std.proofs.Common.{sym, ap, subst, Option, ℕ, ◌≤◌, ◌∙◌, length}
+use Rattle.std.proofs.Common.{sym, ap, subst, Option, Err, ℕ, ◌≤◌, ◌∙◌, length}
 use Rattle.lisp_records.specs.declared.router.RouterId.{RouterId}
 use Rattle.lisp_lookup.specs.Records.{live_of}
 use Rattle.lisp_checks.specs.Nonces.{Follows}
 use Rattle.lisp_server.specs.declared.contacts.Contact.{Contact}
 use Rattle.lisp_server.specs.Server.{state_of}
 use Rattle.lisp_server.proofs.ContactLaws.{contact_router}
-use Rattle.lisp_server.proofs.ReceivingLaws.{proceeds_on}
-use Rattle.lisp_server.proofs.SendNoticeLaws.{few_records, announces, refuses_unregistered, refuses_unfollowed, without_room, refuses_unsaved}
-use Rattle.std.proofs.lemmas.Result.{err_from_is_err_and}
+use Rattle.lisp_server.proofs.ReceivingLaws.{proceeds_on, exit_for}
+use Rattle.lisp_server.proofs.SendNoticeLaws.{few_records, announces, refuses_unregistered, refuses_unfollowed, without_room, refuses_unsaved, told_unregistered, told_unfollowed, told_memory, told_unsaved}
+use Rattle.std.proofs.lemmas.Result.{IfOk-from_err, err_from_is_err_and}
 use Rattle.lisp_server.proofs.send_notice.send_notice.Goals as goal
 
 pub prepare-requires : goal.prepare-requires
@@ -65,3 +65,27 @@ pub returns-in_err-save_notice-clause-refused : goal.returns-in_err-save_notice-
 returns-in_err-save_notice-clause-refused g c =
     let p = err_from_is_err_and c.from_residual-in_err-save_notice.result c.from_residual-in_err-save_notice.ensures.1 in
     rw (p.1, p.2) (refuses_unsaved (state_of c.args.sites.now c.args.tables.now) c.args.router.now c.args.now c.in_err-save_notice.field-0.0 _ _ _ _ c.in_ok-nonce.nonce c.get.ensures c.in_ok-recipient.ensures.registered.0 c.in_ok-nonce.ensures.next c.next_nonce.ensures.proceeds c.next_nonce.ensures.same c.save_notice.ensures.others c.in_err-save_notice.ensures.refused)
+
+pub returns-in_err-recipient-clause-announces : goal.returns-in_err-recipient-clause-announces
+returns-in_err-recipient-clause-announces g c = IfOk-from_err _ _ c.from_residual.ensures.0
+
+pub returns-in_err-nonce-clause-announces : goal.returns-in_err-nonce-clause-announces
+returns-in_err-nonce-clause-announces g c = IfOk-from_err _ _ c.from_residual-in_err-nonce.ensures.0
+
+pub returns-in_err-notice-clause-announces : goal.returns-in_err-notice-clause-announces
+returns-in_err-notice-clause-announces g c = IfOk-from_err _ _ c.from_residual-in_err-notice.ensures.0
+
+pub returns-in_err-save_notice-clause-announces : goal.returns-in_err-save_notice-clause-announces
+returns-in_err-save_notice-clause-announces g c = IfOk-from_err _ _ c.from_residual-in_err-save_notice.ensures.0
+
+pub returns-in_err-recipient-clause-memory : goal.returns-in_err-recipient-clause-memory
+returns-in_err-recipient-clause-memory g c = exit_for _ _ _ c.from_residual.ensures.1 (told_unregistered _ _ _ _ c.in_err-recipient.ensures.refused)
+
+pub returns-in_err-nonce-clause-memory : goal.returns-in_err-nonce-clause-memory
+returns-in_err-nonce-clause-memory g c = exit_for _ _ _ c.from_residual-in_err-nonce.ensures.1 (told_unfollowed _ _ _ _ _ _ c.in_err-nonce.ensures.refused (λ is. c.in_err-nonce.ensures.store_memory (ap Err is)))
+
+pub returns-in_err-notice-clause-memory : goal.returns-in_err-notice-clause-memory
+returns-in_err-notice-clause-memory g c = exit_for _ _ _ c.from_residual-in_err-notice.ensures.1 (told_memory _ _ c.in_err-notice.ensures.memory)
+
+pub returns-in_err-save_notice-clause-memory : goal.returns-in_err-save_notice-clause-memory
+returns-in_err-save_notice-clause-memory g c = exit_for _ _ _ c.from_residual-in_err-save_notice.ensures.1 (told_unsaved _ _ _ _ _ _ c.in_err-save_notice.ensures.refused (λ is. c.in_err-save_notice.ensures.store_memory (ap Err is)))

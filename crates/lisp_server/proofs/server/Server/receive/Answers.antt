@@ -1,5 +1,5 @@
-use Rattle.std.proofs.Common.{ap, ◌∙◌, subst, Ok, Err, is_ok, true≢false, arith}
-use Rattle.std.proofs.lemmas.Result.{IfOk-weaker, IfErr-weaker, on_err_weaker}
+use Rattle.std.proofs.Common.{refl, ap, ◌∙◌, subst, Ok, Err, is_ok, true≢false, arith}
+use Rattle.std.proofs.lemmas.Result.{IfOk-weaker, IfErr-weaker, IfErr-at_err, on_err_weaker}
 use Rattle.lisp_messages.specs.Meaning.{said}
 use Rattle.lisp_messages.specs.Spelling.{Spells}
 use Rattle.lisp_checks.specs.Refused.{refused_of_read}
@@ -58,3 +58,12 @@ returns-in-Ok-Notify-clause-head g c out fault at = true≢false (ap is_ok (c.in
 
 pub invariant_of-self-in-Ok-Notify : goal.invariant_of-self-in-Ok-Notify
 invariant_of-self-in-Ok-Notify g c = c.self.invariant
+
+pub returns-in-Ok-Register-clause-memory : goal.returns-in-Ok-Register-clause-memory
+returns-in-Ok-Register-clause-memory g c out = (IfErr-at_err _ out c.receive_register.ensures.memory).0 refl
+
+pub returns-in-Ok-Register-clause-load_memory : goal.returns-in-Ok-Register-clause-load_memory
+returns-in-Ok-Register-clause-load_memory g c out = (IfErr-at_err _ out c.receive_register.ensures.memory).1 refl
+
+pub returns-in-Ok-Register-clause-save_memory : goal.returns-in-Ok-Register-clause-save_memory
+returns-in-Ok-Register-clause-save_memory g c out = (IfErr-at_err _ out c.receive_register.ensures.memory).2 refl
