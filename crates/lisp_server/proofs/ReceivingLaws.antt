@@ -1,6 +1,6 @@
 -- What a Map-Register that is taken, or refused, amounts to.
 use Rattle.std.proofs.Common.{◌≡◌, ◌≤◌, ℕ, Bool, true, false, List, [], ◌∷◌, Option, Some, None, Result, Ok, Err, ok_or, IsTrue, not, refl, sym, ap, ◌∙◌, subst, inl, inr, arith}
-use Rattle.std.specs.Result.{IfErr, IsErrAnd}
+use Rattle.std.specs.Result.{IfErr, IsErrAnd, OnErr}
 use Rattle.lisp_records.specs.declared.address.Addr.{Addr}
 use Rattle.lisp_records.specs.Row.{Holding}
 use Rattle.lisp_messages.specs.Message.{Registration, Registers, Notification, IsNotification, Notifies, Said}
@@ -300,6 +300,11 @@ notification_fits bytes m bytewise s = (let fits = said_fits bytes (Registers m)
 pub exit_for : {X E : Type 0} (r : Result X E) (e : E) (P : E → Type 0) → IsErrAnd r (λ y. y ≡ e) → P e → IfErr r P
 exit_for (Ok x) e P never at = absurd never
 exit_for (Err y) e P is at = subst P (sym is) at
+
+-- what holds anyway holds where there is an error
+pub on_err : {X E : Type 0} (r : Result X E) (P : Type 0) → P → OnErr r P
+on_err (Ok x) P here = tt
+on_err (Err y) P here = here
 
 -- where memory is told to have run out, it may have been refused: that of the tables, or the store's
 module _ (A S : Type 0) where
