@@ -69,8 +69,7 @@ impl<A: Memory + Copy> Tables<A> {
     {
         self.rows.prepare(rows)?;
         self.nonces.prepare(pair)?;
-        self.contacts.prepare(&pair.router)?;
-        Ok(())
+        self.contacts.prepare(&pair.router)
     }
 
     /// Makes room for a notice to a router and its nonce.
@@ -80,7 +79,6 @@ impl<A: Memory + Copy> Tables<A> {
         ensures memory { OnErr result A.may_refuse }
     {
         self.nonces.prepare(&NOTICES)?;
-        self.notices.prepare(router)?;
-        Ok(())
+        self.notices.prepare(router)
     }
 }
