@@ -1,10 +1,9 @@
 //! Receiving a Map-Notify-Ack, which ends the unsolicited Map-Notify (notice) that it acknowledges.
 
-ghost use Rattle.std.specs.Prelude.{◌≡◌, IfOk, IfErr, IsErrOf, OnErr};
+ghost use Rattle.std.specs.Prelude.{◌≡◌, IfOk, IfErr, OnErr};
 ghost use Rattle.lisp_server.specs.Checks.{answers_under, Acknowledges, RefusesAck};
 ghost use Rattle.lisp_server.specs.Notices.{Standing, EndsNotice};
 ghost use Rattle.lisp_server.specs.declared.took.Took.TheVariants.{NoticeDone};
-ghost use Rattle.lisp_checks.specs.declared.refused.Refused.{Refused};
 
 use crate::arrival::Arrival;
 use crate::standing_notice::StandingNotice;
@@ -26,7 +25,6 @@ pub(crate) fn receive_ack<A: Allocator>(
     ensures done { IfOk result (λ took. (n : Standing) × Acknowledges sites.now notices.old.notices arrival.entry.from arrival.entry.bytes.now ack.now n × (took ≡ NoticeDone n.router n.nonce) × EndsNotice notices.old.notices notices.new.notices n.router) }
     ensures refused { IfErr result (λ why. RefusesAck sites.now notices.old.notices arrival.entry.from arrival.entry.bytes.now ack.now why) }
     ensures err { OnErr result (notices.new.notices ≡ notices.old.notices) }
-    ensures plain { ¬ (IsErrOf result Refused.OutOfMemory) }
 {
     let notice = ended(sites, notices, arrival, ack)?;
     let (router, nonce) = (notice.router, notice.nonce);
@@ -43,7 +41,6 @@ fn ended<'n, A: Allocator>(
 ) -> Result<&'n StandingNotice<A>, Refused>
     ensures ends { IfOk result (λ n. Acknowledges sites.now notices.now.notices arrival.entry.from arrival.entry.bytes.now ack.now n.now) }
     ensures refused { IfErr result (λ why. RefusesAck sites.now notices.now.notices arrival.entry.from arrival.entry.bytes.now ack.now why) }
-    ensures plain { ¬ (IsErrOf result Refused.OutOfMemory) }
 {
     if !ack.ack {
         return Err(Refused::NotMine);

@@ -44,6 +44,9 @@ returns-in-Ok-Register-clause-head g c out fault at = true≢false (ap is_ok (c.
 pub returns-in-Ok-Notify-clause-err : goal.returns-in-Ok-Notify-clause-err
 returns-in-Ok-Notify-clause-err g c = rw (← c.self.view_is) (on_err_weaker c.receive_ack.result (same_notices (state_of c.self.inside.sites c.self.inside.tables) c.receive_ack.new.notices.notices) c.receive_ack.ensures.err)
 
+pub returns-in-Ok-Notify-clause-memory : goal.returns-in-Ok-Notify-clause-memory
+returns-in-Ok-Notify-clause-memory g c out = absurd (err_of c.receive_ack.result _ _ c.receive_ack.ensures.refused out)
+
 pub returns-in-Ok-Notify-clause-load_memory : goal.returns-in-Ok-Notify-clause-load_memory
 returns-in-Ok-Notify-clause-load_memory g c out = absurd (err_of c.receive_ack.result _ _ c.receive_ack.ensures.refused out)
 
