@@ -1,43 +1,36 @@
 use Rattle.std.proofs.Common.{ℕ, Option, Err, ap, subst}
-use Rattle.std.proofs.lemmas.Result.{IfOk-from_err, err_from_is_err_and}
+use Rattle.std.proofs.lemmas.Result.{IfOk-from_err}
 use Rattle.lisp_checks.specs.Nonces.{IsFresh, Unasked, Stops}
 use Rattle.lisp_server.specs.Server.{state_of}
-use Rattle.lisp_server.proofs.ReceivingLaws.{proceeds_on, accepts, save_fails, check_fails, stops, no_room, exit_for, told_stopped, told_memory, told_unsaved}
+use Rattle.lisp_server.proofs.ReceivingLaws.{proceeds_on, accepts, save_fails, check_fails, stops, no_room, exit_for, on_err, told_stopped, told_memory, told_unsaved}
 use Rattle.lisp_server.proofs.receive_register.receive_register.Goals as goal
 
 pub returns-in_err-key-clause-refused : goal.returns-in_err-key-clause-refused
-returns-in_err-key-clause-refused g c =
-    let p = err_from_is_err_and c.from_residual.result c.from_residual.ensures.1 in
-    rw (p.1, p.2) (check_fails c.args.sites.now c.args.arrival.bytes.now c.args.register c.in_err-key.field-0.0 _ _ c.in_err-key.ensures.secret)
+returns-in_err-key-clause-refused g c = exit_for _ _ _ c.from_residual.ensures.1 (check_fails c.args.sites.now c.args.arrival.bytes.now c.args.register c.in_err-key.field-0.0 _ _ c.in_err-key.ensures.secret)
 
 pub returns-in_err-check_nonce-clause-refused : goal.returns-in_err-check_nonce-clause-refused
 returns-in_err-check_nonce-clause-refused g c =
-    let p = err_from_is_err_and c.from_residual-in_err-check_nonce.result c.from_residual-in_err-check_nonce.ensures.1 in
     let before = g.S.NonceStore.seen c.args.store.now in
     let after = g.S.NonceStore.seen c.check_nonce.new.store in
     let unasked = subst (λ (last : Option ℕ). Unasked last before after) c.get.ensures c.check_nonce.ensures.unasked in
     let why = subst (λ (last : Option ℕ). Stops last before after c.pair_of-pair.result c.nonce_of-nonce.result c.in_err-check_nonce.field-0.0) c.get.ensures c.in_err-check_nonce.ensures.refused in
-    rw (p.1, p.2) (stops c.args.sites.now c.args.arrival.bytes.now c.args.register c.in_ok-key.key.now (state_of c.args.sites.now c.args.tables.now) before after c.pair_of-pair.result c.nonce_of-nonce.result c.in_err-check_nonce.field-0.0 c.pair_of-pair.ensures c.nonce_of-nonce.ensures c.in_ok-key.ensures.secret c.check_nonce.ensures.same unasked why)
+    exit_for _ _ _ c.from_residual-in_err-check_nonce.ensures.1 (stops c.args.sites.now c.args.arrival.bytes.now c.args.register c.in_ok-key.key.now (state_of c.args.sites.now c.args.tables.now) before after c.pair_of-pair.result c.nonce_of-nonce.result c.in_err-check_nonce.field-0.0 c.pair_of-pair.ensures c.nonce_of-nonce.ensures c.in_ok-key.ensures.secret c.check_nonce.ensures.same unasked why)
 
 pub returns-in_err-rows-clause-refused : goal.returns-in_err-rows-clause-refused
 returns-in_err-rows-clause-refused g c =
-    let p = err_from_is_err_and c.from_residual-in_err-rows.result c.from_residual-in_err-rows.ensures.1 in
     let fresh = subst (λ (last : Option ℕ). IsFresh last (g.S.NonceStore.seen c.args.store.now) c.pair_of-pair.result c.nonce_of-nonce.result) c.get.ensures c.in_ok-check_nonce.ensures.fresh in
     let unasked = subst (λ (last : Option ℕ). Unasked last (g.S.NonceStore.seen c.args.store.now) (g.S.NonceStore.seen c.check_nonce.new.store)) c.get.ensures c.check_nonce.ensures.unasked in
-    rw (p.1, p.2) (no_room c.args.sites.now c.args.arrival.bytes.now c.args.register c.in_ok-key.key.now (state_of c.args.sites.now c.args.tables.now) _ _ c.pair_of-pair.result c.nonce_of-nonce.result c.pair_of-pair.ensures c.nonce_of-nonce.ensures c.in_ok-key.ensures.secret fresh unasked c.check_nonce.ensures.same)
+    exit_for _ _ _ c.from_residual-in_err-rows.ensures.1 (no_room c.args.sites.now c.args.arrival.bytes.now c.args.register c.in_ok-key.key.now (state_of c.args.sites.now c.args.tables.now) _ _ c.pair_of-pair.result c.nonce_of-nonce.result c.pair_of-pair.ensures c.nonce_of-nonce.ensures c.in_ok-key.ensures.secret fresh unasked c.check_nonce.ensures.same)
 
 pub returns-in_err-save_nonce-clause-accepted : goal.returns-in_err-save_nonce-clause-accepted
 returns-in_err-save_nonce-clause-accepted g c = IfOk-from_err _ _ c.from_residual-in_err-save_nonce.ensures.0
 
 pub returns-in_err-save_nonce-clause-err : goal.returns-in_err-save_nonce-clause-err
-returns-in_err-save_nonce-clause-err g c =
-    let p = err_from_is_err_and c.from_residual-in_err-save_nonce.result c.from_residual-in_err-save_nonce.ensures.1 in
-    rw p.1 c.prepared.ensures.same
+returns-in_err-save_nonce-clause-err g c = on_err _ _ c.prepared.ensures.same
 
 pub returns-in_err-save_nonce-clause-refused : goal.returns-in_err-save_nonce-clause-refused
 returns-in_err-save_nonce-clause-refused g c =
-    let p = err_from_is_err_and c.from_residual-in_err-save_nonce.result c.from_residual-in_err-save_nonce.ensures.1 in
-    rw (p.1, p.2) (save_fails {old = c.args.tables.now} c.in_err-save_nonce.field-0.0 c.pair_of-pair.result c.nonce_of-nonce.result c.pair_of-pair.ensures c.nonce_of-nonce.ensures (record {
+    exit_for _ _ _ c.from_residual-in_err-save_nonce.ensures.1 (save_fails {old = c.args.tables.now} c.in_err-save_nonce.field-0.0 c.pair_of-pair.result c.nonce_of-nonce.result c.pair_of-pair.ensures c.nonce_of-nonce.ensures (record {
       secret = c.in_ok-key.key.now;
       checks = c.in_ok-key.ensures.secret;
       fresh = subst (λ (last : Option ℕ). IsFresh last (g.S.NonceStore.seen c.args.store.now) c.pair_of-pair.result c.nonce_of-nonce.result) c.get.ensures c.in_ok-check_nonce.ensures.fresh;

@@ -7,7 +7,7 @@ use Rattle.lisp_server.specs.Server.{state_of}
 use Rattle.lisp_server.proofs.ContactLaws.{contact_router}
 use Rattle.lisp_server.proofs.ReceivingLaws.{proceeds_on, exit_for}
 use Rattle.lisp_server.proofs.SendNoticeLaws.{few_records, announces, refuses_unregistered, refuses_unfollowed, without_room, refuses_unsaved, told_unregistered, told_unfollowed, told_memory, told_unsaved}
-use Rattle.std.proofs.lemmas.Result.{IfOk-from_err, err_from_is_err_and}
+use Rattle.std.proofs.lemmas.Result.{IfOk-from_err}
 use Rattle.lisp_server.proofs.send_notice.send_notice.Goals as goal
 
 pub prepare-requires : goal.prepare-requires
@@ -47,24 +47,16 @@ returns-clause-announces g c =
     })
 
 pub returns-in_err-recipient-clause-refused : goal.returns-in_err-recipient-clause-refused
-returns-in_err-recipient-clause-refused g c =
-    let p = err_from_is_err_and c.from_residual.result c.from_residual.ensures.1 in
-    rw (p.1, p.2) (refuses_unregistered (state_of c.args.sites.now c.args.tables.now) c.args.router.now c.args.now c.in_err-recipient.field-0.0 (g.S.NonceStore.seen c.args.store.now) c.in_err-recipient.ensures.refused)
+returns-in_err-recipient-clause-refused g c = exit_for _ _ _ c.from_residual.ensures.1 (refuses_unregistered (state_of c.args.sites.now c.args.tables.now) c.args.router.now c.args.now c.in_err-recipient.field-0.0 (g.S.NonceStore.seen c.args.store.now) c.in_err-recipient.ensures.refused)
 
 pub returns-in_err-nonce-clause-refused : goal.returns-in_err-nonce-clause-refused
-returns-in_err-nonce-clause-refused g c =
-    let p = err_from_is_err_and c.from_residual-in_err-nonce.result c.from_residual-in_err-nonce.ensures.1 in
-    rw (p.1, p.2) (refuses_unfollowed (state_of c.args.sites.now c.args.tables.now) c.args.router.now c.args.now c.in_err-nonce.field-0.0 _ _ _ c.get.ensures c.in_ok-recipient.ensures.registered.0 c.next_nonce.ensures.unasked c.next_nonce.ensures.same c.in_err-nonce.ensures.refused)
+returns-in_err-nonce-clause-refused g c = exit_for _ _ _ c.from_residual-in_err-nonce.ensures.1 (refuses_unfollowed (state_of c.args.sites.now c.args.tables.now) c.args.router.now c.args.now c.in_err-nonce.field-0.0 _ _ _ c.get.ensures c.in_ok-recipient.ensures.registered.0 c.next_nonce.ensures.unasked c.next_nonce.ensures.same c.in_err-nonce.ensures.refused)
 
 pub returns-in_err-notice-clause-refused : goal.returns-in_err-notice-clause-refused
-returns-in_err-notice-clause-refused g c =
-    let p = err_from_is_err_and c.from_residual-in_err-notice.result c.from_residual-in_err-notice.ensures.1 in
-    rw (p.1, p.2) (without_room (state_of c.args.sites.now c.args.tables.now) c.args.router.now c.args.now _ _ _ c.in_ok-nonce.nonce c.get.ensures c.in_ok-recipient.ensures.registered.0 c.in_ok-nonce.ensures.next c.next_nonce.ensures.unasked c.next_nonce.ensures.same)
+returns-in_err-notice-clause-refused g c = exit_for _ _ _ c.from_residual-in_err-notice.ensures.1 (without_room (state_of c.args.sites.now c.args.tables.now) c.args.router.now c.args.now _ _ _ c.in_ok-nonce.nonce c.get.ensures c.in_ok-recipient.ensures.registered.0 c.in_ok-nonce.ensures.next c.next_nonce.ensures.unasked c.next_nonce.ensures.same)
 
 pub returns-in_err-save_notice-clause-refused : goal.returns-in_err-save_notice-clause-refused
-returns-in_err-save_notice-clause-refused g c =
-    let p = err_from_is_err_and c.from_residual-in_err-save_notice.result c.from_residual-in_err-save_notice.ensures.1 in
-    rw (p.1, p.2) (refuses_unsaved (state_of c.args.sites.now c.args.tables.now) c.args.router.now c.args.now c.in_err-save_notice.field-0.0 _ _ _ _ c.in_ok-nonce.nonce c.get.ensures c.in_ok-recipient.ensures.registered.0 c.in_ok-nonce.ensures.next c.next_nonce.ensures.proceeds c.next_nonce.ensures.same c.save_notice.ensures.others c.in_err-save_notice.ensures.refused)
+returns-in_err-save_notice-clause-refused g c = exit_for _ _ _ c.from_residual-in_err-save_notice.ensures.1 (refuses_unsaved (state_of c.args.sites.now c.args.tables.now) c.args.router.now c.args.now c.in_err-save_notice.field-0.0 _ _ _ _ c.in_ok-nonce.nonce c.get.ensures c.in_ok-recipient.ensures.registered.0 c.in_ok-nonce.ensures.next c.next_nonce.ensures.proceeds c.next_nonce.ensures.same c.save_notice.ensures.others c.in_err-save_notice.ensures.refused)
 
 pub returns-in_err-recipient-clause-announces : goal.returns-in_err-recipient-clause-announces
 returns-in_err-recipient-clause-announces g c = IfOk-from_err _ _ c.from_residual.ensures.0
