@@ -1,18 +1,21 @@
 -- What arrives at a network: the node and the datagram that are meant are there, and the nodes that it leaves are written over
 -- those that were there.
-use Rattle.std.proofs.Common.{◌≡◌, ℕ, ◌<◌, Bool, true, false, List, take, drop, get_or, ◌++◌, Option, Some, None, refl, sym, ap, subst, ◌∙◌, length}
-use Rattle.std.specs.Prelude.{slice_get, if◌then◌else◌}
-use Rattle.std.proofs.lemmas.Bool.{leb-false}
+use Rattle.std.proofs.Common.{Bor, ◌≡◌, ℕ, ◌<◌, Bool, true, false, List, take, drop, get_or, ◌++◌, Option, Some, None, Result, Ok, refl, sym, ap, subst, ◌∙◌, length}
+use Rattle.std.specs.Prelude.{IfSome, is_some, nat_le, nat_lt, position, slice_get, if◌then◌else◌}
+use Rattle.std.specs.Option.{option_map}
+use Rattle.std.proofs.lemmas.Bool.{leb-false, ltb-false, ltb-true}
 use Rattle.std.proofs.lemmas.List.{get_or_read}
 use Rattle.std.proofs.lemmas.List.Quantifiers.{position-Some}
+use Rattle.std.proofs.lemmas.Option.{slice_get-get_or, slice_get_past, slice_get_read}
 use Rattle.lisp_records.specs.Address.{addr_eq}
 use Rattle.lisp_records.specs.declared.address.Addr.{Addr}
 use Rattle.lisp_store.specs.declared.fate.Fate.{Fate}
 use Rattle.lisp_schedules.specs.declared.line.Line.{Line}
 use Rattle.lisp_turns.specs.World.{Posted, ServerNode, RouterNode, WorldState}
 use Rattle.lisp_turns.specs.Turns.{address_of, node_with, posted, Arrives, ArrivesWhere, Delivers}
-use Rattle.lisp_world.specs.Faults.{datagram_fault, node_fault}
+use Rattle.lisp_world.specs.Faults.{datagram_fault, node_fault, refusal_of}
 use Rattle.lisp_schedules.specs.declared.world_fault.WorldFault.{WorldFault}
+use Rattle.lisp_schedules.specs.declared.world_fault.WorldFault.TheVariants.{NoDatagram}
 use Rattle.lisp_world.proofs.Loops.{rewritten}
 
 -- a test that a check lets through fails
@@ -20,20 +23,26 @@ passed : (fault : WorldFault) (b : Bool) → None ≡ (if b then Some fault else
 passed fault true clash = absurd cc
 passed fault false passes = refl
 
--- a node that the check of its number lets through is there, a datagram too, and a node that has an address; with the network
--- as the call has it, and as it is seen
+-- a node that the check of its number lets through is there; of a datagram, the check found no fault; with the network as the
+-- call has it, and as it is seen
 module _ (seen w : WorldState) (same : seen ≡ w) where
   pub node_there : (node : ℕ) → None ≡ node_fault w node → node < length seen.addresses
   node_there node passes =
       leb-false (length seen.addresses) node (passed _ _ (passes ∙ ap (λ (v : WorldState). node_fault v node) (sym same)))
 
-  pub datagram_there : (k : ℕ) → None ≡ datagram_fault w k → k < length seen.bag
-  datagram_there k passes =
-      leb-false (length seen.bag) k (passed _ _ (passes ∙ ap (λ (v : WorldState). datagram_fault v k) (sym same)))
+  pub no_datagram_fault : (k : ℕ) (checked : Result (Unit {0}) WorldFault) (x : Unit {0}) → checked ≡ Ok x → refusal_of checked ≡ datagram_fault w k → None ≡ datagram_fault seen k
+  no_datagram_fault k checked x found is = sym (ap refusal_of found) ∙ is ∙ ap (λ (v : WorldState). datagram_fault v k) (sym same)
 
-  pub addressed_there : (address : Addr) (node : ℕ) → Some node ≡ node_with w address → node < length seen.addresses
-  addressed_there address node found =
-      (position-Some (λ a. addr_eq a address) seen.addresses node address (sym (found ∙ ap (λ (v : WorldState). node_with v address) (sym same)))).0
+-- so a datagram is there, and so is a node that has an address
+pub datagram_there : (bag : List Posted) (k : ℕ) → None ≡ (if nat_le (length bag) k then Some NoDatagram else None) → k < length bag
+datagram_there bag k passes = leb-false (length bag) k (passed _ _ passes)
+
+pub addressed_there : (addresses : List Addr) (address : Addr) (node : ℕ) → Some node ≡ position (λ a. addr_eq a address) addresses → node < length addresses
+addressed_there addresses address node found = (position-Some (λ a. addr_eq a address) addresses node address (sym found)).0
+
+-- it is the same where there is room for more datagrams alone
+pub same_world : (w : WorldState) (bag : List Posted) → bag ≡ w.bag → record w { bag = bag } ≡ w
+same_world w bag same = ap (λ (b : List Posted). record w { bag = b }) same
 
 -- bytes arrived at a node: so they do in the network where its nodes are written over the old ones, and the answer went to
 -- the end of the bag
@@ -61,7 +70,16 @@ pub delivered : {A : Type 0} {old new : WorldState} {k : ℕ} {fate : Fate} {lin
 delivered {A = A} {old = old} {new = new} {k = k} {fate = fate} {line = line} d to sent found arrives =
     record { datagram = d; sent = sent; arrives = subst (λ (at : Option ℕ). ArrivesWhere A old new k fate d at line) found arrives }
 
--- an element that is read twice, the second time once there is room for more, is the same
-pub read_again : {X : Type 0} (xs ys : List X) (k : ℕ) (x y : X) → k < length xs → ys ≡ xs → x ≡ get_or xs k x → y ≡ get_or ys k y → y ≡ x
-read_again {X = X} xs ys k x y within same first second =
-    get_or_read xs k y within (second ∙ ap (λ (zs : List X). get_or zs k y) same) x ∙ sym first
+-- an element that is read once there is room for more is the one that was there
+pub read_still : {X : Type 0} (xs ys : List X) (k : ℕ) (x : X) → k < length xs → ys ≡ xs → x ≡ get_or ys k x → slice_get xs k ≡ Some x
+read_still {X = X} xs ys k x within same read =
+    slice_get-get_or xs k x within ∙ ap (λ (y : X). Some y) (sym (read ∙ ap (λ (zs : List X). get_or zs k x) same))
+
+-- an element that is read twice is the same
+pub read_again : {X : Type 0} (xs : List X) (k : ℕ) (x y : X) → k < length xs → x ≡ get_or xs k x → y ≡ get_or xs k y → y ≡ x
+read_again xs k x y within first second = get_or_read xs k y within second x ∙ sym first
+
+-- what a list lends at a place is what stands there, if anything does
+pub element_read : {X : Type 0} (xs : List X) (k : ℕ) (r : Option (Bor X)) → is_some r ≡ nat_lt k (length xs) → IfSome r (λ x. x.now ≡ get_or xs k x.now) → option_map (λ x. x.now) r ≡ slice_get xs k
+element_read xs k (Some x) there read = sym (slice_get_read xs (length xs) k x.now refl (ltb-true k (length xs) (sym there)) read)
+element_read xs k None past read = sym (slice_get_past xs k (ltb-false k (length xs) (sym past)))

@@ -1,6 +1,6 @@
 -- Stores that don't fail unasked: in each turn calm stores stay calm, and none fails where the event's fate is `Done`.
-use Rattle.std.proofs.Common.{◌≡◌, ℕ, zero, suc, ◌+◌, Bool, List, [], ◌∷◌, ◌++◌, length, map, Option, Some, None, Result, Ok, Err, refl, sym, ap, subst, inl, inr, ◌∙◌, arith}
-use Rattle.std.specs.Prelude.{slice_get, slice_set, IsTrue, IfOk, OnErr}
+use Rattle.std.proofs.Common.{◌≡◌, ℕ, zero, suc, ◌+◌, Bool, List, [], ◌∷◌, ◌++◌, length, map, Option, Some, None, refl, sym, ap, subst, inl, inr, ◌∙◌, arith}
+use Rattle.std.specs.Prelude.{slice_get, slice_set, IsTrue}
 use Rattle.std.specs.Option.{option_map}
 use Rattle.std.proofs.lemmas.List.{length-map, map-set, set-append_left}
 use Rattle.std.proofs.lemmas.Option.{slice_get_within, slice_get-map, get_or_from_slice_get}
@@ -15,7 +15,6 @@ use Rattle.lisp_turns.specs.World.{Posted, ServerNode, RouterNode, RouterCore, U
 use Rattle.lisp_turns.specs.Calls.{Uses}
 use Rattle.lisp_turns.specs.Turns.{ServerActs, RouterActs, ExpiresEach, Ticks, Changes, SendsAt, SendsFrom, HearsAt, Arrives, ArrivesWhere, Delivers, RestartsNode, NoticesFrom, ResendsFrom, node_with}
 use Rattle.lisp_world.specs.Quiet.{stores_of, IsCalm, AllCalm, failures, KeepsCalm}
-use Rattle.lisp_schedules.specs.declared.world_fault.WorldFault.{WorldFault}
 use Rattle.lisp_turns.proofs.Gets.{AtSet, get_set, get_before}
 
 -- what a call makes of one calm store
@@ -220,8 +219,3 @@ notices_calm old new server router fate line notices = server_keeps old new serv
 pub resends_calm : (old new : WorldState) (server router : ℕ) (line : Line) → ResendsFrom old new server router line → KeepsCalm old new Done
 resends_calm old new server router line resends = server_keeps old new server resends.more Done resends.acts
     (same_store resends.acts.before.store resends.acts.after.store Done (ap (λ (n : ServerNode). n.store) resends.rest))
-
--- an event that isn't taken changes nothing
-pub taken_or_not : (r : Result Line WorldFault) (old new : WorldState) (fate : Fate) → IfOk r (λ line. KeepsCalm old new fate) → OnErr r (new ≡ old) → KeepsCalm old new fate
-taken_or_not (Ok line) old new fate keeps same = keeps
-taken_or_not (Err fault) old new fate keeps same = subst (λ (w : WorldState). KeepsCalm old w fate) (sym same) (record { calm = λ calm. calm; unfailing = λ calm done. refl })

@@ -9,7 +9,7 @@ use Rattle.std.proofs.lemmas.Option.{slice_get-get_or, slice_get_within}
 use Rattle.lisp_sites.specs.Configuration.{Configuration}
 use Rattle.lisp_store.specs.Store.{StoreState}
 use Rattle.lisp_turns.specs.World.{ServerNode, RouterNode}
-use Rattle.lisp_world.specs.Making.{server_over, IsRouterOver, AreServers, AreRouters, AreNodes, HasStarted, HaveStarted}
+use Rattle.lisp_world.specs.Making.{server_over, IsRouterOver, AddsNode, AreServers, AreRouters, AreNodes, HasStarted, HaveStarted}
 use Rattle.lisp_turns.proofs.Gets.{none_is_some, same_some, get_set, get_before}
 
 module _ {X Y : Type 0} where
@@ -129,6 +129,14 @@ module _ (c : Configuration) (stores : List StoreState) (made : List ServerNode)
       are_servers = servers_still;
       are_routers = routers_now;
     }
+
+-- one more, of either kind
+pub one_more : (c : Configuration) (stores : List StoreState) (s : StoreState) (made servers : List ServerNode) (down routers : List RouterNode)
+    → SoFar c stores made down → AddsNode c s made servers down routers → SoFar c (stores ++ s ∷ []) servers routers
+one_more c stores s made servers down routers so_far (inl (low, same, (n, added, is))) =
+    subst (λ (p : List ServerNode × List RouterNode). SoFar c (stores ++ s ∷ []) p.0 p.1) (λ i. (sym added i, sym same i)) (server_more c stores made down so_far s n low is)
+one_more c stores s made servers down routers so_far (inr (high, same, (n, added, is))) =
+    subst (λ (p : List ServerNode × List RouterNode). SoFar c (stores ++ s ∷ []) p.0 p.1) (λ i. (sym same i, sym added i)) (router_more c stores made down so_far s n high is)
 
 -- all of them
 pub all_made : (c : Configuration) (stores : List StoreState) (made : List ServerNode) (down : List RouterNode) → length stores ≡ length c.servers + length c.routers

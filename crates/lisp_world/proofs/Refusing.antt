@@ -1,24 +1,19 @@
--- An event that its checks let through has no fault, and may be refused for want of memory alone.
-use Rattle.std.proofs.Common.{◌≡◌, ℕ, List, Option, None, Result, Ok, Err, ap, subst, ◌∙◌}
-use Rattle.std.specs.Prelude.{IfErr, IsErrAnd, OnErr}
+-- What an event comes to that a network takes, part by part; and faults that are no other.
+use Rattle.std.proofs.Common.{◌≡◌, ℕ, Bool, true, false, Option, Some, None, Result, Ok, Err, inl, inr, refl, sym, ap, subst, ◌∙◌}
+use Rattle.std.specs.Prelude.{◌≢◌, IfOk, IsErrAnd, IsErrOf, OnErr, if◌then◌else◌}
+use Rattle.std.specs.Option.{unwrap_or}
 use Rattle.lisp_etr.specs.declared.start_fault.StartFault.{StartFault}
-use Rattle.lisp_turns.specs.World.{Posted, WorldState}
-use Rattle.lisp_world.specs.Faults.{Faults}
+use Rattle.lisp_schedules.specs.Memory.{MayTell}
+use Rattle.lisp_schedules.specs.Trace.{Happening}
+use Rattle.lisp_schedules.specs.declared.event.Event.TheVariants as events
+use Rattle.lisp_schedules.specs.declared.line.Line.{Line}
 use Rattle.lisp_schedules.specs.declared.world_fault.WorldFault.{WorldFault}
-use Rattle.lisp_schedules.specs.declared.world_fault.WorldFault.TheVariants.{OutOfMemory, Repeated, Start}
-
-module _ {X : Type 0} (fault : Option WorldFault) where
-  -- it is taken
-  pub no_fault : (x : X) → None ≡ fault → Faults {X = X} fault (Ok x)
-  no_fault x none = subst (λ (f : Option WorldFault). Faults {X = X} f (Ok x)) none tt
-
-  -- it is refused
-  pub out_of_memory : (r : Result X WorldFault) → None ≡ fault → IsErrAnd r (λ e. e ≡ OutOfMemory) → Faults fault r
-  out_of_memory r none is = subst (λ (f : Option WorldFault). Faults {X = X} f r) none (refused r is)
-    where
-      refused : (r : Result X WorldFault) → IsErrAnd r (λ e. e ≡ OutOfMemory) → IfErr r (λ e. e ≡ OutOfMemory)
-      refused (Ok x) is = absurd is
-      refused (Err e) is = is
+use Rattle.lisp_schedules.specs.declared.world_fault.WorldFault.TheVariants.{Clock, NoDatagram, NoNode, OutOfMemory, Repeated, Start, WrongKind}
+use Rattle.lisp_turns.specs.World.{WorldState}
+use Rattle.lisp_turns.specs.Stands.{StandsAfter}
+use Rattle.lisp_world.specs.Faults.{Faults, fault_of, refusal_of}
+use Rattle.lisp_world.specs.Quiet.{KeepsCalm, fate_of}
+use Rattle.lisp_world.specs.Taking.{Takes}
 
 -- what was taken has no fault, and one fault is no other
 module _ {X P : Type 0} where
@@ -35,7 +30,60 @@ module _ {X P : Type 0} where
   memory_no_start (Ok x) node why is clash = absurd is
   memory_no_start (Err e) node why is clash = absurd cc
 
--- and leaves the network as it was, with more room for datagrams perhaps
-pub only_room : {X : Type 0} (r : Result X WorldFault) (seen w : WorldState) (bag : List Posted) → bag ≡ seen.bag → seen ≡ w → OnErr r (record seen { bag = bag } ≡ w)
-only_room (Ok x) seen w bag same is = tt
-only_room (Err e) seen w bag same is = ap (λ (b : List Posted). record seen { bag = b }) same ∙ is
+-- no event's fault is want of memory
+unless : (b : Bool) (why : WorldFault) (rest : Option WorldFault) → why ≢ OutOfMemory → rest ≢ Some OutOfMemory → (if b then Some why else rest) ≢ Some OutOfMemory
+unless true why rest other none is = other (ap (λ (o : Option WorldFault). unwrap_or o why) is)
+unless false why rest other none is = none is
+
+nothing : ◌≢◌ {A = Option WorldFault} None (Some OutOfMemory)
+nothing clash = absurd cc
+
+no_node : NoNode ≢ OutOfMemory
+no_node clash = absurd cc
+
+wrong_kind : WrongKind ≢ OutOfMemory
+wrong_kind clash = absurd cc
+
+no_datagram : NoDatagram ≢ OutOfMemory
+no_datagram clash = absurd cc
+
+clock : Clock ≢ OutOfMemory
+clock clash = absurd cc
+
+never : (w : WorldState) (event : Happening) → fault_of w event ≢ Some OutOfMemory
+never w (events.Change router db) = unless _ _ _ no_node (unless _ _ _ wrong_kind nothing)
+never w (events.Send router server fate) = unless _ _ _ no_node (unless _ _ _ wrong_kind nothing)
+never w (events.Deliver k fate) = unless _ _ _ no_datagram nothing
+never w (events.Junk to from bytes) = unless _ _ _ no_node nothing
+never w (events.Tick ms) = unless _ _ _ clock nothing
+never w (events.Restart node pick db) = unless _ _ _ no_node (unless _ _ _ wrong_kind nothing)
+never w (events.Notice server router fate) = unless _ _ _ no_node (unless _ _ _ wrong_kind nothing)
+never w (events.Resend server router) = unless _ _ _ no_node (unless _ _ _ wrong_kind nothing)
+
+-- what an event comes to, part by part
+module _ (node_may store_may : Type 0) (old new : WorldState) (event : Happening) where
+  pub took_stands : (r : Result Line WorldFault) → Takes node_may store_may old new event r → IfOk r (λ line. StandsAfter old new event line)
+  took_stands (Ok line) took = took.stands
+  took_stands (Err why) refused = tt
+
+  pub has_fault : (r : Result Line WorldFault) → Takes node_may store_may old new event r → Faults (fault_of old event) r
+  has_fault (Ok line) took = subst (λ (f : Option WorldFault). Faults {X = Line} f (Ok line)) (sym took.possible) tt
+  has_fault (Err why) (kept, inl is) = subst (λ (f : Option WorldFault). Faults {X = Line} f (Err why)) (sym is) refl
+  has_fault (Err why) (kept, inr (none, is, may)) = subst (λ (f : Option WorldFault). Faults {X = Line} f (Err why)) (sym none) is
+
+  pub left : (r : Result Line WorldFault) → Takes node_may store_may old new event r → OnErr r (new ≡ old)
+  left (Ok line) took = tt
+  left (Err why) refused = refused.0
+
+  pub no_memory : (r : Result Line WorldFault) → Takes node_may store_may old new event r → IsErrOf r OutOfMemory → node_may
+  no_memory (Ok line) took clash = taken line OutOfMemory clash
+  no_memory (Err why) (kept, inl is) out = absurd (never old event (is ∙ ap refusal_of out))
+  no_memory (Err why) (kept, inr (none, is, may)) out = may
+
+  pub tells_of : (r : Result Line WorldFault) → Takes node_may store_may old new event r → IfOk r (MayTell node_may store_may)
+  tells_of (Ok line) took = took.tells
+  tells_of (Err why) refused = tt
+
+  pub took_calm : (r : Result Line WorldFault) → Takes node_may store_may old new event r → KeepsCalm old new (fate_of event)
+  took_calm (Ok line) took = took.calm
+  took_calm (Err why) refused = subst (λ (w : WorldState). KeepsCalm old w (fate_of event)) (sym refused.0) (record { calm = λ calm. calm; unfailing = λ calm done. refl })

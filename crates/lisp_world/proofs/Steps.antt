@@ -1,6 +1,5 @@
 -- A network that makes a turn stands for the trace followed by the event: the kinds of event that have several turns.
-use Rattle.std.proofs.Common.{◌≡◌, ℕ, List, Option, Some, None, Result, Ok, Err, inl, inr, refl, sym, subst}
-use Rattle.std.specs.Prelude.{IfOk, OnOk}
+use Rattle.std.proofs.Common.{◌≡◌, ℕ, List, Option, Some, None, inl, inr, refl, sym, subst}
 use Rattle.lisp_records.specs.declared.address.Addr.{Addr}
 use Rattle.lisp_records.specs.Record.{Mapping}
 use Rattle.lisp_store.specs.declared.fate.Fate.{Fate}
@@ -10,7 +9,6 @@ use Rattle.lisp_schedules.specs.declared.line.Line.{Line}
 use Rattle.lisp_schedules.specs.Legal.{Fits}
 use Rattle.lisp_turns.specs.World.{WorldState}
 use Rattle.lisp_turns.specs.Turns.{node_with, Arrives, ArrivesWhere, Delivers, RestartsNode}
-use Rattle.lisp_schedules.specs.declared.world_fault.WorldFault.{WorldFault}
 use Rattle.lisp_turns.specs.Stands.{StandsAfter}
 use Rattle.lisp_turns.proofs.ServerArrivals.{deliver_to_server_stands, junk_to_server_stands, nowhere_stands}
 use Rattle.lisp_turns.proofs.RouterArrivals.{deliver_to_router_stands, junk_to_router_stands}
@@ -36,9 +34,3 @@ pub restarts_stand : (old new : WorldState) (node pick : ℕ) (db : Option (List
 restarts_stand old new node pick db line fits (inl (none, turn)) =
     subst (λ (given : Option (List Mapping)). StandsAfter old new (events.Restart node pick given) line) (sym none) (restart_server_stands old new node pick line turn)
 restarts_stand old new node pick db line fits (inr turn) = restart_router_stands old new node pick db line fits turn
-
--- where it does
-pub taken_restarts : (r : Result Line WorldFault) (old new : WorldState) (node pick : ℕ) (db : Option (List Mapping)) → IfOk r (λ line. RestartsNode old new node db line) → OnOk r (Fits db)
-    → IfOk r (λ line. StandsAfter old new (events.Restart node pick db) line)
-taken_restarts (Ok line) old new node pick db turn fits = restarts_stand old new node pick db line fits turn
-taken_restarts (Err fault) old new node pick db turn fits = tt

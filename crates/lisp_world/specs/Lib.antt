@@ -4,3 +4,4 @@ pub mod Quiet
 pub mod Openings
 pub mod Making
 pub mod Asked
+pub mod Taking

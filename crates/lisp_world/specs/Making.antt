@@ -1,5 +1,5 @@
 -- How a network is made: its nodes over their stores before the routers start, and routers that start.
-use Rattle.std.specs.Prelude.{◌≡◌, ℕ, ◌+◌, List, [], length, slice_get, Some, Ok}
+use Rattle.std.specs.Prelude.{◌≡◌, ◌⊎◌, ◌<◌, ◌≤◌, ℕ, ◌+◌, List, [], ◌∷◌, ◌++◌, length, slice_get, Some, Ok}
 use Rattle.std.specs.FinMap.{empty}
 use Rattle.lisp_sites.specs.Configuration.{Configuration, Router}
 use Rattle.lisp_store.specs.Store.{StoreState}
@@ -23,6 +23,12 @@ router_over c r store = record { me = r.me; servers = r.servers; core = Down (se
 -- so is the one at a place of the configuration
 abbrev pub IsRouterOver : Configuration → ℕ → StoreState → RouterNode → Type 0
 IsRouterOver c place store n = (r : Router) × (slice_get c.routers place ≡ Some r) × (n ≡ router_over c r store)
+
+-- one more node over its store: a Map-Server as long as there are more of them, else a router
+abbrev pub AddsNode : Configuration → StoreState → (made servers : List ServerNode) → (down routers : List RouterNode) → Type 0
+AddsNode c s made servers down routers =
+    ((length made < length c.servers) × (routers ≡ down) × ((n : ServerNode) × (servers ≡ made ++ n ∷ []) × (n ≡ server_over c s)))
+    ⊎ ((length c.servers ≤ length made) × (servers ≡ made) × ((n : RouterNode) × (routers ≡ down ++ n ∷ []) × IsRouterOver c (length down) s n))
 
 -- each Map-Server holds nothing, over its store
 abbrev pub AreServers : Configuration → List StoreState → List ServerNode → Type 0

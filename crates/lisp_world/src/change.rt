@@ -1,8 +1,7 @@
 //! A router is given another database.
 
-ghost use Rattle.std.specs.Prelude.{◌≡◌, IfOk, OnErr, IsErrOf};
-ghost use Rattle.lisp_world.specs.Faults.{Faults, router_fault};
-ghost use Rattle.lisp_turns.specs.Turns.{Changes};
+ghost use Rattle.lisp_schedules.specs.declared.event.Event.TheVariants.{Change};
+ghost use Rattle.lisp_world.specs.Taking.{Takes};
 
 use crate::world::World;
 use lisp_memory::Memory;
@@ -18,10 +17,7 @@ impl<S: WorldStore, A: Memory + Copy> World<S, A> {
         router: usize,
         db: &Database<E>,
     ) -> Result<Line, WorldFault>
-        ensures changes { IfOk result (λ line. Changes self.old self.new router db.now line) }
-        ensures fault { Faults (router_fault self.old router) result }
-        ensures err { OnErr result (self.new ≡ self.old) }
-        ensures memory { IsErrOf result WorldFault.OutOfMemory → A.may_refuse }
+        ensures { Takes A.may_refuse S.may_refuse self.old self.new (Change router db.now) result }
     {
         let place = self.router_place(router)?;
         let records = db.records().len();

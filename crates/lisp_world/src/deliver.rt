@@ -1,12 +1,13 @@
 //! A datagram that was sent arrives.
 
-ghost use Rattle.std.specs.Prelude.{◌≡◌, IfOk, OnErr, IsErrOf};
-ghost use Rattle.lisp_schedules.specs.Memory.{MayTell};
-ghost use Rattle.lisp_world.specs.Faults.{Faults, datagram_fault, refusal_of};
-ghost use Rattle.lisp_turns.specs.Turns.{Delivers};
+ghost use Rattle.std.specs.Prelude.{◌≡◌};
+ghost use Rattle.lisp_schedules.specs.declared.event.Event.TheVariants.{Deliver};
+ghost use Rattle.lisp_world.specs.Faults.{datagram_fault, refusal_of};
+ghost use Rattle.lisp_world.specs.Taking.{Takes};
 
+use crate::room::with_room;
 use crate::world::World;
-use lisp_memory::{FallibleVec, Memory};
+use lisp_memory::Memory;
 use lisp_nodes::{Arrival, hear, post_reply};
 use lisp_schedules::{Line, WorldFault};
 use lisp_store::{Fate, WorldStore};
@@ -14,19 +15,15 @@ use lisp_store::{Fate, WorldStore};
 impl<S: WorldStore, A: Memory + Copy> World<S, A> {
     // A datagram arrives at the first node with its address, perhaps not for the first time.
     pub(crate) fn deliver(&mut self, k: usize, fate: Fate) -> Result<Line, WorldFault>
-        ensures delivers { IfOk result (λ line. Delivers A self.old self.new k fate line) }
-        ensures fault { Faults (datagram_fault self.old k) result }
-        ensures err { OnErr result (self.new ≡ self.old) }
-        ensures memory { IsErrOf result WorldFault.OutOfMemory → A.may_refuse }
-        ensures tells { IfOk result (MayTell A.may_refuse S.may_refuse) }
+        ensures { Takes A.may_refuse S.may_refuse self.old self.new (Deliver k fate) result }
     {
-        self.check_datagram(k)?;
+        let checked = self.check_datagram(k);
+        with_room(&mut self.bag, checked)?;
         let datagram = &self.bag[k];
         let (from, to) = (datagram.from, datagram.to);
         let Some(node) = self.node_with(&to) else {
             return Ok(Line::Nowhere { datagram: k });
         };
-        self.bag.make_room(1)?;
         let address = self.address(node);
         let how = Arrival {
             fate,

@@ -1,10 +1,7 @@
 //! Bytes from outside arrive.
 
-ghost use Rattle.std.specs.Prelude.{◌≡◌, IfOk, OnErr, IsErrOf};
-ghost use Rattle.lisp_store.specs.declared.fate.Fate.TheVariants.{Done};
-ghost use Rattle.lisp_schedules.specs.Memory.{MayTell};
-ghost use Rattle.lisp_world.specs.Faults.{Faults, node_fault};
-ghost use Rattle.lisp_turns.specs.Turns.{Arrives};
+ghost use Rattle.lisp_schedules.specs.declared.event.Event.TheVariants.{Junk};
+ghost use Rattle.lisp_world.specs.Taking.{Takes};
 
 use crate::world::World;
 use lisp_memory::{FallibleVec, Memory};
@@ -16,11 +13,7 @@ use lisp_store::{Fate, WorldStore};
 impl<S: WorldStore, A: Memory + Copy> World<S, A> {
     // Bytes that no node sent arrive at a node, as if they came from an address.
     pub(crate) fn junk(&mut self, to: usize, from: Addr, bytes: &[u8]) -> Result<Line, WorldFault>
-        ensures arrives { IfOk result (λ line. Arrives A self.old self.new to Done from bytes.now line) }
-        ensures fault { Faults (node_fault self.old to) result }
-        ensures err { OnErr result (self.new ≡ self.old) }
-        ensures memory { IsErrOf result WorldFault.OutOfMemory → A.may_refuse }
-        ensures tells { IfOk result (MayTell A.may_refuse S.may_refuse) }
+        ensures { Takes A.may_refuse S.may_refuse self.old self.new (Junk to from bytes.now) result }
     {
         self.check_node(to)?;
         self.bag.make_room(1)?;

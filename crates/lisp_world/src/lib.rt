@@ -10,6 +10,7 @@ mod nodes;
 mod notice;
 mod resend;
 mod restart;
+mod room;
 mod run;
 mod send;
 mod step;

@@ -1,6 +1,6 @@
 //! A network is made.
 
-ghost use Rattle.std.specs.Prelude.{◌≡◌, ◌↔◌, ◌+◌, ◌^◌, ◌<◌, ◌||◌, ◌++◌, ℕ, true, false, [], Err, IfOk, IfErr, IsErrOf, OnOk, OnErr, length, map, slice_index_or};
+ghost use Rattle.std.specs.Prelude.{◌≡◌, ◌↔◌, ◌+◌, ◌^◌, ◌<◌, ◌≤◌, ◌||◌, ◌++◌, ◌∷◌, ℕ, true, false, [], Err, IfOk, IfErr, IsErrOf, OnOk, OnErr, length, map, slice_index_or};
 ghost use Rattle.std.specs.List.{AllByRecursion, list_any};
 ghost use Rattle.lisp_records.specs.Address.{addr_eq};
 ghost use Rattle.lisp_records.specs.Router.{router_eq};
@@ -11,7 +11,7 @@ ghost use Rattle.lisp_etr.specs.declared.start_fault.StartFault.{StartFault};
 ghost use Rattle.lisp_schedules.specs.declared.world_fault.WorldFault.{WorldFault};
 ghost use Rattle.lisp_schedules.specs.Trace.{addresses as addresses_of, settings_of, secret_at};
 ghost use Rattle.lisp_schedules.specs.Network.{IsNetwork};
-ghost use Rattle.lisp_world.specs.Making.{server_over, router_over, IsRouterOver, AreNodes, HasStarted, HaveStarted, IsStartFault};
+ghost use Rattle.lisp_world.specs.Making.{server_over, router_over, IsRouterOver, AddsNode, AreNodes, HasStarted, HaveStarted, IsStartFault};
 ghost use Rattle.lisp_world.specs.Openings.{has_twice, repeats, opening, lists_of};
 ghost use Rattle.lisp_world.specs.Quiet.{AllHonest, AllCalm, stores_of, failures};
 ghost use Rattle.lisp_turns.specs.Headline.{Promises};
@@ -174,18 +174,44 @@ where
     ensures nodes { IfOk result (λ n. AreNodes config.now (map S.seen stores.items) n.0.items n.1.items) }
     ensures memory { OnErr result A.may_refuse }
 {
-    let count = config.servers().len();
     let mut servers = Vec::new(alloc);
     let mut routers = Vec::new(alloc);
     for store in stores {
-        if servers.len() < count {
-            servers.try_push(server(alloc, config, store)?)?;
-        } else {
-            let place = routers.len();
-            routers.try_push(router(alloc, config, addresses, place, store)?)?;
-        }
+        add_node(alloc, config, addresses, store, &mut servers, &mut routers)?;
     }
     Ok((servers, routers))
+}
+
+// One more node over its store: a Map-Server as long as the configuration has more of them, else a router.
+fn add_node<S: WorldStore, A: Memory + Copy, E: Allocator>(
+    alloc: A,
+    config: &Config<E>,
+    addresses: &[Addr],
+    store: S,
+    servers: &mut Vec<ServerNode<S, A>, A>,
+    routers: &mut Vec<RouterNode<S, A>, A>,
+) -> Result<(), AllocError>
+where
+    S: Drop,
+    requires addresses { addresses.now ≡ addresses_of config.now }
+    requires left { length config.now.servers ≤ length servers.old.items → length routers.old.items < length config.now.routers }
+    ensures added { OnOk result (AddsNode config.now (S.seen store) servers.old.items servers.new.items routers.old.items routers.new.items) }
+    ensures memory { OnErr result A.may_refuse }
+{
+    if servers.len() < config.servers().len() {
+        let node = server(alloc, config, store)?;
+        return append(servers, node);
+    }
+    let node = router(alloc, config, addresses, routers.len(), store)?;
+    append(routers, node)
+}
+
+// A node goes to the end of those that there are.
+fn append<N: Drop, A: Memory>(nodes: &mut Vec<N, A>, node: N) -> Result<(), AllocError>
+    ensures added { OnOk result (nodes.new.items ≡ nodes.old.items ++ node ∷ []) }
+    ensures memory { OnErr result A.may_refuse }
+{
+    Ok(nodes.try_push(node)?)
 }
 
 // A Map-Server of the configuration over its store, which holds nothing.

@@ -26,7 +26,8 @@ impl<S: WorldStore, A: Allocator> World<S, A> {
         self.addresses.iter().position(|other| other == address)
     }
 
-    fn is_missing(&self, node: usize) -> bool
+    // Whether no node has the number.
+    pub(crate) fn is_missing(&self, node: usize) -> bool
         ensures { result ≡ is_missing self.now node }
     {
         self.addresses.len() <= node
@@ -54,7 +55,9 @@ impl<S: WorldStore, A: Allocator> World<S, A> {
         ensures place { IfOk result (λ place. (router ≡ length self.now.servers + place) × (place < length self.now.routers)) }
         ensures fault { refusal_of result ≡ router_fault self.now router }
     {
-        self.check_node(router)?;
+        if self.is_missing(router) {
+            return Err(WorldFault::NoNode);
+        }
         if self.is_server(router) {
             return Err(WorldFault::WrongKind);
         }

@@ -1,15 +1,16 @@
 //! A Map-Server sends an unsolicited Map-Notify (notice).
 
-ghost use Rattle.std.specs.Prelude.{◌≡◌, ◌<◌, ◌++◌, List, IfOk, IsSome, OnErr, IsErrOf};
+ghost use Rattle.std.specs.Prelude.{◌≡◌, ◌<◌, ◌++◌, List, IfOk, IsSome};
 ghost use Rattle.std.specs.Vec.{vec_len, vec_capacity};
 ghost use Rattle.lisp_messages.specs.Head.{head_at};
-ghost use Rattle.lisp_schedules.specs.Memory.{MayTell};
-ghost use Rattle.lisp_world.specs.Faults.{Faults, pair_fault};
+ghost use Rattle.lisp_schedules.specs.declared.event.Event.TheVariants.{Notice};
 ghost use Rattle.lisp_turns.specs.World.{Posted, WorldState};
-ghost use Rattle.lisp_turns.specs.Turns.{address_of, NoticesFrom, SaysNotice};
+ghost use Rattle.lisp_turns.specs.Turns.{address_of, SaysNotice};
+ghost use Rattle.lisp_world.specs.Taking.{Takes};
 
+use crate::room::with_room;
 use crate::world::World;
-use lisp_memory::{FallibleVec, Memory};
+use lisp_memory::Memory;
 use lisp_nodes::{Datagram, post_message};
 use lisp_records::{Addr, Bytes};
 use lisp_schedules::{Line, Refusal, WorldFault};
@@ -24,14 +25,10 @@ impl<S: WorldStore, A: Memory + Copy> World<S, A> {
         router: usize,
         fate: Fate,
     ) -> Result<Line, WorldFault>
-        ensures notices { IfOk result (λ line. NoticesFrom self.old self.new server router fate line) }
-        ensures fault { Faults (pair_fault self.old router server) result }
-        ensures err { OnErr result (self.new ≡ self.old) }
-        ensures memory { IsErrOf result WorldFault.OutOfMemory → A.may_refuse }
-        ensures tells { IfOk result (MayTell A.may_refuse S.may_refuse) }
+        ensures { Takes A.may_refuse S.may_refuse self.old self.new (Notice server router fate) result }
     {
-        let place = self.place_beside(server, router)?;
-        self.bag.make_room(1)?;
+        let place = self.place_beside(server, router);
+        let place = with_room(&mut self.bag, place)?;
         let (from, me) = (self.address(server), self.routers[place].me());
         let clock = self.clock;
         let notice = self.servers[server].notify(fate, &me, clock);

@@ -1,14 +1,15 @@
 //! A Map-Server sends a notice again.
 
-ghost use Rattle.std.specs.Prelude.{◌≡◌, ◌<◌, ◌++◌, List, IfOk, OnErr, IsErrOf};
+ghost use Rattle.std.specs.Prelude.{◌≡◌, ◌<◌, ◌++◌, List};
 ghost use Rattle.std.specs.Vec.{vec_len, vec_capacity};
-ghost use Rattle.lisp_schedules.specs.Memory.{MayTell};
-ghost use Rattle.lisp_world.specs.Faults.{Faults, pair_fault};
+ghost use Rattle.lisp_schedules.specs.declared.event.Event.TheVariants.{Resend};
 ghost use Rattle.lisp_turns.specs.World.{Posted, WorldState};
-ghost use Rattle.lisp_turns.specs.Turns.{address_of, ResendsFrom, SaysResend};
+ghost use Rattle.lisp_turns.specs.Turns.{address_of, SaysResend};
+ghost use Rattle.lisp_world.specs.Taking.{Takes};
 
+use crate::room::with_room;
 use crate::world::World;
-use lisp_memory::{FallibleVec, Memory};
+use lisp_memory::Memory;
 use lisp_nodes::{Datagram, post};
 use lisp_records::{Addr, Bytes};
 use lisp_schedules::{Line, Refusal, WorldFault};
@@ -18,14 +19,10 @@ use lisp_store::WorldStore;
 impl<S: WorldStore, A: Memory + Copy> World<S, A> {
     // A Map-Server sends a router a notice again that is due.
     pub(crate) fn resend(&mut self, server: usize, router: usize) -> Result<Line, WorldFault>
-        ensures resends { IfOk result (λ line. ResendsFrom self.old self.new server router line) }
-        ensures fault { Faults (pair_fault self.old router server) result }
-        ensures err { OnErr result (self.new ≡ self.old) }
-        ensures memory { IsErrOf result WorldFault.OutOfMemory → A.may_refuse }
-        ensures tells { IfOk result (MayTell A.may_refuse S.may_refuse) }
+        ensures { Takes A.may_refuse S.may_refuse self.old self.new (Resend server router) result }
     {
-        let place = self.place_beside(server, router)?;
-        self.bag.make_room(1)?;
+        let place = self.place_beside(server, router);
+        let place = with_room(&mut self.bag, place)?;
         let (from, me) = (self.address(server), self.routers[place].me());
         let clock = self.clock;
         let notice = self.servers[server].resend(&me, clock);

@@ -1,10 +1,12 @@
 //! A node stops and starts again.
 
-ghost use Rattle.std.specs.Prelude.{◌≡◌, ◌≤◌, ◌<◌, None, true, IfOk, OnOk, OnErr, IsErrOf, length};
+ghost use Rattle.std.specs.Prelude.{◌≡◌, ◌≤◌, ◌<◌, None, true, IfOk, OnOk, OnErr, length};
 ghost use Rattle.lisp_schedules.specs.Memory.{MayTell};
 ghost use Rattle.lisp_schedules.specs.Legal.{Fits};
-ghost use Rattle.lisp_world.specs.Faults.{Faults, is_server, refusal_of, restart_fault};
-ghost use Rattle.lisp_turns.specs.Turns.{RestartsServer, RestartsAt, RestartsNode};
+ghost use Rattle.lisp_schedules.specs.declared.event.Event.TheVariants.{Restart};
+ghost use Rattle.lisp_world.specs.Faults.{is_server, refusal_of, restart_fault};
+ghost use Rattle.lisp_world.specs.Taking.{Takes};
+ghost use Rattle.lisp_turns.specs.Turns.{RestartsServer, RestartsAt};
 
 use crate::world::World;
 use lisp_memory::Memory;
@@ -22,12 +24,7 @@ impl<S: WorldStore, A: Memory + Copy> World<S, A> {
         pick: u64,
         db: &Option<Database<E>>,
     ) -> Result<Line, WorldFault>
-        ensures restarts { IfOk result (λ line. RestartsNode self.old self.new node db.now line) }
-        ensures fits { OnOk result (Fits db.now) }
-        ensures fault { Faults (restart_fault self.old node db.now) result }
-        ensures err { OnErr result (self.new ≡ self.old) }
-        ensures memory { IsErrOf result WorldFault.OutOfMemory → A.may_refuse }
-        ensures tells { IfOk result (MayTell A.may_refuse S.may_refuse) }
+        ensures { Takes A.may_refuse S.may_refuse self.old self.new (Restart node pick db.now) result }
     {
         self.check_restart(node, db)?;
         if self.is_server(node) {
@@ -46,7 +43,9 @@ impl<S: WorldStore, A: Memory + Copy> World<S, A> {
         ensures fault { refusal_of result ≡ restart_fault self.now node db.now }
         ensures none { OnOk result (is_server self.now node ≡ true → db.now ≡ None) }
     {
-        self.check_node(node)?;
+        if self.is_missing(node) {
+            return Err(WorldFault::NoNode);
+        }
         if self.is_server(node) && db.is_some() {
             return Err(WorldFault::WrongKind);
         }

@@ -1,17 +1,18 @@
 //! A router sends a Map-Register.
 
-ghost use Rattle.std.specs.Prelude.{◌≡◌, ◌<◌, ◌++◌, List, IfOk, IfSome, IsSome, OnErr, IsErrOf};
+ghost use Rattle.std.specs.Prelude.{◌≡◌, ◌<◌, ◌++◌, List, IfOk, IfSome, IsSome};
 ghost use Rattle.std.specs.Vec.{vec_len, vec_capacity};
 ghost use Rattle.lisp_messages.specs.Head.{head_at};
-ghost use Rattle.lisp_schedules.specs.Memory.{MayTell};
+ghost use Rattle.lisp_schedules.specs.declared.event.Event.TheVariants.{Send};
 ghost use Rattle.lisp_turns.specs.World.{Posted, WorldState};
-ghost use Rattle.lisp_turns.specs.Turns.{address_of, SendsFrom};
-ghost use Rattle.lisp_world.specs.Faults.{Faults, pair_fault};
+ghost use Rattle.lisp_turns.specs.Turns.{address_of};
 ghost use Rattle.lisp_world.specs.Asked.{SaysAsked};
+ghost use Rattle.lisp_world.specs.Taking.{Takes};
 
+use crate::room::with_room;
 use crate::world::World;
 use lisp_etr::SendFault;
-use lisp_memory::{FallibleVec, Memory};
+use lisp_memory::Memory;
 use lisp_nodes::{Datagram, post_message};
 use lisp_records::{Addr, Bytes};
 use lisp_schedules::{Line, Refusal, WorldFault};
@@ -25,14 +26,10 @@ impl<S: WorldStore, A: Memory + Copy> World<S, A> {
         server: usize,
         fate: Fate,
     ) -> Result<Line, WorldFault>
-        ensures sends { IfOk result (λ line. SendsFrom self.old self.new router server fate line) }
-        ensures fault { Faults (pair_fault self.old router server) result }
-        ensures err { OnErr result (self.new ≡ self.old) }
-        ensures memory { IsErrOf result WorldFault.OutOfMemory → A.may_refuse }
-        ensures tells { IfOk result (MayTell A.may_refuse S.may_refuse) }
+        ensures { Takes A.may_refuse S.may_refuse self.old self.new (Send router server fate) result }
     {
-        let place = self.place_beside(server, router)?;
-        self.bag.make_room(1)?;
+        let place = self.place_beside(server, router);
+        let place = with_room(&mut self.bag, place)?;
         let (from, to) = (self.address(router), self.address(server));
         let clock = self.clock;
         let answer = self.routers[place].send(server, fate, clock);

@@ -5,6 +5,7 @@ ghost use Rattle.lisp_schedules.specs.Memory.{MayTell};
 ghost use Rattle.lisp_schedules.specs.Trace.{happening};
 ghost use Rattle.lisp_world.specs.Faults.{Faults, fault_of};
 ghost use Rattle.lisp_world.specs.Quiet.{KeepsCalm, fate_of};
+ghost use Rattle.lisp_world.specs.Taking.{Takes};
 ghost use Rattle.lisp_turns.specs.Headline.{Promises};
 ghost use Rattle.lisp_turns.specs.Stands.{StandsAfter};
 
@@ -34,6 +35,13 @@ impl<S: WorldStore, A: Memory + Copy> World<S, A> {
 
         // Stores that obey and fail no more are so again, and none fails unless the event makes it.
         ensures calm { KeepsCalm self.old self.new (fate_of (happening event.now)) }
+    {
+        self.take(event)
+    }
+
+    // Takes one event.
+    fn take<E: Allocator>(&mut self, event: &Event<E>) -> Result<Line, WorldFault>
+        ensures { Takes A.may_refuse S.may_refuse self.old self.new (happening event.now) result }
     {
         match event {
             Event::Change { router, db } => self.change(*router, db),

@@ -1,9 +1,10 @@
 //! Time passes.
 
-ghost use Rattle.std.specs.Prelude.{◌≡◌, ◌≤◌, IfOk, OnErr, length};
+ghost use Rattle.std.specs.Prelude.{◌≡◌, ◌≤◌, length};
 ghost use Rattle.lisp_records.specs.Moment.{max_moment};
-ghost use Rattle.lisp_world.specs.Faults.{tick_fault, refusal_of};
-ghost use Rattle.lisp_turns.specs.Turns.{Ticks, ExpiresEach};
+ghost use Rattle.lisp_schedules.specs.declared.event.Event.TheVariants.{Tick};
+ghost use Rattle.lisp_turns.specs.Turns.{ExpiresEach};
+ghost use Rattle.lisp_world.specs.Taking.{Takes};
 
 use crate::world::World;
 use lisp_memory::Memory;
@@ -15,9 +16,7 @@ use lisp_store::WorldStore;
 impl<S: WorldStore, A: Memory + Copy> World<S, A> {
     // Time passes, in ms, and each Map-Server drops its dead rows.
     pub(crate) fn tick(&mut self, ms: u64) -> Result<Line, WorldFault>
-        ensures ticks { IfOk result (λ line. Ticks self.old self.new ms line) }
-        ensures fault { refusal_of result ≡ tick_fault self.old ms }
-        ensures err { OnErr result (self.new ≡ self.old) }
+        ensures { Takes A.may_refuse S.may_refuse self.old self.new (Tick ms) result }
     {
         if MAX_MOMENT - self.clock < ms {
             return Err(WorldFault::Clock);

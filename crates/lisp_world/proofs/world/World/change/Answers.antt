@@ -1,15 +1,16 @@
 use Rattle.std.proofs.Common.{◌∙◌, [], append-nil, sym, arith}
 use Rattle.std.proofs.lemmas.List.{length-set}
 use Rattle.lisp_nodes.proofs.RouterCalls.{acted, same_bag, line_up, line_down}
-use Rattle.lisp_world.proofs.Refusing.{no_fault, out_of_memory, taken}
+use Rattle.lisp_world.proofs.Taking.{changes_taken}
 use Rattle.lisp_world.proofs.world.World.change.Goals as goal
 use Rattle.lisp_world.proofs.world.World.change.Goals.{then-change, else-change}
 
-pub returns-clause-changes : goal.returns-clause-changes
-returns-clause-changes g c =
+pub returns : goal.returns
+returns g c =
     let there = rw (← c.self.view_is) at c.in_ok-place.ensures.place in
+    let possible = rw (← c.self.view_is) at c.in_ok-place.ensures.fault in
     rw (← c.self.view_is)
-    (record {
+    (changes_taken _ _ _ _ c.args.router c.args.db.now _ possible (record {
       acts = acted _ _ _ c.in_ok-place.place [] c.index_mut.result.now c.change.new.self there c.index_mut.ensures.value (same_bag _ _ (sym (append-nil c.self.inside.bag.items)));
       fits = c.records-records.ensures.fits;
       changes = rw (← c.in_ok-copy.ensures.equal) c.change.ensures.0;
@@ -17,7 +18,7 @@ returns-clause-changes g c =
         | then-change w ↦ rw (w.line-is, c.records-records.ensures.value) (line_up c.args.router c.args.db.now c.index_mut.result.now.core (sym c.change.ensures.1 ∙ w.if-change.true))
         | else-change w ↦ rw w.line-is (line_down c.args.router c.args.db.now c.index_mut.result.now.core (sym c.change.ensures.1 ∙ w.if-change.false))
       ];
-    })
+    }))
 
 pub index_mut-requires : goal.index_mut-requires
 index_mut-requires g c =
@@ -28,12 +29,3 @@ index_mut-requires g c =
 pub invariant_of-self : goal.invariant_of-self
 invariant_of-self g c =
     (c.self.invariant.0, omega (arith, length-set c.self.inside.routers.items c.in_ok-place.place c.change.new.self, c.self.invariant.1))
-
-pub returns-clause-fault : goal.returns-clause-fault
-returns-clause-fault g c = no_fault _ _ c.in_ok-place.ensures.fault
-
-pub returns-in_err-copy-clause-fault : goal.returns-in_err-copy-clause-fault
-returns-in_err-copy-clause-fault g c = out_of_memory _ _ c.in_ok-place.ensures.fault c.from_residual-in_err-copy.ensures.1
-
-pub returns-clause-memory : goal.returns-clause-memory
-returns-clause-memory g c = taken _ _

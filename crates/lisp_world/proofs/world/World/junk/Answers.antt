@@ -2,8 +2,9 @@ use Rattle.std.proofs.Common.{◌≡◌, ◌<◌, ◌++◌, length, refl, sym, a
 use Rattle.std.specs.List.{length_refill}
 use Rattle.lisp_store.specs.declared.fate.Fate.TheVariants.{Done}
 use Rattle.lisp_turns.specs.Turns.{posted}
+use Rattle.lisp_turns.specs.World.{WorldState}
 use Rattle.lisp_world.proofs.Arrivals.{arrived, node_there}
-use Rattle.lisp_world.proofs.Refusing.{no_fault, out_of_memory, only_room, taken}
+use Rattle.lisp_world.proofs.Taking.{arrives_taken}
 use Rattle.lisp_world.proofs.world.World.junk.Goals as goal
 
 pub address-address-requires : goal.address-address-requires
@@ -23,33 +24,22 @@ invariant_of-self-3 g c =
     let routers = length_refill inside.routers.len inside.routers.items c.hear-line.new.routers inside.routers.ok.0 in
     (c.self.invariant.0, omega (arith, servers, routers, inside.servers.ok.0, inside.routers.ok.0, c.self.invariant.1))
 
-pub returns-clause-arrives : goal.returns-clause-arrives
-returns-clause-arrives g c =
+pub returns : goal.returns
+returns g c =
     let inside = c.self.inside in
+    let w : WorldState = record { addresses = inside.addresses.items; clock = inside.clock; bag = inside.bag.items; servers = inside.servers.items; routers = inside.routers.items } in
     let count : length inside.bag.items ≡ c.len.result = omega (arith, c.len.ensures, c.make_room.ensures.len, inside.bag.ok.0) in
     let servers = ap length c.deref_mut.ensures.value in
     let routers = ap length c.deref_mut-2.ensures.value in
     let all_servers : inside.servers.len ≡ length c.hear-line.new.servers = omega (arith, servers, c.hear-line.auto.servers, inside.servers.ok.0) in
     let all_routers : inside.routers.len ≡ length c.hear-line.new.routers = omega (arith, routers, c.hear-line.auto.routers, inside.routers.ok.0) in
+    let possible = rw (← c.self.view_is) at c.in_ok-check_node.ensures in
     rw (← c.self.view_is)
-    (arrived _ _ c.args.to Done c.args.from c.args.bytes.now _ c.hear-line.result.1 _ _ _ _ _ all_servers all_routers
+    (arrives_taken _ _ w _ _ c.args.to c.args.from c.args.bytes.now c.hear-line.result.0 possible
+    (arrived _ w c.args.to Done c.args.from c.args.bytes.now c.hear-line.result.0 c.hear-line.result.1 c.hear-line.new.servers c.hear-line.new.routers inside.servers.len inside.routers.len c.post_reply.new.bag.items all_servers all_routers
     (c.post_reply.ensures ∙ (λ i. c.make_room.ensures.items i ++ posted (c.address-address.ensures i) c.args.from c.hear-line.result.1))
-    (c.hear-line.ensures.hears _ (sym c.deref_mut.ensures.value) (sym c.deref_mut-2.ensures.value) refl count))
-
-pub returns-clause-fault : goal.returns-clause-fault
-returns-clause-fault g c = no_fault _ _ c.in_ok-check_node.ensures
-
-pub returns-in_err-make_room-clause-fault : goal.returns-in_err-make_room-clause-fault
-returns-in_err-make_room-clause-fault g c = out_of_memory _ _ c.in_ok-check_node.ensures c.from_residual-in_err-make_room.ensures.1
-
-pub returns-in_err-make_room-clause-err : goal.returns-in_err-make_room-clause-err
-returns-in_err-make_room-clause-err g c = only_room _ _ _ _ c.make_room.ensures.items c.self.view_is
+    (c.hear-line.ensures.hears w (sym c.deref_mut.ensures.value) (sym c.deref_mut-2.ensures.value) refl count))
+    c.hear-line.ensures.tells)
 
 pub post_reply-requires : goal.post_reply-requires
 post_reply-requires g c = (let room = c.in_ok-make_room.ensures.ok in omega (arith, room))
-
-pub returns-clause-tells : goal.returns-clause-tells
-returns-clause-tells g c = c.hear-line.ensures.tells
-
-pub returns-clause-memory : goal.returns-clause-memory
-returns-clause-memory g c = taken _ _

@@ -2,54 +2,40 @@ use Rattle.std.proofs.Common.{arith}
 use Rattle.std.proofs.lemmas.List.{length-set}
 use Rattle.lisp_turns.specs.World.{WorldState}
 use Rattle.lisp_world.proofs.Noticing.{resent}
+use Rattle.lisp_world.proofs.Taking.{no_pair_fault, resends_taken, router_there, server_there}
 use Rattle.lisp_world.proofs.Telling.{resent_tells}
-use Rattle.lisp_world.proofs.Refusing.{no_fault, out_of_memory, only_room, taken}
 use Rattle.lisp_world.proofs.world.World.resend.Goals as goal
 
 pub invariant_of-self-3 : goal.invariant_of-self-3
 invariant_of-self-3 g c = (c.self.invariant.0, omega (arith, length-set c.self.inside.servers.items c.args.server c.resend-notice.new.self, c.self.invariant.1))
 
-pub returns-clause-resends : goal.returns-clause-resends
-returns-clause-resends g c =
-    let router = rw (← c.self.view_is) at c.in_ok-place.ensures.place in
-    let server = rw (← c.self.view_is) at c.in_ok-place.ensures.server in
+pub returns : goal.returns
+returns g c =
+    let found = c.in_ok-place.ensures.room.0 in
+    let possible = no_pair_fault _ _ c.self.view_is c.args.server c.args.router _ _ found c.place_beside-place.ensures.fault in
+    let router = router_there _ _ c.self.view_is c.args.server c.args.router _ _ found c.place_beside-place.ensures.place in
+    let server = server_there _ _ c.self.view_is c.args.server c.args.router _ _ found c.place_beside-place.ensures.server in
     let inside = c.self.inside in
     let w : WorldState = record { addresses = inside.addresses.items; clock = inside.clock; bag = inside.bag.items; servers = inside.servers.items; routers = inside.routers.items } in
+    let e = c.resend-notice.ensures in
+    let told = c.resend_line.ensures w c.with_room.ensures.same c.address-from.ensures in
     rw (← c.self.view_is)
-    (resent _ _ _ _ _ c.index_mut.result.now c.resend-notice.new.self c.index.result.now _ _ router server c.index_mut.ensures.value c.index.ensures c.me-me.ensures _
-    c.resend-notice.ensures.rest c.resend-notice.ensures.resends (c.resend_line.ensures w c.make_room.ensures.items c.address-from.ensures))
+    (resends_taken _ _ w _ c.args.server c.args.router c.resend_line.result possible
+    (resent w c.args.server c.args.router c.in_ok-place.place c.resend_line.result c.index_mut.result.now c.resend-notice.new.self c.index.result.now c.me-me.result c.resend_line.new.bag.items router server
+    c.index_mut.ensures.value c.index.ensures c.me-me.ensures c.resend-notice.result e.rest e.resends told)
+    (resent_tells _ _ c.args.server w c.args.router c.resend-notice.result c.resend_line.result told.0 told.2 c.index_mut.result.now c.resend-notice.new.self inside.clock c.me-me.result e.resends e.memory))
 
 pub address-from-requires : goal.address-from-requires
 address-from-requires g c =
-    let server = rw (← c.self.view_is) at c.in_ok-place.ensures.server in
+    let server = server_there _ _ c.self.view_is c.args.server c.args.router _ _ c.in_ok-place.ensures.room.0 c.place_beside-place.ensures.server in
     omega (arith, server, c.self.invariant.1)
 
 pub index-requires : goal.index-requires
 index-requires g c =
-    let router = rw (← c.self.view_is) at c.in_ok-place.ensures.place in
+    let router = router_there _ _ c.self.view_is c.args.server c.args.router _ _ c.in_ok-place.ensures.room.0 c.place_beside-place.ensures.place in
     omega (arith, router.1, c.self.inside.routers.ok.0)
 
 pub index_mut-requires : goal.index_mut-requires
 index_mut-requires g c =
-    let server = rw (← c.self.view_is) at c.in_ok-place.ensures.server in
+    let server = server_there _ _ c.self.view_is c.args.server c.args.router _ _ c.in_ok-place.ensures.room.0 c.place_beside-place.ensures.server in
     omega (arith, server, c.self.inside.servers.ok.0)
-
-pub returns-clause-tells : goal.returns-clause-tells
-returns-clause-tells g c =
-    let e = c.resend-notice.ensures in
-    let inside = c.self.inside in
-    let w : WorldState = record { addresses = inside.addresses.items; clock = inside.clock; bag = inside.bag.items; servers = inside.servers.items; routers = inside.routers.items } in
-    let told = c.resend_line.ensures w c.make_room.ensures.items c.address-from.ensures in
-    resent_tells _ _ c.args.server w c.args.router _ _ told.0 told.2 c.index_mut.result.now c.resend-notice.new.self c.self.inside.clock c.me-me.result e.resends e.memory
-
-pub returns-clause-fault : goal.returns-clause-fault
-returns-clause-fault g c = no_fault _ _ c.in_ok-place.ensures.fault
-
-pub returns-in_err-make_room-clause-fault : goal.returns-in_err-make_room-clause-fault
-returns-in_err-make_room-clause-fault g c = out_of_memory _ _ c.in_ok-place.ensures.fault c.from_residual-in_err-make_room.ensures.1
-
-pub returns-in_err-make_room-clause-err : goal.returns-in_err-make_room-clause-err
-returns-in_err-make_room-clause-err g c = only_room _ _ _ _ c.make_room.ensures.items c.self.view_is
-
-pub returns-clause-memory : goal.returns-clause-memory
-returns-clause-memory g c = taken _ _

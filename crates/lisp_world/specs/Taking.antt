@@ -1,0 +1,32 @@
+-- What it comes to that a network takes an event.
+use Rattle.std.specs.Prelude.{◌≡◌, ◌⊎◌, Option, Some, None, Result, Ok, Err}
+use Rattle.lisp_schedules.specs.Memory.{MayTell}
+use Rattle.lisp_schedules.specs.Trace.{Happening}
+use Rattle.lisp_schedules.specs.declared.line.Line.{Line}
+use Rattle.lisp_schedules.specs.declared.world_fault.WorldFault.{WorldFault}
+use Rattle.lisp_schedules.specs.declared.world_fault.WorldFault.TheVariants.{OutOfMemory}
+use Rattle.lisp_turns.specs.World.{WorldState}
+use Rattle.lisp_turns.specs.Stands.{StandsAfter}
+use Rattle.lisp_world.specs.Faults.{fault_of, refusal_of}
+use Rattle.lisp_world.specs.Quiet.{KeepsCalm, fate_of}
+
+-- it was taken, with this line
+pub record Took (node_may store_may : Type 0) (old new : WorldState) (event : Happening) (line : Line) : Type 0 where
+  pub possible : fault_of old event ≡ None
+  pub stands : StandsAfter old new event line
+  pub calm : KeepsCalm old new (fate_of event)
+  pub tells : MayTell node_may store_may line
+
+-- why something with a fault, or with none, is refused
+abbrev pub Refuses : Type 0 → Option WorldFault → WorldFault → Type 0
+Refuses node_may fault why = (fault ≡ Some why) ⊎ ((fault ≡ None) × (why ≡ OutOfMemory) × node_may)
+
+-- it was taken; or it was refused, and nothing changed
+abbrev pub Takes : Type 0 → Type 0 → WorldState → WorldState → Happening → Result Line WorldFault → Type 0
+Takes node_may store_may old new event (Ok line) = Took node_may store_may old new event line
+Takes node_may store_may old new event (Err why) = (new ≡ old) × Refuses node_may (fault_of old event) why
+
+-- what passed a check, and found room for one more datagram
+abbrev pub HasRoom : {X : Type 0} → Type 0 → Result X WorldFault → Result X WorldFault → Type 0 → Type 0
+HasRoom node_may checked (Ok x) Room = (checked ≡ Ok x) × Room
+HasRoom node_may checked (Err why) Room = Refuses node_may (refusal_of checked) why
