@@ -1,10 +1,13 @@
 -- A network takes commands, one after the other.
-use Rattle.std.proofs.Common.{◌≡◌, ℕ, suc, ◌+◌, ◌<◌, List, [], ◌∷◌, ◌++◌, length, map, take, get_or, Option, Some, None, refl, sym, ap, subst, ◌∙◌, append-nil, append_assoc, arith}
+use Rattle.std.proofs.Common.{◌≡◌, ℕ, suc, ◌+◌, ◌<◌, List, [], ◌∷◌, ◌++◌, length, map, take, get_or, Option, Some, None, Result, Ok, Err, refl, sym, ap, subst, ◌∙◌, append-nil, append_assoc, arith}
 use Rattle.std.proofs.Math.Seq.{take-suc}
 use Rattle.std.proofs.lemmas.List.{get_or-map, length-map}
 use Rattle.std.specs.Option.{option_map}
 use Rattle.std.proofs.lemmas.Option.{slice_get-map, slice_get-get_or}
 use Rattle.std.specs.Io.KnownBytes.{Appends, Keeps}
+use Rattle.std.specs.Prelude.{IfErr}
+use Rattle.lisp_streams.specs.declared.play_fault.PlayFault.{PlayFault}
+use Rattle.lisp_streams.specs.declared.play_fault.PlayFault.TheVariants.{OutOfMemory, Write}
 use Rattle.lisp_sites.specs.Configuration.{Configuration}
 use Rattle.lisp_schedules.specs.Trace.{Step, Opening}
 use Rattle.lisp_turns.specs.World.{WorldState}
@@ -12,6 +15,15 @@ use Rattle.lisp_script.specs.declared.command.Command.{Command}
 use Rattle.lisp_script.specs.Order.{Order, order}
 use Rattle.lisp_playing.specs.Playing.{Tells, Plays, Turns, Leads, Loses, WroteOne, Wrote, StopsAt, Breaks}
 use Rattle.lisp_playing.proofs.Turning.{stays}
+
+-- what ended well has no fault, and one that can only be that of writing is not want of memory
+module _ {X P : Type 0} where
+  pub no_fault : (x : X) (fault : PlayFault) → ◌≡◌ {A = Result X PlayFault} (Ok x) (Err fault) → P
+  no_fault x fault clash = absurd cc
+
+  pub only_write : (r : Result X PlayFault) → IfErr r (λ fault. fault ≡ Write) → r ≡ Err OutOfMemory → P
+  only_write (Ok x) is clash = absurd cc
+  only_write (Err fault) is clash = absurd cc
 
 module _ (A M : Type 0) (o : Opening) (middle last : List Step) (more : List ℕ) (order : Order) (second : Tells A M o middle order more last) where
   -- commands, and one behind them

@@ -1,8 +1,8 @@
 -- What is asked of a node of a network that stands for a trace.
-use Rattle.std.proofs.Common.{◌≡◌, ℕ, suc, ◌+◌, ◌-◌, ◌<◌, ◌≤◌, nat_lt, nat_le, Bool, true, false, List, [], ◌++◌, length, take, get_or, Option, Some, None, refl, sym, ap, subst, ◌∙◌, arith}
-use Rattle.std.specs.Prelude.{slice_get, position, if◌then◌else◌}
+use Rattle.std.proofs.Common.{Bor, ◌≡◌, ℕ, zero, suc, ◌+◌, ◌*◌, ◌^◌, ◌-◌, ◌<◌, ◌≤◌, nat_lt, nat_le, Bool, true, false, List, [], ◌++◌, length, take, get_or, Option, Some, None, refl, sym, ap, subst, ◌∙◌, arith}
+use Rattle.std.specs.Prelude.{is_some, slice_get, slice_index_or, position, if◌then◌else◌}
 use Rattle.std.specs.List.{find, flat_map, position_or_len}
-use Rattle.std.specs.Option.{option_map, option_and_then}
+use Rattle.std.specs.Option.{option_map, option_and_then, unwrap_or}
 use Rattle.std.proofs.lemmas.Bool.{ltb-true, ltb-false, lt-ltb, le-ltb}
 use Rattle.std.proofs.Math.Seq.{take-suc}
 use Rattle.std.proofs.lemmas.List.{flat_map_more}
@@ -141,6 +141,37 @@ router_missing c node at = by (is_router c node) at
     by : (b : Bool) → None ≡ (if b then Some (router_at c node) else None) → b ≡ false
     by true same = absurd (none_is_some same)
     by false same = refl
+
+-- the router of a configuration, read behind its Map-Servers; there is none before them
+module _ (c : Configuration) (node : ℕ) where
+  pub entry_read : (place : ℕ) (r : Option (Bor Router)) → length c.servers ≤ node → place ≡ node - length c.servers → is_some r ≡ nat_lt place (length c.routers)
+      → ((d : Router) → unwrap_or (option_map (λ x. x.now) r) d ≡ slice_index_or c.routers place d) → option_map (λ x. x.now) r ≡ router_in c node
+  entry_read place (Some x) behind at there gives =
+      let low = ltb-true place (length c.routers) (sym there) in
+      let second = le-ltb node (length c.servers) behind in
+      let below = lt-ltb node (length c.servers + length c.routers) (omega (arith, low, at, behind)) in
+      let is : x.now ≡ router_at c node = at_place _ in
+      ap (λ (r : Router). Some r) is ∙ sym (λ i. if (if second i then false else below i) then Some (router_at c node) else None)
+    where
+      at_place : (d : Router) → x.now ≡ slice_index_or c.routers (node - length c.servers) d
+      at_place d = gives d ∙ ap (λ (k : ℕ). slice_index_or c.routers k d) at
+  entry_read place None behind at there gives =
+      let high = ltb-false place (length c.routers) (sym there) in
+      let second = le-ltb node (length c.servers) behind in
+      let past = le-ltb node (length c.servers + length c.routers) (omega (arith, high, at, behind)) in
+      sym (λ i. if (if second i then false else past i) then Some (router_at c node) else None)
+
+  pub entry_before : node < length c.servers → None ≡ router_in c node
+  entry_before before =
+      sym (ap (λ (b : Bool). if (if b then false else nat_lt node (length c.servers + length c.routers)) then Some (router_at c node) else None) (lt-ltb node (length c.servers) before))
+
+-- as many as fit, where each takes some room; and two lists of such ones together
+few : (n size : ℕ) → 0 < size → n * size < 2 ^ 63 → n < 2 ^ 63
+few n zero some room = absurd (omega (arith, some))
+few n (suc size) some room = omega (arith, room)
+
+pub both_fit : (m n one other : ℕ) → 0 < one → 0 < other → m * one < 2 ^ 63 → n * other < 2 ^ 63 → m + n < 2 ^ 64
+both_fit m n one other some more first second = (let a = few m one some first in let b = few n other more second in omega (arith, a, b))
 
 -- a node that is missing: of the other kind, or there is none
 pub missing_wrong : (c : Configuration) (node : ℕ) (fault : WorldFault) → fault ≡ WrongKind → node < length c.servers + length c.routers → fault_text fault ≡ missing_text c node

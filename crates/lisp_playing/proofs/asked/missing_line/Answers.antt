@@ -1,7 +1,7 @@
 use Rattle.std.proofs.Common.{◌≡◌, ◌∙◌, ap, length, arith}
 use Rattle.std.proofs.lemmas.Result.{IfOk-weaker}
 use Rattle.lisp_playing.specs.Asked.{fault_text, missing_text}
-use Rattle.lisp_playing.proofs.Queries.{missing_wrong, missing_none}
+use Rattle.lisp_playing.proofs.Queries.{both_fit, missing_wrong, missing_none}
 use Rattle.lisp_playing.proofs.asked.missing_line.Goals as goal
 use Rattle.lisp_playing.proofs.asked.missing_line.Goals.{then-node-servers, else-node-servers}
 
@@ -17,4 +17,4 @@ returns-clause-text g c =
     IfOk-weaker c.fault_line.result _ _ (λ text is. is ∙ why) c.fault_line.ensures.text
 
 pub overflow_add-servers : goal.overflow_add-servers
-overflow_add-servers g c = omega arith
+overflow_add-servers g c = record { fits = both_fit (length c.servers.result.now) (length c.routers.result.now) _ _ (omega arith) (omega arith) c.servers.type_inv.1 c.routers.type_inv.1 }

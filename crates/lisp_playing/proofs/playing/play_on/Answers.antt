@@ -1,5 +1,9 @@
+use Rattle.std.proofs.Common.{List, map, subst, arith}
+use Rattle.std.proofs.lemmas.List.{length-map, take_all}
 use Rattle.std.proofs.lemmas.Result.{err_from_is_err_and}
-use Rattle.lisp_playing.proofs.Leading.{wrote_none, wrote_next, stops_next, breaks_next}
+use Rattle.lisp_script.specs.Order.{Order, order}
+use Rattle.lisp_playing.specs.Playing.{Wrote}
+use Rattle.lisp_playing.proofs.Leading.{no_fault, wrote_none, wrote_next, stops_next, breaks_next}
 use Rattle.lisp_playing.proofs.playing.play_on.Goals as goal
 
 pub loop-command-init : goal.loop-command-init
@@ -20,3 +24,18 @@ returns-in_err-play_one-clause-breaks g c =
 pub loop-command-preserved : goal.loop-command-preserved
 loop-command-preserved g c =
     wrote_next _ _ _ _ _ _ c.args.commands.now c.loop-command.command-index c.command-item.result _ _ _ c.loop-command-test.true c.command-item.is c.loop-command.invariant c.in_ok-play_one.ensures.plays
+
+pub returns-clause-plays : goal.returns-clause-plays
+returns-clause-plays g c =
+    let long = length-map c.args.commands.now order in
+    subst (λ (orders : List Order). Wrote g.row.A.Denot g.A.Memory.may_refuse c.args.world.now c.loop-command.world c.args.config.now orders (g.W.Write.contents c.args.writer.now) (g.W.Write.contents c.loop-command.writer))
+    (take_all c.loop-command.command-index (map order c.args.commands.now) (omega (arith, c.loop-command-test.false, long))) c.loop-command.invariant
+
+pub returns-clause-stops : goal.returns-clause-stops
+returns-clause-stops g c = no_fault _ _
+
+pub returns-clause-breaks : goal.returns-clause-breaks
+returns-clause-breaks g c = no_fault _ _
+
+pub returns-clause-memory : goal.returns-clause-memory
+returns-clause-memory g c = no_fault _ _

@@ -1,4 +1,5 @@
 use Rattle.std.specs.String.{string_bytes}
+use Rattle.lisp_playing.proofs.Leading.{only_write}
 use Rattle.lisp_playing.proofs.Turning.{at_ok}
 use Rattle.lisp_playing.proofs.playing.play_one.Goals as goal
 
@@ -7,3 +8,12 @@ returns-clause-plays g c = at_ok c.write_text.result _ _ (λ wrote. record { tex
 
 pub returns-clause-breaks : goal.returns-clause-breaks
 returns-clause-breaks g c = λ _. (string_bytes c.in_ok-text.text, c.in_ok-text.ensures.turns)
+
+pub returns-clause-keeps : goal.returns-clause-keeps
+returns-clause-keeps g c = only_write _ c.write_text.ensures.fault
+
+pub returns-clause-lost : goal.returns-clause-lost
+returns-clause-lost g c = only_write _ c.write_text.ensures.fault
+
+pub returns-clause-memory : goal.returns-clause-memory
+returns-clause-memory g c = only_write _ c.write_text.ensures.fault
