@@ -12,9 +12,6 @@ returns-in-Deliver g c = rw c.in-Deliver.is c.deliver.ensures
 pub returns-in-Junk : goal.returns-in-Junk
 returns-in-Junk g c = rw (c.in-Junk.is, ← c.as_slice.ensures) c.junk.ensures
 
-pub returns-in-Tick : goal.returns-in-Tick
-returns-in-Tick g c = rw c.in-Tick.is c.tick.ensures
-
 pub returns-in-Restart : goal.returns-in-Restart
 returns-in-Restart g c = rw c.in-Restart.is c.restart.ensures
 
