@@ -1,5 +1,5 @@
 -- The records of a router: a database.
-use Rattle.std.proofs.Common.{◌≡◌, List, [], ◌++◌, codes, Result, Ok, Err, refl, sym, ap, ◌∙◌}
+use Rattle.std.proofs.Common.{◌≡◌, List, [], codes, Result, Ok, Err, refl, sym, ap, ◌∙◌}
 use Rattle.toml.specs.Data.{Data}
 use Rattle.lisp_records.specs.Record.{Mapping}
 use Rattle.lisp_records.specs.Result.{◌>>=◌}

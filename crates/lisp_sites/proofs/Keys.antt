@@ -1,5 +1,6 @@
 -- Looking up and adding keys.
-use Rattle.std.proofs.Common.{◌≡◌, Bool, true, false, cond, ◌||◌, List, [], ◌∷◌, ◌++◌, refl, sym, ◌∙◌}
+use Rattle.std.proofs.Common.{◌≡◌, Bool, true, false, cond, ◌||◌, List, [], ◌∷◌, ◌++◌, Result, Ok, Err, refl, sym, ◌∙◌}
+use Rattle.std.specs.Prelude.{OnOk, OnErr}
 use Rattle.std.specs.BTreeSet.{BTreeSet, IsEmpty, IsUnchanged, Updates, contains}
 use Rattle.std.specs.List.{list_any}
 use Rattle.std.specs.Ordering.{is_eq}
@@ -32,3 +33,8 @@ module _ {X K : Type 0} (cmp : K → K → Ordering) (eq : K → K → Bool) (ke
   pub same_keys : (old new : BTreeSet K) (xs : List X) → IsUnchanged old new → AreKeys cmp eq old key xs → AreKeys cmp eq new key xs
   unfolding AreKeys
   same_keys old new xs same are k = rw same (are k)
+
+  -- whether or not an element and its key were added, the keys are those of the elements
+  pub add_keeps : {V E : Type 0} → ((a b : K) → eq a b ≡ is_eq (cmp a b)) → (r : Result V E) (old new : BTreeSet K) (xs ys : List X) (x : X) (k : K) → k ≡ key x → OnOk r ((ys ≡ xs ++ x ∷ []) × Updates cmp old new k true) → OnErr r ((ys ≡ xs) × IsUnchanged old new) → AreKeys cmp eq old key xs → AreKeys cmp eq new key ys
+  add_keeps matches (Ok v) old new xs ys x k is added same are = rw added.0 (one_more_key matches old new xs x are (rw is at added.1))
+  add_keeps matches (Err e) old new xs ys x k is added same are = rw same.0 (same_keys old new xs same.1 are)

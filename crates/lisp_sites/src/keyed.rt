@@ -1,6 +1,7 @@
 //! Elements that are told apart by keys.
 
-ghost use Rattle.std.specs.Prelude.{◌≡◌, [], ◌∷◌, ◌++◌, OnOk, IfErr};
+ghost use Rattle.std.specs.Prelude.{◌≡◌, [], ◌∷◌, ◌++◌, true, OnOk, OnErr, IfErr};
+ghost use Rattle.std.specs.BTreeSet.{Updates, IsUnchanged};
 ghost use Rattle.std.specs.List.{list_any};
 ghost use Rattle.lisp_sites.specs.declared.fault.ConfigFault.TheVariants.{OutOfMemory};
 
@@ -51,17 +52,13 @@ impl<T: HasKey, A: Allocator + Copy> Keyed<T, A> {
     }
 
     /// Adds an element behind the others.
-    #[tactic(auto)]
     pub(crate) fn push(&mut self, item: T) -> Result<(), ConfigFault>
     where
         T: Copy,
         ensures added { OnOk result (self.new ≡ self.old ++ item ∷ []) }
         ensures memory { IfErr result (λ fault. fault ≡ OutOfMemory) }
     {
-        self.items.reserve(1)?;
-        self.keys.insert(item.key())?;
-        self.items.push_reserved(item);
-        Ok(())
+        add(&mut self.items, &mut self.keys, item, item.key())
     }
 }
 
@@ -79,4 +76,21 @@ impl<T: HasKey, A: Allocator> Keyed<T, A> {
     {
         self.items
     }
+}
+
+// Adds an element and its key.
+fn add<T: Copy, K: Ord + Copy, A: Allocator + Copy>(
+    items: &mut Vec<T, A>,
+    keys: &mut BTreeSet<K, A>,
+    item: T,
+    key: K,
+) -> Result<(), ConfigFault>
+    ensures added { OnOk result ((items.new.items ≡ items.old.items ++ item ∷ []) × Updates K.cmp keys.old keys.new key true) }
+    ensures same { OnErr result ((items.new.items ≡ items.old.items) × IsUnchanged keys.old keys.new) }
+    ensures memory { IfErr result (λ fault. fault ≡ OutOfMemory) }
+{
+    items.reserve(1)?;
+    keys.insert(key)?;
+    items.push_reserved(item);
+    Ok(())
 }

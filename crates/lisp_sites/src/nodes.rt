@@ -3,6 +3,7 @@
 ghost use Rattle.std.specs.Prelude.{◌≡◌, [], ◌∷◌, ◌++◌, OnOk, IfErr, position};
 ghost use Rattle.std.specs.List.{list_any};
 ghost use Rattle.std.specs.Str.{bytes_eq};
+ghost use Rattle.lisp_sites.specs.Names.{ArePlaces};
 ghost use Rattle.lisp_sites.specs.declared.fault.ConfigFault.TheVariants.{OutOfMemory};
 
 use crate::fault::ConfigFault;
@@ -59,11 +60,7 @@ impl<N: Named, A: Allocator + Copy> Nodes<N, A> {
         ensures added { OnOk result (self.new ≡ self.old ++ node ∷ []) }
         ensures memory { IfErr result (λ fault. fault ≡ OutOfMemory) }
     {
-        self.items.reserve(1)?;
-        let name = String::from_str(alloc, node.name())?;
-        self.places.entry(name)?.or_insert(self.items.len());
-        self.items.push_reserved(node);
-        Ok(())
+        add(&mut self.items, &mut self.places, alloc, node)
     }
 }
 
@@ -89,4 +86,22 @@ impl<N: Named, A: Allocator> Nodes<N, A> {
     {
         self.items
     }
+}
+
+// Adds a node, and its place unless its name has one.
+fn add<N: Named + Drop, A: Allocator + Copy>(
+    items: &mut Vec<N, A>,
+    places: &mut BTreeMap<String<A>, usize, A>,
+    alloc: A,
+    node: N,
+) -> Result<(), ConfigFault>
+    ensures added { OnOk result (items.new.items ≡ items.old.items ++ node ∷ []) }
+    ensures placed { ArePlaces places.old N.name items.old.items → ArePlaces places.new N.name items.new.items }
+    ensures memory { IfErr result (λ fault. fault ≡ OutOfMemory) }
+{
+    items.reserve(1)?;
+    let name = String::from_str(alloc, node.name())?;
+    places.entry(name)?.or_insert(items.len());
+    items.push_reserved(node);
+    Ok(())
 }
