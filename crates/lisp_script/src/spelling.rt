@@ -66,10 +66,10 @@ fn with_one<A: Allocator, E: Allocator>(
 {
     match verb {
         Verb::Deliver => delivered(first, Ok(Fate::Done)),
-        Verb::Tick => tick(first),
-        Verb::Hold => hold(config, first),
-        Verb::Acks => acks(config, first),
-        Verb::Due => due(config, first),
+        Verb::Tick => Ok(Command::Act(Event::Tick(number(first)?))),
+        Verb::Hold => Ok(Command::Hold(server(config, first)?)),
+        Verb::Acks => Ok(Command::Acks(router(config, first)?)),
+        Verb::Due => Ok(Command::Due(node(config, first)?)),
         _ => Err(ScriptWhat::Count),
     }
 }
@@ -89,8 +89,16 @@ fn with_two<A: Allocator, E: Allocator>(
         Verb::Send => sent(config, first, second, Ok(Fate::Done)),
         Verb::Deliver => delivered(first, fate(second)),
         Verb::Notice => noticed(config, first, second, Ok(Fate::Done)),
-        Verb::Resend => resend(config, first, second),
-        Verb::Ask => ask(config, first, second),
+        Verb::Resend => {
+            let server = server(config, first)?;
+            let router = router(config, second)?;
+            Ok(Command::Act(Event::Resend { server, router }))
+        }
+        Verb::Ask => {
+            let server = server(config, first)?;
+            let addr = address(second)?;
+            Ok(Command::Ask { server, addr })
+        }
         _ => Err(ScriptWhat::Count),
     }
 }
@@ -110,7 +118,12 @@ fn with_three<A: Memory + Copy, E: Allocator>(
 {
     match verb {
         Verb::Send => sent(config, first, second, doubt(third)),
-        Verb::Junk => junk(alloc, config, first, second, third),
+        Verb::Junk => {
+            let to = node(config, first)?;
+            let from = address(second)?;
+            let bytes = bytes(alloc, third)?;
+            Ok(Command::Act(Event::Junk { to, from, bytes }))
+        }
         Verb::Notice => noticed(config, first, second, fate(third)),
         _ => Err(ScriptWhat::Count),
     }
@@ -131,33 +144,6 @@ fn change<A: Memory + Copy, E: Allocator>(
     }
 }
 
-// junk N A H
-#[tactic(auto, unfolding(crate::specs::Spelling::spelt))]
-fn junk<A: Memory + Copy, E: Allocator>(
-    alloc: A,
-    config: &Config<E>,
-    to: &str,
-    from: &str,
-    digits: &str,
-) -> Result<Command<A>, ScriptWhat>
-    ensures value { Gives order result (spelt config.now verbs.Junk (to.now ∷ from.now ∷ digits.now ∷ [])) }
-    ensures memory { IfErr result (λ what. what ≡ ScriptWhat.Memory → A.may_refuse) }
-{
-    let to = node(config, to)?;
-    let from = address(from)?;
-    let bytes = bytes(alloc, digits)?;
-    Ok(Command::Act(Event::Junk { to, from, bytes }))
-}
-
-// tick M
-#[tactic(auto, unfolding(crate::specs::Spelling::spelt))]
-fn tick<A: Allocator>(ms: &str) -> Result<Command<A>, ScriptWhat>
-    ensures value { (c : Configuration) → Reads order result (spelt c verbs.Tick (ms.now ∷ [])) }
-    ensures plain { IfErr result (λ what. what ≢ ScriptWhat.Memory) }
-{
-    Ok(Command::Act(Event::Tick(number(ms)?)))
-}
-
 // restart N P, and perhaps with a database
 fn restart<A: Memory + Copy, E: Allocator>(
     alloc: A,
@@ -172,69 +158,6 @@ fn restart<A: Memory + Copy, E: Allocator>(
         [node, pick] => restarted(config, node, pick),
         [node, pick, records @ ..] => restarted_with(alloc, config, node, pick, records),
     }
-}
-
-// resend S R
-#[tactic(auto, unfolding(crate::specs::Spelling::spelt))]
-fn resend<A: Allocator, E: Allocator>(
-    config: &Config<E>,
-    from: &str,
-    to: &str,
-) -> Result<Command<A>, ScriptWhat>
-    ensures value { Reads order result (spelt config.now verbs.Resend (from.now ∷ to.now ∷ [])) }
-    ensures plain { IfErr result (λ what. what ≢ ScriptWhat.Memory) }
-{
-    let server = server(config, from)?;
-    let router = router(config, to)?;
-    Ok(Command::Act(Event::Resend { server, router }))
-}
-
-// hold S
-#[tactic(auto, unfolding(crate::specs::Spelling::spelt))]
-fn hold<A: Allocator, E: Allocator>(
-    config: &Config<E>,
-    name: &str,
-) -> Result<Command<A>, ScriptWhat>
-    ensures value { Reads order result (spelt config.now verbs.Hold (name.now ∷ [])) }
-    ensures plain { IfErr result (λ what. what ≢ ScriptWhat.Memory) }
-{
-    Ok(Command::Hold(server(config, name)?))
-}
-
-// acks R
-#[tactic(auto, unfolding(crate::specs::Spelling::spelt))]
-fn acks<A: Allocator, E: Allocator>(
-    config: &Config<E>,
-    name: &str,
-) -> Result<Command<A>, ScriptWhat>
-    ensures value { Reads order result (spelt config.now verbs.Acks (name.now ∷ [])) }
-    ensures plain { IfErr result (λ what. what ≢ ScriptWhat.Memory) }
-{
-    Ok(Command::Acks(router(config, name)?))
-}
-
-// due N
-#[tactic(auto, unfolding(crate::specs::Spelling::spelt))]
-fn due<A: Allocator, E: Allocator>(config: &Config<E>, name: &str) -> Result<Command<A>, ScriptWhat>
-    ensures value { Reads order result (spelt config.now verbs.Due (name.now ∷ [])) }
-    ensures plain { IfErr result (λ what. what ≢ ScriptWhat.Memory) }
-{
-    Ok(Command::Due(node(config, name)?))
-}
-
-// ask S A
-#[tactic(auto, unfolding(crate::specs::Spelling::spelt))]
-fn ask<A: Allocator, E: Allocator>(
-    config: &Config<E>,
-    name: &str,
-    addr: &str,
-) -> Result<Command<A>, ScriptWhat>
-    ensures value { Reads order result (spelt config.now verbs.Ask (name.now ∷ addr.now ∷ [])) }
-    ensures plain { IfErr result (λ what. what ≢ ScriptWhat.Memory) }
-{
-    let server = server(config, name)?;
-    let addr = address(addr)?;
-    Ok(Command::Ask { server, addr })
 }
 
 // A router is given a database.
