@@ -2,14 +2,13 @@
 
 ghost use Rattle.std.specs.Prelude.{◌≡◌, ◌++◌, OnOk, OnErr};
 ghost use Rattle.std.specs.String.{string_bytes};
-ghost use Rattle.lisp_lines.specs.Carried.{carried, store_words, read_words, refused_words, carried_words};
+ghost use Rattle.lisp_lines.specs.Carried.{carried, read_words, carried_words};
 
 use lisp_etr::{NotifyFault, SendFault, StartFault};
 use lisp_memory::{FallibleString, Memory};
 use lisp_messages::ReadFault;
 use lisp_schedules::Refusal;
 use lisp_server::{NoticeFault, Refused};
-use lisp_store::StoreFault;
 use std::alloc::AllocError;
 
 /// Appends what a refusal carries: ` read F`, for a record with ` record I fault F` behind it; ` record I` for
@@ -20,26 +19,18 @@ pub fn put_carried<A: Memory>(text: &mut String<A>, refusal: &Refusal) -> Result
     ensures memory { OnErr result A.may_refuse }
 {
     match refusal {
-        Refusal::Notify(NotifyFault::Read(fault)) => put_read(text, fault),
+        Refusal::Notify(NotifyFault::Read(fault)) | Refusal::Receive(Refused::Read(fault)) => {
+            put_read(text, fault)
+        }
         Refusal::Notify(NotifyFault::Stale { latest }) => put_number(text, "latest", *latest),
-        Refusal::Receive(refused) => put_refused(text, refused),
-        Refusal::Send(SendFault::Store(fault))
+        Refusal::Receive(Refused::NotAllowed(place)) => put_number(text, "record", *place as u64),
+        Refusal::Receive(Refused::Replay { saved }) => put_number(text, "saved", *saved),
+        Refusal::Receive(Refused::StoreLoad(fault) | Refused::StoreSave(fault))
+        | Refusal::Send(SendFault::Store(fault))
         | Refusal::Notice(NoticeFault::StoreLoad(fault) | NoticeFault::StoreSave(fault))
-        | Refusal::Start(StartFault::Store(fault)) => put_store(text, *fault),
-        _ => Ok(()),
-    }
-}
-
-// Appends what the refusal of a Map-Server carries. Out of memory, it may leave a part of it.
-fn put_refused<A: Memory>(text: &mut String<A>, refused: &Refused) -> Result<(), AllocError>
-    ensures text { OnOk result (string_bytes text.new ≡ string_bytes text.old ++ refused_words refused.now) }
-    ensures memory { OnErr result A.may_refuse }
-{
-    match refused {
-        Refused::Read(fault) => put_read(text, fault),
-        Refused::NotAllowed(place) => put_number(text, "record", *place as u64),
-        Refused::StoreLoad(fault) | Refused::StoreSave(fault) => put_store(text, *fault),
-        Refused::Replay { saved } => put_number(text, "saved", *saved),
+        | Refusal::Start(StartFault::Store(fault)) => {
+            put_number(text, "store", u64::from(fault.number()))
+        }
         _ => Ok(()),
     }
 }
@@ -58,14 +49,6 @@ fn put_read<A: Memory>(text: &mut String<A>, fault: &ReadFault) -> Result<(), Al
         }
         _ => put_number(text, "read", u64::from(read)),
     }
-}
-
-// Appends the fault of a store. Out of memory, it may leave a part of it.
-fn put_store<A: Memory>(text: &mut String<A>, fault: StoreFault) -> Result<(), AllocError>
-    ensures text { OnOk result (string_bytes text.new ≡ string_bytes text.old ++ store_words fault) }
-    ensures memory { OnErr result A.may_refuse }
-{
-    put_number(text, "store", u64::from(fault.number()))
 }
 
 /// Appends a number, behind what it is. Out of memory, it may leave a part of it.

@@ -44,7 +44,10 @@ fn put_line<A: Memory, E: Allocator>(
     text.try_write(verb(line))?;
     put_nodes(text, config, line)?;
     put_details(text, line)?;
-    put_datagram(text, place, datagram(line))
+    match datagram(line) {
+        Some(datagram) if place => put_number(text, "datagram", datagram as u64),
+        _ => Ok(()),
+    }
 }
 
 // The first word of a line.
@@ -134,21 +137,6 @@ fn datagram(line: &Line) -> Option<usize>
         | Line::Resent { datagram, .. } => Some(*datagram),
         Line::Accepted { datagram, .. } => *datagram,
         _ => None,
-    }
-}
-
-// Appends the place of a datagram, where it is to be shown. Out of memory, it may leave a part of it.
-fn put_datagram<A: Memory>(
-    text: &mut String<A>,
-    place: bool,
-    datagram: Option<usize>,
-) -> Result<(), AllocError>
-    ensures text { OnOk result (string_bytes text.new ≡ string_bytes text.old ++ datagram_text place datagram) }
-    ensures memory { OnErr result A.may_refuse }
-{
-    match datagram {
-        Some(datagram) if place => put_number(text, "datagram", datagram as u64),
-        _ => Ok(()),
     }
 }
 
