@@ -6,13 +6,13 @@ use Rattle.std.specs.List.{Contains}
 use Rattle.lisp_records.specs.declared.address.Addr.{Addr}
 use Rattle.lisp_records.specs.declared.router.RouterId.{RouterId}
 use Rattle.lisp_served.specs.Site.{SiteEntry}
-use Rattle.lisp_store.specs.declared.fault.StoreFault.{StoreFault}
-use Rattle.lisp_store.specs.declared.fault.StoreFault.TheVariants as faults
-use Rattle.lisp_store.specs.declared.pair.Pair.{Pair}
-use Rattle.lisp_store.specs.Pair.{pair_cmp}
-use Rattle.lisp_store.specs.Kept.{kept_at}
-use Rattle.lisp_store.specs.Memory.{memory_state}
-use Rattle.lisp_store.specs.Store.{StoreState, Rose, Proceeds}
+use Rattle.lisp_nonces.specs.declared.fault.StoreFault.{StoreFault}
+use Rattle.lisp_nonces.specs.declared.fault.StoreFault.TheVariants as faults
+use Rattle.lisp_nonces.specs.declared.pair.Pair.{Pair}
+use Rattle.lisp_nonces.specs.Pair.{pair_cmp}
+use Rattle.lisp_nonces.specs.Kept.{kept_at}
+use Rattle.lisp_nonces.specs.Memory.{memory_state}
+use Rattle.lisp_nonces.specs.Store.{StoreState, Rose, Proceeds}
 use Rattle.std.specs.Result.{IsErrOf}
 use Rattle.lisp_messages.specs.Message.{Registration, Said, Registers, Notifies, Notification}
 use Rattle.lisp_messages.specs.Reading.{HasHead, message_at}

@@ -2,8 +2,8 @@
 use Rattle.std.specs.Prelude.{List, []}
 use Rattle.std.specs.FinMap.{empty}
 use Rattle.lisp_served.specs.Site.{SiteEntry}
-use Rattle.lisp_store.specs.declared.fate.Fate.TheVariants.{Done}
-use Rattle.lisp_store.specs.Memory.{Memory}
+use Rattle.lisp_nonces.specs.declared.fate.Fate.TheVariants.{Done}
+use Rattle.lisp_nonces.specs.Memory.{Memory}
 use Rattle.lisp_server.specs.Server.{ServerState}
 
 abbrev pub fresh_server : List SiteEntry → ServerState

@@ -9,7 +9,7 @@ use lisp_memory::Memory;
 use lisp_records::{Addr, Bytes};
 use lisp_served::Sites;
 use lisp_server::{Refused, Server};
-use lisp_store::MemoryStore;
+use lisp_nonces::MemoryStore;
 
 /// Where the datagram is said to come from: no answer shows it.
 const SOURCE: Addr = Addr::V4([127, 0, 0, 1]);

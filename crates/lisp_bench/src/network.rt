@@ -8,7 +8,7 @@ use lisp_messages::{MapRegister, write_register};
 use lisp_records::{Addr, Prefix};
 use lisp_served::Sites;
 use lisp_server::Server;
-use lisp_store::{MemoryStore, NonceStore};
+use lisp_nonces::{MemoryStore, NonceStore};
 use std::alloc::{AllocError, Global};
 use std::rt::Clock;
 

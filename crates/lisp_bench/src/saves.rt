@@ -6,7 +6,7 @@ ghost use Rattle.std.specs.Prelude.{false};
 use lisp_etr::{Etr, EtrConfig, Servers};
 use lisp_hmac::Key;
 use lisp_records::{Addr, Database, RouterId};
-use lisp_store::{NonceStore, Pair, StoreFault};
+use lisp_nonces::{NonceStore, Pair, StoreFault};
 use std::alloc::{AllocError, Global};
 
 /// How many Map-Registers are sent.

@@ -1,11 +1,11 @@
 -- Nonces that are checked against a store, and saved in it (RFC 9301 sections 5.6 and 5.7).
 use Rattle.std.specs.Prelude.{◌≡◌, ◌≢◌, ◌+◌, ◌-◌, ◌^◌, ◌<◌, ◌≤◌, max, ℕ, Option, Some, None, IfSome, IsTrue}
 use Rattle.std.specs.List.{Contains}
-use Rattle.lisp_store.specs.declared.pair.Pair.{Pair}
-use Rattle.lisp_store.specs.declared.fault.StoreFault.{StoreFault}
-use Rattle.lisp_store.specs.declared.fault.StoreFault.TheVariants as faults
-use Rattle.lisp_store.specs.Kept.{kept_at, number, InDoubt}
-use Rattle.lisp_store.specs.Store.{StoreState, Rose}
+use Rattle.lisp_nonces.specs.declared.pair.Pair.{Pair}
+use Rattle.lisp_nonces.specs.declared.fault.StoreFault.{StoreFault}
+use Rattle.lisp_nonces.specs.declared.fault.StoreFault.TheVariants as faults
+use Rattle.lisp_nonces.specs.Kept.{kept_at, number, InDoubt}
+use Rattle.lisp_nonces.specs.Store.{StoreState, Rose}
 use Rattle.lisp_checks.specs.declared.refused.Refused.{Refused}
 use Rattle.lisp_checks.specs.declared.refused.Refused.TheVariants.{StoreLoad, Replay, StoreSave}
 use Rattle.lisp_checks.specs.declared.notice_fault.NoticeFault.{NoticeFault}

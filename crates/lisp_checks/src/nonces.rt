@@ -1,9 +1,9 @@
 //! Nonces that are checked against the store, and saved in it.
 
 ghost use Rattle.std.specs.Prelude.{◌≡◌, ◌-◌, ◌^◌, [], ◌∷◌, Some, IsTrue, IfOk, IfErr, IsErrOf, OnOk};
-ghost use Rattle.lisp_store.specs.declared.fault.StoreFault.{StoreFault};
-ghost use Rattle.lisp_store.specs.Kept.{kept_at, SameElsewhere};
-ghost use Rattle.lisp_store.specs.Store.{Proceeds};
+ghost use Rattle.lisp_nonces.specs.declared.fault.StoreFault.{StoreFault};
+ghost use Rattle.lisp_nonces.specs.Kept.{kept_at, SameElsewhere};
+ghost use Rattle.lisp_nonces.specs.Store.{Proceeds};
 ghost use Rattle.lisp_checks.specs.Nonces.{Follows, FollowsNone, NoticeNotKept, IsBase, IsBelow, IsFresh, IsReplay, IsUnspent, KeepsLists, nonce_after, Unasked, Unknown, Stops, NotKept};
 ghost use Rattle.lisp_checks.specs.Pairs.{notice_pair};
 ghost use Rattle.lisp_checks.specs.declared.refused.Refused.{Refused};
@@ -12,7 +12,7 @@ ghost use Rattle.lisp_checks.specs.declared.notice_fault.NoticeFault.{NoticeFaul
 use crate::notice_fault::NoticeFault;
 use crate::pairs::NOTICES;
 use crate::refused::Refused;
-use lisp_store::{FIRST_NOTICE_NONCE, NonceStore, Pair, StoreFault};
+use lisp_nonces::{FIRST_NOTICE_NONCE, NonceStore, Pair, StoreFault};
 
 // The last nonce of a pair: the one in memory, or where there is none the one that the store loads.
 fn last_nonce<S: NonceStore>(

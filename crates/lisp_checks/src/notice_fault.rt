@@ -4,7 +4,7 @@ ghost use Rattle.std.specs.Prelude.{◌≡◌};
 ghost use Rattle.lisp_checks.specs.NoticeFault.{notice_fault_number};
 ghost use Rattle.lisp_checks.specs.declared.notice_fault.NoticeFault.TheVariants.{OutOfMemory};
 
-use lisp_store::StoreFault;
+use lisp_nonces::StoreFault;
 use std::alloc::{AllocError, AllocFailed};
 use thiserror::Error;
 

@@ -5,7 +5,7 @@ ghost use Rattle.lisp_checks.specs.Pairs.{router_of, pair_of};
 
 use lisp_messages::MapRegister;
 use lisp_records::RouterId;
-use lisp_store::{Pair, PairKind};
+use lisp_nonces::{Pair, PairKind};
 use std::alloc::Allocator;
 
 /// The pair of the nonces of all notices.

@@ -5,7 +5,7 @@ ghost use Rattle.lisp_checks.specs.Refused.{refused_number, refused_of_read};
 ghost use Rattle.lisp_checks.specs.declared.refused.Refused.TheVariants.{OutOfMemory};
 
 use lisp_messages::ReadFault;
-use lisp_store::StoreFault;
+use lisp_nonces::StoreFault;
 use std::alloc::{AllocError, AllocFailed};
 use thiserror::Error;
 

@@ -1,7 +1,7 @@
 //! What a client asks of a network, and what it is promised of the answers.
 
 ghost use Rattle.std.specs.Prelude.{◌≡◌, List, IfOk, IfSome, length, map};
-ghost use Rattle.lisp_store.specs.Memory.{memory_state};
+ghost use Rattle.lisp_nonces.specs.Memory.{memory_state};
 ghost use Rattle.lisp_sites.specs.Configuration.{Configuration};
 ghost use Rattle.lisp_schedules.specs.Trace.{Happening, happening};
 ghost use Rattle.lisp_world.specs.Quiet.{AllHonest};
@@ -11,7 +11,7 @@ use lisp_memory::{FallibleVec, Memory};
 use lisp_records::Row;
 use lisp_schedules::Event;
 use lisp_sites::Config;
-use lisp_store::MemoryStore;
+use lisp_nonces::MemoryStore;
 use lisp_world::World;
 use std::alloc::{AllocError, Allocator, Global};
 

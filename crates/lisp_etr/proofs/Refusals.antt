@@ -1,8 +1,8 @@
 -- What a send and a start answer, and what they don't.
 use Rattle.std.proofs.Common.{◌≡◌, ◌≢◌, ◌↔◌, ℕ, Bool, true, false, Result, Ok, Err, IfErr, refl, sym, ap, subst, true≢false}
-use Rattle.lisp_store.specs.declared.fault.StoreFault.{StoreFault}
-use Rattle.lisp_store.specs.declared.fault.StoreFault.TheVariants.{Device, Damaged}
-use Rattle.lisp_store.specs.declared.fault.StoreFault.TheVariants as full
+use Rattle.lisp_nonces.specs.declared.fault.StoreFault.{StoreFault}
+use Rattle.lisp_nonces.specs.declared.fault.StoreFault.TheVariants.{Device, Damaged}
+use Rattle.lisp_nonces.specs.declared.fault.StoreFault.TheVariants as full
 use Rattle.lisp_etr.specs.declared.start_fault.StartFault.{StartFault}
 use Rattle.lisp_etr.specs.declared.start_fault.StartFault.TheVariants as starts
 use Rattle.lisp_etr.specs.declared.send_fault.SendFault.{SendFault}

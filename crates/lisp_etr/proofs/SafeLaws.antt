@@ -2,7 +2,7 @@
 use Rattle.std.proofs.Common.{◌≡◌, ◌⊎◌, inl, inr, ℕ, zero, suc, ◌≤◌, List, [], ◌∷◌, Option, Some, subst, arith}
 use Rattle.std.specs.List.{Contains}
 use Rattle.std.proofs.lemmas.List.Elements.{Contains-push_cases}
-use Rattle.lisp_store.specs.Kept.{number, InDoubt, NoneBelow}
+use Rattle.lisp_nonces.specs.Kept.{number, InDoubt, NoneBelow}
 
 -- what was below no value is below none of a list to which a number above it may have been added
 pub none_below : (n m : ℕ) (old new : List (Option ℕ)) → n ≤ m → InDoubt old new m → NoneBelow n old → NoneBelow n new

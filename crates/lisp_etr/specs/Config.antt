@@ -2,8 +2,8 @@
 use Rattle.std.specs.Prelude.{ℕ, Bool, List}
 use Rattle.lisp_records.specs.declared.address.Addr.{Addr}
 use Rattle.lisp_records.specs.declared.router.RouterId.{RouterId}
-use Rattle.lisp_store.specs.declared.pair.Pair.{Pair}
-use Rattle.lisp_store.specs.declared.pair.PairKind.TheVariants.{Sent}
+use Rattle.lisp_nonces.specs.declared.pair.Pair.{Pair}
+use Rattle.lisp_nonces.specs.declared.pair.PairKind.TheVariants.{Sent}
 
 -- its site and xTR-ID; its key and the secret of it; its Map-Servers; P and T; how many nonces one save serves
 pub record Settings : Type 0 where

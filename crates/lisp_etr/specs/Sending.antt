@@ -4,7 +4,7 @@ use Rattle.lisp_records.specs.Record.{Mapping}
 use Rattle.lisp_messages.specs.Message.{Registration}
 use Rattle.lisp_messages.specs.Authentic.{signed}
 use Rattle.lisp_messages.specs.Written.{written_register}
-use Rattle.lisp_store.specs.Kept.{InDoubt}
+use Rattle.lisp_nonces.specs.Kept.{InDoubt}
 use Rattle.lisp_etr.specs.Config.{Settings}
 use Rattle.lisp_etr.specs.Round.{started, sent}
 use Rattle.lisp_etr.specs.Etr.{EtrState}

@@ -6,7 +6,7 @@ ghost use Rattle.lisp_etr.specs.Config.{sent_pair};
 use crate::servers::Servers;
 use lisp_hmac::Key;
 use lisp_records::RouterId;
-use lisp_store::{Pair, PairKind};
+use lisp_nonces::{Pair, PairKind};
 use std::alloc::{Allocator, Global};
 use std::marker::Model;
 

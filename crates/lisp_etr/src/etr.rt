@@ -2,9 +2,9 @@
 
 ghost use Rattle.std.specs.Prelude.{◌≡◌, ◌≢◌, ◌↔◌, ◌≤◌, ◌<◌, ◌+◌, ℕ, List, Some, Ok, Err, IsTrue, IfOk, IfErr, IfSome, OnOk, OnErr, IsErrOf, length, map, nat_le, position, slice_get};
 ghost use Rattle.std.specs.Option.{option_and_then};
-ghost use Rattle.lisp_store.specs.Kept.{kept_at, IsKept, NoneBelow, SameElsewhere};
-ghost use Rattle.lisp_store.specs.Store.{Rose, Proceeds};
-ghost use Rattle.lisp_store.specs.declared.fault.StoreFault.{StoreFault};
+ghost use Rattle.lisp_nonces.specs.Kept.{kept_at, IsKept, NoneBelow, SameElsewhere};
+ghost use Rattle.lisp_nonces.specs.Store.{Rose, Proceeds};
+ghost use Rattle.lisp_nonces.specs.declared.fault.StoreFault.{StoreFault};
 ghost use Rattle.lisp_messages.specs.Message.{IsRegistration};
 ghost use Rattle.lisp_messages.specs.Reading.{kind_at};
 ghost use Rattle.lisp_messages.specs.declared.fault.ReadFault.{ReadFault};
@@ -30,7 +30,7 @@ use crate::start_fault::{StartFault, StartRefused};
 use lisp_memory::{FallibleCopies, Memory};
 use lisp_messages::{MapNotify, write_notify};
 use lisp_records::{Addr, Bytes, Database};
-use lisp_store::{FIRST_NOTICE_NONCE, LAST_ROUTER_NONCE, NonceStore};
+use lisp_nonces::{FIRST_NOTICE_NONCE, LAST_ROUTER_NONCE, NonceStore};
 use std::alloc::{Allocator, Global};
 use std::marker::Model;
 

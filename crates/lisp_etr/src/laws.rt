@@ -4,8 +4,8 @@
 ghost use Rattle.std.specs.Prelude.{◌≡◌, ◌<◌, ◌≤◌, ◌⊎◌, IfErr, IsOk, length};
 ghost use Rattle.lisp_records.specs.Moment.{max_moment};
 ghost use Rattle.lisp_records.specs.Result.{Reads};
-ghost use Rattle.lisp_store.specs.Store.{Rose};
-ghost use Rattle.lisp_store.specs.declared.fault.StoreFault.{StoreFault};
+ghost use Rattle.lisp_nonces.specs.Store.{Rose};
+ghost use Rattle.lisp_nonces.specs.declared.fault.StoreFault.{StoreFault};
 ghost use Rattle.lisp_etr.specs.Timers.{PromptSends};
 ghost use Rattle.lisp_etr.specs.Round.{KeepsTime};
 ghost use Rattle.lisp_etr.specs.Sending.{last_nonce};
@@ -18,7 +18,7 @@ use crate::seen::Seen;
 use crate::send_fault::SendFault;
 use lisp_memory::Memory;
 use lisp_records::Addr;
-use lisp_store::NonceStore;
+use lisp_nonces::NonceStore;
 
 /// Sends that are made when due, without changes or acknowledgements, are at 2^k - 1 s after a round's
 /// beginning for k up to 6, and at 63 + 60 (k - 6) s from there.

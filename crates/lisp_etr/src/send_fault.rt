@@ -4,7 +4,7 @@ ghost use Rattle.std.specs.Prelude.{◌≡◌};
 ghost use Rattle.lisp_etr.specs.Faults.{send_fault_number};
 ghost use Rattle.lisp_etr.specs.declared.send_fault.SendFault.TheVariants.{OutOfMemory};
 
-use lisp_store::StoreFault;
+use lisp_nonces::StoreFault;
 use std::alloc::AllocError;
 use thiserror::Error;
 

@@ -1,9 +1,9 @@
 //! The Map-Registers of a router.
 
 ghost use Rattle.std.specs.Prelude.{◌≡◌, ◌≢◌, ◌≤◌, IsTrue, IfOk, IfErr, IsErrOf, OnErr, OnOk};
-ghost use Rattle.lisp_store.specs.Kept.{kept_at, NoneBelow, SameElsewhere};
-ghost use Rattle.lisp_store.specs.Store.{Rose, Proceeds};
-ghost use Rattle.lisp_store.specs.declared.fault.StoreFault.{StoreFault};
+ghost use Rattle.lisp_nonces.specs.Kept.{kept_at, NoneBelow, SameElsewhere};
+ghost use Rattle.lisp_nonces.specs.Store.{Rose, Proceeds};
+ghost use Rattle.lisp_nonces.specs.declared.fault.StoreFault.{StoreFault};
 ghost use Rattle.lisp_messages.specs.Message.{IsRegistration};
 ghost use Rattle.lisp_etr.specs.Config.{sent_pair};
 ghost use Rattle.lisp_etr.specs.Sending.{last_nonce, datagram_of, registration_of, IsBound, Settles, LeavesPair};
@@ -14,7 +14,7 @@ use crate::send_fault::SendFault;
 use lisp_memory::Memory;
 use lisp_messages::{MapRegister, write_register};
 use lisp_records::Database;
-use lisp_store::{LAST_ROUTER_NONCE, MAX_NONCE_BLOCK, NonceStore};
+use lisp_nonces::{LAST_ROUTER_NONCE, MAX_NONCE_BLOCK, NonceStore};
 use std::alloc::{AllocError, Allocator};
 
 /// The bytes of the Map-Register of a database under a nonce (RFC 9301 section 5.6).

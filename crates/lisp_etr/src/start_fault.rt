@@ -5,7 +5,7 @@ ghost use Rattle.lisp_etr.specs.Faults.{start_fault_number};
 
 use crate::config::EtrConfig;
 use lisp_records::Database;
-use lisp_store::StoreFault;
+use lisp_nonces::StoreFault;
 use std::alloc::{Allocator, Global};
 use thiserror::Error;
 

@@ -5,8 +5,8 @@ use Rattle.lisp_records.specs.Fault.{fault_number as record_fault_number}
 use Rattle.lisp_messages.specs.Fault.{fault_number as read_fault_number}
 use Rattle.lisp_messages.specs.declared.fault.ReadFault.{ReadFault}
 use Rattle.lisp_messages.specs.declared.fault.ReadFault.TheVariants as reads
-use Rattle.lisp_store.specs.Fault.{fault_number as store_fault_number}
-use Rattle.lisp_store.specs.declared.fault.StoreFault.{StoreFault}
+use Rattle.lisp_nonces.specs.Fault.{fault_number as store_fault_number}
+use Rattle.lisp_nonces.specs.declared.fault.StoreFault.{StoreFault}
 use Rattle.lisp_etr.specs.declared.send_fault.SendFault.TheVariants as sends
 use Rattle.lisp_etr.specs.declared.notify_fault.NotifyFault.TheVariants as notifies
 use Rattle.lisp_etr.specs.declared.start_fault.StartFault.TheVariants as starts

@@ -2,9 +2,9 @@
 use Rattle.std.proofs.Common.{◌≡◌, ℕ, true, List, Result, Ok, Err, refl, sym, ap, subst, ◌∙◌, length}
 use Rattle.std.specs.Prelude.{IsErrOf}
 use Rattle.lisp_records.specs.declared.address.Addr.{Addr}
-use Rattle.lisp_store.specs.declared.fate.Fate.{Fate}
-use Rattle.lisp_store.specs.declared.fault.StoreFault.{StoreFault}
-use Rattle.lisp_store.specs.declared.fault.StoreFault.TheVariants as stores
+use Rattle.lisp_nonces.specs.declared.fate.Fate.{Fate}
+use Rattle.lisp_nonces.specs.declared.fault.StoreFault.{StoreFault}
+use Rattle.lisp_nonces.specs.declared.fault.StoreFault.TheVariants as stores
 use Rattle.lisp_etr.specs.Config.{Settings}
 use Rattle.lisp_etr.specs.Etr.{EtrState}
 use Rattle.lisp_etr.specs.Hearing.{after}

@@ -5,7 +5,7 @@ use Rattle.lisp_records.specs.Reading.{number_at}
 use Rattle.lisp_records.specs.Result.{◌>>=◌}
 use Rattle.lisp_messages.specs.declared.kind.Kind.{Kind}
 use Rattle.lisp_messages.specs.declared.kind.Kind.TheVariants as kinds
-use Rattle.lisp_store.specs.Store.{StoreState, Proceeds}
+use Rattle.lisp_nonces.specs.Store.{StoreState, Proceeds}
 use Rattle.std.proofs.lemmas.Bool.{cases_lt}
 use Rattle.lisp_messages.specs.Reading.{HasHead, kind_at, after, require, kind_of}
 use Rattle.lisp_messages.specs.declared.fault.ReadFault.{ReadFault}

@@ -6,8 +6,8 @@ use Rattle.std.proofs.lemmas.Option.{slice_get_read}
 use Rattle.lisp_records.specs.Record.{Mapping}
 use Rattle.lisp_messages.specs.Head.{head_at}
 use Rattle.lisp_messages.specs.Message.{Registers}
-use Rattle.lisp_store.specs.declared.fate.Fate.{Fate}
-use Rattle.lisp_store.specs.Store.{StoreState}
+use Rattle.lisp_nonces.specs.declared.fate.Fate.{Fate}
+use Rattle.lisp_nonces.specs.Store.{StoreState}
 use Rattle.lisp_etr.specs.Etr.{EtrState}
 use Rattle.lisp_etr.specs.Sending.{registration_of}
 use Rattle.lisp_etr.specs.declared.send_fault.SendFault.{SendFault}

@@ -7,7 +7,7 @@ use Rattle.lisp_records.specs.declared.router.RouterId.{RouterId}
 use Rattle.lisp_messages.specs.declared.head.Head.{Head}
 use Rattle.lisp_messages.specs.Head.{head_at}
 use Rattle.lisp_messages.specs.Message.{Notifies}
-use Rattle.lisp_store.specs.Store.{StoreState}
+use Rattle.lisp_nonces.specs.Store.{StoreState}
 use Rattle.lisp_checks.specs.Nonces.{nonce_after}
 use Rattle.lisp_server.specs.SendNotice.{Announces, notice_of}
 use Rattle.lisp_server.specs.Server.{ServerState}

@@ -2,7 +2,7 @@
 
 ghost use Rattle.lisp_turns.specs.Calls.{Arms};
 
-use lisp_store::{Fate, WorldStore};
+use lisp_nonces::{Fate, WorldStore};
 
 // Arms a store for the call of an event; with `Done` after it.
 pub(crate) fn arm<S: WorldStore>(store: &mut S, fate: Fate)

@@ -20,7 +20,7 @@ use lisp_memory::Memory;
 use lisp_records::{Addr, Bytes};
 use lisp_schedules::{Line, Refusal};
 use lisp_server::Took;
-use lisp_store::{Fate, WorldStore};
+use lisp_nonces::{Fate, WorldStore};
 use std::alloc::Allocator;
 
 /// How bytes arrive at a node.

@@ -3,7 +3,7 @@
 ghost use Rattle.std.specs.Prelude.{◌≡◌, ◌≤◌, None, false, IfSome, IsErrOf, ◌==◌, position};
 ghost use Rattle.std.specs.Option.{unwrap_or, option_map};
 ghost use Rattle.lisp_records.specs.Moment.{max_moment};
-ghost use Rattle.lisp_store.specs.declared.fault.StoreFault.{StoreFault};
+ghost use Rattle.lisp_nonces.specs.declared.fault.StoreFault.{StoreFault};
 ghost use Rattle.lisp_etr.specs.declared.notify_fault.NotifyFault.{NotifyFault};
 ghost use Rattle.lisp_etr.specs.declared.send_fault.SendFault.{SendFault};
 ghost use Rattle.lisp_etr.specs.declared.start_fault.StartFault.{StartFault};
@@ -20,7 +20,7 @@ use lisp_etr::{Etr, EtrConfig, NotifyFault, Seen, SendFault, StartFault, StartRe
 use lisp_memory::Memory;
 use lisp_records::{Addr, Bytes, Database, RouterId};
 use lisp_sites::Places;
-use lisp_store::{Fate, WorldStore};
+use lisp_nonces::{Fate, WorldStore};
 use std::alloc::{Allocator, Global};
 use std::marker::Model;
 
@@ -49,7 +49,7 @@ pub struct Start<A: Allocator = Global> {
 impl<S: WorldStore, A: Allocator> Model for RouterNode<S, A> {
     ghost use Rattle.std.specs.Prelude.{◌≡◌};
     ghost use Rattle.std.specs.Coded.{codes};
-    ghost use Rattle.lisp_store.specs.Kept.{kept_code};
+    ghost use Rattle.lisp_nonces.specs.Kept.{kept_code};
     ghost use Rattle.lisp_turns.specs.Calls.{config_of};
     ghost use Rattle.lisp_nodes.specs.Cores.{core_of};
     ghost use Rattle.lisp_turns.specs.World.{RouterNode};

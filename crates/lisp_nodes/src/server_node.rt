@@ -3,7 +3,7 @@
 ghost use Rattle.std.specs.Prelude.{◌≡◌, ◌≤◌, [], IsErrOf};
 ghost use Rattle.std.specs.FinMap.{empty};
 ghost use Rattle.lisp_records.specs.Moment.{max_moment};
-ghost use Rattle.lisp_store.specs.declared.fault.StoreFault.{StoreFault};
+ghost use Rattle.lisp_nonces.specs.declared.fault.StoreFault.{StoreFault};
 ghost use Rattle.lisp_checks.specs.declared.refused.Refused.{Refused};
 ghost use Rattle.lisp_checks.specs.declared.notice_fault.NoticeFault.{NoticeFault};
 ghost use Rattle.lisp_turns.specs.Calls.{Receives, Notifies, Restarts};
@@ -15,7 +15,7 @@ use lisp_memory::Memory;
 use lisp_records::{Addr, Bytes, RouterId};
 use lisp_served::Sites;
 use lisp_server::{NoticeFault, Refused, Server, Took};
-use lisp_store::{Fate, WorldStore};
+use lisp_nonces::{Fate, WorldStore};
 use std::alloc::{Allocator, Global};
 use std::marker::Model;
 
@@ -28,7 +28,7 @@ pub struct ServerNode<S: WorldStore, A: Allocator = Global> {
 
 impl<S: WorldStore, A: Allocator> Model for ServerNode<S, A> {
     ghost use Rattle.std.specs.Coded.{codes};
-    ghost use Rattle.lisp_store.specs.Kept.{kept_code};
+    ghost use Rattle.lisp_nonces.specs.Kept.{kept_code};
     ghost use Rattle.lisp_server.specs.LastNonces.{nonces_code};
     ghost use Rattle.lisp_turns.specs.World.{ServerNode};
 

@@ -6,9 +6,9 @@ use Rattle.std.specs.Io.KnownBytes.{Keeps}
 use Rattle.std.specs.FinMap.{empty}
 use Rattle.std.specs.List.{AllByRecursion}
 use Rattle.lisp_records.specs.Result.{◌>>=◌}
-use Rattle.lisp_store.specs.Memory.{Memory, memory_state}
-use Rattle.lisp_store.specs.Store.{StoreState}
-use Rattle.lisp_store.specs.declared.fate.Fate.TheVariants.{Done}
+use Rattle.lisp_nonces.specs.Memory.{Memory, memory_state}
+use Rattle.lisp_nonces.specs.Store.{StoreState}
+use Rattle.lisp_nonces.specs.declared.fate.Fate.TheVariants.{Done}
 use Rattle.lisp_sites.specs.Configuration.{Configuration}
 use Rattle.lisp_turns.specs.World.{WorldState}
 use Rattle.lisp_turns.specs.Stands.{Stands}

@@ -3,7 +3,7 @@
 ghost use Rattle.std.specs.Prelude.{◌≡◌, ◌≢◌, ◌⊎◌, ◌↔◌, ℕ, true, false, take, map, replicate, Ok, Err, OnOk, OnErr, IfOk, IfErr, IfSome, IsErrOf};
 ghost use Rattle.std.specs.FinMap.{empty};
 ghost use Rattle.std.specs.Io.KnownBytes.{Keeps};
-ghost use Rattle.lisp_store.specs.declared.fate.Fate.TheVariants.{Done};
+ghost use Rattle.lisp_nonces.specs.declared.fate.Fate.TheVariants.{Done};
 ghost use Rattle.lisp_world.specs.Openings.{repeats};
 ghost use Rattle.lisp_schedules.specs.declared.world_fault.WorldFault.{WorldFault};
 ghost use Rattle.lisp_script.specs.Order.{order};
@@ -13,7 +13,7 @@ ghost use Rattle.lisp_streams.specs.declared.play_fault.PlayFault.TheVariants as
 use lisp_memory::{FallibleVec, Memory};
 use lisp_playing::{Command, PlayFault, play_on};
 use lisp_sites::Config;
-use lisp_store::MemoryStore;
+use lisp_nonces::MemoryStore;
 use lisp_streams::{read_schedule, read_to_end};
 use lisp_world::World;
 use std::alloc::{AllocError, Allocator, Global};

@@ -4,7 +4,7 @@ use Rattle.std.specs.Prelude.{slice_get}
 use Rattle.std.specs.Option.{option_map}
 use Rattle.std.proofs.lemmas.List.{length-append, length-map}
 use Rattle.std.proofs.lemmas.Option.{slice_get-map}
-use Rattle.lisp_store.specs.Store.{StoreState}
+use Rattle.lisp_nonces.specs.Store.{StoreState}
 use Rattle.lisp_schedules.specs.Trace.{Step, Opening, addresses, shown}
 use Rattle.lisp_turns.specs.World.{ServerNode, RouterNode, WorldState}
 use Rattle.lisp_turns.specs.Stands.{Stands}

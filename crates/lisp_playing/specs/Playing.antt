@@ -1,7 +1,7 @@
 -- What commands print: the text of a legal trace, a line for each event, and the lines of each query.
 use Rattle.std.specs.Prelude.{◌≡◌, ◌⊎◌, ℕ, ◌<◌, true, List, [], ◌∷◌, ◌++◌, length, take, slice_get, Option, Some}
 use Rattle.std.specs.Io.KnownBytes.{Appends}
-use Rattle.lisp_store.specs.declared.fate.Fate.TheVariants.{Done}
+use Rattle.lisp_nonces.specs.declared.fate.Fate.TheVariants.{Done}
 use Rattle.lisp_schedules.specs.Trace.{Happening, Step, Opening, addresses, shown}
 use Rattle.lisp_schedules.specs.Legal.{Legal}
 use Rattle.lisp_turns.specs.World.{WorldState}

@@ -13,7 +13,7 @@ use lisp_memory::{FallibleString, Memory};
 use lisp_records::Addr;
 use lisp_schedules::Line;
 use lisp_sites::{Config, RouterEntry};
-use lisp_store::WorldStore;
+use lisp_nonces::WorldStore;
 use lisp_world::{World, WorldFault};
 use std::alloc::{AllocError, Allocator};
 

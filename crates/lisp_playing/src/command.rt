@@ -13,7 +13,7 @@ use lisp_memory::Memory;
 use lisp_schedules::Event;
 use lisp_script::Command;
 use lisp_sites::Config;
-use lisp_store::WorldStore;
+use lisp_nonces::WorldStore;
 use lisp_world::World;
 use std::alloc::{AllocError, Allocator};
 

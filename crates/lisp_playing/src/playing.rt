@@ -10,7 +10,7 @@ use crate::command::command_text;
 use lisp_memory::Memory;
 use lisp_script::Command;
 use lisp_sites::Config;
-use lisp_store::WorldStore;
+use lisp_nonces::WorldStore;
 use lisp_streams::{PlayFault, write_text};
 use lisp_world::World;
 use std::alloc::Allocator;

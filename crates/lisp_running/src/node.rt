@@ -13,7 +13,7 @@ use lisp_nodes::Arrival;
 use lisp_records::Bytes;
 use lisp_schedules::Line;
 use lisp_sites::Config;
-use lisp_store::WorldStore;
+use lisp_nonces::WorldStore;
 use lisp_streams::{RunFault, read_config};
 use std::fs::{File, Files};
 use std::io::Write;

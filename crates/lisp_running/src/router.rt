@@ -13,7 +13,7 @@ use lisp_nodes::{Arrival, RouterNode, Start, router_hears};
 use lisp_records::Bytes;
 use lisp_schedules::{Line, Refusal};
 use lisp_sites::Config;
-use lisp_store::{Fate, WorldStore};
+use lisp_nonces::{Fate, WorldStore};
 use lisp_streams::RunFault;
 use lisp_world::router_node;
 use std::alloc::Global;

@@ -10,7 +10,7 @@ use lisp_nodes::{Arrival, ServerNode, server_hears};
 use lisp_records::{Bytes, RouterId};
 use lisp_schedules::{Line, Refusal};
 use lisp_sites::Config;
-use lisp_store::WorldStore;
+use lisp_nonces::WorldStore;
 use lisp_streams::RunFault;
 use std::alloc::Global;
 use std::fs::{File, Files};

@@ -7,7 +7,7 @@ use crate::output::{Call, print_failed};
 use crate::station::Station;
 use lisp_nodes::Arrival;
 use lisp_records::Addr;
-use lisp_store::Fate;
+use lisp_nonces::Fate;
 use lisp_streams::RunFault;
 use std::io::Write;
 use std::time::Clock;

@@ -8,10 +8,10 @@ use Rattle.std.specs.Cmp.{eq_by_cmp_equiv}
 use Rattle.std.specs.Ordering.{eq_by_cmp, is_eq}
 use Rattle.std.specs.declared.cmp.Ordering.{Ordering}
 use Rattle.std.specs.declared.cmp.Ordering.TheVariants.{Less, Equal, Greater}
-use Rattle.lisp_store.specs.declared.pair.Pair.{Pair}
-use Rattle.lisp_store.specs.Pair.{pair_cmp}
-use Rattle.lisp_store.specs.Kept.{Kept, kept_at, SameElsewhere, Narrows}
-use Rattle.lisp_store.proofs.Pairs.{pair_total, same_pair}
+use Rattle.lisp_nonces.specs.declared.pair.Pair.{Pair}
+use Rattle.lisp_nonces.specs.Pair.{pair_cmp}
+use Rattle.lisp_nonces.specs.Kept.{Kept, kept_at, SameElsewhere, Narrows}
+use Rattle.lisp_nonces.proofs.Pairs.{pair_total, same_pair}
 
 -- a list was set
 pub kept_at-insert : (kept : Kept) (pair : Pair) (values : List (Option ℕ)) (q : Pair) → kept_at (insert kept pair values) q ≡ cond (eq_by_cmp pair_cmp q pair) values (kept_at kept q)

@@ -20,9 +20,9 @@ use Rattle.lisp_schedules.specs.Answer.{IsAnswer}
 use Rattle.lisp_schedules.specs.Receiving.{FailsCheck}
 use Rattle.lisp_records.specs.Record.{Mapping}
 use Rattle.lisp_records.specs.Row.{Holding}
-use Rattle.lisp_store.specs.declared.pair.Pair.{Pair}
-use Rattle.lisp_store.specs.declared.pair.PairKind.TheVariants as kinds
-use Rattle.lisp_store.specs.declared.fate.Fate.TheVariants as fates
+use Rattle.lisp_nonces.specs.declared.pair.Pair.{Pair}
+use Rattle.lisp_nonces.specs.declared.pair.PairKind.TheVariants as kinds
+use Rattle.lisp_nonces.specs.declared.fate.Fate.TheVariants as fates
 use Rattle.lisp_checks.specs.declared.refused.Refused.TheVariants as refuseds
 use Rattle.lisp_checks.specs.Pairs.{notice_pair}
 use Rattle.lisp_checks.specs.NoticeTimer.{due_after}
@@ -32,7 +32,7 @@ use Rattle.lisp_schedules.specs.declared.event.Event.TheVariants as events
 use Rattle.lisp_schedules.specs.declared.refusal.Refusal.TheVariants as refusals
 use Rattle.lisp_schedules.specs.declared.line.Line.TheVariants as lines
 use Rattle.lisp_etr.specs.declared.start_fault.StartFault.TheVariants as start_faults
-use Rattle.lisp_store.specs.declared.fault.StoreFault.TheVariants as stores
+use Rattle.lisp_nonces.specs.declared.fault.StoreFault.TheVariants as stores
 use Rattle.lisp_schedules.specs.Trace.{Step, clock}
 use Rattle.lisp_schedules.specs.Held.{held, rows}
 use Rattle.lisp_schedules.specs.Counted.{heard}

@@ -12,7 +12,7 @@ use Rattle.lisp_schedules.proofs.ListLemmas.{head_or_tail, in_none}
 use Rattle.std.proofs.Common.{◌≡◌, ℕ, ◌<◌, true, false, List, [], ◌∷◌, Some, None, refl, inl, inr, true≢false, arith}
 use Rattle.lisp_records.specs.declared.router.RouterId.{RouterId}
 use Rattle.lisp_records.specs.Record.{Mapping}
-use Rattle.lisp_store.specs.declared.fate.Fate.TheVariants as fates
+use Rattle.lisp_nonces.specs.declared.fate.Fate.TheVariants as fates
 use Rattle.lisp_records.specs.Row.{Holding}
 use Rattle.lisp_messages.specs.declared.fault.ReadFault.TheVariants as reads
 use Rattle.lisp_etr.specs.Timers.{due_after}

@@ -3,8 +3,8 @@ use Rattle.std.proofs.Common.{◌≡◌, true, List, refl, ap, ◌∙◌}
 use Rattle.std.specs.Prelude.{◌≢◌, Option, Some, None}
 use Rattle.std.specs.Option.{IsSomeAnd}
 use Rattle.std.proofs.Math.Logic.{⊎_map}
-use Rattle.lisp_store.specs.declared.fault.StoreFault.{StoreFault}
-use Rattle.lisp_store.specs.declared.fault.StoreFault.TheVariants as stores
+use Rattle.lisp_nonces.specs.declared.fault.StoreFault.{StoreFault}
+use Rattle.lisp_nonces.specs.declared.fault.StoreFault.TheVariants as stores
 use Rattle.lisp_etr.specs.declared.notify_fault.NotifyFault.TheVariants as notifies
 use Rattle.lisp_etr.specs.declared.send_fault.SendFault.TheVariants as sends
 use Rattle.lisp_checks.specs.declared.refused.Refused.TheVariants as refuseds

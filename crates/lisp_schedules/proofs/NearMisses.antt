@@ -3,8 +3,8 @@ use Rattle.std.proofs.Common.{◌≡◌, ℕ, true, false, List, [], ◌∷◌, 
 use Rattle.std.specs.Prelude.{◌^◌, ◌+◌, ◌-◌, ◌<◌, ◌≤◌, ◌⊎◌, slice_get, if◌then◌else◌, Result, Err}
 use Rattle.std.specs.FinMap.{empty, insert}
 use Rattle.std.specs.List.{Contains}
-use Rattle.lisp_store.specs.declared.fate.Fate.TheVariants as fates
-use Rattle.lisp_store.specs.Kept.{Kept, kept_at, number}
+use Rattle.lisp_nonces.specs.declared.fate.Fate.TheVariants as fates
+use Rattle.lisp_nonces.specs.Kept.{Kept, kept_at, number}
 use Rattle.lisp_messages.specs.Message.{Registration, Registers}
 use Rattle.lisp_etr.specs.Hearing.{Heard}
 use Rattle.lisp_etr.specs.Sending.{last_nonce, IsBound}
@@ -19,7 +19,7 @@ use Rattle.lisp_checks.specs.NoticeTimer.{due_after}
 use Rattle.lisp_checks.specs.declared.notice_fault.NoticeFault.TheVariants as notice_faults
 use Rattle.lisp_checks.specs.declared.refused.Refused.TheVariants as refuseds
 use Rattle.lisp_etr.specs.declared.start_fault.StartFault.TheVariants as start_faults
-use Rattle.lisp_store.specs.declared.fault.StoreFault.TheVariants as stores
+use Rattle.lisp_nonces.specs.declared.fault.StoreFault.TheVariants as stores
 use Rattle.lisp_messages.specs.declared.fault.ReadFault.TheVariants as reads
 use Rattle.lisp_messages.specs.Reading.{kind_at}
 use Rattle.lisp_schedules.specs.declared.event.Event.TheVariants as events

@@ -1,9 +1,9 @@
 -- What a legal step leaves of the values that a router's store keeps for its own nonces.
 use Rattle.std.proofs.Common.{arith, ◌≡◌, ℕ, ◌<◌, List, Option, refl, sym, ap, subst, inl, inr, ◌∙◌}
 use Rattle.std.specs.Prelude.{◌≢◌, ◌⊎◌}
-use Rattle.lisp_store.specs.declared.pair.Pair.{Pair}
-use Rattle.lisp_store.specs.declared.pair.PairKind.TheVariants as kinds
-use Rattle.lisp_store.specs.Kept.{Kept, kept_at, number, InDoubt, Narrows}
+use Rattle.lisp_nonces.specs.declared.pair.Pair.{Pair}
+use Rattle.lisp_nonces.specs.declared.pair.PairKind.TheVariants as kinds
+use Rattle.lisp_nonces.specs.Kept.{Kept, kept_at, number, InDoubt, Narrows}
 use Rattle.lisp_etr.specs.declared.send_fault.SendFault.{SendFault}
 use Rattle.lisp_etr.specs.declared.send_fault.SendFault.TheVariants as sends
 use Rattle.lisp_checks.specs.declared.refused.Refused.{Refused}

@@ -4,8 +4,8 @@ use Rattle.std.specs.Prelude.{◌⊎◌, map}
 use Rattle.std.specs.List.{Contains, filter, find}
 use Rattle.std.specs.Option.{option_map}
 use Rattle.std.proofs.lemmas.List.Elements.{Contains-append_cases}
-use Rattle.lisp_store.specs.declared.pair.Pair.{Pair}
-use Rattle.lisp_store.specs.Kept.{InDoubt}
+use Rattle.lisp_nonces.specs.declared.pair.Pair.{Pair}
+use Rattle.lisp_nonces.specs.Kept.{InDoubt}
 use Rattle.lisp_checks.specs.Nonces.{IsBelow}
 use Rattle.lisp_schedules.specs.Held.{Acceptance, is_of_pair, last_of}
 use Rattle.lisp_schedules.specs.Accepted.{nonces_of}

@@ -5,11 +5,11 @@ use Rattle.std.specs.List.{Contains, filter, flat_map}
 use Rattle.std.specs.Option.{option_map, option_to_list}
 use Rattle.std.specs.Ordering.{eq_by_cmp}
 use Rattle.std.proofs.lemmas.Bool.Decides.{Decides-eqb}
-use Rattle.lisp_store.specs.declared.pair.Pair.{Pair}
-use Rattle.lisp_store.specs.declared.pair.PairKind.{PairKind}
-use Rattle.lisp_store.specs.declared.pair.PairKind.TheVariants as kinds
-use Rattle.lisp_store.specs.Pair.{pair_cmp}
-use Rattle.lisp_store.specs.Kept.{kept_at}
+use Rattle.lisp_nonces.specs.declared.pair.Pair.{Pair}
+use Rattle.lisp_nonces.specs.declared.pair.PairKind.{PairKind}
+use Rattle.lisp_nonces.specs.declared.pair.PairKind.TheVariants as kinds
+use Rattle.lisp_nonces.specs.Pair.{pair_cmp}
+use Rattle.lisp_nonces.specs.Kept.{kept_at}
 use Rattle.lisp_checks.specs.declared.refused.Refused.TheVariants.{Replay}
 use Rattle.lisp_checks.specs.Pairs.{pair_of}
 use Rattle.lisp_schedules.specs.declared.event.Event.TheVariants as events

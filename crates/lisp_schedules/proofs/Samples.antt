@@ -9,11 +9,11 @@ use Rattle.lisp_records.specs.Address.{Block}
 use Rattle.lisp_records.specs.Record.{Mapping}
 use Rattle.lisp_served.specs.Site.{SiteEntry}
 use Rattle.lisp_sites.specs.Configuration.{Configuration}
-use Rattle.lisp_store.specs.declared.fate.Fate.TheVariants as fates
-use Rattle.lisp_store.specs.declared.pair.Pair.{Pair}
-use Rattle.lisp_store.specs.declared.pair.PairKind.TheVariants as kinds
-use Rattle.lisp_store.specs.Kept.{kept_at}
-use Rattle.lisp_store.specs.declared.fault.StoreFault.TheVariants as stores
+use Rattle.lisp_nonces.specs.declared.fate.Fate.TheVariants as fates
+use Rattle.lisp_nonces.specs.declared.pair.Pair.{Pair}
+use Rattle.lisp_nonces.specs.declared.pair.PairKind.TheVariants as kinds
+use Rattle.lisp_nonces.specs.Kept.{kept_at}
+use Rattle.lisp_nonces.specs.declared.fault.StoreFault.TheVariants as stores
 use Rattle.lisp_etr.specs.declared.send_fault.SendFault.TheVariants as send_faults
 use Rattle.lisp_checks.specs.Pairs.{notice_pair}
 use Rattle.lisp_schedules.specs.declared.refusal.Refusal.{Refusal}

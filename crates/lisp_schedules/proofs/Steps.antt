@@ -6,9 +6,9 @@ use Rattle.std.proofs.lemmas.Bool.{leb-true, le-leb}
 use Rattle.lisp_records.specs.Moment.{max_moment}
 use Rattle.lisp_records.specs.Address.{masked}
 use Rattle.lisp_records.specs.Record.{Mapping}
-use Rattle.lisp_store.specs.Kept.{kept_at, number}
-use Rattle.lisp_store.specs.declared.pair.Pair.{Pair}
-use Rattle.lisp_store.specs.declared.fate.Fate.TheVariants as fates
+use Rattle.lisp_nonces.specs.Kept.{kept_at, number}
+use Rattle.lisp_nonces.specs.declared.pair.Pair.{Pair}
+use Rattle.lisp_nonces.specs.declared.fate.Fate.TheVariants as fates
 use Rattle.lisp_records.specs.Database.{database_of, repeats as repeats_in}
 use Rattle.lisp_records.specs.Written.{written}
 use Rattle.lisp_checks.specs.declared.refused.Refused.TheVariants as refuseds

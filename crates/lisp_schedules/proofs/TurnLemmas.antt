@@ -2,11 +2,11 @@
 use Rattle.std.proofs.Common.{◌≡◌, ℕ, ◌≤◌, List, [], ◌∷◌, Option, Some, None, refl, sym, ap, subst, inl, inr, ◌∙◌, arith}
 use Rattle.std.specs.Prelude.{◌≢◌, ◌<◌, ◌++◌}
 use Rattle.std.proofs.lemmas.List.Elements.{Contains-append_left, Contains-append_right}
-use Rattle.lisp_store.specs.declared.fault.StoreFault.TheVariants as faults
+use Rattle.lisp_nonces.specs.declared.fault.StoreFault.TheVariants as faults
 use Rattle.std.specs.FinMap.{insert, empty}
 use Rattle.std.specs.List.{Contains}
-use Rattle.lisp_store.specs.declared.pair.Pair.{Pair}
-use Rattle.lisp_store.specs.Kept.{Kept, kept_at, number}
+use Rattle.lisp_nonces.specs.declared.pair.Pair.{Pair}
+use Rattle.lisp_nonces.specs.Kept.{Kept, kept_at, number}
 use Rattle.lisp_schedules.specs.Turn.{Turn, values, values_after, Saves, SaveFails}
 use Rattle.lisp_schedules.proofs.KeptLemmas.{set_here, set_others, kept_at-empty, only_value}
 

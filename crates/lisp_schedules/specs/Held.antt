@@ -11,8 +11,8 @@ use Rattle.lisp_records.specs.Address.{Block}
 use Rattle.lisp_records.specs.Record.{Mapping}
 use Rattle.lisp_records.specs.Router.{router_eq}
 use Rattle.lisp_records.specs.Row.{Holding, is_alive}
-use Rattle.lisp_store.specs.declared.pair.Pair.{Pair}
-use Rattle.lisp_store.specs.Pair.{pair_cmp}
+use Rattle.lisp_nonces.specs.declared.pair.Pair.{Pair}
+use Rattle.lisp_nonces.specs.Pair.{pair_cmp}
 use Rattle.lisp_messages.specs.Message.{Registration}
 use Rattle.lisp_lookup.specs.Table.{is_row_of, if_alive, row_cmp}
 use Rattle.lisp_checks.specs.Pairs.{router_of, pair_of}

@@ -1,6 +1,6 @@
 -- Which lines say out of memory, and that they may only where memory may be refused.
 use Rattle.std.specs.Prelude.{◌≡◌, Bool, true, false}
-use Rattle.lisp_store.specs.declared.fault.StoreFault.TheVariants as stores
+use Rattle.lisp_nonces.specs.declared.fault.StoreFault.TheVariants as stores
 use Rattle.lisp_etr.specs.declared.notify_fault.NotifyFault.TheVariants as notifies
 use Rattle.lisp_etr.specs.declared.send_fault.SendFault.TheVariants as sends
 use Rattle.lisp_etr.specs.declared.start_fault.StartFault.TheVariants as starts

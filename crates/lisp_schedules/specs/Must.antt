@@ -3,10 +3,10 @@
 use Rattle.std.specs.Prelude.{◌≡◌, ◌≢◌, ◌⊎◌, ℕ, ◌<◌, ◌≤◌, Bool, true, false, List, Option, Some, None, Ok}
 use Rattle.std.specs.List.{Contains}
 use Rattle.std.specs.Option.{IsSomeAnd}
-use Rattle.lisp_store.specs.declared.fault.StoreFault.{StoreFault}
-use Rattle.lisp_store.specs.declared.fault.StoreFault.TheVariants as stores
-use Rattle.lisp_store.specs.declared.fate.Fate.{Fate}
-use Rattle.lisp_store.specs.Kept.{number}
+use Rattle.lisp_nonces.specs.declared.fault.StoreFault.{StoreFault}
+use Rattle.lisp_nonces.specs.declared.fault.StoreFault.TheVariants as stores
+use Rattle.lisp_nonces.specs.declared.fate.Fate.{Fate}
+use Rattle.lisp_nonces.specs.Kept.{number}
 use Rattle.lisp_messages.specs.Message.{Registration, Notification, Notifies}
 use Rattle.lisp_etr.specs.Hearing.{Heard, first_notice, is_latest}
 use Rattle.lisp_etr.specs.Sending.{last_nonce}

@@ -3,7 +3,7 @@ use Rattle.std.specs.Prelude.{◌≡◌, ◌≢◌, ◌<◌, ◌≤◌, ℕ, ◌
 use Rattle.lisp_records.specs.Database.{database_of}
 use Rattle.lisp_records.specs.Record.{Mapping}
 use Rattle.lisp_records.specs.declared.database.DatabaseFault.{DatabaseFault}
-use Rattle.lisp_store.specs.Kept.{number}
+use Rattle.lisp_nonces.specs.Kept.{number}
 use Rattle.lisp_checks.specs.declared.notice_fault.NoticeFault.{NoticeFault}
 use Rattle.lisp_checks.specs.declared.notice_fault.NoticeFault.TheVariants.{NotRegistered, TooLarge, StoreLoad, NonceSpent, OutOfMemory, StoreSave, NotDue}
 use Rattle.lisp_checks.specs.Pairs.{notice_pair}

@@ -7,7 +7,7 @@ use Rattle.lisp_records.specs.Address.{Block}
 use Rattle.lisp_records.specs.Row.{Holding}
 use Rattle.lisp_records.specs.declared.router.RouterId.{RouterId}
 use Rattle.lisp_sites.specs.Configuration.{Configuration}
-use Rattle.lisp_store.specs.declared.pair.Pair.{Pair}
+use Rattle.lisp_nonces.specs.declared.pair.Pair.{Pair}
 use Rattle.lisp_checks.specs.Pairs.{pair_of}
 use Rattle.lisp_checks.specs.declared.refused.Refused.TheVariants.{Replay}
 use Rattle.lisp_schedules.specs.declared.event.Event.TheVariants as events

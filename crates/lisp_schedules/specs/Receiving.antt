@@ -4,8 +4,8 @@ use Rattle.std.specs.List.{find}
 use Rattle.lisp_records.specs.declared.address.Addr.{Addr}
 use Rattle.lisp_records.specs.declared.router.RouterId.{RouterId}
 use Rattle.lisp_records.specs.Address.{addr_eq}
-use Rattle.lisp_store.specs.declared.pair.Pair.{Pair}
-use Rattle.lisp_store.specs.declared.fault.StoreFault.{StoreFault}
+use Rattle.lisp_nonces.specs.declared.pair.Pair.{Pair}
+use Rattle.lisp_nonces.specs.declared.fault.StoreFault.{StoreFault}
 use Rattle.lisp_messages.specs.declared.fault.ReadFault.{ReadFault}
 use Rattle.lisp_messages.specs.Message.{Said, Registration, Notification, Registers, Notifies}
 use Rattle.lisp_checks.specs.declared.refused.Refused.{Refused}

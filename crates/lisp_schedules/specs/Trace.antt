@@ -10,7 +10,7 @@ use Rattle.lisp_records.specs.Address.{addr_eq}
 use Rattle.lisp_records.specs.Record.{Mapping}
 use Rattle.lisp_served.specs.Site.{SiteEntry}
 use Rattle.lisp_sites.specs.Configuration.{Configuration, Router}
-use Rattle.lisp_store.specs.Kept.{Kept}
+use Rattle.lisp_nonces.specs.Kept.{Kept}
 use Rattle.lisp_etr.specs.Config.{Settings}
 use Rattle.lisp_checks.specs.Checks.{secret_at as known_secret}
 use Rattle.lisp_schedules.specs.declared.event.Event.{Event}

@@ -1,10 +1,10 @@
 -- A turn: one node acts, and what that may leave of its store.
 use Rattle.std.specs.Prelude.{◌≡◌, ◌≢◌, ◌⊎◌, ℕ, ◌-◌, ◌^◌, ◌<◌, Bool, true, false, List, Option, Some, None}
 use Rattle.std.specs.List.{Contains}
-use Rattle.lisp_store.specs.declared.pair.Pair.{Pair}
-use Rattle.lisp_store.specs.declared.fault.StoreFault.{StoreFault}
-use Rattle.lisp_store.specs.declared.fault.StoreFault.TheVariants as faults
-use Rattle.lisp_store.specs.Kept.{kept_at, NoneBelow, SameElsewhere, InDoubt, Narrows}
+use Rattle.lisp_nonces.specs.declared.pair.Pair.{Pair}
+use Rattle.lisp_nonces.specs.declared.fault.StoreFault.{StoreFault}
+use Rattle.lisp_nonces.specs.declared.fault.StoreFault.TheVariants as faults
+use Rattle.lisp_nonces.specs.Kept.{kept_at, NoneBelow, SameElsewhere, InDoubt, Narrows}
 use Rattle.lisp_etr.specs.Sending.{Settles}
 use Rattle.lisp_schedules.specs.Trace.{Shown, Step, Opening, is_server, is_router, is_up}
 

@@ -8,8 +8,8 @@ use Rattle.lisp_records.specs.declared.address.Addr.{Addr}
 use Rattle.lisp_records.specs.Record.{Mapping}
 use Rattle.lisp_records.specs.Database.{database_of}
 use Rattle.lisp_records.specs.Result.{◌>>=◌}
-use Rattle.lisp_store.specs.declared.fate.Fate.{Fate}
-use Rattle.lisp_store.specs.declared.fate.Fate.TheVariants.{Doubt, LoadFails}
+use Rattle.lisp_nonces.specs.declared.fate.Fate.{Fate}
+use Rattle.lisp_nonces.specs.declared.fate.Fate.TheVariants.{Doubt, LoadFails}
 use Rattle.lisp_texts.specs.Number.{number_of}
 use Rattle.lisp_texts.specs.Reading.{address_of, record_text_of}
 use Rattle.lisp_sites.specs.Configuration.{Configuration, names}

@@ -16,7 +16,7 @@ use crate::words::{address, bytes, database, doubt, fate, node, number, router, 
 use lisp_memory::Memory;
 use lisp_schedules::Event;
 use lisp_sites::Config;
-use lisp_store::Fate;
+use lisp_nonces::Fate;
 use std::alloc::Allocator;
 
 /// The command of a line's first word, and the words behind it.

@@ -14,7 +14,7 @@ use Rattle.lisp_records.specs.Row.{Holding}
 use Rattle.lisp_messages.specs.Message.{Registration}
 use Rattle.lisp_messages.specs.Authentic.{is_authentic}
 use Rattle.lisp_served.specs.Site.{SiteEntry, site_of, secret_of}
-use Rattle.lisp_store.specs.Store.{StoreState}
+use Rattle.lisp_nonces.specs.Store.{StoreState}
 use Rattle.lisp_lookup.specs.Table.{is_row_of, row_at, last_of, Sets}
 use Rattle.lisp_lookup.proofs.TableLaws.{found_holds, has_key, some_inj}
 use Rattle.lisp_server.specs.declared.contacts.Contact.{Contact}

@@ -8,12 +8,12 @@ use Rattle.std.specs.List.Sorted.{IsStrictlySortedBy, IsSearchInRange, IsBinaryS
 use Rattle.std.specs.Option.{option_map, option_or}
 use Rattle.std.specs.Ordering.{eq_by_cmp}
 use Rattle.std.specs.Cmp.{Equal-is}
-use Rattle.lisp_store.proofs.Pairs.{pair_total, same_pair}
-use Rattle.lisp_store.specs.declared.pair.Pair.{Pair}
-use Rattle.lisp_store.specs.Pair.{pair_cmp}
-use Rattle.lisp_store.specs.contracts.pair.PairOrd.TheImpl.{ghosts as derived}
-use Rattle.lisp_store.specs.declared.pair.PairKind.{PairKind}
-use Rattle.lisp_store.specs.declared.pair.PairKind.TheVariants.{Sent, Received, Notice}
+use Rattle.lisp_nonces.proofs.Pairs.{pair_total, same_pair}
+use Rattle.lisp_nonces.specs.declared.pair.Pair.{Pair}
+use Rattle.lisp_nonces.specs.Pair.{pair_cmp}
+use Rattle.lisp_nonces.specs.contracts.pair.PairOrd.TheImpl.{ghosts as derived}
+use Rattle.lisp_nonces.specs.declared.pair.PairKind.{PairKind}
+use Rattle.lisp_nonces.specs.declared.pair.PairKind.TheVariants.{Sent, Received, Notice}
 use Rattle.lisp_records.specs.declared.router.RouterId.{RouterId}
 use Rattle.std.specs.declared.cmp.Ordering.{Ordering}
 use Rattle.lisp_server.specs.declared.last_nonces.LastNonce.{LastNonce}

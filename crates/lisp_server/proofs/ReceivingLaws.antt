@@ -12,11 +12,11 @@ use Rattle.lisp_messages.specs.declared.fault.ReadFault.{ReadFault}
 use Rattle.lisp_messages.specs.declared.fault.ReadFault.TheVariants as reads
 use Rattle.lisp_messages.specs.Authentic.{is_authentic}
 use Rattle.lisp_served.specs.Site.{SiteEntry, site_of, secret_of}
-use Rattle.lisp_store.specs.declared.pair.Pair.{Pair}
-use Rattle.lisp_store.specs.declared.fault.StoreFault.{StoreFault}
-use Rattle.lisp_store.specs.declared.fault.StoreFault.TheVariants as stores
-use Rattle.lisp_store.specs.Kept.{Kept, kept_at, SameElsewhere, InDoubt}
-use Rattle.lisp_store.specs.Store.{StoreState, Rose, Proceeds}
+use Rattle.lisp_nonces.specs.declared.pair.Pair.{Pair}
+use Rattle.lisp_nonces.specs.declared.fault.StoreFault.{StoreFault}
+use Rattle.lisp_nonces.specs.declared.fault.StoreFault.TheVariants as stores
+use Rattle.lisp_nonces.specs.Kept.{Kept, kept_at, SameElsewhere, InDoubt}
+use Rattle.lisp_nonces.specs.Store.{StoreState, Rose, Proceeds}
 use Rattle.lisp_checks.specs.declared.refused.Refused.{Refused}
 use Rattle.lisp_checks.specs.declared.refused.Refused.TheVariants as refusals
 use Rattle.lisp_server.specs.declared.contacts.Contact.{Contact}

@@ -14,9 +14,9 @@ use Rattle.lisp_messages.specs.Message.{IsNotification}
 use Rattle.lisp_messages.specs.Authentic.{signed}
 use Rattle.lisp_messages.specs.Written.{written_notify}
 use Rattle.lisp_served.specs.Site.{SiteEntry}
-use Rattle.lisp_store.specs.declared.fault.StoreFault.TheVariants as stores
-use Rattle.lisp_store.specs.Kept.{Kept, kept_at, SameElsewhere, InDoubt}
-use Rattle.lisp_store.specs.Store.{StoreState, Proceeds}
+use Rattle.lisp_nonces.specs.declared.fault.StoreFault.TheVariants as stores
+use Rattle.lisp_nonces.specs.Kept.{Kept, kept_at, SameElsewhere, InDoubt}
+use Rattle.lisp_nonces.specs.Store.{StoreState, Proceeds}
 use Rattle.lisp_lookup.specs.Records.{live_of, ByPrefix}
 use Rattle.lisp_lookup.proofs.LiveLaws.{some_row}
 use Rattle.lisp_server.specs.declared.contacts.Contact.{Contact}

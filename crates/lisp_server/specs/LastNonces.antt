@@ -3,8 +3,8 @@ use Rattle.std.specs.Prelude.{◌≡◌, ◌≢◌, ℕ, List, map, Bool, Option
 use Rattle.std.specs.Coded.{Coded, coded_ℕ}
 use Rattle.std.specs.FinMap.{FinMap, get, code, from_entries}
 use Rattle.std.specs.Ordering.{eq_by_cmp}
-use Rattle.lisp_store.specs.declared.pair.Pair.{Pair}
-use Rattle.lisp_store.specs.Pair.{pair_cmp, pair_code}
+use Rattle.lisp_nonces.specs.declared.pair.Pair.{Pair}
+use Rattle.lisp_nonces.specs.Pair.{pair_cmp, pair_code}
 use Rattle.lisp_server.specs.declared.last_nonces.LastNonce.{LastNonce}
 
 abbrev pub Nonces : Type 0

@@ -8,10 +8,10 @@ use Rattle.lisp_records.specs.Record.{Mapping}
 use Rattle.lisp_messages.specs.Message.{Notification, IsNotification}
 use Rattle.lisp_messages.specs.Authentic.{signed}
 use Rattle.lisp_messages.specs.Written.{written_notify}
-use Rattle.lisp_store.specs.declared.fault.StoreFault.{StoreFault}
-use Rattle.lisp_store.specs.declared.fault.StoreFault.TheVariants as faults
-use Rattle.lisp_store.specs.Kept.{kept_at, SameElsewhere, InDoubt}
-use Rattle.lisp_store.specs.Store.{StoreState}
+use Rattle.lisp_nonces.specs.declared.fault.StoreFault.{StoreFault}
+use Rattle.lisp_nonces.specs.declared.fault.StoreFault.TheVariants as faults
+use Rattle.lisp_nonces.specs.Kept.{kept_at, SameElsewhere, InDoubt}
+use Rattle.lisp_nonces.specs.Store.{StoreState}
 use Rattle.lisp_lookup.specs.Records.{live_of, ByPrefix}
 use Rattle.lisp_checks.specs.declared.notice_fault.NoticeFault.{NoticeFault}
 use Rattle.lisp_checks.specs.declared.notice_fault.NoticeFault.TheVariants.{NotRegistered, TooLarge, StoreLoad, NonceSpent, OutOfMemory, StoreSave, NotDue}

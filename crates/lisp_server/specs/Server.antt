@@ -5,7 +5,7 @@ use Rattle.lisp_records.specs.Row.{Holding}
 use Rattle.lisp_served.specs.Site.{SiteEntry}
 use Rattle.lisp_server.specs.declared.contacts.Contact.{Contact}
 use Rattle.lisp_server.specs.declared.tables.Tables.{Tables}
-use Rattle.lisp_store.specs.declared.pair.Pair.{Pair}
+use Rattle.lisp_nonces.specs.declared.pair.Pair.{Pair}
 use Rattle.lisp_checks.specs.Pairs.{notice_pair}
 use Rattle.lisp_server.specs.Contacts.{contact_at}
 use Rattle.lisp_server.specs.LastNonces.{Nonces, nonce_at}

@@ -4,13 +4,13 @@
 ghost use Rattle.std.specs.Prelude.{◌≡◌, ◌<◌, None, Some, IfOk, IfErr, OnOk, OnErr};
 ghost use Rattle.std.specs.FinMap.{empty};
 ghost use Rattle.std.specs.List.{position};
-ghost use Rattle.lisp_store.specs.Pair.{pair_cmp};
+ghost use Rattle.lisp_nonces.specs.Pair.{pair_cmp};
 ghost use Rattle.lisp_served.specs.Order.{KeysRise, IsGap};
 ghost use Rattle.lisp_server.specs.LastNonces.{nonce_at, SetsNonce, is_of, nonces_of};
 
 use crate::reserved::insert_reserved;
 use lisp_memory::{FallibleVec, Memory};
-use lisp_store::Pair;
+use lisp_nonces::Pair;
 use std::alloc::{AllocError, Allocator};
 use std::marker::Model;
 
@@ -30,7 +30,7 @@ pub(crate) struct LastNonces<A: Allocator> {
 impl<A: Allocator> Model for LastNonces<A> {
     ghost use Rattle.std.specs.Prelude.{◌-◌, vec_len, vec_capacity};
     ghost use Rattle.std.specs.Coded.{codes};
-    ghost use Rattle.lisp_store.specs.Pair.{pair_cmp};
+    ghost use Rattle.lisp_nonces.specs.Pair.{pair_cmp};
     ghost use Rattle.lisp_served.specs.Order.{KeysRise};
     ghost use Rattle.lisp_server.specs.LastNonces.{NonceTable, nonces_code, nonces_of};
 

@@ -2,7 +2,7 @@
 //! function's contract is a law.
 
 ghost use Rattle.std.specs.Prelude.{IfOk, IsOk};
-ghost use Rattle.lisp_store.specs.Store.{Rose};
+ghost use Rattle.lisp_nonces.specs.Store.{Rose};
 ghost use Rattle.lisp_messages.specs.Reading.{message_at};
 ghost use Rattle.lisp_checks.specs.NoticeTimer.{PromptNotices};
 ghost use Rattle.lisp_server.specs.Notices.{NoticesKeepTime};
@@ -13,7 +13,7 @@ use crate::took::Took;
 use lisp_checks::Refused;
 use lisp_memory::Memory;
 use lisp_records::Addr;
-use lisp_store::NonceStore;
+use lisp_nonces::NonceStore;
 
 /// A notice that is sent again each time when it is due goes out 3, 6, 9, 15, 27 and 51 s after it was first
 /// sent, and then no more.

@@ -1,8 +1,8 @@
 //! Receiving a Map-Register.
 
 ghost use Rattle.std.specs.Prelude.{◌≡◌, length, IfOk, IfErr, OnErr};
-ghost use Rattle.lisp_store.specs.declared.fault.StoreFault.{StoreFault};
-ghost use Rattle.lisp_store.specs.Store.{Proceeds};
+ghost use Rattle.lisp_nonces.specs.declared.fault.StoreFault.{StoreFault};
+ghost use Rattle.lisp_nonces.specs.Store.{Proceeds};
 ghost use Rattle.lisp_checks.specs.Pairs.{pair_of};
 ghost use Rattle.lisp_messages.specs.Message.{IsNotification};
 ghost use Rattle.lisp_checks.specs.AcceptedRows.{holdings};
@@ -22,7 +22,7 @@ use lisp_memory::Memory;
 use lisp_messages::MapRegister;
 use lisp_records::{Bytes, Row};
 use lisp_served::Sites;
-use lisp_store::{NonceStore, Pair, PairKind};
+use lisp_nonces::{NonceStore, Pair, PairKind};
 use std::alloc::{AllocError, Allocator};
 
 /// Receives a Map-Register that was read from the bytes of an arrival. All that takes memory comes before

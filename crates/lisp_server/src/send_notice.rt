@@ -2,8 +2,8 @@
 
 ghost use Rattle.std.specs.Prelude.{◌≡◌, ◌≤◌, None, length, IfOk, IfErr, IfSome, OnOk, OnErr};
 ghost use Rattle.lisp_records.specs.Moment.{max_moment};
-ghost use Rattle.lisp_store.specs.declared.fault.StoreFault.{StoreFault};
-ghost use Rattle.lisp_store.specs.Store.{Proceeds};
+ghost use Rattle.lisp_nonces.specs.declared.fault.StoreFault.{StoreFault};
+ghost use Rattle.lisp_nonces.specs.Store.{Proceeds};
 ghost use Rattle.lisp_lookup.specs.Table.{OneEach};
 ghost use Rattle.lisp_lookup.specs.Records.{live_of};
 ghost use Rattle.lisp_server.specs.SendNotice.{IsRegistered, Announces, RefusesNotice, IsNotice, Unregistered};
@@ -21,7 +21,7 @@ use lisp_memory::Memory;
 use lisp_messages::{MapNotify, write_notify};
 use lisp_records::{Addr, Bytes, Records, RouterId};
 use lisp_served::Sites;
-use lisp_store::NonceStore;
+use lisp_nonces::NonceStore;
 use std::alloc::{AllocError, Allocator};
 
 /// Sends a notice to a router at a time, in ms. All that takes memory comes before its nonce is saved; what

@@ -2,8 +2,8 @@
 
 ghost use Rattle.std.specs.Prelude.{◌≡◌, ◌≤◌, [], Err, IfOk, IfErr, IsErrOf, OnErr};
 ghost use Rattle.std.specs.FinMap.{empty};
-ghost use Rattle.lisp_store.specs.declared.fault.StoreFault.{StoreFault};
-ghost use Rattle.lisp_store.specs.Store.{Proceeds};
+ghost use Rattle.lisp_nonces.specs.declared.fault.StoreFault.{StoreFault};
+ghost use Rattle.lisp_nonces.specs.Store.{Proceeds};
 ghost use Rattle.lisp_messages.specs.Reading.{HasHead, kind_at, message_at};
 ghost use Rattle.lisp_messages.specs.declared.fault.ReadFault.{ReadFault};
 ghost use Rattle.lisp_lookup.specs.Table.{OneEach, Expires, IsHeld};
@@ -32,7 +32,7 @@ use lisp_memory::Memory;
 use lisp_messages::{Message, read_message};
 use lisp_records::{Addr, RouterId, Row};
 use lisp_served::Sites;
-use lisp_store::{NonceStore, Pair};
+use lisp_nonces::{NonceStore, Pair};
 use std::alloc::{AllocError, Allocator, Global};
 use std::marker::Model;
 

@@ -16,7 +16,7 @@ use lisp_checks::NOTICES;
 use lisp_lookup::Table;
 use lisp_memory::Memory;
 use lisp_records::{Addr, RouterId, Row};
-use lisp_store::Pair;
+use lisp_nonces::Pair;
 use std::alloc::{AllocError, Allocator};
 
 /// The rows that are held, the last nonces, where each router was heard last, and the unsolicited

@@ -1,5 +1,2 @@
-pub mod Pairs
-pub mod Entries
-pub mod Restart
-pub mod Saving
 pub mod Digits
+mod Turns

@@ -1,11 +1,11 @@
 -- A store of which one call fails.
 use Rattle.std.specs.Prelude.{ℕ, ◌-◌, ◌==◌, Bool, true, false, Option, Result, Err, if◌then◌else◌}
-use Rattle.lisp_store.specs.declared.fault.StoreFault.{StoreFault}
-use Rattle.lisp_store.specs.declared.fault.StoreFault.TheVariants.{Device}
-use Rattle.lisp_store.specs.declared.pair.Pair.{Pair}
-use Rattle.lisp_store.specs.Kept.{kept_at}
-use Rattle.lisp_store.specs.Memory.{Memory, loaded, save_answer, failed_once}
-use Rattle.lisp_store.specs.Store.{StoreState}
+use Rattle.lisp_nonces.specs.declared.fault.StoreFault.{StoreFault}
+use Rattle.lisp_nonces.specs.declared.fault.StoreFault.TheVariants.{Device}
+use Rattle.lisp_nonces.specs.declared.pair.Pair.{Pair}
+use Rattle.lisp_nonces.specs.Kept.{kept_at}
+use Rattle.lisp_nonces.specs.Memory.{Memory, loaded, save_answer, failed_once}
+use Rattle.lisp_nonces.specs.Store.{StoreState}
 
 -- the store in memory that it stands round, and which of its next loads and saves fails, counted from 1; 0 where none does
 pub record Failing : Type 0 where

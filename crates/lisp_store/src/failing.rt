@@ -3,19 +3,15 @@
 ghost use Rattle.std.specs.Prelude.{◌≡◌, ◌≢◌, ◌-◌, [], ◌∷◌, Some, Ok, Err, IfOk, IfErr, OnOk, OnErr, IsErrOf, IsTrue, if◌then◌else◌};
 ghost use Rattle.std.specs.List.{Contains};
 ghost use Rattle.std.specs.FinMap.{empty};
-ghost use Rattle.lisp_store.specs.Kept.{kept_at, SameElsewhere, InDoubt, Narrows};
-ghost use Rattle.lisp_store.specs.Store.{Rose, Proceeds};
-ghost use Rattle.lisp_store.specs.Memory.{Memory, failed_once};
+ghost use Rattle.lisp_nonces.specs.Kept.{kept_at, SameElsewhere, InDoubt, Narrows};
+ghost use Rattle.lisp_nonces.specs.Store.{Rose, Proceeds};
+ghost use Rattle.lisp_nonces.specs.Memory.{Memory, failed_once};
 ghost use Rattle.lisp_store.specs.Failing.{Failing, failing_state, failing_load, failing_save, fails};
-ghost use Rattle.lisp_store.specs.declared.fate.Fate.{Fate};
-ghost use Rattle.lisp_store.specs.declared.fault.StoreFault.{StoreFault};
-ghost use Rattle.lisp_store.specs.declared.pair.Pair.{Pair};
+ghost use Rattle.lisp_nonces.specs.declared.fate.Fate.{Fate};
+ghost use Rattle.lisp_nonces.specs.declared.fault.StoreFault.{StoreFault};
+ghost use Rattle.lisp_nonces.specs.declared.pair.Pair.{Pair};
 
-use crate::fate::Fate;
-use crate::fault::StoreFault;
-use crate::memory::MemoryStore;
-use crate::pair::Pair;
-use crate::store::{NonceStore, WorldStore};
+use lisp_nonces::{Fate, MemoryStore, NonceStore, Pair, StoreFault, WorldStore};
 use lisp_memory::Memory;
 use std::alloc::{Allocator, Global};
 use std::marker::Model;
@@ -29,7 +25,7 @@ pub struct Failing<A: Allocator = Global> {
 
 impl<A: Allocator> Model for Failing<A> {
     ghost use Rattle.lisp_store.specs.Failing.{Failing};
-    ghost use Rattle.lisp_store.specs.Kept.{kept_code};
+    ghost use Rattle.lisp_nonces.specs.Kept.{kept_code};
     ghost use Rattle.std.specs.Coded.{codes};
 
     ghost Value = { Failing };

@@ -2,13 +2,10 @@
 
 ghost use Rattle.std.specs.Prelude.{◌≡◌, ◌≢◌, ◌≤◌, ◌+◌, ◌-◌, ◌^◌, Err, false, IfOk, IfErr, OnErr, IsErrOf, length, min};
 ghost use Rattle.std.specs.FinMap.{empty};
-ghost use Rattle.lisp_store.specs.Store.{StoreState};
-ghost use Rattle.lisp_store.specs.declared.fault.StoreFault.{StoreFault};
+ghost use Rattle.lisp_nonces.specs.Store.{StoreState};
+ghost use Rattle.lisp_nonces.specs.declared.fault.StoreFault.{StoreFault};
 
-use crate::fate::Fate;
-use crate::fault::StoreFault;
-use crate::pair::{Pair, PairKind};
-use crate::store::{NonceStore, WorldStore};
+use lisp_nonces::{Fate, NonceStore, Pair, PairKind, StoreFault, WorldStore};
 use crate::text::{nonce_from_text, nonce_text};
 use lisp_memory::{FallibleString, Memory};
 use std::alloc::{AllocError, Global};

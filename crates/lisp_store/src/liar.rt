@@ -2,12 +2,9 @@
 
 ghost use Rattle.std.specs.Prelude.{true, false};
 ghost use Rattle.std.specs.FinMap.{empty};
-ghost use Rattle.lisp_store.specs.Store.{StoreState};
+ghost use Rattle.lisp_nonces.specs.Store.{StoreState};
 
-use crate::fate::Fate;
-use crate::fault::StoreFault;
-use crate::pair::Pair;
-use crate::store::{NonceStore, WorldStore};
+use lisp_nonces::{Fate, NonceStore, Pair, StoreFault, WorldStore};
 use std::alloc::{Allocator, Global};
 use std::vec::IntoIter;
 

@@ -13,9 +13,9 @@ use Rattle.lisp_records.specs.Router.{router_eq}
 use Rattle.lisp_records.specs.Row.{Holding}
 use Rattle.lisp_records.proofs.RouterLaws.{router_eq-Decides}
 use Rattle.lisp_messages.specs.Message.{Registration}
-use Rattle.lisp_store.specs.declared.pair.Pair.{Pair}
-use Rattle.lisp_store.specs.declared.pair.PairKind.TheVariants as kinds
-use Rattle.lisp_store.specs.Pair.{pair_cmp}
+use Rattle.lisp_nonces.specs.declared.pair.Pair.{Pair}
+use Rattle.lisp_nonces.specs.declared.pair.PairKind.TheVariants as kinds
+use Rattle.lisp_nonces.specs.Pair.{pair_cmp}
 use Rattle.lisp_lookup.specs.Table.{row_at, is_row_of, if_alive, last_of as last_given, Sets}
 use Rattle.lisp_checks.specs.Pairs.{router_of, pair_of, notice_pair}
 use Rattle.lisp_server.specs.declared.contacts.Contact.{Contact}

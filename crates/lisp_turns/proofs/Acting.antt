@@ -5,8 +5,8 @@ use Rattle.std.proofs.lemmas.Bool.{and_from, le-leb, lt-ltb}
 use Rattle.std.proofs.lemmas.Option.{slice_get_within}
 use Rattle.lisp_records.specs.declared.address.Addr.{Addr}
 use Rattle.lisp_records.specs.declared.address.Addr.TheVariants.{V4}
-use Rattle.lisp_store.specs.Store.{StoreState}
-use Rattle.lisp_store.specs.declared.fate.Fate.{Fate}
+use Rattle.lisp_nonces.specs.Store.{StoreState}
+use Rattle.lisp_nonces.specs.declared.fate.Fate.{Fate}
 use Rattle.lisp_schedules.specs.Trace.{Shown, Step, Opening, address_at, is_server, is_router, shown}
 use Rattle.lisp_schedules.specs.Bag.{Item, bag}
 use Rattle.lisp_schedules.specs.Legal.{Legal}

@@ -3,7 +3,7 @@ use Rattle.std.proofs.Common.{◌≡◌, ℕ, true, false, List, [], ◌∷◌, 
 use Rattle.std.specs.Prelude.{slice_get}
 use Rattle.std.proofs.lemmas.List.{length-map}
 use Rattle.lisp_records.specs.Record.{Mapping}
-use Rattle.lisp_store.specs.Kept.{kept_at, NoneBelow}
+use Rattle.lisp_nonces.specs.Kept.{kept_at, NoneBelow}
 use Rattle.lisp_etr.specs.Etr.{EtrState}
 use Rattle.lisp_etr.specs.Round.{Keeps, begun}
 use Rattle.lisp_etr.specs.declared.round.Round.{Round}

@@ -6,9 +6,9 @@ use Rattle.lisp_records.specs.Result.{◌>>=◌}
 use Rattle.lisp_messages.specs.Message.{Registration}
 use Rattle.lisp_messages.specs.Authentic.{is_authentic}
 use Rattle.lisp_served.specs.Site.{SiteEntry, site_of, secret_of}
-use Rattle.lisp_store.specs.declared.pair.Pair.{Pair}
-use Rattle.lisp_store.specs.Kept.{Kept, kept_at}
-use Rattle.lisp_store.specs.Store.{StoreState}
+use Rattle.lisp_nonces.specs.declared.pair.Pair.{Pair}
+use Rattle.lisp_nonces.specs.Kept.{Kept, kept_at}
+use Rattle.lisp_nonces.specs.Store.{StoreState}
 use Rattle.lisp_checks.specs.declared.refused.Refused.{Refused}
 use Rattle.lisp_checks.specs.declared.refused.Refused.TheVariants as refuseds
 use Rattle.lisp_checks.specs.Checks.{secret_at, secret_under, check, refused_at, first_not_allowed}

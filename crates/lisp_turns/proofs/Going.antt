@@ -7,7 +7,7 @@ use Rattle.lisp_records.specs.declared.router.RouterId.{RouterId}
 use Rattle.lisp_records.specs.Address.{Block}
 use Rattle.lisp_records.specs.Router.{router_eq}
 use Rattle.lisp_records.specs.Row.{Holding}
-use Rattle.lisp_store.specs.Kept.{kept_at, NoneBelow}
+use Rattle.lisp_nonces.specs.Kept.{kept_at, NoneBelow}
 use Rattle.lisp_etr.specs.Etr.{EtrState}
 use Rattle.lisp_etr.specs.Round.{Keeps}
 use Rattle.lisp_etr.specs.declared.round.Round.{Round}

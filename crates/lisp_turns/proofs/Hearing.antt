@@ -15,9 +15,9 @@ use Rattle.lisp_messages.specs.Authentic.{signed}
 use Rattle.lisp_messages.specs.Message.{Notification, IsNotification, Notifies}
 use Rattle.lisp_messages.specs.Reading.{HasHead, message_at}
 use Rattle.lisp_messages.specs.Written.{written, written_notify}
-use Rattle.lisp_store.specs.declared.fate.Fate.{Fate}
-use Rattle.lisp_store.specs.Kept.{kept_at, NoneBelow}
-use Rattle.lisp_store.specs.Store.{StoreState}
+use Rattle.lisp_nonces.specs.declared.fate.Fate.{Fate}
+use Rattle.lisp_nonces.specs.Kept.{kept_at, NoneBelow}
+use Rattle.lisp_nonces.specs.Store.{StoreState}
 use Rattle.lisp_etr.specs.Config.{Settings}
 use Rattle.lisp_etr.specs.Etr.{EtrState}
 use Rattle.lisp_etr.specs.Hearing.{Gives, Heard, AnswerFits, ack_of, checked, server_at, heard as heard_of, first_notice, round_at, is_latest, notice_in, counted_in, seen_in, seen_at, after as left_after}

@@ -15,11 +15,11 @@ use Rattle.lisp_messages.specs.Authentic.{signed}
 use Rattle.lisp_messages.specs.Head.{head_at}
 use Rattle.lisp_messages.specs.Message.{IsNotification, Notifies}
 use Rattle.lisp_messages.specs.Written.{written_notify}
-use Rattle.lisp_store.specs.declared.fault.StoreFault.{StoreFault}
-use Rattle.lisp_store.specs.declared.fate.Fate.{Fate}
-use Rattle.lisp_store.specs.Kept.{Kept, kept_at, number, InDoubt}
-use Rattle.lisp_store.specs.Store.{StoreState}
-use Rattle.lisp_store.specs.Store.{Rose as StoreRose}
+use Rattle.lisp_nonces.specs.declared.fault.StoreFault.{StoreFault}
+use Rattle.lisp_nonces.specs.declared.fate.Fate.{Fate}
+use Rattle.lisp_nonces.specs.Kept.{Kept, kept_at, number, InDoubt}
+use Rattle.lisp_nonces.specs.Store.{StoreState}
+use Rattle.lisp_nonces.specs.Store.{Rose as StoreRose}
 use Rattle.lisp_lookup.specs.Records.{live_of}
 use Rattle.lisp_checks.specs.declared.notice_fault.NoticeFault.{NoticeFault}
 use Rattle.lisp_checks.specs.declared.notice_fault.NoticeFault.TheVariants as notice_faults

@@ -12,8 +12,8 @@ use Rattle.lisp_messages.specs.Message.{Said, Registration, Notification, Regist
 use Rattle.lisp_messages.specs.Authentic.{signed}
 use Rattle.lisp_messages.specs.Reading.{HasHead}
 use Rattle.lisp_messages.specs.Written.{written_notify}
-use Rattle.lisp_store.specs.Kept.{Kept, SameElsewhere}
-use Rattle.lisp_store.specs.Store.{StoreState}
+use Rattle.lisp_nonces.specs.Kept.{Kept, SameElsewhere}
+use Rattle.lisp_nonces.specs.Store.{StoreState}
 use Rattle.lisp_lookup.specs.Table.{row_at, if_alive}
 use Rattle.lisp_checks.specs.declared.refused.Refused.{Refused}
 use Rattle.lisp_checks.specs.declared.refused.Refused.TheVariants as refuseds

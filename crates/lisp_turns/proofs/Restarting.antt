@@ -10,10 +10,10 @@ use Rattle.lisp_records.specs.Address.{Block}
 use Rattle.lisp_records.specs.Router.{router_eq}
 use Rattle.lisp_records.specs.Record.{Mapping}
 use Rattle.lisp_lookup.specs.Table.{row_at, if_alive}
-use Rattle.lisp_store.specs.declared.pair.Pair.{Pair}
-use Rattle.lisp_store.specs.Pair.{pair_cmp}
-use Rattle.lisp_store.specs.Store.{StoreState, Rose as Rises}
-use Rattle.lisp_store.specs.Kept.{Kept, kept_at, Narrows}
+use Rattle.lisp_nonces.specs.declared.pair.Pair.{Pair}
+use Rattle.lisp_nonces.specs.Pair.{pair_cmp}
+use Rattle.lisp_nonces.specs.Store.{StoreState, Rose as Rises}
+use Rattle.lisp_nonces.specs.Kept.{Kept, kept_at, Narrows}
 use Rattle.lisp_checks.specs.Pairs.{notice_pair}
 use Rattle.lisp_server.specs.Server.{ServerState}
 use Rattle.lisp_server.specs.LastNonces.{nonce_at}

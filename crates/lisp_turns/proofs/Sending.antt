@@ -13,11 +13,11 @@ use Rattle.lisp_messages.specs.Head.{head_at}
 use Rattle.lisp_messages.specs.Authentic.{signed}
 use Rattle.lisp_messages.specs.Message.{IsRegistration, Registers}
 use Rattle.lisp_messages.specs.Written.{written}
-use Rattle.lisp_store.specs.declared.fate.Fate.{Fate}
-use Rattle.lisp_store.specs.declared.fault.StoreFault.{StoreFault}
-use Rattle.lisp_store.specs.declared.fault.StoreFault.TheVariants as faults
-use Rattle.lisp_store.specs.Kept.{Kept, kept_at, number, InDoubt, NoneBelow, SameElsewhere}
-use Rattle.lisp_store.specs.Store.{StoreState}
+use Rattle.lisp_nonces.specs.declared.fate.Fate.{Fate}
+use Rattle.lisp_nonces.specs.declared.fault.StoreFault.{StoreFault}
+use Rattle.lisp_nonces.specs.declared.fault.StoreFault.TheVariants as faults
+use Rattle.lisp_nonces.specs.Kept.{Kept, kept_at, number, InDoubt, NoneBelow, SameElsewhere}
+use Rattle.lisp_nonces.specs.Store.{StoreState}
 use Rattle.lisp_etr.specs.Config.{Settings, sent_pair}
 use Rattle.lisp_etr.specs.Etr.{EtrState}
 use Rattle.lisp_etr.specs.Round.{started, sent}

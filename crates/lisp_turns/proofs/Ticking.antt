@@ -10,7 +10,7 @@ use Rattle.lisp_records.specs.Address.{Block}
 use Rattle.lisp_records.specs.Moment.{max_moment}
 use Rattle.lisp_records.specs.Row.{Holding, is_alive}
 use Rattle.lisp_lookup.specs.Table.{row_at, is_row_of, if_alive}
-use Rattle.lisp_store.specs.Store.{StoreState}
+use Rattle.lisp_nonces.specs.Store.{StoreState}
 use Rattle.lisp_server.specs.Contacts.{contact_at}
 use Rattle.lisp_schedules.specs.declared.event.Event.TheVariants as events
 use Rattle.lisp_schedules.specs.declared.line.Line.{Line}

@@ -6,7 +6,7 @@ use Rattle.lisp_records.specs.declared.address.Addr.{Addr}
 use Rattle.lisp_records.specs.declared.router.RouterId.{RouterId}
 use Rattle.lisp_records.specs.Router.{router_cmp}
 use Rattle.lisp_records.specs.Row.{Holding}
-use Rattle.lisp_store.specs.declared.pair.Pair.{Pair}
+use Rattle.lisp_nonces.specs.declared.pair.Pair.{Pair}
 use Rattle.lisp_checks.specs.Pairs.{notice_pair}
 use Rattle.lisp_lookup.specs.declared.answer.Answer.{Answer}
 use Rattle.lisp_lookup.specs.Answer.{Answers}

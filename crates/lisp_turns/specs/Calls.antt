@@ -7,13 +7,13 @@ use Rattle.lisp_records.specs.declared.router.RouterId.{RouterId}
 use Rattle.lisp_records.specs.Record.{Mapping}
 use Rattle.lisp_messages.specs.Message.{IsRegistration}
 use Rattle.lisp_messages.specs.Reading.{HasHead, message_at}
-use Rattle.lisp_store.specs.declared.fate.Fate.{Fate}
-use Rattle.lisp_store.specs.declared.fate.Fate.TheVariants.{Done}
-use Rattle.lisp_store.specs.declared.fault.StoreFault.{StoreFault}
-use Rattle.lisp_store.specs.declared.fault.StoreFault.TheVariants as faults
-use Rattle.lisp_store.specs.declared.pair.Pair.{Pair}
-use Rattle.lisp_store.specs.Kept.{kept_at, IsKept, NoneBelow, SameElsewhere, Narrows}
-use Rattle.lisp_store.specs.Store.{StoreState, Rose, Proceeds}
+use Rattle.lisp_nonces.specs.declared.fate.Fate.{Fate}
+use Rattle.lisp_nonces.specs.declared.fate.Fate.TheVariants.{Done}
+use Rattle.lisp_nonces.specs.declared.fault.StoreFault.{StoreFault}
+use Rattle.lisp_nonces.specs.declared.fault.StoreFault.TheVariants as faults
+use Rattle.lisp_nonces.specs.declared.pair.Pair.{Pair}
+use Rattle.lisp_nonces.specs.Kept.{kept_at, IsKept, NoneBelow, SameElsewhere, Narrows}
+use Rattle.lisp_nonces.specs.Store.{StoreState, Rose, Proceeds}
 use Rattle.lisp_etr.specs.Config.{Settings, sent_pair}
 use Rattle.lisp_etr.specs.Etr.{EtrState, etr_started}
 use Rattle.lisp_etr.specs.Hearing.{Gives, AnswerFits, seen_at, after}

@@ -5,9 +5,9 @@ use Rattle.lisp_records.specs.declared.router.RouterId.{RouterId}
 use Rattle.lisp_records.specs.Address.{Block}
 use Rattle.lisp_records.specs.Moment.{max_moment}
 use Rattle.lisp_records.specs.Row.{Holding}
-use Rattle.lisp_store.specs.declared.pair.Pair.{Pair}
-use Rattle.lisp_store.specs.Kept.{kept_at, number, NoneBelow}
-use Rattle.lisp_store.specs.Store.{StoreState}
+use Rattle.lisp_nonces.specs.declared.pair.Pair.{Pair}
+use Rattle.lisp_nonces.specs.Kept.{kept_at, number, NoneBelow}
+use Rattle.lisp_nonces.specs.Store.{StoreState}
 use Rattle.lisp_messages.specs.Message.{IsSaid}
 use Rattle.lisp_lookup.specs.Table.{row_at, if_alive}
 use Rattle.lisp_etr.specs.Etr.{EtrState}

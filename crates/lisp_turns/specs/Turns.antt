@@ -11,8 +11,8 @@ use Rattle.lisp_records.specs.Moment.{max_moment}
 use Rattle.lisp_records.specs.Record.{Mapping}
 use Rattle.lisp_messages.specs.declared.head.Head.{Head}
 use Rattle.lisp_messages.specs.Head.{head_at}
-use Rattle.lisp_store.specs.declared.fate.Fate.{Fate}
-use Rattle.lisp_store.specs.Store.{StoreState}
+use Rattle.lisp_nonces.specs.declared.fate.Fate.{Fate}
+use Rattle.lisp_nonces.specs.Store.{StoreState}
 use Rattle.lisp_etr.specs.Etr.{EtrState}
 use Rattle.lisp_etr.specs.Round.{begun}
 use Rattle.lisp_etr.specs.declared.notify_fault.NotifyFault.{NotifyFault}

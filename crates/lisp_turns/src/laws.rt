@@ -4,8 +4,8 @@
 ghost use Rattle.std.specs.Prelude.{◌≡◌, ℕ, List, Option, Some, None, slice_get};
 ghost use Rattle.lisp_records.specs.Record.{Mapping};
 ghost use Rattle.lisp_records.specs.declared.address.Addr.{Addr};
-ghost use Rattle.lisp_store.specs.declared.fate.Fate.{Fate};
-ghost use Rattle.lisp_store.specs.declared.fate.Fate.TheVariants.{Done};
+ghost use Rattle.lisp_nonces.specs.declared.fate.Fate.{Fate};
+ghost use Rattle.lisp_nonces.specs.declared.fate.Fate.TheVariants.{Done};
 ghost use Rattle.lisp_schedules.specs.declared.event.Event.TheVariants as events;
 ghost use Rattle.lisp_schedules.specs.declared.line.Line.{Line};
 ghost use Rattle.lisp_schedules.specs.declared.line.Line.TheVariants as lines;

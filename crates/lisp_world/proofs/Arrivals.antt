@@ -9,7 +9,7 @@ use Rattle.std.proofs.lemmas.List.Quantifiers.{position-Some}
 use Rattle.std.proofs.lemmas.Option.{slice_get-get_or, slice_get_past, slice_get_read}
 use Rattle.lisp_records.specs.Address.{addr_eq}
 use Rattle.lisp_records.specs.declared.address.Addr.{Addr}
-use Rattle.lisp_store.specs.declared.fate.Fate.{Fate}
+use Rattle.lisp_nonces.specs.declared.fate.Fate.{Fate}
 use Rattle.lisp_schedules.specs.declared.line.Line.{Line}
 use Rattle.lisp_turns.specs.World.{Posted, ServerNode, RouterNode, WorldState}
 use Rattle.lisp_turns.specs.Turns.{address_of, node_with, posted, Arrives, ArrivesWhere, Delivers}

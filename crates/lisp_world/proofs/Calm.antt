@@ -7,9 +7,9 @@ use Rattle.std.proofs.lemmas.Option.{slice_get_within, slice_get-map, get_or_fro
 use Rattle.std.proofs.Math.Seq.{map-set_same}
 use Rattle.lisp_records.specs.declared.address.Addr.{Addr}
 use Rattle.lisp_records.specs.Record.{Mapping}
-use Rattle.lisp_store.specs.declared.fate.Fate.{Fate}
-use Rattle.lisp_store.specs.declared.fate.Fate.TheVariants.{Done}
-use Rattle.lisp_store.specs.Store.{StoreState, Proceeds}
+use Rattle.lisp_nonces.specs.declared.fate.Fate.{Fate}
+use Rattle.lisp_nonces.specs.declared.fate.Fate.TheVariants.{Done}
+use Rattle.lisp_nonces.specs.Store.{StoreState, Proceeds}
 use Rattle.lisp_schedules.specs.declared.line.Line.{Line}
 use Rattle.lisp_turns.specs.World.{Posted, ServerNode, RouterNode, RouterCore, Up, Down, WorldState}
 use Rattle.lisp_turns.specs.Calls.{Uses}

@@ -4,7 +4,7 @@ use Rattle.std.specs.Prelude.{IfOk, IsSome, slice_set}
 use Rattle.std.proofs.lemmas.Option.{slice_get_read}
 use Rattle.lisp_records.specs.declared.address.Addr.{Addr}
 use Rattle.lisp_records.specs.declared.router.RouterId.{RouterId}
-use Rattle.lisp_store.specs.declared.fate.Fate.{Fate}
+use Rattle.lisp_nonces.specs.declared.fate.Fate.{Fate}
 use Rattle.lisp_checks.specs.declared.notice_fault.NoticeFault.{NoticeFault}
 use Rattle.lisp_schedules.specs.declared.line.Line.{Line}
 use Rattle.lisp_messages.specs.Head.{head_at}

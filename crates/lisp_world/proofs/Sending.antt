@@ -2,7 +2,7 @@
 use Rattle.std.proofs.Common.{◌≡◌, ℕ, ◌+◌, ◌<◌, List, get_or, ◌++◌, Option, Some, None, Result, Ok, Err, false, refl, sym, ap, subst, length}
 use Rattle.std.specs.Prelude.{IfOk, IfSome, IsSome, slice_set}
 use Rattle.lisp_messages.specs.Head.{head_at}
-use Rattle.lisp_store.specs.declared.fate.Fate.{Fate}
+use Rattle.lisp_nonces.specs.declared.fate.Fate.{Fate}
 use Rattle.lisp_etr.specs.declared.send_fault.SendFault.{SendFault}
 use Rattle.lisp_schedules.specs.declared.line.Line.{Line}
 use Rattle.lisp_nodes.proofs.RouterCalls.{acted, sent_head, sends_up, sends_down}

@@ -2,8 +2,8 @@
 use Rattle.std.proofs.Common.{◌≡◌, ℕ, List, Option, Some, None, inl, inr, refl, sym, subst}
 use Rattle.lisp_records.specs.declared.address.Addr.{Addr}
 use Rattle.lisp_records.specs.Record.{Mapping}
-use Rattle.lisp_store.specs.declared.fate.Fate.{Fate}
-use Rattle.lisp_store.specs.declared.fate.Fate.TheVariants.{Done}
+use Rattle.lisp_nonces.specs.declared.fate.Fate.{Fate}
+use Rattle.lisp_nonces.specs.declared.fate.Fate.TheVariants.{Done}
 use Rattle.lisp_schedules.specs.declared.event.Event.TheVariants as events
 use Rattle.lisp_schedules.specs.declared.line.Line.{Line}
 use Rattle.lisp_schedules.specs.Legal.{Fits}

@@ -2,8 +2,8 @@
 use Rattle.std.specs.Prelude.{◌≡◌, ◌⊎◌, ◌<◌, ◌≤◌, ℕ, ◌+◌, List, [], ◌∷◌, ◌++◌, length, slice_get, Some, Ok}
 use Rattle.std.specs.FinMap.{empty}
 use Rattle.lisp_sites.specs.Configuration.{Configuration, Router}
-use Rattle.lisp_store.specs.Store.{StoreState}
-use Rattle.lisp_store.specs.declared.fault.StoreFault.TheVariants as faults
+use Rattle.lisp_nonces.specs.Store.{StoreState}
+use Rattle.lisp_nonces.specs.declared.fault.StoreFault.TheVariants as faults
 use Rattle.lisp_etr.specs.declared.start_fault.StartFault.{StartFault}
 use Rattle.lisp_etr.specs.declared.start_fault.StartFault.TheVariants as start_faults
 use Rattle.lisp_schedules.specs.Trace.{settings_of}

@@ -4,8 +4,8 @@ use Rattle.std.specs.List.{list_any}
 use Rattle.lisp_records.specs.Address.{addr_eq}
 use Rattle.lisp_records.specs.Router.{router_eq}
 use Rattle.lisp_sites.specs.Configuration.{Configuration}
-use Rattle.lisp_store.specs.Kept.{Kept}
-use Rattle.lisp_store.specs.Store.{StoreState}
+use Rattle.lisp_nonces.specs.Kept.{Kept}
+use Rattle.lisp_nonces.specs.Store.{StoreState}
 use Rattle.lisp_schedules.specs.Trace.{Opening, addresses}
 use Rattle.lisp_turns.specs.World.{WorldState}
 use Rattle.lisp_world.specs.Quiet.{stores_of}

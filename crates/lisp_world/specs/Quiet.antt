@@ -1,8 +1,8 @@
 -- Stores that don't fail unasked.
 use Rattle.std.specs.Prelude.{◌≡◌, ℕ, List, ◌++◌, map, slice_get, Some, IsTrue}
-use Rattle.lisp_store.specs.Store.{StoreState}
-use Rattle.lisp_store.specs.declared.fate.Fate.{Fate}
-use Rattle.lisp_store.specs.declared.fate.Fate.TheVariants.{Done}
+use Rattle.lisp_nonces.specs.Store.{StoreState}
+use Rattle.lisp_nonces.specs.declared.fate.Fate.{Fate}
+use Rattle.lisp_nonces.specs.declared.fate.Fate.TheVariants.{Done}
 use Rattle.lisp_schedules.specs.Trace.{Happening}
 use Rattle.lisp_schedules.specs.declared.event.Event.TheVariants as events
 use Rattle.lisp_turns.specs.World.{WorldState}

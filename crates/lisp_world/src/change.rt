@@ -7,7 +7,7 @@ use crate::world::World;
 use lisp_memory::Memory;
 use lisp_records::Database;
 use lisp_schedules::{Line, WorldFault};
-use lisp_store::WorldStore;
+use lisp_nonces::WorldStore;
 use std::alloc::Allocator;
 
 impl<S: WorldStore, A: Memory + Copy> World<S, A> {

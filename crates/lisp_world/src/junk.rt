@@ -8,7 +8,7 @@ use lisp_memory::{FallibleVec, Memory};
 use lisp_nodes::{Arrival, hear, post_reply};
 use lisp_records::Addr;
 use lisp_schedules::{Line, WorldFault};
-use lisp_store::{Fate, WorldStore};
+use lisp_nonces::{Fate, WorldStore};
 
 impl<S: WorldStore, A: Memory + Copy> World<S, A> {
     // Bytes that no node sent arrive at a node, as if they came from an address.

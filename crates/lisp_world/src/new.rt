@@ -6,7 +6,7 @@ ghost use Rattle.lisp_records.specs.Address.{addr_eq};
 ghost use Rattle.lisp_records.specs.Router.{router_eq};
 ghost use Rattle.lisp_records.specs.declared.address.Addr.TheVariants.{V4};
 ghost use Rattle.lisp_sites.specs.Configuration.{HasServers};
-ghost use Rattle.lisp_store.specs.declared.fault.StoreFault.{StoreFault};
+ghost use Rattle.lisp_nonces.specs.declared.fault.StoreFault.{StoreFault};
 ghost use Rattle.lisp_etr.specs.declared.start_fault.StartFault.{StartFault};
 ghost use Rattle.lisp_schedules.specs.declared.world_fault.WorldFault.{WorldFault};
 ghost use Rattle.lisp_schedules.specs.Trace.{addresses as addresses_of, settings_of, secret_at};
@@ -27,7 +27,7 @@ use lisp_nodes::{RouterNode, ServerNode, Start};
 use lisp_records::{Addr, RouterId};
 use lisp_schedules::WorldFault;
 use lisp_sites::{Config, Places, RouterEntry, ServerEntry};
-use lisp_store::WorldStore;
+use lisp_nonces::WorldStore;
 use std::alloc::{AllocError, Allocator};
 
 impl<S: WorldStore, A: Memory + Copy> World<S, A> {

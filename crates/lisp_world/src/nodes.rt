@@ -7,7 +7,7 @@ ghost use Rattle.lisp_turns.specs.Turns.{address_of, node_with};
 use crate::world::World;
 use lisp_records::Addr;
 use lisp_schedules::WorldFault;
-use lisp_store::WorldStore;
+use lisp_nonces::WorldStore;
 use std::alloc::Allocator;
 
 impl<S: WorldStore, A: Allocator> World<S, A> {

@@ -15,7 +15,7 @@ use lisp_nodes::{Datagram, post_message};
 use lisp_records::{Addr, Bytes};
 use lisp_schedules::{Line, Refusal, WorldFault};
 use lisp_server::NoticeFault;
-use lisp_store::{Fate, WorldStore};
+use lisp_nonces::{Fate, WorldStore};
 
 impl<S: WorldStore, A: Memory + Copy> World<S, A> {
     // A Map-Server sends a router a notice of what it holds of it.

@@ -14,7 +14,7 @@ use lisp_nodes::{Datagram, post};
 use lisp_records::{Addr, Bytes};
 use lisp_schedules::{Line, Refusal, WorldFault};
 use lisp_server::NoticeFault;
-use lisp_store::WorldStore;
+use lisp_nonces::WorldStore;
 
 impl<S: WorldStore, A: Memory + Copy> World<S, A> {
     // A Map-Server sends a router a notice again that is due.

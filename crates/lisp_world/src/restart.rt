@@ -13,7 +13,7 @@ use lisp_memory::Memory;
 use lisp_nodes::Start;
 use lisp_records::Database;
 use lisp_schedules::{Line, Refusal, WorldFault};
-use lisp_store::WorldStore;
+use lisp_nonces::WorldStore;
 use std::alloc::{AllocError, Allocator};
 
 impl<S: WorldStore, A: Memory + Copy> World<S, A> {

@@ -11,7 +11,7 @@ ghost use Rattle.lisp_turns.specs.Headline.{Promises};
 use crate::world::World;
 use lisp_memory::{FallibleVec, Memory};
 use lisp_schedules::{Event, Line, WorldFault};
-use lisp_store::WorldStore;
+use lisp_nonces::WorldStore;
 use std::alloc::Allocator;
 
 impl<S: WorldStore, A: Memory + Copy> World<S, A> {

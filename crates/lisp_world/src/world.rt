@@ -8,7 +8,7 @@ use lisp_etr::Etr;
 use lisp_nodes::{Datagram, RouterNode, ServerNode};
 use lisp_records::Addr;
 use lisp_server::Server;
-use lisp_store::WorldStore;
+use lisp_nonces::WorldStore;
 use std::alloc::{Allocator, Global};
 use std::marker::Model;
 
@@ -29,7 +29,7 @@ impl<S: WorldStore, A: Allocator> Model for World<S, A> {
     ghost use Rattle.std.specs.Prelude.{◌≡◌, ◌≤◌, ◌+◌, length};
     ghost use Rattle.std.specs.Coded.{codes};
     ghost use Rattle.lisp_records.specs.Moment.{max_moment};
-    ghost use Rattle.lisp_store.specs.Kept.{kept_code};
+    ghost use Rattle.lisp_nonces.specs.Kept.{kept_code};
     ghost use Rattle.lisp_server.specs.LastNonces.{nonces_code};
     ghost use Rattle.lisp_turns.specs.World.{WorldState};
 

@@ -2,8 +2,8 @@ use Rattle.std.proofs.Common.{Ok, subst, sym, ap, ◌∙◌, [], ◌∷◌}
 use Rattle.lisp_records.specs.declared.address.Addr.{Addr}
 use Rattle.lisp_records.specs.declared.address.Addr.TheVariants.{V4}
 use Rattle.lisp_messages.specs.Reading.{message_at}
-use Rattle.lisp_store.specs.Memory.{Memory, memory_state}
-use Rattle.lisp_store.specs.Store.{Proceeds}
+use Rattle.lisp_nonces.specs.Memory.{Memory, memory_state}
+use Rattle.lisp_nonces.specs.Store.{Proceeds}
 use Rattle.lisp_server.specs.Receiving.{Takes, Refuses}
 use Rattle.lisp_server.specs.Server.{ServerState}
 use Rattle.lisp_answer.proofs.FreshLaws.{taken, Excuse, refused}

@@ -1,7 +1,7 @@
 use Rattle.std.proofs.Common.{arith, Err, inr, refl, sym, ap, ◌∙◌, subst, inl}
 use Rattle.lisp_etr.proofs.SafeLaws.{none_below, alone}
-use Rattle.lisp_store.specs.declared.pair.Pair.{Pair}
-use Rattle.lisp_store.specs.Kept.{kept_at, InDoubt}
+use Rattle.lisp_nonces.specs.declared.pair.Pair.{Pair}
+use Rattle.lisp_nonces.specs.Kept.{kept_at, InDoubt}
 use Rattle.lisp_etr.proofs.Refusals.{store_fault, unsaved, apart}
 use Rattle.lisp_etr.proofs.sending.keep_block.Goals as goal
 

@@ -1,4 +1,4 @@
-use Rattle.lisp_store.proofs.Saving.{no_fault, not_out, damaged_not_out}
+use Rattle.lisp_nonces.proofs.Saving.{no_fault, not_out, damaged_not_out}
 use Rattle.lisp_store.proofs.file.read_nonce.Goals as goal
 
 pub returns-in-Err-2 : goal.returns-in-Err-2

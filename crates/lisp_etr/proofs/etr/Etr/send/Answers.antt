@@ -1,8 +1,8 @@
 use Rattle.std.proofs.Common.{◌≡◌, ℕ, ◌+◌, ◌<◌, List, length, get_or, slice_index_or, slice_set, ◌≢◌, Err, sym, inl, subst, refl, ap, ◌∙◌, arith}
 use Rattle.std.proofs.lemmas.List.{get_or_default, length-set}
 use Rattle.std.proofs.lemmas.Result.{err_from_is_err_and}
-use Rattle.lisp_store.specs.Kept.{kept_at, NoneBelow}
-use Rattle.lisp_store.specs.declared.fault.StoreFault.TheVariants.{Device}
+use Rattle.lisp_nonces.specs.Kept.{kept_at, NoneBelow}
+use Rattle.lisp_nonces.specs.declared.fault.StoreFault.TheVariants.{Device}
 use Rattle.lisp_etr.specs.declared.send_fault.SendFault.TheVariants.{Store}
 use Rattle.lisp_etr.specs.Config.{sent_pair}
 use Rattle.lisp_etr.specs.Etr.{EtrState}

@@ -2,8 +2,8 @@ use Rattle.std.proofs.Common.{ap, length, ◌∙◌, Err, sym, subst}
 use Rattle.std.proofs.lemmas.List.{length-replicate}
 use Rattle.lisp_etr.specs.Config.{Settings}
 use Rattle.std.specs.List.{Contains}
-use Rattle.lisp_store.specs.declared.pair.Pair.{Pair}
-use Rattle.lisp_store.specs.Kept.{kept_at}
+use Rattle.lisp_nonces.specs.declared.pair.Pair.{Pair}
+use Rattle.lisp_nonces.specs.Kept.{kept_at}
 use Rattle.lisp_etr.proofs.Refusals.{start_fault, not_stored}
 use Rattle.lisp_etr.proofs.etr.Etr.start.Goals as goal
 

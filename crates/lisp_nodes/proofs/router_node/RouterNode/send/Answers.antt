@@ -1,5 +1,5 @@
 use Rattle.std.proofs.Common.{List, ℕ, ap, refl, sym, subst, ◌∙◌, Err}
-use Rattle.lisp_store.specs.Kept.{NoneBelow, kept_at}
+use Rattle.lisp_nonces.specs.Kept.{NoneBelow, kept_at}
 use Rattle.lisp_etr.specs.Config.{sent_pair}
 use Rattle.lisp_etr.specs.Etr.{EtrState}
 use Rattle.lisp_turns.specs.Calls.{SendsTo}

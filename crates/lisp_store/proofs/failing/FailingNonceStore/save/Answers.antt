@@ -1,11 +1,11 @@
 use Rattle.std.proofs.Common.{◌≤◌, Bool, true, false, cond, Err, IsErrOf, refl, sym, ap, subst, ◌∙◌, true≢false}
 use Rattle.std.specs.Prelude.{OnErr}
-use Rattle.lisp_store.specs.declared.fault.StoreFault.TheVariants.{Device}
-use Rattle.lisp_store.specs.Kept.{kept_at, InDoubt}
-use Rattle.lisp_store.specs.Store.{Rose}
-use Rattle.lisp_store.specs.Memory.{Memory, memory_state, save_answer}
+use Rattle.lisp_nonces.specs.declared.fault.StoreFault.TheVariants.{Device}
+use Rattle.lisp_nonces.specs.Kept.{kept_at, InDoubt}
+use Rattle.lisp_nonces.specs.Store.{Rose}
+use Rattle.lisp_nonces.specs.Memory.{Memory, memory_state, save_answer}
 use Rattle.lisp_store.specs.Failing.{Failing}
-use Rattle.lisp_store.proofs.Saving.{not_failing, as_it_was}
+use Rattle.lisp_store.proofs.Turns.{not_failing, as_it_was}
 use Rattle.lisp_store.proofs.failing.FailingNonceStore.save.Goals as goal
 
 pub returns-clause-doubt : goal.returns-clause-doubt

@@ -1,7 +1,7 @@
 use Rattle.std.proofs.Common.{refl, sym, ◌∙◌, true≢false, false}
 use Rattle.std.specs.FinMap.{empty}
 use Rattle.std.proofs.lemmas.Result.{IfErr-weaker}
-use Rattle.lisp_store.proofs.Saving.{rose}
+use Rattle.lisp_nonces.proofs.Saving.{rose}
 use Rattle.lisp_store.proofs.file.FileStoreNonceStore.load.Goals as goal
 
 pub returns-clause-refused : goal.returns-clause-refused

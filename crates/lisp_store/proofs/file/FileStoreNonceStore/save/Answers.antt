@@ -1,8 +1,8 @@
 use Rattle.std.proofs.Common.{◌≡◌, ◌≢◌, ◌+◌, ◌-◌, ◌^◌, min, Err, refl, sym, ap, ◌∙◌, true≢false, false}
 use Rattle.std.specs.FinMap.{empty}
 use Rattle.std.proofs.lemmas.Result.{IfErr-at_err}
-use Rattle.lisp_store.specs.declared.fault.StoreFault.TheVariants.{OutOfMemory}
-use Rattle.lisp_store.proofs.Saving.{rose, not_out}
+use Rattle.lisp_nonces.specs.declared.fault.StoreFault.TheVariants.{OutOfMemory}
+use Rattle.lisp_nonces.proofs.Saving.{rose, not_out}
 use Rattle.lisp_store.proofs.file.FileStoreNonceStore.save.Goals as goal
 
 pub returns-clause-refused : goal.returns-clause-refused

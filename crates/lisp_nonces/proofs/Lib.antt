@@ -1,0 +1,4 @@
+pub mod Pairs
+pub mod Entries
+pub mod Restart
+pub mod Saving

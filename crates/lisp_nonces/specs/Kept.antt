@@ -1,0 +1,43 @@
+-- Kept: for each pair the values that a load may still answer. 'Nothing' is a value too.
+use Rattle.std.specs.Prelude.{◌≡◌, ◌≢◌, ◌⊎◌, ℕ, ◌≤◌, List, [], ◌∷◌, ◌++◌, Option, Some, None}
+use Rattle.std.specs.Coded.{Coded, coded_ℕ, coded_list, coded_option}
+use Rattle.std.specs.FinMap.{FinMap, get, code}
+use Rattle.std.specs.List.{Contains}
+use Rattle.std.specs.Option.{unwrap_or}
+use Rattle.lisp_nonces.specs.declared.pair.Pair.{Pair}
+use Rattle.lisp_nonces.specs.Pair.{pair_cmp, pair_code}
+
+-- the lists of the pairs that have one; the others keep 'nothing' alone
+abbrev pub Kept : Type 0
+Kept = FinMap pair_cmp (List (Option ℕ))
+
+abbrev pub kept_code : Coded Kept
+kept_code = code pair_code (coded_list (coded_option coded_ℕ))
+
+unfoldable pub kept_at : Kept → Pair → List (Option ℕ)
+kept_at kept pair = unwrap_or (get kept pair) (None ∷ [])
+
+-- what is kept, as a number: nothing counts as 0
+abbrev pub number : Option ℕ → ℕ
+number value = unwrap_or value 0
+
+-- n is the number of one of the values
+abbrev pub IsKept : List (Option ℕ) → ℕ → Type 0
+IsKept values n = (v : Option ℕ) × Contains values v × (n ≡ number v)
+
+-- no value is below n; of 0 this asks nothing
+abbrev pub NoneBelow : ℕ → List (Option ℕ) → Type 0
+NoneBelow n values = (v : Option ℕ) → Contains values v → n ≤ number v
+
+-- every other pair keeps what it kept
+abbrev pub SameElsewhere : Kept → Kept → Pair → Type 0
+SameElsewhere old new pair = (q : Pair) → q ≢ pair → kept_at new q ≡ kept_at old q
+
+-- after a save that failed: the list is as it was, or has the value too
+abbrev pub InDoubt : List (Option ℕ) → List (Option ℕ) → ℕ → Type 0
+InDoubt old new nonce = (new ≡ old) ⊎ (new ≡ old ++ Some nonce ∷ [])
+
+-- after a restart: some value is left, and none was added
+pub record Narrows (old new : List (Option ℕ)) : Type 0 where
+  pub some : (v : Option ℕ) × Contains new v
+  pub each : (v : Option ℕ) → Contains new v → Contains old v

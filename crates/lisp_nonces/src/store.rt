@@ -1,0 +1,70 @@
+//! What a store of nonces promises to routers and servers.
+
+ghost use Rattle.std.specs.Prelude.{◌≡◌, ◌≢◌, [], ◌∷◌, Some, Err, IsTrue, IfOk, IfErr, OnOk, OnErr, IsErrOf};
+ghost use Rattle.std.specs.List.{Contains};
+ghost use Rattle.lisp_nonces.specs.Kept.{kept_at, SameElsewhere, InDoubt, Narrows};
+ghost use Rattle.lisp_nonces.specs.Store.{StoreState, Rose, Proceeds};
+ghost use Rattle.lisp_nonces.specs.declared.fate.Fate.{Fate};
+ghost use Rattle.lisp_nonces.specs.declared.pair.Pair.{Pair};
+ghost use Rattle.lisp_nonces.specs.declared.fault.StoreFault.{StoreFault};
+
+use crate::fate::Fate;
+use crate::fault::StoreFault;
+use crate::pair::Pair;
+
+/// Where the last nonce of each pair is kept, across any crash. After a save that was not answered
+/// done it is open whether its value is kept: a load answers one of the values that may be, and a
+/// restart leaves one of them. What is said of values is said of honest stores.
+pub trait NonceStore {
+    ghost seen: { Self → StoreState };
+
+    /// Whether the store may run out of memory.
+    ghost may_refuse: { Type 0 };
+
+    /// The nonce that is kept for the pair, `None` for nothing. `Device` or `Damaged` where the device
+    /// failed, `OutOfMemory`, which changes nothing and comes only where the store may run out of memory.
+    fn load(&mut self, pair: &Pair) -> Result<Option<u64>, StoreFault>
+        // The answer is a value that may be kept.
+        ensures member { IsTrue (seen self.old).is_honest → IfOk result (λ v. Contains (kept_at (seen self.old).kept pair.now) v) }
+
+        // Loading changes no list.
+        ensures same { IsTrue (seen self.old).is_honest → (seen self.new).kept ≡ (seen self.old).kept }
+        ensures cause { IfErr result (λ f. f ≢ StoreFault.OutOfMemory → Rose (seen self.old) (seen self.new)) }
+        ensures refused { IsErrOf result StoreFault.OutOfMemory → seen self.new ≡ seen self.old }
+        ensures memory { IsErrOf result StoreFault.OutOfMemory → may_refuse }
+        ensures proceeds { Proceeds (seen self.old) (seen self.new) };
+
+    /// Keeps the nonce for the pair. `Device` where the device failed: it is open then whether it is
+    /// kept. `OutOfMemory` changes nothing, and comes only where the store may run out of memory.
+    fn save(&mut self, pair: &Pair, nonce: u64) -> Result<(), StoreFault>
+        // Done: this value alone is kept.
+        ensures done { IsTrue (seen self.old).is_honest → OnOk result (kept_at (seen self.new).kept pair.now ≡ Some nonce ∷ []) }
+
+        // Not done: what was kept may be, and perhaps this value.
+        ensures doubt { IsTrue (seen self.old).is_honest → OnErr result (InDoubt (kept_at (seen self.old).kept pair.now) (kept_at (seen self.new).kept pair.now) nonce) }
+        ensures others { IsTrue (seen self.old).is_honest → SameElsewhere (seen self.old).kept (seen self.new).kept pair.now }
+        ensures sound { result ≢ Err StoreFault.Damaged }
+        ensures cause { IsErrOf result StoreFault.Device → Rose (seen self.old) (seen self.new) }
+        ensures refused { IsErrOf result StoreFault.OutOfMemory → seen self.new ≡ seen self.old }
+        ensures memory { IsErrOf result StoreFault.OutOfMemory → may_refuse }
+        ensures proceeds { Proceeds (seen self.old) (seen self.new) };
+}
+
+/// A store of a world, whose calls can be made to fail, and which can be restarted.
+pub trait WorldStore: NonceStore {
+    /// What is to become of the calls from now on.
+    fn arm(&mut self, fate: Fate)
+        ensures kept { (Self.seen self.new).kept ≡ (Self.seen self.old).kept }
+        ensures count { (Self.seen self.new).faults ≡ (Self.seen self.old).faults }
+        ensures honest { (Self.seen self.new).is_honest ≡ (Self.seen self.old).is_honest }
+        ensures obedient { (Self.seen self.new).is_obedient ≡ (Self.seen self.old).is_obedient }
+
+        // Armed with `Done`, an obedient store fails no more.
+        ensures quiet { IsTrue (Self.seen self.old).is_obedient → fate ≡ Fate.Done → IsTrue (Self.seen self.new).is_quiet };
+
+    /// The store after a crash: of the values that may be kept for a pair some are left, by `pick`, and
+    /// none is added.
+    fn restart(&mut self, pick: u64)
+        ensures narrows { IsTrue (Self.seen self.old).is_honest → (q : Pair) → Narrows (kept_at (Self.seen self.old).kept q) (kept_at (Self.seen self.new).kept q) }
+        ensures proceeds { Proceeds (Self.seen self.old) (Self.seen self.new) };
+}
