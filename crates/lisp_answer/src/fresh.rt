@@ -6,10 +6,10 @@ ghost use Rattle.lisp_answer.specs.Answer.{Answers};
 ghost use Rattle.lisp_answer.specs.Fresh.{fresh_server, fresh_memory};
 
 use lisp_memory::Memory;
+use lisp_nonces::MemoryStore;
 use lisp_records::{Addr, Bytes};
 use lisp_served::Sites;
 use lisp_server::{Refused, Server};
-use lisp_nonces::MemoryStore;
 
 /// Where the datagram is said to come from: no answer shows it.
 const SOURCE: Addr = Addr::V4([127, 0, 0, 1]);

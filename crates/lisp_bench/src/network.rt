@@ -5,10 +5,10 @@ use crate::registers::{empty_register, host_records};
 use crate::stopwatch::Stopwatch;
 use lisp_hmac::Key;
 use lisp_messages::{MapRegister, write_register};
+use lisp_nonces::{MemoryStore, NonceStore};
 use lisp_records::{Addr, Prefix};
 use lisp_served::Sites;
 use lisp_server::Server;
-use lisp_nonces::{MemoryStore, NonceStore};
 use std::alloc::{AllocError, Global};
 use std::rt::Clock;
 

@@ -5,8 +5,8 @@ ghost use Rattle.std.specs.Prelude.{false};
 
 use lisp_etr::{Etr, EtrConfig, Servers};
 use lisp_hmac::Key;
-use lisp_records::{Addr, Database, RouterId};
 use lisp_nonces::{NonceStore, Pair, StoreFault};
+use lisp_records::{Addr, Database, RouterId};
 use std::alloc::{AllocError, Global};
 
 /// How many Map-Registers are sent.

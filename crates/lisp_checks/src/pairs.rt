@@ -4,8 +4,8 @@ ghost use Rattle.std.specs.Prelude.{◌≡◌};
 ghost use Rattle.lisp_checks.specs.Pairs.{router_of, pair_of};
 
 use lisp_messages::MapRegister;
-use lisp_records::RouterId;
 use lisp_nonces::{Pair, PairKind};
+use lisp_records::RouterId;
 use std::alloc::Allocator;
 
 /// The pair of the nonces of all notices.

@@ -5,7 +5,7 @@ use Rattle.std.specs.Prelude.{IfSome, slice_get, IsTrue}
 use Rattle.std.specs.Option.{option_and_then}
 use Rattle.lisp_nonces.specs.Memory.{Memory, memory_state}
 use Rattle.lisp_nonces.specs.Store.{StoreState}
-use Rattle.lisp_sites.specs.Configuration.{Configuration}
+use Rattle.lisp_served.specs.Configuration.{Configuration}
 use Rattle.lisp_records.specs.Row.{Holding}
 use Rattle.lisp_lookup.specs.Table.{IsHeld}
 use Rattle.lisp_etr.specs.Etr.{EtrState}

@@ -2,7 +2,7 @@
 use Rattle.std.specs.Prelude.{◌≡◌, ℕ, List, map, reverse, slice_get, Option, Some}
 use Rattle.std.specs.List.{Contains}
 use Rattle.lisp_records.specs.Row.{Holding}
-use Rattle.lisp_sites.specs.Configuration.{Configuration}
+use Rattle.lisp_served.specs.Configuration.{Configuration}
 use Rattle.lisp_schedules.specs.Trace.{Happening, Step, Opening, router_at, clock}
 use Rattle.lisp_schedules.specs.History.{Entry}
 use Rattle.lisp_schedules.specs.Held.{rows}

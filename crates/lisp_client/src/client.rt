@@ -2,16 +2,16 @@
 
 ghost use Rattle.std.specs.Prelude.{◌≡◌, List, IfOk, IfSome, length, map};
 ghost use Rattle.lisp_nonces.specs.Memory.{memory_state};
-ghost use Rattle.lisp_sites.specs.Configuration.{Configuration};
+ghost use Rattle.lisp_served.specs.Configuration.{Configuration};
 ghost use Rattle.lisp_schedules.specs.Trace.{Happening, happening};
 ghost use Rattle.lisp_world.specs.Quiet.{AllHonest};
 ghost use Rattle.lisp_client.specs.Promised.{HasRun, IsPromised};
 
 use lisp_memory::{FallibleVec, Memory};
+use lisp_nonces::MemoryStore;
 use lisp_records::Row;
 use lisp_schedules::Event;
 use lisp_sites::Config;
-use lisp_nonces::MemoryStore;
 use lisp_world::World;
 use std::alloc::{AllocError, Allocator, Global};
 

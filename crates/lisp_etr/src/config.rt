@@ -5,8 +5,8 @@ ghost use Rattle.lisp_etr.specs.Config.{sent_pair};
 
 use crate::servers::Servers;
 use lisp_hmac::Key;
-use lisp_records::RouterId;
 use lisp_nonces::{Pair, PairKind};
+use lisp_records::RouterId;
 use std::alloc::{Allocator, Global};
 use std::marker::Model;
 

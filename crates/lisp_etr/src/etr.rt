@@ -29,8 +29,8 @@ use crate::sending::{datagram, keep_block};
 use crate::start_fault::{StartFault, StartRefused};
 use lisp_memory::{FallibleCopies, Memory};
 use lisp_messages::{MapNotify, write_notify};
-use lisp_records::{Addr, Bytes, Database};
 use lisp_nonces::{FIRST_NOTICE_NONCE, LAST_ROUTER_NONCE, NonceStore};
+use lisp_records::{Addr, Bytes, Database};
 use std::alloc::{Allocator, Global};
 use std::marker::Model;
 

@@ -17,8 +17,8 @@ use crate::notify_fault::NotifyFault;
 use crate::seen::Seen;
 use crate::send_fault::SendFault;
 use lisp_memory::Memory;
-use lisp_records::Addr;
 use lisp_nonces::NonceStore;
+use lisp_records::Addr;
 
 /// Sends that are made when due, without changes or acknowledgements, are at 2^k - 1 s after a round's
 /// beginning for k up to 6, and at 63 + 60 (k - 6) s from there.

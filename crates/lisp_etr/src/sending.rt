@@ -13,8 +13,8 @@ use crate::config::EtrConfig;
 use crate::send_fault::SendFault;
 use lisp_memory::Memory;
 use lisp_messages::{MapRegister, write_register};
-use lisp_records::Database;
 use lisp_nonces::{LAST_ROUTER_NONCE, MAX_NONCE_BLOCK, NonceStore};
+use lisp_records::Database;
 use std::alloc::{AllocError, Allocator};
 
 /// The bytes of the Map-Register of a database under a nonce (RFC 9301 section 5.6).

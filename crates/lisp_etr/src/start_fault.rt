@@ -4,8 +4,8 @@ ghost use Rattle.std.specs.Prelude.{◌≡◌};
 ghost use Rattle.lisp_etr.specs.Faults.{start_fault_number};
 
 use crate::config::EtrConfig;
-use lisp_records::Database;
 use lisp_nonces::StoreFault;
+use lisp_records::Database;
 use std::alloc::{Allocator, Global};
 use thiserror::Error;
 

@@ -1,7 +1,7 @@
 -- The parts of a line: its verb, its nodes, what else it tells, and its datagram.
 use Rattle.std.specs.Prelude.{ℕ, List, [], ◌++◌, codes, Option, Some, None}
 use Rattle.std.specs.Fmt.{decimal}
-use Rattle.lisp_sites.specs.Configuration.{Configuration}
+use Rattle.lisp_served.specs.Configuration.{Configuration}
 use Rattle.lisp_schedules.specs.Faults.{refusal_number}
 use Rattle.lisp_schedules.specs.declared.refusal.Refusal.{Refusal}
 use Rattle.lisp_schedules.specs.declared.line.Line.{Line}

@@ -17,10 +17,10 @@ use crate::server_node::ServerNode;
 use lisp_checks::Refused;
 use lisp_etr::{NotifyFault, Seen};
 use lisp_memory::Memory;
+use lisp_nonces::{Fate, WorldStore};
 use lisp_records::{Addr, Bytes};
 use lisp_schedules::{Line, Refusal};
 use lisp_server::Took;
-use lisp_nonces::{Fate, WorldStore};
 use std::alloc::Allocator;
 
 /// How bytes arrive at a node.

@@ -18,9 +18,9 @@ use crate::router_core::RouterCore;
 use core::mem::replace_with;
 use lisp_etr::{Etr, EtrConfig, NotifyFault, Seen, SendFault, StartFault, StartRefused};
 use lisp_memory::Memory;
-use lisp_records::{Addr, Bytes, Database, RouterId};
-use lisp_sites::Places;
 use lisp_nonces::{Fate, WorldStore};
+use lisp_records::{Addr, Bytes, Database, RouterId};
+use lisp_served::Places;
 use std::alloc::{Allocator, Global};
 use std::marker::Model;
 

@@ -12,10 +12,10 @@ ghost use Rattle.lisp_turns.specs.Turns.{ExpiresNode, ResendsTo};
 use crate::arming::arm;
 use core::mem::replace_with;
 use lisp_memory::Memory;
+use lisp_nonces::{Fate, WorldStore};
 use lisp_records::{Addr, Bytes, RouterId};
 use lisp_served::Sites;
 use lisp_server::{NoticeFault, Refused, Server, Took};
-use lisp_nonces::{Fate, WorldStore};
 use std::alloc::{Allocator, Global};
 use std::marker::Model;
 

@@ -9,7 +9,7 @@ use Rattle.lisp_records.specs.Result.{◌>>=◌}
 use Rattle.lisp_nonces.specs.Memory.{Memory, memory_state}
 use Rattle.lisp_nonces.specs.Store.{StoreState}
 use Rattle.lisp_nonces.specs.declared.fate.Fate.TheVariants.{Done}
-use Rattle.lisp_sites.specs.Configuration.{Configuration}
+use Rattle.lisp_served.specs.Configuration.{Configuration}
 use Rattle.lisp_turns.specs.World.{WorldState}
 use Rattle.lisp_turns.specs.Stands.{Stands}
 use Rattle.lisp_turns.proofs.Gets.{none_is_some, same_some}

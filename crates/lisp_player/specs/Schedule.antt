@@ -4,7 +4,7 @@ use Rattle.std.specs.FinMap.{empty}
 use Rattle.std.specs.List.{AllByRecursion}
 use Rattle.std.specs.Io.KnownBytes.{Appends, Keeps}
 use Rattle.lisp_records.specs.Result.{◌>>=◌}
-use Rattle.lisp_sites.specs.Configuration.{Configuration}
+use Rattle.lisp_served.specs.Configuration.{Configuration}
 use Rattle.lisp_sites.specs.declared.fault.ConfigFault.{ConfigFault}
 use Rattle.lisp_schedules.specs.Trace.{Shown, Step, Opening}
 use Rattle.lisp_turns.specs.World.{WorldState}

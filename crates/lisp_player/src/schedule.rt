@@ -11,9 +11,9 @@ ghost use Rattle.lisp_player.specs.Schedule.{Refuses, IsSilent, Begins, PlayedFr
 ghost use Rattle.lisp_streams.specs.declared.play_fault.PlayFault.TheVariants as faults;
 
 use lisp_memory::{FallibleVec, Memory};
+use lisp_nonces::MemoryStore;
 use lisp_playing::{Command, PlayFault, play_on};
 use lisp_sites::Config;
-use lisp_nonces::MemoryStore;
 use lisp_streams::{read_schedule, read_to_end};
 use lisp_world::World;
 use std::alloc::{AllocError, Allocator, Global};

@@ -8,7 +8,7 @@ use Rattle.std.specs.Io.KnownBytes.{Appends, Keeps}
 use Rattle.std.specs.Prelude.{IfErr}
 use Rattle.lisp_streams.specs.declared.play_fault.PlayFault.{PlayFault}
 use Rattle.lisp_streams.specs.declared.play_fault.PlayFault.TheVariants.{OutOfMemory, Write}
-use Rattle.lisp_sites.specs.Configuration.{Configuration}
+use Rattle.lisp_served.specs.Configuration.{Configuration}
 use Rattle.lisp_schedules.specs.Trace.{Step, Opening}
 use Rattle.lisp_turns.specs.World.{WorldState}
 use Rattle.lisp_script.specs.declared.command.Command.{Command}

@@ -11,7 +11,7 @@ use Rattle.std.proofs.lemmas.Option.{slice_get_within, slice_get_past}
 use Rattle.lisp_records.specs.declared.address.Addr.{Addr}
 use Rattle.lisp_records.specs.declared.router.RouterId.{RouterId}
 use Rattle.lisp_records.specs.Row.{Holding}
-use Rattle.lisp_sites.specs.Configuration.{Configuration, Router}
+use Rattle.lisp_served.specs.Configuration.{Configuration, Router}
 use Rattle.lisp_lookup.specs.declared.answer.Answer.{Answer}
 use Rattle.lisp_lookup.specs.Answer.{Answers}
 use Rattle.lisp_lookup.specs.Table.{OneEach, IsHeld}

@@ -6,7 +6,7 @@ use Rattle.std.specs.Option.{option_and_then}
 use Rattle.lisp_records.specs.declared.address.Addr.{Addr}
 use Rattle.lisp_records.specs.declared.router.RouterId.{RouterId}
 use Rattle.lisp_lookup.specs.declared.answer.Answer.{Answer}
-use Rattle.lisp_sites.specs.Configuration.{Configuration, Router}
+use Rattle.lisp_served.specs.Configuration.{Configuration, Router}
 use Rattle.lisp_schedules.specs.declared.line.Line.TheVariants as lines
 use Rattle.lisp_schedules.specs.Trace.{Step, Opening, router_at, clock, is_up}
 use Rattle.lisp_schedules.specs.Held.{rows}

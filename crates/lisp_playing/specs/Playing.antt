@@ -13,7 +13,7 @@ use Rattle.lisp_schedules.specs.declared.world_fault.WorldFault.TheVariants.{Out
 use Rattle.lisp_lines.specs.Line.{line_text}
 use Rattle.lisp_script.specs.declared.command.Command.TheVariants.{Act, Hold, Acks, Ask, Due}
 use Rattle.lisp_script.specs.Order.{Order}
-use Rattle.lisp_sites.specs.Configuration.{Configuration}
+use Rattle.lisp_served.specs.Configuration.{Configuration}
 use Rattle.lisp_playing.specs.Asked.{OfTraces, fault_text, Holds, Asks, Acknowledges, IsDue}
 
 -- what keeps a network that stands for the trace from taking an event; memory only where it may be refused

@@ -10,10 +10,10 @@ ghost use Rattle.lisp_playing.specs.Playing.{Turns, Loses};
 use crate::asked::{ack_lines, ask_line, due_line, fault_line, hold_lines};
 use lisp_lines::line_text;
 use lisp_memory::Memory;
+use lisp_nonces::WorldStore;
 use lisp_schedules::Event;
 use lisp_script::Command;
 use lisp_sites::Config;
-use lisp_nonces::WorldStore;
 use lisp_world::World;
 use std::alloc::{AllocError, Allocator};
 

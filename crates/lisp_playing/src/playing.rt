@@ -8,9 +8,9 @@ ghost use Rattle.lisp_streams.specs.declared.play_fault.PlayFault.TheVariants as
 
 use crate::command::command_text;
 use lisp_memory::Memory;
+use lisp_nonces::WorldStore;
 use lisp_script::Command;
 use lisp_sites::Config;
-use lisp_nonces::WorldStore;
 use lisp_streams::{PlayFault, write_text};
 use lisp_world::World;
 use std::alloc::Allocator;

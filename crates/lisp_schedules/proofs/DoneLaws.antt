@@ -7,7 +7,7 @@ use Rattle.std.proofs.lemmas.Bool.{and_parts, leb-true, ltb-true, lt-ltb}
 use Rattle.std.proofs.lemmas.Bool.Decides.{Decides-eqb}
 use Rattle.lisp_records.specs.declared.address.Addr.{Addr}
 use Rattle.lisp_records.specs.declared.router.RouterId.{RouterId}
-use Rattle.lisp_sites.specs.Configuration.{Configuration, HasServers}
+use Rattle.lisp_served.specs.Configuration.{Configuration, HasServers}
 use Rattle.lisp_messages.specs.Message.{Notification}
 use Rattle.lisp_messages.specs.Authentic.{is_authentic}
 use Rattle.lisp_checks.specs.Checks.{signed_by}

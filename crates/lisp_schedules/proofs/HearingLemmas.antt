@@ -5,7 +5,7 @@ use Rattle.std.specs.List.{AllPairs, Contains, find, flat_map}
 use Rattle.std.proofs.lemmas.Bool.{and_parts, ltb-true, leb-true}
 use Rattle.std.proofs.lemmas.List.{length-append, length-map}
 use Rattle.lisp_records.specs.Address.{addr_eq}
-use Rattle.lisp_sites.specs.Configuration.{Configuration}
+use Rattle.lisp_served.specs.Configuration.{Configuration}
 use Rattle.lisp_messages.specs.declared.fault.ReadFault.{ReadFault}
 use Rattle.lisp_messages.specs.Authentic.{is_authentic}
 use Rattle.lisp_messages.specs.Message.{Said, Notification, Registers, Notifies}

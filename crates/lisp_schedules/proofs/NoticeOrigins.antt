@@ -7,7 +7,7 @@ use Rattle.std.proofs.lemmas.List.Elements.{Contains-append_cases}
 use Rattle.lisp_records.specs.declared.router.RouterId.{RouterId}
 use Rattle.lisp_records.specs.Router.{router_eq}
 use Rattle.lisp_records.proofs.RouterLaws.{router_eq-Decides}
-use Rattle.lisp_sites.specs.Configuration.{Configuration}
+use Rattle.lisp_served.specs.Configuration.{Configuration}
 use Rattle.lisp_served.specs.Site.{SiteEntry, site_of, secret_of}
 use Rattle.lisp_messages.specs.Message.{Registration}
 use Rattle.lisp_messages.specs.Authentic.{is_authentic}

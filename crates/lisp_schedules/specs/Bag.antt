@@ -2,7 +2,7 @@
 use Rattle.std.specs.Prelude.{ℕ, ◌==◌, List, [], ◌∷◌, ◌++◌, slice_get, map, Option, Some, None, Result, Ok, Err, if◌then◌else◌, false, ◌≢◌}
 use Rattle.std.specs.Option.{option_map, option_and_then, option_to_list}
 use Rattle.lisp_records.specs.declared.address.Addr.{Addr}
-use Rattle.lisp_sites.specs.Configuration.{Configuration}
+use Rattle.lisp_served.specs.Configuration.{Configuration}
 use Rattle.lisp_messages.specs.declared.fault.ReadFault.{ReadFault}
 use Rattle.lisp_messages.specs.Message.{Said, Registration, Notification, Registers, Notifies}
 use Rattle.lisp_messages.specs.Authentic.{signed}

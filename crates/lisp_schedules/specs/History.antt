@@ -3,7 +3,7 @@ use Rattle.std.specs.Prelude.{ℕ, List, [], ◌∷◌, ◌++◌, length, revers
 use Rattle.std.specs.List.{find}
 use Rattle.lisp_records.specs.Address.{Block, block_eq}
 use Rattle.lisp_records.specs.Record.{Mapping}
-use Rattle.lisp_sites.specs.Configuration.{Configuration}
+use Rattle.lisp_served.specs.Configuration.{Configuration}
 use Rattle.lisp_messages.specs.Message.{Registration}
 use Rattle.lisp_etr.specs.Sending.{registration_of}
 use Rattle.lisp_schedules.specs.declared.line.Line.{Line}

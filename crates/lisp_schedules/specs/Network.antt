@@ -1,7 +1,7 @@
 -- Which configurations are a network's.
 use Rattle.std.specs.Prelude.{◌≢◌}
 use Rattle.std.specs.List.{AllByRecursion, AllPairs}
-use Rattle.lisp_sites.specs.Configuration.{Configuration, HasServers}
+use Rattle.lisp_served.specs.Configuration.{Configuration, HasServers}
 use Rattle.lisp_schedules.specs.Trace.{addresses}
 
 -- each router's list names servers, none twice

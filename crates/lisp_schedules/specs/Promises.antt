@@ -6,7 +6,7 @@ use Rattle.lisp_schedules.specs.declared.line.Line.{Line}
 use Rattle.lisp_records.specs.Address.{Block}
 use Rattle.lisp_records.specs.Row.{Holding}
 use Rattle.lisp_records.specs.declared.router.RouterId.{RouterId}
-use Rattle.lisp_sites.specs.Configuration.{Configuration}
+use Rattle.lisp_served.specs.Configuration.{Configuration}
 use Rattle.lisp_nonces.specs.declared.pair.Pair.{Pair}
 use Rattle.lisp_checks.specs.Pairs.{pair_of}
 use Rattle.lisp_checks.specs.declared.refused.Refused.TheVariants.{Replay}

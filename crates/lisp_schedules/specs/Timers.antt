@@ -4,7 +4,7 @@ use Rattle.std.specs.List.{find, filter}
 use Rattle.lisp_records.specs.declared.router.RouterId.{RouterId}
 use Rattle.lisp_records.specs.Moment.{minute}
 use Rattle.lisp_records.specs.Router.{router_eq}
-use Rattle.lisp_sites.specs.Configuration.{Configuration}
+use Rattle.lisp_served.specs.Configuration.{Configuration}
 use Rattle.lisp_etr.specs.Timers.{due_after}
 use Rattle.lisp_checks.specs.NoticeTimer.{due_after as notice_due_after, has_come}
 use Rattle.lisp_schedules.specs.declared.line.Line.{Line}

@@ -9,7 +9,7 @@ use Rattle.lisp_records.specs.declared.address.Addr.TheVariants.{V4}
 use Rattle.lisp_records.specs.Address.{addr_eq}
 use Rattle.lisp_records.specs.Record.{Mapping}
 use Rattle.lisp_served.specs.Site.{SiteEntry}
-use Rattle.lisp_sites.specs.Configuration.{Configuration, Router}
+use Rattle.lisp_served.specs.Configuration.{Configuration, Router}
 use Rattle.lisp_nonces.specs.Kept.{Kept}
 use Rattle.lisp_etr.specs.Config.{Settings}
 use Rattle.lisp_checks.specs.Checks.{secret_at as known_secret}

@@ -1,7 +1,7 @@
 //! What happens in a network.
 
-use lisp_records::{Addr, Bytes, Database};
 use lisp_nonces::Fate;
+use lisp_records::{Addr, Bytes, Database};
 use std::alloc::{Allocator, Global};
 
 /// One event: one call of one node. Nodes are named by their numbers: servers, then routers, in the

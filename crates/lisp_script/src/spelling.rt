@@ -2,7 +2,7 @@
 
 ghost use Rattle.std.specs.Prelude.{◌≡◌, ◌≢◌, [], ◌∷◌, map, IfErr};
 ghost use Rattle.lisp_records.specs.Result.{Reads};
-ghost use Rattle.lisp_sites.specs.Configuration.{Configuration};
+ghost use Rattle.lisp_served.specs.Configuration.{Configuration};
 ghost use Rattle.lisp_script.specs.Fault.{Gives};
 ghost use Rattle.lisp_script.specs.Order.{order};
 ghost use Rattle.lisp_script.specs.Spelling.{change_of, send_of, deliver_of, restart_of, restart_with, notice_of, given_to, spelt, command_of};
@@ -14,9 +14,9 @@ use crate::fault::ScriptWhat;
 use crate::verb::Verb;
 use crate::words::{address, bytes, database, doubt, fate, node, number, router, server};
 use lisp_memory::Memory;
+use lisp_nonces::Fate;
 use lisp_schedules::Event;
 use lisp_sites::Config;
-use lisp_nonces::Fate;
 use std::alloc::Allocator;
 
 /// The command of a line's first word, and the words behind it.

@@ -7,9 +7,9 @@ ghost use Rattle.lisp_script.specs.declared.fault.ScriptWhat.TheVariants.{Memory
 
 use crate::fault::ScriptWhat;
 use lisp_memory::{FallibleCopies, FallibleVec, Memory};
+use lisp_nonces::Fate;
 use lisp_records::{Addr, Bytes, Database, MapRecord};
 use lisp_sites::{Config, RouterEntry, ServerEntry};
-use lisp_nonces::Fate;
 use lisp_texts::{addr_from_text, number_from_text, record_from_text};
 use std::alloc::{AllocError, Allocator};
 

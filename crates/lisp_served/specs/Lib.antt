@@ -1,3 +1,4 @@
 pub mod Order
 pub mod Index
 pub mod Site
+pub mod Configuration

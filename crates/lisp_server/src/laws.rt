@@ -12,8 +12,8 @@ use crate::server::Server;
 use crate::took::Took;
 use lisp_checks::Refused;
 use lisp_memory::Memory;
-use lisp_records::Addr;
 use lisp_nonces::NonceStore;
+use lisp_records::Addr;
 
 /// A notice that is sent again each time when it is due goes out 3, 6, 9, 15, 27 and 51 s after it was first
 /// sent, and then no more.

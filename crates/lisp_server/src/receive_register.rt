@@ -20,9 +20,9 @@ use lisp_checks::{Refused, check_nonce, key_under, pair_of, save_nonce};
 use lisp_hmac::Key;
 use lisp_memory::Memory;
 use lisp_messages::MapRegister;
+use lisp_nonces::{NonceStore, Pair, PairKind};
 use lisp_records::{Bytes, Row};
 use lisp_served::Sites;
-use lisp_nonces::{NonceStore, Pair, PairKind};
 use std::alloc::{AllocError, Allocator};
 
 /// Receives a Map-Register that was read from the bytes of an arrival. All that takes memory comes before

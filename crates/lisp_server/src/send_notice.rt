@@ -19,9 +19,9 @@ use lisp_hmac::Key;
 use lisp_lookup::Table;
 use lisp_memory::Memory;
 use lisp_messages::{MapNotify, write_notify};
+use lisp_nonces::NonceStore;
 use lisp_records::{Addr, Bytes, Records, RouterId};
 use lisp_served::Sites;
-use lisp_nonces::NonceStore;
 use std::alloc::{AllocError, Allocator};
 
 /// Sends a notice to a router at a time, in ms. All that takes memory comes before its nonce is saved; what

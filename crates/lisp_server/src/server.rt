@@ -30,9 +30,9 @@ use lisp_checks::{NoticeFault, Refused};
 use lisp_lookup::{Answer, Table};
 use lisp_memory::Memory;
 use lisp_messages::{Message, read_message};
+use lisp_nonces::{NonceStore, Pair};
 use lisp_records::{Addr, RouterId, Row};
 use lisp_served::Sites;
-use lisp_nonces::{NonceStore, Pair};
 use std::alloc::{AllocError, Allocator, Global};
 use std::marker::Model;
 

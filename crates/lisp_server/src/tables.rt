@@ -15,8 +15,8 @@ use crate::standing_notices::StandingNotices;
 use lisp_checks::NOTICES;
 use lisp_lookup::Table;
 use lisp_memory::Memory;
-use lisp_records::{Addr, RouterId, Row};
 use lisp_nonces::Pair;
+use lisp_records::{Addr, RouterId, Row};
 use std::alloc::{AllocError, Allocator};
 
 /// The rows that are held, the last nonces, where each router was heard last, and the unsolicited

@@ -4,7 +4,7 @@ use Rattle.std.specs.Prelude.{codes}
 use Rattle.toml.specs.Data.{Data}
 use Rattle.lisp_sites.specs.declared.field.Field.TheVariants as fields
 use Rattle.lisp_served.specs.Site.{SiteEntry}
-use Rattle.lisp_sites.specs.Configuration.{Server, Router, Configuration, IsRouter, IsConfiguration}
+use Rattle.lisp_served.specs.Configuration.{Server, Router, Configuration, IsRouter, IsConfiguration}
 use Rattle.lisp_sites.specs.Table.{items, each, sites_of, servers_of, router_at, routers_of}
 use Rattle.lisp_sites.proofs.Readings.{bind_ok}
 use Rattle.lisp_sites.proofs.SiteLaws.{sites_apart}

@@ -1,18 +1,10 @@
 -- The forms that a field's value may have: which values are of the form, and what they stand for.
-use Rattle.std.specs.Prelude.{ℕ, ℤ, pos, negsuc, ◌&&◌, ◌||◌, ◌==◌, Bool, List, length, Option, None, nat_le, nat_lt}
-use Rattle.std.specs.Char.{is_ascii_digit}
-use Rattle.std.specs.Int.{is_in_range}
-use Rattle.std.specs.List.{list_all}
+use Rattle.std.specs.Prelude.{ℕ, ℤ, pos, negsuc, ◌&&◌, List, Option, None, nat_le, nat_lt}
 use Rattle.toml.specs.Data.{Data, as_str, as_integer}
+use Rattle.lisp_served.specs.Configuration.{is_name}
 use Rattle.lisp_texts.specs.Reading.{◌>>=◌, if_so}
 
--- a name: 1 to 32 of a to z (97 to 122), 0 to 9, and the hyphen (45)
-abbrev pub is_name_letter : ℕ → Bool
-is_name_letter c = is_in_range 97 122 c || is_ascii_digit c || (c == 45)
-
-abbrev pub is_name : List ℕ → Bool
-is_name text = nat_le 1 (length text) && nat_le (length text) 32 && list_all is_name_letter text
-
+-- a name
 abbrev pub name_of : List ℕ → Option (List ℕ)
 name_of text = if_so (is_name text) text
 

@@ -1,5 +1,4 @@
 pub mod Form
-pub mod Configuration
 pub mod Field
 pub mod Keys
 pub mod Names

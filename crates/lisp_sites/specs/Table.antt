@@ -20,7 +20,7 @@ use Rattle.lisp_sites.specs.declared.place.PlacedFault.{PlacedFault}
 use Rattle.lisp_sites.specs.declared.fault.ConfigFault.TheVariants.{Toml, Missing, BadValue, Repeated, OutOfMemory}
 use Rattle.lisp_served.specs.declared.site.SitePrefix.{SitePrefix}
 use Rattle.lisp_served.specs.Site.{KeyEntry, SiteEntry, site_of, has_key}
-use Rattle.lisp_sites.specs.Configuration.{Server, Router, Configuration}
+use Rattle.lisp_served.specs.Configuration.{Server, Router, Configuration}
 use Rattle.lisp_sites.specs.Form.{name_of, text_as, byte_as, nonce_block_as}
 
 -- a field that has to be there: its name, its key in the entry, and the form of its value; Missing

@@ -3,7 +3,7 @@
 ghost use Rattle.std.specs.Prelude.{◌≡◌};
 ghost use Rattle.toml.specs.Parse.{parse_document};
 ghost use Rattle.toml.specs.View.{view};
-ghost use Rattle.lisp_sites.specs.Configuration.{IsConfiguration};
+ghost use Rattle.lisp_served.specs.Configuration.{IsConfiguration};
 ghost use Rattle.lisp_sites.specs.Table.{Gives, unplaced, configuration_of, config_of};
 
 use crate::fault::ConfigFault;
@@ -32,7 +32,7 @@ pub struct Config<A: Allocator = Global> {
 }
 
 impl<A: Allocator> Model for Config<A> {
-    ghost use Rattle.lisp_sites.specs.Configuration.{Configuration, IsConfiguration};
+    ghost use Rattle.lisp_served.specs.Configuration.{Configuration, IsConfiguration};
 
     ghost Value = { Configuration };
 

@@ -94,3 +94,13 @@ fn add<T: Copy, K: Ord + Copy, A: Allocator + Copy>(
     items.push_reserved(item);
     Ok(())
 }
+
+impl HasKey for usize {
+    type Key = usize;
+
+    ghost key = { λ place. place };
+
+    fn key(&self) -> usize {
+        *self
+    }
+}

@@ -10,7 +10,6 @@ mod keyed;
 mod name;
 mod nodes;
 mod place;
-mod places;
 mod router;
 mod server;
 mod site_entries;
@@ -19,13 +18,12 @@ mod value;
 pub use config::Config;
 pub use fault::ConfigFault;
 pub use field::Field;
-pub use lisp_served::{Site, SitePrefix, Sites};
+pub use lisp_served::{Places, Site, SitePrefix, Sites};
 pub use lisp_texts::{
     MAX_SECRET, addr_from_text, addr_to_text, number_from_text, prefix_from_text, prefix_to_text,
     record_from_text, record_to_text, secret_from_text, site_id_from_text, xtr_from_text,
 };
 pub use name::Name;
 pub use place::{Entry, Place, PlacedFault};
-pub use places::Places;
 pub use router::RouterEntry;
 pub use server::ServerEntry;

@@ -13,12 +13,11 @@ use crate::keyed::Keyed;
 use crate::name::Name;
 use crate::nodes::{Named, Nodes};
 use crate::place::Place;
-use crate::places::Places;
 use crate::server::ServerEntry;
 use crate::value::{address, array, byte, check_table, flag, name, nonce_block, site_id, xtr};
 use lisp_memory::Memory;
 use lisp_records::{Addr, Database, MapRecord, RouterId};
-use lisp_served::{Site, Sites};
+use lisp_served::{Places, Site, Sites};
 use lisp_texts::record_from_text;
 use std::alloc::{Allocator, Global};
 use std::marker::Model;
@@ -48,7 +47,7 @@ pub struct RouterEntry<A: Allocator = Global> {
 }
 
 impl<A: Allocator> Model for RouterEntry<A> {
-    ghost use Rattle.lisp_sites.specs.Configuration.{Router};
+    ghost use Rattle.lisp_served.specs.Configuration.{Router};
 
     ghost Value = { Router };
 

@@ -27,7 +27,7 @@ pub struct ServerEntry<A: Allocator = Global> {
 }
 
 impl<A: Allocator> Model for ServerEntry<A> {
-    ghost use Rattle.lisp_sites.specs.Configuration.{Server};
+    ghost use Rattle.lisp_served.specs.Configuration.{Server};
 
     ghost Value = { Server };
 

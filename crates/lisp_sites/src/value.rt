@@ -14,8 +14,8 @@ ghost use Rattle.lisp_sites.specs.declared.fault.ConfigFault.TheVariants.{BadVal
 use crate::fault::ConfigFault;
 use crate::field::Field;
 use crate::name::is_name;
-use lisp_records::{Addr, Bytes, Prefix};
 use lisp_nonces::MAX_NONCE_BLOCK;
+use lisp_records::{Addr, Bytes, Prefix};
 use lisp_texts::{
     addr_from_text, prefix_from_text, secret_from_text, site_id_from_text, xtr_from_text,
 };

@@ -11,8 +11,8 @@ ghost use Rattle.lisp_nonces.specs.declared.fate.Fate.{Fate};
 ghost use Rattle.lisp_nonces.specs.declared.fault.StoreFault.{StoreFault};
 ghost use Rattle.lisp_nonces.specs.declared.pair.Pair.{Pair};
 
-use lisp_nonces::{Fate, MemoryStore, NonceStore, Pair, StoreFault, WorldStore};
 use lisp_memory::Memory;
+use lisp_nonces::{Fate, MemoryStore, NonceStore, Pair, StoreFault, WorldStore};
 use std::alloc::{Allocator, Global};
 use std::marker::Model;
 

@@ -5,9 +5,9 @@ ghost use Rattle.std.specs.FinMap.{empty};
 ghost use Rattle.lisp_nonces.specs.Store.{StoreState};
 ghost use Rattle.lisp_nonces.specs.declared.fault.StoreFault.{StoreFault};
 
-use lisp_nonces::{Fate, NonceStore, Pair, PairKind, StoreFault, WorldStore};
 use crate::text::{nonce_from_text, nonce_text};
 use lisp_memory::{FallibleString, Memory};
+use lisp_nonces::{Fate, NonceStore, Pair, PairKind, StoreFault, WorldStore};
 use std::alloc::{AllocError, Global};
 use std::fs::OpenFile;
 use std::io::{ErrorKind, Read, Write};

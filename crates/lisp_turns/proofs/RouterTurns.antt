@@ -3,7 +3,7 @@ use Rattle.std.proofs.Common.{◌≡◌, ℕ, ◌-◌, ◌<◌, ◌≤◌, true,
 use Rattle.std.specs.Prelude.{◌≢◌, if◌then◌else◌}
 use Rattle.std.specs.List.{AllPairs}
 use Rattle.std.proofs.lemmas.Option.{slice_get_within}
-use Rattle.lisp_sites.specs.Configuration.{HasServers}
+use Rattle.lisp_served.specs.Configuration.{HasServers}
 use Rattle.lisp_schedules.specs.declared.line.Line.{Line}
 use Rattle.lisp_schedules.specs.Trace.{Happening, Shown, Step, Opening, is_router, router_at, shown}
 use Rattle.lisp_schedules.specs.Turn.{Turn}

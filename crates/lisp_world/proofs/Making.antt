@@ -6,7 +6,7 @@ use Rattle.std.specs.Option.{option_map}
 use Rattle.std.specs.List.{Contains}
 use Rattle.std.proofs.lemmas.List.{length-append, length-map, length-replicate}
 use Rattle.std.proofs.lemmas.Option.{slice_get-map, get_or_from_slice_get}
-use Rattle.lisp_sites.specs.Configuration.{Configuration, Router}
+use Rattle.lisp_served.specs.Configuration.{Configuration, Router}
 use Rattle.lisp_nonces.specs.Store.{StoreState, Proceeds}
 use Rattle.lisp_nonces.specs.Kept.{Kept, kept_at}
 use Rattle.lisp_etr.specs.Config.{sent_pair}

@@ -6,7 +6,7 @@ use Rattle.std.proofs.Math.Seq.{take-suc, take-length}
 use Rattle.std.proofs.Math.ListN.{drop_of_length-le}
 use Rattle.std.proofs.lemmas.List.{map-append, append_assoc}
 use Rattle.std.proofs.lemmas.Option.{slice_get-get_or, slice_get_within}
-use Rattle.lisp_sites.specs.Configuration.{Configuration}
+use Rattle.lisp_served.specs.Configuration.{Configuration}
 use Rattle.lisp_nonces.specs.Store.{StoreState}
 use Rattle.lisp_turns.specs.World.{ServerNode, RouterNode}
 use Rattle.lisp_world.specs.Making.{server_over, IsRouterOver, AddsNode, AreServers, AreRouters, AreNodes, HasStarted, HaveStarted}

@@ -1,7 +1,7 @@
 -- How a network is made: its nodes over their stores before the routers start, and routers that start.
 use Rattle.std.specs.Prelude.{◌≡◌, ◌⊎◌, ◌<◌, ◌≤◌, ℕ, ◌+◌, List, [], ◌∷◌, ◌++◌, length, slice_get, Some, Ok}
 use Rattle.std.specs.FinMap.{empty}
-use Rattle.lisp_sites.specs.Configuration.{Configuration, Router}
+use Rattle.lisp_served.specs.Configuration.{Configuration, Router}
 use Rattle.lisp_nonces.specs.Store.{StoreState}
 use Rattle.lisp_nonces.specs.declared.fault.StoreFault.TheVariants as faults
 use Rattle.lisp_etr.specs.declared.start_fault.StartFault.{StartFault}

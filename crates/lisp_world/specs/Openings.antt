@@ -3,7 +3,7 @@ use Rattle.std.specs.Prelude.{Bool, false, ◌||◌, List, [], ◌∷◌, map}
 use Rattle.std.specs.List.{list_any}
 use Rattle.lisp_records.specs.Address.{addr_eq}
 use Rattle.lisp_records.specs.Router.{router_eq}
-use Rattle.lisp_sites.specs.Configuration.{Configuration}
+use Rattle.lisp_served.specs.Configuration.{Configuration}
 use Rattle.lisp_nonces.specs.Kept.{Kept}
 use Rattle.lisp_nonces.specs.Store.{StoreState}
 use Rattle.lisp_schedules.specs.Trace.{Opening, addresses}

@@ -6,9 +6,9 @@ ghost use Rattle.lisp_world.specs.Taking.{Takes};
 use crate::world::World;
 use lisp_memory::{FallibleVec, Memory};
 use lisp_nodes::{Arrival, hear, post_reply};
+use lisp_nonces::{Fate, WorldStore};
 use lisp_records::Addr;
 use lisp_schedules::{Line, WorldFault};
-use lisp_nonces::{Fate, WorldStore};
 
 impl<S: WorldStore, A: Memory + Copy> World<S, A> {
     // Bytes that no node sent arrive at a node, as if they came from an address.

@@ -5,7 +5,7 @@ ghost use Rattle.std.specs.List.{AllByRecursion, list_any};
 ghost use Rattle.lisp_records.specs.Address.{addr_eq};
 ghost use Rattle.lisp_records.specs.Router.{router_eq};
 ghost use Rattle.lisp_records.specs.declared.address.Addr.TheVariants.{V4};
-ghost use Rattle.lisp_sites.specs.Configuration.{HasServers};
+ghost use Rattle.lisp_served.specs.Configuration.{HasServers};
 ghost use Rattle.lisp_nonces.specs.declared.fault.StoreFault.{StoreFault};
 ghost use Rattle.lisp_etr.specs.declared.start_fault.StartFault.{StartFault};
 ghost use Rattle.lisp_schedules.specs.declared.world_fault.WorldFault.{WorldFault};
@@ -24,10 +24,10 @@ use lisp_etr::{EtrConfig, Servers, StartFault};
 use lisp_hmac::Key;
 use lisp_memory::{FallibleCopies, FallibleVec, Memory};
 use lisp_nodes::{RouterNode, ServerNode, Start};
+use lisp_nonces::WorldStore;
 use lisp_records::{Addr, RouterId};
 use lisp_schedules::WorldFault;
 use lisp_sites::{Config, Places, RouterEntry, ServerEntry};
-use lisp_nonces::WorldStore;
 use std::alloc::{AllocError, Allocator};
 
 impl<S: WorldStore, A: Memory + Copy> World<S, A> {

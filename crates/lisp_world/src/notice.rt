@@ -12,10 +12,10 @@ use crate::room::with_room;
 use crate::world::World;
 use lisp_memory::Memory;
 use lisp_nodes::{Datagram, post_message};
+use lisp_nonces::{Fate, WorldStore};
 use lisp_records::{Addr, Bytes};
 use lisp_schedules::{Line, Refusal, WorldFault};
 use lisp_server::NoticeFault;
-use lisp_nonces::{Fate, WorldStore};
 
 impl<S: WorldStore, A: Memory + Copy> World<S, A> {
     // A Map-Server sends a router a notice of what it holds of it.

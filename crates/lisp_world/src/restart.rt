@@ -11,9 +11,9 @@ ghost use Rattle.lisp_turns.specs.Turns.{RestartsServer, RestartsAt};
 use crate::world::World;
 use lisp_memory::Memory;
 use lisp_nodes::Start;
+use lisp_nonces::WorldStore;
 use lisp_records::Database;
 use lisp_schedules::{Line, Refusal, WorldFault};
-use lisp_nonces::WorldStore;
 use std::alloc::{AllocError, Allocator};
 
 impl<S: WorldStore, A: Memory + Copy> World<S, A> {

@@ -10,8 +10,8 @@ ghost use Rattle.lisp_turns.specs.Headline.{Promises};
 
 use crate::world::World;
 use lisp_memory::{FallibleVec, Memory};
-use lisp_schedules::{Event, Line, WorldFault};
 use lisp_nonces::WorldStore;
+use lisp_schedules::{Event, Line, WorldFault};
 use std::alloc::Allocator;
 
 impl<S: WorldStore, A: Memory + Copy> World<S, A> {

@@ -6,9 +6,9 @@ ghost use Rattle.lisp_turns.specs.Nodes.{server_at, etr_at};
 
 use lisp_etr::Etr;
 use lisp_nodes::{Datagram, RouterNode, ServerNode};
+use lisp_nonces::WorldStore;
 use lisp_records::Addr;
 use lisp_server::Server;
-use lisp_nonces::WorldStore;
 use std::alloc::{Allocator, Global};
 use std::marker::Model;
 

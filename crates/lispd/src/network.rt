@@ -4,11 +4,11 @@ ghost use Rattle.std.specs.Prelude.{◌≡◌, ◌+◌, IfOk, OnOk, length};
 
 use crate::sockets::Sockets;
 use lisp_memory::FallibleVec;
+use lisp_nonces::WorldStore;
 use lisp_playing::{Command, play_on};
 use lisp_running::{Folder, entry_at, flush, node_count, open_folder};
 use lisp_schedules::Event;
 use lisp_sites::Config;
-use lisp_nonces::WorldStore;
 use lisp_store::FileStore;
 use lisp_streams::{RunFault, read_config, read_script};
 use lisp_world::World;

@@ -1,15 +1,23 @@
 -- What a configuration says: the sites, and the nodes that serve and register them; and what is true
 -- of each configuration that was read.
-use Rattle.std.specs.Prelude.{◌≡◌, ◌≢◌, ℕ, ◌^◌, ◌<◌, ◌≤◌, Bool, true, List, ◌++◌, length, map, IsSomeAnd, Ok}
-use Rattle.std.specs.List.{AllByRecursion, AllPairs}
+use Rattle.std.specs.Prelude.{◌≡◌, ◌≢◌, ℕ, ◌^◌, ◌<◌, ◌≤◌, ◌&&◌, ◌||◌, ◌==◌, Bool, true, List, ◌++◌, length, map, nat_le, IsSomeAnd, Ok}
+use Rattle.std.specs.Char.{is_ascii_digit}
+use Rattle.std.specs.Int.{is_in_range}
+use Rattle.std.specs.List.{AllByRecursion, AllPairs, list_all}
 use Rattle.lisp_records.specs.declared.address.Addr.{Addr}
 use Rattle.lisp_records.specs.declared.router.RouterId.{RouterId}
 use Rattle.lisp_records.specs.Address.{IsBlock, IsWhole}
 use Rattle.lisp_records.specs.Record.{Mapping, IsMapping}
 use Rattle.lisp_records.specs.Database.{database_of}
 use Rattle.lisp_served.specs.declared.site.SitePrefix.{SitePrefix}
-use Rattle.lisp_sites.specs.Form.{is_name}
 use Rattle.lisp_served.specs.Site.{KeyEntry, SiteEntry, site_of, has_key}
+
+-- a name: 1 to 32 of a to z (97 to 122), 0 to 9, and the hyphen (45)
+abbrev pub is_name_letter : ℕ → Bool
+is_name_letter c = is_in_range 97 122 c || is_ascii_digit c || (c == 45)
+
+abbrev pub is_name : List ℕ → Bool
+is_name text = nat_le 1 (length text) && nat_le (length text) 32 && list_all is_name_letter text
 
 -- a Map-Server
 pub record Server : Type 0 where

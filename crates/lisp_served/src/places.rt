@@ -2,7 +2,6 @@
 
 ghost use Rattle.std.specs.Prelude.{◌≡◌};
 
-use crate::keyed::HasKey;
 use std::alloc::{Allocator, Global};
 use std::marker::Model;
 
@@ -33,15 +32,5 @@ impl<A: Allocator> Places<A> {
         ensures { result.now ≡ self.now }
     {
         &self.items
-    }
-}
-
-impl HasKey for usize {
-    type Key = usize;
-
-    ghost key = { λ place. place };
-
-    fn key(&self) -> usize {
-        *self
     }
 }
