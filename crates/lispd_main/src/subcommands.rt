@@ -6,9 +6,7 @@ use lispd::{
     PlayFault, ProgramFault, keep_router_running, keep_server_running, run_loop, run_router,
     run_server,
 };
-use lispd_words::{
-    CONFIG, FILE, NodeWords, STORE, check, explain_number, node_words, run_answer, word,
-};
+use lispd_words::{CONFIG, FILE, NodeWords, STORE, node_words, run_alone, word};
 use std::alloc::Global;
 use std::fs::{self, File};
 use std::io::{self, BufReader, Read, Write};
@@ -24,27 +22,20 @@ const STANDARD_INPUT: &str = "-";
 pub(crate) fn run_subcommand<
     R: Print + Input + Files<File = File> + Net + Clock + AllocGlobal + Clone + Drop,
 >(rt: &R, matches: &ArgMatches<'_>) -> Result<ExitCode, ProgramFault> {
-    let writer = &mut io::writer(rt);
-    let ran = match matches.subcommand() {
-        Some((name, words)) => run_named(rt, name, words, writer),
-        None => run_answer(rt, None, writer),
-    };
-    ran?;
+    run_named(rt, matches.subcommand(), &mut io::writer(rt))?;
     Ok(ExitCode::SUCCESS)
 }
 
 fn run_named<
     R: Print + Input + Files<File = File> + Net + Clock + AllocGlobal + Clone + Drop,
     W: Write,
->(rt: &R, name: &str, words: &ArgMatches<'_>, writer: &mut W) -> Result<(), ProgramFault> {
-    match name {
-        "play" => run_play(rt, words, writer),
-        "server" => serve(rt, words, writer),
-        "router" => register(rt, words, writer),
-        "loop" => run_network(rt, words, writer),
-        "check" => check(rt, words, writer),
-        "explain" => explain_number(words, writer),
-        _ => run_answer(rt, Some(words), writer),
+>(rt: &R, named: Option<(&str, &ArgMatches<'_>)>, writer: &mut W) -> Result<(), ProgramFault> {
+    match named {
+        Some(("play", words)) => run_play(rt, words, writer),
+        Some(("server", words)) => serve(rt, words, writer),
+        Some(("router", words)) => register(rt, words, writer),
+        Some(("loop", words)) => run_network(rt, words, writer),
+        _ => run_alone(rt, named, writer),
     }
 }
 

@@ -18,5 +18,5 @@ pub use fault::{ProgramFault, SetupFault};
 pub use option::AnswerOption;
 pub use options::setup;
 pub use reporting::{InWords, report};
-pub use subcommands::{check, explain_number, run_answer};
+pub use subcommands::run_alone;
 pub use words::{NodeWords, node_words, word};

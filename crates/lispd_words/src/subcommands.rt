@@ -15,8 +15,22 @@ use std::fmt::Display;
 use std::io::{Read, Write};
 use std::rt::Files;
 
-/// `answer`: answers the line on standard input, with the options that were given.
-pub fn run_answer<R: Input + AllocGlobal, W: Write>(
+/// Runs `check` or `explain`, where the words name it; else `answer`, with the options that were given.
+pub fn run_alone<R: Print + Input + Files + AllocGlobal, W: Write>(
+    rt: &R,
+    named: Option<(&str, &ArgMatches<'_>)>,
+    writer: &mut W,
+) -> Result<(), ProgramFault> {
+    match named {
+        Some(("check", words)) => check(rt, words, writer),
+        Some(("explain", words)) => explain_number(words, writer),
+        Some((_, words)) => run_answer(rt, Some(words), writer),
+        None => run_answer(rt, None, writer),
+    }
+}
+
+// `answer`: answers the line on standard input, with the options that were given.
+fn run_answer<R: Input + AllocGlobal, W: Write>(
     rt: &R,
     matches: Option<&ArgMatches<'_>>,
     writer: &mut W,
@@ -36,8 +50,8 @@ fn answer_from<R: Read, W: Write>(
     Ok(())
 }
 
-/// `check`: prints what was understood of a configuration, or its fault in words.
-pub fn check<R: Print + Files + AllocGlobal, W: Write>(
+// `check`: prints what was understood of a configuration, or its fault in words.
+fn check<R: Print + Files + AllocGlobal, W: Write>(
     rt: &R,
     words: &ArgMatches<'_>,
     writer: &mut W,
@@ -67,11 +81,8 @@ fn print_placed<R: Print, D: Display + Drop>(rt: &R, place: D, fault: &ProgramFa
     let _ = println!(rt; "fault {number}: {place}{words}");
 }
 
-/// `explain`: explains a number; with none, all of them.
-pub fn explain_number<W: Write>(
-    words: &ArgMatches<'_>,
-    writer: &mut W,
-) -> Result<(), ProgramFault> {
+// `explain`: explains a number; with none, all of them.
+fn explain_number<W: Write>(words: &ArgMatches<'_>, writer: &mut W) -> Result<(), ProgramFault> {
     let explained = match words.get_str(NUMBER) {
         Some(text) => match number_from_text(text).map(u16::try_from) {
             Some(Ok(number)) => explain(number, writer),
