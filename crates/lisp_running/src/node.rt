@@ -3,8 +3,6 @@
 ghost use Rattle.std.specs.Prelude.{◌<◌, ◌≤◌, ◌+◌, length};
 ghost use Rattle.lisp_records.specs.Moment.{max_moment};
 
-use crate::folder::{Folder, open_folder};
-use crate::named::{Kind, number_named};
 use crate::router::start_router;
 use crate::server::start_server;
 use crate::station::Station;
@@ -14,6 +12,7 @@ use lisp_nonces::WorldStore;
 use lisp_records::Bytes;
 use lisp_schedules::Line;
 use lisp_sites::Config;
+use lisp_sockets::{Folder, Kind, number_named, open_folder};
 use lisp_streams::{RunFault, read_config};
 use std::fs::{File, Files};
 use std::io::Write;

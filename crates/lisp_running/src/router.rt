@@ -4,7 +4,6 @@ ghost use Rattle.std.specs.Prelude.{◌≡◌, ◌<◌, ◌≤◌, ◌+◌, ◌^
 ghost use Rattle.lisp_messages.specs.Head.{head_at};
 ghost use Rattle.lisp_records.specs.Moment.{max_moment};
 
-use crate::named::Kind;
 use crate::node::{Node, run};
 use crate::station::Station;
 use lisp_etr::StartFault;
@@ -14,6 +13,7 @@ use lisp_nonces::{Fate, WorldStore};
 use lisp_records::Bytes;
 use lisp_schedules::{Line, Refusal};
 use lisp_sites::Config;
+use lisp_sockets::Kind;
 use lisp_streams::RunFault;
 use lisp_world::router_node;
 use std::alloc::Global;

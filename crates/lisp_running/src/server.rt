@@ -3,7 +3,6 @@
 ghost use Rattle.std.specs.Prelude.{◌≤◌};
 ghost use Rattle.lisp_records.specs.Moment.{max_moment};
 
-use crate::named::Kind;
 use crate::node::{Node, run};
 use crate::station::Station;
 use lisp_nodes::{Arrival, ServerNode, server_hears};
@@ -11,6 +10,7 @@ use lisp_nonces::WorldStore;
 use lisp_records::{Bytes, RouterId};
 use lisp_schedules::{Line, Refusal};
 use lisp_sites::Config;
+use lisp_sockets::Kind;
 use lisp_streams::RunFault;
 use std::alloc::Global;
 use std::fs::{File, Files};

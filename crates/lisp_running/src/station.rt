@@ -2,16 +2,17 @@
 
 ghost use Rattle.std.specs.Prelude.{◌<◌, ◌+◌, length};
 
-use crate::endpoint::{Endpoint, TURN};
-use crate::named::{Entry, entry_at};
-use crate::output::flush;
 use lisp_records::{Addr, Bytes, RouterId};
 use lisp_schedules::{Line, Refusal};
 use lisp_sites::Config;
+use lisp_sockets::{Endpoint, Entry, entry_at, flush};
 use lisp_streams::{RunFault, write_line};
 use std::alloc::Global;
 use std::io::Write;
 use std::net::Net;
+
+/// How long a turn of a node waits for a datagram, in ms.
+const TURN: u64 = 100;
 
 /// A node's socket, and what its lines name.
 #[derive(Drop)]

@@ -1,13 +1,12 @@
 //! The turns of a node.
 
 use crate::clock::Stopwatch;
-use crate::endpoint::{MOST_BYTES, Received};
 use crate::node::Node;
-use crate::output::{Call, print_failed};
 use crate::station::Station;
 use lisp_nodes::Arrival;
 use lisp_nonces::Fate;
 use lisp_records::Addr;
+use lisp_sockets::{Call, MOST_BYTES, Received, print_failed};
 use lisp_streams::RunFault;
 use std::io::Write;
 use std::time::Clock;

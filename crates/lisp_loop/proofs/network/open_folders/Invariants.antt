@@ -1,5 +1,5 @@
 use Rattle.std.proofs.Common.{◌≡◌, length}
-use Rattle.lispd.proofs.network.open_folders.Given as goal
+use Rattle.lisp_loop.proofs.network.open_folders.Given as goal
 
 -- a store for each node so far
 abbrev pub invariant-loop-number : goal.invariant-loop-number

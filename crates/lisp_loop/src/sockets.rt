@@ -4,10 +4,10 @@ ghost use Rattle.std.specs.Prelude.{◌<◌, ◌+◌, length};
 
 use lisp_memory::FallibleVec;
 use lisp_records::Addr;
-use lisp_running::{
+use lisp_sites::Config;
+use lisp_sockets::{
     Call, Endpoint, Entry, MOST_BYTES, Received, entry_at, flush, node_count, print_failed,
 };
-use lisp_sites::Config;
 use lisp_streams::RunFault;
 use lisp_world::Datagram;
 use std::io::Write;

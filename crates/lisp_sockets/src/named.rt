@@ -10,7 +10,9 @@ use lisp_streams::RunFault;
 /// A node, as its socket and its folder see it.
 #[derive(Clone, Copy)]
 pub struct Entry<'a> {
+    /// Its name.
     pub name: &'a str,
+    /// Its address.
     pub address: &'a Addr,
     /// The numbers of the Map-Servers that a router registers with; none of a Map-Server.
     pub servers: &'a [usize],
@@ -46,13 +48,15 @@ pub fn entry_at(config: &Config, number: usize) -> Entry<'_>
 
 /// A kind of node.
 #[derive(Clone, Copy)]
-pub(crate) enum Kind {
+pub enum Kind {
+    /// A Map-Server.
     Server,
+    /// A site router.
     Router,
 }
 
 /// The number of the node of a kind with a name. Faults: 71 where a node of the other kind has the name, 70 where none has it.
-pub(crate) fn number_named(config: &Config, kind: Kind, name: &str) -> Result<usize, RunFault>
+pub fn number_named(config: &Config, kind: Kind, name: &str) -> Result<usize, RunFault>
     ensures { IfOk result (λ number. number < length config.now.servers + length config.now.routers) }
 {
     let Some(number) = number_of(config, name) else {

@@ -10,9 +10,6 @@ use std::time::Duration;
 /// The UDP port of LISP control messages (RFC 9301 section 5).
 const PORT: u16 = 4342;
 
-/// How long a turn of a node waits for a datagram, in ms.
-pub(crate) const TURN: u64 = 100;
-
 /// The most bytes of a datagram.
 pub const MOST_BYTES: usize = 65_535;
 
