@@ -5,8 +5,8 @@ mod subcommands;
 
 use crate::subcommands::run_subcommand;
 use clap::error::ErrorKind as WordsErrorKind;
-use lispd::{AnswerFault, ProgramFault, SetupFault};
-use lispd_words::{command, report};
+use lisp_answer::AnswerFault;
+use lispd_words::{ProgramFault, SetupFault, command, report};
 use std::env;
 use std::fs::File;
 use std::io::{self, ErrorKind, IsTerminal};

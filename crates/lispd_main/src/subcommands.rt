@@ -1,12 +1,11 @@
 //! What each subcommand runs.
 
 use clap::ArgMatches;
+use lisp_loop::run_loop;
 use lisp_player::play;
-use lispd::{
-    PlayFault, ProgramFault, keep_router_running, keep_server_running, run_loop, run_router,
-    run_server,
-};
-use lispd_words::{CONFIG, FILE, NodeWords, STORE, node_words, run_alone, word};
+use lisp_running::{keep_router_running, keep_server_running, run_router, run_server};
+use lisp_streams::PlayFault;
+use lispd_words::{CONFIG, FILE, NodeWords, ProgramFault, STORE, node_words, run_alone, word};
 use std::alloc::Global;
 use std::fs::{self, File};
 use std::io::{self, BufReader, Read, Write};
