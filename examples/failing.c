@@ -3,6 +3,7 @@
  *   growth     memory that is asked for, or asked to grow, is refused
  *   read       a read fails (EIO)
  *   interrupt  a read is interrupted (EINTR)
+ *   unready    a read is interrupted, and so is each read after it
  *   write      a write fails (EIO)
  *   short      a write takes one byte alone
  * Once it did, the byte '!' is written to file descriptor FAILING_REPORT. Calls count once main began. */
@@ -93,9 +94,11 @@ static int failed(int error)
 
 ssize_t read(int from, void *into, size_t length)
 {
+    static int unready;
     if (fails("read"))
         return failed(EIO);
-    if (fails("interrupt"))
+    unready = unready || fails("unready");
+    if (unready || fails("interrupt"))
         return failed(EINTR);
     return syscall(SYS_read, from, into, length);
 }

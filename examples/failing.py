@@ -1,10 +1,11 @@
 #!/usr/bin/env -S python3 -B
 """failing.py PROGRAM
 Runs `lispd answer` and `play` again and again while one call of the program fails, the first, the second and so on until a
-run needs no such call: memory that is asked for is refused, a read fails or is interrupted, a write fails or takes one byte.
+run needs no such call: memory that is asked for is refused, a read fails, is interrupted or never ready, a write fails or takes one byte.
 failing.c, loaded before the program's own libraries, lets the call fail. The schedules are those of at most 40 lines of script.
 Prints each run that ends otherwise than it may, and ends with 1 where one does."""
 import concurrent.futures
+import itertools
 import os
 import re
 import subprocess
@@ -21,6 +22,8 @@ TOLD = re.compile(r"refused \S+ (?:36|48|58|66|(?:35|42|56|59|65|68) store 32)|f
 ENDED = re.compile(r"lispd: fault (?:24|75|76|86 line \d+|97)\n")
 # What `lispd check` prints of it.
 IN_WORDS = re.compile(r"fault (?:24|97): (?:\S+ \d+(?:, \S+ \d+)?: )?out of memory.*\n")
+# How many reads are never ready: each is tried two million times.
+UNREADY = 3
 # Further growths that a script with one line more may ask for before it is played.
 MORE = 40
 
@@ -127,10 +130,12 @@ def refuse_text(folder, words):
 
 
 def fail_streams(folder, words, given, printed):
-    """Reads that fail are fault 87, unless they were interrupted; writes that fail are fault 88, and leave whole writes."""
+    """Reads that fail are fault 87, unless they were interrupted, and not again and again; writes that fail are fault 88, and
+    leave whole writes."""
     name = f"lispd {' '.join(words)}"
-    for kind, wanted in [("read", (1, "", "lispd: fault 87\n")), ("interrupt", (0, printed, "")), ("short", (0, printed, ""))]:
-        for at, ended in each(folder, kind, words, given):
+    unread, read = (1, "", "lispd: fault 87\n"), (0, printed, "")
+    for kind, wanted, most in [("read", unread, None), ("unready", unread, UNREADY), ("interrupt", read, None), ("short", read, None)]:
+        for at, ended in itertools.islice(each(folder, kind, words, given), most):
             if tuple(ended) != wanted:
                 wrong(name, kind, at, ended)
     for at, (status, output, error) in each(folder, "write", words, given):

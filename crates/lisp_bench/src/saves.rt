@@ -57,11 +57,12 @@ fn saves(alloc: Global, nonce_block: u16) -> Option<u32> {
 
 // A router sends so often over the store. Over a store of any kind less has to be proved than over one that counts.
 fn send_all<S: NonceStore>(alloc: Global, nonce_block: u16, store: &mut S) -> Option<()> {
-    let mut router = start(alloc, nonce_block, store)?;
+    send_each(&mut start(alloc, nonce_block, store)?, store)
+}
+
+fn send_each<S: NonceStore>(router: &mut Etr, store: &mut S) -> Option<()> {
     for _ in 0..SENDS {
-        if router.send(store, 0, 0).is_err() {
-            return None;
-        }
+        router.send(store, 0, 0).ok()?;
     }
     Some(())
 }

@@ -1,10 +1,8 @@
 //! Tests of what neither a clause nor a stored run of `examples` shows: the vectors of HMAC (`hmac`), what worked bytes say
-//! (`records`, `messages`), a table of hundreds of rows (`rows`), readers and writers that fail (`answering`, `playing`),
+//! (`records`, `messages`), a table of hundreds of rows (`rows`), readers and writers that fail (`playing`),
 //! and stores that fail (`stores`). This crate has no function of its own.
 #![tactic(auto)]
 
-#[cfg(test)]
-mod answering;
 #[cfg(test)]
 mod hmac;
 #[cfg(test)]

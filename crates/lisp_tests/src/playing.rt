@@ -4,7 +4,7 @@ use crate::streams::{Narrow, Stumbling};
 use crate::support::assert_at;
 use lisp_player::{PlayFault, play};
 use std::alloc::Global;
-use std::io::{ErrorKind, Read, Write};
+use std::io::{Read, Write};
 
 /// A Map-Server and a router: a Map-Register, its arrival, and what the Map-Server holds then.
 pub const SCHEDULE: &str = "\
@@ -58,8 +58,6 @@ fn ends_so(alloc: Global, before: usize, room: usize, fault: PlayFault, written:
     let mut reader = Stumbling {
         bytes: SCHEDULE.as_bytes(),
         before,
-        failures: 1,
-        error: ErrorKind::Other,
     };
     let taken = Vec::new(alloc);
     let mut writer = Narrow { taken, room };

@@ -2,22 +2,19 @@
 
 use std::io::{self, ErrorKind, Read, Write};
 
-/// Gives one byte a read; behind so many bytes, so many reads fail.
+/// Gives one byte a read; behind so many bytes, reads fail.
 #[derive(Drop)]
 pub struct Stumbling<'a> {
     pub bytes: &'a [u8],
     pub before: usize,
-    pub failures: u32,
-    pub error: ErrorKind,
 }
 
 impl Read for Stumbling<'_> {
     fn read(&mut self, buf: &mut [u8]) -> io::Result<usize> {
-        if self.before == 0 && self.failures > 0 {
-            self.failures -= 1;
-            return Err(self.error.into());
+        if self.before == 0 {
+            return Err(ErrorKind::Other.into());
         }
-        self.before = self.before.saturating_sub(1);
+        self.before -= 1;
         let Some((byte, rest)) = self.bytes.split_first() else {
             return Ok(0);
         };

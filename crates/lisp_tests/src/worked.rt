@@ -1,4 +1,4 @@
-//! The worked record, and the worked Map-Register and its answer in digits.
+//! The worked record.
 
 use lisp_records::{Addr, Locator, MapRecord};
 
@@ -13,15 +13,6 @@ pub const RECORD: [u8; 28] = [
     0, 0x05, // local and reachable, not probed
     0, 1, 192, 0, 2, 1, // IPv4, 192.0.2.1
 ];
-
-/// The digits of the worked Map-Register.
-pub const REGISTER_DIGITS: &str = "3a000101000000000000000101020010cf8457ee97fb531b5549862574f776ad\
-    000005a001101000000000010a0100000164ff0000050001c0000201\
-    0000000000000000000000000000000a0000000000000001";
-
-/// The line that answers them: the digits of the worked Map-Notify, and a line feed.
-pub const NOTIFY_LINE: &str = "400000010000000000000001010200104f18aa8fdf8791b51cf1272640b55d8d\
-    000005a001101000000000010a0100000164ff0000050001c0000201\n";
 
 /// The locator of the worked record.
 const LOCATOR: Locator = Locator {
