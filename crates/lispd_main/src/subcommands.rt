@@ -17,6 +17,13 @@ use std::time::Clock;
 /// The name of standard input.
 const STANDARD_INPUT: &str = "-";
 
+/// A kind of node.
+#[derive(Clone, Copy)]
+enum NodeKind {
+    Server,
+    Router,
+}
+
 /// Runs the subcommand that the words name; with none, `answer`.
 pub(crate) fn run_subcommand<
     R: Print + Input + Files<File = File> + Net + Clock + AllocGlobal + Clone + Drop,
@@ -29,17 +36,21 @@ fn run_named<
     R: Print + Input + Files<File = File> + Net + Clock + AllocGlobal + Clone + Drop,
     W: Write,
 >(rt: &R, named: Option<(&str, &ArgMatches<'_>)>, writer: &mut W) -> Result<(), ProgramFault> {
-    match named {
-        Some(("play", words)) => run_play(rt, words, writer),
-        Some(("server", words)) => serve(rt, words, writer),
-        Some(("router", words)) => register(rt, words, writer),
-        Some(("loop", words)) => run_network(rt, words, writer),
+    let Some((name, words)) = named else {
+        return run_alone(rt, named, writer);
+    };
+    match name {
+        "play" => run_play(rt, words, writer),
+        "server" => run_node(rt, NodeKind::Server, words, writer),
+        "router" => run_node(rt, NodeKind::Router, words, writer),
+        "loop" => run_network(rt, words, writer),
         _ => run_alone(rt, named, writer),
     }
 }
 
-fn serve<R: Files<File = File> + Net + Clock + AllocGlobal + Clone + Drop, W: Write>(
+fn run_node<R: Files<File = File> + Net + Clock + AllocGlobal + Clone + Drop, W: Write>(
     rt: &R,
+    kind: NodeKind,
     words: &ArgMatches<'_>,
     writer: &mut W,
 ) -> Result<(), ProgramFault> {
@@ -49,27 +60,11 @@ fn serve<R: Files<File = File> + Net + Clock + AllocGlobal + Clone + Drop, W: Wr
         dir,
         turns,
     } = node_words(words)?;
-    let ran = match turns {
-        Some(turns) => run_server(rt, config, name, dir, turns, writer),
-        None => keep_server_running(rt, config, name, dir, writer),
-    };
-    Ok(ran?)
-}
-
-fn register<R: Files<File = File> + Net + Clock + AllocGlobal + Clone + Drop, W: Write>(
-    rt: &R,
-    words: &ArgMatches<'_>,
-    writer: &mut W,
-) -> Result<(), ProgramFault> {
-    let NodeWords {
-        config,
-        name,
-        dir,
-        turns,
-    } = node_words(words)?;
-    let ran = match turns {
-        Some(turns) => run_router(rt, config, name, dir, turns, writer),
-        None => keep_router_running(rt, config, name, dir, writer),
+    let ran = match (kind, turns) {
+        (NodeKind::Server, Some(turns)) => run_server(rt, config, name, dir, turns, writer),
+        (NodeKind::Server, None) => keep_server_running(rt, config, name, dir, writer),
+        (NodeKind::Router, Some(turns)) => run_router(rt, config, name, dir, turns, writer),
+        (NodeKind::Router, None) => keep_router_running(rt, config, name, dir, writer),
     };
     Ok(ran?)
 }
