@@ -1,5 +1,5 @@
 -- From the network's contracts to the client's.
-use Rattle.std.proofs.Common.{◌≡◌, ℕ, zero, suc, ◌+◌, ◌*◌, ◌^◌, ◌<◌, List, [], ◌∷◌, ◌++◌, Option, Some, None, map, refl, sym, ap, subst, ◌∙◌, arith}
+use Rattle.std.proofs.Common.{◌≡◌, ℕ, zero, suc, ◌+◌, List, [], ◌∷◌, ◌++◌, Option, Some, None, map, refl, sym, ap, subst, ◌∙◌}
 use Rattle.std.proofs.lemmas.List.{append-nil}
 use Rattle.std.specs.Prelude.{IfSome, slice_get, IsTrue}
 use Rattle.std.specs.Option.{option_and_then}
@@ -21,14 +21,6 @@ use Rattle.lisp_world.specs.Openings.{opening}
 use Rattle.lisp_world.specs.Runs.{RunsOn}
 use Rattle.lisp_turns.proofs.Gets.{none_is_some, same_some}
 use Rattle.lisp_client.specs.Promised.{HasRun, IsPromised}
-
--- as many as fit, where each takes some room; and two lists of such ones together
-few : (n size : ℕ) → 0 < size → n * size < 2 ^ 63 → n < 2 ^ 63
-few n zero some room = absurd (omega (arith, some))
-few n (suc size) some room = omega (arith, room)
-
-pub both_fit : (m n one other : ℕ) → 0 < one → 0 < other → m * one < 2 ^ 63 → n * other < 2 ^ 63 → m + n < 2 ^ 64
-both_fit m n one other some more first second = (let a = few m one some first in let b = few n other more second in omega (arith, a, b))
 
 -- stores in memory are honest
 pub are_honest : (stores : List Memory) → AllHonest (map memory_state stores)

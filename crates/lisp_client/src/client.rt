@@ -65,8 +65,7 @@ fn run<A: Memory + Copy, E: Allocator, F: Allocator>(
 ) -> Option<World<MemoryStore<A>, A>>
     ensures { IfSome result (λ w. HasRun config.now (map happening events.now) w) }
 {
-    let count = config.servers().len() + config.routers().len();
-    let Ok(stores) = stores(alloc, count) else {
+    let Ok(stores) = stores(alloc, config.node_count()) else {
         return None;
     };
     let Ok(mut world) = World::new(alloc, config, stores) else {

@@ -8,7 +8,7 @@ use lisp_nonces::WorldStore;
 use lisp_playing::{Command, play_on};
 use lisp_schedules::Event;
 use lisp_sites::Config;
-use lisp_sockets::{Folder, entry_at, flush, node_count, open_folder};
+use lisp_sockets::{Folder, entry_at, flush, open_folder};
 use lisp_store::FileStore;
 use lisp_streams::{RunFault, read_config, read_script};
 use lisp_world::World;
@@ -93,7 +93,7 @@ fn open_folders<R: Files<File = File> + AllocGlobal + Clone + Drop>(
         stores: Vec::new(rt.alloc()),
         locks: Vec::new(rt.alloc()),
     };
-    for number in 0..node_count(config) {
+    for number in 0..config.node_count() {
         add_folder(rt, dir, entry_at(config, number).name, &mut folders)?;
     }
     Ok(folders)

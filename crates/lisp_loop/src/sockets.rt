@@ -5,9 +5,7 @@ ghost use Rattle.std.specs.Prelude.{◌<◌, ◌+◌, length};
 use lisp_memory::FallibleVec;
 use lisp_records::Addr;
 use lisp_sites::Config;
-use lisp_sockets::{
-    Call, Endpoint, Entry, MOST_BYTES, Received, entry_at, flush, node_count, print_failed,
-};
+use lisp_sockets::{Call, Endpoint, Entry, MOST_BYTES, Received, entry_at, flush, print_failed};
 use lisp_streams::RunFault;
 use lisp_world::Datagram;
 use std::io::Write;
@@ -31,7 +29,7 @@ impl<'a> Sockets<'a> {
         let mut sockets = Sockets {
             endpoints: Vec::new(rt.alloc()),
         };
-        for number in 0..node_count(config) {
+        for number in 0..config.node_count() {
             sockets.add(rt, config, number)?;
         }
         Ok(sockets)

@@ -88,7 +88,7 @@ fn begin<A: Memory + Copy, E: Allocator>(
     ensures memory { IsErrOf result PlayFault.OutOfMemory → A.may_refuse }
     ensures faults { IfErr result (λ fault. (fault ≡ PlayFault.OutOfMemory) ⊎ ((why : WorldFault) × (fault ≡ faults.World why))) }
 {
-    let stores = stores(alloc, config.servers().len() + config.routers().len())?;
+    let stores = stores(alloc, config.node_count())?;
     Ok(World::new(alloc, config, stores)?)
 }
 

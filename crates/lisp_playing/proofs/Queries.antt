@@ -1,5 +1,5 @@
 -- What is asked of a node of a network that stands for a trace.
-use Rattle.std.proofs.Common.{Bor, ◌≡◌, ℕ, zero, suc, ◌+◌, ◌*◌, ◌^◌, ◌-◌, ◌<◌, ◌≤◌, nat_lt, nat_le, Bool, true, false, List, [], ◌++◌, length, take, get_or, Option, Some, None, refl, sym, ap, subst, ◌∙◌, arith}
+use Rattle.std.proofs.Common.{Bor, ◌≡◌, ℕ, suc, ◌+◌, ◌-◌, ◌<◌, ◌≤◌, nat_lt, nat_le, Bool, true, false, List, [], ◌++◌, length, take, get_or, Option, Some, None, refl, sym, ap, subst, ◌∙◌, arith}
 use Rattle.std.specs.Prelude.{is_some, slice_get, slice_index_or, position, if◌then◌else◌}
 use Rattle.std.specs.List.{find, flat_map, position_or_len}
 use Rattle.std.specs.Option.{option_map, option_and_then, unwrap_or}
@@ -164,14 +164,6 @@ module _ (c : Configuration) (node : ℕ) where
   pub entry_before : node < length c.servers → None ≡ router_in c node
   entry_before before =
       sym (ap (λ (b : Bool). if (if b then false else nat_lt node (length c.servers + length c.routers)) then Some (router_at c node) else None) (lt-ltb node (length c.servers) before))
-
--- as many as fit, where each takes some room; and two lists of such ones together
-few : (n size : ℕ) → 0 < size → n * size < 2 ^ 63 → n < 2 ^ 63
-few n zero some room = absurd (omega (arith, some))
-few n (suc size) some room = omega (arith, room)
-
-pub both_fit : (m n one other : ℕ) → 0 < one → 0 < other → m * one < 2 ^ 63 → n * other < 2 ^ 63 → m + n < 2 ^ 64
-both_fit m n one other some more first second = (let a = few m one some first in let b = few n other more second in omega (arith, a, b))
 
 -- a node that is missing: of the other kind, or there is none
 pub missing_wrong : (c : Configuration) (node : ℕ) (fault : WorldFault) → fault ≡ WrongKind → node < length c.servers + length c.routers → fault_text fault ≡ missing_text c node

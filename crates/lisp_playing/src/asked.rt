@@ -152,7 +152,7 @@ fn missing_line<A: Memory, E: Allocator>(
     ensures text { IfOk result (λ text. string_bytes text ≡ missing_text config.now node) }
     ensures memory { OnErr result A.may_refuse }
 {
-    let fault = if node < config.servers().len() + config.routers().len() {
+    let fault = if node < config.node_count() {
         WorldFault::WrongKind
     } else {
         WorldFault::NoNode

@@ -1,4 +1,5 @@
 pub mod ConfigLaws
+pub mod Counts
 pub mod Databases
 pub mod Each
 pub mod Eids

@@ -9,5 +9,5 @@ mod output;
 
 pub use endpoint::{Endpoint, MOST_BYTES, Received};
 pub use folder::{Folder, open_folder};
-pub use named::{Entry, Kind, entry_at, node_count, number_named};
+pub use named::{Entry, Kind, entry_at, number_named};
 pub use output::{Call, flush, print_failed};

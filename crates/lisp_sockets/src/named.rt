@@ -18,13 +18,6 @@ pub struct Entry<'a> {
     pub servers: &'a [usize],
 }
 
-/// How many nodes there are.
-pub fn node_count(config: &Config) -> usize
-    ensures { result ≡ length config.now.servers + length config.now.routers }
-{
-    config.servers().len() + config.routers().len()
-}
-
 /// The node with a number: Map-Servers first, then routers.
 pub fn entry_at(config: &Config, number: usize) -> Entry<'_>
     requires { number < length config.now.servers + length config.now.routers }
@@ -71,7 +64,7 @@ pub fn number_named(config: &Config, kind: Kind, name: &str) -> Result<usize, Ru
 fn number_of(config: &Config, name: &str) -> Option<usize>
     ensures { IfSome result (λ number. number < length config.now.servers + length config.now.routers) }
 {
-    for number in 0..node_count(config) {
+    for number in 0..config.node_count() {
         if entry_at(config, number).name == name {
             return Some(number);
         }

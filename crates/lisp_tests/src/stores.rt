@@ -133,7 +133,7 @@ fn played(
 /// A network whose nodes have such stores: this load or save of this node fails. Out of memory is no fault of a start.
 fn world(alloc: Global, config: &Config, call: (usize, u64)) -> Result<World<Failing>, WorldFault> {
     let stores = stores(alloc, config, call)?;
-    if stores.len() != config.servers().len() + config.routers().len() {
+    if stores.len() != config.node_count() {
         return Err(WorldFault::NoNode);
     }
     World::new(alloc, config, stores)
@@ -146,7 +146,7 @@ fn stores(
     (node, turn): (usize, u64),
 ) -> Result<Vec<Failing>, AllocError> {
     let mut stores = Vec::new(alloc);
-    for place in 0..config.servers().len() + config.routers().len() {
+    for place in 0..config.node_count() {
         let turn = if place == node { turn } else { 0 };
         stores.push(Failing::new(alloc, turn))?;
     }

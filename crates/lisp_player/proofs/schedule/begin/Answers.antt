@@ -1,4 +1,4 @@
-use Rattle.std.proofs.Common.{Err, ◌+◌, length, ap, ◌∙◌}
+use Rattle.std.proofs.Common.{Err, length, ap, ◌∙◌}
 use Rattle.std.proofs.lemmas.List.{length-replicate}
 use Rattle.lisp_world.specs.Openings.{repeats}
 use Rattle.lisp_player.proofs.Beginning.{begins, never, made_no_fault, memory_no_world, memory_ends, world_is, world_no_memory, world_ends}
@@ -12,7 +12,7 @@ returns-in_err-stores-clause-faults g c = memory_ends _ c.from_residual.ensures.
 
 pub new-requires : goal.new-requires
 new-requires g c =
-    ap length c.in_ok-stores.ensures.empty ∙ length-replicate _ _ ∙ (λ i. length (c.servers.ensures i) + length (c.routers.ensures.routers i))
+    ap length c.in_ok-stores.ensures.empty ∙ length-replicate _ _ ∙ c.node_count.ensures
 
 pub returns-in_err-new-clause-repeated : goal.returns-in_err-new-clause-repeated
 returns-in_err-new-clause-repeated g c = λ same. c.in_err-new.ensures.repeated.0 (ap Err (world_is _ _ _ c.from_residual-in_err-new.ensures.1 same))
