@@ -1,2 +1,3 @@
+pub mod Other
 mod Searching
 pub mod Turned
