@@ -362,14 +362,23 @@ pub(crate) fn joined<const LEN: usize>(head: &[u8], octets: &[u8]) -> [u8; LEN]
 fn head_of<A: Allocator>(entry: &MapRecord<A>) -> [u8; HEAD_LEN]
     ensures { result ≡ written_head entry.now ++ written_afi entry.now.eid.addr }
 {
-    let mut head = [0; HEAD_LEN];
-    head[..4].copy_from_slice(&entry.ttl().to_be_bytes());
-    head[4] = entry.locators().len() as u8;
-    head[5] = entry.eid().mask_len();
-    head[6] = entry.act() * ACT + u8::from(entry.authoritative()) * AUTHORITATIVE;
-    head[8..10].copy_from_slice(&entry.version().to_be_bytes());
-    head[10..].copy_from_slice(&entry.eid().addr().family().afi().to_be_bytes());
-    head
+    let [ttl_0, ttl_1, ttl_2, ttl_3] = entry.ttl.to_be_bytes();
+    let [version_high, version_low] = entry.version.to_be_bytes();
+    let [afi_high, afi_low] = entry.eid.first().family().afi().to_be_bytes();
+    [
+        ttl_0,
+        ttl_1,
+        ttl_2,
+        ttl_3,
+        entry.locators().len() as u8,
+        entry.eid.mask_len(),
+        entry.act() * ACT + u8::from(entry.authoritative) * AUTHORITATIVE,
+        0,
+        version_high,
+        version_low,
+        afi_high,
+        afi_low,
+    ]
 }
 
 fn put_locators<A: Memory>(out: &mut Vec<u8, A>, locators: &[Locator]) -> Result<(), AllocError>
