@@ -1,5 +1,5 @@
 -- Reading from left to right: what the steps give, the whole gives.
-use Rattle.std.proofs.Common.{◌≡◌, ℕ, ◌+◌, ◌-◌, ◌*◌, ◌%◌, ◌<◌, ◌≤◌, bit_and, List, ◌∷◌, length, take, drop, Ok, Err, refl, sym, ap, ◌∙◌, arith}
+use Rattle.std.proofs.Common.{◌≡◌, ℕ, ◌+◌, ◌-◌, ◌*◌, ◌%◌, ◌<◌, ◌≤◌, bit_and, List, ◌∷◌, length, take, drop, Result, Ok, Err, refl, sym, ap, ◌∙◌, arith}
 use Rattle.std.proofs.lemmas.Bool.{le-ltb, lt-ltb}
 use Rattle.std.proofs.lemmas.List.{take_all, length-drop}
 use Rattle.std.proofs.lemmas.Nat.{and_mask}
@@ -7,10 +7,12 @@ use Rattle.std.specs.Int.{w32, from_be_bytes}
 use Rattle.std.specs.Prelude.{slice_index}
 use Rattle.lisp_records.specs.declared.address.Addr.{Addr}
 use Rattle.lisp_records.specs.declared.address.Family.{Family}
+use Rattle.lisp_records.specs.declared.address.Family.TheVariants.{Ipv4, Ipv6}
 use Rattle.lisp_records.specs.declared.fault.RecordFault.{RecordFault}
 use Rattle.lisp_records.specs.declared.fault.RecordFault.TheVariants.{Short}
 use Rattle.lisp_records.specs.declared.locator.Locator.{Locator}
-use Rattle.lisp_records.specs.Reading.{Fails, after, number_at, family_of, address_at, locator_of, locator_at, locators_at, mask_of, mapping_of, start_at, record_at}
+use Rattle.lisp_records.specs.Result.{◌>>=◌}
+use Rattle.lisp_records.specs.Reading.{Fails, after, number_at, family_of, address_at, named_at, locator_of, locator_at, locators_at, mask_of, mapping_of, start_at, record_at}
 use Rattle.lisp_records.proofs.Fields.{done}
 use Rattle.lisp_records.proofs.Loop.{Fails-passed, Fails-met}
 
@@ -29,23 +31,25 @@ version_at high low n masked = masked ∙ ap (λ (k : ℕ). k * 256 + low) (and_
 
 -- ---- a locator
 
-pub locator_is : (bytes rest : List ℕ) (f : Family) (a : Addr) → 8 ≤ length bytes → family_of (number_at bytes 6) ≡ Ok f → address_at f (take (length bytes - 8) (drop 8 bytes)) ≡ Ok (a, rest) → locator_at bytes ≡ Ok (locator_of bytes a, rest)
-unfolding locator_at
-locator_is bytes rest f a long named taken =
-    let all = take_all (length bytes - 8) (drop 8 bytes) (omega (arith, length-drop 8 bytes)) in
-    rw (after_is 8 bytes long, named, ← all, taken) refl
+-- a mask of no bits fits each family
+maskless : (read : Result Family RecordFault) (bytes : List ℕ) (made : Addr × List ℕ → Locator × List ℕ) → (read >>= λ f. address_at f bytes >>= λ addr. done (made addr)) ≡ ((read >>= λ f. mask_of f 0 >>= λ n. address_at f bytes) >>= λ addr. done (made addr))
+maskless (Ok Ipv4) bytes made = refl
+maskless (Ok Ipv6) bytes made = refl
+maskless (Err e) bytes made = refl
 
--- its family is not named
-pub locator_unnamed : (bytes : List ℕ) (e : RecordFault) → 8 ≤ length bytes → family_of (number_at bytes 6) ≡ Err e → locator_at bytes ≡ Err e
+-- its address is read, and then nothing fails
+locator_named : (bytes : List ℕ) (n : ℕ) → 8 ≤ length bytes → n ≡ number_at bytes 6 → locator_at bytes ≡ (named_at n 0 (take (length bytes - 8) (drop 8 bytes)) >>= λ addr. done {A = Locator × List ℕ} (locator_of bytes addr.0, addr.1))
 unfolding locator_at
-locator_unnamed bytes e long unnamed = rw (after_is 8 bytes long, unnamed) refl
+locator_named bytes n long number =
+    let all = take_all (length bytes - 8) (drop 8 bytes) (omega (arith, length-drop 8 bytes)) in
+    rw (after_is 8 bytes long, all, number) (maskless (family_of (number_at bytes 6)) (drop 8 bytes) (λ addr. (locator_of bytes addr.0, addr.1)))
+
+pub locator_is : (bytes rest : List ℕ) (n : ℕ) (a : Addr) → 8 ≤ length bytes → n ≡ number_at bytes 6 → named_at n 0 (take (length bytes - 8) (drop 8 bytes)) ≡ Ok (a, rest) → locator_at bytes ≡ Ok (locator_of bytes a, rest)
+locator_is bytes rest n a long number taken = locator_named bytes n long number ∙ rw taken refl
 
 -- its address is not read
-pub locator_fails : (bytes : List ℕ) (f : Family) (e : RecordFault) → 8 ≤ length bytes → family_of (number_at bytes 6) ≡ Ok f → address_at f (take (length bytes - 8) (drop 8 bytes)) ≡ Err e → locator_at bytes ≡ Err e
-unfolding locator_at
-locator_fails bytes f e long named fails =
-    let all = take_all (length bytes - 8) (drop 8 bytes) (omega (arith, length-drop 8 bytes)) in
-    rw (after_is 8 bytes long, named, ← all, fails) refl
+pub locator_fails : (bytes : List ℕ) (n : ℕ) (e : RecordFault) → 8 ≤ length bytes → n ≡ number_at bytes 6 → named_at n 0 (take (length bytes - 8) (drop 8 bytes)) ≡ Err e → locator_at bytes ≡ Err e
+locator_fails bytes n e long number fails = locator_named bytes n long number ∙ rw fails refl
 
 -- bytes that are too few
 pub locator_cut : (bytes : List ℕ) → length bytes < 8 → locator_at bytes ≡ Err Short
@@ -54,19 +58,9 @@ locator_cut bytes few = rw (lt-ltb (length bytes) 8 few) refl
 
 -- ---- the start of a record
 
-pub start_is : (bytes : List ℕ) (f : Family) (n : ℕ) → 12 ≤ length bytes → family_of (number_at bytes 10) ≡ Ok f → mask_of f (slice_index bytes 5) ≡ Ok n → start_at bytes ≡ address_at f (drop 12 bytes)
+pub start_is : (bytes : List ℕ) (n : ℕ) → 12 ≤ length bytes → n ≡ number_at bytes 10 → start_at bytes ≡ named_at n (slice_index bytes 5) (drop 12 bytes)
 unfolding start_at
-start_is bytes f n long named fits = rw (after_is 12 bytes long, named, fits) refl
-
--- its family is not named
-pub start_unnamed : (bytes : List ℕ) (e : RecordFault) → 12 ≤ length bytes → family_of (number_at bytes 10) ≡ Err e → start_at bytes ≡ Err e
-unfolding start_at
-start_unnamed bytes e long unnamed = rw (after_is 12 bytes long, unnamed) refl
-
--- its mask does not fit
-pub start_fails : (bytes : List ℕ) (f : Family) (e : RecordFault) → 12 ≤ length bytes → family_of (number_at bytes 10) ≡ Ok f → mask_of f (slice_index bytes 5) ≡ Err e → start_at bytes ≡ Err e
-unfolding start_at
-start_fails bytes f e long named fails = rw (after_is 12 bytes long, named, fails) refl
+start_is bytes n long number = rw (after_is 12 bytes long, number) refl
 
 -- bytes that are too few
 pub start_cut : (bytes : List ℕ) → length bytes < 12 → start_at bytes ≡ Err Short

@@ -45,6 +45,17 @@ address_at f bytes = do
   rest ← after (width f) bytes
   Ok (address_of f bytes, rest)
 
+-- a mask that fits its family
+abbrev pub mask_of : Family → ℕ → Result ℕ RecordFault
+mask_of f mask_len = if nat_lt (8 * width f) mask_len then Err Mask else Ok mask_len
+
+-- an address of the family that an AFI field names, where a mask of so many bits fits it
+abbrev pub named_at : ℕ → ℕ → List ℕ → Result (Addr × List ℕ) RecordFault
+named_at number mask_len bytes = do
+  f ← family_of number
+  _ ← mask_of f mask_len
+  address_at f bytes
+
 -- whether a bit of the flags is set, by what it is worth
 abbrev pub is_set : ℕ → ℕ → Bool
 is_set flags worth = flags / worth % 2 == 1
@@ -74,10 +85,6 @@ locators_at (suc n) bytes = do
   first ← locator_at bytes
   others ← locators_at n first.1
   Ok (first.0 ∷ others.0, others.1)
-
--- a mask that fits its family
-abbrev pub mask_of : Family → ℕ → Result ℕ RecordFault
-mask_of f mask_len = if nat_lt (8 * width f) mask_len then Err Mask else Ok mask_len
 
 abbrev pub mapping_of : List ℕ → Addr → List Locator → Mapping
 mapping_of bytes addr locators = record {

@@ -5,7 +5,7 @@ ghost use Rattle.std.specs.Int.{w32, w128, from_be_bytes};
 ghost use Rattle.std.specs.List.{AllByRecursion};
 ghost use Rattle.lisp_records.specs.Address.{afi, width, family, octets, IsWhole, cleared, addr_eq, addr_cmp};
 ghost use Rattle.lisp_records.specs.Result.{Reads};
-ghost use Rattle.lisp_records.specs.Reading.{family_of, address_at};
+ghost use Rattle.lisp_records.specs.Reading.{family_of, address_at, named_at};
 
 use crate::fault::RecordFault;
 use std::cmp::Ordering;
@@ -147,10 +147,27 @@ pub(crate) fn as_bytes(bytes: &[u8]) -> &[u8]
     bytes
 }
 
-/// The address of a family at the front of the bytes, and the bytes after it; `Short` where they
-/// are too few.
+/// The address at the front of the bytes, of the family that an AFI field names, and the bytes after
+/// it. The faults come in the order `Afi`, `Mask` (a mask of so many bits is longer than the
+/// address), `Short`.
+pub(crate) fn read_address(
+    afi: u16,
+    mask_len: u8,
+    bytes: &[u8],
+) -> Result<(Addr, &[u8]), RecordFault>
+    ensures { Reads (λ x. (x.0, x.1.now)) result (named_at afi mask_len bytes.now) }
+{
+    let family = Family::from_afi(afi)?;
+    if mask_len > family.max_mask_len() {
+        return Err(RecordFault::Mask);
+    }
+    read_octets(family, bytes)
+}
+
+// The address of a family at the front of the bytes, and the bytes after it; `Short` where they are
+// too few.
 #[tactic(auto, unfolding(crate::specs::Reading::address_at))]
-pub(crate) fn read_address(expected: Family, bytes: &[u8]) -> Result<(Addr, &[u8]), RecordFault>
+fn read_octets(expected: Family, bytes: &[u8]) -> Result<(Addr, &[u8]), RecordFault>
     ensures { Reads (λ x. (x.0, x.1.now)) result (address_at expected bytes.now) }
 {
     match expected {

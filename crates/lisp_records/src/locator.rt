@@ -6,7 +6,7 @@ ghost use Rattle.lisp_records.specs.Written.{written_afi, written_locator};
 ghost use Rattle.lisp_records.specs.Result.{Reads};
 ghost use Rattle.lisp_records.specs.Reading.{locator_at};
 
-use crate::address::{Addr, Family, read_address};
+use crate::address::{Addr, read_address};
 use crate::fault::RecordFault;
 use crate::flags::is_set;
 use crate::record::joined;
@@ -77,8 +77,7 @@ pub(crate) fn read_locator(bytes: &[u8]) -> Result<(Locator, &[u8]), RecordFault
     else {
         return Err(RecordFault::Short);
     };
-    let family = Family::from_afi(u16::from_be_bytes([*afi_high, *afi_low]))?;
-    let (addr, rest) = read_address(family, rest)?;
+    let (addr, rest) = read_address(u16::from_be_bytes([*afi_high, *afi_low]), 0, rest)?;
     let locator = Locator {
         priority: *priority,
         weight: *weight,

@@ -8,10 +8,10 @@ ghost use Rattle.lisp_records.specs.Record.{Mapping, IsLocator, IsMapping};
 ghost use Rattle.lisp_records.specs.Spelling.{Spells};
 ghost use Rattle.lisp_records.specs.Written.{written, written_head, written_afi, written_locators};
 ghost use Rattle.lisp_records.specs.Result.{Reads};
-ghost use Rattle.lisp_records.specs.Reading.{Gives, HasLocators, start_at, mask_of, locators_at, mapping_of, record_at};
+ghost use Rattle.lisp_records.specs.Reading.{Gives, HasLocators, start_at, locators_at, mapping_of, record_at};
 ghost use Rattle.lisp_records.specs.declared.fault.RecordFault.{RecordFault};
 
-use crate::address::{Addr, Family, read_address};
+use crate::address::{Addr, read_address};
 use crate::fault::RecordFault;
 use crate::flags::is_set;
 use crate::locator::{Locator, put_locator, read_locator};
@@ -274,19 +274,7 @@ fn read_start(bytes: &[u8]) -> Result<(Addr, &[u8]), RecordFault>
         return Err(RecordFault::Short);
     }
     let (_, rest) = bytes.split_at(HEAD_LEN);
-    let family = Family::from_afi(u16::from_be_bytes([bytes[10], bytes[11]]))?;
-    check_mask(family, bytes[5])?;
-    read_address(family, rest)
-}
-
-// `Mask` where the mask is longer than an address of the family.
-fn check_mask(family: Family, mask_len: u8) -> Result<(), RecordFault>
-    ensures { Reads (λ _. mask_len) result (mask_of family mask_len) }
-{
-    if mask_len > family.max_mask_len() {
-        return Err(RecordFault::Mask);
-    }
-    Ok(())
+    read_address(u16::from_be_bytes([bytes[10], bytes[11]]), bytes[5], rest)
 }
 
 // So many locators from the front of the bytes, and the bytes after them.
