@@ -155,7 +155,8 @@ fn copy_records<A: Allocator, B: Memory + Copy>(
 {
     let mut copies = Vec::new(alloc);
     for record in records {
-        copies.try_push(record.copy(alloc)?)?;
+        let copy = record.copy(alloc)?;
+        copies.try_push(copy)?;
     }
     Ok(copies)
 }

@@ -12,7 +12,7 @@ returns-in_err-try_push-clause-memory g c = on_err c.from_residual-in_err-try_pu
 
 pub loop-record-preserved : goal.loop-record-preserved
 loop-record-preserved g c =
-    copy_goes_on c.args.records.now c.loop-record.copies.items c.try_push.new.self.items c.loop-record.record-index c.record-item.result c.in_ok-copy.field-0 c.loop-record-test.true c.record-item.is c.in_ok-copy.ensures.equal c.loop-record.invariant c.in_ok-try_push.ensures.items
+    copy_goes_on c.args.records.now c.loop-record.copies.items c.try_push.new.self.items c.loop-record.record-index c.record-item.result c.in_ok-copy.copy c.loop-record-test.true c.record-item.is c.in_ok-copy.ensures.equal c.loop-record.invariant c.in_ok-try_push.ensures.items
 
 pub returns-clause-equal : goal.returns-clause-equal
 returns-clause-equal g c = c.loop-record.invariant ∙ take_all c.loop-record.record-index c.args.records.now c.loop-record-test.false
