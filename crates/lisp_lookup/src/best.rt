@@ -66,7 +66,7 @@ fn best_of<'a, A: Allocator>(
 fn is_of<A: Allocator>(row: &Row<A>, prefix: &Prefix) -> bool
     ensures { result ≡ block_eq row.now.mapping.eid prefix.now }
 {
-    row.mapping.eid() == *prefix
+    *row.mapping.eid_ref() == *prefix
 }
 
 // The greater of two rows, where there is a first one.
@@ -83,7 +83,7 @@ fn greater<'a, A: Allocator>(one: Option<&'a Row<A>>, other: &'a Row<A>) -> &'a 
 fn may_answer<A: Allocator>(row: &Row<A>, addr: &Addr, now: u64) -> bool
     ensures { result ≡ may_answer addr.now now row.now }
 {
-    row.alive(now) && row.mapping.eid().contains(addr)
+    row.alive(now) && row.mapping.eid_ref().contains(addr)
 }
 
 // The order of rows: the longer prefix is the greater, then one whose router asks for proxy replies,
@@ -92,9 +92,9 @@ fn rank<A: Allocator>(one: &Row<A>, other: &Row<A>) -> Ordering
     ensures { result ≡ rank_cmp one.now other.now }
 {
     one.mapping
-        .eid()
+        .eid_ref()
         .mask_len()
-        .cmp(&other.mapping.eid().mask_len())
+        .cmp(&other.mapping.eid_ref().mask_len())
         .then(one.proxy.cmp(&other.proxy))
         .then(one.accepted.cmp(&other.accepted))
         .then(one.router.cmp(&other.router))

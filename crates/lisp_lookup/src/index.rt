@@ -68,7 +68,7 @@ pub(crate) fn put<A: Allocator>(
 fn known<A: Allocator>(row: &Row<A>)
     ensures { IsBlock row.now.mapping.eid }
 {
-    let _first = row.mapping.eid().addr();
+    let _first = row.mapping.eid_ref().addr();
 }
 
 // The number of the row of the same router and prefix; `near` becomes the place behind its own.
@@ -103,11 +103,9 @@ fn number_at<A: Allocator>(
     ensures found { IfSome result (λ number. position (is_row_of row.now.router row.now.mapping.eid) rows.now ≡ Some number) }
     ensures other { result ≡ None → place < length by_prefix.now.items → is_row_of row.now.router row.now.mapping.eid (row_at_place rows.now by_prefix.now.items place row.now) ≡ false }
 {
-    let number = *by_prefix.get(place)?;
-    if is_row_of(row, &rows[number]) {
-        Some(number)
-    } else {
-        None
+    match by_prefix.get(place) {
+        Some(number) if is_row_of(row, &rows[*number]) => Some(*number),
+        _ => None,
     }
 }
 
@@ -116,7 +114,7 @@ fn number_at<A: Allocator>(
 fn is_row_of<A: Allocator>(one: &Row<A>, other: &Row<A>) -> bool
     ensures { result ≡ is_row_of one.now.router one.now.mapping.eid other.now }
 {
-    other.router.is_same(&one.router) && other.mapping.eid() == one.mapping.eid()
+    other.router.is_same(&one.router) && *other.mapping.eid_ref() == *one.mapping.eid_ref()
 }
 
 // Adds a row for a router and prefix that has none.
@@ -176,11 +174,9 @@ fn first_dead<A: Allocator>(
     ensures dead { IfSome result (λ number. number < length rows.now × ((d : Holding) → is_alive (slice_index_or rows.now number d) now ≡ false)) }
     ensures alive { result ≡ None → All (λ h. is_alive h now ≡ true) rows.now }
 {
-    let number = *by_deadline.front()?;
-    if deadline(&rows[number]) <= now {
-        Some(number)
-    } else {
-        None
+    match by_deadline.front() {
+        Some(number) if deadline(&rows[*number]) <= now => Some(*number),
+        _ => None,
     }
 }
 

@@ -8,24 +8,20 @@ use Rattle.std.proofs.lemmas.Bool.{false≢true}
 use Rattle.lisp_lookup.proofs.index.number_at.Goals as goal
 
 pub bounds-rows-number : goal.bounds-rows-number
-bounds-rows-number g c = number_within prefix_cmp c.args.rows.now c.args.by_prefix.now.items c.args.place c.in_ok-number.field-0.now c.requires.index.rises (omega (arith, c.in_ok-number.ensures.variant.0 refl, c.args.by_prefix.now.ok.0)) c.in_ok-number.ensures.lookup
+bounds-rows-number g c = number_within prefix_cmp c.args.rows.now c.args.by_prefix.now.items c.args.place c.in-Some.number.now c.requires.index.rises (omega (arith, c.in-Some.ensures.variant.0 refl, c.args.by_prefix.now.ok.0)) c.in-Some.ensures.lookup
 
 pub offset_bounds-rows-number : goal.offset_bounds-rows-number
-offset_bounds-rows-number g c = omega (arith, number_within prefix_cmp c.args.rows.now c.args.by_prefix.now.items c.args.place c.in_ok-number.field-0.now c.requires.index.rises (omega (arith, c.in_ok-number.ensures.variant.0 refl, c.args.by_prefix.now.ok.0)) c.in_ok-number.ensures.lookup)
+offset_bounds-rows-number g c = omega (arith, number_within prefix_cmp c.args.rows.now c.args.by_prefix.now.items c.args.place c.in-Some.number.now c.requires.index.rises (omega (arith, c.in-Some.ensures.variant.0 refl, c.args.by_prefix.now.ok.0)) c.in-Some.ensures.lookup)
 
-pub returns-then-is_row_of-clause-found : goal.returns-then-is_row_of-clause-found
-returns-then-is_row_of-clause-found g c =
-    let within = number_within prefix_cmp c.args.rows.now c.args.by_prefix.now.items c.args.place c.in_ok-number.field-0.now c.requires.index.rises (omega (arith, c.in_ok-number.ensures.variant.0 refl, c.args.by_prefix.now.ok.0)) c.in_ok-number.ensures.lookup in
-    found_here c.args.rows.now c.args.by_prefix.now.items c.args.row.now c.requires.index c.in_ok-number.field-0.now within (ap (is_row_of c.args.row.now.router c.args.row.now.mapping.eid) (sym (get_or_read c.args.rows.now c.in_ok-number.field-0.now c.index-rows-number.result within c.index-rows-number.is c.args.row.now)) ∙ sym c.if-is_row_of.ensures)
+pub returns-in-Some-clause-found : goal.returns-in-Some-clause-found
+returns-in-Some-clause-found g c =
+    let within = number_within prefix_cmp c.args.rows.now c.args.by_prefix.now.items c.args.place c.in-Some.number.now c.requires.index.rises (omega (arith, c.in-Some.ensures.variant.0 refl, c.args.by_prefix.now.ok.0)) c.in-Some.ensures.lookup in
+    found_here c.args.rows.now c.args.by_prefix.now.items c.args.row.now c.requires.index c.in-Some.number.now within (ap (is_row_of c.args.row.now.router c.args.row.now.mapping.eid) (sym (get_or_read c.args.rows.now c.in-Some.number.now c.index-rows-number.result within c.index-rows-number.is c.args.row.now)) ∙ sym c.if-is_row_of.ensures)
 
-pub returns-else-is_row_of-clause-other : goal.returns-else-is_row_of-clause-other
-returns-else-is_row_of-clause-other g c = λ none lt. ap (is_row_of c.args.row.now.router c.args.row.now.mapping.eid) (sym (row_read prefix_cmp c.args.rows.now c.args.by_prefix.now.items c.args.place c.in_ok-number.field-0.now c.index-rows-number.result c.requires.index.rises lt c.in_ok-number.ensures.lookup c.index-rows-number.is c.args.row.now)) ∙ sym c.if-is_row_of.ensures
+pub returns-in_default-clause-other : goal.returns-in_default-clause-other
+returns-in_default-clause-other g c = λ none lt. ap (is_row_of c.args.row.now.router c.args.row.now.mapping.eid) (sym (row_read prefix_cmp c.args.rows.now c.args.by_prefix.now.items c.args.place c.in-Some.number.now c.index-rows-number.result c.requires.index.rises lt c.in-Some.ensures.lookup c.index-rows-number.is c.args.row.now)) ∙ sym c.if-is_row_of.ensures
 
-pub returns-in_err-number-clause-found : goal.returns-in_err-number-clause-found
-returns-in_err-number-clause-found g c = none_shows c.from_residual.result _ c.from_residual.ensures
 
-pub returns-then-is_row_of-clause-other : goal.returns-then-is_row_of-clause-other
-returns-then-is_row_of-clause-other g c none = some_is_found _ none
+pub returns-in-Some-clause-other : goal.returns-in-Some-clause-other
+returns-in-Some-clause-other g c none = some_is_found _ none
 
-pub returns-in_err-number-clause-other : goal.returns-in_err-number-clause-other
-returns-in_err-number-clause-other g c none lt = absurd (false≢true (c.in_err-number.ensures.variant.1 (omega (arith, lt, c.args.by_prefix.now.ok.0))))
