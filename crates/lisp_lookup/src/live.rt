@@ -47,7 +47,8 @@ pub(crate) fn copy_live<A: Memory + Copy>(
     let mut records = Vec::new(alloc);
     for row in rows {
         if is_live_of(row, router, now) {
-            records.try_push(row.mapping.copy(alloc)?)?;
+            let copy = row.mapping.copy(alloc)?;
+            records.try_push(copy)?;
         }
     }
     Ok(records)

@@ -212,7 +212,8 @@ fn live_rows<A: Memory + Copy>(
     let mut live = Vec::new(alloc);
     for row in rows {
         if row.alive(now) {
-            live.try_push(row.copy(alloc)?)?;
+            let copy = row.copy(alloc)?;
+            live.try_push(copy)?;
         }
     }
     Ok(live)
