@@ -1,6 +1,6 @@
 //! What enters and leaves an order of rows: numbers of rows, and no rows.
 
-ghost use Rattle.std.specs.Prelude.{◌≡◌, ◌+◌, ◌<◌, ◌≤◌, length, slice_index};
+ghost use Rattle.std.specs.Prelude.{◌≡◌, ◌+◌, ◌-◌, ◌<◌, ◌≤◌, length, slice_index};
 ghost use Rattle.std.specs.List.{Contains, insert, remove};
 ghost use Rattle.std.specs.VecDeque.{deque_len, deque_capacity};
 ghost use Rattle.lisp_lookup.specs.Index.{order_cmp, Rises, Left, IsFresh, Entered, Renamed};
@@ -26,8 +26,7 @@ pub(crate) fn enter<A: Allocator>(
     requires fresh { IsFresh rows.now numbers.old.items number }
     requires room { deque_len numbers.old < deque_capacity numbers.old }
     ensures entered { Entered order rows.now numbers.old.items numbers.new.items number }
-    ensures len { deque_len numbers.new ≡ deque_len numbers.old + 1 }
-    ensures capacity { deque_capacity numbers.old ≤ deque_capacity numbers.new }
+    ensures room { deque_capacity numbers.old - deque_len numbers.old ≤ deque_capacity numbers.new - deque_len numbers.new + 1 }
 {
     let row = &rows[number];
     match numbers.back() {

@@ -132,12 +132,9 @@ fn add<A: Allocator>(
     requires deadlines_room { deque_len by_deadline.old < deque_capacity by_deadline.old }
     ensures indexed { Indexed rows.new.items by_prefix.new.items by_deadline.new.items }
     ensures items { rows.new.items ≡ rows.old.items ++ row ∷ [] }
-    ensures len { vec_len rows.new ≡ vec_len rows.old + 1 }
-    ensures capacity { vec_capacity rows.old ≤ vec_capacity rows.new }
-    ensures prefixes_len { deque_len by_prefix.new ≡ deque_len by_prefix.old + 1 }
-    ensures prefixes_capacity { deque_capacity by_prefix.old ≤ deque_capacity by_prefix.new }
-    ensures deadlines_len { deque_len by_deadline.new ≡ deque_len by_deadline.old + 1 }
-    ensures deadlines_capacity { deque_capacity by_deadline.old ≤ deque_capacity by_deadline.new }
+    ensures rows_room { vec_capacity rows.old - vec_len rows.old ≤ vec_capacity rows.new - vec_len rows.new + 1 }
+    ensures prefixes_room { deque_capacity by_prefix.old - deque_len by_prefix.old ≤ deque_capacity by_prefix.new - deque_len by_prefix.new + 1 }
+    ensures deadlines_room { deque_capacity by_deadline.old - deque_len by_deadline.old ≤ deque_capacity by_deadline.new - deque_len by_deadline.new + 1 }
 {
     let number = rows.len();
     rows.push_reserved(row);

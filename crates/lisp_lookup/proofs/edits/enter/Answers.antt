@@ -15,8 +15,8 @@ place-place-requires-clause-falls g c = falls (order_cmp c.args.order) (order_to
 pub returns-in-Some-clause-entered : goal.returns-in-Some-clause-entered
 returns-in-Some-clause-entered g c = subst (λ (new : List ℕ). Entered c.args.order c.args.rows.now c.args.numbers.now.items new c.args.number) (sym (made c.insert.result c.insert.ensures.items c.insert.ensures.full (λ full. omega (arith, full, c.requires.room)))) (entered_at c.args.order c.args.rows.now c.args.numbers.now.items c.args.number c.index-rows-number.result c.requires.rises _ c.place-place.result (λ h. refl) c.place-place.ensures.bound c.requires.row c.requires.fresh c.index-rows-number.is)
 
-pub returns-in-Some-clause-len : goal.returns-in-Some-clause-len
-returns-in-Some-clause-len g c = made c.insert.result c.insert.ensures.len c.insert.ensures.full (λ full. omega (arith, full, c.requires.room))
+pub returns-in-Some-clause-room : goal.returns-in-Some-clause-room
+returns-in-Some-clause-room g c = omega (arith, c.insert.ensures.capacity, made c.insert.result c.insert.ensures.len c.insert.ensures.full (λ full. omega (arith, full, c.requires.room)))
 
 pub returns-in_default-clause-entered : goal.returns-in_default-clause-entered
 returns-in_default-clause-entered g c =
@@ -41,14 +41,8 @@ insert-requires g c = omega (arith, c.place-place.ensures.bound.within, c.args.n
 pub push_back_reserved-requires : goal.push_back_reserved-requires
 push_back_reserved-requires g c = c.requires.room
 
-pub returns-in-Some-clause-capacity : goal.returns-in-Some-clause-capacity
-returns-in-Some-clause-capacity g c = c.insert.ensures.capacity
-
-pub returns-in_default-clause-len : goal.returns-in_default-clause-len
-returns-in_default-clause-len g c = c.push_back_reserved.ensures.len
-
-pub returns-in_default-clause-capacity : goal.returns-in_default-clause-capacity
-returns-in_default-clause-capacity g c = omega (arith, c.push_back_reserved.ensures.capacity)
+pub returns-in_default-clause-room : goal.returns-in_default-clause-room
+returns-in_default-clause-room g c = omega (arith, c.push_back_reserved.ensures.len, c.push_back_reserved.ensures.capacity)
 
 pub offset_bounds-rows-number : goal.offset_bounds-rows-number
 offset_bounds-rows-number g c = omega (arith, c.requires.row)

@@ -49,20 +49,11 @@ enter-requires-2-clause-room g c = c.requires.deadlines_room
 pub returns-clause-items : goal.returns-clause-items
 returns-clause-items g c = c.push_reserved.ensures.items
 
-pub returns-clause-len : goal.returns-clause-len
-returns-clause-len g c = c.push_reserved.ensures.len
+pub returns-clause-rows_room : goal.returns-clause-rows_room
+returns-clause-rows_room g c = omega (arith, c.push_reserved.ensures.len, c.push_reserved.ensures.capacity)
 
-pub returns-clause-capacity : goal.returns-clause-capacity
-returns-clause-capacity g c = omega (arith, c.push_reserved.ensures.capacity)
+pub returns-clause-prefixes_room : goal.returns-clause-prefixes_room
+returns-clause-prefixes_room g c = c.enter.ensures.room
 
-pub returns-clause-prefixes_len : goal.returns-clause-prefixes_len
-returns-clause-prefixes_len g c = c.enter.ensures.len
-
-pub returns-clause-prefixes_capacity : goal.returns-clause-prefixes_capacity
-returns-clause-prefixes_capacity g c = c.enter.ensures.capacity
-
-pub returns-clause-deadlines_len : goal.returns-clause-deadlines_len
-returns-clause-deadlines_len g c = c.enter-2.ensures.len
-
-pub returns-clause-deadlines_capacity : goal.returns-clause-deadlines_capacity
-returns-clause-deadlines_capacity g c = c.enter-2.ensures.capacity
+pub returns-clause-deadlines_room : goal.returns-clause-deadlines_room
+returns-clause-deadlines_room g c = c.enter-2.ensures.room

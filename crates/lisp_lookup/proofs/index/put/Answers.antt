@@ -54,19 +54,19 @@ pub returns-in-Some-clause-prefixes_room : goal.returns-in-Some-clause-prefixes_
 returns-in-Some-clause-prefixes_room g c = one_more (deque_capacity c.args.by_prefix.now - deque_len c.args.by_prefix.now)
 
 pub returns-in-Some-clause-deadlines_room : goal.returns-in-Some-clause-deadlines_room
-returns-in-Some-clause-deadlines_room g c = omega (arith, c.leave-near.ensures.len, c.leave-near.ensures.capacity, c.enter.ensures.len, c.enter.ensures.capacity)
+returns-in-Some-clause-deadlines_room g c = omega (arith, c.leave-near.ensures.len, c.leave-near.ensures.capacity, c.enter.ensures.room)
 
 pub returns-in-None-clause-row : goal.returns-in-None-clause-row
 returns-in-None-clause-row g c = subst (λ (rows : List Holding). Sets c.args.rows.now.items rows (c.args.row ∷ [])) (sym {A = List Holding} c.add.ensures.items) (sets_push c.args.rows.now.items c.args.row (ap (position (is_row_of c.args.row.router c.args.row.mapping.eid)) (sym c.deref.ensures.value) ∙ sym c.in-None.ensures))
 
 pub returns-in-None-clause-rows_room : goal.returns-in-None-clause-rows_room
-returns-in-None-clause-rows_room g c = omega (arith, c.add.ensures.len, c.add.ensures.capacity)
+returns-in-None-clause-rows_room g c = c.add.ensures.rows_room
 
 pub returns-in-None-clause-prefixes_room : goal.returns-in-None-clause-prefixes_room
-returns-in-None-clause-prefixes_room g c = omega (arith, c.add.ensures.prefixes_len, c.add.ensures.prefixes_capacity)
+returns-in-None-clause-prefixes_room g c = c.add.ensures.prefixes_room
 
 pub returns-in-None-clause-deadlines_room : goal.returns-in-None-clause-deadlines_room
-returns-in-None-clause-deadlines_room g c = omega (arith, c.add.ensures.deadlines_len, c.add.ensures.deadlines_capacity)
+returns-in-None-clause-deadlines_room g c = c.add.ensures.deadlines_room
 
 pub number_of-requires : goal.number_of-requires
 number_of-requires g c = record {
