@@ -5,7 +5,7 @@ ghost use Rattle.std.specs.Int.{w32, w128, from_be_bytes};
 ghost use Rattle.std.specs.List.{AllByRecursion};
 ghost use Rattle.lisp_records.specs.Address.{afi, width, family, octets, IsWhole, cleared, addr_eq, addr_cmp};
 ghost use Rattle.lisp_records.specs.Result.{Reads};
-ghost use Rattle.lisp_records.specs.Reading.{family_of, address_at, named_at};
+ghost use Rattle.lisp_records.specs.Reading.{address_at, named_at};
 
 use crate::fault::RecordFault;
 use std::cmp::Ordering;
@@ -18,17 +18,6 @@ pub enum Family {
 }
 
 impl Family {
-    /// The family that an AFI field names; `Afi` at any number but 1 and 2.
-    pub(crate) fn from_afi(number: u16) -> Result<Family, RecordFault>
-        ensures { Reads (λ f. f) result (family_of number) }
-    {
-        match number {
-            1 => Ok(Family::Ipv4),
-            2 => Ok(Family::Ipv6),
-            _ => Err(RecordFault::Afi),
-        }
-    }
-
     /// The number in an AFI field: 1 for IPv4, 2 for IPv6.
     pub const fn afi(self) -> u16
         ensures { result ≡ afi self }
@@ -157,7 +146,11 @@ pub(crate) fn read_address(
 ) -> Result<(Addr, &[u8]), RecordFault>
     ensures { Reads (λ x. (x.0, x.1.now)) result (named_at afi mask_len bytes.now) }
 {
-    let family = Family::from_afi(afi)?;
+    let family = match afi {
+        1 => Family::Ipv4,
+        2 => Family::Ipv6,
+        _ => return Err(RecordFault::Afi),
+    };
     if mask_len > family.max_mask_len() {
         return Err(RecordFault::Mask);
     }

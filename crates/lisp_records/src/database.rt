@@ -95,7 +95,7 @@ impl<A: Allocator> Database<A> {
         ensures fits { OnOk result (database_of self.now ≡ Ok self.now) }
         ensures memory { OnErr result B.may_refuse }
     {
-        let records = copy_records(&self.records, alloc)?;
+        let records = copy_records(&self.records, alloc)?.into_vec();
         Ok(Database { records })
     }
 
@@ -105,7 +105,7 @@ impl<A: Allocator> Database<A> {
         ensures few { IfOk result (λ r. length r < 256) }
         ensures memory { OnErr result B.may_refuse }
     {
-        Ok(Records::from_vec(copy_records(&self.records, alloc)?))
+        copy_records(&self.records, alloc)
     }
 }
 
@@ -126,7 +126,7 @@ fn has_prefix<A: Allocator>(records: &[MapRecord<A>], eid: Prefix) -> bool
     ensures { result ≡ has_prefix eid records.now }
 {
     for record in records {
-        if eid == record.eid() {
+        if eid == *record.eid_ref() {
             return true;
         }
     }
@@ -149,8 +149,8 @@ fn written_size<A: Allocator>(records: &[MapRecord<A>]) -> usize
 fn copy_records<A: Allocator, B: Memory + Copy>(
     records: &[MapRecord<A>],
     alloc: B,
-) -> Result<Vec<MapRecord<B>, B>, AllocError>
-    ensures equal { IfOk result (λ v. v.items ≡ records.now) }
+) -> Result<Records<B>, AllocError>
+    ensures equal { IfOk result (λ r. r ≡ records.now) }
     ensures memory { OnErr result B.may_refuse }
 {
     let mut copies = Vec::new(alloc);
@@ -158,5 +158,5 @@ fn copy_records<A: Allocator, B: Memory + Copy>(
         let copy = record.copy(alloc)?;
         copies.try_push(copy)?;
     }
-    Ok(copies)
+    Ok(Records::from_vec(copies))
 }

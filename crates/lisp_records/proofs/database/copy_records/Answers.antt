@@ -15,4 +15,4 @@ loop-record-preserved g c =
     copy_goes_on c.args.records.now c.loop-record.copies.items c.try_push.new.self.items c.loop-record.record-index c.record-item.result c.in_ok-copy.copy c.loop-record-test.true c.record-item.is c.in_ok-copy.ensures.equal c.loop-record.invariant c.in_ok-try_push.ensures.items
 
 pub returns-clause-equal : goal.returns-clause-equal
-returns-clause-equal g c = c.loop-record.invariant ∙ take_all c.loop-record.record-index c.args.records.now c.loop-record-test.false
+returns-clause-equal g c = c.from_vec.ensures ∙ c.loop-record.invariant ∙ take_all c.loop-record.record-index c.args.records.now c.loop-record-test.false
