@@ -63,7 +63,7 @@ impl Locator {
 pub(crate) fn read_locator(bytes: &[u8]) -> Result<(Locator, &[u8]), RecordFault>
     ensures { Reads (λ x. (x.0, x.1.now)) result (locator_at bytes.now) }
 {
-    let [
+    let &[
         priority,
         weight,
         m_priority,
@@ -72,20 +72,20 @@ pub(crate) fn read_locator(bytes: &[u8]) -> Result<(Locator, &[u8]), RecordFault
         flags,
         afi_high,
         afi_low,
-        rest @ ..,
+        ref rest @ ..,
     ] = bytes
     else {
         return Err(RecordFault::Short);
     };
-    let (addr, rest) = read_address(u16::from_be_bytes([*afi_high, *afi_low]), 0, rest)?;
+    let (addr, rest) = read_address(u16::from_be_bytes([afi_high, afi_low]), 0, rest)?;
     let locator = Locator {
-        priority: *priority,
-        weight: *weight,
-        m_priority: *m_priority,
-        m_weight: *m_weight,
-        local: is_set(*flags, LOCAL),
-        probe: is_set(*flags, PROBE),
-        reachable: is_set(*flags, REACHABLE),
+        priority,
+        weight,
+        m_priority,
+        m_weight,
+        local: is_set(flags, LOCAL),
+        probe: is_set(flags, PROBE),
+        reachable: is_set(flags, REACHABLE),
         addr,
     };
     Ok((locator, rest))
