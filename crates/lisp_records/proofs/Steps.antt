@@ -1,5 +1,5 @@
 -- Reading from left to right: what the steps give, the whole gives.
-use Rattle.std.proofs.Common.{◌≡◌, ℕ, ◌+◌, ◌-◌, ◌*◌, ◌%◌, ◌<◌, ◌≤◌, bit_and, List, ◌∷◌, length, take, drop, Result, Ok, Err, refl, sym, ap, ◌∙◌, arith}
+use Rattle.std.proofs.Common.{◌≡◌, ℕ, ◌+◌, ◌-◌, ◌*◌, ◌/◌, ◌%◌, ◌<◌, ◌≤◌, bit_and, Bool, List, ◌∷◌, length, take, drop, Result, Ok, Err, refl, sym, ap, ◌∙◌, arith}
 use Rattle.std.proofs.lemmas.Bool.{le-ltb, lt-ltb}
 use Rattle.std.proofs.lemmas.List.{take_all, length-drop}
 use Rattle.std.proofs.lemmas.Nat.{and_mask}
@@ -11,8 +11,9 @@ use Rattle.lisp_records.specs.declared.address.Family.TheVariants.{Ipv4, Ipv6}
 use Rattle.lisp_records.specs.declared.fault.RecordFault.{RecordFault}
 use Rattle.lisp_records.specs.declared.fault.RecordFault.TheVariants.{Short}
 use Rattle.lisp_records.specs.declared.locator.Locator.{Locator}
+use Rattle.lisp_records.specs.Address.{Block, cleared}
 use Rattle.lisp_records.specs.Result.{◌>>=◌}
-use Rattle.lisp_records.specs.Reading.{Fails, after, number_at, family_of, address_at, named_at, locator_of, locator_at, locators_at, mask_of, mapping_of, start_at, record_at}
+use Rattle.lisp_records.specs.Reading.{Fails, after, is_set, number_at, family_of, address_at, named_at, locator_of, locator_at, locators_at, mask_of, mapping_of, start_at, record_at}
 use Rattle.lisp_records.proofs.Fields.{done}
 use Rattle.lisp_records.proofs.Loop.{Fails-passed, Fails-met}
 
@@ -21,13 +22,21 @@ after_is : (n : ℕ) (bytes : List ℕ) → n ≤ length bytes → after n bytes
 after_is n bytes long = rw (le-ltb (length bytes) n long) refl
 
 -- four bytes as a number
-pub word_at : (bytes : List ℕ) → 4 ≤ length bytes → from_be_bytes w32 (take 4 bytes) ≡ slice_index bytes 0 * 16777216 + slice_index bytes 1 * 65536 + slice_index bytes 2 * 256 + slice_index bytes 3
+word_at : (bytes : List ℕ) → 4 ≤ length bytes → from_be_bytes w32 (take 4 bytes) ≡ slice_index bytes 0 * 16777216 + slice_index bytes 1 * 65536 + slice_index bytes 2 * 256 + slice_index bytes 3
 word_at (b0 ∷ b1 ∷ b2 ∷ b3 ∷ bytes) long = refl
 word_at _ long = absurd (omega arith)
 
 -- a Map-Version number: the last four bits of a byte, and a byte
-pub version_at : (high low n : ℕ) → n ≡ bit_and high 15 * 256 + low → n ≡ high % 16 * 256 + low
+version_at : (high low n : ℕ) → n ≡ bit_and high 15 * 256 + low → n ≡ high % 16 * 256 + low
 version_at high low n masked = masked ∙ ap (λ (k : ℕ). k * 256 + low) (and_mask high 4)
+
+-- a record of what its first bytes say
+pub mapping_is : (head : List ℕ) (a : Addr) (ls : List Locator) (ttl version : ℕ) (authoritative : Bool) (eid : Block) → 4 ≤ length head
+    → ttl ≡ slice_index head 0 * 16777216 + slice_index head 1 * 65536 + slice_index head 2 * 256 + slice_index head 3 → authoritative ≡ is_set (slice_index head 6) 16
+    → version ≡ bit_and (slice_index head 8) 15 * 256 + slice_index head 9 → eid ≡ record { addr = cleared a (slice_index head 5); mask_len = slice_index head 5 }
+    → record { ttl = ttl; act = slice_index head 6 / 32; authoritative = authoritative; version = version; eid = eid; locators = ls } ≡ mapping_of head a ls
+mapping_is head a ls ttl version authoritative eid long first flag numbered block =
+    rw (first ∙ sym (word_at head long), flag, version_at (slice_index head 8) (slice_index head 9) version numbered, block) refl
 
 -- ---- a locator
 
