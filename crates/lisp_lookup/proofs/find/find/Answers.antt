@@ -1,4 +1,4 @@
-use Rattle.std.proofs.Common.{◌+◌, ◌-◌, ◌/◌, length, sym, subst, ◌≡◌, ℕ, arith}
+use Rattle.std.proofs.Common.{◌+◌, ◌-◌, ◌/◌, length, sym, arith}
 use Rattle.lisp_lookup.proofs.FindLaws.{cost_none, cost_look, read_below, before_too, after_too}
 use Rattle.lisp_lookup.proofs.IndexLaws.{below_most}
 use Rattle.lisp_lookup.proofs.find.find.Goals as goal

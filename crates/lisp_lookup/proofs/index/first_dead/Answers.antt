@@ -2,7 +2,7 @@ use Rattle.std.proofs.Common.{ap, slice_index_or, arith}
 use Rattle.std.proofs.lemmas.Bool.{false≢true}
 use Rattle.std.proofs.lemmas.List.{get_or_read}
 use Rattle.lisp_lookup.specs.Index.{deadline}
-use Rattle.lisp_lookup.proofs.IndexLaws.{first_within, none_shows, some_is_found}
+use Rattle.lisp_lookup.proofs.IndexLaws.{first_within, some_is_found}
 use Rattle.lisp_lookup.proofs.DeadlineLaws.{dead, all_alive}
 use Rattle.lisp_lookup.proofs.index.first_dead.Goals as goal
 
