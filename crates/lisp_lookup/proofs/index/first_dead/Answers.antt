@@ -25,6 +25,5 @@ returns-in-Some-clause-dead g c =
 pub returns-in_default-clause-alive : goal.returns-in_default-clause-alive
 returns-in_default-clause-alive g c = λ none. all_alive c.args.rows.now c.args.by_deadline.now.items c.requires.index c.in-Some.number.now c.in-Some.ensures.item.3.0 c.in-Some.ensures.lookup c.args.now c.index-rows-number.result c.index-rows-number.is (omega (arith, c.deadline.ensures, c.if-deadline-now.false))
 
-
 pub returns-in-Some-clause-alive : goal.returns-in-Some-clause-alive
 returns-in-Some-clause-alive g c none = some_is_found _ none

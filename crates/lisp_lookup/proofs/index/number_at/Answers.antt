@@ -20,7 +20,5 @@ returns-in-Some-clause-found g c =
 pub returns-in_default-clause-other : goal.returns-in_default-clause-other
 returns-in_default-clause-other g c = λ none lt. ap (is_row_of c.args.row.now.router c.args.row.now.mapping.eid) (sym (row_read prefix_cmp c.args.rows.now c.args.by_prefix.now.items c.args.place c.in-Some.number.now c.index-rows-number.result c.requires.index.rises lt c.in-Some.ensures.lookup c.index-rows-number.is c.args.row.now)) ∙ sym c.if-is_row_of.ensures
 
-
 pub returns-in-Some-clause-other : goal.returns-in-Some-clause-other
 returns-in-Some-clause-other g c none = some_is_found _ none
-
