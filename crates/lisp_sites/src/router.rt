@@ -14,7 +14,7 @@ use crate::name::Name;
 use crate::nodes::{Named, Nodes};
 use crate::place::Place;
 use crate::server::ServerEntry;
-use crate::value::{address, array, byte, check_table, flag, name, nonce_block, site_id, xtr};
+use crate::value::{array, byte, check_table, flag, name, nonce_block, text_as};
 use lisp_memory::Memory;
 use lisp_records::{Addr, Database, MapRecord, RouterId};
 use lisp_served::{Places, Site, Sites};
@@ -146,7 +146,7 @@ fn read_node<A: Allocator + Copy>(
     if servers.has(name) || before.has(name) {
         return Err(ConfigFault::Repeated(Field::RouterName));
     }
-    let address = address(entry, "address", Field::RouterAddress)?;
+    let address = text_as(entry, "address", Field::RouterAddress)?;
     Ok((Name::from_string(String::from_str(alloc, name)?), address))
 }
 
@@ -159,7 +159,7 @@ fn read_identity<A: Allocator>(
     ensures { result ≡ router_identity sites.now (view entry.now) }
 {
     let site = read_site(entry, sites)?;
-    let xtr = xtr(entry, "xtr", Field::RouterXtr)?;
+    let xtr = text_as(entry, "xtr", Field::RouterXtr)?;
     let key_id = read_key(entry, site)?;
     let me = RouterId {
         site: site.id(),
@@ -174,7 +174,7 @@ fn read_site<'a, A: Allocator>(
 ) -> Result<&'a Site<A>, ConfigFault>
     ensures { Reads (λ s. s.now) result (router_site sites.now (view entry.now)) }
 {
-    let id = site_id(entry, "site", Field::RouterSite)?;
+    let id = text_as(entry, "site", Field::RouterSite)?;
     sites
         .site(id)
         .ok_or(ConfigFault::BadValue(Field::RouterSite))

@@ -11,7 +11,7 @@ use crate::field::Field;
 use crate::name::Name;
 use crate::nodes::{Named, Nodes};
 use crate::place::Place;
-use crate::value::{address, check_table, name};
+use crate::value::{check_table, name, text_as};
 use lisp_records::Addr;
 use std::alloc::{Allocator, Global};
 use std::marker::Model;
@@ -75,7 +75,7 @@ impl<A: Allocator + Copy> Entries for Nodes<ServerEntry<A>, A> {
         if self.has(name) {
             return Err(ConfigFault::Repeated(Field::ServerName));
         }
-        let address = address(entry, "address", Field::ServerAddress)?;
+        let address = text_as(entry, "address", Field::ServerAddress)?;
         let name = Name::from_string(String::from_str(*alloc, name)?);
         self.push(*alloc, ServerEntry { name, address })
     }

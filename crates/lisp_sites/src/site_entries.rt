@@ -10,7 +10,7 @@ use crate::fault::ConfigFault;
 use crate::field::Field;
 use crate::keyed::{HasKey, Keyed};
 use crate::place::Place;
-use crate::value::{byte, check_table, flag, prefix, secret, site_id};
+use crate::value::{byte, check_table, flag, secret, text_as};
 use lisp_memory::Memory;
 use lisp_records::Prefix;
 use lisp_served::{Site, SiteKey, SitePrefix, Sites};
@@ -59,7 +59,7 @@ impl<A: Memory + Copy> Entries for Sites<A> {
 fn fresh_site_id<A: Allocator>(entry: &Value, before: &Sites<A>) -> Result<u64, ConfigFault>
     ensures { result ≡ fresh_site_id before.now (view entry.now) }
 {
-    let id = site_id(entry, "id", Field::SiteId)?;
+    let id = text_as(entry, "id", Field::SiteId)?;
     if has_site(before, id) {
         return Err(ConfigFault::Repeated(Field::SiteId));
     }
@@ -140,7 +140,7 @@ impl<A: Allocator + Copy> Entries for Keyed<SitePrefix, A> {
         _place: &mut Place,
     ) -> Result<(), ConfigFault> {
         check_table(entry, Field::SitePrefix)?;
-        let eid = prefix(entry, "eid", Field::SitePrefixEid)?;
+        let eid = text_as(entry, "eid", Field::SitePrefixEid)?;
         if has_eid(self, &eid) {
             return Err(ConfigFault::Repeated(Field::SitePrefixEid));
         }

@@ -81,32 +81,62 @@ fn text<'a>(entry: &'a Value, key: &str, name: Field) -> Result<&'a str, ConfigF
     }
 }
 
-/// A Site-ID.
-pub(crate) fn site_id(entry: &Value, key: &str, name: Field) -> Result<u64, ConfigFault>
-    ensures { result ≡ required name key.now (text_as site_id_of) (view entry.now) }
-{
-    site_id_from_text(text(entry, key, name)?).ok_or(ConfigFault::BadValue(name))
+/// What a text of a form says.
+pub(crate) trait FromText: Sized {
+    ghost use Rattle.std.specs.Prelude.{List, Option, ℕ};
+
+    ghost form: { List ℕ → Option Self };
+
+    /// What the text says, if it is of the form.
+    fn from_text(text: &str) -> Option<Self>
+        ensures { result ≡ form text.now };
 }
 
-/// An xTR-ID.
-pub(crate) fn xtr(entry: &Value, key: &str, name: Field) -> Result<[u8; 16], ConfigFault>
-    ensures { result ≡ required name key.now (text_as xtr_of) (view entry.now) }
+/// What a text that has to be there says.
+pub(crate) fn text_as<T: FromText>(
+    entry: &Value,
+    key: &str,
+    name: Field,
+) -> Result<T, ConfigFault>
+    ensures { result ≡ required name key.now (text_as T.form) (view entry.now) }
 {
-    xtr_from_text(text(entry, key, name)?).ok_or(ConfigFault::BadValue(name))
+    T::from_text(text(entry, key, name)?).ok_or(ConfigFault::BadValue(name))
 }
 
 /// An address.
-pub(crate) fn address(entry: &Value, key: &str, name: Field) -> Result<Addr, ConfigFault>
-    ensures { result ≡ required name key.now (text_as address_of) (view entry.now) }
-{
-    addr_from_text(text(entry, key, name)?).ok_or(ConfigFault::BadValue(name))
+impl FromText for Addr {
+    ghost form = { address_of };
+
+    fn from_text(text: &str) -> Option<Addr> {
+        addr_from_text(text)
+    }
 }
 
 /// A prefix.
-pub(crate) fn prefix(entry: &Value, key: &str, name: Field) -> Result<Prefix, ConfigFault>
-    ensures { result ≡ required name key.now (text_as prefix_of) (view entry.now) }
-{
-    prefix_from_text(text(entry, key, name)?).ok_or(ConfigFault::BadValue(name))
+impl FromText for Prefix {
+    ghost form = { prefix_of };
+
+    fn from_text(text: &str) -> Option<Prefix> {
+        prefix_from_text(text)
+    }
+}
+
+/// A Site-ID.
+impl FromText for u64 {
+    ghost form = { site_id_of };
+
+    fn from_text(text: &str) -> Option<u64> {
+        site_id_from_text(text)
+    }
+}
+
+/// An xTR-ID.
+impl FromText for [u8; 16] {
+    ghost form = { xtr_of };
+
+    fn from_text(text: &str) -> Option<[u8; 16]> {
+        xtr_from_text(text)
+    }
 }
 
 /// A whole number from 0 to 255.
