@@ -11,38 +11,35 @@ use Rattle.std.proofs.lemmas.Option.{same_Some}
 use Rattle.lisp_records.specs.declared.address.Addr.{Addr}
 use Rattle.lisp_records.specs.declared.address.Addr.TheVariants.{V4, V6}
 use Rattle.lisp_texts.specs.Text.{IsV4Text, IsGroup, group_octets, IsV6Text, IsAddressText}
-use Rattle.lisp_texts.specs.Reading.{cut, byte_of, v4_of, group_of, groups_at, v6_of, first_of, address_of}
+use Rattle.lisp_texts.specs.Reading.{cut, quarters_of, byte_of, v4_of, group_of, groups_at, v6_of, first_of, address_of}
 use Rattle.lisp_texts.proofs.Options.{bind_some}
-use Rattle.lisp_texts.proofs.Cut.{IsFree, cut-free, cut-at, cut_parts, free-join, free-digits, free-decimal}
+use Rattle.lisp_texts.proofs.Cut.{IsFree, cut-at, cut_parts, quarters-free, quarters-at, quarters_parts, free-join, free-digits, free-decimal}
 use Rattle.lisp_texts.proofs.ByteNumbers.{byte_again, byte_takes}
 use Rattle.lisp_texts.proofs.Hex.{group_again, group_takes}
 
 -- ---- IPv4
 
 -- four numbers in decimal, joined by dots
-v4_made : (text r1 r2 ta tb tc td : List ℕ) (a b c d : ℕ) → text ≡ ta ++ 46 ∷ r1 → r1 ≡ tb ++ 46 ∷ r2 → r2 ≡ tc ++ 46 ∷ td
+v4_made : (text ta tb tc td : List ℕ) (a b c d : ℕ) → text ≡ ta ++ 46 ∷ (tb ++ 46 ∷ (tc ++ 46 ∷ td))
     → (ta ≡ decimal a) × (a < 256) → (tb ≡ decimal b) × (b < 256) → (tc ≡ decimal c) × (c < 256) → (td ≡ decimal d) × (d < 256) → IsV4Text text (a ∷ b ∷ c ∷ d ∷ [])
-v4_made text r1 r2 ta tb tc td a b c d first second third na nb nc nd = record {
+v4_made text ta tb tc td a b c d whole na nb nc nd = record {
   four = refl;
   each = (na.1, (nb.1, (nc.1, (nd.1, tt))));
-  parts = rw (first, second, third, na.0, nb.0, nc.0, nd.0) refl;
+  parts = rw (whole, na.0, nb.0, nc.0, nd.0) refl;
 }
 
 -- what is read is four numbers joined by dots
 v4_takes : (text octets : List ℕ) → v4_of text ≡ Some octets → IsV4Text text octets
 unfolding v4_of
 v4_takes text octets e =
-    let f = bind_some (cut 46 text) _ octets e in
-    let s = bind_some (cut 46 f.0.1) _ octets f.2 in
-    let t = bind_some (cut 46 s.0.1) _ octets s.2 in
-    let a = bind_some (byte_of f.0.0) _ octets t.2 in
-    let b = bind_some (byte_of s.0.0) _ octets a.2 in
-    let c = bind_some (byte_of t.0.0) _ octets b.2 in
-    let d = bind_some (byte_of t.0.1) _ octets c.2 in
+    let q = bind_some (quarters_of 46 text) _ octets e in
+    let a = bind_some (byte_of q.0.0) _ octets q.2 in
+    let b = bind_some (byte_of q.0.1) _ octets a.2 in
+    let c = bind_some (byte_of q.0.2) _ octets b.2 in
+    let d = bind_some (byte_of q.0.3) _ octets c.2 in
     let value : a.0 ∷ b.0 ∷ c.0 ∷ d.0 ∷ [] ≡ octets = cc (d.2) in
-    subst (IsV4Text text) value (v4_made text f.0.1 s.0.1 f.0.0 s.0.0 t.0.0 t.0.1 a.0 b.0 c.0 d.0
-    (cut_parts 46 text f.0 f.1) (cut_parts 46 f.0.1 s.0 s.1) (cut_parts 46 s.0.1 t.0 t.1)
-    (byte_takes f.0.0 a.0 a.1) (byte_takes s.0.0 b.0 b.1) (byte_takes t.0.0 c.0 c.1) (byte_takes t.0.1 d.0 d.1))
+    subst (IsV4Text text) value (v4_made text q.0.0 q.0.1 q.0.2 q.0.3 a.0 b.0 c.0 d.0 (quarters_parts 46 text q.0 q.1)
+    (byte_takes q.0.0 a.0 a.1) (byte_takes q.0.1 b.0 b.1) (byte_takes q.0.2 c.0 c.1) (byte_takes q.0.3 d.0 d.1))
 
 -- four numbers joined by dots are read
 v4_again : (text octets : List ℕ) → IsV4Text text octets → v4_of text ≡ Some octets
@@ -50,9 +47,7 @@ unfolding v4_of
 v4_again text (a ∷ b ∷ c ∷ d ∷ []) s =
     rw (
       s.parts,
-      cut-at 46 (decimal a) (decimal b ++ 46 ∷ (decimal c ++ 46 ∷ decimal d)) (free-decimal 46 a (omega arith) (omega (arith, s.each))),
-      cut-at 46 (decimal b) (decimal c ++ 46 ∷ decimal d) (free-decimal 46 b (omega arith) (omega (arith, s.each))),
-      cut-at 46 (decimal c) (decimal d) (free-decimal 46 c (omega arith) (omega (arith, s.each))),
+      quarters-at 46 (decimal a) (decimal b) (decimal c) (decimal d) (free-decimal 46 a (omega arith) (omega (arith, s.each))) (free-decimal 46 b (omega arith) (omega (arith, s.each))) (free-decimal 46 c (omega arith) (omega (arith, s.each))),
       byte_again a s.each.0,
       byte_again b s.each.1.0,
       byte_again c s.each.1.1.0,
@@ -143,7 +138,7 @@ free-v6 mark text octets none other s = rw s.parts (free-join mark 58 s.groups o
 -- an IPv6 address is not read as one of IPv4
 v4-free : (text : List ℕ) → IsFree 46 text → v4_of text ≡ None
 unfolding v4_of
-v4-free text free = rw (cut-free 46 text free) refl
+v4-free text free = rw (quarters-free 46 text free) refl
 
 -- ---- either family
 

@@ -8,8 +8,9 @@ use Rattle.std.proofs.lemmas.Bool.{lt-ltb, le-ltb, eq-eqb, ne_eqb, eqb-true}
 use Rattle.std.proofs.lemmas.Fmt.{decimal_is_IsNumeral}
 use Rattle.std.proofs.lemmas.List.{take_at, drop_at, drop-drop, take-append-drop}
 use Rattle.std.proofs.lemmas.List.Quantifiers.{position-Some}
-use Rattle.lisp_texts.specs.Reading.{cut}
-use Rattle.lisp_texts.proofs.Options.{option_map-Some}
+use Rattle.std.proofs.lemmas.Option.{same_Some}
+use Rattle.lisp_texts.specs.Reading.{cut, quarters_of}
+use Rattle.lisp_texts.proofs.Options.{bind_some, option_map-Some}
 
 -- no byte of the text is the mark
 abbrev pub IsFree : ℕ → List ℕ → Type 0
@@ -48,6 +49,25 @@ cut_parts mark text p e =
     let behind : drop i text ≡ get_or text i 0 ∷ drop (i + 1) text = rw add-one (drop-cons text i 0 at.0) in
     let whole : text ≡ take i text ++ mark ∷ drop (i + 1) text = sym (take-append-drop i text) ∙ ap (λ (t : List ℕ). take i text ++ t) (rw here at behind) in
     whole ∙ ap (λ (q : List ℕ × List ℕ). q.0 ++ mark ∷ q.1) found.2
+
+-- ---- four parts
+
+pub quarters-free : (mark : ℕ) (text : List ℕ) → IsFree mark text → quarters_of mark text ≡ None
+unfolding quarters_of
+quarters-free mark text free = rw (cut-free mark text free) refl
+
+pub quarters-at : (mark : ℕ) (p q r s : List ℕ) → IsFree mark p → IsFree mark q → IsFree mark r → quarters_of mark (p ++ mark ∷ (q ++ mark ∷ (r ++ mark ∷ s))) ≡ Some (p, q, r, s)
+unfolding quarters_of
+quarters-at mark p q r s p_free q_free r_free = rw (cut-at mark p (q ++ mark ∷ (r ++ mark ∷ s)) p_free, cut-at mark q (r ++ mark ∷ s) q_free, cut-at mark r s r_free) refl
+
+pub quarters_parts : (mark : ℕ) (text : List ℕ) (q : List ℕ × List ℕ × List ℕ × List ℕ) → quarters_of mark text ≡ Some q → text ≡ q.0 ++ mark ∷ (q.1 ++ mark ∷ (q.2 ++ mark ∷ q.3))
+unfolding quarters_of
+quarters_parts mark text q e =
+    let f = bind_some (cut mark text) _ q e in
+    let s = bind_some (cut mark f.0.1) _ q f.2 in
+    let t = bind_some (cut mark s.0.1) _ q s.2 in
+    let whole = cut_parts mark text f.0 f.1 ∙ ap (λ (behind : List ℕ). f.0.0 ++ mark ∷ behind) (cut_parts mark f.0.1 s.0 s.1 ∙ ap (λ (behind : List ℕ). s.0.0 ++ mark ∷ behind) (cut_parts mark s.0.1 t.0 t.1)) in
+    whole ∙ ap (λ (q : List ℕ × List ℕ × List ℕ × List ℕ). q.0 ++ mark ∷ (q.1 ++ mark ∷ (q.2 ++ mark ∷ q.3))) (same_Some _ q t.2)
 
 -- ---- texts with no mark
 

@@ -1,18 +1,18 @@
 -- The numbers of records: what is read of their texts, and what text was read.
-use Rattle.std.proofs.Common.{◌≡◌, ℕ, ◌^◌, ◌<◌, true, false, ◌&&◌, eqb, ltb, leb, List, [], ◌∷◌, ◌++◌, length, Some, refl, ap, subst, ◌∙◌, arith}
+use Rattle.std.proofs.Common.{◌≡◌, ℕ, ◌^◌, ◌<◌, ◌≤◌, true, false, ◌&&◌, eqb, ltb, leb, List, [], ◌∷◌, ◌++◌, length, Some, refl, ap, subst, ◌∙◌, arith}
 use Rattle.std.specs.Char.{is_ascii_digit}
+use Rattle.std.specs.Int.{is_in_range}
 use Rattle.std.specs.List.{AllByRecursion, AllZip, list_all}
 use Rattle.std.specs.Str.Parse.{digits_value}
-use Rattle.std.proofs.lemmas.Bool.{lt-ltb, ltb-true, ne_eqb, and_parts}
+use Rattle.std.proofs.lemmas.Bool.{lt-ltb, ltb-true, leb-true, ne_eqb, and_parts}
 use Rattle.std.proofs.lemmas.List.{append-nil}
 use Rattle.std.proofs.lemmas.Option.{cond_some}
 use Rattle.lisp_records.specs.declared.address.Addr.{Addr}
 use Rattle.lisp_texts.specs.Number.{is_number, number_of}
 use Rattle.lisp_texts.specs.Text.{IsByteText, IsNumbersText, numbers_of_locator}
-use Rattle.lisp_texts.specs.Reading.{cut, if_so, number_below, numbers_of, located}
+use Rattle.lisp_texts.specs.Reading.{quarters_of, if_so, number_below, numbers_of, located}
 use Rattle.lisp_texts.proofs.Options.{bind_some}
-use Rattle.lisp_texts.proofs.ByteNumbers.{in_range}
-use Rattle.lisp_texts.proofs.Cut.{IsFree, cut-at, cut_parts, free-append}
+use Rattle.lisp_texts.proofs.Cut.{IsFree, quarters-at, quarters_parts, free-append}
 use Rattle.lisp_texts.proofs.WrittenGroups.{marked}
 
 -- ---- one number
@@ -27,6 +27,9 @@ below_takes limit text n e =
 pub below_again : (limit : ℕ) (text : List ℕ) (n : ℕ) → number_of text ≡ Some n → n < limit → number_below limit text ≡ Some n
 unfolding number_below
 below_again limit text n number lt = rw (number, lt-ltb n limit lt) refl
+
+in_range : (low high c : ℕ) → is_in_range low high c ≡ true → (low ≤ c) × (c ≤ high)
+in_range low high c test = let parts = and_parts (leb low c) (leb c high) test in (leb-true _ _ parts.0, leb-true _ _ parts.1)
 
 free-all : (mark : ℕ) (text : List ℕ) → mark < 48 → list_all is_ascii_digit text ≡ true → IsFree mark text
 free-all mark [] low all = tt
@@ -58,11 +61,11 @@ free-bytes mark (p ∷ pieces) (n ∷ ns) low each = (free-number mark p n low e
 pub free-numbers : (mark : ℕ) (text ns : List ℕ) → mark < 47 → IsNumbersText text ns → IsFree mark text
 free-numbers mark text ns low s = rw s.parts (free-marked mark 47 s.pieces (ne_eqb 47 mark (λ same. omega (arith, same))) (free-bytes mark s.pieces ns (omega arith) s.each))
 
-numbers_made : (text r1 r2 ta tb tc td : List ℕ) (a b c d : ℕ) → text ≡ ta ++ 47 ∷ r1 → r1 ≡ tb ++ 47 ∷ r2 → r2 ≡ tc ++ 47 ∷ td
+numbers_made : (text ta tb tc td : List ℕ) (a b c d : ℕ) → text ≡ ta ++ 47 ∷ (tb ++ 47 ∷ (tc ++ 47 ∷ td))
     → IsByteText ta a → IsByteText tb b → IsByteText tc c → IsByteText td d → IsNumbersText (47 ∷ text) (a ∷ b ∷ c ∷ d ∷ [])
-numbers_made text r1 r2 ta tb tc td a b c d first second third na nb nc nd = record {
+numbers_made text ta tb tc td a b c d whole na nb nc nd = record {
   pieces = ta ∷ tb ∷ tc ∷ td ∷ [];
-  parts = rw (first, second, third, append-nil td) refl;
+  parts = rw (whole, append-nil td) refl;
   each = (na, (nb, (nc, (nd, tt))));
 }
 
@@ -70,25 +73,20 @@ numbers_made text r1 r2 ta tb tc td a b c d first second third na nb nc nd = rec
 pub numbers_take : (addr : Addr) (text ns : List ℕ) → numbers_of text ≡ Some ns → IsNumbersText (47 ∷ text) (numbers_of_locator (located addr ns))
 unfolding numbers_of
 numbers_take addr text ns e =
-    let f = bind_some (cut 47 text) _ ns e in
-    let s = bind_some (cut 47 f.0.1) _ ns f.2 in
-    let t = bind_some (cut 47 s.0.1) _ ns s.2 in
-    let a = bind_some (number_below 256 f.0.0) _ ns t.2 in
-    let b = bind_some (number_below 256 s.0.0) _ ns a.2 in
-    let c = bind_some (number_below 256 t.0.0) _ ns b.2 in
-    let d = bind_some (number_below 256 t.0.1) _ ns c.2 in
+    let q = bind_some (quarters_of 47 text) _ ns e in
+    let a = bind_some (number_below 256 q.0.0) _ ns q.2 in
+    let b = bind_some (number_below 256 q.0.1) _ ns a.2 in
+    let c = bind_some (number_below 256 q.0.2) _ ns b.2 in
+    let d = bind_some (number_below 256 q.0.3) _ ns c.2 in
     let value : a.0 ∷ b.0 ∷ c.0 ∷ d.0 ∷ [] ≡ ns = cc (d.2) in
-    subst (λ (xs : List ℕ). IsNumbersText (47 ∷ text) (numbers_of_locator (located addr xs))) value (numbers_made text f.0.1 s.0.1 f.0.0 s.0.0 t.0.0 t.0.1 a.0 b.0 c.0 d.0
-    (cut_parts 47 text f.0 f.1) (cut_parts 47 f.0.1 s.0 s.1) (cut_parts 47 s.0.1 t.0 t.1)
-    (below_takes 256 f.0.0 a.0 a.1) (below_takes 256 s.0.0 b.0 b.1) (below_takes 256 t.0.0 c.0 c.1) (below_takes 256 t.0.1 d.0 d.1))
+    subst (λ (xs : List ℕ). IsNumbersText (47 ∷ text) (numbers_of_locator (located addr xs))) value (numbers_made text q.0.0 q.0.1 q.0.2 q.0.3 a.0 b.0 c.0 d.0 (quarters_parts 47 text q.0 q.1)
+    (below_takes 256 q.0.0 a.0 a.1) (below_takes 256 q.0.1 b.0 b.1) (below_takes 256 q.0.2 c.0 c.1) (below_takes 256 q.0.3 d.0 d.1))
 
 pieces_again : (p q r s : List ℕ) (a b c d : ℕ) → IsByteText p a → IsByteText q b → IsByteText r c → IsByteText s d → numbers_of (p ++ 47 ∷ (q ++ 47 ∷ (r ++ 47 ∷ s))) ≡ Some (a ∷ b ∷ c ∷ d ∷ [])
 unfolding numbers_of
 pieces_again p q r s a b c d na nb nc nd =
     rw (
-      cut-at 47 p (q ++ 47 ∷ (r ++ 47 ∷ s)) (free-number 47 p a (omega arith) na.0),
-      cut-at 47 q (r ++ 47 ∷ s) (free-number 47 q b (omega arith) nb.0),
-      cut-at 47 r s (free-number 47 r c (omega arith) nc.0),
+      quarters-at 47 p q r s (free-number 47 p a (omega arith) na.0) (free-number 47 q b (omega arith) nb.0) (free-number 47 r c (omega arith) nc.0),
       below_again 256 p a na.0 na.1,
       below_again 256 q b nb.0 nb.1,
       below_again 256 r c nc.0 nc.1,

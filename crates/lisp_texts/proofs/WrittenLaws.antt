@@ -1,25 +1,21 @@
 -- What is written of an address, a prefix or a record is a text of it.
-use Rattle.std.proofs.Common.{◌≡◌, ℕ, zero, suc, ◌+◌, ◌*◌, ◌/◌, ◌%◌, ◌^◌, ◌<◌, inl, List, [], ◌∷◌, ◌++◌, length, map, Some, refl, sym, ap, ◌∙◌, arith}
+use Rattle.std.proofs.Common.{◌≡◌, ℕ, zero, suc, ◌+◌, ◌*◌, ◌/◌, ◌%◌, ◌<◌, inl, List, [], ◌∷◌, ◌++◌, length, map, Some, refl, sym, ap, ◌∙◌, arith}
 use Rattle.std.specs.Char.{digit_value, digit_char}
 use Rattle.std.specs.Fmt.{decimal}
 use Rattle.std.specs.Int.{w16, to_be_bytes, from_be_bytes}
 use Rattle.std.specs.List.{AllByRecursion, AllZip, flat_map}
 use Rattle.std.specs.Str.Parse.{digits_value}
-use Rattle.std.proofs.lemmas.Bool.{lt-ltb}
-use Rattle.std.proofs.lemmas.Fmt.{digits_decimal, digits_value-decimal, decimal_nonempty, length-decimal-le}
 use Rattle.std.proofs.lemmas.List.{length-map}
 use Rattle.std.proofs.lemmas.Str.{digit_value-digit_char}
-use Rattle.std.proofs.lemmas.Str.Parse.{numerals_by_value}
 use Rattle.lisp_records.specs.declared.address.Addr.{Addr}
 use Rattle.lisp_records.specs.declared.address.Addr.TheVariants.{V4, V6}
 use Rattle.lisp_records.specs.declared.locator.Locator.{Locator}
 use Rattle.lisp_records.specs.Address.{Block, IsBlock, IsWhole}
 use Rattle.lisp_records.specs.Record.{Mapping, IsLocator, IsMapping}
-use Rattle.lisp_texts.specs.Number.{number_of}
 use Rattle.lisp_texts.specs.Text.{IsAddressText, IsGroup, group_octets, IsPrefixText, IsByteText, IsNumbersText, numbers_of_locator, shown_locator, IsLocatorText, IsRecordText}
 use Rattle.lisp_texts.specs.Reading.{record_text_of}
 use Rattle.lisp_texts.specs.Written.{hex_text, groups_text, addr_text, prefix_text, numbers_text, locator_text, record_text, shown}
-use Rattle.lisp_texts.proofs.Numbers.{digits, is_number-digits}
+use Rattle.lisp_texts.proofs.ByteNumbers.{number_again}
 use Rattle.lisp_texts.proofs.RecordLaws.{record_again}
 use Rattle.lisp_texts.proofs.WrittenGroups.{marked}
 
@@ -94,12 +90,6 @@ written_prefix b block has = record {
 }
 
 -- ---- records
-
--- a number in decimal is read
-number_again : (n : ℕ) → n < 2 ^ 64 → number_of (decimal n) ≡ Some n
-number_again n small =
-    let value : digits_value 10 (decimal n) ≡ n = digits_value-decimal (numerals_by_value _ digits) n small in
-    rw (is_number-digits (decimal n) (omega (arith, decimal_nonempty n small)) (length-decimal-le 20 n (omega arith) (omega arith) small) (digits_decimal (numerals_by_value _ digits) n small), value, lt-ltb n (2 ^ 64) small) refl
 
 byte_spelled : (n : ℕ) → n < 256 → IsByteText (decimal n) n
 byte_spelled n lt = (number_again n (omega arith), lt)

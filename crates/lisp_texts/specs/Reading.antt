@@ -1,7 +1,7 @@
 -- Reading a text from left to right: what the grammar's relations come to as functions.
-use Rattle.std.specs.Prelude.{ℕ, zero, suc, ◌+◌, ◌-◌, ◌*◌, ◌^◌, List, [], ◌∷◌, ◌++◌, length, take, drop, slice_index, Bool, true, false, ◌&&◌, nat_lt, nat_le, ◌==◌, if◌then◌else◌, Option, Some, None}
-use Rattle.std.specs.Char.{digit_value, is_ascii_digit}
-use Rattle.std.specs.Int.{w16, to_be_bytes, is_in_range}
+use Rattle.std.specs.Prelude.{ℕ, zero, suc, ◌+◌, ◌^◌, List, [], ◌∷◌, ◌++◌, length, take, drop, slice_index, Bool, true, false, ◌&&◌, nat_lt, nat_le, ◌==◌, if◌then◌else◌, Option, Some, None}
+use Rattle.std.specs.Char.{digit_value}
+use Rattle.std.specs.Int.{w16, to_be_bytes}
 use Rattle.std.specs.List.{position, list_all, slice_split}
 use Rattle.std.specs.Option.{option_map}
 use Rattle.std.specs.Str.Parse.{digits_value}
@@ -21,28 +21,40 @@ None >>= f = None
 unfoldable pub cut : ℕ → List ℕ → Option (List ℕ × List ℕ)
 cut mark text = option_map (λ i. (take i text, drop (i + 1) text)) (position (λ b. b == mark) text)
 
+-- the four parts that the first three marks part
+unfoldable pub quarters_of : ℕ → List ℕ → Option (List ℕ × List ℕ × List ℕ × List ℕ)
+quarters_of mark text = do
+  first ← cut mark text
+  second ← cut mark first.1
+  third ← cut mark second.1
+  Some (first.0, second.0, third.0, third.1)
+
 -- a value that passes a test
 abbrev pub if_so : {A : Type 0} → Bool → A → Option A
 if_so test x = if test then Some x else None
 
+-- a number below a limit; leading zeros are allowed
+unfoldable pub number_below : ℕ → List ℕ → Option ℕ
+number_below limit text = do
+  number ← number_of text
+  if_so (nat_lt number limit) number
+
+-- the text begins with a zero, and goes on
+abbrev pub is_padded : List ℕ → Bool
+is_padded (c ∷ d ∷ text) = c == 48
+is_padded text = false
+
 -- a number from 0 to 255 in decimal, without leading zeros
 unfoldable pub byte_of : List ℕ → Option ℕ
-byte_of (c ∷ []) = if_so (is_ascii_digit c) (c - 48)
-byte_of (c ∷ d ∷ []) = if_so (is_in_range 49 57 c && is_ascii_digit d) ((c - 48) * 10 + (d - 48))
-byte_of (c ∷ d ∷ e ∷ []) = do
-  number ← if_so (is_in_range 49 50 c && is_ascii_digit d && is_ascii_digit e) ((c - 48) * 100 + (d - 48) * 10 + (e - 48))
-  if_so (nat_lt number 256) number
-byte_of _ = None
+byte_of text = if is_padded text then None else number_below 256 text
 
 unfoldable pub v4_of : List ℕ → Option (List ℕ)
 v4_of text = do
-  first ← cut 46 text
-  second ← cut 46 first.1
-  third ← cut 46 second.1
-  a ← byte_of first.0
-  b ← byte_of second.0
-  c ← byte_of third.0
-  d ← byte_of third.1
+  parts ← quarters_of 46 text
+  a ← byte_of parts.0
+  b ← byte_of parts.1
+  c ← byte_of parts.2
+  d ← byte_of parts.3
   Some (a ∷ b ∷ c ∷ d ∷ [])
 
 -- the value of a hexadecimal digit
@@ -82,22 +94,14 @@ prefix_of text = do
   mask_len ← byte_of pieces.1
   if_so (nat_le mask_len (max_len addr)) (record { addr = cleared addr mask_len; mask_len = mask_len })
 
--- a number below a limit; leading zeros are allowed
-unfoldable pub number_below : ℕ → List ℕ → Option ℕ
-number_below limit text = do
-  number ← number_of text
-  if_so (nat_lt number limit) number
-
 -- four numbers below 256, joined by slashes
 unfoldable pub numbers_of : List ℕ → Option (List ℕ)
 numbers_of text = do
-  first ← cut 47 text
-  second ← cut 47 first.1
-  third ← cut 47 second.1
-  a ← number_below 256 first.0
-  b ← number_below 256 second.0
-  c ← number_below 256 third.0
-  d ← number_below 256 third.1
+  parts ← quarters_of 47 text
+  a ← number_below 256 parts.0
+  b ← number_below 256 parts.1
+  c ← number_below 256 parts.2
+  d ← number_below 256 parts.3
   Some (a ∷ b ∷ c ∷ d ∷ [])
 
 -- the locator with this address and these numbers

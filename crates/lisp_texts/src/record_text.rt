@@ -8,8 +8,8 @@ ghost use Rattle.lisp_texts.specs.Text.{IsRecordText};
 ghost use Rattle.lisp_texts.specs.Reading.{cut, number_below, numbers_of, located, locator_of, locators_of, front_of, record_of, record_text_of};
 ghost use Rattle.lisp_texts.specs.Written.{numbers_text, locator_text, record_text};
 
-use crate::number::number_from_text;
-use crate::text::{addr_from_text, prefix_from_text, put_addr, put_prefix};
+use crate::number::{byte_from_text, number_from_text};
+use crate::text::{addr_from_text, parted, prefix_from_text, put_addr, put_prefix, quarters};
 use lisp_memory::{FallibleString, FallibleVec, Memory};
 use lisp_records::{Addr, Locator, MapRecord, Prefix};
 use std::alloc::{AllocError, Allocator};
@@ -146,27 +146,13 @@ fn located(addr: Addr, numbers: [u8; 4]) -> Locator
 fn numbers(text: &str) -> Option<[u8; 4]>
     ensures { result ≡ numbers_of text.now }
 {
-    let (first, rest) = parted(text, '/')?;
-    let (second, rest) = parted(rest, '/')?;
-    let (third, fourth) = parted(rest, '/')?;
-    Some([byte(first)?, byte(second)?, byte(third)?, byte(fourth)?])
-}
-
-// A number from 0 to 255; leading zeros are allowed.
-#[tactic(auto, unfolding(crate::specs::Reading::number_below))]
-fn byte(text: &str) -> Option<u8>
-    ensures { result ≡ number_below 256 text.now }
-{
-    u8::try_from(number_from_text(text)?).ok()
-}
-
-// The parts before and after the first mark.
-#[tactic(auto, unfolding(crate::specs::Reading::cut))]
-fn parted(text: &str, mark: char) -> Option<(&str, &str)>
-    requires { mark < 128 }
-    ensures { option_map (λ p. (p.0.now, p.1.now)) result ≡ cut mark text.now }
-{
-    text.split_once(mark)
+    let (first, second, third, fourth) = quarters(text, '/')?;
+    Some([
+        byte_from_text(first)?,
+        byte_from_text(second)?,
+        byte_from_text(third)?,
+        byte_from_text(fourth)?,
+    ])
 }
 
 // Appends the text of a record. Out of memory, it may leave a part of it.

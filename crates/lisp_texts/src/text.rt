@@ -6,9 +6,10 @@ ghost use Rattle.std.specs.List.{join_with_byte};
 ghost use Rattle.std.specs.Option.{option_map};
 ghost use Rattle.lisp_records.specs.Address.{Block, IsBlock, IsWhole};
 ghost use Rattle.lisp_texts.specs.Text.{IsAddressText, IsPrefixText};
-ghost use Rattle.lisp_texts.specs.Reading.{cut, byte_of, digit_of, group_of, v4_of, v6_of, address_of, prefix_of};
+ghost use Rattle.lisp_texts.specs.Reading.{cut, quarters_of, byte_of, digit_of, group_of, v4_of, v6_of, address_of, prefix_of};
 ghost use Rattle.lisp_texts.specs.Written.{hex_text, groups_text, addr_text, prefix_text};
 
+use crate::number::byte_from_text;
 use lisp_memory::{FallibleString, Memory};
 use lisp_records::{Addr, Prefix};
 use std::alloc::AllocError;
@@ -26,7 +27,7 @@ pub fn addr_from_text(text: &str) -> Option<Addr>
     ensures only { (a : Addr) → IsAddressText text.now a → result ≡ Some a }
     ensures exact { result ≡ address_of text.now }
 {
-    address(text.as_bytes())
+    address(text)
 }
 
 /// The prefix that a text spells, or `None`: an address as for [`addr_from_text`], `/`, and the
@@ -37,7 +38,7 @@ pub fn prefix_from_text(text: &str) -> Option<Prefix>
     ensures only { (b : Block) → IsPrefixText text.now b → result ≡ Some b }
     ensures exact { result ≡ prefix_of text.now }
 {
-    prefix(text.as_bytes())
+    prefix(text)
 }
 
 /// The text of an address: for IPv4 four decimal numbers joined by dots, for IPv6 eight groups of
@@ -72,47 +73,41 @@ pub fn prefix_to_text<A: Memory>(alloc: A, prefix: &Prefix) -> Result<String<A>,
 
 // A prefix of either family.
 #[tactic(auto, unfolding(crate::specs::Reading::prefix_of))]
-fn prefix(text: &[u8]) -> Option<Prefix>
+fn prefix(text: &str) -> Option<Prefix>
     ensures { result ≡ prefix_of text.now }
 {
-    let (addr, mask_len) = cut(text, b'/')?;
+    let (addr, mask_len) = parted(text, '/')?;
     Prefix::new(address(addr)?, byte(mask_len)?)
 }
 
 // An address of either family.
 #[tactic(auto, unfolding(crate::specs::Reading::address_of))]
-fn address(text: &[u8]) -> Option<Addr>
+fn address(text: &str) -> Option<Addr>
     ensures { result ≡ address_of text.now }
 {
     match v4(text) {
         Some(octets) => Some(Addr::V4(octets)),
-        None => v6(text).map(Addr::V6),
+        None => v6(text.as_bytes()).map(Addr::V6),
     }
 }
 
 // The octets of an IPv4 address.
 #[tactic(auto, unfolding(crate::specs::Reading::v4_of))]
-fn v4(text: &[u8]) -> Option<[u8; 4]>
+fn v4(text: &str) -> Option<[u8; 4]>
     ensures { result ≡ v4_of text.now }
 {
-    let (first, rest) = cut(text, b'.')?;
-    let (second, rest) = cut(rest, b'.')?;
-    let (third, fourth) = cut(rest, b'.')?;
+    let (first, second, third, fourth) = quarters(text, '.')?;
     Some([byte(first)?, byte(second)?, byte(third)?, byte(fourth)?])
 }
 
 // A number from 0 to 255 in decimal, without leading zeros.
 #[tactic(auto, unfolding(crate::specs::Reading::byte_of))]
-fn byte(text: &[u8]) -> Option<u8>
+fn byte(text: &str) -> Option<u8>
     ensures { result ≡ byte_of text.now }
 {
-    match text {
-        [c @ b'0'..=b'9'] => Some(*c - b'0'),
-        [c @ b'1'..=b'9', d @ b'0'..=b'9'] => Some((*c - b'0') * 10 + (*d - b'0')),
-        [c @ b'1'..=b'2', d @ b'0'..=b'9', e @ b'0'..=b'9'] => {
-            ((*c - b'0') * 100).checked_add((*d - b'0') * 10 + (*e - b'0'))
-        }
-        _ => None,
+    match text.as_bytes() {
+        [b'0', _, ..] => None,
+        _ => byte_from_text(text),
     }
 }
 
@@ -172,6 +167,27 @@ fn place_of(text: &[u8], mark: u8) -> Option<usize>
     ensures { result ≡ position (λ byte. byte == mark) text.now }
 {
     text.iter().position(|byte| *byte == mark)
+}
+
+/// The four parts that the first three marks part.
+#[tactic(auto, unfolding(crate::specs::Reading::quarters_of))]
+pub(crate) fn quarters(text: &str, mark: char) -> Option<(&str, &str, &str, &str)>
+    requires { mark < 128 }
+    ensures { option_map (λ q. (q.0.now, q.1.now, q.2.now, q.3.now)) result ≡ quarters_of mark text.now }
+{
+    let (first, rest) = parted(text, mark)?;
+    let (second, rest) = parted(rest, mark)?;
+    let (third, fourth) = parted(rest, mark)?;
+    Some((first, second, third, fourth))
+}
+
+/// The parts before and after the first mark.
+#[tactic(auto, unfolding(crate::specs::Reading::cut))]
+pub(crate) fn parted(text: &str, mark: char) -> Option<(&str, &str)>
+    requires { mark < 128 }
+    ensures { option_map (λ p. (p.0.now, p.1.now)) result ≡ cut mark text.now }
+{
+    text.split_once(mark)
 }
 
 /// Appends the text of a prefix. Out of memory, it may leave a part of it.
