@@ -1,5 +1,5 @@
 -- The Map-Servers and routers that are read are such.
-use Rattle.std.proofs.Common.{◌≡◌, ℕ, Bool, true, false, ◌||◌, List, [], ◌++◌, map, Ok, subst, ◌∙◌, arith}
+use Rattle.std.proofs.Common.{◌≡◌, ℕ, Bool, true, false, ◌||◌, List, [], ◌++◌, map, Ok, sym, subst, ◌∙◌, true≢false, arith}
 use Rattle.std.specs.Prelude.{codes}
 use Rattle.std.specs.List.{list_any}
 use Rattle.std.specs.Str.{bytes_eq}
@@ -9,6 +9,7 @@ use Rattle.lisp_records.specs.declared.address.Addr.{Addr}
 use Rattle.lisp_records.specs.Address.{IsWhole}
 use Rattle.lisp_texts.specs.Reading.{address_of}
 use Rattle.lisp_sites.specs.declared.field.Field.TheVariants as fields
+use Rattle.lisp_served.specs.Site.{SiteEntry}
 use Rattle.lisp_served.specs.Configuration.{Server, Router, Configuration, IsServer, IsRouter}
 use Rattle.lisp_served.specs.Configuration.{is_name}
 use Rattle.lisp_sites.specs.Form.{name_of, text_as}
@@ -94,3 +95,14 @@ module _ (c : Configuration) where
         };
         new = named.new;
       })
+
+second_false : (a b : Bool) → (a || b) ≡ false → b ≡ false
+second_false true b none = absurd (true≢false none)
+second_false false b none = none
+
+-- no router before has the name of one that is read
+pub router_is_new : (sites : List SiteEntry) (servers : List Server) (before : List Router) (d : Data) (r : Router) → router_at sites servers before d ≡ Ok r → list_any (λ x. bytes_eq x.name r.name) before ≡ false
+router_is_new sites servers before d r e =
+    let test : List ℕ → Bool = λ n. bytes_eq n r.name in
+    let new = (one_router (record { sites = sites; servers = servers; routers = [] }) before d r e).new in
+    sym (list_any-map test (λ x. x.name) before) ∙ second_false (list_any test (map (λ s. s.name) servers)) (list_any test (map (λ x. x.name) before)) (sym (list_any-append test (map (λ s. s.name) servers) (map (λ x. x.name) before)) ∙ new)

@@ -1,6 +1,6 @@
 //! Nodes of one kind, and their names.
 
-ghost use Rattle.std.specs.Prelude.{◌≡◌, [], ◌∷◌, ◌++◌, OnOk, IfErr, position};
+ghost use Rattle.std.specs.Prelude.{◌≡◌, false, [], ◌∷◌, ◌++◌, OnOk, IfErr, position};
 ghost use Rattle.std.specs.List.{list_any};
 ghost use Rattle.std.specs.Str.{bytes_eq};
 ghost use Rattle.lisp_sites.specs.Names.{ArePlaces};
@@ -26,7 +26,7 @@ pub(crate) trait Named {
 #[derive(Drop)]
 pub(crate) struct Nodes<N: Named, A: Allocator> {
     items: Vec<N, A>,
-    // The places of names, of each the first one that has it.
+    // The places of their names.
     places: BTreeMap<String<A>, usize, A>,
 }
 
@@ -53,10 +53,11 @@ impl<N: Named, A: Allocator + Copy> Nodes<N, A> {
         }
     }
 
-    /// Adds a node behind the others.
+    /// Adds a node behind the others, none of which has its name.
     pub(crate) fn push(&mut self, alloc: A, node: N) -> Result<(), ConfigFault>
     where
         N: Drop,
+        requires { list_any (λ n. bytes_eq (N.name n) (N.name node)) self.old ≡ false }
         ensures added { OnOk result (self.new ≡ self.old ++ node ∷ []) }
         ensures memory { IfErr result (λ fault. fault ≡ OutOfMemory) }
     {
@@ -88,7 +89,7 @@ impl<N: Named, A: Allocator> Nodes<N, A> {
     }
 }
 
-// Adds a node, and its place unless its name has one.
+// Adds a node and its place.
 fn add<N: Named + Drop, A: Allocator + Copy>(
     items: &mut Vec<N, A>,
     places: &mut BTreeMap<String<A>, usize, A>,
@@ -96,12 +97,12 @@ fn add<N: Named + Drop, A: Allocator + Copy>(
     node: N,
 ) -> Result<(), ConfigFault>
     ensures added { OnOk result (items.new.items ≡ items.old.items ++ node ∷ []) }
-    ensures placed { ArePlaces places.old N.name items.old.items → ArePlaces places.new N.name items.new.items }
+    ensures placed { ArePlaces places.old N.name items.old.items → list_any (λ n. bytes_eq (N.name n) (N.name node)) items.old.items ≡ false → ArePlaces places.new N.name items.new.items }
     ensures memory { IfErr result (λ fault. fault ≡ OutOfMemory) }
 {
     items.reserve(1)?;
     let name = String::from_str(alloc, node.name())?;
-    places.entry(name)?.or_insert(items.len());
+    places.insert(name, items.len())?;
     items.push_reserved(node);
     Ok(())
 }

@@ -93,11 +93,7 @@ pub(crate) trait FromText: Sized {
 }
 
 /// What a text that has to be there says.
-pub(crate) fn text_as<T: FromText>(
-    entry: &Value,
-    key: &str,
-    name: Field,
-) -> Result<T, ConfigFault>
+pub(crate) fn text_as<T: FromText>(entry: &Value, key: &str, name: Field) -> Result<T, ConfigFault>
     ensures { result ≡ required name key.now (text_as T.form) (view entry.now) }
 {
     T::from_text(text(entry, key, name)?).ok_or(ConfigFault::BadValue(name))
