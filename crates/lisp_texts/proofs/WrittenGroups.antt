@@ -1,7 +1,7 @@
 -- Writing groups one after the other, as a loop does.
-use Rattle.std.proofs.Common.{◌≡◌, ℕ, ◌+◌, ◌*◌, ◌<◌, List, [], ◌∷◌, ◌++◌, length, get_or, drop, refl, sym, ap, ◌∙◌, add-one, append_assoc, drop-cons, arith}
+use Rattle.std.proofs.Common.{◌≡◌, ℕ, ◌+◌, ◌*◌, ◌<◌, ◌≤◌, List, [], ◌∷◌, ◌++◌, length, get_or, drop, refl, sym, ap, ◌∙◌, add-one, append_assoc, drop-cons, arith}
 use Rattle.std.specs.List.{flat_map, join_with_byte}
-use Rattle.std.proofs.lemmas.List.{append-nil}
+use Rattle.std.proofs.lemmas.List.{append-nil, drop_all}
 use Rattle.lisp_texts.specs.Written.{hex_text, groups_text}
 
 -- parts, each behind a mark
@@ -37,3 +37,16 @@ groups_next old between new total octets at len lt colon made so_far =
     ∙ append_assoc (old ++ 58 ∷ []) (group_at octets at) (later octets (at + 1))
     ∙ append_assoc old (58 ∷ []) (group_at octets at ++ later octets (at + 1))
     ∙ ap (λ (t : List ℕ). old ++ t) (sym step) ∙ so_far
+
+-- the first group is written
+pub groups_first : (old new octets : List ℕ) → length octets ≡ 16 → new ≡ old ++ group_at octets 0 → new ++ later octets 1 ≡ old ++ join_with_byte 58 (groups_text octets)
+groups_first old new octets len made =
+    ap (λ (t : List ℕ). t ++ later octets 1) made
+    ∙ append_assoc old (group_at octets 0) (later octets 1)
+    ∙ ap (λ (t : List ℕ). old ++ t) (sym (join-marked 58 (group_at octets 0) (groups_text (drop 2 octets))) ∙ ap (join_with_byte 58) (sym (groups_step octets 0 (omega arith))))
+
+-- all groups are written
+pub groups_done : (new total octets : List ℕ) (at : ℕ) → length octets ≡ 16 → 8 ≤ at → new ++ later octets at ≡ total → new ≡ total
+groups_done new total octets at len all so_far =
+    let none : drop (2 * at) octets ≡ [] = drop_all (2 * at) octets (omega arith) in
+    sym (append-nil new) ∙ ap (λ (t : List ℕ). new ++ marked 58 (groups_text t)) (sym none) ∙ so_far
