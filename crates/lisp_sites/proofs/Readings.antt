@@ -1,10 +1,11 @@
 -- What is known of a value that was read.
 use Rattle.std.proofs.Common.{◌≡◌, ℕ, Bool, true, false, ◌<◌, List, [], ◌∷◌, ◌++◌, length, get_or, Option, Some, None, Result, Ok, Err, refl, sym, ap, subst, ◌∙◌, true≢false, arith}
-use Rattle.std.specs.Prelude.{ok_or, option_and_then}
+use Rattle.std.specs.Prelude.{IfOk, ok_or, option_and_then}
 use Rattle.std.specs.List.{AllByRecursion, AllPairs, list_any}
 use Rattle.std.specs.Result.{result_ok}
 use Rattle.std.proofs.lemmas.List.Folds.{list_any_at}
 use Rattle.std.proofs.lemmas.List.Quantifiers.{all_pairs_push}
+use Rattle.std.proofs.lemmas.Option.{none-some, same_Some}
 use Rattle.toml.specs.Data.{Data, Items, no_items, item, get, as_str}
 use Rattle.lisp_texts.proofs.Options.{bind_some}
 use Rattle.lisp_sites.specs.declared.field.Field.{Field}
@@ -18,10 +19,10 @@ use Rattle.lisp_sites.specs.Table.{required_at, required, fresh, each}
 
 -- a fault is no value
 pub not_ok : {X E : Type 0} (w : E) (x : X) → ◌≡◌ {A = Result X E} (Err w) (Ok x) → ⊥
-not_ok w x e = cc e
+not_ok {X} {E} w x e = subst (λ (r : Result X E). IfOk r (λ z. ⊥)) e tt
 
 pub same_ok : {X E : Type 0} (x y : X) → ◌≡◌ {A = Result X E} (Ok x) (Ok y) → x ≡ y
-same_ok x y e = cc
+same_ok {X} {E} x y e = subst (λ (r : Result X E). IfOk r (λ z. x ≡ z)) e refl
 
 -- the value of a step that was taken
 pub bind_ok : {A B : Type 0} (r : Result A ConfigFault) (f : A → Result B ConfigFault) (y : B) → (r >>= f) ≡ Ok y → (x : A) × (r ≡ Ok x) × (f x ≡ Ok y)
@@ -33,12 +34,12 @@ ok_or-Ok (Some y) w x e = ap Some (same_ok y x e)
 ok_or-Ok None w x e = absurd (not_ok w x e)
 
 pub result_ok-Some : {X E : Type 0} (r : Result X E) (x : X) → result_ok r ≡ Some x → r ≡ Ok x
-result_ok-Some (Ok y) x e = cc
-result_ok-Some (Err w) x e = cc e
+result_ok-Some (Ok y) x e = ap Ok (same_Some y x e)
+result_ok-Some (Err w) x e = absurd (none-some x e)
 
 pub and_then-Some : {A B : Type 0} (f : A → Option B) (o : Option A) (y : B) → option_and_then f o ≡ Some y → (x : A) × (o ≡ Some x) × (f x ≡ Some y)
 and_then-Some f (Some x) y e = (x, refl, e)
-and_then-Some f None y e = cc e
+and_then-Some f None y e = absurd (none-some y e)
 
 -- a field that has to be there is of its form
 pub required-Ok : {X : Type 0} (name : Field) (key : List ℕ) (form : Data → Option X) (entry : Data) (x : X) → required name key form entry ≡ Ok x → (v : Data) × (form v ≡ Some x)

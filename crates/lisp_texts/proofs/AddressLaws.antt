@@ -7,7 +7,7 @@ use Rattle.std.specs.List.{AllByRecursion, flat_map, join_with_byte}
 use Rattle.std.specs.Option.{option_map}
 use Rattle.std.specs.Prelude.{IfSome}
 use Rattle.std.specs.Str.Parse.{digits_value}
-use Rattle.std.proofs.lemmas.Option.{same_Some}
+use Rattle.std.proofs.lemmas.Option.{none-some, same_Some}
 use Rattle.lisp_records.specs.declared.address.Addr.{Addr}
 use Rattle.lisp_records.specs.declared.address.Addr.TheVariants.{V4, V6}
 use Rattle.lisp_texts.specs.Text.{IsV4Text, IsGroup, group_octets, IsV6Text, IsAddressText}
@@ -37,7 +37,7 @@ v4_takes text octets e =
     let b = bind_some (byte_of q.0.1) _ octets a.2 in
     let c = bind_some (byte_of q.0.2) _ octets b.2 in
     let d = bind_some (byte_of q.0.3) _ octets c.2 in
-    let value : a.0 ∷ b.0 ∷ c.0 ∷ d.0 ∷ [] ≡ octets = cc (d.2) in
+    let value : a.0 ∷ b.0 ∷ c.0 ∷ d.0 ∷ [] ≡ octets = same_Some _ octets d.2 in
     subst (IsV4Text text) value (v4_made text q.0.0 q.0.1 q.0.2 q.0.3 a.0 b.0 c.0 d.0 (quarters_parts 46 text q.0 q.1)
     (byte_takes q.0.0 a.0 a.1) (byte_takes q.0.1 b.0 b.1) (byte_takes q.0.2 c.0 c.1) (byte_takes q.0.3 d.0 d.1))
 
@@ -145,7 +145,7 @@ v4-free text free = rw (quarters-free 46 text free) refl
 either_takes : (text : List ℕ) (v4 v6 : Option (List ℕ)) (a : Addr) → ((o : List ℕ) → v4 ≡ Some o → IsV4Text text o) → ((o : List ℕ) → v6 ≡ Some o → IsV6Text text o) → first_of (option_map V4 v4) (option_map V6 v6) ≡ Some a → IsAddressText text a
 either_takes text (Some o) v6 a four six e = subst (IsAddressText text) (same_Some (V4 o) a e) (four o refl)
 either_takes text None (Some o) a four six e = subst (IsAddressText text) (same_Some (V6 o) a e) (six o refl)
-either_takes text None None a four six e = absurd cc
+either_takes text None None a four six e = absurd (none-some a e)
 
 -- an address that is read is spelled so
 pub address_takes : (text : List ℕ) (a : Addr) → address_of text ≡ Some a → IsAddressText text a

@@ -6,7 +6,7 @@ use Rattle.std.specs.List.{list_all}
 use Rattle.std.specs.Str.Parse.{digits_value}
 use Rattle.std.proofs.lemmas.Bool.{lt-ltb, ne_eqb, eq-eqb, ltb-true, leb-true, and_parts, cases_lt}
 use Rattle.std.proofs.lemmas.Fmt.{decimal_digit, decimal_nonempty, decimal-digits_value, digits_decimal, digits_value-decimal, first_decimal, length-decimal-le}
-use Rattle.std.proofs.lemmas.Option.{cond_some}
+use Rattle.std.proofs.lemmas.Option.{none-some, cond_some}
 use Rattle.std.proofs.lemmas.Str.Parse.{numerals_by_value}
 use Rattle.lisp_texts.specs.Number.{is_number, number_of}
 use Rattle.lisp_texts.specs.Reading.{is_padded, number_below, byte_of}
@@ -52,7 +52,7 @@ digits_again text n plain number =
     sym (decimal-digits_value (numerals_by_value _ digits) text counted.1 (omega (arith, leb-true _ _ lengths.0)) (lone_zero text plain) (ltb-true _ _ tests.1)) ∙ ap decimal some.1
 
 below_plain : (padded : Bool) (text : List ℕ) (n : ℕ) → is_padded text ≡ padded → cond padded None (number_below 256 text) ≡ Some n → (text ≡ decimal n) × (n < 256)
-below_plain true text n is e = absurd cc
+below_plain true text n is e = absurd (none-some n e)
 below_plain false text n is e = let below = below_takes 256 text n e in (digits_again text n is below.0, below.1)
 
 -- what is read is a number below 256

@@ -6,7 +6,7 @@ use Rattle.std.specs.List.{AllByRecursion, AllZip, list_all}
 use Rattle.std.specs.Str.Parse.{digits_value}
 use Rattle.std.proofs.lemmas.Bool.{lt-ltb, ltb-true, leb-true, ne_eqb, and_parts}
 use Rattle.std.proofs.lemmas.List.{append-nil}
-use Rattle.std.proofs.lemmas.Option.{cond_some}
+use Rattle.std.proofs.lemmas.Option.{cond_some, same_Some}
 use Rattle.lisp_records.specs.declared.address.Addr.{Addr}
 use Rattle.lisp_texts.specs.Number.{is_number, number_of}
 use Rattle.lisp_texts.specs.Text.{IsByteText, IsNumbersText, numbers_of_locator}
@@ -78,7 +78,7 @@ numbers_take addr text ns e =
     let b = bind_some (number_below 256 q.0.1) _ ns a.2 in
     let c = bind_some (number_below 256 q.0.2) _ ns b.2 in
     let d = bind_some (number_below 256 q.0.3) _ ns c.2 in
-    let value : a.0 ∷ b.0 ∷ c.0 ∷ d.0 ∷ [] ≡ ns = cc (d.2) in
+    let value : a.0 ∷ b.0 ∷ c.0 ∷ d.0 ∷ [] ≡ ns = same_Some _ ns d.2 in
     subst (λ (xs : List ℕ). IsNumbersText (47 ∷ text) (numbers_of_locator (located addr xs))) value (numbers_made text q.0.0 q.0.1 q.0.2 q.0.3 a.0 b.0 c.0 d.0 (quarters_parts 47 text q.0 q.1)
     (below_takes 256 q.0.0 a.0 a.1) (below_takes 256 q.0.1 b.0 b.1) (below_takes 256 q.0.2 c.0 c.1) (below_takes 256 q.0.3 d.0 d.1))
 

@@ -6,7 +6,7 @@ use Rattle.std.proofs.lemmas.Bool.{lt-ltb, ltb-true}
 use Rattle.std.proofs.lemmas.List.{append-nil}
 use Rattle.std.proofs.lemmas.List.Elements.{All-from_recursion}
 use Rattle.std.proofs.lemmas.List.Splits.{slice_split_none, slice_split_at, join_with_byte-slice_split}
-use Rattle.std.proofs.lemmas.Option.{same_Some, cond_some}
+use Rattle.std.proofs.lemmas.Option.{none-some, same_Some, cond_some}
 use Rattle.lisp_records.specs.declared.locator.Locator.{Locator}
 use Rattle.lisp_records.specs.Address.{Block}
 use Rattle.lisp_records.specs.Record.{Mapping}
@@ -150,7 +150,7 @@ record_made text piece pieces front ls whole f each count = record {
 
 pieces_take : (text : List ℕ) (pieces : List (List ℕ)) (m : Mapping) → join_with_byte 43 pieces ≡ text → record_of pieces ≡ Some m → IsRecordText text m
 unfolding record_of
-pieces_take text [] m whole e = absurd cc
+pieces_take text [] m whole e = absurd (none-some m e)
 pieces_take text (piece ∷ pieces) m whole e =
     let f = bind_some (front_of piece) _ m e in
     let ls = bind_some (locators_of pieces) _ m f.2 in
