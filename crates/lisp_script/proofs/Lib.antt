@@ -1,3 +1,5 @@
+mod Faults
+mod Plain
 mod Filled
 mod Places
 mod Verbs

@@ -1,6 +1,5 @@
 -- Reading lines one after the other, as a loop does.
-use Rattle.std.proofs.Common.{◌≡◌, ◌≢◌, ℕ, ◌+◌, ◌<◌, List, [], ◌∷◌, ◌++◌, length, get_or, map, take, drop, Option, Some, None, Result, Ok, Err, Bor, refl, sym, ap, ◌∙◌, arith, add-one, drop-cons}
-use Rattle.std.specs.Prelude.{IfErr}
+use Rattle.std.proofs.Common.{◌≡◌, ◌≢◌, ◌⊎◌, inl, inr, ℕ, ◌+◌, ◌<◌, List, [], ◌∷◌, ◌++◌, length, get_or, map, take, drop, Option, Some, None, Result, Ok, Err, Bor, refl, sym, ap, ◌∙◌, arith, add-one, drop-cons}
 use Rattle.std.specs.List.{enumerate_from}
 use Rattle.std.specs.Option.{option_to_list}
 use Rattle.std.proofs.lemmas.List.{length-map, map-append, take-map, take-append-drop}
@@ -10,9 +9,10 @@ use Rattle.lisp_served.specs.Configuration.{Configuration}
 use Rattle.lisp_script.specs.declared.fault.ScriptFault.{ScriptFault}
 use Rattle.lisp_script.specs.declared.fault.ScriptWhat.{ScriptWhat}
 use Rattle.lisp_script.specs.declared.fault.ScriptWhat.TheVariants.{Memory}
-use Rattle.lisp_script.specs.Fault.{Gives}
+use Rattle.lisp_script.specs.Fault.{GivesOrRunsOut}
 use Rattle.lisp_script.specs.Order.{Order}
 use Rattle.lisp_script.specs.Spelling.{and_more, at_line, in_line, in_lines, with_line}
+use Rattle.lisp_script.proofs.Plain.{in_line_plain}
 use Rattle.lisp_script.proofs.Records.{with_front}
 
 -- ---- numbered lines
@@ -103,11 +103,11 @@ unfolding in_lines
 in_one_more c xs x before so_far = in_both c 1 xs (x ∷ []) ∙ rw so_far (last_line before (1 + length xs) (in_line c x))
 
 -- a line that was read
-pub goes_on : (c : Configuration) (xs : List (ℕ × Bor (List ℕ))) (x : ℕ × Bor (List ℕ)) (before after : List Order) (n : ℕ) (read : Result (Unit {0}) ScriptWhat)
-    → in_lines c 1 (texts xs) ≡ Ok before → Gives (λ _. after) read (with_line c before x.1.now) → Ok tt ≡ at_line n read → in_lines c 1 (texts (xs ++ x ∷ [])) ≡ Ok after
-goes_on c xs x before after n (Ok _) so_far gives is =
+pub goes_on : (May : Type 0) (c : Configuration) (xs : List (ℕ × Bor (List ℕ))) (x : ℕ × Bor (List ℕ)) (before after : List Order) (n : ℕ) (read : Result (Unit {0}) ScriptWhat)
+    → in_lines c 1 (texts xs) ≡ Ok before → GivesOrRunsOut May (λ _. after) read (with_line c before x.1.now) → Ok tt ≡ at_line n read → in_lines c 1 (texts (xs ++ x ∷ [])) ≡ Ok after
+goes_on May c xs x before after n (Ok _) so_far gives is =
     ap (λ (t : List (List ℕ)). in_lines c 1 t) (map-append (λ y. y.1.now) xs (x ∷ [])) ∙ in_one_more c (texts xs) x.1.now before so_far ∙ ap (λ (r : Result (List Order) ScriptWhat). at_line (1 + length (texts xs)) r) gives
-goes_on c xs x before after n (Err what) so_far gives is = absurd cc
+goes_on May c xs x before after n (Err what) so_far gives is = absurd cc
 
 -- a fault of a line and the commands before is the line's
 first_fault : (before : List Order) (read : Result (Option Order) ScriptWhat) (what : ScriptWhat) → (read >>= λ found. Ok (before ++ option_to_list found)) ≡ Err what → read ≡ Err what
@@ -122,13 +122,22 @@ in_faulty c xs x more before what so_far wrong =
     let line : in_line c x ≡ Err what = first_fault before (in_line c x) what wrong in
     in_both c 1 xs (x ∷ more) ∙ rw (so_far, line) refl
 
+-- a fault that is not of memory is that of a definition; one of memory is not, where a definition gives none
+not_out : {Y May : Type 0} (what : ScriptWhat) (read : Result Y ScriptWhat) → (May × (what ≡ Memory)) ⊎ (read ≡ Err what) → what ≢ Memory → read ≡ Err what
+not_out what read (inl out) other = absurd (other out.1)
+not_out what read (inr is) other = is
+
+out : {Y May : Type 0} (what : ScriptWhat) (read : Result Y ScriptWhat) → (May × (what ≡ Memory)) ⊎ (read ≡ Err what) → what ≡ Memory → read ≢ Err Memory → May
+out what read (inl is) same plain = is.0
+out what read (inr is) same plain = absurd (plain (is ∙ ap Err same))
+
 -- a line that is faulty
-pub stops : (c : Configuration) (lines : List (List ℕ)) (xs : List (ℕ × Bor (List ℕ))) (x : ℕ × Bor (List ℕ)) (before after : List Order) (fault : ScriptFault) (read : Result (Unit {0}) ScriptWhat)
-    → in_lines c 1 (texts xs) ≡ Ok before → Gives (λ _. after) read (with_line c before x.1.now) → Err fault ≡ at_line (x.0 + 1) read → IsNext lines xs x → fault.what ≢ Memory → in_lines c 1 lines ≡ Err fault
-stops c lines xs x before after fault (Ok _) so_far gives is next other = absurd cc
-stops c lines xs x before after fault (Err what) so_far gives is next other =
+pub stops : (May : Type 0) (c : Configuration) (lines : List (List ℕ)) (xs : List (ℕ × Bor (List ℕ))) (x : ℕ × Bor (List ℕ)) (before after : List Order) (fault : ScriptFault) (read : Result (Unit {0}) ScriptWhat)
+    → in_lines c 1 (texts xs) ≡ Ok before → GivesOrRunsOut May (λ _. after) read (with_line c before x.1.now) → Err fault ≡ at_line (x.0 + 1) read → IsNext lines xs x → fault.what ≢ Memory → in_lines c 1 lines ≡ Err fault
+stops May c lines xs x before after fault (Ok _) so_far gives is next other = absurd cc
+stops May c lines xs x before after fault (Err what) so_far gives is next other =
     let same : fault ≡ record { line = x.0 + 1; what = what } = cc in
-    let wrong : with_line c before x.1.now ≡ Err what = gives (λ e. other (ap (λ (f : ScriptFault). f.what) same ∙ e)) in
+    let wrong : with_line c before x.1.now ≡ Err what = not_out what _ gives (λ e. other (ap (λ (f : ScriptFault). f.what) same ∙ e)) in
     let number : 1 + length (texts xs) ≡ x.0 + 1 = omega (arith, next.number, length-map xs (λ (y : ℕ × Bor (List ℕ)). y.1.now)) in
     ap (λ (t : List (List ℕ)). in_lines c 1 t) next.parts
     ∙ in_faulty c (texts xs) x.1.now (drop (length xs + 1) lines) before what so_far wrong
@@ -136,8 +145,9 @@ stops c lines xs x before after fault (Err what) so_far gives is next other =
     ∙ ap Err (sym same)
 
 -- memory runs out where it does in a line
-pub runs_out : {X May : Type 0} (n : ℕ) (fault : ScriptFault) (read : Result X ScriptWhat) → IfErr read (λ what. what ≡ Memory → May) → Err fault ≡ at_line n read → fault.what ≡ Memory → May
-runs_out n fault (Ok _) may is e = absurd cc
-runs_out n fault (Err what) may is e =
+pub runs_out : (May : Type 0) (c : Configuration) (line : List ℕ) (before after : List Order) (n : ℕ) (fault : ScriptFault) (read : Result (Unit {0}) ScriptWhat)
+    → GivesOrRunsOut May (λ _. after) read (with_line c before line) → Err fault ≡ at_line n read → fault.what ≡ Memory → May
+runs_out May c line before after n fault (Ok _) gives is e = absurd cc
+runs_out May c line before after n fault (Err what) gives is e =
     let same : fault ≡ record { line = n; what = what } = cc in
-    may (sym (ap (λ (f : ScriptFault). f.what) same) ∙ e)
+    out what _ gives (sym (ap (λ (f : ScriptFault). f.what) same) ∙ e) (λ wrong. in_line_plain c line (first_fault before (in_line c line) Memory wrong))

@@ -1,12 +1,11 @@
 //! What the words of a line spell: a command.
 
-ghost use Rattle.std.specs.Prelude.{◌≡◌, ◌≢◌, [], ◌∷◌, map, IfErr};
+ghost use Rattle.std.specs.Prelude.{◌≡◌, ◌≢◌, [], ◌∷◌, map};
 ghost use Rattle.lisp_records.specs.Result.{Reads};
 ghost use Rattle.lisp_served.specs.Configuration.{Configuration};
-ghost use Rattle.lisp_script.specs.Fault.{Gives};
+ghost use Rattle.lisp_script.specs.Fault.{GivesOrRunsOut};
 ghost use Rattle.lisp_script.specs.Order.{order};
 ghost use Rattle.lisp_script.specs.Spelling.{change_of, send_of, deliver_of, restart_of, restart_with, notice_of, given_to, spelt, command_of};
-ghost use Rattle.lisp_script.specs.declared.fault.ScriptWhat.TheVariants.{Memory};
 ghost use Rattle.lisp_script.specs.declared.verb.Verb.TheVariants as verbs;
 
 use crate::command::Command;
@@ -26,8 +25,7 @@ pub(crate) fn command<A: Memory + Copy, E: Allocator>(
     word: &str,
     words: &[&str],
 ) -> Result<Command<A>, ScriptWhat>
-    ensures value { Gives order result (command_of config.now word.now (map (λ w. w.now) words.now)) }
-    ensures memory { IfErr result (λ what. what ≡ ScriptWhat.Memory → A.may_refuse) }
+    ensures { GivesOrRunsOut A.may_refuse order result (command_of config.now word.now (map (λ w. w.now) words.now)) }
 {
     match Verb::from_word(word)? {
         Verb::Change => change(alloc, config, words),
@@ -43,10 +41,9 @@ fn counted<A: Memory + Copy, E: Allocator>(
     verb: Verb,
     words: &[&str],
 ) -> Result<Command<A>, ScriptWhat>
-    ensures value { verb ≢ verbs.Change → verb ≢ verbs.Restart → Gives order result (spelt config.now verb (map (λ w. w.now) words.now)) }
-    ensures memory { IfErr result (λ what. what ≡ ScriptWhat.Memory → A.may_refuse) }
+    ensures { verb ≢ verbs.Change → verb ≢ verbs.Restart → GivesOrRunsOut A.may_refuse order result (spelt config.now verb (map (λ w. w.now) words.now)) }
 {
-    match words {
+    match *words {
         [first] => with_one(config, verb, first),
         [first, second] => with_two(config, verb, first, second),
         [first, second, third] => with_three(alloc, config, verb, first, second, third),
@@ -61,8 +58,7 @@ fn with_one<A: Allocator, E: Allocator>(
     verb: Verb,
     first: &str,
 ) -> Result<Command<A>, ScriptWhat>
-    ensures value { Reads order result (spelt config.now verb (first.now ∷ [])) }
-    ensures plain { IfErr result (λ what. what ≢ ScriptWhat.Memory) }
+    ensures { Reads order result (spelt config.now verb (first.now ∷ [])) }
 {
     match verb {
         Verb::Deliver => delivered(first, Ok(Fate::Done)),
@@ -82,8 +78,7 @@ fn with_two<A: Allocator, E: Allocator>(
     first: &str,
     second: &str,
 ) -> Result<Command<A>, ScriptWhat>
-    ensures value { verb ≢ verbs.Change → verb ≢ verbs.Restart → Reads order result (spelt config.now verb (first.now ∷ second.now ∷ [])) }
-    ensures plain { IfErr result (λ what. what ≢ ScriptWhat.Memory) }
+    ensures { verb ≢ verbs.Change → verb ≢ verbs.Restart → Reads order result (spelt config.now verb (first.now ∷ second.now ∷ [])) }
 {
     match verb {
         Verb::Send => sent(config, first, second, Ok(Fate::Done)),
@@ -113,8 +108,7 @@ fn with_three<A: Memory + Copy, E: Allocator>(
     second: &str,
     third: &str,
 ) -> Result<Command<A>, ScriptWhat>
-    ensures value { verb ≢ verbs.Change → verb ≢ verbs.Restart → Gives order result (spelt config.now verb (first.now ∷ second.now ∷ third.now ∷ [])) }
-    ensures memory { IfErr result (λ what. what ≡ ScriptWhat.Memory → A.may_refuse) }
+    ensures { verb ≢ verbs.Change → verb ≢ verbs.Restart → GivesOrRunsOut A.may_refuse order result (spelt config.now verb (first.now ∷ second.now ∷ third.now ∷ [])) }
 {
     match verb {
         Verb::Send => sent(config, first, second, doubt(third)),
@@ -135,8 +129,7 @@ fn change<A: Memory + Copy, E: Allocator>(
     config: &Config<E>,
     words: &[&str],
 ) -> Result<Command<A>, ScriptWhat>
-    ensures value { Gives order result (spelt config.now verbs.Change (map (λ w. w.now) words.now)) }
-    ensures memory { IfErr result (λ what. what ≡ ScriptWhat.Memory → A.may_refuse) }
+    ensures { GivesOrRunsOut A.may_refuse order result (spelt config.now verbs.Change (map (λ w. w.now) words.now)) }
 {
     match words {
         [] | [_] => Err(ScriptWhat::Count),
@@ -150,8 +143,7 @@ fn restart<A: Memory + Copy, E: Allocator>(
     config: &Config<E>,
     words: &[&str],
 ) -> Result<Command<A>, ScriptWhat>
-    ensures value { Gives order result (spelt config.now verbs.Restart (map (λ w. w.now) words.now)) }
-    ensures memory { IfErr result (λ what. what ≡ ScriptWhat.Memory → A.may_refuse) }
+    ensures { GivesOrRunsOut A.may_refuse order result (spelt config.now verbs.Restart (map (λ w. w.now) words.now)) }
 {
     match words {
         [] | [_] => Err(ScriptWhat::Count),
@@ -168,8 +160,7 @@ fn changed<A: Memory + Copy, E: Allocator>(
     name: &str,
     records: &[&str],
 ) -> Result<Command<A>, ScriptWhat>
-    ensures value { Gives order result (change_of config.now name.now (map (λ w. w.now) records.now)) }
-    ensures memory { IfErr result (λ what. what ≡ ScriptWhat.Memory → A.may_refuse) }
+    ensures { GivesOrRunsOut A.may_refuse order result (change_of config.now name.now (map (λ w. w.now) records.now)) }
 {
     let router = router(config, name)?;
     let db = database(alloc, records)?;
@@ -184,9 +175,7 @@ fn sent<A: Allocator, E: Allocator>(
     to: &str,
     becomes: Result<Fate, ScriptWhat>,
 ) -> Result<Command<A>, ScriptWhat>
-    requires { IfErr becomes (λ what. what ≢ ScriptWhat.Memory) }
-    ensures value { Reads order result (send_of config.now from.now to.now becomes) }
-    ensures plain { IfErr result (λ what. what ≢ ScriptWhat.Memory) }
+    ensures { Reads order result (send_of config.now from.now to.now becomes) }
 {
     let router = router(config, from)?;
     let server = server(config, to)?;
@@ -204,9 +193,7 @@ fn delivered<A: Allocator>(
     datagram: &str,
     becomes: Result<Fate, ScriptWhat>,
 ) -> Result<Command<A>, ScriptWhat>
-    requires { IfErr becomes (λ what. what ≢ ScriptWhat.Memory) }
-    ensures value { Reads order result (deliver_of datagram.now becomes) }
-    ensures plain { IfErr result (λ what. what ≢ ScriptWhat.Memory) }
+    ensures { Reads order result (deliver_of datagram.now becomes) }
 {
     let k = number(datagram)? as usize;
     let fate = becomes?;
@@ -220,8 +207,7 @@ fn restarted<A: Allocator, E: Allocator>(
     name: &str,
     pick: &str,
 ) -> Result<Command<A>, ScriptWhat>
-    ensures value { Reads order result (restart_of config.now name.now pick.now) }
-    ensures plain { IfErr result (λ what. what ≢ ScriptWhat.Memory) }
+    ensures { Reads order result (restart_of config.now name.now pick.now) }
 {
     let node = node(config, name)?;
     let pick = number(pick)?;
@@ -241,8 +227,7 @@ fn restarted_with<A: Memory + Copy, E: Allocator>(
     pick: &str,
     records: &[&str],
 ) -> Result<Command<A>, ScriptWhat>
-    ensures value { Gives order result (restart_with config.now name.now pick.now (map (λ w. w.now) records.now)) }
-    ensures memory { IfErr result (λ what. what ≡ ScriptWhat.Memory → A.may_refuse) }
+    ensures { GivesOrRunsOut A.may_refuse order result (restart_with config.now name.now pick.now (map (λ w. w.now) records.now)) }
 {
     let node = node(config, name)?;
     let pick = number(pick)?;
@@ -253,8 +238,7 @@ fn restarted_with<A: Memory + Copy, E: Allocator>(
 
 // A database is given to a router alone.
 fn given_to<E: Allocator>(config: &Config<E>, node: usize) -> Result<usize, ScriptWhat>
-    ensures value { result ≡ given_to config.now node }
-    ensures plain { IfErr result (λ what. what ≢ ScriptWhat.Memory) }
+    ensures { result ≡ given_to config.now node }
 {
     if node < config.servers().len() {
         Err(ScriptWhat::Name)
@@ -271,9 +255,7 @@ fn noticed<A: Allocator, E: Allocator>(
     to: &str,
     becomes: Result<Fate, ScriptWhat>,
 ) -> Result<Command<A>, ScriptWhat>
-    requires { IfErr becomes (λ what. what ≢ ScriptWhat.Memory) }
-    ensures value { Reads order result (notice_of config.now from.now to.now becomes) }
-    ensures plain { IfErr result (λ what. what ≢ ScriptWhat.Memory) }
+    ensures { Reads order result (notice_of config.now from.now to.now becomes) }
 {
     let server = server(config, from)?;
     let router = router(config, to)?;

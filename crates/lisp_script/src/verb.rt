@@ -26,8 +26,7 @@ pub(crate) enum Verb {
 impl Verb {
     /// The verb of a command's first word.
     pub(crate) fn from_word(word: &str) -> Result<Verb, ScriptWhat>
-        ensures value { result ≡ verb_of word.now }
-        ensures plain { IfErr result (λ what. what ≢ ScriptWhat.Memory) }
+        ensures { result ≡ verb_of word.now }
     {
         match word {
             "change" => Ok(Verb::Change),

@@ -1,7 +1,7 @@
 //! The words of a line, and what single words stand for.
 
 ghost use Rattle.std.specs.Prelude.{◌≡◌, ◌≢◌, ◌<◌, length, map, position, IfSome, IfOk, IfErr, OnErr};
-ghost use Rattle.lisp_script.specs.Fault.{Gives};
+ghost use Rattle.lisp_script.specs.Fault.{GivesOrRunsOut};
 ghost use Rattle.lisp_script.specs.Words.{words_of, is_word, node_of, server_of, router_of, number_in, address_in, bytes_in, doubt_in, fate_in, records_in, some_records, database_in};
 ghost use Rattle.lisp_script.specs.declared.fault.ScriptWhat.TheVariants.{Memory};
 
@@ -30,8 +30,7 @@ pub(crate) fn words<A: Memory>(alloc: A, line: &str) -> Result<Vec<&str, A>, All
 /// The Map-Server or router with a name, by its number.
 #[tactic(auto, using(crate::proofs::Places::node_by_kind))]
 pub(crate) fn node<E: Allocator>(config: &Config<E>, word: &str) -> Result<usize, ScriptWhat>
-    ensures value { result ≡ node_of config.now word.now }
-    ensures plain { IfErr result (λ what. what ≢ ScriptWhat.Memory) }
+    ensures { result ≡ node_of config.now word.now }
 {
     match server(config, word) {
         Ok(server) => Ok(server),
@@ -42,16 +41,14 @@ pub(crate) fn node<E: Allocator>(config: &Config<E>, word: &str) -> Result<usize
 /// The Map-Server with a name.
 #[tactic(auto, unfolding(crate::specs::Words::server_of))]
 pub(crate) fn server<E: Allocator>(config: &Config<E>, word: &str) -> Result<usize, ScriptWhat>
-    ensures value { result ≡ server_of config.now word.now }
-    ensures plain { IfErr result (λ what. what ≢ ScriptWhat.Memory) }
+    ensures { result ≡ server_of config.now word.now }
 {
     server_place(config.servers(), word).ok_or(ScriptWhat::Name)
 }
 
 /// The router with a name, by its number.
 pub(crate) fn router<E: Allocator>(config: &Config<E>, word: &str) -> Result<usize, ScriptWhat>
-    ensures value { result ≡ router_of config.now word.now }
-    ensures plain { IfErr result (λ what. what ≢ ScriptWhat.Memory) }
+    ensures { result ≡ router_of config.now word.now }
 {
     match router_place(config.routers(), word) {
         Some(place) => Ok(config.servers().len() + place),
@@ -78,24 +75,21 @@ fn router_place<E: Allocator>(routers: &[RouterEntry<E>], word: &str) -> Option<
 
 /// A decimal number.
 pub(crate) fn number(word: &str) -> Result<u64, ScriptWhat>
-    ensures value { result ≡ number_in word.now }
-    ensures plain { IfErr result (λ what. what ≢ ScriptWhat.Memory) }
+    ensures { result ≡ number_in word.now }
 {
     number_from_text(word).ok_or(ScriptWhat::Number)
 }
 
 /// An address.
 pub(crate) fn address(word: &str) -> Result<Addr, ScriptWhat>
-    ensures value { result ≡ address_in word.now }
-    ensures plain { IfErr result (λ what. what ≢ ScriptWhat.Memory) }
+    ensures { result ≡ address_in word.now }
 {
     addr_from_text(word).ok_or(ScriptWhat::Record)
 }
 
 /// The bytes that hexadecimal digits stand for; none for `-`.
 pub(crate) fn bytes<A: Memory>(alloc: A, word: &str) -> Result<Bytes<A>, ScriptWhat>
-    ensures value { Gives (λ bytes. bytes) result (bytes_in word.now) }
-    ensures memory { IfErr result (λ what. what ≡ ScriptWhat.Memory → A.may_refuse) }
+    ensures { GivesOrRunsOut A.may_refuse (λ bytes. bytes) result (bytes_in word.now) }
 {
     if word == "-" {
         return Ok(Bytes::from_vec(Vec::new(alloc)));
@@ -109,8 +103,7 @@ pub(crate) fn bytes<A: Memory>(alloc: A, word: &str) -> Result<Bytes<A>, ScriptW
 
 /// What becomes of a save.
 pub(crate) fn doubt(word: &str) -> Result<Fate, ScriptWhat>
-    ensures value { result ≡ doubt_in word.now }
-    ensures plain { IfErr result (λ what. what ≢ ScriptWhat.Memory) }
+    ensures { result ≡ doubt_in word.now }
 {
     if word == "doubt" {
         Ok(Fate::Doubt)
@@ -121,8 +114,7 @@ pub(crate) fn doubt(word: &str) -> Result<Fate, ScriptWhat>
 
 /// What becomes of a load, or of a save.
 pub(crate) fn fate(word: &str) -> Result<Fate, ScriptWhat>
-    ensures value { result ≡ fate_in word.now }
-    ensures plain { IfErr result (λ what. what ≢ ScriptWhat.Memory) }
+    ensures { result ≡ fate_in word.now }
 {
     if word == "loadfails" {
         Ok(Fate::LoadFails)
@@ -136,19 +128,17 @@ pub(crate) fn database<A: Memory + Copy>(
     alloc: A,
     words: &[&str],
 ) -> Result<Database<A>, ScriptWhat>
-    ensures value { Gives (λ db. db) result (database_in (map (λ w. w.now) words.now)) }
-    ensures memory { IfErr result (λ what. what ≡ ScriptWhat.Memory → A.may_refuse) }
+    ensures { GivesOrRunsOut A.may_refuse (λ db. db) result (database_in (map (λ w. w.now) words.now)) }
 {
-    match words {
-        [word] if *word == "empty" => some_records(alloc, &[]),
+    match *words {
+        [word] if word == "empty" => some_records(alloc, &[]),
         _ => some_records(alloc, words),
     }
 }
 
 // The database of records, a word each.
 fn some_records<A: Memory + Copy>(alloc: A, words: &[&str]) -> Result<Database<A>, ScriptWhat>
-    ensures value { Gives (λ db. db) result (some_records (map (λ w. w.now) words.now)) }
-    ensures memory { IfErr result (λ what. what ≡ ScriptWhat.Memory → A.may_refuse) }
+    ensures { GivesOrRunsOut A.may_refuse (λ db. db) result (some_records (map (λ w. w.now) words.now)) }
 {
     match Database::new(records(alloc, words)?) {
         Ok(db) => Ok(db),
@@ -158,8 +148,7 @@ fn some_records<A: Memory + Copy>(alloc: A, words: &[&str]) -> Result<Database<A
 
 // Records, a word each.
 fn records<A: Memory + Copy>(alloc: A, words: &[&str]) -> Result<Vec<MapRecord<A>, A>, ScriptWhat>
-    ensures value { Gives (λ records. records.items) result (records_in (map (λ w. w.now) words.now)) }
-    ensures memory { IfErr result (λ what. what ≡ ScriptWhat.Memory → A.may_refuse) }
+    ensures { GivesOrRunsOut A.may_refuse (λ records. records.items) result (records_in (map (λ w. w.now) words.now)) }
 {
     let mut records = Vec::new(alloc);
     for word in words {

@@ -1,0 +1,199 @@
+-- No word of a script is at fault for want of memory.
+use Rattle.std.proofs.Common.{◌≡◌, ◌≢◌, ℕ, Bool, true, false, cond, nat_lt, List, [], ◌∷◌, length, codes, Option, Some, None, Result, Ok, Err}
+use Rattle.std.specs.Option.{ok_or}
+use Rattle.hex.specs.Hex.{decode_of}
+use Rattle.lisp_records.specs.Result.{◌>>=◌}
+use Rattle.lisp_records.specs.Database.{database_of}
+use Rattle.lisp_texts.specs.Number.{number_of}
+use Rattle.lisp_texts.specs.Reading.{address_of, record_text_of}
+use Rattle.lisp_nonces.specs.declared.fate.Fate.{Fate}
+use Rattle.lisp_nonces.specs.declared.fate.Fate.TheVariants as fates
+use Rattle.lisp_served.specs.Configuration.{Configuration}
+use Rattle.lisp_script.specs.declared.fault.ScriptWhat.{ScriptWhat}
+use Rattle.lisp_script.specs.declared.fault.ScriptWhat.TheVariants as whats
+use Rattle.lisp_script.specs.declared.verb.Verb.{Verb}
+use Rattle.lisp_script.specs.declared.verb.Verb.TheVariants as verbs
+use Rattle.lisp_script.specs.Spelling.{verb_of, change_of, send_of, deliver_of, notice_of, given_to, restart_of, restart_with, spelt, command_of, is_comment, in_words, in_line}
+use Rattle.lisp_script.specs.Words.{words_of, is_word, node_of, server_of, router_of, number_in, address_in, or_fault, bytes_in, doubt_in, fate_in, records_in, some_records, database_in}
+
+-- a value, or a fault that isn't of memory
+abbrev Plain : {X : Type 0} → Result X ScriptWhat → Type 0
+Plain (Ok x) = Unit {0}
+Plain (Err what) = what ≢ whats.Memory
+
+-- ---- steps
+
+then : {X Y : Type 0} (read : Result X ScriptWhat) (next : X → Result Y ScriptWhat) → Plain read → ((x : X) → Plain (next x)) → Plain (read >>= next)
+then (Ok x) next first others = others x
+then (Err what) next first others = first
+
+or_plain : {X : Type 0} (found : Option X) (what : ScriptWhat) → what ≢ whats.Memory → Plain (ok_or found what)
+or_plain (Some x) what other = tt
+or_plain None what other = other
+
+fault_plain : {X E : Type 0} (what : ScriptWhat) (read : Result X E) → what ≢ whats.Memory → Plain (or_fault what read)
+fault_plain what (Ok x) other = tt
+fault_plain what (Err e) other = other
+
+either : {X : Type 0} (test : Bool) (first other : Result X ScriptWhat) → Plain first → Plain other → Plain (cond test first other)
+either true first other a b = a
+either false first other a b = b
+
+count : whats.Count ≢ whats.Memory
+count e = absurd cc
+
+word : whats.Word ≢ whats.Memory
+word e = absurd cc
+
+name : whats.Name ≢ whats.Memory
+name e = absurd cc
+
+number : whats.Number ≢ whats.Memory
+number e = absurd cc
+
+record_ : whats.Record ≢ whats.Memory
+record_ e = absurd cc
+
+hex : whats.Hex ≢ whats.Memory
+hex e = absurd cc
+
+-- ---- single words
+
+node : (c : Configuration) (w : List ℕ) → Plain (node_of c w)
+unfolding node_of
+node c w = or_plain _ _ name
+
+server : (c : Configuration) (w : List ℕ) → Plain (server_of c w)
+unfolding server_of
+server c w = or_plain _ _ name
+
+router : (c : Configuration) (w : List ℕ) → Plain (router_of c w)
+unfolding router_of
+router c w = or_plain _ _ name
+
+numeral : (w : List ℕ) → Plain (number_in w)
+numeral w = or_plain _ _ number
+
+address : (w : List ℕ) → Plain (address_in w)
+address w = or_plain _ _ record_
+
+bytes : (w : List ℕ) → Plain (bytes_in w)
+bytes w = either (is_word w (codes "-")) (Ok []) _ tt (fault_plain whats.Hex (decode_of w) hex)
+
+doubt : (w : List ℕ) → Plain (doubt_in w)
+doubt w = either (is_word w (codes "doubt")) (Ok fates.Doubt) (Err whats.Word) tt word
+
+fate : (w : List ℕ) → Plain (fate_in w)
+fate w = either (is_word w (codes "loadfails")) (Ok fates.LoadFails) _ tt (doubt w)
+
+-- ---- records
+
+all_records : (ws : List (List ℕ)) → Plain (records_in ws)
+unfolding records_in
+all_records [] = tt
+all_records (w ∷ ws) = then _ _ (or_plain _ _ record_) (λ first. then _ _ (all_records ws) (λ others. tt))
+
+some : (ws : List (List ℕ)) → Plain (some_records ws)
+some ws = then _ _ (all_records ws) (λ records. fault_plain _ _ record_)
+
+database : (ws : List (List ℕ)) → Plain (database_in ws)
+database [] = some []
+database (w ∷ []) = either (is_word w (codes "empty")) (Ok []) _ tt (some (w ∷ []))
+database (w ∷ v ∷ ws) = some (w ∷ v ∷ ws)
+
+-- ---- commands
+
+change : (c : Configuration) (r : List ℕ) (ws : List (List ℕ)) → Plain (change_of c r ws)
+unfolding change_of
+change c r ws = then _ _ (router c r) (λ router. then _ _ (database ws) (λ db. tt))
+
+send : (c : Configuration) (r s : List ℕ) (becomes : Result Fate ScriptWhat) → Plain becomes → Plain (send_of c r s becomes)
+unfolding send_of
+send c r s becomes plain = then _ _ (router c r) (λ router. then _ _ (server c s) (λ server. then _ _ plain (λ fate. tt)))
+
+deliver : (d : List ℕ) (becomes : Result Fate ScriptWhat) → Plain becomes → Plain (deliver_of d becomes)
+unfolding deliver_of
+deliver d becomes plain = then _ _ (numeral d) (λ k. then _ _ plain (λ fate. tt))
+
+notice : (c : Configuration) (s r : List ℕ) (becomes : Result Fate ScriptWhat) → Plain becomes → Plain (notice_of c s r becomes)
+unfolding notice_of
+notice c s r becomes plain = then _ _ (server c s) (λ server. then _ _ (router c r) (λ router. then _ _ plain (λ fate. tt)))
+
+restart : (c : Configuration) (n p : List ℕ) → Plain (restart_of c n p)
+unfolding restart_of
+restart c n p = then _ _ (node c n) (λ node. then _ _ (numeral p) (λ pick. tt))
+
+given : (c : Configuration) (n : ℕ) → Plain (given_to c n)
+given c n = either (nat_lt n (length c.servers)) (Err whats.Name) (Ok n) name tt
+
+restart_given : (c : Configuration) (n p : List ℕ) (ws : List (List ℕ)) → Plain (restart_with c n p ws)
+unfolding restart_with
+restart_given c n p ws = then _ _ (node c n) (λ node. then _ _ (numeral p) (λ pick. then _ _ (given c node) (λ router. then _ _ (database ws) (λ db. tt))))
+
+spelt_plain : (c : Configuration) (verb : Verb) (ws : List (List ℕ)) → Plain (spelt c verb ws)
+unfolding spelt
+spelt_plain c verbs.Change [] = count
+spelt_plain c verbs.Change (a ∷ []) = count
+spelt_plain c verbs.Change (r ∷ a ∷ ws) = change c r (a ∷ ws)
+spelt_plain c verbs.Send [] = count
+spelt_plain c verbs.Send (a ∷ []) = count
+spelt_plain c verbs.Send (r ∷ s ∷ []) = send c r s _ tt
+spelt_plain c verbs.Send (r ∷ s ∷ w ∷ []) = send c r s _ (doubt w)
+spelt_plain c verbs.Send (a ∷ b ∷ d ∷ e ∷ ws) = count
+spelt_plain c verbs.Deliver [] = count
+spelt_plain c verbs.Deliver (d ∷ []) = deliver d _ tt
+spelt_plain c verbs.Deliver (d ∷ w ∷ []) = deliver d _ (fate w)
+spelt_plain c verbs.Deliver (a ∷ b ∷ d ∷ ws) = count
+spelt_plain c verbs.Junk [] = count
+spelt_plain c verbs.Junk (a ∷ []) = count
+spelt_plain c verbs.Junk (a ∷ b ∷ []) = count
+spelt_plain c verbs.Junk (n ∷ a ∷ h ∷ []) = then _ _ (node c n) (λ to. then _ _ (address a) (λ from. then _ _ (bytes h) (λ bytes. tt)))
+spelt_plain c verbs.Junk (a ∷ b ∷ d ∷ e ∷ ws) = count
+spelt_plain c verbs.Tick [] = count
+spelt_plain c verbs.Tick (m ∷ []) = then _ _ (numeral m) (λ ms. tt)
+spelt_plain c verbs.Tick (a ∷ b ∷ ws) = count
+spelt_plain c verbs.Restart [] = count
+spelt_plain c verbs.Restart (a ∷ []) = count
+spelt_plain c verbs.Restart (n ∷ p ∷ []) = restart c n p
+spelt_plain c verbs.Restart (n ∷ p ∷ w ∷ ws) = restart_given c n p (w ∷ ws)
+spelt_plain c verbs.Notice [] = count
+spelt_plain c verbs.Notice (a ∷ []) = count
+spelt_plain c verbs.Notice (s ∷ r ∷ []) = notice c s r _ tt
+spelt_plain c verbs.Notice (s ∷ r ∷ w ∷ []) = notice c s r _ (fate w)
+spelt_plain c verbs.Notice (a ∷ b ∷ d ∷ e ∷ ws) = count
+spelt_plain c verbs.Resend [] = count
+spelt_plain c verbs.Resend (a ∷ []) = count
+spelt_plain c verbs.Resend (s ∷ r ∷ []) = then _ _ (server c s) (λ server. then _ _ (router c r) (λ router. tt))
+spelt_plain c verbs.Resend (a ∷ b ∷ d ∷ ws) = count
+spelt_plain c verbs.Hold [] = count
+spelt_plain c verbs.Hold (s ∷ []) = then _ _ (server c s) (λ server. tt)
+spelt_plain c verbs.Hold (a ∷ b ∷ ws) = count
+spelt_plain c verbs.Acks [] = count
+spelt_plain c verbs.Acks (r ∷ []) = then _ _ (router c r) (λ router. tt)
+spelt_plain c verbs.Acks (a ∷ b ∷ ws) = count
+spelt_plain c verbs.Ask [] = count
+spelt_plain c verbs.Ask (a ∷ []) = count
+spelt_plain c verbs.Ask (s ∷ a ∷ []) = then _ _ (server c s) (λ server. then _ _ (address a) (λ addr. tt))
+spelt_plain c verbs.Ask (a ∷ b ∷ d ∷ ws) = count
+spelt_plain c verbs.Due [] = count
+spelt_plain c verbs.Due (n ∷ []) = then _ _ (node c n) (λ node. tt)
+spelt_plain c verbs.Due (a ∷ b ∷ ws) = count
+
+-- ---- lines
+
+command : (c : Configuration) (w : List ℕ) (ws : List (List ℕ)) → Plain (command_of c w ws)
+command c w ws = then (verb_of w) _ (or_plain _ _ word) (λ verb. spelt_plain c verb ws)
+
+words_plain : (c : Configuration) (ws : List (List ℕ)) → Plain (in_words c ws)
+words_plain c [] = tt
+words_plain c (w ∷ ws) = then (command_of c w ws) _ (command c w ws) (λ found. tt)
+
+line_plain : (c : Configuration) (line : List ℕ) → Plain (in_line c line)
+line_plain c line = either (is_comment line) _ _ tt (words_plain c (words_of line))
+
+never : {X : Type 0} (read : Result X ScriptWhat) → Plain read → read ≢ Err whats.Memory
+never (Ok x) plain e = absurd cc
+never (Err what) plain e = plain cc
+
+pub in_line_plain : (c : Configuration) (line : List ℕ) → in_line c line ≢ Err whats.Memory
+in_line_plain c line = never (in_line c line) (line_plain c line)
