@@ -67,12 +67,12 @@ too_few c verbs.Ask = refl
 too_few c verbs.Due = refl
 
 -- a number of words that no verb takes that no records follow
-pub miscounted : (c : Configuration) (verb : Verb) (words : List (Bor (List ℕ))) → length words ≢ 1 → length words ≢ 2 → length words ≢ 3 → verb ≢ verbs.Change → verb ≢ verbs.Restart → spelt c verb (texts words) ≡ Err Count
-miscounted c verb [] one two three change restart = too_few c verb
-miscounted c verb (a ∷ []) one two three change restart = absurd (one refl)
-miscounted c verb (a ∷ b ∷ []) one two three change restart = absurd (two refl)
-miscounted c verb (a ∷ b ∷ e ∷ []) one two three change restart = absurd (three refl)
-miscounted c verb (a ∷ b ∷ e ∷ f ∷ words) one two three change restart = too_many c verb a.now b.now e.now f.now (texts words) change restart
+pub miscounted : (c : Configuration) (verb : Verb) (words : List (Bor (List ℕ))) → (1 ≤ length words → 4 ≤ length words) → verb ≢ verbs.Change → verb ≢ verbs.Restart → spelt c verb (texts words) ≡ Err Count
+miscounted c verb [] many change restart = too_few c verb
+miscounted c verb (a ∷ []) many change restart = absurd (omega (arith, many))
+miscounted c verb (a ∷ b ∷ []) many change restart = absurd (omega (arith, many))
+miscounted c verb (a ∷ b ∷ e ∷ []) many change restart = absurd (omega (arith, many))
+miscounted c verb (a ∷ b ∷ e ∷ f ∷ words) many change restart = too_many c verb a.now b.now e.now f.now (texts words) change restart
 
 -- a definition at the texts of one word, and of two
 pub by_one : {X Y : Type 0} (May : Type 0) (view : X → Y) (result : Result X ScriptWhat) (f : List (List ℕ) → Result Y ScriptWhat) (words : List (Bor (List ℕ))) (d : Bor (List ℕ)) → 1 ≤ length words → length words < 2

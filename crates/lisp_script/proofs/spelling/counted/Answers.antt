@@ -14,4 +14,4 @@ pub returns-in-len3 : goal.returns-in-len3
 returns-in-len3 g c change restart = by_three g.A.Memory.may_refuse order c.with_three.result (spelt c.args.config.now c.args.verb) c.args.words.now _ c.in-len3.len_at_least c.in-len3.len_below (c.with_three.ensures change restart)
 
 pub returns-in_default : goal.returns-in_default
-returns-in_default g c change restart = inr (grind (arith, miscounted))
+returns-in_default g c change restart = inr (miscounted c.args.config.now c.args.verb c.args.words.now (λ some. grind (arith, some)) change restart)
