@@ -1,10 +1,12 @@
 -- Commands, and behind them that of a line.
-use Rattle.std.proofs.Common.{◌≡◌, ℕ, ◌-◌, ◌<◌, ◌≤◌, List, [], ◌∷◌, ◌++◌, length, get_or, map, take, drop, Ok, Bor, refl, sym, ap, ◌∙◌, arith}
+use Rattle.std.proofs.Common.{◌≡◌, ◌⊎◌, inl, inr, ℕ, ◌-◌, ◌<◌, ◌≤◌, List, [], ◌∷◌, ◌++◌, length, get_or, map, take, drop, Ok, Err, Bor, refl, sym, ap, ◌∙◌, arith}
 use Rattle.std.proofs.lemmas.Grind.{common_steps}
 use Rattle.std.proofs.lemmas.List.{append-nil, map-append}
 use Rattle.lisp_served.specs.Configuration.{Configuration}
 use Rattle.lisp_script.specs.declared.command.Command.{Command}
-use Rattle.lisp_script.specs.Order.{order}
+use Rattle.lisp_script.specs.Order.{Order, order}
+use Rattle.lisp_script.specs.declared.fault.ScriptWhat.{ScriptWhat}
+use Rattle.lisp_script.specs.declared.fault.ScriptWhat.TheVariants.{Memory}
 use Rattle.lisp_script.specs.Spelling.{command_of, with_words}
 use Rattle.lisp_script.proofs.Records.{texts}
 
@@ -24,3 +26,10 @@ one_more c before after command (word ∷ words) d some is all = rw (← behind 
 pub no_more : {A : Type 0} (c : Configuration) (before : List (Command A)) (words : List (Bor (List ℕ))) → length words < 1 → with_words c (map order before) (texts words) ≡ Ok (map order before)
 no_more c before [] none = ap Ok (append-nil (map order before))
 no_more c before (word ∷ words) none = absurd (omega arith)
+
+-- a command that isn't read
+pub no_command : (May : Type 0) (c : Configuration) (before : List Order) (words : List (Bor (List ℕ))) (d : Bor (List ℕ)) (what : ScriptWhat) → 1 ≤ length words
+    → (May × (what ≡ Memory)) ⊎ (command_of c (get_or words 0 d).now (texts (take (length words - 1) (drop 1 words))) ≡ Err what) → (May × (what ≡ Memory)) ⊎ (with_words c before (texts words) ≡ Err what)
+no_command May c before [] d what some is = absurd (omega arith)
+no_command May c before (word ∷ words) d what some (inl out) = inl out
+no_command May c before (word ∷ words) d what some (inr is) = inr (rw (← behind word words, is) refl)
