@@ -1,5 +1,5 @@
 -- The words behind a verb, by their number.
-use Rattle.std.proofs.Common.{◌≡◌, ℕ, ◌-◌, ◌<◌, ◌≤◌, ◌≢◌, List, [], ◌∷◌, length, get_or, map, take, drop, Result, Ok, Err, Bor, refl, arith}
+use Rattle.std.proofs.Common.{◌≡◌, ℕ, ◌-◌, ◌<◌, ◌≤◌, ◌≢◌, List, [], ◌∷◌, length, get_or, map, take, drop, Result, Err, Bor, refl, arith}
 use Rattle.std.proofs.lemmas.Grind.{common_steps}
 use Rattle.lisp_records.specs.Result.{Reads}
 use Rattle.lisp_served.specs.Configuration.{Configuration}

@@ -90,6 +90,21 @@ pub no_router : (c : Configuration) (word : List ℕ) → position (λ r. is_wor
 unfolding router_of
 no_router c word none = rw none refl
 
+-- a place that was found is one of the list
+found_within : (l n place : ℕ) → within l n ≡ Some place → place < n
+found_within l n place is = elim (cases_lt l n) [
+  | inl lt ↦
+    let found : Some l ≡ Some place = rw (lt-ltb l n lt) at is in
+    let same : l ≡ place = cc in
+    omega (arith, lt, same)
+  | inr le ↦
+    let none : None ≡ Some place = rw (le-ltb l n le) at is in
+    absurd cc
+]
+
+pub place_within : {X : Type 0} (p : X → Bool) (xs : List X) (place : ℕ) → position p xs ≡ Some place → place < length xs
+place_within p xs place is = found_within (position_or_len p xs) (length xs) place is
+
 -- as many as fit, where each takes some room
 few : (n size : ℕ) → 0 < size → n * size < 2 ^ 63 → n < 2 ^ 63
 few n zero some room = absurd (omega (arith, some))

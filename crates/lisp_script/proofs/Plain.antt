@@ -1,11 +1,8 @@
 -- No word of a script is at fault for want of memory.
-use Rattle.std.proofs.Common.{◌≡◌, ◌≢◌, ℕ, Bool, true, false, cond, nat_lt, List, [], ◌∷◌, length, codes, Option, Some, None, Result, Ok, Err}
+use Rattle.std.proofs.Common.{◌≢◌, ℕ, Bool, true, false, cond, nat_lt, List, [], ◌∷◌, length, codes, Option, Some, None, Result, Ok, Err}
 use Rattle.std.specs.Option.{ok_or}
 use Rattle.hex.specs.Hex.{decode_of}
 use Rattle.lisp_records.specs.Result.{◌>>=◌}
-use Rattle.lisp_records.specs.Database.{database_of}
-use Rattle.lisp_texts.specs.Number.{number_of}
-use Rattle.lisp_texts.specs.Reading.{address_of, record_text_of}
 use Rattle.lisp_nonces.specs.declared.fate.Fate.{Fate}
 use Rattle.lisp_nonces.specs.declared.fate.Fate.TheVariants as fates
 use Rattle.lisp_served.specs.Configuration.{Configuration}

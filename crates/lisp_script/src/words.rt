@@ -1,6 +1,6 @@
 //! The words of a line, and what single words stand for.
 
-ghost use Rattle.std.specs.Prelude.{◌≡◌, ◌≢◌, ◌<◌, length, map, position, IfSome, IfOk, IfErr, OnErr};
+ghost use Rattle.std.specs.Prelude.{◌≡◌, map, position, IfOk, OnErr};
 ghost use Rattle.lisp_script.specs.Fault.{GivesOrRunsOut};
 ghost use Rattle.lisp_script.specs.Words.{words_of, is_word, node_of, server_of, router_of, number_in, address_in, bytes_in, doubt_in, fate_in, records_in, some_records, database_in};
 ghost use Rattle.lisp_script.specs.declared.fault.ScriptWhat.TheVariants.{Memory};
@@ -65,8 +65,7 @@ fn server_place<E: Allocator>(servers: &[ServerEntry<E>], word: &str) -> Option<
 }
 
 fn router_place<E: Allocator>(routers: &[RouterEntry<E>], word: &str) -> Option<usize>
-    ensures value { result ≡ position (λ r. is_word r.name word.now) routers.now }
-    ensures within { IfSome result (λ place. place < length routers.now) }
+    ensures { result ≡ position (λ r. is_word r.name word.now) routers.now }
 {
     routers
         .iter()

@@ -34,3 +34,12 @@ returns-clause-commands g c =
     let numbered = YieldsList-at c.into_iter-place-iterator.ensures.into_iter_gives (YieldsList-from_enumerate (YieldsList-at c.enumerate-place-items.ensures.source (YieldsList-from_lines c.args.text.now c.lines.ensures.rest)) c.enumerate-place-items.ensures.count) in
     let all = all_yielded (lines c.args.text.now) c.loop-place.yielded (YieldsList-end numbered c.loop-place.yielded _ c.loop-place.yielded_by _ _ c.in-None.is c.next.ensures.steps).0 in
     rw all at c.loop-place.invariant
+
+pub returns-in_err-at_line-clause-commands : goal.returns-in_err-at_line-clause-commands
+returns-in_err-at_line-clause-commands g c = let p = err_from_is_err_and c.from_residual.result c.from_residual.ensures.1 in rw p.1 tt
+
+pub returns-clause-fault : goal.returns-clause-fault
+returns-clause-fault g c = tt
+
+pub returns-clause-memory : goal.returns-clause-memory
+returns-clause-memory g c = tt

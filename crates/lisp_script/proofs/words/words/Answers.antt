@@ -2,6 +2,7 @@ use Rattle.std.proofs.Common.{ℕ, List, [], ◌∷◌, ◌++◌, Bor, lit<, ref
 use Rattle.std.proofs.lemmas.List.{map-append}
 use Rattle.std.proofs.lemmas.Iterator.Consumers.{YieldsList-at, YieldsList-end}
 use Rattle.std.proofs.lemmas.Iterator.Splits.{YieldsList-from_str_split}
+use Rattle.std.proofs.lemmas.Result.{err_from_is_err_and}
 use Rattle.lisp_script.proofs.Filled.{filled, left_out, taken}
 use Rattle.lisp_script.proofs.words.words.Goals as goal
 
@@ -20,3 +21,12 @@ loop-word-preserved g c = c.loop-word.invariant ∙ left_out c.loop-word.yielded
 pub loop-word-preserved-in-Continue-1 : goal.loop-word-preserved-in-Continue-1
 loop-word-preserved-in-Continue-1 g c =
     rw c.in_ok-try_push.ensures.items (map-append (λ (w : Bor (List ℕ)). w.now) c.loop-word.words.items (c.in-Some.word ∷ []) ∙ ap (λ (t : List (List ℕ)). t ++ c.in-Some.word.now ∷ []) c.loop-word.invariant ∙ taken c.loop-word.yielded c.in-Some.word c.if-not-is_empty.ensures)
+
+pub returns-clause-memory : goal.returns-clause-memory
+returns-clause-memory g c = tt
+
+pub returns-in_err-try_push-clause-value : goal.returns-in_err-try_push-clause-value
+returns-in_err-try_push-clause-value g c = let p = err_from_is_err_and c.from_residual.result c.from_residual.ensures.1 in rw p.1 tt
+
+pub returns-in_err-try_push-clause-memory : goal.returns-in_err-try_push-clause-memory
+returns-in_err-try_push-clause-memory g c = let p = err_from_is_err_and c.from_residual.result c.from_residual.ensures.1 in rw p.1 c.in_err-try_push.ensures.refused
