@@ -6,7 +6,7 @@ use crate::help::{
     PLAY_ABOUT, PLAY_FORM, ROUTER_ABOUT, SERVER_ABOUT,
 };
 use crate::option::AnswerOption;
-use clap::{Arg, Command};
+use clap::Command;
 use std::alloc::{AllocError, Global};
 
 /// The argument of `play` and `loop`.
@@ -139,42 +139,29 @@ const STORE_ARGUMENT: Argument = Argument::Value {
 
 /// The words that the program takes. With no words it is `answer` with its defaults.
 pub fn command<'a>(alloc: Global) -> Result<Command<'a>, AllocError> {
-    let subcommands = all_subcommands(alloc)?;
-    Command::new(alloc, "lispd")
+    let mut command = Command::new(alloc, "lispd")
         .version("0.1.0")
-        .about("Map-Server registration of LISP (RFC 9301); with no words, `answer`")
-        .subcommands(subcommands)
-}
-
-fn all_subcommands<'a>(alloc: Global) -> Result<Vec<Command<'a>>, AllocError> {
-    let mut commands = Vec::new(alloc);
+        .about("Map-Server registration of LISP (RFC 9301); with no words, `answer`");
     for subcommand in subcommands() {
-        commands.push(subcommand.to_command(alloc)?)?;
+        command = command.subcommand(subcommand.to_command(alloc)?)?;
     }
-    Ok(commands)
+    Ok(command)
 }
 
-// A function of its own, since `all_subcommands` would be proved over all that the table holds.
+// A function of its own, since `command` would be proved over all that the table holds.
 fn subcommands() -> &'static [Subcommand] {
     &SUBCOMMANDS
 }
 
 impl Subcommand {
     fn to_command<'a>(&self, alloc: Global) -> Result<Command<'a>, AllocError> {
-        let arguments = self.to_args(alloc)?;
-        let command = Command::new(alloc, self.name).about(self.about);
-        let command = match self.after_help {
-            Some(text) => command.after_help(text),
-            None => command,
-        };
-        command.args(arguments)
-    }
-
-    fn to_args<'a>(&self, alloc: Global) -> Result<Vec<Arg<'a>>, AllocError> {
-        let mut args = Vec::new(alloc);
-        for argument in self.arguments {
-            args.push(argument.to_arg(alloc))?;
+        let mut command = Command::new(alloc, self.name).about(self.about);
+        if let Some(text) = self.after_help {
+            command = command.after_help(text);
         }
-        Ok(args)
+        for argument in self.arguments {
+            command = command.arg(argument.to_arg(alloc))?;
+        }
+        Ok(command)
     }
 }
