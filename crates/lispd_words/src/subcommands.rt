@@ -21,11 +21,13 @@ pub fn run_alone<R: Print + Input + Files + AllocGlobal, W: Write>(
     named: Option<(&str, &ArgMatches<'_>)>,
     writer: &mut W,
 ) -> Result<(), ProgramFault> {
-    match named {
-        Some(("check", words)) => check(rt, words, writer),
-        Some(("explain", words)) => explain_number(words, writer),
-        Some((_, words)) => run_answer(rt, Some(words), writer),
-        None => run_answer(rt, None, writer),
+    let Some((name, words)) = named else {
+        return run_answer(rt, None, writer);
+    };
+    match name {
+        "check" => check(rt, words, writer),
+        "explain" => explain_number(words, writer),
+        _ => run_answer(rt, Some(words), writer),
     }
 }
 
