@@ -1,6 +1,6 @@
 -- Steps that may fail.
 use Rattle.std.proofs.Common.{◌≡◌, ◌⊎◌, Result, Ok, Err, inl, inr, refl}
-use Rattle.lisp_records.specs.Result.{◌>>=◌, Reads}
+use Rattle.lisp_records.specs.Result.{Reads}
 use Rattle.lisp_script.specs.declared.fault.ScriptWhat.{ScriptWhat}
 use Rattle.lisp_script.specs.declared.fault.ScriptWhat.TheVariants.{Memory}
 use Rattle.lisp_script.specs.Fault.{GivesOrRunsOut}
@@ -9,8 +9,3 @@ use Rattle.lisp_script.specs.Fault.{GivesOrRunsOut}
 pub reads_gives : {X Y : Type 0} (May : Type 0) (view : X → Y) (result : Result X ScriptWhat) (read : Result Y ScriptWhat) → Reads view result read → GivesOrRunsOut May view result read
 reads_gives May view (Ok x) read is = is
 reads_gives May view (Err what) read is = inr is
-
--- the fault of a first step is that of them all
-pub stops : {X Y : Type 0} (May : Type 0) (what : ScriptWhat) (read : Result X ScriptWhat) (then : X → Result Y ScriptWhat) → (May × (what ≡ Memory)) ⊎ (read ≡ Err what) → (May × (what ≡ Memory)) ⊎ ((read >>= then) ≡ Err what)
-stops May what read then (inl out) = inl out
-stops May what read then (inr is) = inr (rw is refl)

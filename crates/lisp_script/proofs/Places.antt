@@ -94,12 +94,12 @@ no_router c word none = rw none refl
 found_within : (l n place : ℕ) → within l n ≡ Some place → place < n
 found_within l n place is = elim (cases_lt l n) [
   | inl lt ↦
-    let found : Some l ≡ Some place = rw (lt-ltb l n lt) at is in
-    let same : l ≡ place = cc in
-    omega (arith, lt, same)
+      let found : Some l ≡ Some place = rw (lt-ltb l n lt) at is in
+      let same : l ≡ place = cc in
+      omega (arith, lt, same)
   | inr le ↦
-    let none : None ≡ Some place = rw (le-ltb l n le) at is in
-    absurd cc
+      let none : None ≡ Some place = rw (le-ltb l n le) at is in
+      absurd cc
 ]
 
 pub place_within : {X : Type 0} (p : X → Bool) (xs : List X) (place : ℕ) → position p xs ≡ Some place → place < length xs

@@ -48,8 +48,8 @@ name e = absurd cc
 number : whats.Number ≢ whats.Memory
 number e = absurd cc
 
-record_ : whats.Record ≢ whats.Memory
-record_ e = absurd cc
+entry : whats.Record ≢ whats.Memory
+entry e = absurd cc
 
 hex : whats.Hex ≢ whats.Memory
 hex e = absurd cc
@@ -72,7 +72,7 @@ numeral : (w : List ℕ) → Plain (number_in w)
 numeral w = or_plain _ _ number
 
 address : (w : List ℕ) → Plain (address_in w)
-address w = or_plain _ _ record_
+address w = or_plain _ _ entry
 
 bytes : (w : List ℕ) → Plain (bytes_in w)
 bytes w = either (is_word w (codes "-")) (Ok []) _ tt (fault_plain whats.Hex (decode_of w) hex)
@@ -88,10 +88,10 @@ fate w = either (is_word w (codes "loadfails")) (Ok fates.LoadFails) _ tt (doubt
 all_records : (ws : List (List ℕ)) → Plain (records_in ws)
 unfolding records_in
 all_records [] = tt
-all_records (w ∷ ws) = then _ _ (or_plain _ _ record_) (λ first. then _ _ (all_records ws) (λ others. tt))
+all_records (w ∷ ws) = then _ _ (or_plain _ _ entry) (λ first. then _ _ (all_records ws) (λ others. tt))
 
 some : (ws : List (List ℕ)) → Plain (some_records ws)
-some ws = then _ _ (all_records ws) (λ records. fault_plain _ _ record_)
+some ws = then _ _ (all_records ws) (λ records. fault_plain _ _ entry)
 
 database : (ws : List (List ℕ)) → Plain (database_in ws)
 database [] = some []

@@ -2,8 +2,8 @@
 
 use crate::argument::Argument;
 use crate::help::{
-    ANSWER_ABOUT, ANSWER_EXAMPLE, CHECK_ABOUT, EXPLAIN_ABOUT, LOOP_ABOUT, LOOP_FORM, NODE_RUNS,
-    PLAY_ABOUT, PLAY_FORM, ROUTER_ABOUT, SERVER_ABOUT,
+    ABOUT, ANSWER_ABOUT, ANSWER_EXAMPLE, CHECK_ABOUT, EXPLAIN_ABOUT, LOOP_ABOUT, LOOP_FORM,
+    NODE_RUNS, PLAY_ABOUT, PLAY_FORM, ROUTER_ABOUT, SERVER_ABOUT,
 };
 use crate::option::AnswerOption;
 use clap::Command;
@@ -139,9 +139,7 @@ const STORE_ARGUMENT: Argument = Argument::Value {
 
 /// The words that the program takes. With no words it is `answer` with its defaults.
 pub fn command<'a>(alloc: Global) -> Result<Command<'a>, AllocError> {
-    let mut command = Command::new(alloc, "lispd")
-        .version("0.1.0")
-        .about("Map-Server registration of LISP (RFC 9301); with no words, `answer`");
+    let mut command = Command::new(alloc, "lispd").version("0.1.0").about(ABOUT);
     for subcommand in subcommands() {
         command = command.subcommand(subcommand.to_command(alloc)?)?;
     }

@@ -1,5 +1,9 @@
 //! The texts of the program's help.
 
+/// What the program does, for its help.
+pub(crate) const ABOUT: &str =
+    "Map-Server registration of LISP (RFC 9301); with no words, `answer`";
+
 /// What `answer` does, for its help.
 pub(crate) const ANSWER_ABOUT: &str =
     "Answer one Map-Register, given as a line of hexadecimal digits on \
