@@ -1,6 +1,7 @@
 -- What a Map-Register that is taken, or refused, amounts to.
 use Rattle.std.proofs.Common.{◌≡◌, ◌≤◌, ℕ, Bool, true, false, List, [], ◌∷◌, Option, Some, None, Result, Ok, Err, ok_or, IsTrue, not, refl, sym, ap, ◌∙◌, subst, inl, inr, arith}
-use Rattle.std.specs.Result.{IfErr, IsErrAnd, OnErr}
+use Rattle.std.specs.Result.{IfErr, IfOk, IsErrAnd, OnErr}
+use Rattle.std.specs.Prelude.{MatchResult}
 use Rattle.lisp_records.specs.declared.address.Addr.{Addr}
 use Rattle.lisp_records.specs.Row.{Holding}
 use Rattle.lisp_messages.specs.Message.{Registration, Registers, Notification, IsNotification, Notifies, Said}
@@ -262,6 +263,10 @@ takes_notify {A = A} said m from bytes old left before now took at (n, acknowled
   store = refl;
 })
 
+-- tables are the same as themselves
+pub unchanged : {A : Type 0} (tables : Tables A) → SameTables tables tables
+unchanged tables = record { rows = refl; nonces = refl; contacts = refl; notices = refl }
+
 -- where nothing but room changed, nothing changed that callers see
 pub same_state : {A : Type 0} (sites : List SiteEntry) (old new : Tables A) → SameTables old new → state_of sites new ≡ state_of sites old
 same_state sites old new same = λ i. record { sites = sites; rows = same.rows i; nonces = same.nonces i; contacts = same.contacts i; notices = same.notices i }
@@ -300,6 +305,32 @@ notification_fits bytes m bytewise s = (let fits = said_fits bytes (Registers m)
 pub exit_for : {X E : Type 0} (r : Result X E) (e : E) (P : E → Type 0) → IsErrAnd r (λ y. y ≡ e) → P e → IfErr r P
 exit_for (Ok x) e P never at = absurd never
 exit_for (Err y) e P is at = subst P (sym is) at
+
+pub out_for : {X E : Type 0} (r : Result X E) (e : E) (P : Type 0) → IsErrAnd r (λ y. y ≡ e) → P → OnErr r P
+out_for (Ok x) e P never holds = absurd never
+out_for (Err y) e P is holds = holds
+
+-- so with an answer that has one of two meanings
+module _ {X E : Type 0} where
+  pub refused_for : (r : Result X E) (e : E) (P : X → Type 0) (Q : E → Type 0) → IsErrAnd r (λ y. y ≡ e) → Q e → MatchResult r P Q
+  refused_for (Ok x) e P Q never why = absurd never
+  refused_for (Err y) e P Q is why = subst Q (sym is) why
+
+  -- such an answer, where it is a value, and where it is a refusal
+  pub answer_ok : (r : Result X E) (P : X → Type 0) (Q : E → Type 0) → MatchResult r P Q → IfOk r P
+  answer_ok (Ok x) P Q holds = holds
+  answer_ok (Err y) P Q holds = tt
+
+  pub answer_err : (r : Result X E) (P : X → Type 0) (Q : E → Type 0) {R : E → Type 0} → MatchResult r P Q → ((e : E) → Q e → R e) → IfErr r R
+  answer_err (Ok x) P Q holds weaker = tt
+  answer_err (Err y) P Q holds weaker = weaker y holds
+
+  pub answer_at : (r : Result X E) (e : E) (P : X → Type 0) (Q : E → Type 0) → r ≡ Err e → MatchResult r P Q → Q e
+  answer_at r e P Q is holds = subst (λ r. MatchResult r P Q) is holds
+
+  pub answer_on_err : (r : Result X E) (P : X → Type 0) (Q : E → Type 0) {R : Type 0} → MatchResult r P Q → ((e : E) → Q e → R) → OnErr r R
+  answer_on_err (Ok x) P Q holds weaker = tt
+  answer_on_err (Err y) P Q holds weaker = weaker y holds
 
 -- what holds anyway holds where there is an error
 pub on_err : {X E : Type 0} (r : Result X E) (P : Type 0) → P → OnErr r P

@@ -18,6 +18,7 @@ use Rattle.lisp_served.specs.Order.{KeysRise, IsGap}
 use Rattle.lisp_served.proofs.Halving as halving
 use Rattle.lisp_served.proofs.Found.{not_true, nowhere, there, at_place, put_set, has_own, has_no_other}
 use Rattle.lisp_lookup.proofs.TableLaws.{found_holds, some_inj}
+use Rattle.lisp_checks.specs.declared.notice_fault.NoticeFault.TheVariants as faults
 use Rattle.lisp_checks.specs.NoticeTimer.{gaps, has_come}
 use Rattle.lisp_server.specs.Notices.{Standing, is_notice_of, notice_at, OneForEach, SetsNotice, EndsNotice, awaits, Awaited, is_due, is_due_at, resent, Resends}
 
@@ -150,3 +151,7 @@ resends ns q now i n d new to bytes at is due sent address datagram = record {
   datagram = datagram;
   after = subst (λ (m : Standing). SetsNotice ns (slice_set ns i m) (resent now n)) (sym sent) (notice_set ns i (resent now n) (own_place ns q i n d at is));
 }
+
+-- that none is due is no want of memory
+pub not_due_alone : (P : Type 0) → faults.NotDue ≡ faults.OutOfMemory → P
+not_due_alone P clash = absurd cc

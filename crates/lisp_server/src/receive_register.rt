@@ -1,6 +1,6 @@
 //! Receiving a Map-Register.
 
-ghost use Rattle.std.specs.Prelude.{◌≡◌, length, IfOk, IfErr, OnErr};
+ghost use Rattle.std.specs.Prelude.{◌≡◌, length, IfOk, MatchResult, OnErr};
 ghost use Rattle.lisp_nonces.specs.declared.fault.StoreFault.{StoreFault};
 ghost use Rattle.lisp_nonces.specs.Store.{Proceeds};
 ghost use Rattle.lisp_checks.specs.Pairs.{pair_of};
@@ -36,10 +36,7 @@ pub(crate) fn receive_register<S: NonceStore, A: Memory + Copy>(
     register: MapRegister<A>,
 ) -> Result<Took<A>, Refused>
     requires { IsNotification (notification_of register) }
-    ensures accepted { IfOk result (λ took. Accepts (register_checked sites.now arrival.entry.bytes.now register) (state_of sites.now tables.old) (state_of sites.now tables.new) (S.seen store.old) (S.seen store.new) arrival.entry.from arrival.entry.now took) }
-    ensures refused { IfErr result (λ why. RefusesRegister (register_checked sites.now arrival.entry.bytes.now register) (state_of sites.now tables.old) (S.seen store.old) (S.seen store.new) why) }
-    ensures err { OnErr result (SameTables tables.old tables.new) }
-    ensures memory { IfErr result (λ why. (why ≡ Refused.OutOfMemory → A.may_refuse) × (why ≡ Refused.StoreLoad StoreFault.OutOfMemory → S.may_refuse) × (why ≡ Refused.StoreSave StoreFault.OutOfMemory → S.may_refuse)) }
+    ensures answer { MatchResult result (λ took. Accepts (register_checked sites.now arrival.entry.bytes.now register) (state_of sites.now tables.old) (state_of sites.now tables.new) (S.seen store.old) (S.seen store.new) arrival.entry.from arrival.entry.now took) (λ why. ((why ≡ Refused.OutOfMemory → A.may_refuse) × (why ≡ Refused.StoreLoad StoreFault.OutOfMemory → S.may_refuse) × (why ≡ Refused.StoreSave StoreFault.OutOfMemory → S.may_refuse)) × RefusesRegister (register_checked sites.now arrival.entry.bytes.now register) (state_of sites.now tables.old) (S.seen store.old) (S.seen store.new) why × SameTables tables.old tables.new) }
     ensures proceeds { Proceeds (S.seen store.old) (S.seen store.new) }
 {
     let key = key_under(sites, arrival.bytes, &register)?;
@@ -67,9 +64,7 @@ fn prepared<A: Memory + Copy>(
     arrival: Arrival<'_>,
     register: MapRegister<A>,
 ) -> Result<(Vec<Row<A>, A>, Option<Bytes<A>>), AllocError>
-    ensures rows { IfOk result (λ x. x.0.items ≡ holdings register arrival.entry.from arrival.entry.now) }
-    ensures reply { IfOk result (λ x. x.1 ≡ reply_of key.now register) }
-    ensures room { IfOk result (λ x. HasRoom tables.new (length x.0.items) pair.now) }
+    ensures ok { IfOk result (λ x. (x.0.items ≡ holdings register arrival.entry.from arrival.entry.now) × (x.1 ≡ reply_of key.now register) × HasRoom tables.new (length x.0.items) pair.now) }
     ensures same { SameTables tables.old tables.new }
     ensures memory { OnErr result A.may_refuse }
 {

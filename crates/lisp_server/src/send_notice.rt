@@ -1,6 +1,6 @@
 //! Sending a router an unsolicited Map-Notify (notice) of what is held for it.
 
-ghost use Rattle.std.specs.Prelude.{◌≡◌, ◌≤◌, None, length, IfOk, IfErr, IfSome, OnOk, OnErr};
+ghost use Rattle.std.specs.Prelude.{◌≡◌, ◌≤◌, None, length, IfOk, IfErr, IfSome, MatchResult, OnErr};
 ghost use Rattle.lisp_records.specs.Moment.{max_moment};
 ghost use Rattle.lisp_nonces.specs.declared.fault.StoreFault.{StoreFault};
 ghost use Rattle.lisp_nonces.specs.Store.{Proceeds};
@@ -36,10 +36,7 @@ pub(crate) fn send_notice<S: NonceStore, A: Memory + Copy>(
 ) -> Result<(Addr, Vec<u8, A>), NoticeFault>
     requires moment { now ≤ max_moment }
     requires known { Knows sites.now tables.old.rows.rows tables.old.contacts.contacts }
-    ensures announces { IfOk result (λ x. Announces (state_of sites.now tables.old) (state_of sites.now tables.new) (S.seen store.old) (S.seen store.new) router.now now x.0 x.1.items) }
-    ensures refused { IfErr result (λ fault. RefusesNotice (state_of sites.now tables.old) (S.seen store.old) (S.seen store.new) router.now now fault) }
-    ensures err { OnErr result (SameTables tables.old tables.new) }
-    ensures memory { IfErr result (λ fault. (fault ≡ NoticeFault.OutOfMemory → A.may_refuse) × (fault ≡ NoticeFault.StoreLoad StoreFault.OutOfMemory → S.may_refuse) × (fault ≡ NoticeFault.StoreSave StoreFault.OutOfMemory → S.may_refuse)) }
+    ensures answer { MatchResult result (λ x. Announces (state_of sites.now tables.old) (state_of sites.now tables.new) (S.seen store.old) (S.seen store.new) router.now now x.0 x.1.items) (λ fault. ((fault ≡ NoticeFault.OutOfMemory → A.may_refuse) × (fault ≡ NoticeFault.StoreLoad StoreFault.OutOfMemory → S.may_refuse) × (fault ≡ NoticeFault.StoreSave StoreFault.OutOfMemory → S.may_refuse)) × RefusesNotice (state_of sites.now tables.old) (S.seen store.old) (S.seen store.new) router.now now fault × SameTables tables.old tables.new) }
     ensures one_each { OneEach tables.old.rows.rows }
     ensures proceeds { Proceeds (S.seen store.old) (S.seen store.new) }
 {
@@ -69,9 +66,7 @@ impl Recipient<'_> {
     ) -> Result<(StandingNotice<A>, Vec<u8, A>), AllocError>
         requires moment { now ≤ max_moment }
         requires few { length (live_of tables.old.rows.rows self.now.contact.router now) ≤ 255 }
-        ensures notice { IfOk result (λ x. x.0 ≡ record { router = self.now.contact.router; to = self.now.contact.from; key = self.now.contact.key; nonce = nonce; bytes = x.1.items; resends = 0; last = now }) }
-        ensures bytes { IfOk result (λ x. IsNotice (live_of tables.old.rows.rows self.now.contact.router now) self.now.contact.key nonce self.now.key.now x.1.items) }
-        ensures room { OnOk result (HasNoticeRoom tables.new self.now.contact.router) }
+        ensures notice { IfOk result (λ x. (x.0 ≡ record { router = self.now.contact.router; to = self.now.contact.from; key = self.now.contact.key; nonce = nonce; bytes = x.1.items; resends = 0; last = now }) × IsNotice (live_of tables.old.rows.rows self.now.contact.router now) self.now.contact.key nonce self.now.key.now x.1.items × HasNoticeRoom tables.new self.now.contact.router) }
         ensures same { SameTables tables.old tables.new }
         ensures memory { OnErr result A.may_refuse }
     {

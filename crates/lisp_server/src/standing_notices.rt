@@ -1,6 +1,6 @@
 //! The unsolicited Map-Notifies (notices) of a Map-Server that stand, at most one for each router.
 
-ghost use Rattle.std.specs.Prelude.{◌≡◌, ◌<◌, ◌≤◌, [], None, Some, OnOk, OnErr, IfOk, IfErr, IsErrOf, position};
+ghost use Rattle.std.specs.Prelude.{◌≡◌, ◌<◌, ◌≤◌, [], None, Some, OnOk, OnErr, IfOk, IfErr, MatchResult, position};
 ghost use Rattle.lisp_records.specs.Moment.{max_moment};
 ghost use Rattle.std.specs.List.{find};
 ghost use Rattle.std.specs.Option.{option_map};
@@ -108,10 +108,7 @@ impl<A: Memory> StandingNotices<A> {
         now: u64,
     ) -> Result<(Addr, Vec<u8, A>), NoticeFault>
         requires { now ≤ max_moment }
-        ensures resends { IfOk result (λ x. Resends self.old.notices self.new.notices router.now now x.0 x.1.items) }
-        ensures refused { IfErr result (λ fault. RefusesResend self.old.notices router.now now fault) }
-        ensures err { OnErr result (self.new.notices ≡ self.old.notices) }
-        ensures memory { IsErrOf result NoticeFault.OutOfMemory → A.may_refuse }
+        ensures { MatchResult result (λ x. Resends self.old.notices self.new.notices router.now now x.0 x.1.items) (λ fault. (fault ≡ NoticeFault.OutOfMemory → A.may_refuse) × RefusesResend self.old.notices router.now now fault × (self.new.notices ≡ self.old.notices)) }
     {
         let Ok(place) = place(&self.items, router) else {
             return Err(NoticeFault::NotDue);

@@ -1,47 +1,57 @@
 use Rattle.std.proofs.Common.{ℕ, Option, Err, ap, subst}
-use Rattle.std.proofs.lemmas.Result.{IfOk-from_err}
 use Rattle.lisp_checks.specs.Nonces.{IsFresh, Unasked, Stops}
 use Rattle.lisp_server.specs.Server.{state_of}
-use Rattle.lisp_server.proofs.ReceivingLaws.{proceeds_on, accepts, save_fails, check_fails, stops, no_room, exit_for, on_err, told_stopped, told_memory, told_unsaved}
+use Rattle.lisp_server.proofs.ReceivingLaws.{proceeds_on, accepts, save_fails, check_fails, stops, no_room, refused_for, unchanged, told_stopped, told_memory, told_unsaved}
 use Rattle.lisp_server.proofs.receive_register.receive_register.Goals as goal
 
-pub returns-in_err-key-clause-refused : goal.returns-in_err-key-clause-refused
-returns-in_err-key-clause-refused g c = exit_for _ _ _ c.from_residual.ensures.1 (check_fails c.args.sites.now c.args.arrival.bytes.now c.args.register c.in_err-key.field-0.0 _ _ c.in_err-key.ensures.secret)
+pub returns-in_err-key-clause-answer : goal.returns-in_err-key-clause-answer
+returns-in_err-key-clause-answer g c =
+    refused_for c.from_residual.result _ _ _ c.from_residual.ensures.1 (
+      ((λ is. absurd (c.in_err-key.ensures.plain (ap Err is))), (λ is. absurd (c.in_err-key.ensures.storeless.0 (ap Err is))), (λ is. absurd (c.in_err-key.ensures.storeless.1 (ap Err is)))),
+      check_fails c.args.sites.now c.args.arrival.bytes.now c.args.register c.in_err-key.field-0.0 _ _ c.in_err-key.ensures.secret,
+      unchanged c.args.tables.now,
+    )
 
-pub returns-in_err-check_nonce-clause-refused : goal.returns-in_err-check_nonce-clause-refused
-returns-in_err-check_nonce-clause-refused g c =
+pub returns-in_err-check_nonce-clause-answer : goal.returns-in_err-check_nonce-clause-answer
+returns-in_err-check_nonce-clause-answer g c =
     let before = g.S.NonceStore.seen c.args.store.now in
     let after = g.S.NonceStore.seen c.check_nonce.new.store in
     let unasked = subst (λ (last : Option ℕ). Unasked last before after) c.get.ensures c.check_nonce.ensures.unasked in
     let why = subst (λ (last : Option ℕ). Stops last before after c.pair_of-pair.result c.nonce_of-nonce.result c.in_err-check_nonce.field-0.0) c.get.ensures c.in_err-check_nonce.ensures.refused in
-    exit_for _ _ _ c.from_residual-in_err-check_nonce.ensures.1 (stops c.args.sites.now c.args.arrival.bytes.now c.args.register c.in_ok-key.key.now (state_of c.args.sites.now c.args.tables.now) before after c.pair_of-pair.result c.nonce_of-nonce.result c.in_err-check_nonce.field-0.0 c.pair_of-pair.ensures c.nonce_of-nonce.ensures c.in_ok-key.ensures.secret c.check_nonce.ensures.same unasked why)
+    refused_for c.from_residual-in_err-check_nonce.result _ _ _ c.from_residual-in_err-check_nonce.ensures.1 (
+      told_stopped _ _ _ _ _ _ _ _ c.in_err-check_nonce.ensures.refused (λ is. c.in_err-check_nonce.ensures.store_memory (ap Err is)),
+      stops c.args.sites.now c.args.arrival.bytes.now c.args.register c.in_ok-key.key.now (state_of c.args.sites.now c.args.tables.now) before after c.pair_of-pair.result c.nonce_of-nonce.result c.in_err-check_nonce.field-0.0 c.pair_of-pair.ensures c.nonce_of-nonce.ensures c.in_ok-key.ensures.secret c.check_nonce.ensures.same unasked why,
+      unchanged c.args.tables.now,
+    )
 
-pub returns-in_err-rows-clause-refused : goal.returns-in_err-rows-clause-refused
-returns-in_err-rows-clause-refused g c =
+pub returns-in_err-rows-clause-answer : goal.returns-in_err-rows-clause-answer
+returns-in_err-rows-clause-answer g c =
     let fresh = subst (λ (last : Option ℕ). IsFresh last (g.S.NonceStore.seen c.args.store.now) c.pair_of-pair.result c.nonce_of-nonce.result) c.get.ensures c.in_ok-check_nonce.ensures.fresh in
     let unasked = subst (λ (last : Option ℕ). Unasked last (g.S.NonceStore.seen c.args.store.now) (g.S.NonceStore.seen c.check_nonce.new.store)) c.get.ensures c.check_nonce.ensures.unasked in
-    exit_for _ _ _ c.from_residual-in_err-rows.ensures.1 (no_room c.args.sites.now c.args.arrival.bytes.now c.args.register c.in_ok-key.key.now (state_of c.args.sites.now c.args.tables.now) _ _ c.pair_of-pair.result c.nonce_of-nonce.result c.pair_of-pair.ensures c.nonce_of-nonce.ensures c.in_ok-key.ensures.secret fresh unasked c.check_nonce.ensures.same)
+    refused_for c.from_residual-in_err-rows.result _ _ _ c.from_residual-in_err-rows.ensures.1 (
+      told_memory _ _ c.in_err-rows.ensures.memory,
+      no_room c.args.sites.now c.args.arrival.bytes.now c.args.register c.in_ok-key.key.now (state_of c.args.sites.now c.args.tables.now) _ _ c.pair_of-pair.result c.nonce_of-nonce.result c.pair_of-pair.ensures c.nonce_of-nonce.ensures c.in_ok-key.ensures.secret fresh unasked c.check_nonce.ensures.same,
+      c.prepared.ensures.same,
+    )
 
-pub returns-in_err-save_nonce-clause-accepted : goal.returns-in_err-save_nonce-clause-accepted
-returns-in_err-save_nonce-clause-accepted g c = IfOk-from_err _ _ c.from_residual-in_err-save_nonce.ensures.0
+pub returns-in_err-save_nonce-clause-answer : goal.returns-in_err-save_nonce-clause-answer
+returns-in_err-save_nonce-clause-answer g c =
+    refused_for c.from_residual-in_err-save_nonce.result _ _ _ c.from_residual-in_err-save_nonce.ensures.1 (
+      told_unsaved _ _ _ _ _ _ _ c.in_err-save_nonce.ensures.refused (λ is. c.in_err-save_nonce.ensures.store_memory (ap Err is)),
+      save_fails {old = c.args.tables.now} c.in_err-save_nonce.field-0.0 c.pair_of-pair.result c.nonce_of-nonce.result c.pair_of-pair.ensures c.nonce_of-nonce.ensures (record {
+        secret = c.in_ok-key.key.now;
+        checks = c.in_ok-key.ensures.secret;
+        fresh = subst (λ (last : Option ℕ). IsFresh last (g.S.NonceStore.seen c.args.store.now) c.pair_of-pair.result c.nonce_of-nonce.result) c.get.ensures c.in_ok-check_nonce.ensures.fresh;
+        loaded = c.check_nonce.ensures.same;
+        went = c.check_nonce.ensures.proceeds;
+        not_kept = c.in_err-save_nonce.ensures.refused;
+        others = c.save_nonce.ensures.others;
+      }),
+      c.prepared.ensures.same,
+    )
 
-pub returns-in_err-save_nonce-clause-err : goal.returns-in_err-save_nonce-clause-err
-returns-in_err-save_nonce-clause-err g c = on_err _ _ c.prepared.ensures.same
-
-pub returns-in_err-save_nonce-clause-refused : goal.returns-in_err-save_nonce-clause-refused
-returns-in_err-save_nonce-clause-refused g c =
-    exit_for _ _ _ c.from_residual-in_err-save_nonce.ensures.1 (save_fails {old = c.args.tables.now} c.in_err-save_nonce.field-0.0 c.pair_of-pair.result c.nonce_of-nonce.result c.pair_of-pair.ensures c.nonce_of-nonce.ensures (record {
-      secret = c.in_ok-key.key.now;
-      checks = c.in_ok-key.ensures.secret;
-      fresh = subst (λ (last : Option ℕ). IsFresh last (g.S.NonceStore.seen c.args.store.now) c.pair_of-pair.result c.nonce_of-nonce.result) c.get.ensures c.in_ok-check_nonce.ensures.fresh;
-      loaded = c.check_nonce.ensures.same;
-      went = c.check_nonce.ensures.proceeds;
-      not_kept = c.in_err-save_nonce.ensures.refused;
-      others = c.save_nonce.ensures.others;
-    }))
-
-pub returns-clause-accepted : goal.returns-clause-accepted
-returns-clause-accepted g c = accepts {new = c.accept.new.self} {between = g.S.NonceStore.seen c.check_nonce.new.store} c.pair_of-pair.result c.nonce_of-nonce.result c.pair_of-pair.ensures c.nonce_of-nonce.ensures (record {
+pub returns-clause-answer : goal.returns-clause-answer
+returns-clause-answer g c = accepts {new = c.accept.new.self} {between = g.S.NonceStore.seen c.check_nonce.new.store} c.pair_of-pair.result c.nonce_of-nonce.result c.pair_of-pair.ensures c.nonce_of-nonce.ensures (record {
   secret = c.in_ok-key.key.now;
   checks = c.in_ok-key.ensures.secret;
   fits = c.requires;
@@ -49,8 +59,8 @@ returns-clause-accepted g c = accepts {new = c.accept.new.self} {between = g.S.N
   loaded = c.check_nonce.ensures.same;
   honest = c.check_nonce.ensures.proceeds.honest;
   same = c.prepared.ensures.same;
-  brings = c.in_ok-rows.ensures.rows;
-  replies = c.in_ok-rows.ensures.reply;
+  brings = c.in_ok-rows.ensures.ok.0;
+  replies = c.in_ok-rows.ensures.ok.1;
   sets = c.accept.ensures.rows;
   nonces = c.accept.ensures.nonces;
   contacts = c.accept.ensures.contacts;
@@ -64,24 +74,3 @@ returns-in_err-save_nonce-clause-proceeds g c = proceeds_on c.check_nonce.ensure
 
 pub returns-clause-proceeds : goal.returns-clause-proceeds
 returns-clause-proceeds g c = proceeds_on c.check_nonce.ensures.proceeds c.save_nonce.ensures.proceeds
-
-pub returns-in_err-key-clause-accepted : goal.returns-in_err-key-clause-accepted
-returns-in_err-key-clause-accepted g c = IfOk-from_err _ _ c.from_residual.ensures.0
-
-pub returns-in_err-check_nonce-clause-accepted : goal.returns-in_err-check_nonce-clause-accepted
-returns-in_err-check_nonce-clause-accepted g c = IfOk-from_err _ _ c.from_residual-in_err-check_nonce.ensures.0
-
-pub returns-in_err-rows-clause-accepted : goal.returns-in_err-rows-clause-accepted
-returns-in_err-rows-clause-accepted g c = IfOk-from_err _ _ c.from_residual-in_err-rows.ensures.0
-
-pub returns-in_err-key-clause-memory : goal.returns-in_err-key-clause-memory
-returns-in_err-key-clause-memory g c = exit_for _ _ _ c.from_residual.ensures.1 ((λ is. absurd (c.in_err-key.ensures.plain (ap Err is))), (λ is. absurd (c.in_err-key.ensures.storeless.0 (ap Err is))), (λ is. absurd (c.in_err-key.ensures.storeless.1 (ap Err is))))
-
-pub returns-in_err-check_nonce-clause-memory : goal.returns-in_err-check_nonce-clause-memory
-returns-in_err-check_nonce-clause-memory g c = exit_for _ _ _ c.from_residual-in_err-check_nonce.ensures.1 (told_stopped _ _ _ _ _ _ _ _ c.in_err-check_nonce.ensures.refused (λ is. c.in_err-check_nonce.ensures.store_memory (ap Err is)))
-
-pub returns-in_err-rows-clause-memory : goal.returns-in_err-rows-clause-memory
-returns-in_err-rows-clause-memory g c = exit_for _ _ _ c.from_residual-in_err-rows.ensures.1 (told_memory _ _ c.in_err-rows.ensures.memory)
-
-pub returns-in_err-save_nonce-clause-memory : goal.returns-in_err-save_nonce-clause-memory
-returns-in_err-save_nonce-clause-memory g c = exit_for _ _ _ c.from_residual-in_err-save_nonce.ensures.1 (told_unsaved _ _ _ _ _ _ _ c.in_err-save_nonce.ensures.refused (λ is. c.in_err-save_nonce.ensures.store_memory (ap Err is)))

@@ -5,9 +5,8 @@ use Rattle.lisp_checks.specs.Nonces.{Follows}
 use Rattle.lisp_server.specs.declared.contacts.Contact.{Contact}
 use Rattle.lisp_server.specs.Server.{state_of}
 use Rattle.lisp_server.proofs.ContactLaws.{contact_router}
-use Rattle.lisp_server.proofs.ReceivingLaws.{proceeds_on, exit_for}
+use Rattle.lisp_server.proofs.ReceivingLaws.{proceeds_on, refused_for, unchanged}
 use Rattle.lisp_server.proofs.SendNoticeLaws.{few_records, announces, refuses_unregistered, refuses_unfollowed, without_room, refuses_unsaved, told_unregistered, told_unfollowed, told_memory, told_unsaved}
-use Rattle.std.proofs.lemmas.Result.{IfOk-from_err}
 use Rattle.lisp_server.proofs.send_notice.send_notice.Goals as goal
 
 pub prepare-requires : goal.prepare-requires
@@ -17,7 +16,7 @@ prepare-requires g c =
     record { moment = c.requires.moment; few = subst (λ (q : RouterId). length (live_of c.args.tables.now.rows.rows q c.args.now) ≤ 255) (sym own) (few_records _ found.0.fits) }
 
 pub keep_notice-requires : goal.keep_notice-requires
-keep_notice-requires g c = rw c.in_ok-notice.ensures.notice c.in_ok-notice.ensures.room
+keep_notice-requires g c = rw c.in_ok-notice.ensures.notice.0 c.in_ok-notice.ensures.notice.2
 
 pub returns-in_err-save_notice-clause-proceeds : goal.returns-in_err-save_notice-clause-proceeds
 returns-in_err-save_notice-clause-proceeds g c = proceeds_on c.next_nonce.ensures.proceeds c.save_notice.ensures.proceeds
@@ -25,16 +24,48 @@ returns-in_err-save_notice-clause-proceeds g c = proceeds_on c.next_nonce.ensure
 pub returns-clause-proceeds : goal.returns-clause-proceeds
 returns-clause-proceeds g c = proceeds_on c.next_nonce.ensures.proceeds c.save_notice.ensures.proceeds
 
-pub returns-clause-announces : goal.returns-clause-announces
-returns-clause-announces g c =
+pub returns-in_err-recipient-clause-answer : goal.returns-in_err-recipient-clause-answer
+returns-in_err-recipient-clause-answer g c =
+    refused_for c.from_residual.result _ _ _ c.from_residual.ensures.1 (
+      told_unregistered _ _ _ _ c.in_err-recipient.ensures.refused,
+      refuses_unregistered (state_of c.args.sites.now c.args.tables.now) c.args.router.now c.args.now c.in_err-recipient.field-0.0 (g.S.NonceStore.seen c.args.store.now) c.in_err-recipient.ensures.refused,
+      unchanged c.args.tables.now,
+    )
+
+pub returns-in_err-nonce-clause-answer : goal.returns-in_err-nonce-clause-answer
+returns-in_err-nonce-clause-answer g c =
+    refused_for c.from_residual-in_err-nonce.result _ _ _ c.from_residual-in_err-nonce.ensures.1 (
+      told_unfollowed _ _ _ _ _ _ c.in_err-nonce.ensures.refused (λ is. c.in_err-nonce.ensures.store_memory (ap Err is)),
+      refuses_unfollowed (state_of c.args.sites.now c.args.tables.now) c.args.router.now c.args.now c.in_err-nonce.field-0.0 _ _ _ c.get.ensures c.in_ok-recipient.ensures.registered.0 c.next_nonce.ensures.unasked c.next_nonce.ensures.same c.in_err-nonce.ensures.refused,
+      unchanged c.args.tables.now,
+    )
+
+pub returns-in_err-notice-clause-answer : goal.returns-in_err-notice-clause-answer
+returns-in_err-notice-clause-answer g c =
+    refused_for c.from_residual-in_err-notice.result _ _ _ c.from_residual-in_err-notice.ensures.1 (
+      told_memory _ _ c.in_err-notice.ensures.memory,
+      without_room (state_of c.args.sites.now c.args.tables.now) c.args.router.now c.args.now _ _ _ c.in_ok-nonce.nonce c.get.ensures c.in_ok-recipient.ensures.registered.0 c.in_ok-nonce.ensures.next c.next_nonce.ensures.unasked c.next_nonce.ensures.same,
+      c.prepare.ensures.same,
+    )
+
+pub returns-in_err-save_notice-clause-answer : goal.returns-in_err-save_notice-clause-answer
+returns-in_err-save_notice-clause-answer g c =
+    refused_for c.from_residual-in_err-save_notice.result _ _ _ c.from_residual-in_err-save_notice.ensures.1 (
+      told_unsaved _ _ _ _ _ _ c.in_err-save_notice.ensures.refused (λ is. c.in_err-save_notice.ensures.store_memory (ap Err is)),
+      refuses_unsaved (state_of c.args.sites.now c.args.tables.now) c.args.router.now c.args.now c.in_err-save_notice.field-0.0 _ _ _ _ c.in_ok-nonce.nonce c.get.ensures c.in_ok-recipient.ensures.registered.0 c.in_ok-nonce.ensures.next c.next_nonce.ensures.proceeds c.next_nonce.ensures.same c.save_notice.ensures.others c.in_err-save_notice.ensures.refused,
+      c.prepare.ensures.same,
+    )
+
+pub returns-clause-answer : goal.returns-clause-answer
+returns-clause-answer g c =
     let found = c.in_ok-recipient.ensures.registered in
     announces {mid = c.prepare.new.tables} {new = c.keep_notice.new.self} {between = g.S.NonceStore.seen c.next_nonce.new.store} {nonce = c.in_ok-nonce.nonce} {notice = c.in_ok-notice.notice} (record {
       registered = found.0;
       contact_is = found.1;
       secret_is = found.2;
       next = subst (λ (last : Option ℕ). Follows last (g.S.NonceStore.seen c.args.store.now) c.in_ok-nonce.nonce) c.get.ensures c.in_ok-nonce.ensures.next;
-      tells = c.in_ok-notice.ensures.bytes;
-      notice_is = c.in_ok-notice.ensures.notice;
+      tells = c.in_ok-notice.ensures.notice.1;
+      notice_is = c.in_ok-notice.ensures.notice.0;
       same = c.prepare.ensures.same;
       rows = c.keep_notice.ensures.rows;
       nonces = c.keep_notice.ensures.nonces;
@@ -45,39 +76,3 @@ returns-clause-announces g c =
       done = c.in_ok-save_notice.ensures.done;
       others = c.save_notice.ensures.others;
     })
-
-pub returns-in_err-recipient-clause-refused : goal.returns-in_err-recipient-clause-refused
-returns-in_err-recipient-clause-refused g c = exit_for _ _ _ c.from_residual.ensures.1 (refuses_unregistered (state_of c.args.sites.now c.args.tables.now) c.args.router.now c.args.now c.in_err-recipient.field-0.0 (g.S.NonceStore.seen c.args.store.now) c.in_err-recipient.ensures.refused)
-
-pub returns-in_err-nonce-clause-refused : goal.returns-in_err-nonce-clause-refused
-returns-in_err-nonce-clause-refused g c = exit_for _ _ _ c.from_residual-in_err-nonce.ensures.1 (refuses_unfollowed (state_of c.args.sites.now c.args.tables.now) c.args.router.now c.args.now c.in_err-nonce.field-0.0 _ _ _ c.get.ensures c.in_ok-recipient.ensures.registered.0 c.next_nonce.ensures.unasked c.next_nonce.ensures.same c.in_err-nonce.ensures.refused)
-
-pub returns-in_err-notice-clause-refused : goal.returns-in_err-notice-clause-refused
-returns-in_err-notice-clause-refused g c = exit_for _ _ _ c.from_residual-in_err-notice.ensures.1 (without_room (state_of c.args.sites.now c.args.tables.now) c.args.router.now c.args.now _ _ _ c.in_ok-nonce.nonce c.get.ensures c.in_ok-recipient.ensures.registered.0 c.in_ok-nonce.ensures.next c.next_nonce.ensures.unasked c.next_nonce.ensures.same)
-
-pub returns-in_err-save_notice-clause-refused : goal.returns-in_err-save_notice-clause-refused
-returns-in_err-save_notice-clause-refused g c = exit_for _ _ _ c.from_residual-in_err-save_notice.ensures.1 (refuses_unsaved (state_of c.args.sites.now c.args.tables.now) c.args.router.now c.args.now c.in_err-save_notice.field-0.0 _ _ _ _ c.in_ok-nonce.nonce c.get.ensures c.in_ok-recipient.ensures.registered.0 c.in_ok-nonce.ensures.next c.next_nonce.ensures.proceeds c.next_nonce.ensures.same c.save_notice.ensures.others c.in_err-save_notice.ensures.refused)
-
-pub returns-in_err-recipient-clause-announces : goal.returns-in_err-recipient-clause-announces
-returns-in_err-recipient-clause-announces g c = IfOk-from_err _ _ c.from_residual.ensures.0
-
-pub returns-in_err-nonce-clause-announces : goal.returns-in_err-nonce-clause-announces
-returns-in_err-nonce-clause-announces g c = IfOk-from_err _ _ c.from_residual-in_err-nonce.ensures.0
-
-pub returns-in_err-notice-clause-announces : goal.returns-in_err-notice-clause-announces
-returns-in_err-notice-clause-announces g c = IfOk-from_err _ _ c.from_residual-in_err-notice.ensures.0
-
-pub returns-in_err-save_notice-clause-announces : goal.returns-in_err-save_notice-clause-announces
-returns-in_err-save_notice-clause-announces g c = IfOk-from_err _ _ c.from_residual-in_err-save_notice.ensures.0
-
-pub returns-in_err-recipient-clause-memory : goal.returns-in_err-recipient-clause-memory
-returns-in_err-recipient-clause-memory g c = exit_for _ _ _ c.from_residual.ensures.1 (told_unregistered _ _ _ _ c.in_err-recipient.ensures.refused)
-
-pub returns-in_err-nonce-clause-memory : goal.returns-in_err-nonce-clause-memory
-returns-in_err-nonce-clause-memory g c = exit_for _ _ _ c.from_residual-in_err-nonce.ensures.1 (told_unfollowed _ _ _ _ _ _ c.in_err-nonce.ensures.refused (λ is. c.in_err-nonce.ensures.store_memory (ap Err is)))
-
-pub returns-in_err-notice-clause-memory : goal.returns-in_err-notice-clause-memory
-returns-in_err-notice-clause-memory g c = exit_for _ _ _ c.from_residual-in_err-notice.ensures.1 (told_memory _ _ c.in_err-notice.ensures.memory)
-
-pub returns-in_err-save_notice-clause-memory : goal.returns-in_err-save_notice-clause-memory
-returns-in_err-save_notice-clause-memory g c = exit_for _ _ _ c.from_residual-in_err-save_notice.ensures.1 (told_unsaved _ _ _ _ _ _ c.in_err-save_notice.ensures.refused (λ is. c.in_err-save_notice.ensures.store_memory (ap Err is)))
