@@ -137,8 +137,8 @@ pub(crate) fn as_bytes(bytes: &[u8]) -> &[u8]
 }
 
 /// The address at the front of the bytes, of the family that an AFI field names, and the bytes after
-/// it. The faults come in the order `Afi`, `Mask` (a mask of so many bits is longer than the
-/// address), `Short`.
+/// it. The faults come in the order `Afi`, `Mask` (a mask of so many bits, 0 where there is none, is
+/// longer than the address), `Short`.
 pub(crate) fn read_address(
     afi: u16,
     mask_len: u8,
