@@ -7,7 +7,7 @@ use Rattle.lisp_script.specs.declared.fault.ScriptWhat.TheVariants.{Count}
 use Rattle.lisp_script.specs.declared.verb.Verb.{Verb}
 use Rattle.lisp_script.specs.declared.verb.Verb.TheVariants as verbs
 use Rattle.lisp_script.specs.declared.fault.ScriptWhat.{ScriptWhat}
-use Rattle.lisp_script.specs.Fault.{GivesOrRunsOut}
+use Rattle.lisp_script.specs.Fault.{Gives}
 use Rattle.lisp_script.specs.Order.{Order}
 use Rattle.lisp_script.specs.Spelling.{change_of, restart_with, spelt}
 use Rattle.lisp_script.proofs.Faults.{reads_gives}
@@ -76,16 +76,16 @@ miscounted c verb (a ∷ b ∷ e ∷ f ∷ words) many change restart = too_many
 
 -- a definition at the texts of one word, and of two
 pub by_one : {X Y : Type 0} (May : Type 0) (view : X → Y) (result : Result X ScriptWhat) (f : List (List ℕ) → Result Y ScriptWhat) (words : List (Bor (List ℕ))) (d : Bor (List ℕ)) → 1 ≤ length words → length words < 2
-    → Reads view result (f ((get_or words 0 d).now ∷ [])) → GivesOrRunsOut May view result (f (texts words))
+    → Reads view result (f ((get_or words 0 d).now ∷ [])) → Gives May view result (f (texts words))
 by_one May view result f words d some few is = rw (one words d some few) (reads_gives May view result _ is)
 
 pub by_two : {X Y : Type 0} (May : Type 0) (view : X → Y) (result : Result X ScriptWhat) (f : List (List ℕ) → Result Y ScriptWhat) (words : List (Bor (List ℕ))) (d : Bor (List ℕ)) → 2 ≤ length words → length words < 3
-    → Reads view result (f ((get_or words 0 d).now ∷ (get_or words 1 d).now ∷ [])) → GivesOrRunsOut May view result (f (texts words))
+    → Reads view result (f ((get_or words 0 d).now ∷ (get_or words 1 d).now ∷ [])) → Gives May view result (f (texts words))
 by_two May view result f words d some few is = rw (two words d some few) (reads_gives May view result _ is)
 
 -- and of three
 pub by_three : {X Y : Type 0} (May : Type 0) (view : X → Y) (result : Result X ScriptWhat) (f : List (List ℕ) → Result Y ScriptWhat) (words : List (Bor (List ℕ))) (d : Bor (List ℕ)) → 3 ≤ length words → length words < 4
-    → GivesOrRunsOut May view result (f ((get_or words 0 d).now ∷ (get_or words 1 d).now ∷ (get_or words 2 d).now ∷ [])) → GivesOrRunsOut May view result (f (texts words))
+    → Gives May view result (f ((get_or words 0 d).now ∷ (get_or words 1 d).now ∷ (get_or words 2 d).now ∷ [])) → Gives May view result (f (texts words))
 by_three May view result f words d some few is = rw (three words d some few) is
 
 -- all words behind the first, and behind the first two
@@ -103,7 +103,7 @@ change_none c (a ∷ []) few = refl
 change_none c (a ∷ b ∷ words) few = absurd (omega arith)
 
 pub change_more : {X : Type 0} (May : Type 0) (view : X → Order) (result : Result X ScriptWhat) (c : Configuration) (words : List (Bor (List ℕ))) (d : Bor (List ℕ)) → 2 ≤ length words
-    → GivesOrRunsOut May view result (change_of c (get_or words 0 d).now (texts (take (length words - 1) (drop 1 words)))) → GivesOrRunsOut May view result (spelt c verbs.Change (texts words))
+    → Gives May view result (change_of c (get_or words 0 d).now (texts (take (length words - 1) (drop 1 words)))) → Gives May view result (spelt c verbs.Change (texts words))
 unfolding spelt
 change_more May view result c [] d some is = absurd (omega arith)
 change_more May view result c (a ∷ []) d some is = absurd (omega arith)
@@ -117,7 +117,7 @@ restart_none c (a ∷ []) few = refl
 restart_none c (a ∷ b ∷ words) few = absurd (omega arith)
 
 pub restart_more : {X : Type 0} (May : Type 0) (view : X → Order) (result : Result X ScriptWhat) (c : Configuration) (words : List (Bor (List ℕ))) (d : Bor (List ℕ)) → 3 ≤ length words
-    → GivesOrRunsOut May view result (restart_with c (get_or words 0 d).now (get_or words 1 d).now (texts (take (length words - 2) (drop 2 words)))) → GivesOrRunsOut May view result (spelt c verbs.Restart (texts words))
+    → Gives May view result (restart_with c (get_or words 0 d).now (get_or words 1 d).now (texts (take (length words - 2) (drop 2 words)))) → Gives May view result (spelt c verbs.Restart (texts words))
 unfolding spelt
 restart_more May view result c [] d some is = absurd (omega arith)
 restart_more May view result c (a ∷ []) d some is = absurd (omega arith)

@@ -9,7 +9,7 @@ use Rattle.lisp_served.specs.Configuration.{Configuration}
 use Rattle.lisp_script.specs.declared.fault.ScriptFault.{ScriptFault}
 use Rattle.lisp_script.specs.declared.fault.ScriptWhat.{ScriptWhat}
 use Rattle.lisp_script.specs.declared.fault.ScriptWhat.TheVariants.{Memory}
-use Rattle.lisp_script.specs.Fault.{GivesOrRunsOut}
+use Rattle.lisp_script.specs.Fault.{Gives}
 use Rattle.lisp_script.specs.Order.{Order}
 use Rattle.lisp_script.specs.Spelling.{and_more, at_line, in_line, in_lines, with_line}
 use Rattle.lisp_script.proofs.Plain.{in_line_plain}
@@ -104,7 +104,7 @@ in_one_more c xs x before so_far = in_both c 1 xs (x ∷ []) ∙ rw so_far (last
 
 -- a line that was read
 pub goes_on : (May : Type 0) (c : Configuration) (xs : List (ℕ × Bor (List ℕ))) (x : ℕ × Bor (List ℕ)) (before after : List Order) (n : ℕ) (read : Result (Unit {0}) ScriptWhat)
-    → in_lines c 1 (texts xs) ≡ Ok before → GivesOrRunsOut May (λ _. after) read (with_line c before x.1.now) → Ok tt ≡ at_line n read → in_lines c 1 (texts (xs ++ x ∷ [])) ≡ Ok after
+    → in_lines c 1 (texts xs) ≡ Ok before → Gives May (λ _. after) read (with_line c before x.1.now) → Ok tt ≡ at_line n read → in_lines c 1 (texts (xs ++ x ∷ [])) ≡ Ok after
 goes_on May c xs x before after n (Ok _) so_far gives is =
     ap (λ (t : List (List ℕ)). in_lines c 1 t) (map-append (λ y. y.1.now) xs (x ∷ [])) ∙ in_one_more c (texts xs) x.1.now before so_far ∙ ap (λ (r : Result (List Order) ScriptWhat). at_line (1 + length (texts xs)) r) gives
 goes_on May c xs x before after n (Err what) so_far gives is = absurd cc
@@ -133,7 +133,7 @@ out what read (inr is) same plain = absurd (plain (is ∙ ap Err same))
 
 -- a line that is faulty
 pub stops : (May : Type 0) (c : Configuration) (lines : List (List ℕ)) (xs : List (ℕ × Bor (List ℕ))) (x : ℕ × Bor (List ℕ)) (before after : List Order) (fault : ScriptFault) (read : Result (Unit {0}) ScriptWhat)
-    → in_lines c 1 (texts xs) ≡ Ok before → GivesOrRunsOut May (λ _. after) read (with_line c before x.1.now) → Err fault ≡ at_line (x.0 + 1) read → IsNext lines xs x → fault.what ≢ Memory → in_lines c 1 lines ≡ Err fault
+    → in_lines c 1 (texts xs) ≡ Ok before → Gives May (λ _. after) read (with_line c before x.1.now) → Err fault ≡ at_line (x.0 + 1) read → IsNext lines xs x → fault.what ≢ Memory → in_lines c 1 lines ≡ Err fault
 stops May c lines xs x before after fault (Ok _) so_far gives is next other = absurd cc
 stops May c lines xs x before after fault (Err what) so_far gives is next other =
     let same : fault ≡ record { line = x.0 + 1; what = what } = cc in
@@ -146,7 +146,7 @@ stops May c lines xs x before after fault (Err what) so_far gives is next other 
 
 -- memory runs out where it does in a line
 pub runs_out : (May : Type 0) (c : Configuration) (line : List ℕ) (before after : List Order) (n : ℕ) (fault : ScriptFault) (read : Result (Unit {0}) ScriptWhat)
-    → GivesOrRunsOut May (λ _. after) read (with_line c before line) → Err fault ≡ at_line n read → fault.what ≡ Memory → May
+    → Gives May (λ _. after) read (with_line c before line) → Err fault ≡ at_line n read → fault.what ≡ Memory → May
 runs_out May c line before after n fault (Ok _) gives is e = absurd cc
 runs_out May c line before after n fault (Err what) gives is e =
     let same : fault ≡ record { line = n; what = what } = cc in

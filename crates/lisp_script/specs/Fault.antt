@@ -1,5 +1,5 @@
 -- The numbers of a script's faults.
-use Rattle.std.specs.Prelude.{◌≡◌, ◌≢◌, ◌⊎◌, ℕ, Result, Ok, Err}
+use Rattle.std.specs.Prelude.{◌≡◌, ◌⊎◌, ℕ, Result, Ok, Err}
 use Rattle.lisp_script.specs.declared.fault.ScriptWhat.{ScriptWhat}
 use Rattle.lisp_script.specs.declared.fault.ScriptWhat.TheVariants.{Word, Count, Name, Number, Record, Hex, Memory}
 
@@ -12,12 +12,7 @@ what_number Record = 84
 what_number Hex = 85
 what_number Memory = 86
 
--- what a function answers, seen by view, is what a definition gives; out of memory may come at any time
-abbrev pub Gives : {X Y : Type 0} → (X → Y) → Result X ScriptWhat → Result Y ScriptWhat → Type 0
-Gives view (Ok x) read = read ≡ Ok (view x)
-Gives view (Err what) read = what ≢ Memory → read ≡ Err what
-
--- the same, and memory runs out only where it may
-abbrev pub GivesOrRunsOut : {X Y : Type 0} → Type 0 → (X → Y) → Result X ScriptWhat → Result Y ScriptWhat → Type 0
-GivesOrRunsOut may view (Ok x) read = read ≡ Ok (view x)
-GivesOrRunsOut may view (Err what) read = (may × (what ≡ Memory)) ⊎ (read ≡ Err what)
+-- what a function answers, seen by view, is what a definition gives; memory runs out only where it may
+abbrev pub Gives : {X Y : Type 0} → Type 0 → (X → Y) → Result X ScriptWhat → Result Y ScriptWhat → Type 0
+Gives may view (Ok x) read = read ≡ Ok (view x)
+Gives may view (Err what) read = (may × (what ≡ Memory)) ⊎ (read ≡ Err what)

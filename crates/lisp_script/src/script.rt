@@ -1,7 +1,7 @@
 //! Scripts.
 
 ghost use Rattle.std.specs.Prelude.{◌≡◌, ◌≢◌, map, Ok, Err, IfOk, IfErr};
-ghost use Rattle.lisp_script.specs.Fault.{GivesOrRunsOut};
+ghost use Rattle.lisp_script.specs.Fault.{Gives};
 ghost use Rattle.lisp_script.specs.Order.{order};
 ghost use Rattle.lisp_script.specs.Spelling.{script_of, with_words, with_line, is_comment, at_line};
 ghost use Rattle.lisp_script.specs.declared.fault.ScriptWhat.TheVariants.{Memory};
@@ -42,7 +42,7 @@ fn read_line<A: Memory + Copy, E: Allocator>(
     line: &str,
     commands: &mut Vec<Command<A>, A>,
 ) -> Result<(), ScriptWhat>
-    ensures { GivesOrRunsOut A.may_refuse (λ _. map order commands.new.items) result (with_line config.now (map order commands.old.items) line.now) }
+    ensures { Gives A.may_refuse (λ _. map order commands.new.items) result (with_line config.now (map order commands.old.items) line.now) }
 {
     if is_comment(line) {
         return Ok(());
@@ -58,7 +58,7 @@ fn read_words<A: Memory + Copy, E: Allocator>(
     words: &[&str],
     commands: &mut Vec<Command<A>, A>,
 ) -> Result<(), ScriptWhat>
-    ensures { GivesOrRunsOut A.may_refuse (λ _. map order commands.new.items) result (with_words config.now (map order commands.old.items) (map (λ w. w.now) words.now)) }
+    ensures { Gives A.may_refuse (λ _. map order commands.new.items) result (with_words config.now (map order commands.old.items) (map (λ w. w.now) words.now)) }
 {
     let [word, words @ ..] = words else {
         return Ok(());

@@ -3,7 +3,7 @@
 ghost use Rattle.std.specs.Prelude.{◌≡◌, ◌≢◌, [], ◌∷◌, map};
 ghost use Rattle.lisp_records.specs.Result.{Reads};
 ghost use Rattle.lisp_served.specs.Configuration.{Configuration};
-ghost use Rattle.lisp_script.specs.Fault.{GivesOrRunsOut};
+ghost use Rattle.lisp_script.specs.Fault.{Gives};
 ghost use Rattle.lisp_script.specs.Order.{order};
 ghost use Rattle.lisp_script.specs.Spelling.{change_of, send_of, deliver_of, restart_of, restart_with, notice_of, given_to, spelt, command_of};
 ghost use Rattle.lisp_script.specs.declared.verb.Verb.TheVariants as verbs;
@@ -25,7 +25,7 @@ pub(crate) fn command<A: Memory + Copy, E: Allocator>(
     word: &str,
     words: &[&str],
 ) -> Result<Command<A>, ScriptWhat>
-    ensures { GivesOrRunsOut A.may_refuse order result (command_of config.now word.now (map (λ w. w.now) words.now)) }
+    ensures { Gives A.may_refuse order result (command_of config.now word.now (map (λ w. w.now) words.now)) }
 {
     match Verb::from_word(word)? {
         Verb::Change => change(alloc, config, words),
@@ -41,7 +41,7 @@ fn counted<A: Memory + Copy, E: Allocator>(
     verb: Verb,
     words: &[&str],
 ) -> Result<Command<A>, ScriptWhat>
-    ensures { verb ≢ verbs.Change → verb ≢ verbs.Restart → GivesOrRunsOut A.may_refuse order result (spelt config.now verb (map (λ w. w.now) words.now)) }
+    ensures { verb ≢ verbs.Change → verb ≢ verbs.Restart → Gives A.may_refuse order result (spelt config.now verb (map (λ w. w.now) words.now)) }
 {
     match *words {
         [first] => with_one(config, verb, first),
@@ -108,7 +108,7 @@ fn with_three<A: Memory + Copy, E: Allocator>(
     second: &str,
     third: &str,
 ) -> Result<Command<A>, ScriptWhat>
-    ensures { verb ≢ verbs.Change → verb ≢ verbs.Restart → GivesOrRunsOut A.may_refuse order result (spelt config.now verb (first.now ∷ second.now ∷ third.now ∷ [])) }
+    ensures { verb ≢ verbs.Change → verb ≢ verbs.Restart → Gives A.may_refuse order result (spelt config.now verb (first.now ∷ second.now ∷ third.now ∷ [])) }
 {
     match verb {
         Verb::Send => sent(config, first, second, doubt(third)),
@@ -129,7 +129,7 @@ fn change<A: Memory + Copy, E: Allocator>(
     config: &Config<E>,
     words: &[&str],
 ) -> Result<Command<A>, ScriptWhat>
-    ensures { GivesOrRunsOut A.may_refuse order result (spelt config.now verbs.Change (map (λ w. w.now) words.now)) }
+    ensures { Gives A.may_refuse order result (spelt config.now verbs.Change (map (λ w. w.now) words.now)) }
 {
     match words {
         [] | [_] => Err(ScriptWhat::Count),
@@ -143,7 +143,7 @@ fn restart<A: Memory + Copy, E: Allocator>(
     config: &Config<E>,
     words: &[&str],
 ) -> Result<Command<A>, ScriptWhat>
-    ensures { GivesOrRunsOut A.may_refuse order result (spelt config.now verbs.Restart (map (λ w. w.now) words.now)) }
+    ensures { Gives A.may_refuse order result (spelt config.now verbs.Restart (map (λ w. w.now) words.now)) }
 {
     match words {
         [] | [_] => Err(ScriptWhat::Count),
@@ -160,7 +160,7 @@ fn changed<A: Memory + Copy, E: Allocator>(
     name: &str,
     records: &[&str],
 ) -> Result<Command<A>, ScriptWhat>
-    ensures { GivesOrRunsOut A.may_refuse order result (change_of config.now name.now (map (λ w. w.now) records.now)) }
+    ensures { Gives A.may_refuse order result (change_of config.now name.now (map (λ w. w.now) records.now)) }
 {
     let router = router(config, name)?;
     let db = database(alloc, records)?;
@@ -227,7 +227,7 @@ fn restarted_with<A: Memory + Copy, E: Allocator>(
     pick: &str,
     records: &[&str],
 ) -> Result<Command<A>, ScriptWhat>
-    ensures { GivesOrRunsOut A.may_refuse order result (restart_with config.now name.now pick.now (map (λ w. w.now) records.now)) }
+    ensures { Gives A.may_refuse order result (restart_with config.now name.now pick.now (map (λ w. w.now) records.now)) }
 {
     let node = node(config, name)?;
     let pick = number(pick)?;

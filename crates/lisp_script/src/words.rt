@@ -1,7 +1,7 @@
 //! The words of a line, and what single words stand for.
 
 ghost use Rattle.std.specs.Prelude.{◌≡◌, map, position, IfOk, OnErr};
-ghost use Rattle.lisp_script.specs.Fault.{GivesOrRunsOut};
+ghost use Rattle.lisp_script.specs.Fault.{Gives};
 ghost use Rattle.lisp_script.specs.Words.{words_of, is_word, node_of, server_of, router_of, number_in, address_in, bytes_in, doubt_in, fate_in, records_in, some_records, database_in};
 ghost use Rattle.lisp_script.specs.declared.fault.ScriptWhat.TheVariants.{Memory};
 
@@ -88,7 +88,7 @@ pub(crate) fn address(word: &str) -> Result<Addr, ScriptWhat>
 
 /// The bytes that hexadecimal digits stand for; none for `-`.
 pub(crate) fn bytes<A: Memory>(alloc: A, word: &str) -> Result<Bytes<A>, ScriptWhat>
-    ensures { GivesOrRunsOut A.may_refuse (λ bytes. bytes) result (bytes_in word.now) }
+    ensures { Gives A.may_refuse (λ bytes. bytes) result (bytes_in word.now) }
 {
     if word == "-" {
         return Ok(Bytes::from_vec(Vec::new(alloc)));
@@ -127,7 +127,7 @@ pub(crate) fn database<A: Memory + Copy>(
     alloc: A,
     words: &[&str],
 ) -> Result<Database<A>, ScriptWhat>
-    ensures { GivesOrRunsOut A.may_refuse (λ db. db) result (database_in (map (λ w. w.now) words.now)) }
+    ensures { Gives A.may_refuse (λ db. db) result (database_in (map (λ w. w.now) words.now)) }
 {
     match *words {
         [word] if word == "empty" => some_records(alloc, &[]),
@@ -137,7 +137,7 @@ pub(crate) fn database<A: Memory + Copy>(
 
 // The database of records, a word each.
 fn some_records<A: Memory + Copy>(alloc: A, words: &[&str]) -> Result<Database<A>, ScriptWhat>
-    ensures { GivesOrRunsOut A.may_refuse (λ db. db) result (some_records (map (λ w. w.now) words.now)) }
+    ensures { Gives A.may_refuse (λ db. db) result (some_records (map (λ w. w.now) words.now)) }
 {
     match Database::new(records(alloc, words)?) {
         Ok(db) => Ok(db),
@@ -147,7 +147,7 @@ fn some_records<A: Memory + Copy>(alloc: A, words: &[&str]) -> Result<Database<A
 
 // Records, a word each.
 fn records<A: Memory + Copy>(alloc: A, words: &[&str]) -> Result<Vec<MapRecord<A>, A>, ScriptWhat>
-    ensures { GivesOrRunsOut A.may_refuse (λ records. records.items) result (records_in (map (λ w. w.now) words.now)) }
+    ensures { Gives A.may_refuse (λ records. records.items) result (records_in (map (λ w. w.now) words.now)) }
 {
     let mut records = Vec::new(alloc);
     for word in words {
