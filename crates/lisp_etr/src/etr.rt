@@ -79,8 +79,8 @@ impl<A: Memory + Copy> Etr<A> {
         ensures cause { IfErr result (λ r. (f : StoreFault) → r.fault ≡ StartFault.Store f → f ≢ StoreFault.OutOfMemory → Rose (S.seen store.old) (S.seen store.new)) }
         ensures proceeds { Proceeds (S.seen store.old) (S.seen store.new) }
     {
-        let servers = config.servers.as_slice().len();
-        let Ok(rounds) = Vec::try_from_elem(alloc, Round::start(now), servers) else {
+        let round = Round::start(now);
+        let Ok(rounds) = Vec::try_for_each(alloc, round, config.servers.as_slice()) else {
             return Err(StartRefused {
                 fault: StartFault::OutOfMemory,
                 config,

@@ -170,9 +170,9 @@ impl<A: Memory + Copy> Table<A> {
         ensures room { OnOk result (length rows.now ≤ self.new.spare) }
         ensures memory { OnErr result A.may_refuse }
     {
-        self.items.make_room(rows.len())?;
-        self.by_prefix.make_room(rows.len())?;
-        self.by_deadline.make_room(rows.len())
+        self.items.make_room_for(rows)?;
+        self.by_prefix.make_room_for(rows)?;
+        self.by_deadline.make_room_for(rows)
     }
 
     /// Copies of the rows that are alive at a moment, in ms: by router, then by prefix.

@@ -1,6 +1,6 @@
 //! The calls of `VecDeque` that ask for memory.
 
-ghost use Rattle.std.specs.Prelude.{◌≡◌, ◌≤◌, ◌+◌, IsOk, OnOk, OnErr};
+ghost use Rattle.std.specs.Prelude.{◌≡◌, ◌≤◌, ◌+◌, IsOk, OnOk, OnErr, length};
 ghost use Rattle.std.specs.VecDeque.{deque_len, deque_capacity};
 
 use crate::memory::{Memory, asked};
@@ -9,18 +9,18 @@ use std::collections::VecDeque;
 
 /// `reserve` of a `VecDeque`.
 pub trait FallibleDeque {
-    fn make_room(&mut self, additional: usize) -> Result<(), AllocError>;
+    fn make_room_for<U>(&mut self, items: &[U]) -> Result<(), AllocError>;
 }
 
 impl<T, A: Memory> FallibleDeque for VecDeque<T, A> {
-    /// As `VecDeque::reserve`.
-    fn make_room(&mut self, additional: usize) -> Result<(), AllocError>
+    /// As `VecDeque::reserve`, of one element for each of these items.
+    fn make_room_for<U>(&mut self, items: &[U]) -> Result<(), AllocError>
         ensures items { self.new.items ≡ self.old.items }
         ensures len { deque_len self.new ≡ deque_len self.old }
-        ensures ok { OnOk result (deque_len self.new + additional ≤ deque_capacity self.new) }
-        ensures succeeds { deque_len self.old + additional ≤ deque_capacity self.old → IsOk result }
+        ensures ok { OnOk result (deque_len self.new + length items.now ≤ deque_capacity self.new) }
+        ensures succeeds { deque_len self.old + length items.now ≤ deque_capacity self.old → IsOk result }
         ensures refused { OnErr result A.may_refuse }
     {
-        asked::<A, _, _>(self.reserve(additional))
+        asked::<A, _, _>(self.reserve(items.len()))
     }
 }

@@ -1,16 +1,20 @@
 //! The calls of `Vec` that ask for memory.
 
 ghost use Rattle.std.specs.Prelude.{◌≡◌, ◌<◌, ◌≤◌, ◌+◌, ◌++◌, ◌∷◌, [], if◌then◌else◌, IfOk, IsOk, OnOk, OnErr, is_ok, length, replicate};
+ghost use Rattle.lisp_memory.specs.Room.{most_room};
 ghost use Rattle.std.specs.Vec.{vec_len, vec_capacity};
 
 use crate::memory::{Memory, asked};
 use std::alloc::{AllocError, AllocFailed};
 
 /// `push` and `reserve` of a `Vec`.
-pub trait FallibleVec<T> {
+pub trait FallibleVec<T>: Sized {
     fn try_push(&mut self, value: T) -> Result<(), AllocFailed<T>>;
 
-    fn make_room(&mut self, additional: usize) -> Result<(), AllocError>;
+    fn make_room(&mut self, additional: usize) -> Result<(), AllocError>
+        requires { additional ≤ most_room };
+
+    fn make_room_for<U>(&mut self, items: &[U]) -> Result<(), AllocError>;
 }
 
 impl<T, A: Memory> FallibleVec<T> for Vec<T, A> {
@@ -23,8 +27,9 @@ impl<T, A: Memory> FallibleVec<T> for Vec<T, A> {
         asked::<A, _, _>(self.push(value))
     }
 
-    /// As `Vec::reserve`.
+    /// As `Vec::reserve`, of at most 2^32 elements: room beyond any use is refused by every memory.
     fn make_room(&mut self, additional: usize) -> Result<(), AllocError>
+        requires { additional ≤ most_room }
         ensures items { self.new.items ≡ self.old.items }
         ensures len { vec_len self.new ≡ vec_len self.old }
         ensures ok { OnOk result (vec_len self.new + additional ≤ vec_capacity self.new) }
@@ -32,6 +37,17 @@ impl<T, A: Memory> FallibleVec<T> for Vec<T, A> {
         ensures refused { OnErr result A.may_refuse }
     {
         asked::<A, _, _>(self.reserve(additional))
+    }
+
+    /// As `Vec::reserve`, of one element for each of these items.
+    fn make_room_for<U>(&mut self, items: &[U]) -> Result<(), AllocError>
+        ensures items { self.new.items ≡ self.old.items }
+        ensures len { vec_len self.new ≡ vec_len self.old }
+        ensures ok { OnOk result (vec_len self.new + length items.now ≤ vec_capacity self.new) }
+        ensures succeeds { vec_len self.old + length items.now ≤ vec_capacity self.old → IsOk result }
+        ensures refused { OnErr result A.may_refuse }
+    {
+        asked::<A, _, _>(self.reserve(items.len()))
     }
 }
 
@@ -41,7 +57,7 @@ pub trait FallibleCopies<T: Copy, A>: Sized {
 
     fn try_from_slice(alloc: A, items: &[T]) -> Result<Self, AllocError>;
 
-    fn try_from_elem(alloc: A, element: T, count: usize) -> Result<Self, AllocError>;
+    fn try_for_each<U>(alloc: A, element: T, items: &[U]) -> Result<Self, AllocError>;
 }
 
 impl<T: Copy, A: Memory> FallibleCopies<T, A> for Vec<T, A> {
@@ -65,14 +81,14 @@ impl<T: Copy, A: Memory> FallibleCopies<T, A> for Vec<T, A> {
         Ok(copies)
     }
 
-    /// As `vec![in alloc; element; count]`; takes no memory where `count` is 0.
-    fn try_from_elem(alloc: A, element: T, count: usize) -> Result<Vec<T, A>, AllocError>
-        ensures items { IfOk result (λ v. v.items ≡ replicate count element) }
-        ensures succeeds { count ≡ 0 → IsOk result }
+    /// As `vec![in alloc; element; items.len()]`; takes no memory where there are no items.
+    fn try_for_each<U>(alloc: A, element: T, items: &[U]) -> Result<Vec<T, A>, AllocError>
+        ensures items { IfOk result (λ v. v.items ≡ replicate (length items.now) element) }
+        ensures succeeds { items.now ≡ [] → IsOk result }
         ensures refused { OnErr result A.may_refuse }
     {
         let mut copies = Vec::new(alloc);
-        asked::<A, _, _>(copies.resize(count, element))?;
+        asked::<A, _, _>(copies.resize(items.len(), element))?;
         Ok(copies)
     }
 }

@@ -39,14 +39,11 @@ pub(crate) fn put_head<A: Memory>(
     head: &[u8; HEAD_LEN],
     records: usize,
 ) -> Result<(), AllocError>
+    requires { records < 256 }
     ensures head { OnOk result (out.new.items ≡ out.old.items ++ head.now) }
     ensures memory { OnErr result A.may_refuse }
 {
-    out.make_room(
-        records
-            .saturating_mul(RECORD_LEN)
-            .saturating_add(MESSAGE_LEN),
-    )?;
+    out.make_room(MESSAGE_LEN + records * RECORD_LEN)?;
     out.try_extend_from_slice(head)
 }
 

@@ -93,7 +93,7 @@ pub(crate) fn bytes<A: Memory>(alloc: A, word: &str) -> Result<Bytes<A>, ScriptW
     if word == "-" {
         return Ok(Bytes::from_vec(Vec::new(alloc)));
     }
-    let mut bytes = Vec::try_from_elem(alloc, 0, word.len() / 2)?;
+    let mut bytes = Vec::try_for_each(alloc, 0, &word.as_bytes()[..word.len() / 2])?;
     match hex::decode_to_slice(word, &mut bytes) {
         Ok(()) => Ok(Bytes::from_vec(bytes)),
         Err(_) => Err(ScriptWhat::Hex),

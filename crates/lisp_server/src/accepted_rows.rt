@@ -72,7 +72,7 @@ impl Origin {
         ensures memory { OnErr result A.may_refuse }
     {
         let mut rows = Vec::new(alloc);
-        rows.make_room(records.len())?;
+        rows.make_room_for(&records)?;
         for mapping in records {
             rows.try_push(self.row(mapping))?;
         }
