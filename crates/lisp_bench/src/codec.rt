@@ -2,7 +2,7 @@
 
 use crate::stopwatch::Stopwatch;
 use lisp_hmac::Key;
-use lisp_messages::{MapNotify, Message, authentic, read_message, write_notify};
+use lisp_messages::{MapNotify, Message, authentic_under, read_message, write_notify_under};
 use std::alloc::Global;
 use std::rt::Clock;
 
@@ -90,8 +90,8 @@ fn nanos<R: Clock + AllocGlobal>(
 fn is_answered(alloc: Global, key: &Key, notify: &MapNotify, call: Call) -> bool {
     match call {
         Call::ReadMessage => read_message(alloc, &REGISTER).is_ok(),
-        Call::Authentic => authentic(&REGISTER, key),
-        Call::WriteNotify => write_notify(alloc, notify, key).is_ok(),
+        Call::Authentic => authentic_under(&REGISTER, key),
+        Call::WriteNotify => write_notify_under(alloc, notify, key).is_ok(),
         Call::Tags => has_tags(key),
     }
 }

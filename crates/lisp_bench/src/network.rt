@@ -4,7 +4,7 @@ use crate::lookups;
 use crate::registers::{empty_register, host_records};
 use crate::stopwatch::Stopwatch;
 use lisp_hmac::Key;
-use lisp_messages::{MapRegister, write_register};
+use lisp_messages::{MapRegister, write_register_under};
 use lisp_nonces::{MemoryStore, NonceStore};
 use lisp_records::{Addr, Prefix};
 use lisp_served::Sites;
@@ -132,7 +132,7 @@ impl Network {
     // Writes a Map-Register with the next nonce.
     fn write(&mut self) -> Option<()> {
         self.register.nonce = self.register.nonce.wrapping_add(1);
-        self.datagram = write_register(self.alloc, &self.register, &self.key).ok()?;
+        self.datagram = write_register_under(self.alloc, &self.register, &self.key).ok()?;
         Some(())
     }
 

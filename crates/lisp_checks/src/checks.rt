@@ -9,7 +9,7 @@ ghost use Rattle.lisp_checks.specs.declared.refused.Refused.{Refused};
 
 use crate::refused::Refused;
 use lisp_hmac::Key;
-use lisp_messages::{MapRegister, authentic};
+use lisp_messages::{MapRegister, authentic_under};
 use lisp_records::MapRecord;
 use lisp_served::{Site, Sites};
 use std::alloc::Allocator;
@@ -32,7 +32,7 @@ pub fn key_under<'s, A: Allocator, B: Allocator>(
     let Some(key) = site.key(register.key_id) else {
         return Err(Refused::UnknownKey);
     };
-    if !authentic(bytes, key) {
+    if !authentic_under(bytes, key) {
         return Err(Refused::BadAuth);
     }
     if register.merge {

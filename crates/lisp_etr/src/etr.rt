@@ -28,7 +28,7 @@ use crate::send_fault::SendFault;
 use crate::sending::{datagram, keep_block};
 use crate::start_fault::{StartFault, StartRefused};
 use lisp_memory::{FallibleCopies, Memory};
-use lisp_messages::{MapNotify, write_notify};
+use lisp_messages::{MapNotify, write_notify_under};
 use lisp_nonces::{FIRST_NOTICE_NONCE, LAST_ROUTER_NONCE, NonceStore};
 use lisp_records::{Addr, Bytes, Database};
 use std::alloc::{Allocator, Global};
@@ -218,7 +218,7 @@ impl<A: Memory + Copy> Etr<A> {
             ack: true,
             ..notify
         };
-        let bytes = write_notify(self.alloc, &ack, &self.config.key)?;
+        let bytes = write_notify_under(self.alloc, &ack, &self.config.key)?;
         Ok(Seen::Notice {
             server,
             nonce: ack.nonce,

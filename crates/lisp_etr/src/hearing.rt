@@ -11,7 +11,7 @@ ghost use Rattle.lisp_etr.specs.declared.notify_fault.NotifyFault.{NotifyFault};
 use crate::config::EtrConfig;
 use crate::notify_fault::NotifyFault;
 use lisp_memory::Memory;
-use lisp_messages::{MapNotify, Message, authentic, read_message};
+use lisp_messages::{MapNotify, Message, authentic_under, read_message};
 use lisp_records::Addr;
 use std::alloc::Allocator;
 
@@ -37,7 +37,7 @@ pub(crate) fn hear<A: Memory + Copy>(
     if notify.key_id != config.key_id {
         return Err(NotifyFault::WrongKey);
     }
-    if !authentic(bytes, &config.key) {
+    if !authentic_under(bytes, &config.key) {
         return Err(NotifyFault::BadAuth);
     }
     Ok((server, notify))

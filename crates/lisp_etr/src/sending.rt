@@ -12,7 +12,7 @@ ghost use Rattle.lisp_etr.specs.declared.send_fault.SendFault.{SendFault};
 use crate::config::EtrConfig;
 use crate::send_fault::SendFault;
 use lisp_memory::Memory;
-use lisp_messages::{MapRegister, write_register};
+use lisp_messages::{MapRegister, write_register_under};
 use lisp_nonces::{LAST_ROUTER_NONCE, MAX_NONCE_BLOCK, NonceStore};
 use lisp_records::Database;
 use std::alloc::{AllocError, Allocator};
@@ -41,7 +41,7 @@ pub(crate) fn datagram<A: Memory + Copy>(
         xtr: config.me.xtr,
         site: config.me.site,
     };
-    write_register(alloc, &register, &config.key)
+    write_register_under(alloc, &register, &config.key)
 }
 
 /// Saves the end of a block of nonces before a nonce is sent, unless what was saved before is no less than that nonce: after a

@@ -11,9 +11,17 @@ use std::alloc::Allocator;
 /// Where the Authentication Data stands in a message.
 const AUTH_AT: usize = 16;
 
-/// Whether the Authentication Data of a message is its tag under the key, over the whole
-/// payload (RFC 9301 section 5.6). False where there are no 32 bytes.
-pub fn authentic(bytes: &[u8], key: &Key) -> bool
+/// Whether the Authentication Data of a message is its tag under a secret, over the whole payload (RFC 9301
+/// section 5.6). False where there are no 32 bytes. For one message alone: many are told by `authentic_under`.
+pub fn authentic(bytes: &[u8], secret: &[u8]) -> bool
+    ensures authentic { IsTrue result ↔ IsAuthentic bytes.now secret.now }
+    ensures test { result ≡ is_authentic bytes.now secret.now }
+{
+    authentic_under(bytes, &Key::new(secret))
+}
+
+/// As `authentic`, under a key that was made ready.
+pub fn authentic_under(bytes: &[u8], key: &Key) -> bool
     ensures authentic { IsTrue result ↔ IsAuthentic bytes.now key.now }
     ensures test { result ≡ is_authentic bytes.now key.now }
 {

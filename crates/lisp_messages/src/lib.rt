@@ -13,10 +13,10 @@ mod reading;
 mod register;
 mod writing;
 
-pub use authentication::authentic;
+pub use authentication::{authentic, authentic_under};
 pub use fault::ReadFault;
 pub use head::Head;
 pub use message::Message;
-pub use notify::{MapNotify, write_notify};
+pub use notify::{MapNotify, write_notify, write_notify_under};
 pub use reading::read_message;
-pub use register::{MapRegister, write_register};
+pub use register::{MapRegister, write_register, write_register_under};

@@ -70,10 +70,25 @@ pub(crate) fn read_notify<A: Allocator>(
     }))
 }
 
-/// The written spelling of a Map-Notify or Map-Notify-Ack, authentic under the key: all reserved
-/// bits 0, and nothing after the records. It lies in memory of `alloc`; out of memory is the only
-/// refusal.
+/// The written spelling of a Map-Notify or Map-Notify-Ack, authentic under a secret: all reserved bits 0, and nothing
+/// after the records. It lies in memory of `alloc`; out of memory is the only refusal. For one message alone: many are
+/// written by `write_notify_under`.
 pub fn write_notify<A: Memory, B: Allocator>(
+    alloc: A,
+    message: &MapNotify<B>,
+    secret: &[u8],
+) -> Result<Vec<u8, A>, AllocError>
+    ensures written { IfOk result (λ v. v.items ≡ signed secret.now (written_notify message.now)) }
+    ensures authentic { IfOk result (λ v. IsAuthentic v.items secret.now) }
+    ensures spells { IfOk result (λ v. Spells v.items (Notifies message.now)) }
+    ensures known { OnOk result (IsNotification message.now) }
+    ensures memory { OnErr result A.may_refuse }
+{
+    write_notify_under(alloc, message, &Key::new(secret))
+}
+
+/// As `write_notify`, under a key that was made ready.
+pub fn write_notify_under<A: Memory, B: Allocator>(
     alloc: A,
     message: &MapNotify<B>,
     key: &Key,

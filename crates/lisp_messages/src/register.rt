@@ -89,9 +89,24 @@ impl<A: Allocator> Model for MapRegister<A> {
     ghost invariant = { λ m. length m.records < 256 };
 }
 
-/// The written spelling of a Map-Register, authentic under the key: bit I set, all reserved bits
-/// 0. It lies in memory of `alloc`; out of memory is the only refusal.
+/// The written spelling of a Map-Register, authentic under a secret: bit I set, all reserved bits 0. It lies in memory
+/// of `alloc`; out of memory is the only refusal. For one message alone: many are written by `write_register_under`.
 pub fn write_register<A: Memory, B: Allocator>(
+    alloc: A,
+    message: &MapRegister<B>,
+    secret: &[u8],
+) -> Result<Vec<u8, A>, AllocError>
+    ensures written { IfOk result (λ v. v.items ≡ signed secret.now (written_register message.now)) }
+    ensures authentic { IfOk result (λ v. IsAuthentic v.items secret.now) }
+    ensures spells { IfOk result (λ v. Spells v.items (Registers message.now)) }
+    ensures known { OnOk result (IsRegistration message.now) }
+    ensures memory { OnErr result A.may_refuse }
+{
+    write_register_under(alloc, message, &Key::new(secret))
+}
+
+/// As `write_register`, under a key that was made ready.
+pub fn write_register_under<A: Memory, B: Allocator>(
     alloc: A,
     message: &MapRegister<B>,
     key: &Key,

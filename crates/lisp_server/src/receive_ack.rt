@@ -10,7 +10,7 @@ use crate::standing_notice::StandingNotice;
 use crate::standing_notices::StandingNotices;
 use crate::took::Took;
 use lisp_checks::{Refused, key_at};
-use lisp_messages::{MapNotify, authentic};
+use lisp_messages::{MapNotify, authentic_under};
 use lisp_served::Sites;
 use std::alloc::Allocator;
 
@@ -59,7 +59,7 @@ fn answers_under<A: Allocator>(sites: &Sites<A>, bytes: &[u8], notice: &Standing
     ensures { result ≡ answers_under sites.now bytes.now notice.now }
 {
     match key_at(sites, notice.router.site, notice.key) {
-        Some(key) => authentic(bytes, key),
+        Some(key) => authentic_under(bytes, key),
         None => false,
     }
 }

@@ -6,7 +6,7 @@ ghost use Rattle.lisp_messages.specs.Written.{written_notify};
 
 use lisp_hmac::Key;
 use lisp_memory::Memory;
-use lisp_messages::{MapNotify, write_notify};
+use lisp_messages::{MapNotify, write_notify_under};
 use lisp_records::Bytes;
 use std::alloc::AllocError;
 
@@ -23,5 +23,5 @@ pub(crate) fn reply<A: Memory>(
     if !wanted {
         return Ok(None);
     }
-    Ok(Some(Bytes::from_vec(write_notify(alloc, notify, key)?)))
+    Ok(Some(Bytes::from_vec(write_notify_under(alloc, notify, key)?)))
 }

@@ -18,7 +18,7 @@ use lisp_checks::{NOTICES, NoticeFault, key_at, next_nonce, save_notice};
 use lisp_hmac::Key;
 use lisp_lookup::Table;
 use lisp_memory::Memory;
-use lisp_messages::{MapNotify, write_notify};
+use lisp_messages::{MapNotify, write_notify_under};
 use lisp_nonces::NonceStore;
 use lisp_records::{Addr, Bytes, Records, RouterId};
 use lisp_served::Sites;
@@ -94,7 +94,7 @@ impl Recipient<'_> {
             key_id: self.contact.key,
             records: Records::from_vec(rows.live_records(&self.contact.router, now)?),
         };
-        Ok(Bytes::from_vec(write_notify(alloc, &notify, self.key)?))
+        Ok(Bytes::from_vec(write_notify_under(alloc, &notify, self.key)?))
     }
 
     // The notice that stands once its nonce is saved.

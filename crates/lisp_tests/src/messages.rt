@@ -2,7 +2,7 @@
 
 use crate::worked::{SAID, says};
 use lisp_hmac::Key;
-use lisp_messages::{MapRegister, Message, read_message, write_register};
+use lisp_messages::{MapRegister, Message, read_message, write_register_under};
 use lisp_records::MapRecord;
 use std::alloc::Global;
 use std::process::Abort;
@@ -65,6 +65,6 @@ fn is_worked_alone(records: &[MapRecord]) -> bool {
 }
 
 fn is_written(rt: &impl Abort, alloc: Global, register: &MapRegister) -> bool {
-    let bytes = write_register(alloc, register, &Key::new(SECRET)).expect(rt, "the bytes");
+    let bytes = write_register_under(alloc, register, &Key::new(SECRET)).expect(rt, "the bytes");
     bytes.as_slice() == MAP_REGISTER.as_slice()
 }

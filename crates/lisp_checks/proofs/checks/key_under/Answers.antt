@@ -14,11 +14,11 @@ returns-in_default-key-clause-plain g c = is_other (omega arith)
 pub returns-in_default-key-clause-storeless : goal.returns-in_default-key-clause-storeless
 returns-in_default-key-clause-storeless g c = (is_other (omega arith), is_other (omega arith))
 
-pub returns-then-not-authentic-clause-plain : goal.returns-then-not-authentic-clause-plain
-returns-then-not-authentic-clause-plain g c = is_other (omega arith)
+pub returns-then-not-authentic_under-clause-plain : goal.returns-then-not-authentic_under-clause-plain
+returns-then-not-authentic_under-clause-plain g c = is_other (omega arith)
 
-pub returns-then-not-authentic-clause-storeless : goal.returns-then-not-authentic-clause-storeless
-returns-then-not-authentic-clause-storeless g c = (is_other (omega arith), is_other (omega arith))
+pub returns-then-not-authentic_under-clause-storeless : goal.returns-then-not-authentic_under-clause-storeless
+returns-then-not-authentic_under-clause-storeless g c = (is_other (omega arith), is_other (omega arith))
 
 pub returns-then-register-clause-plain : goal.returns-then-register-clause-plain
 returns-then-register-clause-plain g c = is_other (omega arith)

@@ -18,8 +18,8 @@ returns-in_default-clause-early g c fault kind = absurd (true≢false (ap is_ok 
 pub returns-then-notify-config-clause-early : goal.returns-then-notify-config-clause-early
 returns-then-notify-config-clause-early g c fault kind = absurd (true≢false (ap is_ok (c.in_ok-notify.ensures.early fault kind)))
 
-pub returns-then-not-authentic-clause-early : goal.returns-then-not-authentic-clause-early
-returns-then-not-authentic-clause-early g c fault kind = absurd (true≢false (ap is_ok (c.in_ok-notify.ensures.early fault kind)))
+pub returns-then-not-authentic_under-clause-early : goal.returns-then-not-authentic_under-clause-early
+returns-then-not-authentic_under-clause-early g c fault kind = absurd (true≢false (ap is_ok (c.in_ok-notify.ensures.early fault kind)))
 
 pub returns-clause-early : goal.returns-clause-early
 returns-clause-early g c fault kind = absurd (true≢false (ap is_ok (c.in_ok-notify.ensures.early fault kind)))
@@ -37,14 +37,14 @@ returns-then-notify-config-clause-exact g c =
     wrong_key c.args.config.now c.args.bytes.now (message_at c.args.bytes.now) (server_at c.args.config.now.servers c.args.from) c.in_ok-notify.notify c.in_ok-notify.ensures.exact c.in-Some.server its
     (λ same. c.if-notify-config.true (own ∙ same ∙ sym (ap (λ (s : Settings). s.key_id) config)))
 
-pub returns-then-not-authentic-clause-exact : goal.returns-then-not-authentic-clause-exact
-returns-then-not-authentic-clause-exact g c =
+pub returns-then-not-authentic_under-clause-exact : goal.returns-then-not-authentic_under-clause-exact
+returns-then-not-authentic_under-clause-exact g c =
     let config = c.config.view_is in
     let its = found c.args.from c.in-Some.server (c.as_slice.ensures ∙ ap (λ (s : Settings). s.servers) config) c.in-Some.ensures in
     let key = sym (ap (λ (m : Notification). m.key_id) c.notify.view_is) ∙ c.if-notify-config.false ∙ ap (λ (s : Settings). s.key_id) config in
     let secret = ap (λ (s : Settings). s.secret) config in
     bad_auth c.args.config.now c.args.bytes.now (message_at c.args.bytes.now) (server_at c.args.config.now.servers c.args.from) c.in_ok-notify.notify c.in_ok-notify.ensures.exact c.in-Some.server its key
-    (ap (is_authentic c.args.bytes.now) (sym secret) ∙ sym c.authentic.ensures.test ∙ c.if-not-authentic.true)
+    (ap (is_authentic c.args.bytes.now) (sym secret) ∙ sym c.authentic_under.ensures.test ∙ c.if-not-authentic_under.true)
 
 pub returns-clause-exact : goal.returns-clause-exact
 returns-clause-exact g c =
@@ -53,15 +53,15 @@ returns-clause-exact g c =
     let key = sym (ap (λ (m : Notification). m.key_id) c.notify.view_is) ∙ c.if-notify-config.false ∙ ap (λ (s : Settings). s.key_id) config in
     let secret = ap (λ (s : Settings). s.secret) config in
     passes c.args.config.now c.args.bytes.now (message_at c.args.bytes.now) (server_at c.args.config.now.servers c.args.from) c.in_ok-notify.notify c.in_ok-notify.ensures.exact c.in-Some.server its key
-    (ap (is_authentic c.args.bytes.now) (sym secret) ∙ sym c.authentic.ensures.test ∙ c.if-not-authentic.false)
+    (ap (is_authentic c.args.bytes.now) (sym secret) ∙ sym c.authentic_under.ensures.test ∙ c.if-not-authentic_under.false)
 
 pub returns-clause-server : goal.returns-clause-server
 returns-clause-server g c =
     let place = position-Some (λ server. addr_eq server c.args.from) c.as_slice.result.now c.in-Some.server c.args.from (sym c.in-Some.ensures) in
     rw (← c.config.view_is) (subst (λ (servers : List Addr). c.in-Some.server < length servers) c.as_slice.ensures place.0)
 
-pub returns-then-not-authentic-clause-memory : goal.returns-then-not-authentic-clause-memory
-returns-then-not-authentic-clause-memory g c = not_out _ refl
+pub returns-then-not-authentic_under-clause-memory : goal.returns-then-not-authentic_under-clause-memory
+returns-then-not-authentic_under-clause-memory g c = not_out _ refl
 
 pub returns-clause-memory : goal.returns-clause-memory
 returns-clause-memory g c = not_out _ refl

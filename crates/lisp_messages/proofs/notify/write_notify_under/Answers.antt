@@ -7,8 +7,8 @@ use Rattle.lisp_messages.specs.Written.{written_notify}
 use Rattle.lisp_messages.proofs.AuthenticLaws.{signed_is_authentic}
 use Rattle.lisp_messages.proofs.WrittenLaws.{written_notify_spells}
 use Rattle.lisp_messages.proofs.WrittenLemmas.{written_notify-put, length-written_notify}
-use Rattle.lisp_messages.proofs.notify.write_notify.Given as given
-use Rattle.lisp_messages.proofs.notify.write_notify.Goals as goal
+use Rattle.lisp_messages.proofs.notify.write_notify_under.Given as given
+use Rattle.lisp_messages.proofs.notify.write_notify_under.Goals as goal
 
 pub sign-requires : goal.sign-requires
 sign-requires g c =

@@ -7,8 +7,8 @@ use Rattle.lisp_messages.specs.Written.{written_register}
 use Rattle.lisp_messages.proofs.AuthenticLaws.{signed_register_is_authentic}
 use Rattle.lisp_messages.proofs.WrittenLaws.{written_register_spells}
 use Rattle.lisp_messages.proofs.WrittenLemmas.{written_register-put, length-written_register}
-use Rattle.lisp_messages.proofs.register.write_register.Given as given
-use Rattle.lisp_messages.proofs.register.write_register.Goals as goal
+use Rattle.lisp_messages.proofs.register.write_register_under.Given as given
+use Rattle.lisp_messages.proofs.register.write_register_under.Goals as goal
 
 pub sign-requires : goal.sign-requires
 sign-requires g c =
