@@ -5,8 +5,8 @@ use Rattle.std.proofs.lemmas.List.{append_assoc, drop-drop, drop-set-lt, drop_al
 use Rattle.std.proofs.lemmas.List.Elements.{All-more}
 use Rattle.std.proofs.Math.Seq.{take-append_seam, take-suc-set}
 use Rattle.lisp_nonces.specs.declared.pair.Pair.{Pair}
-use Rattle.lisp_nonces.specs.Kept.{Narrows, kept_at}
-use Rattle.lisp_nonces.specs.Entries.{EntryOf, HasValues, is_of, picked, narrowed, answers_of, kept_of}
+use Rattle.lisp_nonces.specs.Kept.{Narrows, kept_at, picked}
+use Rattle.lisp_nonces.specs.Entries.{EntryOf, HasValues, is_of, narrowed, answers_of, kept_of}
 use Rattle.lisp_nonces.proofs.Entries.{step, none, kept_of_entries}
 
 only_one : {X : Type 0} (x v : X) → Contains (x ∷ []) v → x ≡ v

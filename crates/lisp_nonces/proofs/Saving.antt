@@ -6,8 +6,8 @@ use Rattle.lisp_nonces.specs.declared.fault.StoreFault.{StoreFault}
 use Rattle.lisp_nonces.specs.declared.fault.StoreFault.TheVariants.{Device, Damaged, OutOfMemory}
 use Rattle.lisp_nonces.specs.declared.fate.Fate.{Fate}
 use Rattle.lisp_nonces.specs.declared.fate.Fate.TheVariants.{Done, Doubt, LoadFails}
-use Rattle.lisp_nonces.specs.Kept.{InDoubt}
-use Rattle.lisp_nonces.specs.Memory.{Memory, match_fate, loaded, failed_once, after_load, has_value, saved, save_answer, faults_after_save}
+use Rattle.lisp_nonces.specs.Kept.{InDoubt, has_value}
+use Rattle.lisp_nonces.specs.Memory.{Memory, match_fate, loaded, failed_once, after_load, saved, save_answer, faults_after_save}
 
 -- an answer with a value is no fault
 pub no_fault : {X E P : Type 0} (x : X) (fault : E) → ◌≡◌ {A = Result X E} (Ok x) (Err fault) → P

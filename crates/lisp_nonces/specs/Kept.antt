@@ -1,8 +1,8 @@
 -- Kept: for each pair the values that a load may still answer. 'Nothing' is a value too.
-use Rattle.std.specs.Prelude.{◌≡◌, ◌≢◌, ◌⊎◌, ℕ, ◌≤◌, List, [], ◌∷◌, ◌++◌, Option, Some, None}
+use Rattle.std.specs.Prelude.{◌≡◌, ◌≢◌, ◌⊎◌, ℕ, ◌-◌, ◌≤◌, ◌==◌, min, Bool, false, List, [], ◌∷◌, ◌++◌, length, slice_index_or, Option, Some, None, if◌then◌else◌}
 use Rattle.std.specs.Coded.{Coded, coded_ℕ, coded_list, coded_option}
 use Rattle.std.specs.FinMap.{FinMap, get, code}
-use Rattle.std.specs.List.{Contains}
+use Rattle.std.specs.List.{Contains, list_any}
 use Rattle.std.specs.Option.{unwrap_or}
 use Rattle.lisp_nonces.specs.declared.pair.Pair.{Pair}
 use Rattle.lisp_nonces.specs.Pair.{pair_cmp, pair_code}
@@ -41,3 +41,19 @@ InDoubt old new nonce = (new ≡ old) ⊎ (new ≡ old ++ Some nonce ∷ [])
 pub record Narrows (old new : List (Option ℕ)) : Type 0 where
   pub some : (v : Option ℕ) × Contains new v
   pub each : (v : Option ℕ) → Contains new v → Contains old v
+
+abbrev pub option_eq : Option ℕ → ℕ → Bool
+option_eq None nonce = false
+option_eq (Some n) nonce = n == nonce
+
+-- the value is in the list
+abbrev pub has_value : List (Option ℕ) → ℕ → Bool
+has_value vs nonce = list_any (λ v. option_eq v nonce) vs
+
+-- a value added at the end, once
+abbrev pub with_value : List (Option ℕ) → ℕ → List (Option ℕ)
+with_value vs nonce = if has_value vs nonce then vs else vs ++ Some nonce ∷ []
+
+-- the member at a place, or the last
+abbrev pub picked : List (Option ℕ) → ℕ → Option ℕ
+picked vs pick = slice_index_or vs (min pick (length vs - 1)) None

@@ -1,11 +1,10 @@
 -- A store in memory: the lists of its entries, and what each fate makes of a call.
-use Rattle.std.specs.Prelude.{ℕ, ◌+◌, ◌-◌, ◌^◌, min, Bool, true, false, List, [], ◌∷◌, ◌++◌, Option, Some, None, Result, Ok, Err, slice_index_or, ◌==◌, if◌then◌else◌}
-use Rattle.std.specs.List.{list_any}
+use Rattle.std.specs.Prelude.{ℕ, ◌+◌, ◌-◌, ◌^◌, min, Bool, true, false, List, [], ◌∷◌, Option, Some, None, Result, Ok, Err, slice_index_or}
 use Rattle.lisp_nonces.specs.declared.fault.StoreFault.{StoreFault}
 use Rattle.lisp_nonces.specs.declared.fault.StoreFault.TheVariants.{Device}
 use Rattle.lisp_nonces.specs.declared.fate.Fate.{Fate}
 use Rattle.lisp_nonces.specs.declared.fate.Fate.TheVariants.{Done, Doubt, LoadFails}
-use Rattle.lisp_nonces.specs.Kept.{Kept}
+use Rattle.lisp_nonces.specs.Kept.{Kept, with_value}
 use Rattle.lisp_nonces.specs.Store.{StoreState}
 
 -- what a store in memory is: the lists, the count of faults, and the fate that it is armed with
@@ -26,24 +25,12 @@ is_done _ = false
 
 -- it is honest and obedient, and quiet where it is armed with Done
 abbrev pub memory_state : Memory → StoreState
-memory_state m = record { kept = m.kept; faults = m.faults; is_honest = true; is_quiet = is_done m.fate; is_obedient = true }
-
-abbrev pub option_eq : Option ℕ → ℕ → Bool
-option_eq None nonce = false
-option_eq (Some n) nonce = n == nonce
+memory_state m = record { kept = m.kept; faults = m.faults; is_honest = true; is_quiet = is_done m.fate; is_obedient = true; fate = m.fate }
 
 -- what a load answers: the first of the list, or a fault
 abbrev pub loaded : Fate → List (Option ℕ) → Result (Option ℕ) StoreFault
 loaded LoadFails vs = Err Device
 loaded _ vs = Ok (slice_index_or vs 0 None)
-
--- the value is in the list
-abbrev pub has_value : List (Option ℕ) → ℕ → Bool
-has_value vs nonce = list_any (λ v. option_eq v nonce) vs
-
--- a value added at the end, once
-abbrev pub with_value : List (Option ℕ) → ℕ → List (Option ℕ)
-with_value vs nonce = if has_value vs nonce then vs else vs ++ Some nonce ∷ []
 
 -- the list that a save leaves, where there is memory for it
 abbrev pub saved : Fate → List (Option ℕ) → ℕ → List (Option ℕ)

@@ -3,10 +3,10 @@
 ghost use Rattle.std.specs.Prelude.{◌≡◌, ◌≢◌, ◌↔◌, ◌<◌, ◌≤◌, [], ◌∷◌, Some, None, Ok, Err, IsTrue, IfOk, IfErr, OnOk, OnErr, IsErrOf, All, length, map, slice_index_or};
 ghost use Rattle.std.specs.List.{Contains, position};
 ghost use Rattle.std.specs.FinMap.{empty};
-ghost use Rattle.lisp_nonces.specs.Kept.{kept_at, SameElsewhere, InDoubt, Narrows};
-ghost use Rattle.lisp_nonces.specs.Store.{StoreState, Rose, Proceeds};
-ghost use Rattle.lisp_nonces.specs.Memory.{Memory, memory_state, failed_once, with_value, saved, loaded, after_load, save_answer, faults_after_save};
-ghost use Rattle.lisp_nonces.specs.Entries.{kept_of, is_of, picked, narrowed, HasValues};
+ghost use Rattle.lisp_nonces.specs.Kept.{kept_at, with_value, picked, SameElsewhere, InDoubt, Narrows};
+ghost use Rattle.lisp_nonces.specs.Store.{StoreState, Rose, Proceeds, MayLoad, MayFailLoad, MaySave, MayFailSave};
+ghost use Rattle.lisp_nonces.specs.Memory.{Memory, memory_state, failed_once, saved, loaded, after_load, save_answer, faults_after_save};
+ghost use Rattle.lisp_nonces.specs.Entries.{kept_of, is_of, narrowed, HasValues};
 ghost use Rattle.lisp_nonces.specs.declared.fault.StoreFault.{StoreFault};
 ghost use Rattle.lisp_nonces.specs.declared.fate.Fate.{Fate};
 ghost use Rattle.lisp_nonces.specs.declared.pair.Pair.{Pair};
@@ -127,6 +127,8 @@ impl<A: Memory + Copy> NonceStore for MemoryStore<A> {
         // What every store promises.
         ensures member { IfOk result (λ v. Contains (kept_at self.old.kept pair.now) v) }
         ensures same { self.new.kept ≡ self.old.kept }
+        ensures loads { OnOk result (MayLoad (memory_state self.old)) }
+        ensures load_fails { IfErr result (λ f. f ≢ StoreFault.OutOfMemory → MayFailLoad (memory_state self.old)) }
         ensures cause { IfErr result (λ f. f ≢ StoreFault.OutOfMemory → Rose (memory_state self.old) (memory_state self.new)) }
         ensures refused { IsErrOf result StoreFault.OutOfMemory → memory_state self.new ≡ memory_state self.old }
         ensures memory { IsErrOf result StoreFault.OutOfMemory → A.may_refuse }
@@ -152,6 +154,9 @@ impl<A: Memory + Copy> NonceStore for MemoryStore<A> {
         ensures done { OnOk result (kept_at self.new.kept pair.now ≡ Some nonce ∷ []) }
         ensures doubt { OnErr result (InDoubt (kept_at self.old.kept pair.now) (kept_at self.new.kept pair.now) nonce) }
         ensures others { SameElsewhere self.old.kept self.new.kept pair.now }
+        ensures saves { OnOk result (MaySave (memory_state self.old)) }
+        ensures save_fails { IsErrOf result StoreFault.Device → MayFailSave (memory_state self.old) }
+        ensures doubted { IsErrOf result StoreFault.Device → IsTrue (memory_state self.old).is_obedient → kept_at self.new.kept pair.now ≡ with_value (kept_at self.old.kept pair.now) nonce }
         ensures sound { result ≢ Err StoreFault.Damaged }
         ensures cause { IsErrOf result StoreFault.Device → Rose (memory_state self.old) (memory_state self.new) }
         ensures refused { IsErrOf result StoreFault.OutOfMemory → memory_state self.new ≡ memory_state self.old }
@@ -193,6 +198,7 @@ impl<A: Memory + Copy> WorldStore for MemoryStore<A> {
         ensures count { (memory_state self.new).faults ≡ (memory_state self.old).faults }
         ensures honest { (memory_state self.new).is_honest ≡ (memory_state self.old).is_honest }
         ensures obedient { (memory_state self.new).is_obedient ≡ (memory_state self.old).is_obedient }
+        ensures fate { IsTrue (memory_state self.old).is_obedient → (memory_state self.new).fate ≡ fate }
         ensures quiet { IsTrue (memory_state self.old).is_obedient → fate ≡ Fate.Done → IsTrue (memory_state self.new).is_quiet }
     {
         self.fate = fate;
@@ -202,12 +208,13 @@ impl<A: Memory + Copy> WorldStore for MemoryStore<A> {
     /// memory.
     fn restart(&mut self, pick: u64)
         // Exactly.
-        ensures picks { (q : Pair) → kept_at self.new.kept q ≡ picked (kept_at self.old.kept q) pick ∷ [] }
+        ensures exactly { (q : Pair) → kept_at self.new.kept q ≡ picked (kept_at self.old.kept q) pick ∷ [] }
         ensures faults { self.new.faults ≡ self.old.faults }
         ensures fate { self.new.fate ≡ self.old.fate }
 
         // What every store promises.
         ensures narrows { (q : Pair) → Narrows (kept_at self.old.kept q) (kept_at self.new.kept q) }
+        ensures picks { IsTrue (memory_state self.old).is_obedient → (q : Pair) → kept_at self.new.kept q ≡ picked (kept_at self.old.kept q) pick ∷ [] }
         ensures proceeds { Proceeds (memory_state self.old) (memory_state self.new) }
     {
         narrow(&mut self.entries, pick);

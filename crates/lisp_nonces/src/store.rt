@@ -2,8 +2,8 @@
 
 ghost use Rattle.std.specs.Prelude.{◌≡◌, ◌≢◌, [], ◌∷◌, Some, Err, IsTrue, IfOk, IfErr, OnOk, OnErr, IsErrOf};
 ghost use Rattle.std.specs.List.{Contains};
-ghost use Rattle.lisp_nonces.specs.Kept.{kept_at, SameElsewhere, InDoubt, Narrows};
-ghost use Rattle.lisp_nonces.specs.Store.{StoreState, Rose, Proceeds};
+ghost use Rattle.lisp_nonces.specs.Kept.{kept_at, with_value, picked, SameElsewhere, InDoubt, Narrows};
+ghost use Rattle.lisp_nonces.specs.Store.{StoreState, Rose, Proceeds, MayLoad, MayFailLoad, MaySave, MayFailSave};
 ghost use Rattle.lisp_nonces.specs.declared.fate.Fate.{Fate};
 ghost use Rattle.lisp_nonces.specs.declared.pair.Pair.{Pair};
 ghost use Rattle.lisp_nonces.specs.declared.fault.StoreFault.{StoreFault};
@@ -29,6 +29,10 @@ pub trait NonceStore {
 
         // Loading changes no list.
         ensures same { IsTrue (seen self.old).is_honest → (seen self.new).kept ≡ (seen self.old).kept }
+
+        // An obedient store fails where it is armed to.
+        ensures loads { OnOk result (MayLoad (seen self.old)) }
+        ensures load_fails { IfErr result (λ f. f ≢ StoreFault.OutOfMemory → MayFailLoad (seen self.old)) }
         ensures cause { IfErr result (λ f. f ≢ StoreFault.OutOfMemory → Rose (seen self.old) (seen self.new)) }
         ensures refused { IsErrOf result StoreFault.OutOfMemory → seen self.new ≡ seen self.old }
         ensures memory { IsErrOf result StoreFault.OutOfMemory → may_refuse }
@@ -43,6 +47,11 @@ pub trait NonceStore {
         // Not done: what was kept may be, and perhaps this value.
         ensures doubt { IsTrue (seen self.old).is_honest → OnErr result (InDoubt (kept_at (seen self.old).kept pair.now) (kept_at (seen self.new).kept pair.now) nonce) }
         ensures others { IsTrue (seen self.old).is_honest → SameElsewhere (seen self.old).kept (seen self.new).kept pair.now }
+
+        // An obedient store fails where it is armed to, and keeps this value too then.
+        ensures saves { OnOk result (MaySave (seen self.old)) }
+        ensures save_fails { IsErrOf result StoreFault.Device → MayFailSave (seen self.old) }
+        ensures doubted { IsErrOf result StoreFault.Device → IsTrue (seen self.old).is_obedient → kept_at (seen self.new).kept pair.now ≡ with_value (kept_at (seen self.old).kept pair.now) nonce }
         ensures sound { result ≢ Err StoreFault.Damaged }
         ensures cause { IsErrOf result StoreFault.Device → Rose (seen self.old) (seen self.new) }
         ensures refused { IsErrOf result StoreFault.OutOfMemory → seen self.new ≡ seen self.old }
@@ -58,6 +67,7 @@ pub trait WorldStore: NonceStore {
         ensures count { (Self.seen self.new).faults ≡ (Self.seen self.old).faults }
         ensures honest { (Self.seen self.new).is_honest ≡ (Self.seen self.old).is_honest }
         ensures obedient { (Self.seen self.new).is_obedient ≡ (Self.seen self.old).is_obedient }
+        ensures fate { IsTrue (Self.seen self.old).is_obedient → (Self.seen self.new).fate ≡ fate }
 
         // Armed with `Done`, an obedient store fails no more.
         ensures quiet { IsTrue (Self.seen self.old).is_obedient → fate ≡ Fate.Done → IsTrue (Self.seen self.new).is_quiet };
@@ -66,5 +76,8 @@ pub trait WorldStore: NonceStore {
     /// none is added.
     fn restart(&mut self, pick: u64)
         ensures narrows { IsTrue (Self.seen self.old).is_honest → (q : Pair) → Narrows (kept_at (Self.seen self.old).kept q) (kept_at (Self.seen self.new).kept q) }
+
+        // Of an obedient store the one at place `pick` is left, or the last.
+        ensures picks { IsTrue (Self.seen self.old).is_obedient → (q : Pair) → kept_at (Self.seen self.new).kept q ≡ picked (kept_at (Self.seen self.old).kept q) pick ∷ [] }
         ensures proceeds { Proceeds (Self.seen self.old) (Self.seen self.new) };
 }
