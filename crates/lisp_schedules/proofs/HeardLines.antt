@@ -5,13 +5,13 @@ use Rattle.std.proofs.lemmas.Bool.{leb-true, le-leb}
 use Rattle.lisp_etr.specs.declared.notify_fault.NotifyFault.{NotifyFault}
 use Rattle.lisp_etr.specs.declared.notify_fault.NotifyFault.TheVariants.{Stale, OutOfMemory}
 use Rattle.lisp_etr.specs.Hearing.{Heard, first_notice, is_latest}
-use Rattle.lisp_messages.specs.Reading.{HasHead}
+use Rattle.lisp_messages.specs.Reading.{HasHead, HasRecords}
 use Rattle.lisp_schedules.specs.declared.line.Line.{Line}
 use Rattle.lisp_schedules.specs.declared.line.Line.TheVariants as lines
 use Rattle.lisp_schedules.specs.Trace.{settings}
 use Rattle.lisp_schedules.specs.Bag.{Arrival, bag}
 use Rattle.lisp_schedules.specs.Counted.{heard, latest}
-use Rattle.lisp_schedules.specs.Hearing.{Hears, refused_with, heard_line, line_of}
+use Rattle.lisp_schedules.specs.Hearing.{Hears, IsToAnswer, refused_with, heard_line, line_of}
 use Rattle.lisp_schedules.specs.Turn.{Turn}
 
 -- a Map-Notify that passes all checks
@@ -87,9 +87,9 @@ module _ (t : Turn) (a : Arrival) where
         by (Err fault) e is = absurd cc
         by (Ok h) e is = counted_by h e (nat_le first_notice h.message.nonce) (is_latest h.message.nonce (latest t.past t.node h.server)) refl refl is
 
-        at : (lines.Counted router server key nonce ≡ line_of t (heard t.opening t.past t.node a)) ⊎ (HasHead a.bytes × (lines.Counted router server key nonce ≡ refused_with t OutOfMemory)) → IsCounted t a router server key nonce
+        at : (lines.Counted router server key nonce ≡ line_of t (heard t.opening t.past t.node a)) ⊎ (HasHead a.bytes × (HasRecords a.bytes ⊎ IsToAnswer t a) × (lines.Counted router server key nonce ≡ refused_with t OutOfMemory)) → IsCounted t a router server key nonce
         at (inl is) = by (heard t.opening t.past t.node a) refl is
-        at (inr out) = absurd (let is : lines.Counted router server key nonce ≡ refused_with t OutOfMemory = out.1 in cc)
+        at (inr out) = absurd (let is : lines.Counted router server key nonce ≡ refused_with t OutOfMemory = out.2 in cc)
 
   module _ (router server nonce datagram : ℕ) where
     noticed_by : (h : Heard) → Passes t a h → (b c : Bool) → nat_le first_notice h.message.nonce ≡ b
@@ -118,17 +118,17 @@ module _ (t : Turn) (a : Arrival) where
         by (Err fault) e is = absurd cc
         by (Ok h) e is = noticed_by h e (nat_le first_notice h.message.nonce) (is_latest h.message.nonce (latest t.past t.node h.server)) refl is
 
-        at : (lines.Noticed router server nonce datagram ≡ line_of t (heard t.opening t.past t.node a)) ⊎ (HasHead a.bytes × (lines.Noticed router server nonce datagram ≡ refused_with t OutOfMemory)) → IsNoticed t a router server nonce datagram
+        at : (lines.Noticed router server nonce datagram ≡ line_of t (heard t.opening t.past t.node a)) ⊎ (HasHead a.bytes × (HasRecords a.bytes ⊎ IsToAnswer t a) × (lines.Noticed router server nonce datagram ≡ refused_with t OutOfMemory)) → IsNoticed t a router server nonce datagram
         at (inl is) = by (heard t.opening t.past t.node a) refl is
-        at (inr out) = absurd (let is : lines.Noticed router server nonce datagram ≡ refused_with t OutOfMemory = out.1 in cc)
+        at (inr out) = absurd (let is : lines.Noticed router server nonce datagram ≡ refused_with t OutOfMemory = out.2 in cc)
 
   -- what passes all checks comes to its line, or to out of memory
   pub comes_to : (h : Heard) → Passes t a h → (line : Line) → Hears t a line → (line ≡ heard_line t h) ⊎ (line ≡ refused_with t OutOfMemory)
   comes_to h passes line hears = at hears.comes
     where
-      at : (line ≡ line_of t (heard t.opening t.past t.node a)) ⊎ (HasHead a.bytes × (line ≡ refused_with t OutOfMemory)) → (line ≡ heard_line t h) ⊎ (line ≡ refused_with t OutOfMemory)
+      at : (line ≡ line_of t (heard t.opening t.past t.node a)) ⊎ (HasHead a.bytes × (HasRecords a.bytes ⊎ IsToAnswer t a) × (line ≡ refused_with t OutOfMemory)) → (line ≡ heard_line t h) ⊎ (line ≡ refused_with t OutOfMemory)
       at (inl is) = inl (is ∙ ap (line_of t) passes)
-      at (inr out) = inr out.1
+      at (inr out) = inr out.2
 
   -- the line tells of the router that hears
   pub heard_by : (line : Line) → Hears t a line → IsBy line t.node
@@ -143,6 +143,6 @@ module _ (t : Turn) (a : Arrival) where
       by_itself (Err fault) = refl
       by_itself (Ok h) = by h (nat_le first_notice h.message.nonce) (is_latest h.message.nonce (latest t.past t.node h.server))
 
-      at : (line ≡ line_of t (heard t.opening t.past t.node a)) ⊎ (HasHead a.bytes × (line ≡ refused_with t OutOfMemory)) → IsBy line t.node
+      at : (line ≡ line_of t (heard t.opening t.past t.node a)) ⊎ (HasHead a.bytes × (HasRecords a.bytes ⊎ IsToAnswer t a) × (line ≡ refused_with t OutOfMemory)) → IsBy line t.node
       at (inl is) = subst (λ (l : Line). IsBy l t.node) (sym is) (by_itself (heard t.opening t.past t.node a))
-      at (inr out) = subst (λ (l : Line). IsBy l t.node) (sym out.1) refl
+      at (inr out) = subst (λ (l : Line). IsBy l t.node) (sym out.2) refl

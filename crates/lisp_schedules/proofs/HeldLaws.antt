@@ -5,6 +5,7 @@ use Rattle.lisp_records.specs.Address.{block_eq}
 use Rattle.lisp_records.specs.Router.{router_eq}
 use Rattle.lisp_records.specs.Row.{Holding}
 use Rattle.lisp_checks.specs.Pairs.{router_of}
+use Rattle.lisp_checks.specs.AcceptedRows.{holding}
 use Rattle.lisp_schedules.specs.Trace.{Step, Opening, clock}
 use Rattle.lisp_schedules.specs.History.{record_for}
 use Rattle.lisp_schedules.specs.Bag.{since}
@@ -14,7 +15,7 @@ use Rattle.lisp_schedules.specs.Promises.{HeldWasSent}
 use Rattle.lisp_schedules.specs.Network.{IsNetwork}
 use Rattle.lisp_schedules.proofs.Agreement.{held_found}
 use Rattle.lisp_schedules.proofs.AgreementLaws.{since_accepted}
-use Rattle.lisp_schedules.proofs.OriginLaws.{were_sent}
+use Rattle.lisp_schedules.proofs.OriginLaws.{accepted_was_sent}
 use Rattle.lisp_schedules.proofs.Origins.{ReadsBack}
 
 -- a search under a fact finds what the search finds
@@ -34,9 +35,10 @@ module _ (o : Opening) (distinct : IsNetwork o.config) (reads : ReadsBack) (T : 
   pub held_was_sent : HeldWasSent o T
   held_was_sent server router eid h is_held =
       let x = held_found (since o T server) router eid (clock T) h is_held in
-      let w = were_sent o distinct.addresses reads T legal clean server x.acceptance (since_accepted o T server x.acceptance x.taken) in
+      let found = accepted_was_sent o distinct.addresses reads T legal clean server x.acceptance (since_accepted o T server x.acceptance x.taken) in
+      let w = found.1 in
       let has : record_for x.acceptance.message.records eid ≡ Some x.mapping = under_fact (λ m. block_eq m.eid eid) (router_eq (router_of x.acceptance.message) router) (reverse x.acceptance.message.records) x.mapping x.last in (
-        w.entry,
+        found.0,
         w.sent,
         w.whom,
         record {
@@ -45,4 +47,10 @@ module _ (o : Opening) (distinct : IsNetwork o.config) (reads : ReadsBack) (T : 
           nonce = ap (λ (z : Holding). z.nonce) x.is ∙ ap (λ m. m.nonce) w.message;
         },
         ap (λ m. record_for m.records eid) (sym w.message) ∙ has ∙ ap Some (sym (ap (λ (z : Holding). z.mapping) x.is)),
+        record {
+          acceptance = x.acceptance;
+          taken = x.taken;
+          message = w;
+          row = x.is ∙ ap (holding x.acceptance.message x.acceptance.from x.acceptance.moment) (sym (ap (λ (z : Holding). z.mapping) x.is));
+        },
       )

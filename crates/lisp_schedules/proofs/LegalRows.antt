@@ -1,5 +1,5 @@
 -- Legal traces of the small network: what each meaning makes of them.
-use Rattle.std.proofs.Common.{Ok, ◌≡◌, ◌≢◌, ◌⊎◌, ◌∙◌, Bor, ℕ, zero, suc, true, false, List, [], ◌∷◌, Option, Some, None, refl, sym, ap, subst, inl, inr, arith}
+use Rattle.std.proofs.Common.{true≢false, Ok, ◌≡◌, ◌≢◌, ◌⊎◌, ◌∙◌, Bor, ℕ, zero, suc, true, false, List, [], ◌∷◌, Option, Some, None, refl, sym, ap, subst, inl, inr, arith}
 use Rattle.std.specs.Prelude.{◌^◌, ◌+◌}
 use Rattle.std.specs.List.{Contains}
 use Rattle.std.specs.Prelude.{Result, Err}
@@ -107,7 +107,7 @@ abbrev pub restarted : List Step
 restarted = restarts one_taken 0 ∷ one_taken
 
 pub restarted_legal : LegalTrace opening restarted
-restarted_legal = (restarts_legal one_taken 0 (inl refl) (set_full _ _ _ empty_full), one_taken_legal)
+restarted_legal = (restarts_legal one_taken 0 (inl refl) (set_full _ _ _ empty_full) refl, one_taken_legal)
 
 pub restart_remembers : LegalTrace opening (replays restarted 0 0 1 ∷ restarted)
 restart_remembers = (replays_legal restarted 0 0 1 1 _ _ refl refl refl refl refl refl (set_value _ _ _) (omega arith), restarted_legal)
@@ -120,7 +120,7 @@ abbrev doubted : List Step
 doubted = doubts_send one_sent 0 2 ∷ one_sent
 
 doubted_legal : LegalTrace opening doubted
-doubted_legal = (doubts_send_legal one_sent 0 2 (Some 1) refl refl refl refl (record { least = omega arith; near = omega arith; most = omega arith }), one_sent_legal)
+doubted_legal = (doubts_send_legal one_sent 0 (Some 1) refl refl refl refl (omega arith) refl, one_sent_legal)
 
 abbrev forgot : List Step
 forgot = restarts_to doubted 2 (sent_by one) (Some 1) ∷ doubted
@@ -132,7 +132,7 @@ pub doubtful_send : LegalTrace opening (sends forgot 0 2 1 ∷ forgot)
 doubtful_send = (
   sends_legal forgot 0 2 1 (Some 1) refl refl refl (set_value _ _ _) refl (omega arith) (wide_record 1440 (omega arith)) refl,
   (
-    restarts_to_legal doubted 2 (sent_by one) (Some 1) (inr refl) (doubted_old _ _ 2 (Some 1) (set_value _ _ _)) (insert_full _ _ _ (set_full _ _ _ empty_full) (Some 2, doubted_end _ 2)),
+    restarts_to_legal doubted 2 (sent_by one) (Some 1) (inr refl) (doubted_old _ _ 2 (Some 1) (set_value _ _ _)) (insert_full _ _ _ (set_full _ _ _ empty_full) (Some 2, doubted_end _ 2)) refl,
     doubted_legal,
   ),
 )
@@ -141,7 +141,7 @@ pub doubtful_send_kept : LegalTrace opening (sends kept_it 0 3 1 ∷ kept_it)
 doubtful_send_kept = (
   sends_legal kept_it 0 3 1 (Some 2) refl refl refl (set_value _ _ _) refl (omega arith) (wide_record 1440 (omega arith)) refl,
   (
-    restarts_to_legal doubted 2 (sent_by one) (Some 2) (inr refl) (doubted_new _ _ 2) (insert_full _ _ _ (set_full _ _ _ empty_full) (Some 2, doubted_end _ 2)),
+    restarts_to_legal doubted 2 (sent_by one) (Some 2) (inr refl) (doubted_new _ _ 2) (insert_full _ _ _ (set_full _ _ _ empty_full) (Some 2, doubted_end _ 2)) refl,
     doubted_legal,
   ),
 )
@@ -151,7 +151,7 @@ abbrev unsure : List Step
 unsure = doubts_take one_sent 0 0 1 ∷ one_sent
 
 unsure_legal : LegalTrace opening unsure
-unsure_legal = (doubts_take_legal one_sent 0 0 1 _ _ None refl refl refl refl refl refl (fresh_value (got_from one)) tt, one_sent_legal)
+unsure_legal = (doubts_take_legal one_sent 0 0 1 _ _ None refl refl refl refl refl refl (fresh_value (got_from one)) tt refl, one_sent_legal)
 
 abbrev unsure_forgot : List Step
 unsure_forgot = restarts_to unsure 0 (got_from one) None ∷ unsure
@@ -163,7 +163,7 @@ pub doubtful_take : LegalTrace opening (takes unsure_forgot 0 0 1 1 ∷ unsure_f
 doubtful_take = (
   takes_legal unsure_forgot 0 0 1 1 _ _ None refl refl refl refl refl refl (set_value _ _ _) tt refl,
   (
-    restarts_to_legal unsure 0 (got_from one) None (inl refl) (doubted_old _ _ 1 None (fresh_value (got_from one))) (insert_full _ _ _ empty_full (Some 1, doubted_end _ 1)),
+    restarts_to_legal unsure 0 (got_from one) None (inl refl) (doubted_old _ _ 1 None (fresh_value (got_from one))) (insert_full _ _ _ empty_full (Some 1, doubted_end _ 1)) refl,
     unsure_legal,
   ),
 )
@@ -172,7 +172,7 @@ pub doubtful_take_kept : LegalTrace opening (replays unsure_kept 0 0 1 ∷ unsur
 doubtful_take_kept = (
   replays_legal unsure_kept 0 0 1 1 _ _ refl refl refl refl refl refl (set_value _ _ _) (omega arith),
   (
-    restarts_to_legal unsure 0 (got_from one) (Some 1) (inl refl) (doubted_new _ _ 1) (insert_full _ _ _ empty_full (Some 1, doubted_end _ 1)),
+    restarts_to_legal unsure 0 (got_from one) (Some 1) (inl refl) (doubted_new _ _ 1) (insert_full _ _ _ empty_full (Some 1, doubted_end _ 1)) refl,
     unsure_legal,
   ),
 )
@@ -262,7 +262,7 @@ notice_ends = (ends_legal was_noticed 4 (2 ^ 63) _ _ refl refl refl refl refl, w
 
 -- the answer arrives again
 pub notice_ended : LegalTrace opening (refuses ended (events.Deliver 4 fates.Done) 0 (refusals.Receive refuseds.NoNotice) ∷ ended)
-notice_ended = (record { faults = omega arith; row = record { item = answered (2 ^ 63) (mapping wide 1440 ∷ []); sent = refl; there = refl; arrives = (record { kind = refl; acts = refl }, (refl, refl)) } }, notice_ends)
+notice_ended = (record { faults = omega arith; obedient = refl; row = record { item = answered (2 ^ 63) (mapping wide 1440 ∷ []); sent = refl; there = refl; arrives = (record { kind = refl; acts = refl }, (refl, refl)) } }, notice_ends)
 
 -- a newer notice to the router takes the place of the older one, whose acknowledgement then ends nothing
 abbrev pub told_anew : List Step
@@ -273,7 +273,7 @@ older_noticed = notices told_anew 2 (2 ^ 63) 4 ∷ told_anew
 
 pub older_notice_ended : LegalTrace opening (refuses older_noticed (events.Deliver 4 fates.Done) 0 (refusals.Receive refuseds.NoNotice) ∷ older_noticed)
 older_notice_ended = (
-  record { faults = omega arith; row = record { item = answered (2 ^ 63) (mapping wide 1440 ∷ []); sent = refl; there = refl; arrives = (record { kind = refl; acts = refl }, (refl, refl)) } },
+  record { faults = omega arith; obedient = refl; row = record { item = answered (2 ^ 63) (mapping wide 1440 ∷ []); sent = refl; there = refl; arrives = (record { kind = refl; acts = refl }, (refl, refl)) } },
   (
     notices_legal told_anew 2 (2 ^ 63) 4 _ refl refl (omega arith) refl,
     (tells_legal first_told (2 ^ 63 + 1) 3 _ (Some (2 ^ 63)) refl refl refl refl refl (omega arith) refl, first_told_legal),
@@ -288,6 +288,7 @@ pub stale : LegalTrace opening (refuses sent_twice (events.Deliver 1 fates.Done)
 stale = (
   record {
     faults = omega arith;
+    obedient = refl;
     row = record {
       item = told (local_at 11) (local_at 21) 1 (mapping wide 1440 ∷ []);
       sent = refl;
@@ -300,7 +301,7 @@ stale = (
 
 -- a router sends to a server that it isn't told
 pub no_server : LegalTrace opening (refuses [] (events.Send 3 1 fates.Done) 3 (refusals.Send send_faults.NoServer) ∷ [])
-no_server = (record { faults = omega arith; row = (refl, refl, record { kind = refl; acts = refl; state = refl }, (refl, refl)) }, tt)
+no_server = (record { faults = omega arith; obedient = refl; row = (refl, refl, record { kind = refl; acts = refl; state = refl }, (refl, refl)) }, tt)
 
 -- no bytes are no message
 pub short_message : message_at [] ≡ Err reads.Short
@@ -308,7 +309,7 @@ unfolding message_at kind_at
 short_message = refl
 
 pub nothing_thrown : LegalTrace opening (refuses [] (events.Junk 0 (local_at 21) []) 0 (refusals.Receive (refuseds.Read reads.Short)) ∷ [])
-nothing_thrown = (record { faults = omega arith; row = record { acts = refl; arrives = (record { kind = refl; acts = refl }, (subst (λ (r : Result Said ReadFault). FailsCheck (turn_of opening [] (refuses [] (events.Junk 0 (local_at 21) []) 0 (refusals.Receive (refuseds.Read reads.Short)))) (thrown (local_at 21) []) r (refuseds.Read reads.Short)) (sym short_message) refl, refl)) } }, tt)
+nothing_thrown = (record { faults = omega arith; obedient = refl; row = record { acts = refl; arrives = (record { kind = refl; acts = refl }, (subst (λ (r : Result Said ReadFault). FailsCheck (turn_of opening [] (refuses [] (events.Junk 0 (local_at 21) []) 0 (refusals.Receive (refuseds.Read reads.Short)))) (thrown (local_at 21) []) r (refuseds.Read reads.Short)) (sym short_message) refl, refl)) } }, tt)
 
 -- neither are they at a router
 short_heard : heard opening [] 2 (thrown (local_at 11) []) ≡ Err (notify_faults.Read reads.Short)
@@ -316,7 +317,7 @@ unfolding checked
 short_heard = rw short_message refl
 
 pub nothing_thrown_at_router : LegalTrace opening (refuses [] (events.Junk 2 (local_at 11) []) 2 (refusals.Notify (notify_faults.Read reads.Short)) ∷ [])
-nothing_thrown_at_router = (record { faults = omega arith; row = record { acts = refl; arrives = record { acts = record { kind = refl; acts = refl; state = refl }; same = refl; comes = inl (rw short_heard refl) } } }, tt)
+nothing_thrown_at_router = (record { faults = omega arith; obedient = refl; row = record { acts = refl; arrives = record { acts = record { kind = refl; acts = refl; state = refl }; same = refl; comes = inl (rw short_heard refl) } } }, tt)
 
 -- a record of another site is refused
 abbrev pub foreign_sent : List Step
@@ -351,10 +352,10 @@ abbrev pub told_and_gone : List Step
 told_and_gone = restarts first_told 0 ∷ first_told
 
 told_and_gone_legal : LegalTrace opening told_and_gone
-told_and_gone_legal = (restarts_legal first_told 0 (inl refl) (set_full _ _ _ (set_full _ _ _ empty_full)), first_told_legal)
+told_and_gone_legal = (restarts_legal first_told 0 (inl refl) (set_full _ _ _ (set_full _ _ _ empty_full)) refl, first_told_legal)
 
 pub nothing_to_tell : LegalTrace opening (refuses told_and_gone (events.Notice 0 2 fates.Done) 0 (refusals.Notice notice_faults.NotRegistered) ∷ told_and_gone)
-nothing_to_tell = (record { faults = omega arith; row = (refl, record { kind = refl; acts = refl }, refl, (refl, refl)) }, told_and_gone_legal)
+nothing_to_tell = (record { faults = omega arith; obedient = refl; row = (refl, record { kind = refl; acts = refl }, refl, (refl, refl)) }, told_and_gone_legal)
 
 abbrev sent_after : List Step
 sent_after = sends told_and_gone 0 2 3 ∷ told_and_gone
@@ -424,7 +425,7 @@ abbrev pub not_started : List Step
 not_started = step (events.Restart 2 0 None) (lines.Refused 2 (refusals.Start (start_faults.Store stores.Device))) 2 (failed (at one_sent 2)) ∷ one_sent
 
 pub not_started_legal : LegalTrace opening not_started
-not_started_legal = (record { faults = omega arith; row = record { names = refl; acts = refl; kind = refl; fits = tt; narrows = stays (at one_sent 2).kept (set_full _ _ _ empty_full); cause = λ other. inl (omega arith) } }, one_sent_legal)
+not_started_legal = (record { faults = omega arith; obedient = refl; row = record { names = refl; acts = refl; kind = refl; fits = tt; narrows = stays (at one_sent 2).kept (set_full _ _ _ empty_full); picks = λ obeys. absurd (true≢false (sym obeys)); cause = λ other. inl (omega arith) } }, one_sent_legal)
 
 abbrev is_down : Step
 is_down = step (events.Change 2 []) (lines.Down 2) 2 (at not_started 2)
@@ -433,7 +434,7 @@ pub down_and_up : LegalTrace opening (sends (restarts (is_down ∷ not_started) 
 down_and_up = (
   sends_legal (restarts (is_down ∷ not_started) 2 ∷ is_down ∷ not_started) 0 2 1 (Some 1) refl refl refl (set_value _ _ _) refl (omega arith) (wide_record 1440 (omega arith)) refl,
   (
-    restarts_legal (is_down ∷ not_started) 2 (inr refl) (set_full _ _ _ empty_full),
-    (record { faults = omega arith; row = record { acts = record { kind = refl; acts = refl; state = refl }; names = refl; same = refl } }, not_started_legal),
+    restarts_legal (is_down ∷ not_started) 2 (inr refl) (set_full _ _ _ empty_full) refl,
+    (record { faults = omega arith; obedient = refl; row = record { acts = record { kind = refl; acts = refl; state = refl }; names = refl; same = refl } }, not_started_legal),
   ),
 )

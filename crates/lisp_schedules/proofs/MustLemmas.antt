@@ -10,8 +10,8 @@ use Rattle.lisp_schedules.specs.declared.line.Line.{Line}
 use Rattle.lisp_schedules.specs.declared.line.Line.TheVariants as lines
 use Rattle.lisp_schedules.specs.declared.refusal.Refusal.TheVariants as refusals
 use Rattle.lisp_schedules.specs.Trace.{Happening, Step, Opening, shown, is_up, up_after}
-use Rattle.lisp_schedules.specs.Turn.{Turn, values, values_after, Saves, IsBase}
-use Rattle.lisp_etr.specs.Sending.{last_nonce, IsBound}
+use Rattle.lisp_schedules.specs.Turn.{Turn, values, values_after, Saves, IsBase, MaySave}
+use Rattle.lisp_etr.specs.Sending.{last_nonce}
 use Rattle.lisp_schedules.specs.Sending.{CountsFrom, pair_at, last_sent, last_sent_after, start_values, start_values_after}
 use Rattle.lisp_schedules.specs.Legal.{MayCome, Legal, LegalTrace, turn_of}
 use Rattle.lisp_schedules.proofs.ListLemmas.{at_head}
@@ -51,17 +51,17 @@ module _ (t : Turn) (was : is_up t.past t.node ≡ true → Reached (own_values 
   sent_reached r nonce is found = subst (λ b. Reached (own_values_after t) (if b then Some nonce else last_sent t.past t.node) (start_values t.opening t.past t.node)) (sym (ap (λ s. s == t.node) is ∙ same_number t.node))
       (λ base e. (found.0, found.1, subst (λ (b : Option ℕ). number b ≤ number found.0) (sym e) found.2))
 
-  saves_reached : (router nonce : ℕ) → t.node ≡ router → is_up t.past router ≡ true → (base : Option ℕ) → CountsFrom t.opening t.past router base → Saves t (pair_at t.opening t.past router) nonce last_nonce
+  saves_reached : (router nonce : ℕ) → t.node ≡ router → is_up t.past router ≡ true → (base : Option ℕ) → CountsFrom t.opening t.past router base → (bound : ℕ) → Saves t (pair_at t.opening t.past router) nonce bound
       → (v : Option ℕ) × Contains (own_values_after t) v × (nonce ≤ number v)
-  saves_reached router nonce is up base counts saves = subst (λ (n : ℕ). (v : Option ℕ) × Contains (values_after t (pair_at t.opening t.past n)) v × (nonce ≤ number v)) (sym is) (at saves.here)
+  saves_reached router nonce is up base counts bound saves = subst (λ (n : ℕ). (v : Option ℕ) × Contains (values_after t (pair_at t.opening t.past n)) v × (nonce ≤ number v)) (sym is) (at saves.here)
     where
       old : (v : Option ℕ) × Contains (values t (pair_at t.opening t.past router)) v × (number base ≤ number v)
       old = subst (λ (n : ℕ). (v : Option ℕ) × Contains (values t (pair_at t.opening t.past n)) v × (number base ≤ number v)) is
           (was (ap (is_up t.past) is ∙ up) base (subst (λ (n : ℕ). CountsFrom t.opening t.past n base) (sym is) counts))
 
-      at : (values_after t (pair_at t.opening t.past router) ≡ values t (pair_at t.opening t.past router)) ⊎ ((n : ℕ) × IsBound nonce last_nonce n × (values_after t (pair_at t.opening t.past router) ≡ Some n ∷ [])) → (v : Option ℕ) × Contains (values_after t (pair_at t.opening t.past router)) v × (nonce ≤ number v)
+      at : (values_after t (pair_at t.opening t.past router) ≡ values t (pair_at t.opening t.past router)) ⊎ ((values_after t (pair_at t.opening t.past router) ≡ Some bound ∷ []) × MaySave t) → (v : Option ℕ) × Contains (values_after t (pair_at t.opening t.past router)) v × (nonce ≤ number v)
       at (inl same) = let has = subst (λ (vs : List (Option ℕ)). Contains vs old.0) (sym same) old.1 in (old.0, has, saves.none_below old.0 has)
-      at (inr one) = let has = subst (λ (vs : List (Option ℕ)). Contains vs (Some one.0)) (sym one.2) (at_head (Some one.0) []) in (Some one.0, has, saves.none_below (Some one.0) has)
+      at (inr one) = let has = subst (λ (vs : List (Option ℕ)). Contains vs (Some bound)) (sym one.0) (at_head (Some bound) []) in (Some bound, has, saves.none_below (Some bound) has)
 
   -- the router starts
   starts_reached : (named : ℕ) → named ≡ t.node → (last : Option ℕ) → Reached (own_values_after t) (if named == t.node then None else last) (if named == t.node then own_values_after t else start_values t.opening t.past t.node)
@@ -77,7 +77,7 @@ module _ (t : Turn) (was : is_up t.past t.node ≡ true → Reached (own_values 
   after (events.Deliver k fate) (lines.Refused named (refusals.Start fault)) row left = absurd row.arrives
   after (events.Junk to from bytes) (lines.Refused named (refusals.Start fault)) row left = absurd row.arrives
   after e (lines.Refused named (refusals.Start fault)) row left = absurd row
-  after e (lines.Sent r s key nonce datagram) row left = λ up. sent_reached r nonce (left.2 ∙ sym left.3.acts.acts) (saves_reached left.0 nonce left.3.acts.acts left.3.acts.state left.3.base left.3.counts left.3.saves)
+  after e (lines.Sent r s key nonce datagram) row left = λ up. sent_reached r nonce (left.2 ∙ sym left.3.acts.acts) (saves_reached left.0 nonce left.3.acts.acts left.3.acts.state left.3.base left.3.counts _ left.3.saves)
   after e (lines.Restarted named) row left = λ up. starts_reached named left.0 (last_sent t.past t.node)
   after e line row left = later left
 

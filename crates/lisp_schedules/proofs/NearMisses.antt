@@ -1,13 +1,12 @@
 -- Steps that are illegal: near misses of the legal traces.
 use Rattle.std.proofs.Common.{◌≡◌, ℕ, true, false, List, [], ◌∷◌, length, Option, Some, None, Ok, refl, sym, ap, subst, inl, inr, ◌∙◌, arith}
-use Rattle.std.specs.Prelude.{◌^◌, ◌+◌, ◌-◌, ◌<◌, ◌≤◌, ◌⊎◌, slice_get, if◌then◌else◌, Result, Err}
+use Rattle.std.specs.Prelude.{◌++◌, ◌^◌, ◌+◌, ◌-◌, ◌<◌, ◌≤◌, ◌⊎◌, slice_get, if◌then◌else◌, Result, Err}
 use Rattle.std.specs.FinMap.{empty, insert}
 use Rattle.std.specs.List.{Contains}
 use Rattle.lisp_nonces.specs.declared.fate.Fate.TheVariants as fates
-use Rattle.lisp_nonces.specs.Kept.{Kept, kept_at, number}
-use Rattle.lisp_messages.specs.Message.{Registration, Registers}
+use Rattle.lisp_nonces.specs.Kept.{Kept, kept_at, number, picked}
+use Rattle.lisp_messages.specs.Message.{Registration, Registers, Said}
 use Rattle.lisp_etr.specs.Hearing.{Heard}
-use Rattle.lisp_etr.specs.Sending.{last_nonce, IsBound}
 use Rattle.lisp_etr.specs.declared.send_fault.SendFault.TheVariants as send_faults
 use Rattle.lisp_checks.specs.declared.refused.Refused.{Refused}
 use Rattle.lisp_etr.specs.declared.notify_fault.NotifyFault.{NotifyFault}
@@ -21,19 +20,20 @@ use Rattle.lisp_checks.specs.declared.refused.Refused.TheVariants as refuseds
 use Rattle.lisp_etr.specs.declared.start_fault.StartFault.TheVariants as start_faults
 use Rattle.lisp_nonces.specs.declared.fault.StoreFault.TheVariants as stores
 use Rattle.lisp_messages.specs.declared.fault.ReadFault.TheVariants as reads
-use Rattle.lisp_messages.specs.Reading.{kind_at}
+use Rattle.lisp_messages.specs.declared.fault.ReadFault.{ReadFault}
+use Rattle.lisp_messages.specs.Reading.{HasRecords, kind_at, message_at, records_at, register_at}
 use Rattle.lisp_schedules.specs.declared.event.Event.TheVariants as events
 use Rattle.lisp_schedules.specs.declared.line.Line.TheVariants as lines
 use Rattle.lisp_schedules.specs.declared.refusal.Refusal.TheVariants as refusals
-use Rattle.lisp_schedules.specs.Trace.{Step, Shown, node_at}
-use Rattle.lisp_schedules.specs.Bag.{Item, bytes_of, arrival_of, bag}
-use Rattle.lisp_schedules.specs.Turn.{Turn, values_after}
+use Rattle.lisp_schedules.specs.Trace.{Step, Shown, Opening, node_at}
+use Rattle.lisp_schedules.specs.Bag.{Item, bytes_of, arrival_of, bag, thrown}
+use Rattle.lisp_schedules.specs.Turn.{Turn, MaySave, values_after}
 use Rattle.lisp_schedules.specs.Hearing.{Hears}
-use Rattle.lisp_schedules.specs.Receiving.{IsFresh}
+use Rattle.lisp_schedules.specs.Receiving.{IsFresh, IsToAccept}
 use Rattle.lisp_schedules.specs.Legal.{Legal, turn_of}
 use Rattle.lisp_schedules.proofs.KeptLemmas.{kept_at-empty, only_value, set_here, set_others}
 use Rattle.lisp_schedules.proofs.ItemLemmas.{item_authentic, is_not_allowed}
-use Rattle.lisp_schedules.proofs.Samples.{opening, network, site, secret, local_at, one, wide, mapping, registers, sent_by, got_from, at, step, keeps, blank, sends, takes, replays, counts, ticks, tells, refuses, changes}
+use Rattle.lisp_schedules.proofs.Samples.{opening, network, site, secret, local_at, one, wide, mapping, registers, sent_by, got_from, at, step, keeps, blank, doubts, sends, takes, replays, counts, ticks, tells, refuses, changes}
 use Rattle.lisp_schedules.proofs.HeardLines.{counted_of}
 use Rattle.lisp_schedules.proofs.Steps.{told, heard_of, hears}
 use Rattle.lisp_schedules.proofs.LegalRows.{one_sent, one_taken, restarted, foreign, foreign_sent, strange_refused, sent_twice, waited, registered_again, told_and_gone, kinds_differ, not_started}
@@ -68,13 +68,12 @@ saved_far_ahead l = at l.row.2.saves.here
     shows : kept_at (insert empty (sent_by one) (Some 1025 ∷ [])) (sent_by one) ≡ Some 1025 ∷ []
     shows = set_here empty (sent_by one) (Some 1025 ∷ [])
 
-    at : (kept_at (insert empty (sent_by one) (Some 1025 ∷ [])) (sent_by one) ≡ kept_at empty (sent_by one)) ⊎ ((bound : ℕ) × IsBound 1 last_nonce bound × (kept_at (insert empty (sent_by one) (Some 1025 ∷ [])) (sent_by one) ≡ Some bound ∷ [])) → ⊥
+    at : (kept_at (insert empty (sent_by one) (Some 1025 ∷ [])) (sent_by one) ≡ kept_at empty (sent_by one)) ⊎ ((kept_at (insert empty (sent_by one) (Some 1025 ∷ [])) (sent_by one) ≡ Some 1 ∷ []) × MaySave (turn_of opening [] (step (events.Send 2 0 fates.Done) (lines.Sent 2 0 1 1 0) 2 (keeps blank (sent_by one) 1025)))) → ⊥
     at (inl same) = nothing_is_no_number (sym (kept_at-empty (sent_by one)) ∙ sym same ∙ shows)
     at (inr saved) =
-        let one_value : ◌≡◌ {A = List (Option ℕ)} (Some saved.0 ∷ []) (Some 1025 ∷ []) = sym saved.2 ∙ shows in
-        let bound : saved.0 ≡ 1025 = cc in
-        let near = saved.1.near in
-        absurd (omega (arith, near, bound))
+        let one_value : ◌≡◌ {A = List (Option ℕ)} (Some 1 ∷ []) (Some 1025 ∷ []) = sym saved.0 ∙ shows in
+        let bound : ◌≡◌ {A = ℕ} 1 1025 = cc in
+        absurd (omega (arith, bound))
 
 -- what an accepted datagram was
 record Takes (t : Turn) (k server : ℕ) (datagram : Option ℕ) (i : Item) (m : Registration) : Type 0 where
@@ -214,10 +213,58 @@ notices_not_spent l =
     let spent = l.row.3 in
     let kept = set_others blank.kept (got_from one) (Some 1 ∷ []) notice_pair (λ e. absurd (kinds_differ e)) ∙ kept_at-empty notice_pair in
     let base : spent.1 ≡ None = only_value None spent.1 (subst (λ (vs : List (Option ℕ)). Contains vs spent.1) kept spent.2) in
-    let high : 2 ^ 64 - 1 ≤ number None = subst (λ (b : Option ℕ). 2 ^ 64 - 1 ≤ number b) base spent.3 in
+    let high : 2 ^ 64 - 1 ≤ number None = subst (λ (b : Option ℕ). 2 ^ 64 - 1 ≤ number b) base spent.4 in
     absurd (omega (arith, high))
 
 -- memory runs out for bytes whose head can't be read
 no_memory_for_no_head : Legal opening [] (refuses [] (events.Junk 0 (local_at 21) []) 0 (refusals.Receive refuseds.OutOfMemory)) → ⊥
 unfolding kind_at
 no_memory_for_no_head l = l.row.arrives.1.0 reads.Short refl
+
+-- stores that do what they are armed with
+abbrev obeys : Shown
+obeys = record { kept = empty; faults = 0; is_obedient = true }
+
+abbrev obedient : Opening
+obedient = record { config = network; stores = obeys ∷ obeys ∷ obeys ∷ obeys ∷ [] }
+
+-- a save is answered though the event asks for doubt
+saved_in_doubt : Legal obedient [] (step (events.Send 2 0 fates.Doubt) (lines.Sent 2 0 1 1 0) 2 (keeps obeys (sent_by one) 1)) → ⊥
+saved_in_doubt l = at l.row.2.saves.here
+  where
+    at : (kept_at (insert empty (sent_by one) (Some 1 ∷ [])) (sent_by one) ≡ kept_at empty (sent_by one)) ⊎ ((kept_at (insert empty (sent_by one) (Some 1 ∷ [])) (sent_by one) ≡ Some 1 ∷ []) × MaySave (turn_of obedient [] (step (events.Send 2 0 fates.Doubt) (lines.Sent 2 0 1 1 0) 2 (keeps obeys (sent_by one) 1)))) → ⊥
+    at (inl same) = nothing_is_no_number (sym (kept_at-empty (sent_by one)) ∙ sym same ∙ set_here empty (sent_by one) (Some 1 ∷ []))
+    at (inr saved) = saved.1 refl refl
+
+-- a save fails though the event asks for nothing
+failed_unasked : Legal obedient [] (step (events.Send 2 0 fates.Done) (lines.Refused 2 (refusals.Send (send_faults.Store stores.Device))) 2 (doubts obeys (sent_by one) 1)) → ⊥
+failed_unasked l = let clash : fates.Done ≡ fates.Doubt = l.row.3.1.fails.may (λ e. let other : stores.Device ≡ stores.OutOfMemory = e in absurd cc) refl in absurd cc
+
+-- a store is another one after its call
+other_store : Legal obedient [] (step (events.Change 2 []) (lines.Changed 2 0) 2 blank) → ⊥
+other_store l = let clash : false ≡ true = l.obedient in absurd cc
+
+-- a restart leaves another value than the one that is picked
+abbrev in_doubt : List Step
+in_doubt = step (events.Send 2 0 fates.Doubt) (lines.Refused 2 (refusals.Send (send_faults.Store stores.Device))) 2 (doubts obeys (sent_by one) 1) ∷ []
+
+other_picked : Legal obedient in_doubt (step (events.Restart 2 1 None) (lines.Restarted 2) 2 (record { kept = insert (doubts obeys (sent_by one) 1).kept (sent_by one) (None ∷ []); faults = 1; is_obedient = true })) → ⊥
+other_picked l =
+    let before : kept_at (doubts obeys (sent_by one) 1).kept (sent_by one) ≡ None ∷ Some 1 ∷ [] = set_here empty (sent_by one) (kept_at empty (sent_by one) ++ Some 1 ∷ []) ∙ ap (λ (vs : List (Option ℕ)). vs ++ Some 1 ∷ []) (kept_at-empty (sent_by one)) in
+    let after : ◌≡◌ {A = List (Option ℕ)} (None ∷ []) (Some 1 ∷ []) = sym (set_here (doubts obeys (sent_by one) 1).kept (sent_by one) (None ∷ [])) ∙ l.row.picks refl (sent_by one) ∙ ap (λ (vs : List (Option ℕ)). picked vs 1 ∷ []) before in
+    nothing_is_no_number after
+
+-- memory runs out for a message without records that isn't accepted: 32 bytes with bit I clear
+abbrev bare : List ℕ
+bare = 48 ∷ 0 ∷ 0 ∷ 0 ∷ 0 ∷ 0 ∷ 0 ∷ 0 ∷ 0 ∷ 0 ∷ 0 ∷ 1 ∷ 1 ∷ 2 ∷ 0 ∷ 16 ∷ 0 ∷ 0 ∷ 0 ∷ 0 ∷ 0 ∷ 0 ∷ 0 ∷ 0 ∷ 0 ∷ 0 ∷ 0 ∷ 0 ∷ 0 ∷ 0 ∷ 0 ∷ 0 ∷ []
+
+bare_read : message_at bare ≡ Err reads.NoIds
+unfolding message_at kind_at records_at register_at
+bare_read = refl
+
+no_memory_for_no_records : Legal opening [] (refuses [] (events.Junk 0 (local_at 21) bare) 0 (refusals.Receive refuseds.OutOfMemory)) → ⊥
+no_memory_for_no_records l = by l.row.arrives.1.1
+  where
+    by : HasRecords bare ⊎ IsToAccept (turn_of opening [] (refuses [] (events.Junk 0 (local_at 21) bare) 0 (refusals.Receive refuseds.OutOfMemory))) (thrown (local_at 21) bare) → ⊥
+    by (inl records) = absurd (omega (arith, records))
+    by (inr accepts) = absurd (let clash : ◌≡◌ {A = Result Said ReadFault} (Err reads.NoIds) (Ok (Registers accepts.message)) = sym bare_read ∙ accepts.admits.read in cc)

@@ -127,7 +127,7 @@ module _ (t : Turn) (nonces : List ℕ) (safe : NoticeSafe nonces (last_notice t
   message_safe : (a : Arrival) (why : Refused) → RefusesMessage t a why → Stays
   message_safe a (refuseds.StoreLoad fault) row = quiet row.fails.same
   message_safe a (refuseds.Replay saved) row = quiet row.same
-  message_safe a refuseds.OutOfMemory row = quiet row.1
+  message_safe a refuseds.OutOfMemory row = quiet row.2
   message_safe a (refuseds.StoreSave fault) row = stays (row.fails.others notice_pair (not_received _ refl))
   message_safe a _ row = quiet row.1
 
@@ -135,7 +135,7 @@ module _ (t : Turn) (nonces : List ℕ) (safe : NoticeSafe nonces (last_notice t
   tells_safe router announcements.NotRegistered row = quiet row.1
   tells_safe router announcements.TooLarge row = quiet row.3
   tells_safe router (announcements.StoreLoad fault) row = quiet row.2.same
-  tells_safe router announcements.NonceSpent row = quiet row.4
+  tells_safe router announcements.NonceSpent row = quiet row.5
   tells_safe router announcements.OutOfMemory row = quiet row.2
   tells_safe router (announcements.StoreSave fault) row = doubts nonces (last_notice t.past t.node) (values t notice_pair) safe row.0 row.1.counts (values_after t notice_pair) row.2.here
   tells_safe router announcements.NotDue row = absurd row

@@ -1,9 +1,10 @@
 -- What a legal step leaves of the values that a router's store keeps for its own nonces.
-use Rattle.std.proofs.Common.{arith, ◌≡◌, ℕ, ◌<◌, List, Option, refl, sym, ap, subst, inl, inr, ◌∙◌}
+use Rattle.std.proofs.Common.{arith, ◌≡◌, ℕ, ◌+◌, ◌<◌, ◌≤◌, List, Option, refl, sym, ap, subst, inl, inr, ◌∙◌}
 use Rattle.std.specs.Prelude.{◌≢◌, ◌⊎◌}
 use Rattle.lisp_nonces.specs.declared.pair.Pair.{Pair}
 use Rattle.lisp_nonces.specs.declared.pair.PairKind.TheVariants as kinds
 use Rattle.lisp_nonces.specs.Kept.{Kept, kept_at, number, InDoubt, Narrows}
+use Rattle.lisp_etr.specs.Sending.{last_nonce, block_end}
 use Rattle.lisp_etr.specs.declared.send_fault.SendFault.{SendFault}
 use Rattle.lisp_etr.specs.declared.send_fault.SendFault.TheVariants as sends
 use Rattle.lisp_checks.specs.declared.refused.Refused.{Refused}
@@ -15,7 +16,7 @@ use Rattle.lisp_schedules.specs.declared.event.Event.TheVariants as events
 use Rattle.lisp_schedules.specs.declared.line.Line.{Line}
 use Rattle.lisp_schedules.specs.declared.line.Line.TheVariants as lines
 use Rattle.lisp_schedules.specs.declared.refusal.Refusal.TheVariants as refusals
-use Rattle.lisp_schedules.specs.Trace.{Happening, Shown}
+use Rattle.lisp_schedules.specs.Trace.{Happening, Shown, settings}
 use Rattle.lisp_schedules.specs.Bag.{Arrival, arrival_of, thrown}
 use Rattle.lisp_schedules.specs.Turn.{Turn, values, values_after, Same}
 use Rattle.lisp_schedules.specs.Sending.{CountsFrom, IsSent, pair_at, RefusesToSend}
@@ -54,6 +55,10 @@ received_clash e = absurd cc
 notice_clash : kinds.Sent ≢ kinds.Notice
 notice_clash e = absurd cc
 
+-- the end of a block isn't below its first nonce
+block_least : (nonce block : ℕ) → nonce ≤ last_nonce → nonce ≤ block_end nonce block
+block_least nonce block low = omega (arith, low)
+
 module _ (t : Turn) where
   not_received : (p : Pair) → p.kind ≡ kinds.Received → pair_at t.opening t.past t.node ≢ p
   not_received p is e = received_clash (ap (λ (x : Pair). x.kind) e ∙ is)
@@ -74,15 +79,15 @@ module _ (t : Turn) where
   send_refused router server (sends.Store fault) is row = inr (record {
     base = row.1.base;
     counts = subst (λ (n : ℕ). CountsFrom t.opening t.past n row.1.base) (sym is) row.1.counts;
-    nonce = row.1.bound;
-    above = (let least = row.1.fits.least in omega (arith, least));
-    doubt = subst (λ (n : ℕ). InDoubt (values t (pair_at t.opening t.past n)) (values_after t (pair_at t.opening t.past n)) row.1.bound) (sym is) row.1.fails.here;
+    nonce = block_end (number row.1.base + 1) (settings t.opening t.past router).nonce_block;
+    above = (let least = block_least (number row.1.base + 1) (settings t.opening t.past router).nonce_block (let left = row.1.left in omega (arith, left)) in omega (arith, least));
+    doubt = subst (λ (n : ℕ). InDoubt (values t (pair_at t.opening t.past n)) (values_after t (pair_at t.opening t.past n)) (block_end (number row.1.base + 1) (settings t.opening t.past router).nonce_block)) (sym is) row.1.fails.here;
   })
 
   message_refused : (a : Arrival) (why : Refused) → RefusesMessage t a why → Stays t
   message_refused a (refuseds.StoreLoad fault) row = quiet row.fails.same
   message_refused a (refuseds.Replay saved) row = quiet row.same
-  message_refused a refuseds.OutOfMemory row = quiet row.1
+  message_refused a refuseds.OutOfMemory row = quiet row.2
   message_refused a (refuseds.StoreSave fault) row = inl (row.fails.others (pair_at t.opening t.past t.node) (not_received _ refl))
   message_refused a _ row = quiet row.1
 
@@ -90,7 +95,7 @@ module _ (t : Turn) where
   notice_refused router notices.NotRegistered row = quiet row.1
   notice_refused router notices.TooLarge row = quiet row.3
   notice_refused router (notices.StoreLoad fault) row = quiet row.2.same
-  notice_refused router notices.NonceSpent row = quiet row.4
+  notice_refused router notices.NonceSpent row = quiet row.5
   notice_refused router notices.OutOfMemory row = quiet row.2
   notice_refused router (notices.StoreSave fault) row = inl (row.2.others (pair_at t.opening t.past t.node) not_notice)
   notice_refused router notices.NotDue row = absurd row

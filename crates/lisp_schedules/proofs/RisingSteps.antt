@@ -77,7 +77,7 @@ module _ (t : Turn) (q : Pair) (kind : q.kind ≡ kinds.Received) (acc : List Ac
   tells_safe router announcements.NotRegistered row = quiet row.1
   tells_safe router announcements.TooLarge row = quiet row.3
   tells_safe router (announcements.StoreLoad fault) row = quiet row.2.same
-  tells_safe router announcements.NonceSpent row = quiet row.4
+  tells_safe router announcements.NonceSpent row = quiet row.5
   tells_safe router announcements.OutOfMemory row = quiet row.2
   tells_safe router (announcements.StoreSave fault) row = stays (row.2.others q not_notice)
   tells_safe router announcements.NotDue row = absurd row
@@ -122,7 +122,7 @@ module _ (t : Turn) (q : Pair) (kind : q.kind ≡ kinds.Received) (acc : List Ac
   message_safe : (a : Arrival) (now node : ℕ) (why : Refused) → t.node ≡ node → RefusesMessage t a why → After (taken (Some a) now) (lines.Refused node (refusals.Receive why))
   message_safe a now node (refuseds.StoreLoad fault) is row = quiet row.fails.same
   message_safe a now node (refuseds.Replay saved) is row = quiet row.same
-  message_safe a now node refuseds.OutOfMemory is row = quiet row.1
+  message_safe a now node refuseds.OutOfMemory is row = quiet row.2
   message_safe a now node (refuseds.StoreSave fault) is row = tried_line node (taken (Some a) now) is (subst (λ (new : List Acceptance). Safe q acc (since t.opening t.past t.node) (nonces_of q new ++ old) (values_after t q)) (sym (taken_one a now row.message row.admits.read))
       (doubts_safe a row.message row.admits.read row.fresh now row.fails.here row.fails.others (eq_by_cmp pair_cmp q (pair_of row.message)) refl))
   message_safe a now node _ is row = quiet row.1

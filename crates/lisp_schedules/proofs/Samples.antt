@@ -70,9 +70,9 @@ network = record {
       ∷ record { name = 4 ∷ []; address = local_at 22; me = two; key_id = 1; servers = 0 ∷ []; proxy = false; use_ttl = false; nonce_block = 1; database = mapping narrow 1440 ∷ [] } ∷ [];
 }
 
--- stores that keep nothing
+-- stores that keep nothing, and do as they like
 abbrev pub blank : Shown
-blank = record { kept = empty; faults = 0 }
+blank = record { kept = empty; faults = 0; is_obedient = false }
 
 abbrev pub opening : Opening
 opening = record { config = network; stores = blank ∷ blank ∷ blank ∷ blank ∷ [] }
@@ -127,7 +127,7 @@ restarts T node = step (events.Restart node 0 None) (lines.Restarted node) node 
 
 -- a save is in doubt: the store keeps one more value
 abbrev pub doubts : Shown → Pair → ℕ → Shown
-doubts s pair nonce = record { kept = insert s.kept pair (kept_at s.kept pair ++ Some nonce ∷ []); faults = s.faults + 1 }
+doubts s pair nonce = record s { kept = insert s.kept pair (kept_at s.kept pair ++ Some nonce ∷ []); faults = s.faults + 1 }
 
 -- a load failed
 abbrev pub failed : Shown → Shown
@@ -144,7 +144,7 @@ fails_load T k server = step (events.Deliver k fates.LoadFails) (lines.Refused s
 
 -- a node restarts, and of the values of a pair one is left
 abbrev pub restarts_to : List Step → ℕ → Pair → Option ℕ → Step
-restarts_to T node pair v = step (events.Restart node 0 None) (lines.Restarted node) node (record { kept = insert (at T node).kept pair (v ∷ []); faults = (at T node).faults })
+restarts_to T node pair v = step (events.Restart node 0 None) (lines.Restarted node) node (record (at T node) { kept = insert (at T node).kept pair (v ∷ []) })
 
 -- the first server tells the first router what it holds; again; the router answers; the answer arrives
 abbrev pub tells : List Step → ℕ → ℕ → Step

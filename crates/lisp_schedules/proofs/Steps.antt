@@ -1,5 +1,5 @@
 -- Legal steps of the small network.
-use Rattle.std.proofs.Common.{rules, ◌≡◌, ℕ, ◌+◌, ◌≤◌, Bool, true, false, List, [], ◌∷◌, length, Option, Some, None, Ok, refl, sym, ap, subst, inl, inr, arith}
+use Rattle.std.proofs.Common.{true≢false, ◌∙◌, rules, ◌≡◌, ℕ, ◌+◌, ◌≤◌, Bool, true, false, List, [], ◌∷◌, length, Option, Some, None, Ok, refl, sym, ap, subst, inl, inr, arith}
 use Rattle.std.specs.Prelude.{◌≢◌, ◌⊎◌, ◌-◌, ◌<◌, ◌^◌, slice_get, nat_le, ok_or}
 use Rattle.std.specs.List.{Contains}
 use Rattle.std.proofs.lemmas.Bool.{leb-true, le-leb}
@@ -9,6 +9,7 @@ use Rattle.lisp_records.specs.Record.{Mapping}
 use Rattle.lisp_nonces.specs.Kept.{kept_at, number}
 use Rattle.lisp_nonces.specs.declared.pair.Pair.{Pair}
 use Rattle.lisp_nonces.specs.declared.fate.Fate.TheVariants as fates
+use Rattle.lisp_nonces.specs.declared.fault.StoreFault.TheVariants as stores
 use Rattle.lisp_records.specs.Database.{database_of, repeats as repeats_in}
 use Rattle.lisp_records.specs.Written.{written}
 use Rattle.lisp_checks.specs.declared.refused.Refused.TheVariants as refuseds
@@ -22,14 +23,14 @@ use Rattle.lisp_checks.specs.Checks.{secret_under, first_not_allowed}
 use Rattle.lisp_etr.specs.declared.notify_fault.NotifyFault.TheVariants.{NotMine, BadAuth}
 use Rattle.lisp_records.specs.Result.{◌>>=◌}
 use Rattle.lisp_etr.specs.Hearing.{check, checked, Heard, first_notice, is_latest}
-use Rattle.lisp_etr.specs.Sending.{last_nonce, IsBound}
+use Rattle.lisp_etr.specs.Sending.{last_nonce, block_end}
 use Rattle.lisp_records.specs.declared.address.Addr.{Addr}
 use Rattle.lisp_schedules.specs.Trace.{Step, clock, is_up, is_server, is_router, is_listed, node_at, database}
 use Rattle.lisp_schedules.specs.Held.{Acceptance, last_of, heard_last, records_of}
 use Rattle.lisp_schedules.specs.Timers.{Notice, notice_to, is_due, last_notice}
 use Rattle.lisp_schedules.specs.Bag.{Item, bytes_of, arrival_of, bag, since}
 use Rattle.lisp_schedules.specs.Counted.{heard, server_from, latest}
-use Rattle.lisp_schedules.specs.Turn.{IsBase}
+use Rattle.lisp_schedules.specs.Turn.{IsBase, Saves, SaveFails}
 use Rattle.lisp_schedules.specs.Sending.{CountsFrom}
 use Rattle.lisp_schedules.specs.Receiving.{FailsCheck, awaiting}
 use Rattle.lisp_schedules.specs.Legal.{Legal, turn_of}
@@ -37,6 +38,10 @@ use Rattle.lisp_schedules.proofs.KeptLemmas.{set_here, set_others, IsFull, stays
 use Rattle.lisp_schedules.proofs.TurnLemmas.{saved, in_doubt}
 use Rattle.lisp_schedules.proofs.ItemLemmas.{item_authentic, passes, is_not_allowed}
 use Rattle.lisp_schedules.proofs.Samples.{opening, network, site, secret, one, wide, mapping, registers, sent_by, got_from, local_at, at, sends, takes, replays, counts, changes, ticks, restarts, doubts_send, doubts_take, fails_load, restarts_to, tells, repeats, notices, ends, refuses}
+
+-- a router that saves each nonce by itself
+block_of_one : (nonce : ℕ) → nonce ≤ last_nonce → block_end nonce 1 ≡ nonce
+block_of_one nonce low = omega (arith, low)
 
 -- messages of a few records fit
 pub fits : (db : List Mapping) (nonce : ℕ) → nonce < 2 ^ 64 → AreRecords db → IsRegistration (registers db nonce)
@@ -53,6 +58,7 @@ pub sends_legal : (T : List Step) (server nonce datagram : ℕ) (base : Option �
     → AreRecords (database opening T 2) → datagram ≡ length (bag opening T) → Legal opening T (sends T server nonce datagram)
 sends_legal T server nonce datagram base up kind listed counts next low records place = record {
   faults = omega arith;
+  obedient = refl;
   row = (
     refl,
     refl,
@@ -67,7 +73,7 @@ sends_legal T server nonce datagram base up kind listed counts next low records 
       within = omega (arith, low);
       message = fits (database opening T 2) nonce (omega (arith, low)) records;
       place = place;
-      saves = saved _ (sent_by one) nonce last_nonce (omega (arith, low)) refl;
+      saves = subst (Saves _ (sent_by one) nonce) (sym (block_of_one nonce (omega (arith, low)))) (saved _ (sent_by one) nonce (λ obeys clash. absurd cc) refl);
     },
   );
 }
@@ -81,6 +87,7 @@ pub takes_legal : (T : List Step) (k server nonce datagram : ℕ) (i : Item) (db
     → IsBase (last_of (got_from one) (since opening T server)) (kept_at (at T server).kept (got_from one)) base → IsBelow base nonce → datagram ≡ length (bag opening T) → Legal opening T (takes T k server nonce datagram)
 takes_legal T k server nonce datagram i db base sent there kind says key allowed counts below place = record {
   faults = omega arith;
+  obedient = refl;
   row = record {
     item = i;
     sent = sent;
@@ -92,7 +99,8 @@ takes_legal T k server nonce datagram i db base sent there kind says key allowed
       who = refl;
       under = refl;
       number = refl;
-      fresh = record { base = base; counts = counts; above = below };
+      fresh = record { base = base; counts = counts; above = below; loads = λ none obeys clash. absurd cc };
+      may = λ obeys clash. absurd cc;
       kept = set_here (at T server).kept (got_from one) (Some nonce ∷ []);
       others = set_others (at T server).kept (got_from one) (Some nonce ∷ []);
       reply = ap Some place;
@@ -105,6 +113,7 @@ pub replays_legal : (T : List Step) (k server nonce saved : ℕ) (i : Item) (db 
     → IsBase (last_of (got_from one) (since opening T server)) (kept_at (at T server).kept (got_from one)) (Some saved) → nonce ≤ saved → Legal opening T (replays T k server saved)
 replays_legal T k server nonce saved i db sent there kind says key allowed counts stale = record {
   faults = omega arith;
+  obedient = refl;
   row = record {
     item = i;
     sent = sent;
@@ -115,6 +124,7 @@ replays_legal T k server nonce saved i db sent there kind says key allowed count
         message = registers db nonce;
         admits = record { read = ap Ok says; secret = secret; checks = admitted i db nonce key allowed };
         counts = counts;
+        loads = λ none obeys clash. absurd cc;
         stale = stale;
         same = refl;
       },
@@ -150,6 +160,7 @@ pub counts_legal : (T : List Step) (k server nonce : ℕ) (from : Addr) (records
     → server_from network 2 from ≡ Some server → nonce < first_notice → is_latest nonce (latest T 2 server) ≡ true → Legal opening T (counts T k server nonce)
 counts_legal T k server nonce from records up sent is low last = record {
   faults = omega arith;
+  obedient = refl;
   row = record {
     item = told from (local_at 21) nonce records;
     sent = sent;
@@ -159,23 +170,25 @@ counts_legal T k server nonce from records up sent is low last = record {
 }
 
 pub changes_legal : (T : List Step) (db : List Mapping) → database_of db ≡ Ok db → is_up T 2 ≡ true → Legal opening T (changes T db)
-changes_legal T db fits up = record { faults = omega arith; row = record { acts = record { kind = refl; acts = refl; state = up }; names = refl; fits = fits; count = refl; same = refl } }
+changes_legal T db fits up = record { faults = omega arith; obedient = refl; row = record { acts = record { kind = refl; acts = refl; state = up }; names = refl; fits = fits; count = refl; same = refl } }
 
 pub ticks_legal : (T : List Step) (ms now : ℕ) → now ≡ clock T + ms → now ≤ max_moment → Legal opening T (ticks T ms now)
-ticks_legal T ms now is low = record { faults = omega arith; row = record { names = refl; clock = is; bound = low; idle = record { server = refl; router = refl; same = refl } } }
+ticks_legal T ms now is low = record { faults = omega arith; obedient = refl; row = record { names = refl; clock = is; bound = low; idle = record { server = refl; router = refl; same = refl } } }
 
-pub doubts_send_legal : (T : List Step) (server nonce : ℕ) (base : Option ℕ) → is_up T 2 ≡ true → is_server network server ≡ true → is_listed network 2 server ≡ true → CountsFrom opening T 2 base → IsBound (number base + 1) last_nonce nonce
-    → Legal opening T (doubts_send T server nonce)
-doubts_send_legal T server nonce base up kind listed counts fits = record {
+pub doubts_send_legal : (T : List Step) (server : ℕ) (base : Option ℕ) → is_up T 2 ≡ true → is_server network server ≡ true → is_listed network 2 server ≡ true → CountsFrom opening T 2 base → number base < last_nonce → (at T 2).is_obedient ≡ false
+    → Legal opening T (doubts_send T server (number base + 1))
+doubts_send_legal T server base up kind listed counted left unbound = record {
   faults = omega arith;
-  row = (refl, kind, record { kind = refl; acts = refl; state = up }, (listed, record { base = base; counts = counts; bound = nonce; fits = fits; fails = in_doubt _ (sent_by one) nonce refl (omega arith) }));
+  obedient = refl;
+  row = (refl, kind, record { kind = refl; acts = refl; state = up }, (listed, record { base = base; counts = counted; left = left; fails = subst (λ (n : ℕ). SaveFails (turn_of opening T (doubts_send T server (number base + 1))) (sent_by one) n stores.Device) (sym (block_of_one (number base + 1) (omega (arith, left)))) (in_doubt (turn_of opening T (doubts_send T server (number base + 1))) (sent_by one) (number base + 1) unbound refl (omega arith)) }));
 }
 
 pub doubts_take_legal : (T : List Step) (k server nonce : ℕ) (i : Item) (db : List Mapping) (base : Option ℕ) → slice_get (bag opening T) k ≡ Some i → node_at network i.to ≡ Some server → is_server network server ≡ true
     → i.message ≡ Registers (registers db nonce) → i.secret ≡ secret → first_not_allowed site db ≡ None
-    → IsBase (last_of (got_from one) (since opening T server)) (kept_at (at T server).kept (got_from one)) base → IsBelow base nonce → Legal opening T (doubts_take T k server nonce)
-doubts_take_legal T k server nonce i db base sent there kind says key allowed counts below = record {
+    → IsBase (last_of (got_from one) (since opening T server)) (kept_at (at T server).kept (got_from one)) base → IsBelow base nonce → (at T server).is_obedient ≡ false → Legal opening T (doubts_take T k server nonce)
+doubts_take_legal T k server nonce i db base sent there kind says key allowed counts below unbound = record {
   faults = omega arith;
+  obedient = refl;
   row = record {
     item = i;
     sent = sent;
@@ -185,8 +198,8 @@ doubts_take_legal T k server nonce i db base sent there kind says key allowed co
       record {
         message = registers db nonce;
         admits = record { read = ap Ok says; secret = secret; checks = admitted i db nonce key allowed };
-        fresh = record { base = base; counts = counts; above = below };
-        fails = in_doubt _ (got_from one) nonce refl (omega arith);
+        fresh = record { base = base; counts = counts; above = below; loads = λ none obeys clash. absurd cc };
+        fails = in_doubt _ (got_from one) nonce unbound refl (omega arith);
       },
     );
   };
@@ -196,6 +209,7 @@ pub fails_load_legal : (T : List Step) (k server nonce : ℕ) (i : Item) (db : L
     → i.message ≡ Registers (registers db nonce) → i.secret ≡ secret → first_not_allowed site db ≡ None → last_of (got_from one) (since opening T server) ≡ None → Legal opening T (fails_load T k server)
 fails_load_legal T k server nonce i db sent there kind says key allowed unknown = record {
   faults = omega arith;
+  obedient = refl;
   row = record {
     item = i;
     sent = sent;
@@ -206,7 +220,7 @@ fails_load_legal T k server nonce i db sent there kind says key allowed unknown 
         message = registers db nonce;
         admits = record { read = ap Ok says; secret = secret; checks = admitted i db nonce key allowed };
         unknown = unknown;
-        fails = record { same = refl; cause = λ other. inl (omega arith) };
+        fails = record { same = refl; cause = λ other. inl (omega arith); may = λ other obeys. refl };
       },
     );
   };
@@ -217,6 +231,7 @@ pub refuses_record : (T : List Step) (k server nonce place : ℕ) (i : Item) (db
     → i.message ≡ Registers (registers db nonce) → i.secret ≡ secret → first_not_allowed site db ≡ Some place → Legal opening T (refuses T (events.Deliver k fates.Done) server (refusals.Receive (refuseds.NotAllowed place)))
 refuses_record T k server nonce place i db sent there kind says key bad = record {
   faults = omega arith;
+  obedient = refl;
   row = record {
     item = i;
     sent = sent;
@@ -232,13 +247,13 @@ refuses_record T k server nonce place i db sent there kind says key bad = record
   };
 }
 
-pub restarts_legal : (T : List Step) (node : ℕ) → ((is_server network node ≡ true) ⊎ (is_router network node ≡ true)) → IsFull (at T node).kept → Legal opening T (restarts T node)
-restarts_legal T node (inl server) full = record { faults = omega arith; row = record { names = refl; acts = refl; kind = inl (server, refl); fits = tt; narrows = stays (at T node).kept full } }
-restarts_legal T node (inr router) full = record { faults = omega arith; row = record { names = refl; acts = refl; kind = inr router; fits = tt; narrows = stays (at T node).kept full } }
+pub restarts_legal : (T : List Step) (node : ℕ) → ((is_server network node ≡ true) ⊎ (is_router network node ≡ true)) → IsFull (at T node).kept → (at T node).is_obedient ≡ false → Legal opening T (restarts T node)
+restarts_legal T node (inl server) full unbound = record { faults = omega arith; obedient = refl; row = record { names = refl; acts = refl; kind = inl (server, refl); fits = tt; narrows = stays (at T node).kept full; picks = λ obeys. absurd (true≢false (sym obeys ∙ unbound)) } }
+restarts_legal T node (inr router) full unbound = record { faults = omega arith; obedient = refl; row = record { names = refl; acts = refl; kind = inr router; fits = tt; narrows = stays (at T node).kept full; picks = λ obeys. absurd (true≢false (sym obeys ∙ unbound)) } }
 
-pub restarts_to_legal : (T : List Step) (node : ℕ) (pair : Pair) (v : Option ℕ) → ((is_server network node ≡ true) ⊎ (is_router network node ≡ true)) → Contains (kept_at (at T node).kept pair) v → IsFull (at T node).kept → Legal opening T (restarts_to T node pair v)
-restarts_to_legal T node pair v (inl server) has full = record { faults = omega arith; row = record { names = refl; acts = refl; kind = inl (server, refl); fits = tt; narrows = narrows (at T node).kept pair v has full } }
-restarts_to_legal T node pair v (inr router) has full = record { faults = omega arith; row = record { names = refl; acts = refl; kind = inr router; fits = tt; narrows = narrows (at T node).kept pair v has full } }
+pub restarts_to_legal : (T : List Step) (node : ℕ) (pair : Pair) (v : Option ℕ) → ((is_server network node ≡ true) ⊎ (is_router network node ≡ true)) → Contains (kept_at (at T node).kept pair) v → IsFull (at T node).kept → (at T node).is_obedient ≡ false → Legal opening T (restarts_to T node pair v)
+restarts_to_legal T node pair v (inl server) has full unbound = record { faults = omega arith; obedient = refl; row = record { names = refl; acts = refl; kind = inl (server, refl); fits = tt; narrows = narrows (at T node).kept pair v has full; picks = λ obeys. absurd (true≢false (sym obeys ∙ unbound)) } }
+restarts_to_legal T node pair v (inr router) has full unbound = record { faults = omega arith; obedient = refl; row = record { names = refl; acts = refl; kind = inr router; fits = tt; narrows = narrows (at T node).kept pair v has full; picks = λ obeys. absurd (true≢false (sym obeys ∙ unbound)) } }
 
 -- the record of the first router, told
 wide_fits : database_of (mapping wide 1440 ∷ []) ≡ Ok (mapping wide 1440 ∷ [])
@@ -252,6 +267,7 @@ pub tells_legal : (T : List Step) (nonce datagram : ℕ) (last : Acceptance) (ba
     → IsBase (last_notice T 0) (kept_at (at T 0).kept notice_pair) base → nonce ≡ nonce_after base → nonce < 2 ^ 64 → datagram ≡ length (bag opening T) → Legal opening T (tells T nonce datagram)
 tells_legal T nonce datagram last base held heard key counts next bound place = record {
   faults = omega arith;
+  obedient = refl;
   row = (
     refl,
     refl,
@@ -264,20 +280,22 @@ tells_legal T nonce datagram last base held heard key counts next bound place = 
       under = sym key;
       base = base;
       counts = counts;
+      loads = λ none obeys clash. absurd cc;
       next = next;
       bound = bound;
       place = place;
-      saves = saved _ notice_pair nonce (2 ^ 64 - 1) (omega (arith, bound)) refl;
+      saves = saved _ notice_pair nonce (λ obeys clash. absurd cc) refl;
     },
   );
 }
 
 pub repeats_legal : (T : List Step) (datagram : ℕ) → is_due (notice_to opening T 0 one) (clock T) ≡ true → datagram ≡ length (bag opening T) → Legal opening T (repeats T datagram)
-repeats_legal T datagram due place = record { faults = omega arith; row = (refl, refl, record { acts = record { kind = refl; acts = refl }; kind = refl; due = due; place = place; same = refl }) }
+repeats_legal T datagram due place = record { faults = omega arith; obedient = refl; row = (refl, refl, record { acts = record { kind = refl; acts = refl }; kind = refl; due = due; place = place; same = refl }) }
 
 pub notices_legal : (T : List Step) (k nonce datagram : ℕ) (records : List Mapping) → is_up T 2 ≡ true → slice_get (bag opening T) k ≡ Some (told (local_at 11) (local_at 21) nonce records) → first_notice ≤ nonce → datagram ≡ length (bag opening T) → Legal opening T (notices T k nonce datagram)
 notices_legal T k nonce datagram records up sent high place = record {
   faults = omega arith;
+  obedient = refl;
   row = record {
     item = told (local_at 11) (local_at 21) nonce records;
     sent = sent;
@@ -294,6 +312,7 @@ pub ends_legal : (T : List Step) (k nonce : ℕ) (records : List Mapping) (n : N
     → awaiting (turn_of opening T (ends T k nonce)) (local_at 21) (record { ack = true; nonce = nonce; key_id = 1; records = records }) ≡ Some n → n.router ≡ one → n.key ≡ 1 → nonce ≡ n.nonce → Legal opening T (ends T k nonce)
 ends_legal T k nonce records n sent stands router key number = record {
   faults = omega arith;
+  obedient = refl;
   row = record {
     item = answered nonce records;
     sent = sent;

@@ -1,5 +1,5 @@
 -- Turns whose store was set at one pair.
-use Rattle.std.proofs.Common.{◌≡◌, ℕ, ◌≤◌, List, [], ◌∷◌, Option, Some, None, refl, sym, ap, subst, inl, inr, ◌∙◌, arith}
+use Rattle.std.proofs.Common.{true≢false, false, ◌≡◌, ℕ, ◌≤◌, List, [], ◌∷◌, Option, Some, None, refl, sym, ap, subst, inl, inr, ◌∙◌, arith}
 use Rattle.std.specs.Prelude.{◌≢◌, ◌<◌, ◌++◌}
 use Rattle.std.proofs.lemmas.List.Elements.{Contains-append_left, Contains-append_right}
 use Rattle.lisp_nonces.specs.declared.fault.StoreFault.TheVariants as faults
@@ -7,7 +7,7 @@ use Rattle.std.specs.FinMap.{insert, empty}
 use Rattle.std.specs.List.{Contains}
 use Rattle.lisp_nonces.specs.declared.pair.Pair.{Pair}
 use Rattle.lisp_nonces.specs.Kept.{Kept, kept_at, number}
-use Rattle.lisp_schedules.specs.Turn.{Turn, values, values_after, Saves, SaveFails}
+use Rattle.lisp_schedules.specs.Turn.{Turn, values, values_after, MaySave, Saves, SaveFails}
 use Rattle.lisp_schedules.proofs.KeptLemmas.{set_here, set_others, kept_at-empty, only_value}
 
 -- 'nothing' is the only value before
@@ -19,9 +19,9 @@ pub set_value : (kept : Kept) (pair : Pair) (v : Option ℕ) → Contains (kept_
 set_value kept pair v = subst (λ (vs : List (Option ℕ)). Contains vs v) (sym (set_here kept pair (v ∷ []))) (0, omega arith, refl)
 
 -- a number was saved
-pub saved : (t : Turn) (pair : Pair) (nonce last : ℕ) → nonce ≤ last → t.after.kept ≡ insert t.before.kept pair (Some nonce ∷ []) → Saves t pair nonce last
-saved t pair nonce last within is = record {
-  here = inr (nonce, record { least = omega arith; near = omega arith; most = within }, here);
+pub saved : (t : Turn) (pair : Pair) (nonce : ℕ) → MaySave t → t.after.kept ≡ insert t.before.kept pair (Some nonce ∷ []) → Saves t pair nonce nonce
+saved t pair nonce may is = record {
+  here = inr (here, may);
   none_below = λ v has. subst (λ (w : Option ℕ). nonce ≤ number w) (sym (only_value (Some nonce) v (subst (λ (vs : List (Option ℕ)). Contains vs v) here has))) (omega arith);
   others = λ q differ. ap (λ (k : Kept). kept_at k q) is ∙ set_others t.before.kept pair (Some nonce ∷ []) q differ;
 }
@@ -29,14 +29,16 @@ saved t pair nonce last within is = record {
     here : values_after t pair ≡ Some nonce ∷ []
     here = ap (λ (k : Kept). kept_at k pair) is ∙ set_here t.before.kept pair (Some nonce ∷ [])
 
--- a save is in doubt
-pub in_doubt : (t : Turn) (pair : Pair) (nonce : ℕ) → t.after.kept ≡ insert t.before.kept pair (kept_at t.before.kept pair ++ Some nonce ∷ []) → t.before.faults < t.after.faults → SaveFails t pair nonce faults.Device
-in_doubt t pair nonce is rose = record {
+-- a save is in doubt, in a store that isn't obedient
+pub in_doubt : (t : Turn) (pair : Pair) (nonce : ℕ) → t.before.is_obedient ≡ false → t.after.kept ≡ insert t.before.kept pair (kept_at t.before.kept pair ++ Some nonce ∷ []) → t.before.faults < t.after.faults → SaveFails t pair nonce faults.Device
+in_doubt t pair nonce unbound is rose = record {
   here = inr (ap (λ (k : Kept). kept_at k pair) is ∙ set_here t.before.kept pair (kept_at t.before.kept pair ++ Some nonce ∷ []));
   others = λ q differ. ap (λ (k : Kept). kept_at k q) is ∙ set_others t.before.kept pair (kept_at t.before.kept pair ++ Some nonce ∷ []) q differ;
   memory = λ clash. absurd cc;
   sound = λ clash. absurd cc;
   cause = λ other. inl rose;
+  may = λ other obeys. absurd (true≢false (sym obeys ∙ unbound));
+  doubted = λ other obeys. absurd (true≢false (sym obeys ∙ unbound));
 }
 
 -- what a list in doubt has

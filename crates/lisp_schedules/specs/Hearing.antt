@@ -1,9 +1,9 @@
 -- What comes of a message that arrives at a router (RFC 9301 section 5.7).
-use Rattle.std.specs.Prelude.{◌≡◌, ◌⊎◌, ℕ, nat_le, true, length, Result, Ok, Err, if◌then◌else◌}
+use Rattle.std.specs.Prelude.{◌≡◌, ◌⊎◌, ◌≤◌, ℕ, nat_le, true, length, Result, Ok, Err, if◌then◌else◌}
 use Rattle.lisp_etr.specs.declared.notify_fault.NotifyFault.{NotifyFault}
 use Rattle.lisp_etr.specs.declared.notify_fault.NotifyFault.TheVariants.{Stale, OutOfMemory}
 use Rattle.lisp_etr.specs.Hearing.{Heard, first_notice, is_latest}
-use Rattle.lisp_messages.specs.Reading.{HasHead}
+use Rattle.lisp_messages.specs.Reading.{HasHead, HasRecords}
 use Rattle.lisp_schedules.specs.declared.line.Line.{Line}
 use Rattle.lisp_schedules.specs.declared.line.Line.TheVariants as lines
 use Rattle.lisp_schedules.specs.declared.refusal.Refusal.TheVariants as refusals
@@ -28,8 +28,14 @@ abbrev pub line_of : Turn → Result Heard NotifyFault → Line
 line_of t (Ok h) = heard_line t h
 line_of t (Err fault) = refused_with t fault
 
--- what arrives comes to this line at a router that is up; or memory runs out
+-- it is a notice, whose answer takes memory
+pub record IsToAnswer (t : Turn) (a : Arrival) : Type 0 where
+  pub what : Heard
+  pub hears : heard t.opening t.past t.node a ≡ Ok what
+  pub own : first_notice ≤ what.message.nonce
+
+-- what arrives comes to this line at a router that is up; or memory runs out, in reading records or in answering
 pub record Hears (t : Turn) (a : Arrival) (line : Line) : Type 0 where
   pub acts : IsRouters t t.node true
   pub same : Same t
-  pub comes : (line ≡ line_of t (heard t.opening t.past t.node a)) ⊎ (HasHead a.bytes × (line ≡ refused_with t OutOfMemory))
+  pub comes : (line ≡ line_of t (heard t.opening t.past t.node a)) ⊎ (HasHead a.bytes × (HasRecords a.bytes ⊎ IsToAnswer t a) × (line ≡ refused_with t OutOfMemory))

@@ -9,9 +9,9 @@ use Rattle.lisp_schedules.specs.declared.event.Event.TheVariants as events
 use Rattle.lisp_schedules.specs.declared.line.Line.{Line}
 use Rattle.lisp_schedules.specs.declared.line.Line.TheVariants as lines
 use Rattle.lisp_schedules.specs.declared.refusal.Refusal.TheVariants as refusals
-use Rattle.lisp_schedules.specs.Trace.{Happening, Step, Opening, shown, clock, node_at, is_server, is_router}
+use Rattle.lisp_schedules.specs.Trace.{Happening, Step, Opening, shown, clock, fate_of, node_at, is_server, is_router}
 use Rattle.lisp_schedules.specs.Bag.{Item, Arrival, arrival_of, thrown, bag}
-use Rattle.lisp_schedules.specs.Turn.{Turn, IsServers, IsRouters, Same, HasCause, Restarts, IsNobodys}
+use Rattle.lisp_schedules.specs.Turn.{Turn, IsServers, IsRouters, Same, HasCause, Restarts, Picks, IsNobodys}
 use Rattle.lisp_schedules.specs.Sending.{IsChanged, IsSent, RefusesToSend}
 use Rattle.lisp_schedules.specs.Receiving.{IsAccepted, IsDone, RefusesMessage}
 use Rattle.lisp_schedules.specs.Hearing.{Hears}
@@ -67,24 +67,26 @@ Fits None = Unit {0}
 Fits (Some db) = database_of db ≡ Ok db
 
 -- a node starts again: a server without a database, or a router
-pub record IsRestarted (t : Turn) (node : ℕ) (db : Option (List Mapping)) (named : ℕ) : Type 0 where
+pub record IsRestarted (t : Turn) (node pick : ℕ) (db : Option (List Mapping)) (named : ℕ) : Type 0 where
   pub names : named ≡ node
   pub acts : t.node ≡ node
   pub kind : ((is_server t.opening.config node ≡ true) × (db ≡ None)) ⊎ (is_router t.opening.config node ≡ true)
   pub fits : Fits db
   pub narrows : Restarts t
+  pub picks : Picks t pick
 
 -- a router doesn't start
 abbrev pub StartCause : Turn → StartFault → Type 0
 StartCause t (Store fault) = HasCause t fault
 StartCause t OutOfMemory = Unit {0}
 
-pub record IsNotStarted (t : Turn) (node : ℕ) (db : Option (List Mapping)) (named : ℕ) (fault : StartFault) : Type 0 where
+pub record IsNotStarted (t : Turn) (node pick : ℕ) (db : Option (List Mapping)) (named : ℕ) (fault : StartFault) : Type 0 where
   pub names : named ≡ node
   pub acts : t.node ≡ node
   pub kind : is_router t.opening.config node ≡ true
   pub fits : Fits db
   pub narrows : Restarts t
+  pub picks : Picks t pick
   pub cause : StartCause t fault
 
 -- what may come of an event: one row for each line
@@ -98,8 +100,8 @@ MayCome t (events.Deliver k _) (lines.Nowhere datagram) = IsNowhere t k datagram
 MayCome t (events.Deliver k _) line = IsDelivered t k line
 MayCome t (events.Junk to from bytes) line = IsThrown t to (thrown from bytes) line
 MayCome t (events.Tick ms) (lines.Ticked passed now) = IsTicked t ms passed now
-MayCome t (events.Restart node _ db) (lines.Restarted named) = IsRestarted t node db named
-MayCome t (events.Restart node _ db) (lines.Refused named (refusals.Start fault)) = IsNotStarted t node db named fault
+MayCome t (events.Restart node pick db) (lines.Restarted named) = IsRestarted t node pick db named
+MayCome t (events.Restart node pick db) (lines.Refused named (refusals.Start fault)) = IsNotStarted t node pick db named fault
 MayCome t (events.Notice server router _) (lines.Notice s r key nonce datagram) = (s ≡ server) × (r ≡ router) × IsNotice t server router key nonce datagram
 MayCome t (events.Notice server router _) (lines.Refused named (refusals.Notice why)) = (named ≡ server) × IsServers t server × (is_router t.opening.config router ≡ true) × RefusesNotice t router why
 MayCome t (events.Resend server router) (lines.Resent s r datagram) = (s ≡ server) × (r ≡ router) × IsResent t server router datagram
@@ -107,11 +109,12 @@ MayCome t (events.Resend server router) (lines.Refused named (refusals.Notice wh
 MayCome t _ _ = ⊥
 
 abbrev pub turn_of : Opening → List Step → Step → Turn
-turn_of o T s = record { opening = o; past = T; node = s.actor; before = shown o T s.actor; after = s.shown }
+turn_of o T s = record { opening = o; past = T; node = s.actor; fate = fate_of s.event; before = shown o T s.actor; after = s.shown }
 
--- a step is legal after a trace: a row allows it, and no call lowers the count of faults
+-- a step is legal after a trace: a row allows it, and no call lowers the count of faults or makes a store another one
 pub record Legal (o : Opening) (T : List Step) (s : Step) : Type 0 where
   pub faults : (shown o T s.actor).faults ≤ s.shown.faults
+  pub obedient : s.shown.is_obedient ≡ (shown o T s.actor).is_obedient
   pub row : MayCome (turn_of o T s) s.event s.line
 
 -- each step is legal after those before it

@@ -12,7 +12,7 @@ use Rattle.lisp_schedules.specs.Trace.{router_at, is_router, clock}
 use Rattle.lisp_schedules.specs.Held.{Acceptance, heard_last, records_of}
 use Rattle.lisp_schedules.specs.Timers.{last_notice, notice_to, is_due}
 use Rattle.lisp_schedules.specs.Bag.{bag, since}
-use Rattle.lisp_schedules.specs.Turn.{Turn, IsServers, values, Same, Saves, LoadFails, SaveFails, IsBase}
+use Rattle.lisp_schedules.specs.Turn.{Turn, IsServers, values, Same, Loads, Saves, LoadFails, SaveFails, IsBase}
 
 -- the records that are held of a router
 abbrev pub told : Turn → ℕ → List Mapping
@@ -38,10 +38,11 @@ pub record IsNotice (t : Turn) (server router key nonce datagram : ℕ) : Type 0
   pub under : key ≡ last.message.key_id
   pub base : Option ℕ
   pub counts : NoticesFrom t base
+  pub loads : Loads t (last_notice t.past t.node)
   pub next : nonce ≡ nonce_after base
   pub bound : nonce < 2 ^ 64
   pub place : datagram ≡ length (bag t.opening t.past)
-  pub saves : Saves t notice_pair nonce (2 ^ 64 - 1)
+  pub saves : Saves t notice_pair nonce nonce
 
 -- it goes out again when it is due
 pub record IsResent (t : Turn) (server router datagram : ℕ) : Type 0 where
@@ -55,6 +56,7 @@ pub record IsResent (t : Turn) (server router datagram : ℕ) : Type 0 where
 pub record HasNonce (t : Turn) (router : ℕ) (base : Option ℕ) : Type 0 where
   pub tells : CanTell t router
   pub counts : NoticesFrom t base
+  pub loads : Loads t (last_notice t.past t.node)
   pub left : number base < 2 ^ 64 - 1
 
 -- the first reason that applies: nothing is held of the router; too much; the last nonce can't be loaded;
@@ -63,7 +65,7 @@ abbrev pub RefusesNotice : Turn → ℕ → NoticeFault → Type 0
 RefusesNotice t router NotRegistered = (told t router ≡ []) × Same t
 RefusesNotice t router TooLarge = (told t router ≢ []) × (fault : DatabaseFault) × (database_of (told t router) ≡ Err fault) × Same t
 RefusesNotice t router (StoreLoad fault) = CanTell t router × (last_notice t.past t.node ≡ None) × LoadFails t fault
-RefusesNotice t router NonceSpent = CanTell t router × (base : Option ℕ) × NoticesFrom t base × (2 ^ 64 - 1 ≤ number base) × Same t
+RefusesNotice t router NonceSpent = CanTell t router × (base : Option ℕ) × NoticesFrom t base × Loads t (last_notice t.past t.node) × (2 ^ 64 - 1 ≤ number base) × Same t
 RefusesNotice t router OutOfMemory = (base : Option ℕ) × HasNonce t router base × Same t
 RefusesNotice t router (StoreSave fault) = (base : Option ℕ) × HasNonce t router base × SaveFails t notice_pair (nonce_after base) fault
 RefusesNotice t router NotDue = ⊥

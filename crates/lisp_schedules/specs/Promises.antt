@@ -9,6 +9,7 @@ use Rattle.lisp_records.specs.declared.router.RouterId.{RouterId}
 use Rattle.lisp_served.specs.Configuration.{Configuration}
 use Rattle.lisp_nonces.specs.declared.pair.Pair.{Pair}
 use Rattle.lisp_checks.specs.Pairs.{pair_of}
+use Rattle.lisp_checks.specs.AcceptedRows.{holding}
 use Rattle.lisp_checks.specs.declared.refused.Refused.TheVariants.{Replay}
 use Rattle.lisp_schedules.specs.declared.event.Event.TheVariants as events
 use Rattle.lisp_schedules.specs.declared.line.Line.TheVariants as lines
@@ -86,10 +87,17 @@ pub record IsRowOf (c : Configuration) (h : Holding) (e : Entry) : Type 0 where
   pub key : h.key ≡ e.key
   pub nonce : h.nonce ≡ e.nonce
 
+-- a row was made of a message that the server accepted since its start, and that is the message of an entry
+pub record IsMadeOf (o : Opening) (T : List Step) (server : ℕ) (h : Holding) (e : Entry) : Type 0 where
+  pub acceptance : Acceptance
+  pub taken : Contains (since o T server) acceptance
+  pub message : IsOf o T server acceptance e
+  pub row : h ≡ holding acceptance.message acceptance.from acceptance.moment h.mapping
+
 -- what is held for a prefix is the record that an entry's database has for it
 abbrev pub HeldWasSent : Opening → List Step → Type 0
 HeldWasSent o T = (server : ℕ) (router : RouterId) (eid : Block) (h : Holding) → held (since o T server) router eid (clock T) ≡ Some h
-    → (e : Entry) × Contains (history o T) e × (e.server ≡ server) × IsRowOf o.config h e × (record_in e eid ≡ Some h.mapping)
+    → (e : Entry) × Contains (history o T) e × (e.server ≡ server) × IsRowOf o.config h e × (record_in e eid ≡ Some h.mapping) × IsMadeOf o T server h e
 
 -- servers that hold a prefix of a router from entries with no change between hold equal records
 abbrev pub HeldAgree : Opening → List Step → Type 0

@@ -1,5 +1,5 @@
 -- Legal steps of a server at which a message arrives (RFC 9301 sections 5.6, 5.7 and 8.2).
-use Rattle.std.specs.Prelude.{◌≡◌, ℕ, ◌≤◌, ◌==◌, ◌&&◌, Bool, true, false, List, [], ◌∷◌, length, slice_get, Option, Some, None, Result, Ok, Err, if◌then◌else◌}
+use Rattle.std.specs.Prelude.{◌≡◌, ◌⊎◌, ℕ, ◌≤◌, ◌==◌, ◌&&◌, Bool, true, false, List, [], ◌∷◌, length, slice_get, Option, Some, None, Result, Ok, Err, if◌then◌else◌}
 use Rattle.std.specs.List.{find}
 use Rattle.lisp_records.specs.declared.address.Addr.{Addr}
 use Rattle.lisp_records.specs.declared.router.RouterId.{RouterId}
@@ -14,11 +14,11 @@ use Rattle.lisp_checks.specs.Nonces.{IsBelow}
 use Rattle.lisp_checks.specs.Pairs.{router_of, pair_of}
 use Rattle.lisp_checks.specs.Checks.{secret_under, secret_at}
 use Rattle.lisp_checks.specs.Checks.{signed_by}
-use Rattle.lisp_messages.specs.Reading.{HasHead}
+use Rattle.lisp_messages.specs.Reading.{HasHead, HasRecords}
 use Rattle.lisp_schedules.specs.Held.{last_of}
 use Rattle.lisp_schedules.specs.Timers.{Notice, notices}
 use Rattle.lisp_schedules.specs.Bag.{Item, Arrival, bag, since}
-use Rattle.lisp_schedules.specs.Turn.{Turn, IsServers, values, values_after, Same, SameOthers, LoadFails, SaveFails, IsBase}
+use Rattle.lisp_schedules.specs.Turn.{Turn, IsServers, values, values_after, Same, SameOthers, MaySave, Loads, LoadFails, SaveFails, IsBase}
 
 -- the last nonce of a pair since the server's start
 abbrev pub last_in : Turn → Pair → Option ℕ
@@ -30,11 +30,12 @@ pub record Admits (t : Turn) (a : Arrival) (m : Registration) : Type 0 where
   pub secret : List ℕ
   pub checks : secret_under t.opening.config.sites a.bytes m ≡ Ok secret
 
--- its nonce is above a base
+-- its nonce is above a base, which was loaded where it isn't in memory
 pub record IsFresh (t : Turn) (m : Registration) : Type 0 where
   pub base : Option ℕ
   pub counts : IsBase (last_in t (pair_of m)) (values t (pair_of m)) base
   pub above : IsBelow base m.nonce
+  pub loads : Loads t (last_in t (pair_of m))
 
 -- it is accepted: from now on its nonce alone is kept; a reply goes out where bit M asks for one
 pub record IsAccepted (t : Turn) (a : Arrival) (server : ℕ) (router : RouterId) (key nonce : ℕ) (datagram : Option ℕ) : Type 0 where
@@ -45,6 +46,7 @@ pub record IsAccepted (t : Turn) (a : Arrival) (server : ℕ) (router : RouterId
   pub under : key ≡ message.key_id
   pub number : nonce ≡ message.nonce
   pub fresh : IsFresh t message
+  pub may : MaySave t
   pub kept : values_after t (pair_of message) ≡ Some message.nonce ∷ []
   pub others : SameOthers t (pair_of message)
   pub reply : datagram ≡ (if message.want_notify then Some (length (bag t.opening t.past)) else None)
@@ -105,6 +107,7 @@ pub record Replays (t : Turn) (a : Arrival) (saved : ℕ) : Type 0 where
   pub message : Registration
   pub admits : Admits t a message
   pub counts : IsBase (last_in t (pair_of message)) (values t (pair_of message)) (Some saved)
+  pub loads : Loads t (last_in t (pair_of message))
   pub stale : message.nonce ≤ saved
   pub same : Same t
 
@@ -115,11 +118,17 @@ pub record NotSaved (t : Turn) (a : Arrival) (fault : StoreFault) : Type 0 where
   pub fresh : IsFresh t message
   pub fails : SaveFails t (pair_of message) message.nonce fault
 
+-- a Map-Register that is otherwise accepted: its rows and its reply take memory
+pub record IsToAccept (t : Turn) (a : Arrival) : Type 0 where
+  pub message : Registration
+  pub admits : Admits t a message
+  pub fresh : IsFresh t message
+
 -- the first reason that applies: the checks; the base; the nonce; memory, which may run out in reading
--- too, and then comes first; the store
+-- records too, and then comes first; the store
 abbrev pub RefusesMessage : Turn → Arrival → Refused → Type 0
 RefusesMessage t a (StoreLoad fault) = NotLoaded t a fault
 RefusesMessage t a (Replay saved) = Replays t a saved
-RefusesMessage t a OutOfMemory = HasHead a.bytes × Same t
+RefusesMessage t a OutOfMemory = HasHead a.bytes × (HasRecords a.bytes ⊎ IsToAccept t a) × Same t
 RefusesMessage t a (StoreSave fault) = NotSaved t a fault
 RefusesMessage t a why = FailsCheck t a a.read why × Same t

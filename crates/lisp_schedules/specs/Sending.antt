@@ -7,7 +7,7 @@ use Rattle.lisp_nonces.specs.declared.fault.StoreFault.{StoreFault}
 use Rattle.lisp_nonces.specs.Kept.{kept_at, number}
 use Rattle.lisp_messages.specs.Message.{IsRegistration}
 use Rattle.lisp_etr.specs.Config.{sent_pair}
-use Rattle.lisp_etr.specs.Sending.{last_nonce, registration_of, IsBound}
+use Rattle.lisp_etr.specs.Sending.{last_nonce, registration_of, block_end}
 use Rattle.lisp_etr.specs.declared.send_fault.SendFault.{SendFault}
 use Rattle.lisp_etr.specs.declared.send_fault.SendFault.TheVariants.{NoServer, NonceSpent, OutOfMemory, Store}
 use Rattle.lisp_schedules.specs.declared.line.Line.{Line}
@@ -51,7 +51,8 @@ pub record IsChanged (t : Turn) (router : ℕ) (db : List Mapping) (named record
   pub count : records ≡ length db
   pub same : Same t
 
--- a Map-Register goes out: its nonce is the next one, and from now on the store has none below it
+-- a Map-Register goes out: its nonce is the next one, and from now on the store has none below it; what was saved, if
+-- anything was, is the end of its block
 pub record IsSent (t : Turn) (router server key nonce datagram : ℕ) : Type 0 where
   pub acts : IsRouters t router true
   pub kind : is_server t.opening.config server ≡ true
@@ -63,19 +64,18 @@ pub record IsSent (t : Turn) (router server key nonce datagram : ℕ) : Type 0 w
   pub within : nonce ≤ last_nonce
   pub message : IsRegistration (registration_of (settings t.opening t.past router) (database t.opening t.past router) nonce)
   pub place : datagram ≡ length (bag t.opening t.past)
-  pub saves : Saves t (pair_at t.opening t.past router) nonce last_nonce
+  pub saves : Saves t (pair_at t.opening t.past router) nonce (block_end nonce (settings t.opening t.past router).nonce_block)
 
 -- the nonces are spent, or not
 abbrev pub IsSpent : Turn → ℕ → Type 0
 IsSpent t router = (base : Option ℕ) × CountsFrom t.opening t.past router base × (last_nonce ≤ number base)
 
--- what is to be saved for the next nonce can't be
+-- the end of the next nonce's block can't be saved
 pub record NotSaved (t : Turn) (router : ℕ) (fault : StoreFault) : Type 0 where
   pub base : Option ℕ
   pub counts : CountsFrom t.opening t.past router base
-  pub bound : ℕ
-  pub fits : IsBound (number base + 1) last_nonce bound
-  pub fails : SaveFails t (pair_at t.opening t.past router) bound fault
+  pub left : number base < last_nonce
+  pub fails : SaveFails t (pair_at t.opening t.past router) (block_end (number base + 1) (settings t.opening t.past router).nonce_block) fault
 
 -- the first reason that applies: the server isn't listed; the nonces are spent; memory; the store
 abbrev pub RefusesToSend : Turn → ℕ → ℕ → SendFault → Type 0

@@ -11,6 +11,8 @@ use Rattle.lisp_records.specs.Record.{Mapping}
 use Rattle.lisp_served.specs.Site.{SiteEntry}
 use Rattle.lisp_served.specs.Configuration.{Configuration, Router}
 use Rattle.lisp_nonces.specs.Kept.{Kept}
+use Rattle.lisp_nonces.specs.declared.fate.Fate.{Fate}
+use Rattle.lisp_nonces.specs.declared.fate.Fate.TheVariants.{Done}
 use Rattle.lisp_etr.specs.Config.{Settings}
 use Rattle.lisp_checks.specs.Checks.{secret_at as known_secret}
 use Rattle.lisp_schedules.specs.declared.event.Event.{Event}
@@ -32,10 +34,11 @@ happening (events.Restart node pick db) = events.Restart node pick db
 happening (events.Notice server router fate) = events.Notice server router fate
 happening (events.Resend server router) = events.Resend server router
 
--- what a store shows: its lists, and how often its device failed
+-- what a store shows: its lists; how often its device failed; and whether it does what it is armed with
 pub record Shown : Type 0 where
   pub kept : Kept
   pub faults : ℕ
+  pub is_obedient : Bool
 
 -- an event and its line; the node that acted; and what the store of that node shows afterwards
 pub record Step : Type 0 where
@@ -88,8 +91,15 @@ is_listed c router server = list_any (λ s. s == server) (router_at c router).se
 
 -- what a node's store shows
 abbrev pub shown : Opening → List Step → ℕ → Shown
-shown o [] node = slice_index_or o.stores node (record { kept = empty; faults = 0 })
+shown o [] node = slice_index_or o.stores node (record { kept = empty; faults = 0; is_obedient = false })
 shown o (s ∷ T) node = if s.actor == node then s.shown else shown o T node
+
+-- what becomes of the calls that an event makes of a store
+abbrev pub fate_of : Happening → Fate
+fate_of (events.Send router server fate) = fate
+fate_of (events.Deliver k fate) = fate
+fate_of (events.Notice server router fate) = fate
+fate_of _ = Done
 
 -- the moment, in ms: the sum of the ticks
 abbrev pub time_of : Happening → ℕ

@@ -1,18 +1,20 @@
 -- A turn: one node acts, and what that may leave of its store.
-use Rattle.std.specs.Prelude.{◌≡◌, ◌≢◌, ◌⊎◌, ℕ, ◌-◌, ◌^◌, ◌<◌, Bool, true, false, List, Option, Some, None}
+use Rattle.std.specs.Prelude.{◌≡◌, ◌≢◌, ◌⊎◌, ℕ, ◌-◌, ◌^◌, ◌<◌, Bool, IsTrue, true, false, List, [], ◌∷◌, Option, Some, None}
 use Rattle.std.specs.List.{Contains}
 use Rattle.lisp_nonces.specs.declared.pair.Pair.{Pair}
 use Rattle.lisp_nonces.specs.declared.fault.StoreFault.{StoreFault}
 use Rattle.lisp_nonces.specs.declared.fault.StoreFault.TheVariants as faults
-use Rattle.lisp_nonces.specs.Kept.{kept_at, NoneBelow, SameElsewhere, InDoubt, Narrows}
-use Rattle.lisp_etr.specs.Sending.{Settles}
+use Rattle.lisp_nonces.specs.declared.fate.Fate.{Fate}
+use Rattle.lisp_nonces.specs.declared.fate.Fate.TheVariants.{Doubt, LoadFails as FailedLoads}
+use Rattle.lisp_nonces.specs.Kept.{kept_at, with_value, picked, NoneBelow, SameElsewhere, InDoubt, Narrows}
 use Rattle.lisp_schedules.specs.Trace.{Shown, Step, Opening, is_server, is_router, is_up}
 
--- what went before; which node acts; what its store shows before and after
+-- what went before; which node acts; what its store is armed with, and what it shows before and after
 pub record Turn : Type 0 where
   pub opening : Opening
   pub past : List Step
   pub node : ℕ
+  pub fate : Fate
   pub before : Shown
   pub after : Shown
 
@@ -48,10 +50,26 @@ Rose t = (t.before.faults < t.after.faults) ⊎ (t.after.faults ≡ 2 ^ 64 - 1)
 abbrev pub HasCause : Turn → StoreFault → Type 0
 HasCause t fault = fault ≢ faults.OutOfMemory → Rose t
 
--- what was saved, if anything was, is a bound for the nonce, which that pair alone keeps then; and from now on
--- no value of it is below the nonce
-pub record Saves (t : Turn) (pair : Pair) (nonce last : ℕ) : Type 0 where
-  pub here : Settles (values t pair) (values_after t pair) nonce last
+-- what an obedient store is armed with lets a load be answered, or fail; and a save
+abbrev pub MayLoad : Turn → Type 0
+MayLoad t = IsTrue t.before.is_obedient → t.fate ≢ FailedLoads
+
+abbrev pub MayFailLoad : Turn → Type 0
+MayFailLoad t = IsTrue t.before.is_obedient → t.fate ≡ FailedLoads
+
+abbrev pub MaySave : Turn → Type 0
+MaySave t = IsTrue t.before.is_obedient → t.fate ≢ Doubt
+
+abbrev pub MayFailSave : Turn → Type 0
+MayFailSave t = IsTrue t.before.is_obedient → t.fate ≡ Doubt
+
+-- a last nonce that isn't in memory was loaded
+abbrev pub Loads : Turn → Option ℕ → Type 0
+Loads t last = last ≡ None → MayLoad t
+
+-- nothing was saved, or a bound that the pair keeps alone then; and from now on no value of it is below the nonce
+pub record Saves (t : Turn) (pair : Pair) (nonce bound : ℕ) : Type 0 where
+  pub here : (values_after t pair ≡ values t pair) ⊎ ((values_after t pair ≡ Some bound ∷ []) × MaySave t)
   pub none_below : NoneBelow nonce (values_after t pair)
   pub others : SameOthers t pair
 
@@ -59,18 +77,26 @@ pub record Saves (t : Turn) (pair : Pair) (nonce last : ℕ) : Type 0 where
 pub record LoadFails (t : Turn) (fault : StoreFault) : Type 0 where
   pub same : Same t
   pub cause : HasCause t fault
+  pub may : fault ≢ faults.OutOfMemory → MayFailLoad t
 
--- a save of a number for a pair failed, and it is open whether it is kept; not where memory ran out
+-- a save of a number for a pair failed, and it is open whether it is kept; not where memory ran out. An obedient store
+-- keeps it then
 pub record SaveFails (t : Turn) (pair : Pair) (nonce : ℕ) (fault : StoreFault) : Type 0 where
   pub here : InDoubt (values t pair) (values_after t pair) nonce
   pub others : SameOthers t pair
   pub memory : fault ≡ faults.OutOfMemory → Same t
   pub sound : fault ≢ faults.Damaged
   pub cause : HasCause t fault
+  pub may : fault ≢ faults.OutOfMemory → MayFailSave t
+  pub doubted : fault ≢ faults.OutOfMemory → IsTrue t.before.is_obedient → values_after t pair ≡ with_value (values t pair) nonce
 
 -- a restart leaves some value of each pair, and adds none
 abbrev pub Restarts : Turn → Type 0
 Restarts t = (pair : Pair) → Narrows (values t pair) (values_after t pair)
+
+-- of an obedient store it leaves the value at a place, or the last
+abbrev pub Picks : Turn → ℕ → Type 0
+Picks t pick = IsTrue t.before.is_obedient → (pair : Pair) → values_after t pair ≡ picked (values t pair) pick ∷ []
 
 -- no node's turn
 pub record IsNobodys (t : Turn) : Type 0 where
