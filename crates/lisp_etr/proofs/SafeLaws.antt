@@ -1,8 +1,13 @@
--- What a save leaves.
+-- What a save serves and leaves.
 use Rattle.std.proofs.Common.{◌≡◌, ◌⊎◌, inl, inr, ℕ, zero, suc, ◌≤◌, List, [], ◌∷◌, Option, Some, subst, arith}
 use Rattle.std.specs.List.{Contains}
 use Rattle.std.proofs.lemmas.List.Elements.{Contains-push_cases}
 use Rattle.lisp_nonces.specs.Kept.{number, InDoubt, NoneBelow}
+use Rattle.lisp_etr.specs.Sending.{last_nonce, block_end, IsBound}
+
+-- a block ends at its nonce or less than 1,024 above it, and not past the last nonce
+pub block_bound : (nonce block : ℕ) → nonce ≤ last_nonce → IsBound nonce last_nonce (block_end nonce block)
+block_bound nonce block within = record { least = omega (arith, within); near = omega arith; most = omega arith }
 
 -- what was below no value is below none of a list to which a number above it may have been added
 pub none_below : (n m : ℕ) (old new : List (Option ℕ)) → n ≤ m → InDoubt old new m → NoneBelow n old → NoneBelow n new

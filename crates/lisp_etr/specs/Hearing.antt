@@ -1,5 +1,5 @@
 -- Counted: what a router makes of a message (RFC 9301 sections 5.7 and 8.2).
-use Rattle.std.specs.Prelude.{◌≡◌, ℕ, ◌^◌, ◌==◌, ◌&&◌, nat_le, Bool, true, not, List, Option, Result, Ok, Err, position, ok_or, slice_set, slice_index_or, if◌then◌else◌}
+use Rattle.std.specs.Prelude.{◌≡◌, ◌≤◌, ◌⊎◌, ℕ, ◌^◌, ◌==◌, ◌&&◌, nat_le, Bool, true, not, List, Option, Result, Ok, Err, position, ok_or, slice_set, slice_index_or, if◌then◌else◌}
 use Rattle.lisp_records.specs.declared.address.Addr.{Addr}
 use Rattle.lisp_records.specs.Address.{addr_eq}
 use Rattle.lisp_records.specs.Result.{◌>>=◌}
@@ -7,7 +7,7 @@ use Rattle.lisp_messages.specs.Message.{Notification, IsNotification, Said, Regi
 use Rattle.lisp_messages.specs.declared.fault.ReadFault.{ReadFault}
 use Rattle.lisp_messages.specs.Authentic.{is_authentic, signed}
 use Rattle.lisp_messages.specs.Written.{written_notify}
-use Rattle.lisp_messages.specs.Reading.{message_at}
+use Rattle.lisp_messages.specs.Reading.{HasHead, HasRecords, message_at}
 use Rattle.lisp_etr.specs.declared.notify_fault.NotifyFault.{NotifyFault}
 use Rattle.lisp_etr.specs.declared.notify_fault.NotifyFault.TheVariants.{Read, NotMine, WrongKey, BadAuth, Stale, OutOfMemory}
 use Rattle.lisp_etr.specs.declared.round.Round.{Round}
@@ -62,6 +62,14 @@ heard c from bytes = checked c bytes (message_at bytes) (server_at c.servers fro
 -- nonces from here on are a Map-Server's own
 abbrev pub first_notice : ℕ
 first_notice = 2 ^ 63
+
+-- a Map-Server's notice that passes all checks
+abbrev pub HearsNotice : Settings → Addr → List ℕ → Type 0
+HearsNotice c from bytes = (h : Heard) × (heard c from bytes ≡ Ok h) × (first_notice ≤ h.message.nonce)
+
+-- bytes that a router takes memory for: they have records, or are a notice to answer
+abbrev pub TakesMemory : Settings → Addr → List ℕ → Type 0
+TakesMemory c from bytes = HasHead bytes × (HasRecords bytes ⊎ HearsNotice c from bytes)
 
 -- the answer to a Map-Server's notice has its nonce, Key ID and records
 abbrev pub ack_of : Notification → Notification

@@ -1,5 +1,5 @@
 -- What a router sends, and what its store keeps then (RFC 9301 sections 5.6 and 8.2).
-use Rattle.std.specs.Prelude.{◌≡◌, ℕ, ◌+◌, ◌-◌, ◌<◌, ◌≤◌, ◌^◌, ◌⊎◌, List, [], ◌∷◌, Option, Some, true, false, slice_set, slice_index_or}
+use Rattle.std.specs.Prelude.{◌≡◌, ℕ, ◌+◌, ◌-◌, ◌<◌, ◌≤◌, ◌^◌, ◌⊎◌, min, max, nat_le, List, [], ◌∷◌, Option, Some, true, false, slice_set, slice_index_or, if◌then◌else◌}
 use Rattle.lisp_records.specs.Record.{Mapping}
 use Rattle.lisp_messages.specs.Message.{Registration}
 use Rattle.lisp_messages.specs.Authentic.{signed}
@@ -33,23 +33,36 @@ registration_of c database nonce = record {
 abbrev pub datagram_of : Settings → List Mapping → ℕ → List ℕ
 datagram_of c database nonce = signed c.secret (written_register (registration_of c database nonce))
 
+-- a configured block counts as one of 1 to 1,024 nonces
+abbrev pub block_size : ℕ → ℕ
+block_size block = max 1 (min block 1024)
+
+-- the last nonce of a block that begins with this one; none goes past the last nonce
+abbrev pub block_end : ℕ → ℕ → ℕ
+block_end nonce block = min (nonce + (block_size block - 1)) last_nonce
+
+-- what is saved once a nonce may be used: what was, where the nonce isn't above it, or the end of its block
+abbrev pub safe_after : ℕ → ℕ → ℕ → ℕ
+safe_after safe nonce block = if nat_le nonce safe then safe else block_end nonce block
+
 -- what a send with the next nonce to a Map-Server makes of the router
 pub record Sends (old new : EtrState) (server now : ℕ) : Type 0 where
   pub config : new.config ≡ old.config
   pub database : new.database ≡ old.database
   pub last : new.last ≡ old.last + 1
+  pub safe : new.safe ≡ safe_after old.safe (old.last + 1) old.config.nonce_block
   pub rounds : new.rounds ≡ slice_set old.rounds server (sent (old.last + 1) now (slice_index_or old.rounds server (started 0)))
 
--- what may be saved for a nonce: the nonce or a number less than 1,024 above it, up to the last one
+-- between these is the end of each block: no lower than its nonce, less than 1,024 above it, and up to the last one
 pub record IsBound (nonce last bound : ℕ) : Type 0 where
   pub least : nonce ≤ bound
   pub near : bound < nonce + 1024
   pub most : bound ≤ last
 
--- what using a nonce leaves of its pair: the values as they were, or a bound alone
+-- what using a nonce leaves of its pair: the values as they were, or the end of its block alone
 abbrev pub Settles : List (Option ℕ) → List (Option ℕ) → ℕ → ℕ → Type 0
-Settles old new nonce last = (new ≡ old) ⊎ ((bound : ℕ) × IsBound nonce last bound × (new ≡ Some bound ∷ []))
+Settles old new nonce block = (new ≡ old) ⊎ (new ≡ Some (block_end nonce block) ∷ [])
 
--- what a refused send with a nonce leaves of the pair: its values as they were, or with a bound added
-abbrev pub LeavesPair : List (Option ℕ) → List (Option ℕ) → ℕ → Type 0
-LeavesPair old new nonce = (new ≡ old) ⊎ ((bound : ℕ) × IsBound nonce last_nonce bound × InDoubt old new bound)
+-- what a refused send with a nonce leaves of the pair: its values as they were, or with the end of its block added
+abbrev pub LeavesPair : List (Option ℕ) → List (Option ℕ) → ℕ → ℕ → Type 0
+LeavesPair old new nonce block = InDoubt old new (block_end nonce block)

@@ -2,8 +2,8 @@
 
 ghost use Rattle.std.specs.Prelude.{◌≡◌, ◌≢◌, ◌↔◌, ◌≤◌, ◌<◌, ◌+◌, ℕ, List, Some, Ok, Err, IsTrue, IfOk, IfErr, IfSome, OnOk, OnErr, IsErrOf, length, map, nat_le, position, slice_get};
 ghost use Rattle.std.specs.Option.{option_and_then};
-ghost use Rattle.lisp_nonces.specs.Kept.{kept_at, IsKept, NoneBelow, SameElsewhere};
-ghost use Rattle.lisp_nonces.specs.Store.{Rose, Proceeds};
+ghost use Rattle.lisp_nonces.specs.Kept.{kept_at, with_value, IsKept, NoneBelow, SameElsewhere};
+ghost use Rattle.lisp_nonces.specs.Store.{Rose, Proceeds, MayLoad, MayFailLoad, MaySave, MayFailSave};
 ghost use Rattle.lisp_nonces.specs.declared.fault.StoreFault.{StoreFault};
 ghost use Rattle.lisp_messages.specs.Message.{IsRegistration};
 ghost use Rattle.lisp_messages.specs.Reading.{kind_at};
@@ -13,8 +13,8 @@ ghost use Rattle.lisp_records.specs.Moment.{max_moment};
 ghost use Rattle.lisp_etr.specs.Round.{begun};
 ghost use Rattle.lisp_etr.specs.Faults.{fault_of_read};
 ghost use Rattle.lisp_etr.specs.Etr.{etr_started};
-ghost use Rattle.lisp_etr.specs.Sending.{last_nonce, registration_of, datagram_of, Sends, Settles, LeavesPair};
-ghost use Rattle.lisp_etr.specs.Hearing.{Gives, AnswerFits, notice_in, counted_in, seen_at, after};
+ghost use Rattle.lisp_etr.specs.Sending.{last_nonce, registration_of, datagram_of, block_end, Sends, Settles, LeavesPair};
+ghost use Rattle.lisp_etr.specs.Hearing.{Gives, AnswerFits, TakesMemory, notice_in, counted_in, seen_at, after};
 ghost use Rattle.lisp_etr.specs.declared.start_fault.StartFault.{StartFault};
 ghost use Rattle.lisp_etr.specs.declared.send_fault.SendFault.{SendFault};
 ghost use Rattle.lisp_etr.specs.declared.notify_fault.NotifyFault.{NotifyFault};
@@ -76,6 +76,8 @@ impl<A: Memory + Copy> Etr<A> {
         ensures unasked { IfErr result (λ r. r.fault ≡ StartFault.OutOfMemory → S.seen store.new ≡ S.seen store.old) }
         ensures store_memory { IfErr result (λ r. r.fault ≡ StartFault.Store StoreFault.OutOfMemory → S.may_refuse) }
         ensures refused { IfErr result (λ r. r.fault ≡ StartFault.Store StoreFault.OutOfMemory → S.seen store.new ≡ S.seen store.old) }
+        ensures loads { OnOk result (MayLoad (S.seen store.old)) }
+        ensures load_fails { IfErr result (λ r. (f : StoreFault) → r.fault ≡ StartFault.Store f → f ≢ StoreFault.OutOfMemory → MayFailLoad (S.seen store.old)) }
         ensures cause { IfErr result (λ r. (f : StoreFault) → r.fault ≡ StartFault.Store f → f ≢ StoreFault.OutOfMemory → Rose (S.seen store.old) (S.seen store.new)) }
         ensures proceeds { Proceeds (S.seen store.old) (S.seen store.new) }
     {
@@ -157,9 +159,17 @@ impl<A: Memory + Copy> Etr<A> {
         // No lower nonce comes back from the store: not after a send, nor after one that failed.
         ensures safe { OnOk result (self.old.last + 1 ≤ self.new.safe) }
         ensures keeps_safe { IsTrue (S.seen store.old).is_honest → NoneBelow self.old.safe (kept_at (S.seen store.old).kept (sent_pair self.old.config)) → NoneBelow self.new.safe (kept_at (S.seen store.new).kept (sent_pair self.old.config)) }
-        ensures settles { IsTrue (S.seen store.old).is_honest → OnOk result (Settles (kept_at (S.seen store.old).kept (sent_pair self.old.config)) (kept_at (S.seen store.new).kept (sent_pair self.old.config)) (self.old.last + 1) last_nonce) }
-        ensures leaves { IsTrue (S.seen store.old).is_honest → OnErr result (LeavesPair (kept_at (S.seen store.old).kept (sent_pair self.old.config)) (kept_at (S.seen store.new).kept (sent_pair self.old.config)) (self.old.last + 1)) }
+        ensures settles { IsTrue (S.seen store.old).is_honest → OnOk result (Settles (kept_at (S.seen store.old).kept (sent_pair self.old.config)) (kept_at (S.seen store.new).kept (sent_pair self.old.config)) (self.old.last + 1) self.old.config.nonce_block) }
+        ensures leaves { IsTrue (S.seen store.old).is_honest → OnErr result (LeavesPair (kept_at (S.seen store.old).kept (sent_pair self.old.config)) (kept_at (S.seen store.new).kept (sent_pair self.old.config)) (self.old.last + 1) self.old.config.nonce_block) }
         ensures others { IsTrue (S.seen store.old).is_honest → SameElsewhere (S.seen store.old).kept (S.seen store.new).kept (sent_pair self.old.config) }
+
+        // A nonce that is safe is sent without a save.
+        ensures unasked { self.old.last + 1 ≤ self.old.safe → S.seen store.new ≡ S.seen store.old }
+
+        // An obedient store fails where it is armed to, and keeps the end of the block too then.
+        ensures saves { self.old.safe < self.old.last + 1 → OnOk result (MaySave (S.seen store.old)) }
+        ensures save_fails { IsErrOf result (SendFault.Store StoreFault.Device) → MayFailSave (S.seen store.old) }
+        ensures doubted { IsErrOf result (SendFault.Store StoreFault.Device) → IsTrue (S.seen store.old).is_obedient → kept_at (S.seen store.new).kept (sent_pair self.old.config) ≡ with_value (kept_at (S.seen store.old).kept (sent_pair self.old.config)) (block_end (self.old.last + 1) self.old.config.nonce_block) }
 
         // Only a device that failed leaves the store in doubt.
         ensures refused { IfErr result (λ f. f ≢ SendFault.Store StoreFault.Device → S.seen store.new ≡ S.seen store.old) }
@@ -187,14 +197,16 @@ impl<A: Memory + Copy> Etr<A> {
     ///
     /// It refuses in this order: `Read` (the bytes spell no message), `NotMine` (no Map-Notify, or from
     /// no Map-Server of this router), `WrongKey`, `BadAuth`, `Stale` (the nonce is below 2^63 and isn't
-    /// that of the last Map-Register to that Map-Server). `OutOfMemory` may come in place of any answer but
-    /// a fault of the first 32 bytes, in reading or in building the answer to a notice. A refusal changes
-    /// nothing.
+    /// that of the last Map-Register to that Map-Server). `OutOfMemory` may come in place of any answer past
+    /// the first 32 bytes where the message has records, and in place of a notice. A refusal changes nothing.
     #[tactic(auto, unfolding(crate::specs::Hearing::seen_in))]
     pub fn receive(&mut self, from: Addr, bytes: &[u8], _now: u64) -> Result<Seen<A>, NotifyFault>
         ensures answer { Gives (λ seen. seen) result (seen_at self.old from bytes.now) }
         ensures after { self.new ≡ after self.old result }
         ensures fits { IfOk result (λ seen. AnswerFits self.old.config.key_id seen) }
+
+        // Only records that are read and a notice that is answered take memory.
+        ensures grows { IsErrOf result NotifyFault.OutOfMemory → TakesMemory self.old.config from bytes.now }
 
         // Before the first record nothing takes memory.
         ensures early { (fault : ReadFault) → kind_at bytes.now ≡ Err fault → result ≡ Err (fault_of_read fault) }

@@ -2,7 +2,7 @@
 
 ghost use Rattle.std.specs.Prelude.{◌≡◌, ◌<◌, Err, IfOk, IsErrOf, length};
 ghost use Rattle.lisp_messages.specs.Meaning.{said};
-ghost use Rattle.lisp_messages.specs.Reading.{kind_at, message_at};
+ghost use Rattle.lisp_messages.specs.Reading.{HasHead, HasRecords, kind_at, message_at};
 ghost use Rattle.lisp_messages.specs.declared.fault.ReadFault.{ReadFault};
 ghost use Rattle.lisp_etr.specs.Faults.{fault_of_read};
 ghost use Rattle.lisp_etr.specs.Hearing.{Gives, Heard, notify_in, notify_read, server_at, heard};
@@ -28,7 +28,7 @@ pub(crate) fn hear<A: Memory + Copy>(
     ensures server { IfOk result (λ x. x.0 < length config.now.servers) }
     ensures key { IfOk result (λ x. x.1.key_id ≡ config.now.key_id) }
     ensures early { (fault : ReadFault) → kind_at bytes.now ≡ Err fault → result ≡ Err (fault_of_read fault) }
-    ensures memory { IsErrOf result NotifyFault.OutOfMemory → A.may_refuse }
+    ensures memory { IsErrOf result NotifyFault.OutOfMemory → A.may_refuse × HasHead bytes.now × HasRecords bytes.now }
 {
     let notify = read_notify(alloc, bytes)?;
     let Some(server) = server_at(config.servers.as_slice(), from) else {
@@ -47,7 +47,7 @@ pub(crate) fn hear<A: Memory + Copy>(
 fn read_notify<A: Memory + Copy>(alloc: A, bytes: &[u8]) -> Result<MapNotify<A>, NotifyFault>
     ensures exact { Gives (λ m. m) result (notify_read (message_at bytes.now)) }
     ensures early { (fault : ReadFault) → kind_at bytes.now ≡ Err fault → result ≡ Err (fault_of_read fault) }
-    ensures memory { IsErrOf result NotifyFault.OutOfMemory → A.may_refuse }
+    ensures memory { IsErrOf result NotifyFault.OutOfMemory → A.may_refuse × HasHead bytes.now × HasRecords bytes.now }
 {
     match read_message(alloc, bytes) {
         Ok(message) => notify_of(message),

@@ -1,14 +1,14 @@
-//! What holds of a router: each function's contract is a law. Those of its timers have empty bodies; those of
+//! What holds of a router: each function's contract is a law. Those of its timers and nonces have empty bodies; those of
 //! its answers hold over memory and a store that never run out, and make the call that they speak of.
 
-ghost use Rattle.std.specs.Prelude.{◌≡◌, ◌<◌, ◌≤◌, ◌⊎◌, IfErr, IsOk, length};
+ghost use Rattle.std.specs.Prelude.{ℕ, ◌≡◌, ◌<◌, ◌≤◌, ◌⊎◌, IfErr, IsOk, length};
 ghost use Rattle.lisp_records.specs.Moment.{max_moment};
 ghost use Rattle.lisp_records.specs.Result.{Reads};
 ghost use Rattle.lisp_nonces.specs.Store.{Rose};
 ghost use Rattle.lisp_nonces.specs.declared.fault.StoreFault.{StoreFault};
 ghost use Rattle.lisp_etr.specs.Timers.{PromptSends};
 ghost use Rattle.lisp_etr.specs.Round.{KeepsTime};
-ghost use Rattle.lisp_etr.specs.Sending.{last_nonce};
+ghost use Rattle.lisp_etr.specs.Sending.{last_nonce, block_end, IsBound};
 ghost use Rattle.lisp_etr.specs.Hearing.{seen_at};
 ghost use Rattle.lisp_etr.specs.declared.send_fault.SendFault.{SendFault};
 
@@ -29,6 +29,12 @@ pub fn prompt_sends()
 /// What a router keeps of a round is when it is due, by the times of the round's sends.
 pub fn rounds_keep_time()
     ensures { KeepsTime }
+{}
+
+/// What is saved for a nonce is no lower, less than 1,024 above it, and no later than a router's last nonce.
+#[tactic(auto, using(crate::proofs::SafeLaws::block_bound))]
+pub fn blocks_are_bounds()
+    ensures { (nonce block : ℕ) → nonce ≤ last_nonce → IsBound nonce last_nonce (block_end nonce block) }
 {}
 
 /// Over memory and a store that are never refused memory, a send is refused only where there is no such

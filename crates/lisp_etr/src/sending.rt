@@ -1,12 +1,12 @@
 //! The Map-Registers of a router.
 
-ghost use Rattle.std.specs.Prelude.{◌≡◌, ◌≢◌, ◌≤◌, IsTrue, IfOk, IfErr, IsErrOf, OnErr, OnOk};
-ghost use Rattle.lisp_nonces.specs.Kept.{kept_at, NoneBelow, SameElsewhere};
-ghost use Rattle.lisp_nonces.specs.Store.{Rose, Proceeds};
+ghost use Rattle.std.specs.Prelude.{◌≡◌, ◌≢◌, ◌<◌, ◌≤◌, IsTrue, IfOk, IfErr, IsErrOf, OnErr, OnOk};
+ghost use Rattle.lisp_nonces.specs.Kept.{kept_at, with_value, NoneBelow, SameElsewhere};
+ghost use Rattle.lisp_nonces.specs.Store.{Rose, Proceeds, MaySave, MayFailSave};
 ghost use Rattle.lisp_nonces.specs.declared.fault.StoreFault.{StoreFault};
 ghost use Rattle.lisp_messages.specs.Message.{IsRegistration};
 ghost use Rattle.lisp_etr.specs.Config.{sent_pair};
-ghost use Rattle.lisp_etr.specs.Sending.{last_nonce, datagram_of, registration_of, IsBound, Settles, LeavesPair};
+ghost use Rattle.lisp_etr.specs.Sending.{last_nonce, datagram_of, registration_of, block_end, safe_after, Settles, LeavesPair};
 ghost use Rattle.lisp_etr.specs.declared.send_fault.SendFault.{SendFault};
 
 use crate::config::EtrConfig;
@@ -53,12 +53,17 @@ pub(crate) fn keep_block<S: NonceStore, A: Allocator>(
     safe: u64,
 ) -> Result<u64, SendFault>
     requires { nonce ≤ last_nonce }
+    ensures exact { IfOk result (λ saved. saved ≡ safe_after safe nonce config.now.nonce_block) }
     ensures safe { IfOk result (λ saved. nonce ≤ saved) }
+    ensures unasked { nonce ≤ safe → S.seen store.new ≡ S.seen store.old }
     ensures keeps_safe { IsTrue (S.seen store.old).is_honest → NoneBelow safe (kept_at (S.seen store.old).kept (sent_pair config.now)) → IfOk result (λ saved. NoneBelow saved (kept_at (S.seen store.new).kept (sent_pair config.now))) }
     ensures still_safe { IsTrue (S.seen store.old).is_honest → NoneBelow safe (kept_at (S.seen store.old).kept (sent_pair config.now)) → OnErr result (NoneBelow safe (kept_at (S.seen store.new).kept (sent_pair config.now))) }
-    ensures settles { IsTrue (S.seen store.old).is_honest → OnOk result (Settles (kept_at (S.seen store.old).kept (sent_pair config.now)) (kept_at (S.seen store.new).kept (sent_pair config.now)) nonce last_nonce) }
-    ensures leaves { IsTrue (S.seen store.old).is_honest → OnErr result (LeavesPair (kept_at (S.seen store.old).kept (sent_pair config.now)) (kept_at (S.seen store.new).kept (sent_pair config.now)) nonce) }
+    ensures settles { IsTrue (S.seen store.old).is_honest → OnOk result (Settles (kept_at (S.seen store.old).kept (sent_pair config.now)) (kept_at (S.seen store.new).kept (sent_pair config.now)) nonce config.now.nonce_block) }
+    ensures leaves { IsTrue (S.seen store.old).is_honest → OnErr result (LeavesPair (kept_at (S.seen store.old).kept (sent_pair config.now)) (kept_at (S.seen store.new).kept (sent_pair config.now)) nonce config.now.nonce_block) }
     ensures others { IsTrue (S.seen store.old).is_honest → SameElsewhere (S.seen store.old).kept (S.seen store.new).kept (sent_pair config.now) }
+    ensures saves { safe < nonce → OnOk result (MaySave (S.seen store.old)) }
+    ensures save_fails { IsErrOf result (SendFault.Store StoreFault.Device) → MayFailSave (S.seen store.old) }
+    ensures doubted { IsErrOf result (SendFault.Store StoreFault.Device) → IsTrue (S.seen store.old).is_obedient → kept_at (S.seen store.new).kept (sent_pair config.now) ≡ with_value (kept_at (S.seen store.old).kept (sent_pair config.now)) (block_end nonce config.now.nonce_block) }
     ensures store { IfErr result (λ fault. (f : StoreFault) × (fault ≡ SendFault.Store f) × (f ≢ StoreFault.Damaged)) }
     ensures memory { IsErrOf result (SendFault.Store StoreFault.OutOfMemory) → S.may_refuse }
     ensures refused { IfErr result (λ fault. fault ≢ SendFault.Store StoreFault.Device → S.seen store.new ≡ S.seen store.old) }
@@ -78,7 +83,7 @@ pub(crate) fn keep_block<S: NonceStore, A: Allocator>(
 // The last nonce of a block that begins with a nonce; none is above the last nonce of a router.
 fn block_end(nonce: u64, block: u16) -> u64
     requires { nonce ≤ last_nonce }
-    ensures { IsBound nonce last_nonce result }
+    ensures { result ≡ block_end nonce block }
 {
     let more = u64::from(block.clamp(1, MAX_NONCE_BLOCK)) - 1;
     (nonce + more).min(LAST_ROUTER_NONCE)

@@ -3,10 +3,10 @@
 ghost use Rattle.std.specs.Prelude.{◌≡◌, ◌≢◌, ◌-◌, [], ◌∷◌, Some, Ok, Err, IfOk, IfErr, OnOk, OnErr, IsErrOf, IsTrue, if◌then◌else◌};
 ghost use Rattle.std.specs.List.{Contains};
 ghost use Rattle.std.specs.FinMap.{empty};
-ghost use Rattle.lisp_nonces.specs.Kept.{kept_at, SameElsewhere, InDoubt, Narrows};
+ghost use Rattle.lisp_nonces.specs.Kept.{kept_at, picked, SameElsewhere, InDoubt, Narrows};
 ghost use Rattle.lisp_nonces.specs.Store.{Rose, Proceeds};
 ghost use Rattle.lisp_nonces.specs.Memory.{Memory, failed_once};
-ghost use Rattle.lisp_store.specs.Failing.{Failing, failing_state, failing_load, failing_save, fails};
+ghost use Rattle.lisp_store.specs.Failing.{Failing, failing_state, fails, failing_load, failing_after_load, failing_save, failing_saved, failing_faults};
 ghost use Rattle.lisp_nonces.specs.declared.fate.Fate.{Fate};
 ghost use Rattle.lisp_nonces.specs.declared.fault.StoreFault.{StoreFault};
 ghost use Rattle.lisp_nonces.specs.declared.pair.Pair.{Pair};
@@ -74,8 +74,7 @@ impl<A: Memory + Copy> NonceStore for Failing<A> {
     fn load(&mut self, pair: &Pair) -> Result<Option<u64>, StoreFault>
         // Exactly.
         ensures answer { result ≡ failing_load self.old pair.now }
-        ensures turn { self.new.turn ≡ self.old.turn - 1 }
-        ensures goes_on { IsTrue (fails self.old) → self.new.memory ≡ failed_once self.old.memory }
+        ensures after { self.new ≡ failing_after_load self.old }
 
         // What every store promises.
         ensures member { IfOk result (λ v. Contains (kept_at self.old.memory.kept pair.now) v) }
@@ -93,6 +92,9 @@ impl<A: Memory + Copy> NonceStore for Failing<A> {
     fn save(&mut self, pair: &Pair, nonce: u64) -> Result<(), StoreFault>
         // Exactly, where there is memory for it.
         ensures answer { result ≢ Err StoreFault.OutOfMemory → result ≡ failing_save self.old }
+        ensures values { result ≢ Err StoreFault.OutOfMemory → kept_at self.new.memory.kept pair.now ≡ failing_saved self.old (kept_at self.old.memory.kept pair.now) nonce }
+        ensures faults { result ≢ Err StoreFault.OutOfMemory → self.new.memory.faults ≡ failing_faults self.old }
+        ensures fate { self.new.memory.fate ≡ self.old.memory.fate }
         ensures turn { self.new.turn ≡ self.old.turn - 1 }
         ensures goes_on { IsTrue (fails self.old) → self.new.memory ≡ failed_once self.old.memory }
 
@@ -113,12 +115,21 @@ impl<A: Memory + Copy> NonceStore for Failing<A> {
 
 impl<A: Memory + Copy> WorldStore for Failing<A> {
     /// Arms the store in memory.
-    fn arm(&mut self, fate: Fate) {
+    fn arm(&mut self, fate: Fate)
+        ensures armed { self.new ≡ record { memory = record self.old.memory { fate = fate }; turn = self.old.turn } }
+    {
         self.memory.arm(fate);
     }
 
     /// Restarts the store in memory.
     fn restart(&mut self, pick: u64)
+        // Exactly.
+        ensures exactly { (q : Pair) → kept_at self.new.memory.kept q ≡ picked (kept_at self.old.memory.kept q) pick ∷ [] }
+        ensures faults { self.new.memory.faults ≡ self.old.memory.faults }
+        ensures fate { self.new.memory.fate ≡ self.old.memory.fate }
+        ensures turn { self.new.turn ≡ self.old.turn }
+
+        // What every store promises.
         ensures narrows { (q : Pair) → Narrows (kept_at self.old.memory.kept q) (kept_at self.new.memory.kept q) }
         ensures proceeds { Proceeds (failing_state self.old) (failing_state self.new) }
     {

@@ -3,6 +3,7 @@
 ghost use Rattle.std.specs.Prelude.{◌≡◌, ◌≢◌, ◌≤◌, ◌+◌, ◌-◌, ◌^◌, Err, false, IfOk, IfErr, OnErr, IsErrOf, length, min};
 ghost use Rattle.std.specs.FinMap.{empty};
 ghost use Rattle.lisp_nonces.specs.Store.{StoreState};
+ghost use Rattle.lisp_nonces.specs.declared.fate.Fate.{Fate};
 ghost use Rattle.lisp_nonces.specs.declared.fault.StoreFault.{StoreFault};
 
 use crate::text::{nonce_from_text, nonce_text};
@@ -52,7 +53,7 @@ impl<R: Files + AllocGlobal + Clone + Drop> FileStore<R> {
 }
 
 impl<R: Files + AllocGlobal> NonceStore for FileStore<R> {
-    ghost seen = { λ s. record { kept = empty; faults = s.faults; is_honest = false; is_quiet = false; is_obedient = false } };
+    ghost seen = { λ s. record { kept = empty; faults = s.faults; is_honest = false; is_quiet = false; is_obedient = false; fate = Fate.Done } };
 
     ghost may_refuse = { ⟦<Global as Memory>⟧.may_refuse };
 

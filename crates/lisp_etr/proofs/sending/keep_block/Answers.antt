@@ -1,12 +1,18 @@
-use Rattle.std.proofs.Common.{arith, Err, inr, refl, sym, ap, ◌∙◌, subst, inl}
+use Rattle.std.proofs.Common.{◌≡◌, ◌∷◌, [], ℕ, Some, arith, Err, inr, refl, sym, ap, ◌∙◌, subst, inl}
 use Rattle.lisp_etr.proofs.SafeLaws.{none_below, alone}
 use Rattle.lisp_nonces.specs.declared.pair.Pair.{Pair}
-use Rattle.lisp_nonces.specs.Kept.{kept_at, InDoubt}
+use Rattle.lisp_nonces.specs.Kept.{kept_at, with_value, InDoubt}
+use Rattle.lisp_etr.specs.Config.{Settings, sent_pair}
+use Rattle.lisp_etr.specs.Sending.{block_end}
 use Rattle.lisp_etr.proofs.Refusals.{store_fault, unsaved, apart}
 use Rattle.lisp_etr.proofs.sending.keep_block.Goals as goal
 
+-- what holds of the pair and the number of a save holds of a configuration's pair and the end of its block
+saved : (P : Pair → ℕ → Type 0) (nonce : ℕ) {pair : Pair} {end : ℕ} {inside now : Settings} → pair ≡ sent_pair now → end ≡ block_end nonce inside.nonce_block → inside ≡ now → P pair end → P (sent_pair now) (block_end nonce now.nonce_block)
+saved P nonce {end = saves} {now = now} pair end same holds = subst (λ (s : Settings). P (sent_pair now) (block_end nonce s.nonce_block)) same (subst (P (sent_pair now)) end (subst (λ (p : Pair). P p saves) pair holds))
+
 pub returns-in-Err-clause-still_safe : goal.returns-in-Err-clause-still_safe
-returns-in-Err-clause-still_safe g c honest none = none_below c.args.safe c.block_end-end.result _ _ (omega (arith, c.block_end-end.ensures.least, c.if-nonce-safe.false)) (rw (← c.pair.ensures) (c.in-Err.ensures.doubt honest)) none
+returns-in-Err-clause-still_safe g c honest none = none_below c.args.safe c.block_end-end.result _ _ (omega (arith, c.block_end-end.ensures, c.requires, c.if-nonce-safe.false)) (rw (← c.pair.ensures) (c.in-Err.ensures.doubt honest)) none
 
 pub returns-in-Err-clause-keeps_safe : goal.returns-in-Err-clause-keeps_safe
 returns-in-Err-clause-keeps_safe g c honest none = tt
@@ -18,10 +24,10 @@ pub returns-in-Ok-clause-keeps_safe : goal.returns-in-Ok-clause-keeps_safe
 returns-in-Ok-clause-keeps_safe g c honest none = alone c.block_end-end.result _ (ap (λ (p : Pair). kept_at (g.S.NonceStore.seen c.save.new.self).kept p) (sym c.pair.ensures) ∙ c.in-Ok.ensures.done honest)
 
 pub returns-in-Err-clause-leaves : goal.returns-in-Err-clause-leaves
-returns-in-Err-clause-leaves g c honest = inr (c.block_end-end.result, c.block_end-end.ensures, subst (λ (p : Pair). InDoubt (kept_at (g.S.NonceStore.seen c.args.store.now).kept p) (kept_at (g.S.NonceStore.seen c.save.new.self).kept p) c.block_end-end.result) c.pair.ensures (c.in-Err.ensures.doubt honest))
+returns-in-Err-clause-leaves g c honest = saved (λ p end. InDoubt (kept_at (g.S.NonceStore.seen c.args.store.now).kept p) (kept_at (g.S.NonceStore.seen c.save.new.self).kept p) end) c.args.nonce c.pair.ensures c.block_end-end.ensures c.config.view_is (c.in-Err.ensures.doubt honest)
 
 pub returns-in-Ok-clause-settles : goal.returns-in-Ok-clause-settles
-returns-in-Ok-clause-settles g c honest = inr (c.block_end-end.result, c.block_end-end.ensures, ap (λ (p : Pair). kept_at (g.S.NonceStore.seen c.save.new.self).kept p) (sym c.pair.ensures) ∙ c.in-Ok.ensures.done honest)
+returns-in-Ok-clause-settles g c honest = inr (saved (λ p end. kept_at (g.S.NonceStore.seen c.save.new.self).kept p ≡ Some end ∷ []) c.args.nonce c.pair.ensures c.block_end-end.ensures c.config.view_is (c.in-Ok.ensures.done honest))
 
 pub returns-in-Err-clause-refused : goal.returns-in-Err-clause-refused
 returns-in-Err-clause-refused g c = unsaved c.in-Err.fault c.in-Err.ensures.sound c.in-Err.ensures.refused
@@ -43,3 +49,9 @@ returns-in-Ok-clause-memory g c = apart _ _ (λ k. absurd (omega (arith, k)))
 
 pub returns-then-nonce-safe-clause-settles : goal.returns-then-nonce-safe-clause-settles
 returns-then-nonce-safe-clause-settles g c honest = inl refl
+
+pub returns-in-Err-clause-doubted : goal.returns-in-Err-clause-doubted
+returns-in-Err-clause-doubted g c failed obedient = saved (λ p end. kept_at (g.S.NonceStore.seen c.save.new.self).kept p ≡ with_value (kept_at (g.S.NonceStore.seen c.args.store.now).kept p) end) c.args.nonce c.pair.ensures c.block_end-end.ensures c.config.view_is (c.in-Err.ensures.doubted (ap Err (store_fault failed)) obedient)
+
+pub returns-in-Err-clause-save_fails : goal.returns-in-Err-clause-save_fails
+returns-in-Err-clause-save_fails g c failed = c.in-Err.ensures.save_fails (ap Err (store_fault failed))

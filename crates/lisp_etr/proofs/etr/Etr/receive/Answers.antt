@@ -1,8 +1,8 @@
-use Rattle.std.proofs.Common.{ap, is_ok, sym, ◌∙◌, Err, true≢false, ℕ, ◌<◌, length, IfOk, subst}
+use Rattle.std.proofs.Common.{ap, is_ok, sym, ◌∙◌, Err, true≢false, ℕ, ◌<◌, ◌≤◌, inr, length, IfOk, subst}
 use Rattle.std.proofs.lemmas.Result.{err_from_is_err_and, IfErr-at_err}
 use Rattle.lisp_messages.specs.Message.{Notification}
 use Rattle.lisp_etr.specs.Etr.{EtrState}
-use Rattle.lisp_etr.specs.Hearing.{heard, AnswerFits}
+use Rattle.lisp_etr.specs.Hearing.{heard, first_notice, AnswerFits}
 use Rattle.lisp_etr.proofs.HearingLaws.{same_fault, noticed, counts, counted_fits}
 use Rattle.lisp_etr.proofs.etr.Etr.receive.Goals as goal
 
@@ -37,6 +37,12 @@ returns-then-notify-ge-FIRST_NOTICE_NONCE-clause-fits g c = subst (λ (key : ℕ
 
 pub count-requires : goal.count-requires
 count-requires g c = subst (λ (e : EtrState). c.in_ok-server.server < length e.config.servers) c.self.view_is c.in_ok-server.ensures.server
+
+pub returns-then-notify-ge-FIRST_NOTICE_NONCE-clause-grows : goal.returns-then-notify-ge-FIRST_NOTICE_NONCE-clause-grows
+returns-then-notify-ge-FIRST_NOTICE_NONCE-clause-grows g c out =
+    let hears = ap (λ (e : EtrState). heard e.config c.args.from c.args.bytes.now) (sym c.self.view_is) ∙ c.in_ok-server.ensures.exact in
+    let late = subst (λ (nonce : ℕ). first_notice ≤ nonce) (ap (λ (m : Notification). m.nonce) c.notify.view_is) c.if-notify-ge-FIRST_NOTICE_NONCE.true in
+    (λ fault kind. true≢false (ap is_ok (c.in_ok-server.ensures.early fault kind)), inr (record { server = c.in_ok-server.server; message = c.in_ok-server.notify }, hears, late))
 
 pub returns-clause-memory : goal.returns-clause-memory
 returns-clause-memory g c out = absurd (c.count.ensures.plain out)

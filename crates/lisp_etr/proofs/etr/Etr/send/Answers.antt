@@ -6,7 +6,7 @@ use Rattle.lisp_nonces.specs.declared.fault.StoreFault.TheVariants.{Device}
 use Rattle.lisp_etr.specs.declared.send_fault.SendFault.TheVariants.{Store}
 use Rattle.lisp_etr.specs.Config.{sent_pair}
 use Rattle.lisp_etr.specs.Etr.{EtrState}
-use Rattle.lisp_etr.specs.Sending.{last_nonce, datagram_of, Sends, Settles, LeavesPair}
+use Rattle.lisp_etr.specs.Sending.{datagram_of, Sends, Settles, LeavesPair}
 use Rattle.lisp_etr.specs.Round.{started, sent}
 use Rattle.lisp_etr.specs.declared.round.Round.{Round}
 use Rattle.lisp_etr.proofs.Refusals.{kind, apart, neither, store_fault, told}
@@ -22,6 +22,7 @@ returns-clause-sends g c = subst (λ (s : EtrState). Sends s (record { config = 
   config = refl;
   database = refl;
   last = refl;
+  safe = c.in_ok-self-inside.ensures.exact;
   rounds = goes_on c.self.inside.rounds.items c.args.server (c.self.inside.last + 1) c.args.now c.index_mut.result.now c.send.new.self (omega (arith, c.if-server-len.false, c.len.ensures, c.self.inside.rounds.ok.0)) c.index_mut.ensures.value c.send.ensures;
 })
 
@@ -30,8 +31,8 @@ save_failed : (g : given.Over) (c : goal.After-drop-datagram g) → c.from_resid
 save_failed g c = (let p = err_from_is_err_and c.from_residual-in_err-self-inside.result c.from_residual-in_err-self-inside.ensures.1 in p.1 ∙ ap Err (p.2 ∙ c.in_err-self-inside.ensures.store.1))
 
 pub returns-in_err-self-inside-clause-leaves : goal.returns-in_err-self-inside-clause-leaves
-returns-in_err-self-inside-clause-leaves g c honest = told _ _ (λ _. LeavesPair (kept_at (g.S.NonceStore.seen c.args.store.now).kept (sent_pair c.args.self.now.config)) (kept_at (g.S.NonceStore.seen c.keep_block.new.store).kept (sent_pair c.args.self.now.config)) (c.args.self.now.last + 1)) (save_failed g c)
-    (subst (λ (s : EtrState). LeavesPair (kept_at (g.S.NonceStore.seen c.args.store.now).kept (sent_pair s.config)) (kept_at (g.S.NonceStore.seen c.keep_block.new.store).kept (sent_pair s.config)) (s.last + 1)) c.self.view_is (c.in_err-self-inside.ensures.leaves honest))
+returns-in_err-self-inside-clause-leaves g c honest = told _ _ (λ _. LeavesPair (kept_at (g.S.NonceStore.seen c.args.store.now).kept (sent_pair c.args.self.now.config)) (kept_at (g.S.NonceStore.seen c.keep_block.new.store).kept (sent_pair c.args.self.now.config)) (c.args.self.now.last + 1) c.args.self.now.config.nonce_block) (save_failed g c)
+    (subst (λ (s : EtrState). LeavesPair (kept_at (g.S.NonceStore.seen c.args.store.now).kept (sent_pair s.config)) (kept_at (g.S.NonceStore.seen c.keep_block.new.store).kept (sent_pair s.config)) (s.last + 1) s.config.nonce_block) c.self.view_is (c.in_err-self-inside.ensures.leaves honest))
 
 pub returns-in_err-self-inside-clause-settles : goal.returns-in_err-self-inside-clause-settles
 returns-in_err-self-inside-clause-settles g c honest =
@@ -42,7 +43,7 @@ pub returns-in_err-self-inside-clause-keeps_safe : goal.returns-in_err-self-insi
 returns-in_err-self-inside-clause-keeps_safe g c honest = subst (λ (s : EtrState). NoneBelow s.safe (kept_at (g.S.NonceStore.seen c.args.store.now).kept (sent_pair s.config)) → NoneBelow s.safe (kept_at (g.S.NonceStore.seen c.keep_block.new.store).kept (sent_pair s.config))) c.self.view_is (c.in_err-self-inside.ensures.still_safe honest)
 
 pub returns-clause-settles : goal.returns-clause-settles
-returns-clause-settles g c honest = subst (λ (s : EtrState). Settles (kept_at (g.S.NonceStore.seen c.args.store.now).kept (sent_pair s.config)) (kept_at (g.S.NonceStore.seen c.keep_block.new.store).kept (sent_pair s.config)) (s.last + 1) last_nonce) c.self.view_is (c.in_ok-self-inside.ensures.settles honest)
+returns-clause-settles g c honest = subst (λ (s : EtrState). Settles (kept_at (g.S.NonceStore.seen c.args.store.now).kept (sent_pair s.config)) (kept_at (g.S.NonceStore.seen c.keep_block.new.store).kept (sent_pair s.config)) (s.last + 1) s.config.nonce_block) c.self.view_is (c.in_ok-self-inside.ensures.settles honest)
 
 pub returns-clause-keeps_safe : goal.returns-clause-keeps_safe
 returns-clause-keeps_safe g c honest = subst (λ (s : EtrState). NoneBelow s.safe (kept_at (g.S.NonceStore.seen c.args.store.now).kept (sent_pair s.config)) → NoneBelow c.in_ok-self-inside.field-0 (kept_at (g.S.NonceStore.seen c.keep_block.new.store).kept (sent_pair s.config))) c.self.view_is (c.in_ok-self-inside.ensures.keeps_safe honest)
