@@ -51,60 +51,9 @@ module _ (X : Type 0) (e : EtrState) (place : ℕ) where
       let there : place < length e.config.servers = server_there (refused_as (Store f)) _ _ (λ clash. absurd cc) none in
       (there, nonce_left (refused_as (Store f)) _ _ _ (λ clash. absurd cc) there spent)
 
--- a check that isn't refused for want of memory
-abbrev Plain : {X : Type 0} → Result X ReadFault → Type 0
-Plain (Ok x) = Unit {0}
-Plain (Err fault) = fault ≢ reads.OutOfMemory
-
--- a chain of them
-then_plain : {X Y : Type 0} (r : Result X ReadFault) (k : X → Result Y ReadFault) → Plain r → ((x : X) → Plain (k x)) → Plain (r >>= k)
-then_plain (Ok x) k first others = others x
-then_plain (Err fault) k first others = first
-
-plain_after : (n : ℕ) (bytes : List ℕ) → Plain (after n bytes)
-plain_after n bytes = here (nat_lt (length bytes) n)
-  where
-    here : (b : Bool) → Plain (if b then Err reads.Short else Ok (drop n bytes))
-    here true = λ e. absurd cc
-    here false = tt
-
-plain_require : (fault : ReadFault) (holds : Bool) → fault ≢ reads.OutOfMemory → Plain (require fault holds)
-plain_require fault true other = tt
-plain_require fault false other = other
-
-plain_kind : (number : ℕ) → Plain (kind_of number)
-plain_kind number = here (number == 3) (number == 4) (number == 5)
-  where
-    here : (a b c : Bool) → Plain (if a then Ok kinds.Register else (if b then Ok kinds.Notify else (if c then Ok kinds.NotifyAck else Err reads.Kind)))
-    here true b c = tt
-    here false true c = tt
-    here false false true = tt
-    here false false false = λ e. absurd cc
-
--- so is the reading of the bytes before the records
-plain_head : (bytes : List ℕ) → Plain (kind_at bytes)
-unfolding kind_at
-plain_head bytes =
-    then_plain (after 16 bytes) _ (plain_after 16 bytes) (λ _.
-    then_plain (kind_of (slice_index bytes 0 / 16)) _ (plain_kind (slice_index bytes 0 / 16)) (λ kind.
-    then_plain (require reads.Algorithm (slice_index bytes 13 == 2)) _ (plain_require reads.Algorithm _ (λ e. absurd cc)) (λ _.
-    then_plain (require reads.AuthLength (number_at bytes 14 == 16)) _ (plain_require reads.AuthLength _ (λ e. absurd cc)) (λ _.
-    then_plain (after 32 bytes) _ (plain_after 32 bytes) (λ _. tt)))))
-
--- a fault of those bytes is told as one of reading
-told : (X : Type 0) (fault : ReadFault) → fault ≢ reads.OutOfMemory → IsErrOf {T = X} (Err (fault_of_read fault)) notify_faults.OutOfMemory → ⊥
-told X reads.OutOfMemory other = λ e. other refl
-told X fault other = λ e. absurd cc
-
--- a router is out of memory only after them
-pub has_head : (X : Type 0) (r : Result X NotifyFault) (bytes : List ℕ) → ((fault : ReadFault) → kind_at bytes ≡ Err fault → r ≡ Err (fault_of_read fault)) → IsErrOf r notify_faults.OutOfMemory → HasHead bytes
-has_head X r bytes early out fault is =
-    let plain : fault ≢ reads.OutOfMemory = subst (λ (r : Result Kind ReadFault). Plain r) is (plain_head bytes) in
-    told X fault plain (subst (λ (r : Result X NotifyFault). IsErrOf r notify_faults.OutOfMemory) (early fault is) out)
-
 -- a store that wasn't used
 pub unused : (store : StoreState) → Proceeds store store
-unused store = record { honest = refl; obedient = refl; count = omega arith; quiet = λ quiet. (quiet, refl) }
+unused store = record { honest = refl; obedient = refl; fate = refl; count = omega arith; quiet = λ quiet. (quiet, refl) }
 
 -- a result that is refused as a fault, in two spellings
 pub err_is : {X E : Type 0} (r : Result X E) (fault : E) → IsErrAnd r (λ e. e ≡ fault) → r ≡ Err fault

@@ -177,7 +177,7 @@ impl<S: WorldStore, A: Memory + Copy> RouterNode<S, A> {
 
     /// It stops, its store crashes, and it starts again; or it is down and says why.
     pub fn restart(&mut self, pick: u64, how: Start<A>) -> Result<(), StartFault>
-        ensures restarts { RestartsRouter self.old self.new how.db how.now result }
+        ensures restarts { RestartsRouter self.old self.new pick how.db how.now result }
         ensures memory { IsErrOf result StartFault.OutOfMemory → A.may_refuse }
         ensures store_memory { IsErrOf result (StartFault.Store StoreFault.OutOfMemory) → S.may_refuse }
     {

@@ -63,7 +63,7 @@ impl<S: WorldStore, A: Memory + Copy> ServerNode<S, A> {
     /// It stops, its store crashes, and it starts with its sites alone. Takes no memory.
     pub fn restart(&mut self, alloc: A, pick: u64)
         ensures core { self.new.core ≡ record { sites = self.old.core.sites; rows = []; nonces = empty; contacts = []; notices = [] } }
-        ensures crashes { Restarts self.old.store self.new.store }
+        ensures crashes { Restarts self.old.store self.new.store pick }
     {
         self.store.restart(pick);
         replace_with(&mut self.core, alloc, started_again);

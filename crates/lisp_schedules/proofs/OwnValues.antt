@@ -4,7 +4,8 @@ use Rattle.std.specs.Prelude.{◌≢◌, ◌⊎◌}
 use Rattle.lisp_nonces.specs.declared.pair.Pair.{Pair}
 use Rattle.lisp_nonces.specs.declared.pair.PairKind.TheVariants as kinds
 use Rattle.lisp_nonces.specs.Kept.{Kept, kept_at, number, InDoubt, Narrows}
-use Rattle.lisp_etr.specs.Sending.{last_nonce, block_end}
+use Rattle.lisp_etr.specs.Sending.{block_end}
+use Rattle.lisp_etr.proofs.SafeLaws.{block_bound}
 use Rattle.lisp_etr.specs.declared.send_fault.SendFault.{SendFault}
 use Rattle.lisp_etr.specs.declared.send_fault.SendFault.TheVariants as sends
 use Rattle.lisp_checks.specs.declared.refused.Refused.{Refused}
@@ -55,10 +56,6 @@ received_clash e = absurd cc
 notice_clash : kinds.Sent ≢ kinds.Notice
 notice_clash e = absurd cc
 
--- the end of a block isn't below its first nonce
-block_least : (nonce block : ℕ) → nonce ≤ last_nonce → nonce ≤ block_end nonce block
-block_least nonce block low = omega (arith, low)
-
 module _ (t : Turn) where
   not_received : (p : Pair) → p.kind ≡ kinds.Received → pair_at t.opening t.past t.node ≢ p
   not_received p is e = received_clash (ap (λ (x : Pair). x.kind) e ∙ is)
@@ -80,7 +77,7 @@ module _ (t : Turn) where
     base = row.1.base;
     counts = subst (λ (n : ℕ). CountsFrom t.opening t.past n row.1.base) (sym is) row.1.counts;
     nonce = block_end (number row.1.base + 1) (settings t.opening t.past router).nonce_block;
-    above = (let least = block_least (number row.1.base + 1) (settings t.opening t.past router).nonce_block (let left = row.1.left in omega (arith, left)) in omega (arith, least));
+    above = (let bound = block_bound (number row.1.base + 1) (settings t.opening t.past router).nonce_block (let left = row.1.left in omega (arith, left)) in let least = bound.least in omega (arith, least));
     doubt = subst (λ (n : ℕ). InDoubt (values t (pair_at t.opening t.past n)) (values_after t (pair_at t.opening t.past n)) (block_end (number row.1.base + 1) (settings t.opening t.past router).nonce_block)) (sym is) row.1.fails.here;
   })
 

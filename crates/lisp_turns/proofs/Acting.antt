@@ -15,7 +15,7 @@ use Rattle.lisp_schedules.proofs.Locality.{same_number, leaves_others}
 use Rattle.lisp_turns.specs.World.{Posted, ServerNode, RouterNode, WorldState}
 use Rattle.lisp_turns.specs.Calls.{Uses}
 use Rattle.lisp_turns.specs.Turns.{ServerActs, RouterActs, address_of}
-use Rattle.lisp_turns.specs.Stands.{Shows, Carries, StandsInSteps, StandsInBag, StandsForServer, StandsForRouter, Stands}
+use Rattle.lisp_turns.specs.Stands.{shown_by, Shows, Carries, StandsInSteps, StandsInBag, StandsForServer, StandsForRouter, Stands}
 use Rattle.lisp_turns.proofs.Gets.{none_is_some, same_some, AtSet, get_set, Either, get_both}
 use Rattle.lisp_turns.proofs.Going.{server_stays, router_stays}
 
@@ -39,26 +39,37 @@ adds_one o T s d i is carries = record { items = i ∷ []; added = is; count = r
     each (suc k) e j one other = absurd (none_is_some one)
 
 -- what a store shows of an event's call: before it as the trace says, and after it what the step says
-pub record Shown-in (armed called new : StoreState) (before : Shown) : Type 0 where
+pub record Shown-in (fate : Fate) (armed called new : StoreState) (before : Shown) : Type 0 where
   pub armed_shows : Shows armed before
+  pub fated : IsTrue before.is_obedient → armed.fate ≡ fate
   pub honest : IsTrue called.is_honest
-  pub after : Shows new (record { kept = called.kept; faults = called.faults })
+  pub after : Shows new (shown_by called)
+  pub obedient : called.is_obedient ≡ before.is_obedient
   pub count : before.faults ≤ called.faults
 
 -- so it does in each use of a store
-pub uses_shown : (old armed called new : StoreState) (fate : Fate) (before : Shown) → Shows old before → Uses old fate armed called new → Shown-in armed called new before
+pub uses_shown : (old armed called new : StoreState) (fate : Fate) (before : Shown) → Shows old before → Uses old fate armed called new → Shown-in fate armed called new before
 uses_shown old armed called new fate before shows uses = record {
-  armed_shows = record { honest = honest; kept = uses.arms.kept ∙ shows.kept; faults = uses.arms.count ∙ shows.faults };
+  armed_shows = record { honest = honest; kept = uses.arms.kept ∙ shows.kept; faults = uses.arms.count ∙ shows.faults; obedient = obedient };
+  fated = λ obeys. uses.arms.fate (subst (λ (b : Bool). IsTrue b) (sym shows.obedient) obeys);
   honest = called_honest;
-  after = record { honest = subst (λ (b : Bool). IsTrue b) (sym uses.disarms.honest) called_honest; kept = uses.disarms.kept; faults = uses.disarms.count };
+  after = record { honest = subst (λ (b : Bool). IsTrue b) (sym uses.disarms.honest) called_honest; kept = uses.disarms.kept; faults = uses.disarms.count; obedient = uses.disarms.obedient };
+  obedient = uses.proceeds.obedient ∙ obedient;
   count = omega (arith, uses.proceeds.count, uses.arms.count, shows.faults);
 }
   where
+    obedient : armed.is_obedient ≡ before.is_obedient
+    obedient = uses.arms.obedient ∙ shows.obedient
+
     honest : IsTrue armed.is_honest
     honest = subst (λ (b : Bool). IsTrue b) (sym uses.arms.honest) shows.honest
 
     called_honest : IsTrue called.is_honest
     called_honest = subst (λ (b : Bool). IsTrue b) (sym uses.proceeds.honest) honest
+
+-- what is said of the fate that an obedient store was armed with holds of the event's fate
+pub by_fate : (P : Fate → Type 0) (fate : Fate) (armed : StoreState) (before : Shown) → Shows armed before → (IsTrue before.is_obedient → armed.fate ≡ fate) → (IsTrue armed.is_obedient → P armed.fate) → IsTrue before.is_obedient → P fate
+by_fate P fate armed before shows fated said obeys = subst P (fated obeys) (said (subst (λ (b : Bool). IsTrue b) (sym shows.obedient) obeys))
 
 module _ (w : WorldState) (o : Opening) (T : List Step) (stand : Stands w o T) where
   -- the numbers of nodes are those of the configuration, and so are their addresses

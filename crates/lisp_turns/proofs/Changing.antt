@@ -62,6 +62,7 @@ module _ (old new : WorldState) (router : ℕ) (db : List Mapping) (line : Line)
     up_legal : Legal o T up_step
     up_legal = record {
       faults = omega arith;
+      obedient = refl;
       row = record { acts = record { kind = kind; acts = refl; state = part.up }; names = refl; fits = changes.fits; count = refl; same = refl };
     }
 
@@ -93,7 +94,7 @@ module _ (old new : WorldState) (router : ℕ) (db : List Mapping) (line : Line)
 
   -- the step of a router that is down is legal
   down_legal : is_up T router ≡ false → Legal o T (change o T router db (lines.Down router))
-  down_legal down = record { faults = omega arith; row = record { acts = record { kind = kind; acts = refl; state = down }; names = refl; same = refl } }
+  down_legal down = record { faults = omega arith; obedient = refl; row = record { acts = record { kind = kind; acts = refl; state = down }; names = refl; same = refl } }
 
   -- by whether the router is up
   change_case : (core : RouterCore) → changes.acts.before.core ≡ core → StandsForCore o T router core → Stands new o (change o T router db line ∷ T)

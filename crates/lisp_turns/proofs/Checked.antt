@@ -73,7 +73,7 @@ module _ (sites : List SiteEntry) (bytes : List ℕ) (m : Registration) where
 -- a base that an honest store may answer is one by what it keeps
 base_kept : (last : Option ℕ) (store : StoreState) (pair : Pair) (base : Option ℕ) → IsTrue store.is_honest → IsBase last store pair base → IsBaseIn last (kept_at store.kept pair) base
 base_kept (Some x) store pair base honest is = is
-base_kept None store pair base honest is = is honest
+base_kept None store pair base honest is = is.1 honest
 
 -- and by what the trace says of the last nonce and of the store
 pub base_in : (known last : Option ℕ) (store : StoreState) (kept : Kept) (pair : Pair) (base : Option ℕ) → IsTrue store.is_honest → store.kept ≡ kept → known ≡ last → IsBase known store pair base → IsBaseIn last (kept_at kept pair) base

@@ -129,7 +129,7 @@ module _ (w : WorldState) (o : Opening) (T : List Step) (stand : Stands w o T) w
     listed_was_sent server listed lists row has =
         let latest = is_latest server listed lists row has in
         let sent = clean_laws.held_was_sent o T network legal clean server row.router row.mapping.eid row latest in
-        (sent.0, record { latest = latest; sent = sent.1; whom = sent.2; of = sent.3; record_of = sent.4 })
+        (sent.0, record { latest = latest; sent = sent.1; whom = sent.2; of = sent.3; record_of = sent.4; made = sent.5 })
 
     listed_agree : ListedAgree w o T
     listed_agree one other listed listed' lists lists' g h has has' router eid d e sent sent' none =

@@ -13,14 +13,14 @@ use Rattle.lisp_records.specs.Record.{Mapping}
 use Rattle.lisp_records.specs.Result.{◌>>=◌}
 use Rattle.lisp_messages.specs.Authentic.{signed}
 use Rattle.lisp_messages.specs.Message.{Notification, IsNotification, Notifies}
-use Rattle.lisp_messages.specs.Reading.{HasHead, message_at}
+use Rattle.lisp_messages.specs.Reading.{HasHead, HasRecords, message_at}
 use Rattle.lisp_messages.specs.Written.{written, written_notify}
 use Rattle.lisp_nonces.specs.declared.fate.Fate.{Fate}
 use Rattle.lisp_nonces.specs.Kept.{kept_at, NoneBelow}
 use Rattle.lisp_nonces.specs.Store.{StoreState}
 use Rattle.lisp_etr.specs.Config.{Settings}
 use Rattle.lisp_etr.specs.Etr.{EtrState}
-use Rattle.lisp_etr.specs.Hearing.{Gives, Heard, AnswerFits, ack_of, checked, server_at, heard as heard_of, first_notice, round_at, is_latest, notice_in, counted_in, seen_in, seen_at, after as left_after}
+use Rattle.lisp_etr.specs.Hearing.{Gives, Heard, AnswerFits, HearsNotice, TakesMemory, ack_of, checked, server_at, heard as heard_of, first_notice, round_at, is_latest, notice_in, counted_in, seen_in, seen_at, after as left_after}
 use Rattle.lisp_etr.specs.Round.{started, counted}
 use Rattle.lisp_etr.specs.declared.notify_fault.NotifyFault.{NotifyFault}
 use Rattle.lisp_etr.specs.declared.notify_fault.NotifyFault.TheVariants as faults
@@ -30,10 +30,10 @@ use Rattle.lisp_etr.specs.declared.seen.Seen.TheVariants.{Counted}
 use Rattle.lisp_schedules.specs.declared.event.Event.TheVariants as events
 use Rattle.lisp_schedules.specs.declared.line.Line.{Line}
 use Rattle.lisp_schedules.specs.declared.line.Line.TheVariants as lines
-use Rattle.lisp_schedules.specs.Trace.{Happening, Shown, Step, Opening, address_at, is_router, router_at, settings, database, shown, is_up, up_after, database_after}
+use Rattle.lisp_schedules.specs.Trace.{Happening, Shown, Step, Opening, fate_of, address_at, is_router, router_at, settings, database, shown, is_up, up_after, database_after}
 use Rattle.lisp_schedules.specs.Bag.{Arrival, bytes_of, as_notify, ack_item, arrival_in, posted, past, bag}
 use Rattle.lisp_schedules.specs.Counted.{server_from, heard, latest}
-use Rattle.lisp_schedules.specs.Hearing.{refused_with, counted_line, line_of, Hears}
+use Rattle.lisp_schedules.specs.Hearing.{refused_with, counted_line, line_of, IsToAnswer, Hears}
 use Rattle.lisp_schedules.specs.Legal.{Arrives}
 use Rattle.lisp_schedules.specs.Sending.{pair_at, last_sent, start_values}
 use Rattle.lisp_schedules.specs.Turn.{Turn, IsBase}
@@ -106,7 +106,7 @@ module _ (A : Type 0) (old : WorldState) (o : Opening) (T : List Step) (stand : 
     (e : EtrState) (own : StandsForEtr o T node e) (store : StoreState) (shows : Shows store (shown o T node)) (from : Addr) (from_is : a.from ≡ from) where
   -- the turn; the router's list; the step of a line; the line of an answer
   abbrev turn : Turn
-  turn = turn_at o T node (shown o T node)
+  turn = turn_at o T node (fate_of event) (shown o T node)
 
   abbrev servers : List ℕ
   servers = (router_at o.config node).servers
@@ -126,7 +126,7 @@ module _ (A : Type 0) (old : WorldState) (o : Opening) (T : List Step) (stand : 
   ComesBy ans = Comes (line_by ans) (acknowledges (address_of old node) from ans) (left_after e ans)
 
   -- the row of a line of the trace's own reading
-  hears_row : (line : Line) → (line ≡ line_of turn (heard o T node a)) ⊎ (HasHead a.bytes × (line ≡ refused_with turn faults.OutOfMemory)) → Hears turn a line
+  hears_row : (line : Line) → (line ≡ line_of turn (heard o T node a)) ⊎ (HasHead a.bytes × (HasRecords a.bytes ⊎ IsToAnswer turn a) × (line ≡ refused_with turn faults.OutOfMemory)) → Hears turn a line
   hears_row line comes = record { acts = record { kind = kind; acts = refl; state = own.up }; same = refl; comes = comes }
 
   -- the router goes on, with other rounds at most
@@ -147,10 +147,11 @@ module _ (A : Type 0) (old : WorldState) (o : Opening) (T : List Step) (stand : 
   router_part line etr core = record { me = part.me; servers = part.servers; core = core }
 
   -- it is refused
-  refuses : (fault : NotifyFault) → (refused_with turn fault ≡ line_of turn (heard o T node a)) ⊎ (HasHead a.bytes × (refused_with turn fault ≡ refused_with turn faults.OutOfMemory)) → ComesBy (Err fault)
+  refuses : (fault : NotifyFault) → (refused_with turn fault ≡ line_of turn (heard o T node a)) ⊎ (HasHead a.bytes × (HasRecords a.bytes ⊎ IsToAnswer turn a) × (refused_with turn fault ≡ refused_with turn faults.OutOfMemory)) → ComesBy (Err fault)
   refuses fault comes = record {
     row = hears_row (refused_with turn fault) comes;
     count = omega arith;
+    obedient = refl;
     adds = adds_none o T (step (refused_with turn fault)) refl;
     shows = shows;
     part = router_part (refused_with turn fault) e (goes_on (refused_with turn fault) e.rounds refl refl refl (λ i k r listed is. let was = own.rounds i k r listed is in record { keeps = was.keeps; latest = was.latest; acked = was.acked }));
@@ -212,6 +213,7 @@ module _ (A : Type 0) (old : WorldState) (o : Opening) (T : List Step) (stand : 
     notices high fits = record {
       row = hears_row noticed (inl (noticed_is high));
       count = omega arith;
+      obedient = refl;
       adds = adds_one o T (step noticed) answered (ack_item o T node a g.message) notice_added (notice_carries fits);
       shows = shows;
       part = router_part noticed e (goes_on noticed e.rounds refl refl refl (λ i k r listed is. let was = own.rounds i k r listed is in record { keeps = was.keeps; latest = was.latest; acked = was.acked }));
@@ -254,6 +256,7 @@ module _ (A : Type 0) (old : WorldState) (o : Opening) (T : List Step) (stand : 
       counts last = moved o T event node (shown o T node) (Arrives turn a) (line_by (Ok (Counted h.server h.message.nonce))) said [] [] _ _ (ap (λ n. lines.Counted node n e.config.key_id h.message.nonce) number_is) refl refl (record {
         row = hears_row said (inl (said_is last));
         count = omega arith;
+        obedient = refl;
         adds = adds_none o T (step said) refl;
         shows = shows;
         part = router_part said (record e { rounds = new_rounds }) (goes_on said new_rounds refl refl (length-set e.rounds h.server (counted e.config.key_id (round_at e.rounds h.server))) (counts_rounds last));
@@ -302,18 +305,31 @@ module _ (A : Type 0) (old : WorldState) (o : Opening) (T : List Step) (stand : 
   comes_by bytes bytes_are read_is etr ans call = at (given ans (seen_at e from bytes) call.gives)
     where
       head_of : ans ≡ Err faults.OutOfMemory → HasHead a.bytes
-      head_of is = subst HasHead (sym bytes_are) (subst (λ (x : Result (Seen A) NotifyFault). IsErrOf x faults.OutOfMemory → HasHead bytes) is call.head refl)
+      head_of is = subst HasHead (sym bytes_are) (subst (λ (x : Result (Seen A) NotifyFault). IsErrOf x faults.OutOfMemory → TakesMemory e.config from bytes) is call.grows refl).0
+
+      -- what takes memory is to be read, or a notice that passed all checks on both sides
+      answer_of : (h : Heard) (t : Result Heard NotifyFault) → heard o T node a ≡ t → Alike (settings o T node) a.read from_place (server_from o.config node a.from) (Ok h) t → first_notice ≤ h.message.nonce → IsToAnswer turn a
+      answer_of h (Ok g) heard_is same high = record { what = g; hears = heard_is; own = subst (λ (m : Notification). first_notice ≤ m.nonce) same.message high }
+      answer_of h (Err f) heard_is same high = absurd same
+
+      takes : HasRecords bytes ⊎ HearsNotice e.config from bytes → HasRecords a.bytes ⊎ IsToAnswer turn a
+      takes (inl records) = inl (subst HasRecords (sym bytes_are) records)
+      takes (inr notice) = inr (answer_of notice.0 (heard o T node a) refl
+          (subst (λ (r : Result Heard NotifyFault). Alike (settings o T node) a.read from_place (server_from o.config node a.from) r (heard o T node a)) (sym (by_place bytes bytes_are read_is) ∙ notice.1) both_heard) notice.2)
+
+      taken_of : ans ≡ Err faults.OutOfMemory → HasRecords a.bytes ⊎ IsToAnswer turn a
+      taken_of is = takes (subst (λ (x : Result (Seen A) NotifyFault). IsErrOf x faults.OutOfMemory → TakesMemory e.config from bytes) is call.grows refl).1
 
       at : (ans ≡ seen_at e from bytes) ⊎ (ans ≡ Err faults.OutOfMemory) → ComesBy ans
       at (inl is) = by_both ans (checked (settings o T node) a.bytes a.read from_place) (heard o T node a) refl both_heard (is ∙ ap (λ (r : Result Heard NotifyFault). r >>= seen_in e) (by_place bytes bytes_are read_is)) call.fits
-      at (inr is) = subst ComesBy (sym is) (refuses faults.OutOfMemory (inr (head_of is, refl)))
+      at (inr is) = subst ComesBy (sym is) (refuses faults.OutOfMemory (inr (head_of is, taken_of is, refl)))
 
 -- what arrives at a router
 module _ (A : Type 0) (old new : WorldState) (o : Opening) (T : List Step) (stand : Stands old o T) (node : ℕ) (fate : Fate) (from : Addr) (bytes : List ℕ) (line : Line) (arrived : ArrivesAtRouter A old new node fate from bytes line)
     (event : Happening) (arrival : IsArrival event) (a : Arrival) (arrives : arrival_in (bag o T) event ≡ Some a) (from_is : a.from ≡ from) (bytes_are : a.bytes ≡ bytes) (read_is : a.read ≡ message_at bytes) where
   -- the step of the router
   abbrev Goes : Type 0
-  Goes = RouterStep o T event node (shown o T node) (Arrives (turn_at o T node (shown o T node)) a) line arrived.more arrived.acts.after
+  Goes = RouterStep o T event node (shown o T node) (Arrives (turn_at o T node (fate_of event) (shown o T node)) a) line arrived.more arrived.acts.after
 
   -- the router and its store are what the trace says
   part_here : StandsForRouter o T node arrived.acts.before
@@ -330,6 +346,7 @@ module _ (A : Type 0) (old new : WorldState) (o : Opening) (T : List Step) (stan
   hears_down config db is core at = moved o T event node (shown o T node) _ line (lines.Down node) arrived.more [] arrived.acts.after arrived.acts.before at.1 at.2 at.0 (record {
     row = record { acts = record { kind = kind_here; acts = refl; state = core.0 }; names = refl; same = refl };
     count = omega arith;
+    obedient = refl;
     adds = adds_none o T _ refl;
     shows = shows_here;
     part = record {
@@ -343,8 +360,8 @@ module _ (A : Type 0) (old new : WorldState) (o : Opening) (T : List Step) (stan
   -- what a store shows that was armed and used for nothing
   shows_after : (armed : StoreState) → Uses arrived.acts.before.store fate armed armed arrived.acts.after.store → Shows arrived.acts.after.store (shown o T node)
   shows_after armed uses =
-      let x : Shown-in armed armed arrived.acts.after.store (shown o T node) = uses_shown arrived.acts.before.store armed armed arrived.acts.after.store fate (shown o T node) shows_here uses in
-      record { honest = x.after.honest; kept = x.after.kept ∙ x.armed_shows.kept; faults = x.after.faults ∙ x.armed_shows.faults }
+      let x : Shown-in fate armed armed arrived.acts.after.store (shown o T node) = uses_shown arrived.acts.before.store armed armed arrived.acts.after.store fate (shown o T node) shows_here uses in
+      record { honest = x.after.honest; kept = x.after.kept ∙ x.armed_shows.kept; faults = x.after.faults ∙ x.armed_shows.faults; obedient = x.after.obedient ∙ x.armed_shows.obedient }
 
   -- one that is up hears it
   hears_up : (e : EtrState) → StandsForEtr o T node e → HearsUp A old node arrived.acts.before arrived.acts.after fate from bytes e line arrived.more → Goes

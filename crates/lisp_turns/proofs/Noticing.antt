@@ -17,7 +17,8 @@ use Rattle.lisp_messages.specs.Message.{IsNotification, Notifies}
 use Rattle.lisp_messages.specs.Written.{written_notify}
 use Rattle.lisp_nonces.specs.declared.fault.StoreFault.{StoreFault}
 use Rattle.lisp_nonces.specs.declared.fate.Fate.{Fate}
-use Rattle.lisp_nonces.specs.Kept.{Kept, kept_at, number, InDoubt}
+use Rattle.lisp_nonces.specs.declared.fate.Fate.TheVariants.{Doubt, LoadFails}
+use Rattle.lisp_nonces.specs.Kept.{Kept, kept_at, with_value, number, InDoubt}
 use Rattle.lisp_nonces.specs.Store.{StoreState}
 use Rattle.lisp_nonces.specs.Store.{Rose as StoreRose}
 use Rattle.lisp_lookup.specs.Records.{live_of}
@@ -51,9 +52,9 @@ use Rattle.lisp_schedules.proofs.Locality.{same_number}
 use Rattle.lisp_turns.specs.World.{Posted, WorldState}
 use Rattle.lisp_turns.specs.Turns.{address_of, SaysNoticed, SaysNotice}
 use Rattle.lisp_turns.specs.Turns.{NoticesFrom as NoticeTurn}
-use Rattle.lisp_turns.specs.Stands.{IsStanding, SameNotice, StandsForServer, Stands, StandsAfter}
+use Rattle.lisp_turns.specs.Stands.{shown_by, IsStanding, SameNotice, StandsForServer, Stands, StandsAfter}
 use Rattle.lisp_turns.proofs.Heads.{head_written}
-use Rattle.lisp_turns.proofs.Acting.{Adds, adds_none, adds_one, Shown-in, uses_shown, server_is, address_is, server_acts}
+use Rattle.lisp_turns.proofs.Acting.{Adds, adds_none, adds_one, by_fate, Shown-in, uses_shown, server_is, address_is, server_acts}
 use Rattle.lisp_turns.proofs.LiveRows as live_rows
 use Rattle.lisp_turns.proofs.Going.{notice_goes}
 use Rattle.lisp_turns.proofs.NoticeParts.{its_me, known_router, same_or_other, found, found_without, router_itself, router_other, part_after}
@@ -92,7 +93,7 @@ module _ (old new : WorldState) (server router : ℕ) (fate : Fate) (line : Line
 
   -- the step, by its line
   abbrev step : Line → Step
-  step said = record { event = events.Notice server router fate; line = said; actor = server; shown = record { kept = called.kept; faults = called.faults } }
+  step said = record { event = events.Notice server router fate; line = said; actor = server; shown = shown_by called }
 
   -- the turn is the Map-Server's
   acting : (said : Line) → IsServers (turn_of o T (step said)) server
@@ -107,8 +108,16 @@ module _ (old new : WorldState) (server router : ℕ) (fate : Fate) (line : Line
   time said = omega arith
 
   -- what its store shows in the call
-  shows : Shown-in armed called turn.acts.after.store (shown o T server)
+  shows : Shown-in fate armed called turn.acts.after.store (shown o T server)
   shows = uses_shown turn.acts.before.store armed called turn.acts.after.store fate (shown o T server) (stand.steps.server_stores server turn.acts.before turn.acts.was) turn.notifies.uses
+
+  -- what is said of the fate that an obedient store was armed with
+  by : (P : Fate → Type 0) → (IsTrue armed.is_obedient → P armed.fate) → IsTrue (shown o T server).is_obedient → P fate
+  by P said = by_fate P fate armed (shown o T server) shows.armed_shows shows.fated said
+
+  -- the last nonce of the notices is in memory, or was loaded
+  loads_in : (last : Option ℕ) → IsLast core armed last → last_notice T server ≡ None → IsTrue (shown o T server).is_obedient → fate ≢ LoadFails
+  loads_in last counts none = by (λ f. f ≢ LoadFails) (subst (λ (known : Option ℕ). IsStoreBase known armed notice_pair last) (part.notice_nonce ∙ none) counts).0
 
   -- the store that is used is honest
   is_honest : IsTrue armed.is_honest
@@ -141,7 +150,7 @@ module _ (old new : WorldState) (server router : ℕ) (fate : Fate) (line : Line
     where
       by : (known : Option ℕ) → IsStoreBase known armed notice_pair last → IsBase known (kept_at (shown o T server).kept notice_pair) last
       by (Some n) is = is
-      by None is = subst (λ (kept : Kept). Contains (kept_at kept notice_pair) last) shows.armed_shows.kept (is is_honest)
+      by None is = subst (λ (kept : Kept). Contains (kept_at kept notice_pair) last) shows.armed_shows.kept (is.1 is_honest)
 
   -- a notice goes out
   module _ (to : Addr) (bytes : List ℕ) (announced : Announces core after armed called me now to bytes) where
@@ -164,9 +173,9 @@ module _ (old new : WorldState) (server router : ℕ) (fate : Fate) (line : Line
     kept_now = announced.kept is_honest
 
     -- the store keeps that nonce alone for notices
-    saves : Saves (turn_of o T (step sent)) notice_pair nonce (2 ^ 64 - 1)
+    saves : Saves (turn_of o T (step sent)) notice_pair nonce nonce
     saves = record {
-      here = inr (nonce, record { least = omega arith; near = omega arith; most = (let bound = announced.fits.nonce in omega (arith, bound)) }, kept_now);
+      here = inr (kept_now, by (λ f. f ≢ Doubt) announced.saves);
       none_below = λ v has. subst (λ (w : Option ℕ). nonce ≤ number w) (sym (only_value (Some nonce) v (subst (λ (vs : List (Option ℕ)). Contains vs v) kept_now has))) (omega arith);
       others = λ q differ. announced.others is_honest q differ ∙ ap (λ (kept : Kept). kept_at kept q) shows.armed_shows.kept;
     }
@@ -175,6 +184,7 @@ module _ (old new : WorldState) (server router : ℕ) (fate : Fate) (line : Line
     sent_legal : Legal o T (step sent)
     sent_legal = record {
       faults = shows.count;
+      obedient = shows.obedient;
       row = (
         refl,
         refl,
@@ -187,6 +197,7 @@ module _ (old new : WorldState) (server router : ℕ) (fate : Fate) (line : Line
           under = ap (λ (c : Contact). c.key) (sym last.2);
           base = announced.last;
           counts = counts_from sent announced.last announced.counts;
+          loads = loads_in announced.last announced.counts;
           next = refl;
           bound = announced.fits.nonce;
           place = stand.bag.count;
@@ -327,7 +338,7 @@ module _ (old new : WorldState) (server router : ℕ) (fate : Fate) (line : Line
 
     -- there was a next nonce
     has_nonce : (base : Option ℕ) → IsRegistered core me now → IsLast core armed base → (number base < 2 ^ 64 - 1) → HasNonce its_turn router base
-    has_nonce base registered counts left = record { tells = can_tell refused registered; counts = counts_from refused base counts; left = left }
+    has_nonce base registered counts left = record { tells = can_tell refused registered; counts = counts_from refused base counts; loads = loads_in base counts; left = left }
 
     -- what the failed save leaves in doubt
     doubted : (n : ℕ) → InDoubt (kept_at armed.kept notice_pair) (kept_at called.kept notice_pair) n → InDoubt (values its_turn notice_pair) (values_after its_turn notice_pair) n
@@ -342,8 +353,8 @@ module _ (old new : WorldState) (server router : ℕ) (fate : Fate) (line : Line
       (any_order (live_of core.rows me now) (records_of (since o T server) me now) told_records).1 is.0.0 is.0.1,
       same_store is.1,
     )
-    why (notice_faults.StoreLoad f) is = (can_tell refused is.registered, sym part.notice_nonce ∙ is.unknown, record { same = same_lists is.same; cause = has_cause f is.cause })
-    why notice_faults.NonceSpent is = (can_tell refused is.registered, Some (2 ^ 64 - 1), counts_from refused (Some (2 ^ 64 - 1)) is.spent, omega arith, same_lists is.same)
+    why (notice_faults.StoreLoad f) is = (can_tell refused is.registered, sym part.notice_nonce ∙ is.unknown, record { same = same_lists is.same; cause = has_cause f is.cause; may = λ other. by (λ x. x ≡ LoadFails) (is.armed other) })
+    why notice_faults.NonceSpent is = (can_tell refused is.registered, Some (2 ^ 64 - 1), counts_from refused (Some (2 ^ 64 - 1)) is.spent, loads_in (Some (2 ^ 64 - 1)) is.spent, omega arith, same_lists is.same)
     why notice_faults.OutOfMemory is = (is.last, has_nonce is.last is.registered is.counts is.unspent, same_lists is.same)
     why (notice_faults.StoreSave f) is = (
       is.last,
@@ -354,13 +365,15 @@ module _ (old new : WorldState) (server router : ℕ) (fate : Fate) (line : Line
         memory = λ out. same_lists (is.memory out);
         sound = is.sound;
         cause = has_cause f is.cause;
+        may = λ other. by (λ x. x ≡ Doubt) (is.doubted other).armed;
+        doubted = λ other obeys. subst (λ (kept : Kept). kept_at called.kept notice_pair ≡ with_value (kept_at kept notice_pair) (nonce_after is.last)) shows.armed_shows.kept ((is.doubted other).keeps is_honest (subst (λ (b : Bool). IsTrue b) (sym shows.armed_shows.obedient) obeys));
       },
     )
     why notice_faults.NotDue is = absurd is
 
     -- the step is legal
     refused_legal : Legal o T (step refused)
-    refused_legal = record { faults = shows.count; row = (refl, acting refused, known_router old o T stand router turn.place turn.number turn.node turn.there, why fault refuses) }
+    refused_legal = record { faults = shows.count; obedient = shows.obedient; row = (refl, acting refused, known_router old o T stand router turn.place turn.number turn.node turn.there, why fault refuses) }
 
     -- nothing comes to the bag
     refused_bag : bag o (step refused ∷ T) ≡ bag o T ++ []
@@ -395,4 +408,4 @@ module _ (old new : WorldState) (server router : ℕ) (fate : Fate) (line : Line
 
 -- a notice that is sent, or isn't, leaves a network that stands for the trace with the step
 pub notice_stands : (old new : WorldState) (server router : ℕ) (fate : Fate) (line : Line) → NoticeTurn old new server router fate line → StandsAfter old new (events.Notice server router fate) line
-notice_stands old new server router fate line turn o T stand = (server, record { kept = turn.notifies.called.kept; faults = turn.notifies.called.faults }, noticed old new server router fate line turn o T stand)
+notice_stands old new server router fate line turn o T stand = (server, shown_by turn.notifies.called, noticed old new server router fate line turn o T stand)

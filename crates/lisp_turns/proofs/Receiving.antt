@@ -1,6 +1,6 @@
 -- What arrives at a Map-Server comes to a row of legal steps, and the Map-Server stands for the trace with that step.
 use Rattle.std.proofs.Common.{◌≡◌, ℕ, ◌+◌, Bool, true, false, List, [], ◌∷◌, ◌++◌, length, map, Option, Some, None, Ok, Err, refl, sym, ap, subst, ◌∙◌, true≢false, arith}
-use Rattle.std.specs.Prelude.{if◌then◌else◌, Result, IfOk, IfErr, OnErr, IsErrOf}
+use Rattle.std.specs.Prelude.{IsTrue, ◌≢◌, if◌then◌else◌, Result, IfOk, IfErr, OnErr, IsErrOf}
 use Rattle.std.specs.List.{find}
 use Rattle.std.specs.Option.{option_map, option_and_then, option_to_list, unwrap_or}
 use Rattle.lisp_records.specs.declared.address.Addr.{Addr}
@@ -12,6 +12,7 @@ use Rattle.lisp_messages.specs.Message.{Said, Registration, Notification, Regist
 use Rattle.lisp_messages.specs.Authentic.{signed}
 use Rattle.lisp_messages.specs.Reading.{HasHead}
 use Rattle.lisp_messages.specs.Written.{written_notify}
+use Rattle.lisp_nonces.specs.declared.fate.Fate.TheVariants.{Doubt}
 use Rattle.lisp_nonces.specs.Kept.{Kept, SameElsewhere}
 use Rattle.lisp_nonces.specs.Store.{StoreState}
 use Rattle.lisp_lookup.specs.Table.{row_at, if_alive}
@@ -31,7 +32,7 @@ use Rattle.lisp_schedules.specs.declared.event.Event.TheVariants as events
 use Rattle.lisp_schedules.specs.declared.line.Line.{Line}
 use Rattle.lisp_schedules.specs.declared.line.Line.TheVariants as lines
 use Rattle.lisp_schedules.specs.declared.refusal.Refusal.TheVariants as refusals
-use Rattle.lisp_schedules.specs.Trace.{Happening, Step, Opening, shown, clock, time_of, address_at, secret_at, is_server}
+use Rattle.lisp_schedules.specs.Trace.{Happening, Step, Opening, fate_of, shown, clock, time_of, address_at, secret_at, is_server}
 use Rattle.lisp_schedules.specs.Held.{Acceptance, last_of, heard_last, held}
 use Rattle.lisp_schedules.specs.Timers.{notices, notice_to, last_notice, without}
 use Rattle.lisp_schedules.specs.Bag.{Arrival, bytes_of, arrival_in, taken, reply_item, bag, since}
@@ -43,8 +44,8 @@ use Rattle.lisp_schedules.proofs.Locality.{same_number}
 use Rattle.lisp_schedules.proofs.RisingSteps.{taken_one}
 use Rattle.lisp_turns.specs.World.{Posted, ServerNode}
 use Rattle.lisp_turns.specs.Turns.{reply_number, server_line, replies}
-use Rattle.lisp_turns.specs.Stands.{Shows, SameNotice, StandsForServer}
-use Rattle.lisp_turns.proofs.Acting.{Adds, adds_none, adds_one}
+use Rattle.lisp_turns.specs.Stands.{shown_by, Shows, SameNotice, StandsForServer}
+use Rattle.lisp_turns.proofs.Acting.{Adds, adds_none, adds_one, by_fate}
 use Rattle.lisp_turns.proofs.Acceptances.{not_notices, nonces_after, rows_after, contacts_after}
 use Rattle.lisp_turns.proofs.Checked.{is_passed, its_secret}
 use Rattle.lisp_turns.proofs.Refusing.{arriving, turn_at, admits, is_fresh, same_store, refuses}
@@ -84,12 +85,12 @@ asked true bytes x e = cc
 asked false bytes x e = absurd cc
 
 module _ (o : Opening) (T : List Step) (node : ℕ) (kind : is_server o.config node ≡ true) (before after : ServerNode) (part : StandsForServer o T node before)
-    (armed called : StoreState) (shows : Shows armed (shown o T node)) (event : Happening) (timeless : is_timeless event ≡ true) (from : Addr) (bytes : List ℕ) where
+    (armed called : StoreState) (shows : Shows armed (shown o T node)) (event : Happening) (fated : IsTrue (shown o T node).is_obedient → armed.fate ≡ fate_of event) (timeless : is_timeless event ≡ true) (from : Addr) (bytes : List ℕ) where
   -- the step, by its line
   abbrev step : Line → Step
-  step line = record { event = event; line = line; actor = node; shown = record { kept = called.kept; faults = called.faults } }
+  step line = record { event = event; line = line; actor = node; shown = shown_by called }
 
-  acts : IsServers (turn_at o T node called) node
+  acts : IsServers (turn_at o T node (fate_of event) called) node
   acts = record { kind = kind; acts = refl }
 
   still : clock T + time_of event ≡ clock T
@@ -111,7 +112,7 @@ module _ (o : Opening) (T : List Step) (node : ℕ) (kind : is_server o.config n
     }
 
   -- a refusal changes nothing
-  refused : (why : Refused) (read : Result Said ReadFault) → after.core ≡ before.core → RefusesMessage (turn_at o T node called) (arriving from bytes read) why
+  refused : (why : Refused) (read : Result Said ReadFault) → after.core ≡ before.core → RefusesMessage (turn_at o T node (fate_of event) called) (arriving from bytes read) why
       → Received o T (step (lines.Refused node (refusals.Receive why))) (arriving from bytes read) node after []
   refused why read core refusal = record {
     row = (acts, refusal);
@@ -124,9 +125,9 @@ module _ (o : Opening) (T : List Step) (node : ℕ) (kind : is_server o.config n
   -- a Map-Notify-Ack ends a notice
   module _ (legal : LegalTrace o T) (m : Notification) (router : RouterId) (nonce : ℕ) (e : Ends from bytes m before.core after.core armed called router nonce) where
     -- that is a legal step
-    done_row : IsDone (turn_at o T node called) (arriving from bytes (Ok (Notifies m))) node router nonce
+    done_row : IsDone (turn_at o T node (fate_of event) called) (arriving from bytes (Ok (Notifies m))) node router nonce
     done_row =
-        let found = awaited o T node before.core.notices part.notices (shown o T node) (record { kept = called.kept; faults = called.faults }) from m legal e.notice e.acknowledges.awaiting in
+        let found = awaited o T node before.core.notices part.notices (shown o T node) (shown_by called) from m legal e.notice e.acknowledges.awaiting in
         record {
           acts = acts;
           message = m;
@@ -137,7 +138,7 @@ module _ (o : Opening) (T : List Step) (node : ℕ) (kind : is_server o.config n
           authentic = signed_same o T node before.core.notices part.notices o.config.sites bytes found.notice e.notice found.is ∙ ap (λ (sites : List SiteEntry). answers_under sites bytes e.notice) (sym part.sites) ∙ e.acknowledges.authentic;
           who = e.its ∙ found.is.router;
           number = e.under ∙ found.is.nonce;
-          same = same_store o T node before part armed called shows e.store;
+          same = same_store o T node before part armed called shows (fate_of event) fated e.store;
         }
 
     -- the other notices stand on
@@ -167,8 +168,8 @@ module _ (o : Opening) (T : List Step) (node : ℕ) (kind : is_server o.config n
     abbrev said : Option (List ℕ) → Line
     said q = lines.Accepted node router key nonce (reply_number (length (bag o T)) q)
 
-    admitted : Admits (turn_at o T node called) (arriving from bytes (Ok (Registers m))) message
-    admitted = admits o T node before part armed called shows from bytes m a.passed a.checks
+    admitted : Admits (turn_at o T node (fate_of event) called) (arriving from bytes (Ok (Registers m))) message
+    admitted = admits o T node before part armed called shows (fate_of event) fated from bytes m a.passed a.checks
 
     answers : Says router (router_of message) key message.key_id nonce message.nonce reply (reply_of a.passed.secret message)
     answers = says {A = A} router (router_of message) key message.key_id nonce message.nonce reply (reply_of a.passed.secret message) a.answer
@@ -178,7 +179,7 @@ module _ (o : Opening) (T : List Step) (node : ℕ) (kind : is_server o.config n
     taken_is = ap (λ (x : Option Arrival). taken x (clock T)) arrives ∙ taken_one (arriving from bytes (Ok (Registers m))) (clock T) message admitted.read
 
     -- that is a legal step
-    accepted_row : IsAccepted (turn_at o T node called) (arriving from bytes (Ok (Registers m))) node router key nonce (reply_number (length (bag o T)) reply)
+    accepted_row : IsAccepted (turn_at o T node (fate_of event) called) (arriving from bytes (Ok (Registers m))) node router key nonce (reply_number (length (bag o T)) reply)
     accepted_row = record {
       acts = acts;
       message = message;
@@ -186,7 +187,8 @@ module _ (o : Opening) (T : List Step) (node : ℕ) (kind : is_server o.config n
       who = answers.who;
       under = answers.under;
       number = answers.number;
-      fresh = is_fresh o T node before part armed called shows message a.fresh;
+      fresh = is_fresh o T node before part armed called shows (fate_of event) fated message a.fresh;
+      may = by_fate (λ f. f ≢ Doubt) (fate_of event) armed (shown o T node) shows fated a.saves;
       kept = a.kept shows.honest;
       others = subst (λ (k : Kept). SameElsewhere k called.kept (pair_of message)) shows.kept (a.others shows.honest);
       reply = ap (reply_number (length (bag o T))) answers.answer ∙ reply_case (length (bag o T)) message.want_notify (signed a.passed.secret (written_notify (notification_of message)));
@@ -241,5 +243,5 @@ module _ (o : Opening) (T : List Step) (node : ℕ) (kind : is_server o.config n
       → Received o T (step (server_line node (length (bag o T)) answer)) (arriving from bytes read) node after (replies (address_at o.config node) from answer)
   received {A = A} legal (Ok (Registers m)) (Ok (Accepted router key nonce reply)) arrives takes refusal same head = accepted {A = A} m router key nonce reply arrives takes
   received legal (Ok (Notifies m)) (Ok (NoticeDone router nonce)) arrives takes refusal same head = done legal m router nonce takes
-  received legal read (Err why) arrives takes refusal same head = refused why read same (refuses o T node before part armed called shows from bytes legal read why refusal (λ e. head (ap Err e)))
+  received legal read (Err why) arrives takes refusal same head = refused why read same (refuses o T node before part armed called shows (fate_of event) fated from bytes legal read why refusal (λ e. head (ap Err e)))
   received legal _ (Ok _) arrives takes refusal same head = absurd takes

@@ -1,18 +1,20 @@
 -- What a Map-Server refuses is refused by a row of legal steps.
-use Rattle.std.proofs.Common.{◌≡◌, ℕ, Bool, List, Option, Some, Ok, Err, refl, sym, ap, subst, inl, inr, ◌∙◌}
-use Rattle.std.specs.Prelude.{◌<◌, ◌⊎◌, ◌-◌, ◌^◌, Result}
+use Rattle.std.proofs.Common.{◌≡◌, ℕ, Bool, List, Option, Some, None, Ok, Err, refl, sym, ap, subst, inl, inr, ◌∙◌}
+use Rattle.std.specs.Prelude.{IsTrue, ◌≢◌, ◌<◌, ◌⊎◌, ◌-◌, ◌^◌, Result}
 use Rattle.lisp_records.specs.declared.address.Addr.{Addr}
 use Rattle.lisp_served.specs.Site.{SiteEntry}
 use Rattle.lisp_messages.specs.declared.fault.ReadFault.{ReadFault}
 use Rattle.lisp_messages.specs.Message.{Said, Registration, Notification, Registers, Notifies}
 use Rattle.lisp_messages.specs.Reading.{HasHead}
 use Rattle.lisp_nonces.specs.declared.fault.StoreFault.{StoreFault}
-use Rattle.lisp_nonces.specs.Kept.{Kept, kept_at, SameElsewhere, InDoubt}
+use Rattle.lisp_nonces.specs.declared.fate.Fate.{Fate}
+use Rattle.lisp_nonces.specs.declared.fate.Fate.TheVariants.{Doubt, LoadFails}
+use Rattle.lisp_nonces.specs.Kept.{Kept, kept_at, with_value, SameElsewhere, InDoubt}
 use Rattle.lisp_nonces.specs.Store.{StoreState}
 use Rattle.lisp_checks.specs.declared.refused.Refused.{Refused}
 use Rattle.lisp_checks.specs.declared.refused.Refused.TheVariants as refuseds
 use Rattle.lisp_checks.specs.Checks.{secret_under}
-use Rattle.lisp_checks.specs.Nonces.{KeepsLists, HasCause, IsFresh as IsFreshFor}
+use Rattle.lisp_checks.specs.Nonces.{KeepsLists, HasCause, IsBase as IsStoreBase, IsFresh as IsFreshFor}
 use Rattle.lisp_checks.specs.Pairs.{pair_of}
 use Rattle.lisp_server.specs.Checks.{Passed, register_checked, RefusesAck as RefusesAckOf, answers_under}
 use Rattle.lisp_server.specs.LastNonces.{nonce_at}
@@ -24,7 +26,8 @@ use Rattle.lisp_schedules.specs.Legal.{LegalTrace}
 use Rattle.lisp_schedules.specs.Turn.{Turn, Same, HasCause as HasCauseIn}
 use Rattle.lisp_schedules.specs.Receiving.{last_in, Admits, IsFresh, RefusesAck, FailsNotify, RefusesMessage}
 use Rattle.lisp_turns.specs.World.{ServerNode}
-use Rattle.lisp_turns.specs.Stands.{Shows, StandsForServer}
+use Rattle.lisp_turns.specs.Stands.{shown_by, Shows, StandsForServer}
+use Rattle.lisp_turns.proofs.Acting.{by_fate}
 use Rattle.lisp_turns.proofs.Acceptances.{not_notices}
 use Rattle.lisp_turns.proofs.Checked.{is_passed, is_failed, base_in}
 use Rattle.lisp_turns.proofs.StandingNotices.{awaited, none_awaited, signed_same}
@@ -34,12 +37,17 @@ abbrev pub arriving : Addr → List ℕ → Result Said ReadFault → Arrival
 arriving from bytes read = record { from = from; bytes = bytes; read = read }
 
 -- the turn of a Map-Server whose store was called
-abbrev pub turn_at : Opening → List Step → ℕ → StoreState → Turn
-turn_at o T node called = record { opening = o; past = T; node = node; before = shown o T node; after = record { kept = called.kept; faults = called.faults } }
+abbrev pub turn_at : Opening → List Step → ℕ → Fate → StoreState → Turn
+turn_at o T node fate called = record { opening = o; past = T; node = node; fate = fate; before = shown o T node; after = shown_by called }
 
-module _ (o : Opening) (T : List Step) (node : ℕ) (before : ServerNode) (part : StandsForServer o T node before) (armed called : StoreState) (shows : Shows armed (shown o T node)) where
+module _ (o : Opening) (T : List Step) (node : ℕ) (before : ServerNode) (part : StandsForServer o T node before) (armed called : StoreState) (shows : Shows armed (shown o T node))
+    (fate : Fate) (fated : IsTrue (shown o T node).is_obedient → armed.fate ≡ fate) where
   abbrev pub turn : Turn
-  turn = turn_at o T node called
+  turn = turn_at o T node fate called
+
+  -- what is said of the fate that an obedient store was armed with
+  by : (P : Fate → Type 0) → (IsTrue armed.is_obedient → P armed.fate) → IsTrue (shown o T node).is_obedient → P fate
+  by P said = by_fate P fate armed (shown o T node) shows fated said
 
   -- the store is as it was, or keeps what it kept
   pub same_store : called ≡ armed → Same turn
@@ -52,6 +60,10 @@ module _ (o : Opening) (T : List Step) (node : ℕ) (before : ServerNode) (part 
   cause_in : (fault : StoreFault) → HasCause fault armed called → HasCauseIn turn fault
   cause_in fault cause other = subst (λ (n : ℕ). (n < called.faults) ⊎ (called.faults ≡ 2 ^ 64 - 1)) shows.faults (cause other)
 
+  -- where the last nonce isn't in memory it was loaded, as the fate lets it be
+  loads_in : (known base : Option ℕ) (pair : Pair) → IsStoreBase known armed pair base → known ≡ None → IsTrue (shown o T node).is_obedient → fate ≢ LoadFails
+  loads_in known base pair is none = by (λ f. f ≢ LoadFails) (subst (λ (k : Option ℕ). IsStoreBase k armed pair base) none is).0
+
   -- the last nonce of a Map-Register's pair, and that it is fresh
   pub last_is : (m : Registration) → nonce_at before.core.nonces (pair_of m) ≡ last_in turn (pair_of m)
   last_is m = part.nonces (pair_of m) (not_notices m)
@@ -61,6 +73,7 @@ module _ (o : Opening) (T : List Step) (node : ℕ) (before : ServerNode) (part 
     base = fresh.0;
     counts = base_in (nonce_at before.core.nonces (pair_of m)) (last_in turn (pair_of m)) armed (shown o T node).kept (pair_of m) fresh.0 shows.honest shows.kept (last_is m) fresh.1;
     above = fresh.2;
+    loads = λ none. loads_in (nonce_at before.core.nonces (pair_of m)) fresh.0 (pair_of m) fresh.1 (last_is m ∙ none);
   }
 
   module _ (from : Addr) (bytes : List ℕ) where
@@ -88,16 +101,17 @@ module _ (o : Opening) (T : List Step) (node : ℕ) (before : ServerNode) (part 
         message = r.passed.message;
         admits = admits r.passed r.checks;
         unknown = sym (last_is r.passed.message) ∙ r.unknown;
-        fails = record { same = same_lists r.same; cause = cause_in fault r.cause };
+        fails = record { same = same_lists r.same; cause = cause_in fault r.cause; may = λ other. by (λ f. f ≡ LoadFails) (r.armed other) };
       }
       refuses_register (refuseds.Replay saved) r head = record {
         message = r.passed.message;
         admits = admits r.passed r.checks;
         counts = base_in (nonce_at before.core.nonces (pair_of r.passed.message)) (last_in turn (pair_of r.passed.message)) armed (shown o T node).kept (pair_of r.passed.message) (Some saved) shows.honest shows.kept (last_is r.passed.message) r.base;
+        loads = λ none. loads_in (nonce_at before.core.nonces (pair_of r.passed.message)) (Some saved) (pair_of r.passed.message) r.base (last_is r.passed.message ∙ none);
         stale = r.stale;
         same = same_lists r.same;
       }
-      refuses_register refuseds.OutOfMemory r head = (head refl, same_lists r.same)
+      refuses_register refuseds.OutOfMemory r head = (head refl, inr (record { message = r.passed.message; admits = admits r.passed r.checks; fresh = is_fresh r.passed.message r.fresh }), same_lists r.same)
       refuses_register (refuseds.StoreSave fault) r head = record {
         message = r.passed.message;
         admits = admits r.passed r.checks;
@@ -108,6 +122,8 @@ module _ (o : Opening) (T : List Step) (node : ℕ) (before : ServerNode) (part 
           memory = λ out. same_lists (r.memory out);
           sound = r.sound;
           cause = cause_in fault r.cause;
+          may = λ other. by (λ f. f ≡ Doubt) (r.doubted other).armed;
+          doubted = λ other obeys. subst (λ (k : Kept). kept_at called.kept (pair_of r.passed.message) ≡ with_value (kept_at k (pair_of r.passed.message)) r.passed.message.nonce) shows.kept ((r.doubted other).keeps shows.honest (subst (λ (b : Bool). IsTrue b) (sym shows.obedient) obeys));
         };
       }
       refuses_register (refuseds.Read fault) r head = fails (refuseds.Read fault) r
@@ -138,12 +154,12 @@ module _ (o : Opening) (T : List Step) (node : ℕ) (before : ServerNode) (part 
 
     -- any message is
     pub refuses : LegalTrace o T → (read : Result Said ReadFault) (why : Refused) → Refuses read from bytes before.core armed called why → (why ≡ refuseds.OutOfMemory → HasHead bytes) → RefusesMessage turn (arriving from bytes read) why
-    refuses legal (Ok (Registers m)) refuseds.OutOfMemory (inl untouched) head = (head refl, same_store untouched)
+    refuses legal (Ok (Registers m)) refuseds.OutOfMemory (inl untouched) head = (head refl, inl untouched.0, same_store untouched.1)
     refuses legal (Ok (Registers m)) refuseds.OutOfMemory (inr r) head = refuses_register m refuseds.OutOfMemory r head
-    refuses legal (Ok (Notifies m)) refuseds.OutOfMemory (inl untouched) head = (head refl, same_store untouched)
+    refuses legal (Ok (Notifies m)) refuseds.OutOfMemory (inl untouched) head = (head refl, inl untouched.0, same_store untouched.1)
     refuses legal (Ok (Notifies m)) refuseds.OutOfMemory (inr r) head = absurd r.0
-    refuses legal (Err fault) refuseds.OutOfMemory (inl untouched) head = (head refl, same_store untouched)
-    refuses legal (Err fault) refuseds.OutOfMemory (inr r) head = (head refl, same_store r.1)
+    refuses legal (Err fault) refuseds.OutOfMemory (inl untouched) head = (head refl, inl untouched.0, same_store untouched.1)
+    refuses legal (Err fault) refuseds.OutOfMemory (inr r) head = absurd (let clash : refuseds.OutOfMemory ≡ refuseds.Read fault = r.0 in cc)
     refuses legal (Ok (Registers m)) why r head = refuses_register m why r head
     refuses legal (Ok (Notifies m)) (refuseds.StoreLoad fault) r head = absurd r.0
     refuses legal (Ok (Notifies m)) (refuseds.StoreSave fault) r head = absurd r.0

@@ -13,7 +13,7 @@ use Rattle.lisp_lookup.specs.Table.{row_at, if_alive}
 use Rattle.lisp_nonces.specs.declared.pair.Pair.{Pair}
 use Rattle.lisp_nonces.specs.Pair.{pair_cmp}
 use Rattle.lisp_nonces.specs.Store.{StoreState, Rose as Rises}
-use Rattle.lisp_nonces.specs.Kept.{Kept, kept_at, Narrows}
+use Rattle.lisp_nonces.specs.Kept.{Kept, kept_at, picked, Narrows}
 use Rattle.lisp_checks.specs.Pairs.{notice_pair}
 use Rattle.lisp_server.specs.Server.{ServerState}
 use Rattle.lisp_server.specs.LastNonces.{nonce_at}
@@ -33,21 +33,17 @@ use Rattle.lisp_schedules.specs.Trace.{Shown, Step, Opening, is_router, router_a
 use Rattle.lisp_schedules.specs.Held.{Acceptance, last_of, held}
 use Rattle.lisp_schedules.specs.Timers.{Sends, round, Notice, notices, last_notice}
 use Rattle.lisp_schedules.specs.Bag.{bag, since}
-use Rattle.lisp_schedules.specs.Turn.{Restarts, Rose, IsBase}
+use Rattle.lisp_schedules.specs.Turn.{Restarts, Picks, Rose, IsBase}
 use Rattle.lisp_schedules.specs.Counted.{latest, acked}
 use Rattle.lisp_schedules.specs.Sending.{pair_at, last_sent, start_values, CountsFrom}
 use Rattle.lisp_schedules.specs.Legal.{Fits, StartCause, Legal, turn_of}
 use Rattle.lisp_turns.specs.World.{RouterNode, RouterCore, Up, Down, WorldState}
 use Rattle.lisp_turns.specs.Calls.{Restarts as Crashes, config_of, database_of, IsStarted, IsNotStarted, Starts}
 use Rattle.lisp_turns.specs.Turns.{RestartsServer, RestartsAt, start_line}
-use Rattle.lisp_turns.specs.Stands.{Shows, StandsForRound, StandsForEtr, StandsForCore, StandsForServer, StandsForRouter, SameNotice, Stands, StandsAfter}
+use Rattle.lisp_turns.specs.Stands.{shown_by, Shows, StandsForRound, StandsForEtr, StandsForCore, StandsForServer, StandsForRouter, SameNotice, Stands, StandsAfter}
 use Rattle.lisp_turns.proofs.Gets.{none_is_some, get_replicate}
 use Rattle.lisp_turns.proofs.Going.{here}
 use Rattle.lisp_turns.proofs.Acting.{adds_none, server_is, server_acts, router_is, router_stands, router_shows, router_acts}
-
--- what a store shows of itself
-abbrev shown_by : StoreState → Shown
-shown_by store = record { kept = store.kept; faults = store.faults }
 
 -- the step of a restart
 abbrev restart : ℕ → ℕ → Option (List Mapping) → StoreState → Line → Step
@@ -58,8 +54,12 @@ stays_honest : (old new : StoreState) → new.is_honest ≡ old.is_honest → Is
 stays_honest old new same honest = subst (λ (b : Bool). IsTrue b) (sym same) honest
 
 -- a store's crash narrows what it keeps
-crash_narrows : (old new : StoreState) (before : Shown) → Crashes old new → Shows old before → (q : Pair) → Narrows (kept_at before.kept q) (kept_at new.kept q)
-crash_narrows old new before crashes shows q = subst (λ (k : Kept). Narrows (kept_at k q) (kept_at new.kept q)) shows.kept (crashes.narrows shows.honest q)
+crash_narrows : (old new : StoreState) (pick : ℕ) (before : Shown) → Crashes old new pick → Shows old before → (q : Pair) → Narrows (kept_at before.kept q) (kept_at new.kept q)
+crash_narrows old new pick before crashes shows q = subst (λ (k : Kept). Narrows (kept_at k q) (kept_at new.kept q)) shows.kept (crashes.narrows shows.honest q)
+
+-- and leaves of an obedient one what was picked
+crash_picks : (old new : StoreState) (pick : ℕ) (before : Shown) → Crashes old new pick → Shows old before → IsTrue before.is_obedient → (q : Pair) → kept_at new.kept q ≡ picked (kept_at before.kept q) pick ∷ []
+crash_picks old new pick before crashes shows obeys q = subst (λ (k : Kept). kept_at new.kept q ≡ picked (kept_at k q) pick ∷ []) shows.kept (crashes.picks (subst (λ (b : Bool). IsTrue b) (sym shows.obedient) obeys) q)
 
 -- a server that has just started holds nothing
 pub no_row : (now : ℕ) (router : RouterId) (eid : Block) → option_and_then (if_alive now) (row_at [] router eid) ≡ None
@@ -77,7 +77,7 @@ unfolding notice_at
 no_notice o T node router = tt
 
 -- a Map-Server
-module _ (old new : WorldState) (node pick : ℕ) (line : Line) (restarts : RestartsServer old new node line) (o : Opening) (T : List Step) (stand : Stands old o T) where
+module _ (old new : WorldState) (node pick : ℕ) (line : Line) (restarts : RestartsServer old new node pick line) (o : Opening) (T : List Step) (stand : Stands old o T) where
   -- the step with its line
   abbrev server_step : Step
   server_step = restart node pick None restarts.acts.after.store (lines.Restarted node)
@@ -90,12 +90,14 @@ module _ (old new : WorldState) (node pick : ℕ) (line : Line) (restarts : Rest
   server_legal : Legal o T server_step
   server_legal = record {
     faults = omega (arith, restarts.crashes.proceeds.count, store_before.faults);
+    obedient = restarts.crashes.proceeds.obedient ∙ store_before.obedient;
     row = record {
       names = refl;
       acts = refl;
       kind = inl (server_is old o T stand node restarts.acts.before restarts.acts.was, refl);
       fits = tt;
-      narrows = crash_narrows restarts.acts.before.store restarts.acts.after.store (shown o T node) restarts.crashes store_before;
+      narrows = crash_narrows restarts.acts.before.store restarts.acts.after.store pick (shown o T node) restarts.crashes store_before;
+      picks = crash_picks restarts.acts.before.store restarts.acts.after.store pick (shown o T node) restarts.crashes store_before;
     };
   }
 
@@ -128,14 +130,14 @@ module _ (old new : WorldState) (node pick : ℕ) (line : Line) (restarts : Rest
   server_here : Stands new o (restart node pick None restarts.acts.after.store line ∷ T)
   server_here = subst (λ (l : Line). Stands new o (restart node pick None restarts.acts.after.store l ∷ T)) (sym restarts.said)
       (server_acts old new node [] restarts.acts o T server_step stand refl refl server_legal (adds_none o T server_step refl)
-      (record { honest = stays_honest restarts.acts.before.store restarts.acts.after.store restarts.crashes.proceeds.honest store_before.honest; kept = refl; faults = refl }) server_part)
+      (record { honest = stays_honest restarts.acts.before.store restarts.acts.after.store restarts.crashes.proceeds.honest store_before.honest; kept = refl; faults = refl; obedient = refl }) server_part)
 
 -- a network stands for a trace with a restart of a Map-Server
-pub restart_server_stands : (old new : WorldState) (node pick : ℕ) (line : Line) → RestartsServer old new node line → StandsAfter old new (events.Restart node pick None) line
+pub restart_server_stands : (old new : WorldState) (node pick : ℕ) (line : Line) → RestartsServer old new node pick line → StandsAfter old new (events.Restart node pick None) line
 restart_server_stands old new node pick line restarts o T stand = (node, shown_by restarts.acts.after.store, server_here old new node pick line restarts o T stand)
 
 -- a router
-module _ (old new : WorldState) (node pick : ℕ) (db : Option (List Mapping)) (line : Line) (fits : Fits db) (restarts : RestartsAt old new node db line) (o : Opening) (T : List Step) (stand : Stands old o T) where
+module _ (old new : WorldState) (node pick : ℕ) (db : Option (List Mapping)) (line : Line) (fits : Fits db) (restarts : RestartsAt old new node pick db line) (o : Opening) (T : List Step) (stand : Stands old o T) where
   -- the router before
   abbrev before : RouterNode
   before = restarts.acts.before
@@ -175,7 +177,16 @@ module _ (old new : WorldState) (node pick : ℕ) (db : Option (List Mapping)) (
   -- the restart narrows what is kept
   narrows : (l : Line) → Restarts (turn_of o T (step l))
   narrows l q = subst (λ (k : Kept). Narrows (kept_at (shown o T node).kept q) (kept_at k q)) (sym loaded)
-      (crash_narrows before.store crashed (shown o T node) restarts.restarts.crashes shows q)
+      (crash_narrows before.store crashed pick (shown o T node) restarts.restarts.crashes shows q)
+
+  -- to what is picked
+  picks : (l : Line) → Picks (turn_of o T (step l)) pick
+  picks l obeys q = subst (λ (k : Kept). kept_at k q ≡ picked (kept_at (shown o T node).kept q) pick ∷ []) (sym loaded)
+      (crash_picks before.store crashed pick (shown o T node) restarts.restarts.crashes shows obeys q)
+
+  -- the store stays obedient, or not
+  obedient : after.store.is_obedient ≡ (shown o T node).is_obedient
+  obedient = restarts.restarts.starts.proceeds.obedient ∙ restarts.restarts.crashes.proceeds.obedient ∙ shows.obedient
 
   -- the count of faults isn't lowered
   count : (shown o T node).faults ≤ after.store.faults
@@ -183,7 +194,7 @@ module _ (old new : WorldState) (node pick : ℕ) (db : Option (List Mapping)) (
 
   -- the store shows what the step says
   after_shows : Shows after.store (shown_by after.store)
-  after_shows = record { honest = stays_honest crashed after.store restarts.restarts.starts.proceeds.honest crashed_honest; kept = refl; faults = refl }
+  after_shows = record { honest = stays_honest crashed after.store restarts.restarts.starts.proceeds.honest crashed_honest; kept = refl; faults = refl; obedient = refl }
 
   -- so the network stands, if the step is legal and the router stands after it
   stands_with : (l : Line) → line ≡ l → Legal o T (step l) → bag o (step l ∷ T) ≡ bag o T ++ [] → StandsForCore o (step l ∷ T) node after.core → Stands new o (step line ∷ T)
@@ -230,7 +241,7 @@ module _ (old new : WorldState) (node pick : ℕ) (db : Option (List Mapping)) (
 
     -- it is legal
     up_legal : Legal o T up_step
-    up_legal = record { faults = count; row = record { names = refl; acts = refl; kind = inr kind; fits = fits; narrows = narrows (lines.Restarted node) } }
+    up_legal = record { faults = count; obedient = obedient; row = record { names = refl; acts = refl; kind = inr kind; fits = fits; narrows = narrows (lines.Restarted node); picks = picks (lines.Restarted node) } }
 
     -- it counts from a value that the crash has left
     counts : (base : Option ℕ) → Contains (kept_at crashed.kept (sent_pair config)) base → CountsFrom o (up_step ∷ T) node base
@@ -279,7 +290,8 @@ module _ (old new : WorldState) (node pick : ℕ) (db : Option (List Mapping)) (
     down_legal : Legal o T down_step
     down_legal = record {
       faults = count;
-      row = record { names = refl; acts = refl; kind = kind; fits = fits; narrows = narrows (lines.Refused node (refusals.Start fault)); cause = cause fault refl };
+      obedient = obedient;
+      row = record { names = refl; acts = refl; kind = kind; fits = fits; narrows = narrows (lines.Refused node (refusals.Start fault)); picks = picks (lines.Refused node (refusals.Start fault)); cause = cause fault refl };
     }
 
     -- the router stands, and is down
@@ -298,5 +310,5 @@ module _ (old new : WorldState) (node pick : ℕ) (db : Option (List Mapping)) (
   restart_here = restart_case restarts.answer refl restarts.restarts.starts.starts
 
 -- a network stands for a trace with a restart of a router
-pub restart_router_stands : (old new : WorldState) (node pick : ℕ) (db : Option (List Mapping)) (line : Line) → Fits db → RestartsAt old new node db line → StandsAfter old new (events.Restart node pick db) line
+pub restart_router_stands : (old new : WorldState) (node pick : ℕ) (db : Option (List Mapping)) (line : Line) → Fits db → RestartsAt old new node pick db line → StandsAfter old new (events.Restart node pick db) line
 restart_router_stands old new node pick db line fits restarts o T stand = (node, shown_by restarts.acts.after.store, restart_here old new node pick db line fits restarts o T stand)

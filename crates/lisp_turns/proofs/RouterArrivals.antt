@@ -37,15 +37,15 @@ item_read d i carries = ap message_at carries.bytes ∙ reads_signed i.secret i.
 -- a step with its row of an arrival, and with the row of its event
 with_row : (o : Opening) (T : List Step) (event : Happening) (node : ℕ) (s : Shown) (Row Next : Line → Type 0) (line : Line) (more : List Posted) (after : RouterNode) → (Row line → Next line)
     → RouterStep o T event node s Row line more after → RouterStep o T event node s Next line more after
-with_row o T event node s Row Next line more after f step = record { row = f step.row; count = step.count; adds = step.adds; shows = step.shows; part = step.part }
+with_row o T event node s Row Next line more after f step = record { row = f step.row; count = step.count; obedient = step.obedient; adds = step.adds; shows = step.shows; part = step.part }
 
 -- a datagram of the bag arrives at a router: the item that it carries is what the trace says of it
 module _ (A : Type 0) (old new : WorldState) (node : ℕ) (fate : Fate) (line : Line) (k : ℕ) (d : Posted) (got : slice_get old.bag k ≡ Some d) (whom : node_with old d.to ≡ Some node)
     (arrived : ArrivesAtRouter A old new node fate d.from d.bytes line) (o : Opening) (T : List Step) (stand : Stands old o T) where
   delivered : (item : Item) → slice_get (bag o T) k ≡ Some item → Carries d item → Stands new o (step_of (events.Deliver k fate) node (shown o T node) line ∷ T)
   delivered item sent carries = stands_by old new node arrived.more arrived.acts o T stand (events.Deliver k fate) (shown o T node) line refl
-      (with_row o T (events.Deliver k fate) node (shown o T node) (Arrives (turn_at o T node (shown o T node)) (arrival_of item)) (MayCome (turn_at o T node (shown o T node)) (events.Deliver k fate)) line arrived.more arrived.acts.after
-      (λ row. may_deliver (turn_at o T node (shown o T node)) k fate line (record { item = item; sent = sent; there = there; arrives = row }))
+      (with_row o T (events.Deliver k fate) node (shown o T node) (Arrives (turn_at o T node fate (shown o T node)) (arrival_of item)) (MayCome (turn_at o T node fate (shown o T node)) (events.Deliver k fate)) line arrived.more arrived.acts.after
+      (λ row. may_deliver (turn_at o T node fate (shown o T node)) k fate line (record { item = item; sent = sent; there = there; arrives = row }))
       (router_hears A old new o T stand node fate d.from d.bytes line arrived (events.Deliver k fate) tt (arrival_of item) (ap (option_map arrival_of) sent) (sym carries.from) (sym carries.bytes) (sym (item_read d item carries))))
     where
       there : node_at o.config item.to ≡ Some node
@@ -68,7 +68,7 @@ junk_to_router_stands A old new node from bytes line arrived o T stand = (
   node,
   shown o T node,
   stands_by old new node arrived.more arrived.acts o T stand (events.Junk node from bytes) (shown o T node) line refl
-      (with_row o T (events.Junk node from bytes) node (shown o T node) (Arrives (turn_at o T node (shown o T node)) (thrown from bytes)) (MayCome (turn_at o T node (shown o T node)) (events.Junk node from bytes)) line arrived.more arrived.acts.after
+      (with_row o T (events.Junk node from bytes) node (shown o T node) (Arrives (turn_at o T node Done (shown o T node)) (thrown from bytes)) (MayCome (turn_at o T node Done (shown o T node)) (events.Junk node from bytes)) line arrived.more arrived.acts.after
       (λ row. record { acts = refl; arrives = row })
       (router_hears A old new o T stand node Done from bytes line arrived (events.Junk node from bytes) tt (thrown from bytes) refl refl refl refl)),
 )

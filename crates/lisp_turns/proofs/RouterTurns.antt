@@ -5,7 +5,8 @@ use Rattle.std.specs.List.{AllPairs}
 use Rattle.std.proofs.lemmas.Option.{slice_get_within}
 use Rattle.lisp_served.specs.Configuration.{HasServers}
 use Rattle.lisp_schedules.specs.declared.line.Line.{Line}
-use Rattle.lisp_schedules.specs.Trace.{Happening, Shown, Step, Opening, is_router, router_at, shown}
+use Rattle.lisp_nonces.specs.declared.fate.Fate.{Fate}
+use Rattle.lisp_schedules.specs.Trace.{Happening, Shown, Step, Opening, fate_of, is_router, router_at, shown}
 use Rattle.lisp_schedules.specs.Turn.{Turn}
 use Rattle.lisp_schedules.specs.Legal.{MayCome}
 use Rattle.lisp_schedules.specs.Promises.{is_timeless}
@@ -21,8 +22,8 @@ abbrev pub step_of : Happening → ℕ → Shown → Line → Step
 step_of event node s line = record { event = event; line = line; actor = node; shown = s }
 
 -- and its turn
-abbrev pub turn_at : Opening → List Step → ℕ → Shown → Turn
-turn_at o T node s = record { opening = o; past = T; node = node; before = shown o T node; after = s }
+abbrev pub turn_at : Opening → List Step → ℕ → Fate → Shown → Turn
+turn_at o T node fate s = record { opening = o; past = T; node = node; fate = fate; before = shown o T node; after = s }
 
 -- the store of the node that acts shows what the step says
 pub shown_now : (o : Opening) (T : List Step) (event : Happening) (node : ℕ) (s : Shown) (line : Line) → shown o (step_of event node s line ∷ T) node ≡ s
@@ -32,6 +33,7 @@ shown_now o T event node s line = ap (λ b. if b then s else shown o T node) (sa
 pub record RouterStep (o : Opening) (T : List Step) (event : Happening) (node : ℕ) (s : Shown) (Row : Line → Type 0) (line : Line) (more : List Posted) (after : RouterNode) : Type 0 where
   pub row : Row line
   pub count : (shown o T node).faults ≤ s.faults
+  pub obedient : s.is_obedient ≡ (shown o T node).is_obedient
   pub adds : Adds o T (step_of event node s line) more
   pub shows : Shows after.store s
   pub part : StandsForRouter o (step_of event node s line ∷ T) node after
@@ -69,5 +71,5 @@ module _ (old new : WorldState) (node : ℕ) (more : List Posted) (acts : Router
       is = all_at (HasServers o.config.servers) o.config.routers stand.steps.network.servers (node - length o.config.servers) _ low
 
   -- with such a step the network stands for the trace
-  pub stands_by : (event : Happening) (s : Shown) (line : Line) → is_timeless event ≡ true → RouterStep o T event node s (MayCome (turn_at o T node s) event) line more acts.after → Stands new o (step_of event node s line ∷ T)
-  stands_by event s line timeless step = router_acts old new node more acts o T (step_of event node s line) stand refl timeless (record { faults = step.count; row = step.row }) step.adds step.shows step.part
+  pub stands_by : (event : Happening) (s : Shown) (line : Line) → is_timeless event ≡ true → RouterStep o T event node s (MayCome (turn_at o T node (fate_of event) s) event) line more acts.after → Stands new o (step_of event node s line ∷ T)
+  stands_by event s line timeless step = router_acts old new node more acts o T (step_of event node s line) stand refl timeless (record { faults = step.count; obedient = step.obedient; row = step.row }) step.adds step.shows step.part

@@ -1,9 +1,9 @@
 -- A router sends a Map-Register, or refuses to, or is down: the network stands for the trace with that step.
-use Rattle.std.proofs.Common.{◌≡◌, ℕ, ◌+◌, ◌<◌, ◌≤◌, true, false, List, [], ◌∷◌, length, Option, Some, None, Result, Ok, Err, refl, sym, ap, subst, inl, inr, ◌∙◌, arith}
-use Rattle.std.specs.Prelude.{◌≢◌, ◌⊎◌, ◌==◌, ◌^◌, ◌-◌, is_some, slice_get, slice_index_or, if◌then◌else◌}
+use Rattle.std.proofs.Common.{Bool, ◌≡◌, ℕ, ◌+◌, ◌<◌, ◌≤◌, true, false, List, [], ◌∷◌, length, Option, Some, None, Result, Ok, Err, refl, sym, ap, subst, inl, inr, ◌∙◌, arith}
+use Rattle.std.specs.Prelude.{IsTrue, ◌≢◌, ◌⊎◌, ◌==◌, ◌^◌, ◌-◌, is_some, slice_get, slice_index_or, if◌then◌else◌}
 use Rattle.std.specs.List.{AllPairs, find, list_any, position}
 use Rattle.std.specs.Option.{unwrap_or}
-use Rattle.std.proofs.lemmas.Bool.{lt-ltb}
+use Rattle.std.proofs.lemmas.Bool.{cases_lt, lt-ltb}
 use Rattle.std.proofs.lemmas.Bool.Decides.{Decides-eqb}
 use Rattle.std.proofs.lemmas.List.{length-map, length-set}
 use Rattle.std.proofs.lemmas.Option.{slice_get_within, slice_get-get_or}
@@ -14,14 +14,15 @@ use Rattle.lisp_messages.specs.Authentic.{signed}
 use Rattle.lisp_messages.specs.Message.{IsRegistration, Registers}
 use Rattle.lisp_messages.specs.Written.{written}
 use Rattle.lisp_nonces.specs.declared.fate.Fate.{Fate}
+use Rattle.lisp_nonces.specs.declared.fate.Fate.TheVariants.{Doubt}
 use Rattle.lisp_nonces.specs.declared.fault.StoreFault.{StoreFault}
 use Rattle.lisp_nonces.specs.declared.fault.StoreFault.TheVariants as faults
-use Rattle.lisp_nonces.specs.Kept.{Kept, kept_at, number, InDoubt, NoneBelow, SameElsewhere}
+use Rattle.lisp_nonces.specs.Kept.{Kept, kept_at, with_value, number, InDoubt, NoneBelow, SameElsewhere}
 use Rattle.lisp_nonces.specs.Store.{StoreState}
 use Rattle.lisp_etr.specs.Config.{Settings, sent_pair}
 use Rattle.lisp_etr.specs.Etr.{EtrState}
 use Rattle.lisp_etr.specs.Round.{started, sent}
-use Rattle.lisp_etr.specs.Sending.{last_nonce, registration_of, datagram_of, Settles, LeavesPair, IsBound}
+use Rattle.lisp_etr.specs.Sending.{last_nonce, registration_of, datagram_of, block_end, Settles, LeavesPair}
 use Rattle.lisp_etr.specs.declared.round.Round.{Round}
 use Rattle.lisp_etr.specs.declared.send_fault.SendFault.{SendFault}
 use Rattle.lisp_etr.specs.declared.send_fault.SendFault.TheVariants.{NoServer, NonceSpent, OutOfMemory, Store}
@@ -31,7 +32,7 @@ use Rattle.lisp_schedules.specs.declared.line.Line.TheVariants as lines
 use Rattle.lisp_schedules.specs.declared.refusal.Refusal.TheVariants as refusals
 use Rattle.lisp_schedules.specs.Trace.{Happening, Shown, Step, Opening, address_at, is_server, is_router, is_listed, router_at, settings, database, shown}
 use Rattle.lisp_schedules.specs.Bag.{bytes_of, register_item}
-use Rattle.lisp_schedules.specs.Turn.{Turn, Same, SameOthers, Saves, SaveFails, IsBase, Rose, values, values_after}
+use Rattle.lisp_schedules.specs.Turn.{Turn, Same, SameOthers, MaySave, Saves, SaveFails, IsBase, Rose, values, values_after}
 use Rattle.lisp_schedules.specs.Sending.{pair_at, last_sent, start_values, CountsFrom, IsSent, NotSaved, RefusesToSend}
 use Rattle.lisp_schedules.specs.Legal.{MayCome}
 use Rattle.lisp_schedules.proofs.HearingLemmas.{find_true}
@@ -39,8 +40,8 @@ use Rattle.lisp_schedules.proofs.Locality.{same_number}
 use Rattle.lisp_turns.specs.World.{Posted, RouterNode, RouterCore, Up, Down, WorldState}
 use Rattle.lisp_turns.specs.Calls.{IsSentTo, IsWhy, IsNotSent, SendsTo}
 use Rattle.lisp_turns.specs.Turns.{address_of, place_of, SaysSend, SendsUp, SendsAt, SendsFrom}
-use Rattle.lisp_turns.specs.Stands.{Shows, Carries, StandsForRound, StandsForEtr, StandsForCore, StandsForRouter, Stands, StandsAfter}
-use Rattle.lisp_turns.proofs.Acting.{adds_none, adds_one, Shown-in, uses_shown, address_is}
+use Rattle.lisp_turns.specs.Stands.{shown_by, Shows, Carries, StandsForRound, StandsForEtr, StandsForCore, StandsForRouter, Stands, StandsAfter}
+use Rattle.lisp_turns.proofs.Acting.{adds_none, adds_one, by_fate, Shown-in, uses_shown, address_is}
 use Rattle.lisp_turns.proofs.Heads.{head_written}
 use Rattle.lisp_turns.proofs.Places.{Placed, first_place, any_found}
 use Rattle.lisp_turns.proofs.RouterTurns.{step_of, turn_at, shown_now, RouterStep, moved, acts_router, acts_part, acts_shows, acts_once, stands_by}
@@ -75,13 +76,13 @@ nowhere_of servers server place high (inr none) = none.1
 -- a router that is up, and is asked to send to a server
 module _ (old : WorldState) (o : Opening) (T : List Step) (stand : Stands old o T) (router server : ℕ) (fate : Fate) (before : RouterNode) (kind : is_router o.config router ≡ true) (known : is_server o.config server ≡ true)
     (part : StandsForRouter o T router before) (once : AllPairs (λ a b. a ≢ b) (router_at o.config router).servers)
-    (e etr : EtrState) (own : StandsForEtr o T router e) (armed called after : StoreState) (uses : Shown-in armed called after (shown o T router)) where
+    (e etr : EtrState) (own : StandsForEtr o T router e) (armed called after : StoreState) (uses : Shown-in fate armed called after (shown o T router)) where
   -- what its store shows after the call; the turn, the event and its rows; the server's place; the router afterwards
   abbrev after_it : Shown
-  after_it = record { kept = called.kept; faults = called.faults }
+  after_it = shown_by called
 
   abbrev turn : Turn
-  turn = turn_at o T router after_it
+  turn = turn_at o T router fate after_it
 
   abbrev event : Happening
   event = events.Send router server fate
@@ -139,12 +140,22 @@ module _ (old : WorldState) (o : Opening) (T : List Step) (stand : Stands old o 
     known_message = subst (λ (p : Settings × List Mapping). IsRegistration (registration_of p.0 p.1 (e.last + 1))) {x = (e.config, e.database)} {y = (settings o T router, database o T router)} (λ i. (own.config i, own.database i)) call.known
 
     -- what was saved
-    sent_saves : Saves turn (pair_at o T router) (e.last + 1) last_nonce
+    sent_saves : Saves turn (pair_at o T router) (e.last + 1) (block_end (e.last + 1) (settings o T router).nonce_block)
     sent_saves = record {
-      here = carried (λ was is. Settles was is (e.last + 1) last_nonce) (call.settles uses.armed_shows.honest);
+      here = settled (cases_lt e.safe (e.last + 1));
       none_below = safe_after (e.last + 1) (λ v has. let safe = call.safe in let high = call.keeps_safe uses.armed_shows.honest safe_before v has in omega (arith, safe, high));
       others = others_carried (call.others uses.armed_shows.honest);
     }
+      where
+        -- a save of the end of the block, as the fate lets it be done
+        by : (e.safe < e.last + 1) → Settles (values turn (pair_at o T router)) (values_after turn (pair_at o T router)) (e.last + 1) (settings o T router).nonce_block → (values_after turn (pair_at o T router) ≡ values turn (pair_at o T router)) ⊎ ((values_after turn (pair_at o T router) ≡ Some (block_end (e.last + 1) (settings o T router).nonce_block) ∷ []) × MaySave turn)
+        by above (inl same) = inl same
+        by above (inr bound) = inr (bound, by_fate (λ f. f ≢ Doubt) fate armed (shown o T router) uses.armed_shows uses.fated (call.saves above))
+
+        -- where nothing had to be saved the store wasn't asked
+        settled : (e.safe < e.last + 1) ⊎ (e.last + 1 ≤ e.safe) → (values_after turn (pair_at o T router) ≡ values turn (pair_at o T router)) ⊎ ((values_after turn (pair_at o T router) ≡ Some (block_end (e.last + 1) (settings o T router).nonce_block) ∷ []) × MaySave turn)
+        settled (inl above) = by above (subst (λ (c : Settings). Settles (values turn (pair_at o T router)) (values_after turn (pair_at o T router)) (e.last + 1) c.nonce_block) own.config (carried (λ was is. Settles was is (e.last + 1) e.config.nonce_block) (call.settles uses.armed_shows.honest)))
+        settled (inr below) = inl (carried (λ was is. is ≡ was) (ap (λ (x : StoreState). kept_at x.kept (sent_pair e.config)) (call.unasked below)))
 
     -- the row of the line
     sent_row : IsSent turn router server e.config.key_id (e.last + 1) (length old.bag)
@@ -203,6 +214,7 @@ module _ (old : WorldState) (o : Opening) (T : List Step) (stand : Stands old o 
     sent_step = record {
       row = (refl, refl, sent_row);
       count = uses.count;
+      obedient = uses.obedient;
       adds = adds_one o T (step_of event router after_it said) datagram (register_item o T router server (e.last + 1)) refl sent_carries;
       shows = uses.after;
       part = record { me = part.me; servers = part.servers; core = sent_core };
@@ -232,9 +244,12 @@ module _ (old : WorldState) (o : Opening) (T : List Step) (stand : Stands old o 
     nowhere_if : length e.config.servers ≤ place → is_listed o.config router server ≡ false
     nowhere_if beyond = nowhere_of (router_at o.config router).servers server place (let many = as_many in omega (arith, beyond, many)) placed
 
-    -- the bound by the number that is counted from
-    bound_of : (bound : ℕ) → IsBound (e.last + 1) last_nonce bound → IsBound (number own.last.0 + 1) last_nonce bound
-    bound_of bound fits = subst (λ (n : ℕ). IsBound (n + 1) last_nonce bound) own.last.2 fits
+    -- the end of the block, by the trace's own words
+    abbrev bound : ℕ
+    bound = block_end (number own.last.0 + 1) (settings o T router).nonce_block
+
+    bound_is : block_end (e.last + 1) e.config.nonce_block ≡ bound
+    bound_is = λ i. block_end (own.last.2 i + 1) (own.config i).nonce_block
 
     -- a device failed
     rose : ((armed.faults < called.faults) ⊎ (called.faults ≡ 2 ^ 64 - 1)) → Rose turn
@@ -250,33 +265,40 @@ module _ (old : WorldState) (o : Opening) (T : List Step) (stand : Stands old o 
     unmoved_by : (f : StoreFault) → fault ≡ Store f → f ≡ faults.OutOfMemory → Same turn
     unmoved_by f is memory = unmoved (λ device. let clash : faults.OutOfMemory ≡ faults.Device = sym memory ∙ (let both : Store f ≡ Store faults.Device = sym is ∙ device in cc) in cc)
 
-    -- the save of a bound failed
-    fails_at : (f : StoreFault) → fault ≡ Store f → (bound : ℕ) → InDoubt (values turn (pair_at o T router)) (values_after turn (pair_at o T router)) bound → SaveFails turn (pair_at o T router) bound f
-    fails_at f is bound doubt = record {
+    -- only a failed device is answered for its store, memory aside
+    device : (f : StoreFault) → fault ≡ Store f → f ≢ faults.OutOfMemory → fault ≡ Store faults.Device
+    device faults.Device is other = is
+    device faults.Damaged is other = absurd (call.sound is)
+    device faults.OutOfMemory is other = absurd (other refl)
+
+    -- the save of the bound failed
+    fails_at : (f : StoreFault) → fault ≡ Store f → InDoubt (values turn (pair_at o T router)) (values_after turn (pair_at o T router)) bound → SaveFails turn (pair_at o T router) bound f
+    fails_at f is doubt = record {
       here = doubt;
       others = others_carried (call.others uses.armed_shows.honest);
       memory = unmoved_by f is;
       sound = λ damaged. call.sound (is ∙ ap Store damaged);
       cause = cause_of f is;
+      may = λ other. by_fate (λ x. x ≡ Doubt) fate armed (shown o T router) uses.armed_shows uses.fated (call.save_fails (device f is other));
+      doubted = λ other obeys. subst (λ (n : ℕ). values_after turn (pair_at o T router) ≡ with_value (values turn (pair_at o T router)) n) bound_is
+          (carried (λ was is. is ≡ with_value was (block_end (e.last + 1) e.config.nonce_block)) (call.doubted (device f is other) (subst (λ (b : Bool). IsTrue b) (sym uses.armed_shows.obedient) obeys)));
     }
 
     -- so the nonce wasn't saved
-    not_saved : (f : StoreFault) → fault ≡ Store f → e.last < last_nonce → LeavesPair (values turn (pair_at o T router)) (values_after turn (pair_at o T router)) (e.last + 1) → NotSaved turn router f
-    not_saved f is low (inl same) = record {
+    not_saved : (f : StoreFault) → fault ≡ Store f → e.last < last_nonce → LeavesPair (values turn (pair_at o T router)) (values_after turn (pair_at o T router)) (e.last + 1) e.config.nonce_block → NotSaved turn router f
+    not_saved f is low left = record {
       base = own.last.0;
       counts = own.last.1;
-      bound = e.last + 1;
-      fits = bound_of (e.last + 1) (record { least = omega arith; near = omega arith; most = omega (arith, low) });
-      fails = fails_at f is (e.last + 1) (inl same);
+      left = (let last = own.last.2 in omega (arith, low, last));
+      fails = fails_at f is (subst (λ (n : ℕ). InDoubt (values turn (pair_at o T router)) (values_after turn (pair_at o T router)) n) bound_is left);
     }
-    not_saved f is low (inr more) = record { base = own.last.0; counts = own.last.1; bound = more.0; fits = bound_of more.0 more.1; fails = fails_at f is more.0 more.2 }
 
     -- each refusal has its row
     refusal : (f : SendFault) → fault ≡ f → IsWhy e place f → RefusesToSend turn router server f
     refusal NoServer is why = (nowhere_if why, unmoved (λ device. let clash : NoServer ≡ Store faults.Device = sym is ∙ device in cc))
     refusal NonceSpent is why = (listed_if why.0, (own.last.0, own.last.1, (let high = why.1 in let last = own.last.2 in omega (arith, high, last))), unmoved (λ device. let clash : NonceSpent ≡ Store faults.Device = sym is ∙ device in cc))
     refusal OutOfMemory is why = (listed_if why.0, own.last.0, own.last.1, (let low = why.1 in let last = own.last.2 in omega (arith, low, last)), unmoved (λ device. let clash : OutOfMemory ≡ Store faults.Device = sym is ∙ device in cc))
-    refusal (Store f) is why = (listed_if why.0, not_saved f is why.1 (carried (λ was is. LeavesPair was is (e.last + 1)) (call.leaves uses.armed_shows.honest)))
+    refusal (Store f) is why = (listed_if why.0, not_saved f is why.1 (carried (λ was is. LeavesPair was is (e.last + 1) e.config.nonce_block) (call.leaves uses.armed_shows.honest)))
 
     -- the router stands as it did
     refused_core : StandsForEtr o (step_of event router after_it refused ∷ T) router e
@@ -295,6 +317,7 @@ module _ (old : WorldState) (o : Opening) (T : List Step) (stand : Stands old o 
     refused_step = record {
       row = (refl, known, record { kind = kind; acts = refl; state = own.up }, refusal fault refl call.why);
       count = uses.count;
+      obedient = uses.obedient;
       adds = adds_none o T (step_of event router after_it refused) refl;
       shows = uses.after;
       part = record { me = part.me; servers = part.servers; core = subst (λ (x : EtrState). StandsForEtr o (step_of event router after_it refused ∷ T) router x) (sym call.err) refused_core };
@@ -323,7 +346,7 @@ module _ (old new : WorldState) (router server : ℕ) (fate : Fate) (line : Line
   once_here = acts_once old new router sends.more sends.acts o T stand
 
   -- with the step of the router it does
-  ends : (s : Shown) → RouterStep o T (events.Send router server fate) router s (MayCome (turn_at o T router s) (events.Send router server fate)) line sends.more sends.acts.after → Sent-after
+  ends : (s : Shown) → RouterStep o T (events.Send router server fate) router s (MayCome (turn_at o T router fate s) (events.Send router server fate)) line sends.more sends.acts.after → Sent-after
   ends s step = (router, s, stands_by old new router sends.more sends.acts o T stand (events.Send router server fate) s line refl step)
 
   -- the router is down
@@ -331,6 +354,7 @@ module _ (old new : WorldState) (router server : ℕ) (fate : Fate) (line : Line
   sends_down config db is core at = ends (shown o T router) (moved o T _ router (shown o T router) _ line (lines.Down router) sends.more [] sends.acts.after sends.acts.before at.1 at.2 at.0 (record {
     row = (known_server, record { acts = record { kind = kind_here; acts = refl; state = core.0 }; names = refl; same = refl });
     count = omega arith;
+    obedient = refl;
     adds = adds_none o T _ refl;
     shows = shows_here;
     part = record { me = part_here.me; servers = part_here.servers; core = subst (λ (c : RouterCore). StandsForCore o (step_of (events.Send router server fate) router (shown o T router) (lines.Down router) ∷ T) router c) (sym is) core };
@@ -338,7 +362,7 @@ module _ (old new : WorldState) (router server : ℕ) (fate : Fate) (line : Line
 
   module _ (e : EtrState) (own : StandsForEtr o T router e) where
     -- it sent, or refused to
-    sends_ok : (etr : EtrState) → sends.acts.after ≡ record sends.acts.before { core = Up etr; store = sends.acts.after.store } → (armed called : StoreState) → (uses : Shown-in armed called sends.acts.after.store (shown o T router)) → (answer : Result (List ℕ) SendFault)
+    sends_ok : (etr : EtrState) → sends.acts.after ≡ record sends.acts.before { core = Up etr; store = sends.acts.after.store } → (armed called : StoreState) → (uses : Shown-in fate armed called sends.acts.after.store (shown o T router)) → (answer : Result (List ℕ) SendFault)
         → SendsTo e etr armed called (place_of sends.acts.before.servers server) old.clock answer → SaysSend old router server answer line sends.more → Sent-after
     sends_ok etr is armed called uses (Ok bytes) call says = ends _ (moved o T _ router _ _ line _ sends.more _ sends.acts.after _
         (says.said ∙ ap (λ (h : Head). lines.Sent router server h.key_id h.nonce (length old.bag)) (head_is old o T stand router server fate sends.acts.before kind_here known_server part_here once_here e etr own armed called sends.acts.after.store uses bytes call says.head says.read))

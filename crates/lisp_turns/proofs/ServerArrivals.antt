@@ -18,14 +18,14 @@ use Rattle.lisp_server.specs.Receiving.{Takes}
 use Rattle.lisp_schedules.specs.declared.event.Event.TheVariants as events
 use Rattle.lisp_schedules.specs.declared.line.Line.{Line}
 use Rattle.lisp_schedules.specs.declared.line.Line.TheVariants as lines
-use Rattle.lisp_schedules.specs.Trace.{Shown, Happening, Step, Opening, shown, node_at, address_at, is_server, is_router}
+use Rattle.lisp_schedules.specs.Trace.{Shown, Happening, Step, Opening, fate_of, shown, node_at, address_at, is_server, is_router}
 use Rattle.lisp_schedules.specs.Bag.{Item, Arrival, bytes_of, arrival_of, thrown, arrival_in, bag}
 use Rattle.lisp_schedules.specs.Legal.{Arrives, MayCome, IsDelivered, IsThrown, turn_of}
 use Rattle.lisp_schedules.specs.Turn.{Turn}
 use Rattle.lisp_schedules.specs.Promises.{is_timeless}
 use Rattle.lisp_turns.specs.World.{Posted, WorldState}
 use Rattle.lisp_turns.specs.Turns.{ArrivesAtServer, address_of, node_with, server_line, replies}
-use Rattle.lisp_turns.specs.Stands.{Carries, Stands, StandsAfter}
+use Rattle.lisp_turns.specs.Stands.{shown_by, Carries, Stands, StandsAfter}
 use Rattle.lisp_turns.proofs.Acting.{Adds, adds_none, Shown-in, uses_shown, server_is, address_is, server_acts, nobody_acts}
 use Rattle.lisp_turns.proofs.Gets.{get_within}
 use Rattle.lisp_turns.proofs.Heads.{reads_signed}
@@ -73,7 +73,7 @@ module _ {A : Type 0} (t : Turn) (node next : ℕ) where
 module _ (A : Type 0) (old new : WorldState) (node : ℕ) (fate : Fate) (from : Addr) (bytes : List ℕ) (line : Line) (at : ArrivesAtServer A old new node fate from bytes line) (o : Opening) (T : List Step) (stand : Stands old o T) where
   -- what the store shows afterwards, the line, and the step
   abbrev now_shown : Shown
-  now_shown = record { kept = at.receives.called.kept; faults = at.receives.called.faults }
+  now_shown = shown_by at.receives.called
 
   abbrev says : Line
   says = server_line node (length (bag o T)) at.answer
@@ -82,25 +82,25 @@ module _ (A : Type 0) (old new : WorldState) (node : ℕ) (fate : Fate) (from : 
   step event said = record { event = event; line = said; actor = node; shown = now_shown }
 
   -- the store is used as the step shows
-  uses : Shown-in at.receives.armed at.receives.called at.acts.after.store (shown o T node)
+  uses : Shown-in fate at.receives.armed at.receives.called at.acts.after.store (shown o T node)
   uses = uses_shown at.acts.before.store at.receives.armed at.receives.called at.acts.after.store fate (shown o T node) (stand.steps.server_stores node at.acts.before at.acts.was) at.receives.uses
 
   -- the Map-Server's part of the step
-  leaves : (event : Happening) → is_timeless event ≡ true → arrival_in (bag o T) event ≡ Some (thrown from bytes)
+  leaves : (event : Happening) → fate_of event ≡ fate → is_timeless event ≡ true → arrival_in (bag o T) event ≡ Some (thrown from bytes)
       → Received o T (step event says) (thrown from bytes) node at.acts.after (replies (address_at o.config node) from at.answer)
-  leaves event timeless arrives = received o T node (server_is old o T stand node at.acts.before at.acts.was) at.acts.before at.acts.after (stand.servers node at.acts.before at.acts.was)
-      at.receives.armed at.receives.called uses.armed_shows event timeless from bytes stand.steps.legal (message_at bytes) at.answer arrives
+  leaves event fated timeless arrives = received o T node (server_is old o T stand node at.acts.before at.acts.was) at.acts.before at.acts.after (stand.servers node at.acts.before at.acts.was)
+      at.receives.armed at.receives.called uses.armed_shows event (λ obeys. uses.fated obeys ∙ sym fated) timeless from bytes stand.steps.legal (message_at bytes) at.answer arrives
       (subst (λ (now : ℕ). IfOk at.answer (λ took. Takes (message_at bytes) from bytes at.acts.before.core at.acts.after.core at.receives.armed at.receives.called now took)) stand.bag.moment at.receives.taken)
       at.receives.refused at.receives.err at.receives.head
 
   -- the network stands for the trace with that step
-  goes_on : (event : Happening) → is_timeless event ≡ true → arrival_in (bag o T) event ≡ Some (thrown from bytes)
+  goes_on : (event : Happening) → fate_of event ≡ fate → is_timeless event ≡ true → arrival_in (bag o T) event ≡ Some (thrown from bytes)
       → (Arrives (turn_of o T (step event says)) (thrown from bytes) says → MayCome (turn_of o T (step event says)) event says) → Stands new o (step event line ∷ T)
-  goes_on event timeless arrives comes =
-      let left = leaves event timeless arrives in
+  goes_on event fated timeless arrives comes =
+      let left = leaves event fated timeless arrives in
       subst (λ (said : Line). Stands new o (step event said ∷ T)) (sym (at.said ∙ ap (λ (next : ℕ). server_line node next at.answer) stand.bag.count))
       (server_acts old new node (replies (address_of old node) from at.answer) at.acts o T (step event says) stand refl timeless
-      (record { faults = uses.count; row = comes left.row })
+      (record { faults = uses.count; obedient = uses.obedient; row = comes left.row })
       (subst (λ (home : Addr). Adds o T (step event says) (replies home from at.answer)) (sym (address_is old o T stand node)) left.adds)
       uses.after left.part)
 
@@ -110,10 +110,10 @@ pub deliver_to_server_stands : (A : Type 0) (old new : WorldState) (node : ℕ) 
 deliver_to_server_stands A old new node fate line k d there its at o T stand =
     let l = lies old o T stand k d there in
     let is = carries_arrival d l.item l.carries in
-    let t : Turn = record { opening = o; past = T; node = node; before = shown o T node; after = now_shown A old new node fate d.from d.bytes line at o T stand } in (
+    let t : Turn = record { opening = o; past = T; node = node; fate = fate; before = shown o T node; after = now_shown A old new node fate d.from d.bytes line at o T stand } in (
       node,
       now_shown A old new node fate d.from d.bytes line at o T stand,
-      goes_on A old new node fate d.from d.bytes line at o T stand (events.Deliver k fate) refl (ap (option_map arrival_of) l.sent ∙ ap Some (sym is))
+      goes_on A old new node fate d.from d.bytes line at o T stand (events.Deliver k fate) refl refl (ap (option_map arrival_of) l.sent ∙ ap Some (sym is))
           (λ row. delivered_row t node (length (bag o T)) k fate at.answer
           (record { item = l.item; sent = l.sent; there = addressed old o T stand d l.item l.carries ∙ its; arrives = subst (λ (a : Arrival). Arrives t a (server_line node (length (bag o T)) at.answer)) is row })),
     )
@@ -124,7 +124,7 @@ pub junk_to_server_stands : (A : Type 0) (old new : WorldState) (node : ℕ) (li
 junk_to_server_stands A old new node line from bytes at o T stand = (
   node,
   now_shown A old new node Done from bytes line at o T stand,
-  goes_on A old new node Done from bytes line at o T stand (events.Junk node from bytes) refl refl
+  goes_on A old new node Done from bytes line at o T stand (events.Junk node from bytes) refl refl refl
       (λ row. thrown_row _ node (length (bag o T)) node from bytes at.answer (record { acts = refl; arrives = row })),
 )
 
@@ -152,6 +152,7 @@ nowhere_stands old fate k d there none o T stand =
       nobody_acts old o T s stand refl (nobody_server o.config) (nobody_router o.config)
           (record {
             faults = omega arith;
+            obedient = refl;
             row = record {
               item = l.item;
               sent = l.sent;

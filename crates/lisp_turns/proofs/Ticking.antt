@@ -85,6 +85,7 @@ module _ (old : WorldState) (ms : ℕ) (bound : old.clock + ms ≤ max_moment) (
   tick_legal : Legal o T passed
   tick_legal = record {
     faults = omega arith;
+    obedient = refl;
     row = record {
       names = refl;
       clock = ap (λ n. n + ms) stand.bag.moment;

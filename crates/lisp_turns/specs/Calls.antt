@@ -1,6 +1,6 @@
 -- What one call of a node comes to, in its core's words: its store is armed with the event's fate, the core is called,
 -- and the store is armed with `Done` again.
-use Rattle.std.specs.Prelude.{◌≡◌, ◌≢◌, ℕ, ◌+◌, ◌<◌, ◌≤◌, List, length, Option, Result, Ok, Err, IfOk, IfErr, OnErr, IsErrOf, IsTrue}
+use Rattle.std.specs.Prelude.{◌≡◌, ◌≢◌, ℕ, ◌+◌, ◌<◌, ◌≤◌, List, [], ◌∷◌, length, Option, Result, Ok, Err, IfOk, IfErr, OnErr, IsErrOf, IsTrue}
 use Rattle.std.specs.Option.{unwrap_or}
 use Rattle.lisp_records.specs.declared.address.Addr.{Addr}
 use Rattle.lisp_records.specs.declared.router.RouterId.{RouterId}
@@ -12,12 +12,12 @@ use Rattle.lisp_nonces.specs.declared.fate.Fate.TheVariants.{Done}
 use Rattle.lisp_nonces.specs.declared.fault.StoreFault.{StoreFault}
 use Rattle.lisp_nonces.specs.declared.fault.StoreFault.TheVariants as faults
 use Rattle.lisp_nonces.specs.declared.pair.Pair.{Pair}
-use Rattle.lisp_nonces.specs.Kept.{kept_at, IsKept, NoneBelow, SameElsewhere, Narrows}
-use Rattle.lisp_nonces.specs.Store.{StoreState, Rose, Proceeds}
+use Rattle.lisp_nonces.specs.Kept.{kept_at, with_value, picked, IsKept, NoneBelow, SameElsewhere, Narrows}
+use Rattle.lisp_nonces.specs.Store.{StoreState, Rose, Proceeds, MaySave, MayFailSave}
 use Rattle.lisp_etr.specs.Config.{Settings, sent_pair}
 use Rattle.lisp_etr.specs.Etr.{EtrState, etr_started}
-use Rattle.lisp_etr.specs.Hearing.{Gives, AnswerFits, seen_at, after}
-use Rattle.lisp_etr.specs.Sending.{last_nonce, registration_of, datagram_of, Sends, Settles, LeavesPair}
+use Rattle.lisp_etr.specs.Hearing.{Gives, AnswerFits, TakesMemory, seen_at, after}
+use Rattle.lisp_etr.specs.Sending.{last_nonce, registration_of, datagram_of, block_end, Sends, Settles, LeavesPair}
 use Rattle.lisp_etr.specs.declared.notify_fault.NotifyFault.{NotifyFault}
 use Rattle.lisp_etr.specs.declared.notify_fault.NotifyFault.TheVariants as notify_faults
 use Rattle.lisp_etr.specs.declared.seen.Seen.{Seen}
@@ -34,12 +34,13 @@ use Rattle.lisp_server.specs.Receiving.{Takes, Refuses}
 use Rattle.lisp_server.specs.SendNotice.{Announces, RefusesNotice}
 use Rattle.lisp_turns.specs.World.{ServerNode, RouterNode, RouterCore, Up, Down}
 
--- a store was armed with a fate, and nothing else changed; with `Done` an obedient one fails no more
+-- a store was armed with a fate, which an obedient one shows, and nothing else changed; with `Done` that one fails no more
 pub record Arms (old : StoreState) (fate : Fate) (new : StoreState) : Type 0 where
   pub kept : new.kept ≡ old.kept
   pub count : new.faults ≡ old.faults
   pub honest : new.is_honest ≡ old.is_honest
   pub obedient : new.is_obedient ≡ old.is_obedient
+  pub fate : IsTrue old.is_obedient → new.fate ≡ fate
   pub quiet : IsTrue old.is_obedient → fate ≡ Done → IsTrue new.is_quiet
 
 -- what an event makes of a store: armed for the call, used in it, and armed with `Done`
@@ -77,7 +78,9 @@ pub record IsSentTo (old new : EtrState) (armed called : StoreState) (place now 
   pub sends : Sends old new place now
   pub safe : old.last + 1 ≤ new.safe
   pub keeps_safe : IsTrue armed.is_honest → NoneBelow old.safe (kept_at armed.kept (sent_pair old.config)) → NoneBelow new.safe (kept_at called.kept (sent_pair old.config))
-  pub settles : IsTrue armed.is_honest → Settles (kept_at armed.kept (sent_pair old.config)) (kept_at called.kept (sent_pair old.config)) (old.last + 1) last_nonce
+  pub settles : IsTrue armed.is_honest → Settles (kept_at armed.kept (sent_pair old.config)) (kept_at called.kept (sent_pair old.config)) (old.last + 1) old.config.nonce_block
+  pub unasked : old.last + 1 ≤ old.safe → called ≡ armed
+  pub saves : old.safe < old.last + 1 → MaySave armed
   pub others : IsTrue armed.is_honest → SameElsewhere armed.kept called.kept (sent_pair old.config)
 
 -- why it didn't: the first reason that applies
@@ -90,11 +93,13 @@ pub record IsNotSent (old new : EtrState) (armed called : StoreState) (place : �
   pub why : IsWhy old place fault
   pub err : new ≡ old
   pub keeps_safe : IsTrue armed.is_honest → NoneBelow old.safe (kept_at armed.kept (sent_pair old.config)) → NoneBelow old.safe (kept_at called.kept (sent_pair old.config))
-  pub leaves : IsTrue armed.is_honest → LeavesPair (kept_at armed.kept (sent_pair old.config)) (kept_at called.kept (sent_pair old.config)) (old.last + 1)
+  pub leaves : IsTrue armed.is_honest → LeavesPair (kept_at armed.kept (sent_pair old.config)) (kept_at called.kept (sent_pair old.config)) (old.last + 1) old.config.nonce_block
   pub others : IsTrue armed.is_honest → SameElsewhere armed.kept called.kept (sent_pair old.config)
   pub refused : fault ≢ Store faults.Device → called ≡ armed
   pub cause : fault ≡ Store faults.Device → Rose armed called
   pub sound : fault ≢ Store faults.Damaged
+  pub save_fails : fault ≡ Store faults.Device → MayFailSave armed
+  pub doubted : fault ≡ Store faults.Device → IsTrue armed.is_obedient → kept_at called.kept (sent_pair old.config) ≡ with_value (kept_at armed.kept (sent_pair old.config)) (block_end (old.last + 1) old.config.nonce_block)
 
 abbrev pub SendsTo : EtrState → EtrState → StoreState → StoreState → ℕ → ℕ → Result (List ℕ) SendFault → Type 0
 SendsTo old new armed called place now (Ok bytes) = IsSentTo old new armed called place now bytes
@@ -112,7 +117,7 @@ pub record Hears {A : Type 0} (old new : EtrState) (from : Addr) (bytes : List �
   pub gives : Gives (λ seen. seen) answer (seen_at {A = A} old from bytes)
   pub after : new ≡ after old answer
   pub fits : IfOk answer (λ seen. AnswerFits old.config.key_id seen)
-  pub head : IsErrOf answer notify_faults.OutOfMemory → HasHead bytes
+  pub grows : IsErrOf answer notify_faults.OutOfMemory → TakesMemory old.config from bytes
 
 -- a router starts, or doesn't and is down
 pub record IsStarted (config : Settings) (database : List Mapping) (now : ℕ) (before after : StoreState) (core : RouterCore) : Type 0 where
@@ -135,9 +140,10 @@ pub record StartsOver (config : Settings) (database : List Mapping) (now : ℕ) 
   pub same : IsTrue before.is_honest → after.kept ≡ before.kept
   pub proceeds : Proceeds before after
 
--- a store after a crash
-pub record Restarts (old new : StoreState) : Type 0 where
+-- a store after a crash: of an obedient one the value at a place is left, or the last
+pub record Restarts (old new : StoreState) (pick : ℕ) : Type 0 where
   pub narrows : IsTrue old.is_honest → (q : Pair) → Narrows (kept_at old.kept q) (kept_at new.kept q)
+  pub picks : IsTrue old.is_obedient → (q : Pair) → kept_at new.kept q ≡ picked (kept_at old.kept q) pick ∷ []
   pub proceeds : Proceeds old new
 
 -- what a router is configured with, and what it registers
@@ -150,9 +156,9 @@ database_of (Up e) = e.database
 database_of (Down config database) = database
 
 -- a router stopped, its store crashed, and it started again, with another database where one is given
-pub record RestartsRouter (old new : RouterNode) (db : Option (List Mapping)) (now : ℕ) (answer : Result (Unit {0}) StartFault) : Type 0 where
+pub record RestartsRouter (old new : RouterNode) (pick : ℕ) (db : Option (List Mapping)) (now : ℕ) (answer : Result (Unit {0}) StartFault) : Type 0 where
   pub me : new.me ≡ old.me
   pub servers : new.servers ≡ old.servers
   pub crashed : StoreState
-  pub crashes : Restarts old.store crashed
+  pub crashes : Restarts old.store crashed pick
   pub starts : StartsOver (config_of old.core) (unwrap_or db (database_of old.core)) now crashed new.store new.core answer

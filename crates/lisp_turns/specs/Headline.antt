@@ -14,7 +14,7 @@ use Rattle.lisp_schedules.specs.Held.{held, rows}
 use Rattle.lisp_schedules.specs.Bag.{since}
 use Rattle.lisp_schedules.specs.Change.{NoChange}
 use Rattle.lisp_schedules.specs.Clean.{Clean}
-use Rattle.lisp_schedules.specs.Promises.{NoncesRise, ReplaysAreTried, NoticeNoncesRise, AcceptedWasSent, IsRowOf, CountedWasAccepted, WasAccepted, DoneWasNoticed}
+use Rattle.lisp_schedules.specs.Promises.{NoncesRise, ReplaysAreTried, NoticeNoncesRise, AcceptedWasSent, IsRowOf, IsMadeOf, CountedWasAccepted, WasAccepted, DoneWasNoticed}
 use Rattle.lisp_turns.specs.World.{WorldState}
 use Rattle.lisp_turns.specs.Nodes.{server_at, etr_at}
 use Rattle.lisp_turns.specs.Stands.{Stands}
@@ -32,13 +32,14 @@ pub record Counts (w : WorldState) (router place key nonce : ℕ) : Type 0 where
   pub counted : option_and_then (λ round. round.acked) (slice_get core.rounds place) ≡ Some (key, nonce)
 
 -- a row is the one that is held for its router and prefix; its record is the one that the router's database had for
--- that prefix at a send to this Map-Server
+-- that prefix at a send to this Map-Server; and it was made of that send's message, which was accepted since the start
 pub record IsSentRow (o : Opening) (T : List Step) (server : ℕ) (row : Holding) (e : Entry) : Type 0 where
   pub latest : held (since o T server) row.router row.mapping.eid (clock T) ≡ Some row
   pub sent : Contains (history o T) e
   pub whom : e.server ≡ server
   pub of : IsRowOf o.config row e
   pub record_of : record_in e row.mapping.eid ≡ Some row.mapping
+  pub made : IsMadeOf o T server row e
 
 -- so is each row that is listed
 abbrev pub ListedWasSent : WorldState → Opening → List Step → Type 0

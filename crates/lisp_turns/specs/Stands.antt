@@ -29,11 +29,16 @@ use Rattle.lisp_schedules.specs.Legal.{LegalTrace}
 use Rattle.lisp_schedules.specs.Network.{IsNetwork}
 use Rattle.lisp_turns.specs.World.{Posted, ServerNode, RouterCore, Up, Down, RouterNode, WorldState}
 
+-- what a store shows of itself
+abbrev pub shown_by : StoreState → Shown
+shown_by store = record { kept = store.kept; faults = store.faults; is_obedient = store.is_obedient }
+
 -- an honest store shows what the trace says
 pub record Shows (store : StoreState) (s : Shown) : Type 0 where
   pub honest : IsTrue store.is_honest
   pub kept : store.kept ≡ s.kept
   pub faults : store.faults ≡ s.faults
+  pub obedient : store.is_obedient ≡ s.is_obedient
 
 -- what is kept of the configuration, steps and stores
 pub record StandsInSteps (w : WorldState) (o : Opening) (T : List Step) : Type 0 where

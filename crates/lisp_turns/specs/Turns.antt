@@ -208,10 +208,10 @@ pub record Delivers (A : Type 0) (old new : WorldState) (k : ℕ) (fate : Fate) 
   pub arrives : ArrivesWhere A old new k fate datagram (node_with old datagram.to) line
 
 -- a Map-Server stops, its store crashes, and it starts with its sites alone
-pub record RestartsServer (old new : WorldState) (node : ℕ) (line : Line) : Type 0 where
+pub record RestartsServer (old new : WorldState) (node pick : ℕ) (line : Line) : Type 0 where
   pub acts : ServerActs old new node []
   pub core : acts.after.core ≡ record { sites = acts.before.core.sites; rows = []; nonces = empty; contacts = []; notices = [] }
-  pub crashes : Restarts acts.before.store acts.after.store
+  pub crashes : Restarts acts.before.store acts.after.store pick
   pub said : line ≡ lines.Restarted node
 
 abbrev pub start_line : ℕ → Result (Unit {0}) StartFault → Line
@@ -219,15 +219,15 @@ start_line node (Ok done) = lines.Restarted node
 start_line node (Err fault) = lines.Refused node (refusals.Start fault)
 
 -- and a router, which is down where it doesn't start
-pub record RestartsAt (old new : WorldState) (node : ℕ) (db : Option (List Mapping)) (line : Line) : Type 0 where
+pub record RestartsAt (old new : WorldState) (node pick : ℕ) (db : Option (List Mapping)) (line : Line) : Type 0 where
   pub acts : RouterActs old new node []
   pub answer : Result (Unit {0}) StartFault
-  pub restarts : RestartsRouter acts.before acts.after db old.clock answer
+  pub restarts : RestartsRouter acts.before acts.after pick db old.clock answer
   pub said : line ≡ start_line node answer
 
 -- a node, of either kind; a Map-Server is given no database
-abbrev pub RestartsNode : WorldState → WorldState → ℕ → Option (List Mapping) → Line → Type 0
-RestartsNode old new node db line = ((db ≡ None) × RestartsServer old new node line) ⊎ RestartsAt old new node db line
+abbrev pub RestartsNode : WorldState → WorldState → ℕ → ℕ → Option (List Mapping) → Line → Type 0
+RestartsNode old new node pick db line = ((db ≡ None) × RestartsServer old new node pick line) ⊎ RestartsAt old new node pick db line
 
 -- a Map-Server sends a router a notice: its line has the Key ID and the nonce that stand in the datagram
 pub record SaysNoticed (old : WorldState) (server router : ℕ) (to : Addr) (bytes : List ℕ) (line : Line) (more : List Posted) : Type 0 where

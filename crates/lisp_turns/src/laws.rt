@@ -58,12 +58,12 @@ pub fn junk_at_routers_stands<A: Allocator>()
 
 /// A Map-Server stops, its store crashes, and it starts with its sites alone.
 pub fn server_restarts_stand()
-    ensures { (old new : WorldState) (node pick : ℕ) (line : Line) → RestartsServer old new node line → StandsAfter old new (events.Restart node pick None) line }
+    ensures { (old new : WorldState) (node pick : ℕ) (line : Line) → RestartsServer old new node pick line → StandsAfter old new (events.Restart node pick None) line }
 {}
 
 /// A router stops, its store crashes, and it starts again, or is down.
 pub fn router_restarts_stand()
-    ensures { (old new : WorldState) (node pick : ℕ) (db : Option (List Mapping)) (line : Line) → Fits db → RestartsAt old new node db line → StandsAfter old new (events.Restart node pick db) line }
+    ensures { (old new : WorldState) (node pick : ℕ) (db : Option (List Mapping)) (line : Line) → Fits db → RestartsAt old new node pick db line → StandsAfter old new (events.Restart node pick db) line }
 {}
 
 /// A Map-Server sends a router an unsolicited Map-Notify (notice) of what it holds of it (RFC 9301 section 5.7).

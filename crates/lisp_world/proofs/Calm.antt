@@ -202,10 +202,10 @@ pub delivers_calm : (A : Type 0) (old new : WorldState) (k : ℕ) (fate : Fate) 
 delivers_calm A old new k fate line delivers = arrival_calm A old new k fate delivers.datagram (node_with old delivers.datagram.to) line delivers.arrives
 
 -- a node stops, its store crashes, and it starts again
-pub restarts_calm : (old new : WorldState) (node : ℕ) (db : Option (List Mapping)) (line : Line) → RestartsNode old new node db line → KeepsCalm old new Done
-restarts_calm old new node db line (inl (none, server)) = server_keeps old new node [] Done server.acts
+pub restarts_calm : (old new : WorldState) (node pick : ℕ) (db : Option (List Mapping)) (line : Line) → RestartsNode old new node pick db line → KeepsCalm old new Done
+restarts_calm old new node pick db line (inl (none, server)) = server_keeps old new node [] Done server.acts
     (proceeds_keeps server.acts.before.store server.acts.after.store Done server.crashes.proceeds)
-restarts_calm old new node db line (inr router) = router_keeps old new node [] Done router.acts
+restarts_calm old new node pick db line (inr router) = router_keeps old new node [] Done router.acts
     (both_keep router.acts.before.store router.restarts.crashed router.acts.after.store Done
     (proceeds_keeps router.acts.before.store router.restarts.crashed Done router.restarts.crashes.proceeds)
     (proceeds_keeps router.restarts.crashed router.acts.after.store Done router.restarts.starts.proceeds))

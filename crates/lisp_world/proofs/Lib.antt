@@ -7,6 +7,7 @@ pub mod Running
 pub mod MakingChecks
 pub mod MakingNodes
 pub mod Making
+pub mod Unmade
 pub mod Telling
 pub mod Noticing
 pub mod Sending

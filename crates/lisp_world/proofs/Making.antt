@@ -141,12 +141,13 @@ module _ (c : Configuration) (stores : List StoreState) (w : WorldState) (count 
     shows_at : (k : ℕ) (s : StoreState) → slice_get (stores_of w) k ≡ Some s → Shows s (shown o [] k)
     shows_at k s at =
         let was = store_was k s at in
-        let there : slice_get o.stores k ≡ Some (record { kept = s.kept; faults = s.faults }) = slice_get-map (λ x. record { kept = x.kept; faults = x.faults }) (stores_of w) k ∙ ap (option_map (λ x. record { kept = x.kept; faults = x.faults })) at in
-        let is : shown o [] k ≡ record { kept = s.kept; faults = s.faults } = get_or_from_slice_get o.stores k (record { kept = s.kept; faults = s.faults }) (record { kept = empty; faults = 0 }) there in
+        let there : slice_get o.stores k ≡ Some (shown_by s) = slice_get-map shown_by (stores_of w) k ∙ ap (option_map shown_by) at in
+        let is : shown o [] k ≡ shown_by s = get_or_from_slice_get o.stores k (shown_by s) (record { kept = empty; faults = 0; is_obedient = false }) there in
         record {
           honest = subst (λ b. IsTrue b) (sym was.2.proceeds.honest) (honest k was.0 was.1);
           kept = ap (λ (x : Shown). x.kept) (sym is);
           faults = ap (λ (x : Shown). x.faults) (sym is);
+          obedient = ap (λ (x : Shown). x.is_obedient) (sym is);
         }
 
     server_shows : (k : ℕ) (n : ServerNode) → slice_get w.servers k ≡ Some n → Shows n.store (shown o [] k)

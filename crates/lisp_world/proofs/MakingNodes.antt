@@ -165,6 +165,14 @@ module _ (old new : List RouterNode) (i : ℕ) (to : StartedTo old new i) where
   abbrev Was : ℕ → RouterNode → Type 0
   Was k n = (m : RouterNode) × (slice_get old k ≡ Some m) × HasStarted m n
 
+  -- the next one is as it was
+  pub next_was : (x : RouterNode) → i < length new → x ≡ get_or new i x → slice_get old i ≡ Some x
+  next_was x low is = first_was (to.each i x (slice_get-get_or new i x low ∙ ap Some (sym is)))
+    where
+      first_was : ((i < i) × Was i x) ⊎ ((i ≤ i) × (slice_get old i ≡ Some x)) → slice_get old i ≡ Some x
+      first_was (inl (less, _)) = absurd (omega (arith, less))
+      first_was (inr (_, at)) = at
+
   -- one more
   pub started_more : (x y : RouterNode) → i < length new → x ≡ get_or new i x → HasStarted x y → StartedTo old (slice_set new i y) (i + 1)
   started_more x y low is starts = record { count = same_length ∙ to.count; each = λ k n at. each_now k n (get_set new i k y n at) }
@@ -172,19 +180,12 @@ module _ (old new : List RouterNode) (i : ℕ) (to : StartedTo old new i) where
       same_length : length (slice_set new i y) ≡ length new
       same_length = length-set new i y
 
-      was : slice_get new i ≡ Some x
-      was = slice_get-get_or new i x low ∙ ap Some (sym is)
-
-      first_was : ((i < i) × Was i x) ⊎ ((i ≤ i) × (slice_get old i ≡ Some x)) → slice_get old i ≡ Some x
-      first_was (inl (less, _)) = absurd (omega (arith, less))
-      first_was (inr (_, at)) = at
-
       further : (k : ℕ) (n : RouterNode) → k ≢ i → ((k < i) × Was k n) ⊎ ((i ≤ k) × (slice_get old k ≡ Some n)) → ((k < i + 1) × Was k n) ⊎ ((i + 1 ≤ k) × (slice_get old k ≡ Some n))
       further k n other (inl (less, done)) = inl (omega (arith, less), done)
       further k n other (inr (more, at)) = inr (omega (arith, more, other), at)
 
       each_now : (k : ℕ) (n : RouterNode) → ((k ≡ i) × (y ≡ n)) ⊎ ((k ≢ i) × (slice_get new k ≡ Some n)) → ((k < i + 1) × Was k n) ⊎ ((i + 1 ≤ k) × (slice_get old k ≡ Some n))
-      each_now k n (inl (same, that)) = inl (omega (arith, same), (x, ap (slice_get old) same ∙ first_was (to.each i x was), subst (λ m. HasStarted x m) that starts))
+      each_now k n (inl (same, that)) = inl (omega (arith, same), (x, ap (slice_get old) same ∙ next_was x low is, subst (λ m. HasStarted x m) that starts))
       each_now k n (inr (other, at)) = further k n other (to.each k n at)
 
   -- all

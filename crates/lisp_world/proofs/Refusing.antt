@@ -4,7 +4,7 @@ use Rattle.std.specs.Prelude.{◌≢◌, IfOk, IsErrAnd, IsErrOf, OnErr, if◌th
 use Rattle.std.specs.Option.{unwrap_or}
 use Rattle.lisp_etr.specs.declared.start_fault.StartFault.{StartFault}
 use Rattle.lisp_schedules.specs.Memory.{MayTell}
-use Rattle.lisp_schedules.specs.Trace.{Happening}
+use Rattle.lisp_schedules.specs.Trace.{Happening, fate_of}
 use Rattle.lisp_schedules.specs.declared.event.Event.TheVariants as events
 use Rattle.lisp_schedules.specs.declared.line.Line.{Line}
 use Rattle.lisp_schedules.specs.declared.world_fault.WorldFault.{WorldFault}
@@ -12,7 +12,7 @@ use Rattle.lisp_schedules.specs.declared.world_fault.WorldFault.TheVariants.{Clo
 use Rattle.lisp_turns.specs.World.{WorldState}
 use Rattle.lisp_turns.specs.Stands.{StandsAfter}
 use Rattle.lisp_world.specs.Faults.{Faults, fault_of, refusal_of}
-use Rattle.lisp_world.specs.Quiet.{KeepsCalm, fate_of}
+use Rattle.lisp_world.specs.Quiet.{KeepsCalm}
 use Rattle.lisp_world.specs.Taking.{Takes}
 
 -- what was taken has no fault, and one fault is no other

@@ -11,8 +11,8 @@ use Rattle.lisp_schedules.specs.declared.event.Event.{Event}
 use Rattle.lisp_schedules.specs.declared.line.Line.{Line}
 use Rattle.lisp_turns.specs.World.{WorldState}
 use Rattle.lisp_world.specs.Faults.{Faults, fault_of}
-use Rattle.lisp_turns.specs.Stands.{StandsAfter}
-use Rattle.lisp_world.specs.Runs.{Follows, RunsOn, StopsAt}
+use Rattle.lisp_world.specs.Runs.{Chain, Follows, RunsOn, StopsAt}
+use Rattle.lisp_world.specs.Taking.{Took}
 use Rattle.lisp_schedules.specs.declared.world_fault.WorldFault.{WorldFault}
 use Rattle.lisp_schedules.specs.declared.world_fault.WorldFault.TheVariants.{OutOfMemory}
 
@@ -28,6 +28,11 @@ pub why_refused : (X : Type 0) (fault : WorldFault) (known : Option WorldFault) 
 why_refused X fault (Some other) is = inl cc
 why_refused X fault None is = inr is
 
+-- an event that was taken has no fault
+pub possible_of : (line : Line) (known : Option WorldFault) → Faults {X = Line} known (Ok line) → known ≡ None
+possible_of line None is = refl
+possible_of line (Some fault) is = absurd (let clash : ◌≡◌ {A = Result Line WorldFault} (Ok line) (Err fault) = is in cc)
+
 -- what is said of an error holds where there is one
 pub at_error : {T E P : Type 0} (r : Result T E) → is_err r ≡ true → OnErr r P → P
 at_error (Ok x) is holds = absurd cc
@@ -38,29 +43,40 @@ pub at_value : {T E P : Type 0} (r : Result T E) → is_err r ≡ false → OnOk
 at_value (Ok x) is holds = holds
 at_value (Err why) is holds = absurd cc
 
-module _ (old : WorldState) (before : List Line) (events : List Happening) where
+module _ (node_may store_may : Type 0) where
+  -- a chain goes on by one event
+  chain_more : (old now new : WorldState) (events : List Happening) (lines : List Line) (event : Happening) (line : Line) → Chain node_may store_may old events lines now → Took node_may store_may now new event line
+      → Chain node_may store_may old (events ++ event ∷ []) (lines ++ line ∷ []) new
+  chain_more old now new [] [] event line same took = (new, subst (λ (w : WorldState). Took node_may store_may w new event line) same took, refl)
+  chain_more old now new (e ∷ events) (l ∷ lines) event line (next, first, others) took = (next, first, chain_more next now new events lines event line others took)
+  chain_more old now new [] (l ∷ lines) event line none took = absurd none
+  chain_more old now new (e ∷ events) [] event line none took = absurd none
+
+module _ (node_may store_may : Type 0) (old : WorldState) (before : List Line) (events : List Happening) where
   -- a network that has run no event stands as it did
-  pub runs_none : RunsOn old old before before (take 0 events)
+  pub runs_none : RunsOn node_may store_may old old before before (take 0 events)
   runs_none = record {
     lines = [];
     added = sym (append-nil before);
+    chain = refl;
     follows = λ o T stand. record { steps = []; events_are = refl; lines_are = refl; stands = stand };
   }
 
   -- it has run all where as many as there are have run
-  pub runs_all : (new : WorldState) (after : List Line) (i : ℕ) → length events ≤ i → RunsOn old new before after (take i events)
-      → RunsOn old new before after events
-  runs_all new after i all runs = subst (λ (done : List Happening). RunsOn old new before after done) (take_all i events all) runs
+  pub runs_all : (new : WorldState) (after : List Line) (i : ℕ) → length events ≤ i → RunsOn node_may store_may old new before after (take i events)
+      → RunsOn node_may store_may old new before after events
+  runs_all new after i all runs = subst (λ (done : List Happening). RunsOn node_may store_may old new before after done) (take_all i events all) runs
 
   -- where the lines so far stand in a list with room for another
   module _ (now : WorldState) (middle room : List Line) (i : ℕ) (event : Happening) (same_lines : room ≡ middle) (there : slice_get events i ≡ Some event)
-      (runs : RunsOn old now before middle (take i events)) where
+      (runs : RunsOn node_may store_may old now before middle (take i events)) where
     -- it goes on by the step of the next event, whose line is added
-    pub runs_next : (new : WorldState) (after : List Line) (line : Line) → after ≡ room ++ line ∷ [] → StandsAfter now new event line
-        → RunsOn old new before after (take (i + 1) events)
-    runs_next new after line added steps = record {
+    pub runs_next : (new : WorldState) (after : List Line) (line : Line) → after ≡ room ++ line ∷ [] → Took node_may store_may now new event line
+        → RunsOn node_may store_may old new before after (take (i + 1) events)
+    runs_next new after line added took = record {
       lines = runs.lines ++ line ∷ [];
       added = added ∙ ap (λ (lines : List Line). lines ++ line ∷ []) (same_lines ∙ runs.added) ∙ append_assoc before runs.lines (line ∷ []);
+      chain = subst (λ (es : List Happening). Chain node_may store_may old es (runs.lines ++ line ∷ []) new) (sym next) (chain_more node_may store_may old now new (take i events) runs.lines event line runs.chain took);
       follows = λ o T stand. goes_on o T (runs.follows o T stand);
     }
       where
@@ -72,7 +88,7 @@ module _ (old : WorldState) (before : List Line) (events : List Happening) where
         goes_on : (o : Opening) (T : List Step) → Follows old now o T (take i events) runs.lines
             → Follows old new o T (take (i + 1) events) (runs.lines ++ line ∷ [])
         goes_on o T so_far =
-            let after = steps o (so_far.steps ++ T) so_far.stands in
+            let after = took.stands o (so_far.steps ++ T) so_far.stands in
             record {
               steps = record { event = event; line = line; actor = after.0; shown = after.1 } ∷ so_far.steps;
               events_are = ap (λ (es : List Happening). event ∷ es) so_far.events_are ∙ sym (ap reverse next ∙ reverse-append (take i events) (event ∷ []));
@@ -82,7 +98,7 @@ module _ (old : WorldState) (before : List Line) (events : List Happening) where
 
     -- it stops before the next event, where that isn't taken and nothing changed
     pub stops_here : (new : WorldState) (fault : WorldFault) → new ≡ now → (fault_of now event ≡ Some fault) ⊎ (fault ≡ OutOfMemory)
-        → StopsAt old new before room events i fault
+        → StopsAt node_may store_may old new before room events i fault
     stops_here new fault same why =
-        subst (λ (left : WorldState × List Line). StopsAt old left.0 before left.1 events i fault) (λ k. (sym same k, sym same_lines k))
+        subst (λ (left : WorldState × List Line). StopsAt node_may store_may old left.0 before left.1 events i fault) (λ k. (sym same k, sym same_lines k))
         (record { within = slice_get_within events i event there; runs = runs; event = event; there = there; why = why })

@@ -30,7 +30,7 @@ junk_stands A old new node from bytes line (inl arrives) = junk_to_server_stands
 junk_stands A old new node from bytes line (inr arrives) = junk_to_router_stands A old new node from bytes line arrives
 
 -- a node starts again
-pub restarts_stand : (old new : WorldState) (node pick : ℕ) (db : Option (List Mapping)) (line : Line) → Fits db → RestartsNode old new node db line → StandsAfter old new (events.Restart node pick db) line
+pub restarts_stand : (old new : WorldState) (node pick : ℕ) (db : Option (List Mapping)) (line : Line) → Fits db → RestartsNode old new node pick db line → StandsAfter old new (events.Restart node pick db) line
 restarts_stand old new node pick db line fits (inl (none, turn)) =
     subst (λ (given : Option (List Mapping)). StandsAfter old new (events.Restart node pick given) line) (sym none) (restart_server_stands old new node pick line turn)
 restarts_stand old new node pick db line fits (inr turn) = restart_router_stands old new node pick db line fits turn

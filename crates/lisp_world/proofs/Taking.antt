@@ -103,12 +103,12 @@ module _ (node_may store_may : Type 0) (old new : WorldState) where
       told (Up etr) = tt
       told (Down config database) = tt
 
-  pub restarts_taken : (node pick : ℕ) (db : Option (List Mapping)) (line : Line) → None ≡ restart_fault old node db → Fits db → RestartsNode old new node db line → MayTell node_may store_may line
+  pub restarts_taken : (node pick : ℕ) (db : Option (List Mapping)) (line : Line) → None ≡ restart_fault old node db → Fits db → RestartsNode old new node pick db line → MayTell node_may store_may line
       → Took node_may store_may old new (events.Restart node pick db) line
   restarts_taken node pick db line possible fits turn tells = record {
     possible = sym possible;
     stands = restarts_stand old new node pick db line fits turn;
-    calm = restarts_calm old new node db line turn;
+    calm = restarts_calm old new node pick db line turn;
     tells = tells;
   }
 

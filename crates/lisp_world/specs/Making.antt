@@ -1,8 +1,9 @@
 -- How a network is made: its nodes over their stores before the routers start, and routers that start.
-use Rattle.std.specs.Prelude.{◌≡◌, ◌⊎◌, ◌<◌, ◌≤◌, ℕ, ◌+◌, List, [], ◌∷◌, ◌++◌, length, slice_get, Some, Ok}
+use Rattle.std.specs.Prelude.{◌≡◌, ◌≢◌, ◌⊎◌, ◌<◌, ◌≤◌, ℕ, ◌+◌, ◌-◌, ◌^◌, true, List, [], ◌∷◌, ◌++◌, length, slice_get, Some, Ok}
 use Rattle.std.specs.FinMap.{empty}
 use Rattle.lisp_served.specs.Configuration.{Configuration, Router}
-use Rattle.lisp_nonces.specs.Store.{StoreState}
+use Rattle.lisp_nonces.specs.Store.{StoreState, Rose, Proceeds}
+use Rattle.lisp_nonces.specs.declared.fault.StoreFault.{StoreFault}
 use Rattle.lisp_nonces.specs.declared.fault.StoreFault.TheVariants as faults
 use Rattle.lisp_etr.specs.declared.start_fault.StartFault.{StartFault}
 use Rattle.lisp_etr.specs.declared.start_fault.StartFault.TheVariants as start_faults
@@ -11,6 +12,8 @@ use Rattle.lisp_turns.specs.World.{ServerNode, RouterNode, Down}
 use Rattle.lisp_turns.specs.Calls.{StartsOver, config_of, database_of}
 use Rattle.lisp_schedules.specs.declared.world_fault.WorldFault.{WorldFault}
 use Rattle.lisp_schedules.specs.declared.world_fault.WorldFault.TheVariants.{Start}
+use Rattle.lisp_schedules.specs.declared.world_fault.WorldFault.TheVariants as world_faults
+use Rattle.lisp_world.specs.Openings.{repeats}
 
 -- a Map-Server of a configuration that holds nothing, over its store
 abbrev pub server_over : Configuration → StoreState → ServerNode
@@ -58,10 +61,41 @@ pub record HaveStarted (old new : List RouterNode) : Type 0 where
   pub count : length new ≡ length old
   pub each : (k : ℕ) (n : RouterNode) → slice_get new k ≡ Some n → (m : RouterNode) × (slice_get old k ≡ Some m) × HasStarted m n
 
--- a router didn't start, for want of memory only where memory, or that of its store, may be refused
-pub record IsStartFault (fault : WorldFault) (Refused StoreRefused : Type 0) : Type 0 where
-  pub node : ℕ
-  pub why : StartFault
-  pub is : fault ≡ Start node why
+-- a router didn't start over its store: by the store's device only where that failed, and for want of memory only
+-- where memory, or that of its store, may be refused
+pub record IsUnstarted (before after : StoreState) (why : StartFault) (Refused StoreRefused : Type 0) : Type 0 where
+  pub proceeds : Proceeds before after
+  pub cause : (f : StoreFault) → why ≡ start_faults.Store f → f ≢ faults.OutOfMemory → Rose before after
   pub memory : why ≡ start_faults.OutOfMemory → Refused
   pub store_memory : why ≡ start_faults.Store faults.OutOfMemory → StoreRefused
+
+-- one of these routers, which are numbered from a number on, didn't start
+pub record IsStartFault (first : ℕ) (routers : List RouterNode) (fault : WorldFault) (Refused StoreRefused : Type 0) : Type 0 where
+  pub place : ℕ
+  pub node : RouterNode
+  pub there : slice_get routers place ≡ Some node
+  pub why : StartFault
+  pub is : fault ≡ Start (first + place) why
+  pub after : StoreState
+  pub unstarted : IsUnstarted node.store after why Refused StoreRefused
+
+-- why no network is made of a configuration over stores: nodes are alike; want of memory; or a router, by its number,
+-- doesn't start over its store
+abbrev pub IsNewFault : Configuration → List StoreState → Type 0 → Type 0 → WorldFault → Type 0
+IsNewFault c stores Refused StoreRefused world_faults.Repeated = repeats c ≡ true
+IsNewFault c stores Refused StoreRefused world_faults.OutOfMemory = Refused
+IsNewFault c stores Refused StoreRefused (world_faults.Start node why) =
+    (length c.servers ≤ node) × (before : StoreState) × (slice_get stores node ≡ Some before) × (after : StoreState) × IsUnstarted before after why Refused StoreRefused
+IsNewFault c stores Refused StoreRefused _ = ⊥
+
+-- the count of each store's faults is below its end
+abbrev pub AllBelowEnd : List StoreState → Type 0
+AllBelowEnd stores = (k : ℕ) (s : StoreState) → slice_get stores k ≡ Some s → s.faults < 2 ^ 64 - 1
+
+-- why none is made over calm stores: nodes are alike, or want of memory
+abbrev pub IsCalmFault : Type 0 → Type 0 → WorldFault → Type 0
+IsCalmFault Refused StoreRefused world_faults.Repeated = Unit {0}
+IsCalmFault Refused StoreRefused world_faults.OutOfMemory = Refused
+IsCalmFault Refused StoreRefused (world_faults.Start _ start_faults.OutOfMemory) = Refused
+IsCalmFault Refused StoreRefused (world_faults.Start _ (start_faults.Store faults.OutOfMemory)) = StoreRefused
+IsCalmFault Refused StoreRefused _ = ⊥

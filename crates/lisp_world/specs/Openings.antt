@@ -8,6 +8,7 @@ use Rattle.lisp_nonces.specs.Kept.{Kept}
 use Rattle.lisp_nonces.specs.Store.{StoreState}
 use Rattle.lisp_schedules.specs.Trace.{Opening, addresses}
 use Rattle.lisp_turns.specs.World.{WorldState}
+use Rattle.lisp_turns.specs.Stands.{shown_by}
 use Rattle.lisp_world.specs.Quiet.{stores_of}
 
 -- two of a list are alike
@@ -21,7 +22,7 @@ repeats c = has_twice addr_eq (addresses c) || has_twice (λ a b. router_eq a.me
 
 -- a network's opening: its configuration, and what its stores show
 abbrev pub opening : Configuration → WorldState → Opening
-opening c w = record { config = c; stores = map (λ s. record { kept = s.kept; faults = s.faults }) (stores_of w) }
+opening c w = record { config = c; stores = map shown_by (stores_of w) }
 
 -- the lists that stores keep
 abbrev pub lists_of : List StoreState → List Kept

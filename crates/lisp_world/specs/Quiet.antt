@@ -3,8 +3,6 @@ use Rattle.std.specs.Prelude.{◌≡◌, ℕ, List, ◌++◌, map, slice_get, So
 use Rattle.lisp_nonces.specs.Store.{StoreState}
 use Rattle.lisp_nonces.specs.declared.fate.Fate.{Fate}
 use Rattle.lisp_nonces.specs.declared.fate.Fate.TheVariants.{Done}
-use Rattle.lisp_schedules.specs.Trace.{Happening}
-use Rattle.lisp_schedules.specs.declared.event.Event.TheVariants as events
 use Rattle.lisp_turns.specs.World.{WorldState}
 
 -- the stores of the nodes, Map-Servers first
@@ -25,13 +23,6 @@ AllCalm stores = (k : ℕ) (s : StoreState) → slice_get stores k ≡ Some s �
 -- how often their devices failed
 abbrev pub failures : List StoreState → List ℕ
 failures stores = map (λ s. s.faults) stores
-
--- what becomes of the calls that an event makes of a store
-abbrev pub fate_of : Happening → Fate
-fate_of (events.Send router server fate) = fate
-fate_of (events.Deliver k fate) = fate
-fate_of (events.Notice server router fate) = fate
-fate_of _ = Done
 
 -- calm stores are so after an event, and none failed but where its fate asks for that
 pub record KeepsCalm (old new : WorldState) (fate : Fate) : Type 0 where

@@ -1,9 +1,10 @@
 -- What running events comes to.
-use Rattle.std.specs.Prelude.{◌≡◌, ◌⊎◌, ◌<◌, ℕ, List, ◌++◌, length, map, reverse, take, slice_get, Some}
+use Rattle.std.specs.Prelude.{◌≡◌, ◌⊎◌, ◌<◌, ℕ, List, [], ◌∷◌, ◌++◌, length, map, reverse, take, slice_get, Some}
 use Rattle.lisp_schedules.specs.Trace.{Happening, Step, Opening}
 use Rattle.lisp_schedules.specs.declared.line.Line.{Line}
 use Rattle.lisp_turns.specs.World.{WorldState}
 use Rattle.lisp_world.specs.Faults.{fault_of}
+use Rattle.lisp_world.specs.Taking.{Took}
 use Rattle.lisp_turns.specs.Stands.{Stands}
 use Rattle.lisp_schedules.specs.declared.world_fault.WorldFault.{WorldFault}
 use Rattle.lisp_schedules.specs.declared.world_fault.WorldFault.TheVariants.{OutOfMemory}
@@ -15,17 +16,25 @@ pub record Follows (old new : WorldState) (o : Opening) (T : List Step) (events 
   pub lines_are : map (λ s. s.line) steps ≡ reverse lines
   pub stands : Stands new o (steps ++ T)
 
--- the lines of the events were added; and for every trace that the network stood for, it stands for that trace
--- followed by steps of these events with these lines
-pub record RunsOn (old new : WorldState) (before after : List Line) (events : List Happening) : Type 0 where
+-- a chain of networks: each takes an event, and comes to the next one with the event's line
+abbrev pub Chain : Type 0 → Type 0 → WorldState → List Happening → List Line → WorldState → Type 0
+Chain node_may store_may old [] [] new = new ≡ old
+Chain node_may store_may old (event ∷ events) (line ∷ lines) new =
+    (next : WorldState) × Took node_may store_may old next event line × Chain node_may store_may next events lines new
+Chain node_may store_may old _ _ new = ⊥
+
+-- the lines of the events were added, one for each, by a chain of networks; and for every trace that the network stood
+-- for, it stands for that trace followed by steps of these events with these lines
+pub record RunsOn (node_may store_may : Type 0) (old new : WorldState) (before after : List Line) (events : List Happening) : Type 0 where
   pub lines : List Line
   pub added : after ≡ before ++ lines
+  pub chain : Chain node_may store_may old events lines new
   pub follows : (o : Opening) (T : List Step) → Stands old o T → Follows old new o T events lines
 
 -- the events before a place were run, and the event there is refused
-pub record StopsAt (old new : WorldState) (before after : List Line) (events : List Happening) (place : ℕ) (fault : WorldFault) : Type 0 where
+pub record StopsAt (node_may store_may : Type 0) (old new : WorldState) (before after : List Line) (events : List Happening) (place : ℕ) (fault : WorldFault) : Type 0 where
   pub within : place < length events
-  pub runs : RunsOn old new before after (take place events)
+  pub runs : RunsOn node_may store_may old new before after (take place events)
   pub event : Happening
   pub there : slice_get events place ≡ Some event
   pub why : (fault_of new event ≡ Some fault) ⊎ (fault ≡ OutOfMemory)

@@ -1,14 +1,14 @@
 -- What it comes to that a network takes an event.
 use Rattle.std.specs.Prelude.{◌≡◌, ◌⊎◌, Option, Some, None, Result, Ok, Err}
 use Rattle.lisp_schedules.specs.Memory.{MayTell}
-use Rattle.lisp_schedules.specs.Trace.{Happening}
+use Rattle.lisp_schedules.specs.Trace.{Happening, fate_of}
 use Rattle.lisp_schedules.specs.declared.line.Line.{Line}
 use Rattle.lisp_schedules.specs.declared.world_fault.WorldFault.{WorldFault}
 use Rattle.lisp_schedules.specs.declared.world_fault.WorldFault.TheVariants.{OutOfMemory}
 use Rattle.lisp_turns.specs.World.{WorldState}
 use Rattle.lisp_turns.specs.Stands.{StandsAfter}
 use Rattle.lisp_world.specs.Faults.{fault_of, refusal_of}
-use Rattle.lisp_world.specs.Quiet.{KeepsCalm, fate_of}
+use Rattle.lisp_world.specs.Quiet.{KeepsCalm}
 
 -- it was taken, with this line
 pub record Took (node_may store_may : Type 0) (old new : WorldState) (event : Happening) (line : Line) : Type 0 where

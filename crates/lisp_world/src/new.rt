@@ -11,7 +11,7 @@ ghost use Rattle.lisp_etr.specs.declared.start_fault.StartFault.{StartFault};
 ghost use Rattle.lisp_schedules.specs.declared.world_fault.WorldFault.{WorldFault};
 ghost use Rattle.lisp_schedules.specs.Trace.{addresses as addresses_of, settings_of, secret_at};
 ghost use Rattle.lisp_schedules.specs.Network.{IsNetwork};
-ghost use Rattle.lisp_world.specs.Making.{server_over, router_over, IsRouterOver, AddsNode, AreNodes, HasStarted, HaveStarted, IsStartFault};
+ghost use Rattle.lisp_world.specs.Making.{server_over, router_over, IsRouterOver, AddsNode, AreNodes, HasStarted, HaveStarted, IsUnstarted, IsStartFault, IsNewFault, AllBelowEnd, IsCalmFault};
 ghost use Rattle.lisp_world.specs.Openings.{has_twice, repeats, opening, lists_of};
 ghost use Rattle.lisp_world.specs.Quiet.{AllHonest, AllCalm, stores_of, failures};
 ghost use Rattle.lisp_turns.specs.Headline.{Promises};
@@ -49,6 +49,7 @@ impl<S: WorldStore, A: Memory + Copy> World<S, A> {
         ensures stands { AllHonest (map S.seen stores.items) → IfOk result (λ w. Stands w (opening config.now w) []) }
         ensures headline { IfOk result (λ w. Promises w) }
         ensures lists { AllHonest (map S.seen stores.items) → IfOk result (λ w. lists_of (stores_of w) ≡ lists_of (map S.seen stores.items)) }
+        ensures faults { IfErr result (λ why. IsNewFault config.now (map S.seen stores.items) A.may_refuse S.may_refuse why) }
         ensures repeated { (result ≡ Err WorldFault.Repeated) ↔ (repeats config.now ≡ true) }
         ensures memory { IsErrOf result WorldFault.OutOfMemory → A.may_refuse }
         ensures start_memory { (node : ℕ) → IsErrOf result (WorldFault.Start node StartFault.OutOfMemory) → A.may_refuse }
@@ -56,6 +57,7 @@ impl<S: WorldStore, A: Memory + Copy> World<S, A> {
 
         // Stores that obey and fail no more are so again, and none has failed.
         ensures calm { AllCalm (map S.seen stores.items) → IfOk result (λ w. AllCalm (stores_of w) × (failures (stores_of w) ≡ failures (map S.seen stores.items))) }
+        ensures calm_faults { AllCalm (map S.seen stores.items) → AllBelowEnd (map S.seen stores.items) → IfErr result (IsCalmFault A.may_refuse S.may_refuse) }
     {
         if repeats(config) {
             return Err(WorldFault::Repeated);
@@ -345,7 +347,7 @@ fn start_all<S: WorldStore, A: Memory + Copy>(
 ) -> Result<(), WorldFault>
     requires { first + length routers.old < 2 ^ 64 }
     ensures started { OnOk result (HaveStarted routers.old routers.new) }
-    ensures faults { IfErr result (λ fault. IsStartFault fault A.may_refuse S.may_refuse) }
+    ensures faults { IfErr result (λ fault. IsStartFault first routers.old fault A.may_refuse S.may_refuse) }
 {
     for i in 0..routers.len() {
         if let Err(fault) = start(alloc, &mut routers[i]) {
@@ -362,8 +364,7 @@ fn start<S: WorldStore, A: Memory + Copy>(
     router: &mut RouterNode<S, A>,
 ) -> Result<(), StartFault>
     ensures started { OnOk result (HasStarted router.old router.new) }
-    ensures memory { IsErrOf result StartFault.OutOfMemory → A.may_refuse }
-    ensures store_memory { IsErrOf result (StartFault.Store StoreFault.OutOfMemory) → S.may_refuse }
+    ensures unstarted { IfErr result (λ why. IsUnstarted router.old.store router.new.store why A.may_refuse S.may_refuse) }
 {
     let how = Start {
         alloc,

@@ -15,15 +15,15 @@ use lisp_schedules::{Event, Line, WorldFault};
 use std::alloc::Allocator;
 
 impl<S: WorldStore, A: Memory + Copy> World<S, A> {
-    /// Takes events in their order, and appends the line of each. It stops at the first that it doesn't take: the
-    /// place of that event, from 0 on, and why; `OutOfMemory` also where there is no room for its line. The
-    /// events before it were taken, and their lines stand.
+    /// Takes events in their order, each as `step` does, and appends the line of each. It stops at the first that it
+    /// doesn't take: the place of that event, from 0 on, and why; `OutOfMemory` also where there is no room for its
+    /// line. The events before it were taken, and their lines stand.
     pub fn run<E: Allocator>(
         &mut self,
         events: &[Event<E>],
         lines: &mut Vec<Line, A>,
     ) -> Result<(), (usize, WorldFault)>
-        ensures runs { MatchResult result (λ done. RunsOn self.old self.new lines.old.items lines.new.items (map happening events.now)) (λ at. StopsAt self.old self.new lines.old.items lines.new.items (map happening events.now) at.0 at.1) }
+        ensures runs { MatchResult result (λ done. RunsOn A.may_refuse S.may_refuse self.old self.new lines.old.items lines.new.items (map happening events.now)) (λ at. StopsAt A.may_refuse S.may_refuse self.old self.new lines.old.items lines.new.items (map happening events.now) at.0 at.1) }
         ensures headline { Promises self.new }
         ensures memory { IfErr result (λ at. at.1 ≡ OutOfMemory → A.may_refuse) }
         ensures calm { AllCalm (stores_of self.old) → AllCalm (stores_of self.new) }

@@ -2,9 +2,9 @@
 
 ghost use Rattle.std.specs.Prelude.{◌≡◌, IfOk, OnErr, IsErrOf};
 ghost use Rattle.lisp_schedules.specs.Memory.{MayTell};
-ghost use Rattle.lisp_schedules.specs.Trace.{happening};
+ghost use Rattle.lisp_schedules.specs.Trace.{fate_of, happening};
 ghost use Rattle.lisp_world.specs.Faults.{Faults, fault_of};
-ghost use Rattle.lisp_world.specs.Quiet.{KeepsCalm, fate_of};
+ghost use Rattle.lisp_world.specs.Quiet.{KeepsCalm};
 ghost use Rattle.lisp_world.specs.Taking.{Takes};
 ghost use Rattle.lisp_turns.specs.Headline.{Promises};
 ghost use Rattle.lisp_turns.specs.Stands.{StandsAfter};

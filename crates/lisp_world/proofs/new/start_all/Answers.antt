@@ -2,14 +2,24 @@ use Rattle.std.proofs.Common.{◌+◌, ◌<◌, length, Err, arith, refl, sym, a
 use borrow.Author.Rules.{scaled_Fits}
 use Rattle.lisp_turns.specs.World.{RouterNode}
 use Rattle.lisp_world.specs.Making.{HasStarted}
-use Rattle.lisp_world.proofs.MakingNodes.{started_to_none, started_more, all_started}
+use Rattle.lisp_world.proofs.MakingNodes.{started_to_none, next_was, started_more, all_started}
 use Rattle.lisp_world.proofs.new.start_all.Goals as goal
 
 pub loop-i-init : goal.loop-i-init
 loop-i-init g c = started_to_none c.args.routers.now
 
 pub returns-in-Err-clause-faults : goal.returns-in-Err-clause-faults
-returns-in-Err-clause-faults g c = record { node = c.args.first + c.loop-i.i; why = c.in-Err.fault; is = refl; memory = λ e. c.in-Err.ensures.memory (ap Err e); store_memory = λ e. c.in-Err.ensures.store_memory (ap Err e) }
+returns-in-Err-clause-faults g c =
+    let low : c.loop-i.i < length c.loop-i.routers = omega (arith, c.loop-i-test.true, c.loop-i.auto.routers) in
+    record {
+      place = c.loop-i.i;
+      node = c.index-routers-i.result;
+      there = next_was c.args.routers.now c.loop-i.routers c.loop-i.i c.loop-i.invariant c.index-routers-i.result low c.index-routers-i.is;
+      why = c.in-Err.fault;
+      is = refl;
+      after = c.start.new.router.store;
+      unstarted = c.in-Err.ensures.unstarted;
+    }
 
 pub loop-i-preserved : goal.loop-i-preserved
 loop-i-preserved g c =

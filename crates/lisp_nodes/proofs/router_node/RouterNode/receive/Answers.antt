@@ -1,6 +1,6 @@
 use Rattle.std.proofs.Common.{ap, refl}
 use Rattle.lisp_nodes.specs.Cores.{core_of}
-use Rattle.lisp_nodes.proofs.NodeCalls.{has_head, unused}
+use Rattle.lisp_nodes.proofs.NodeCalls.{unused}
 use Rattle.lisp_nodes.proofs.router_node.RouterNode.receive.Goals as goal
 
 pub returns-clause-up : goal.returns-clause-up
@@ -17,6 +17,6 @@ returns-clause-up g c =
         gives = c.receive-answer.ensures.answer;
         after = c.receive-answer.ensures.after;
         fits = c.receive-answer.ensures.fits;
-        head = has_head _ _ _ c.receive-answer.ensures.early;
+        grows = c.receive-answer.ensures.grows;
       };
     })

@@ -8,6 +8,6 @@ returns-clause-restarts g c =
       me = e.0;
       servers = e.1.0;
       crashed = g.S.NonceStore.seen c.restart.new.self;
-      crashes = record { narrows = c.restart.ensures.narrows; proceeds = c.restart.ensures.proceeds };
+      crashes = record { narrows = c.restart.ensures.narrows; picks = c.restart.ensures.picks; proceeds = c.restart.ensures.proceeds };
       starts = e.1.1.0;
     })

@@ -34,6 +34,8 @@ returns-clause-up g c =
                     safe = w.in-Ok.ensures.safe;
                     keeps_safe = c.send-answer.ensures.keeps_safe;
                     settles = w.in-Ok.ensures.settles;
+                    unasked = c.send-answer.ensures.unasked;
+                    saves = w.in-Ok.ensures.saves;
                     others = c.send-answer.ensures.others;
                   })
               | in-Err w ↦ rw w.result-is (record {
@@ -45,6 +47,8 @@ returns-clause-up g c =
                 refused = w.in-Err.ensures.refused;
                 cause = λ e. w.in-Err.ensures.cause (ap Err e);
                 sound = λ e. w.in-Err.ensures.sound (ap Err e);
+                save_fails = λ e. w.in-Err.ensures.save_fails (ap Err e);
+                doubted = λ e. w.in-Err.ensures.doubted (ap Err e);
               })
             ]);
       };

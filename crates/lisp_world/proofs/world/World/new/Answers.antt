@@ -8,6 +8,7 @@ use Rattle.lisp_nonces.specs.Store.{StoreState}
 use Rattle.lisp_turns.specs.World.{RouterNode, WorldState}
 use Rattle.lisp_world.specs.Making.{HaveStarted, IsStartFault}
 use Rattle.lisp_world.proofs.MakingNodes.{written_whole}
+use Rattle.lisp_world.proofs.Unmade.{memory_fault, start_fault, calm_fault}
 use Rattle.lisp_world.proofs.Making.{IsMade, lists_same, stays_calm, made_stands}
 use Rattle.lisp_turns.proofs.Headlines.{networks_promise}
 use Rattle.lisp_schedules.specs.declared.world_fault.WorldFault.{WorldFault}
@@ -24,7 +25,7 @@ memory_alone (Ok x) is same = absurd is
 memory_alone (Err e) is same = absurd cc
 
 -- a router that doesn't start says why
-module _ {X : Type 0} (r : Result X WorldFault) (fault : WorldFault) (Refused StoreRefused : Type 0) (is : r ≡ Err fault) (why : IsStartFault fault Refused StoreRefused) where
+module _ {X : Type 0} (r : Result X WorldFault) (first : ℕ) (routers : List RouterNode) (fault : WorldFault) (Refused StoreRefused : Type 0) (is : r ≡ Err fault) (why : IsStartFault first routers fault Refused StoreRefused) where
   unstarted_alone : r ≢ Err faults.Repeated
   unstarted_alone same = (let both = sym is ∙ same in let start = why.is in cc)
 
@@ -32,10 +33,10 @@ module _ {X : Type 0} (r : Result X WorldFault) (fault : WorldFault) (Refused St
   unstarted_memory same = absurd (let both = sym is ∙ same in let start = why.is in cc)
 
   unstarted_start : (node : ℕ) → IsErrOf r (faults.Start node starts.OutOfMemory) → Refused
-  unstarted_start node same = why.memory (let both = sym is ∙ same in let start = why.is in cc)
+  unstarted_start node same = why.unstarted.memory (let both = sym is ∙ same in let start = why.is in cc)
 
   unstarted_store : (node : ℕ) → IsErrOf r (faults.Start node (starts.Store store_faults.OutOfMemory)) → StoreRefused
-  unstarted_store node same = why.store_memory (let both = sym is ∙ same in let start = why.is in cc)
+  unstarted_store node same = why.unstarted.store_memory (let both = sym is ∙ same in let start = why.is in cc)
 
 module _ (g : _) (c : goal.After-new g) where
   -- the routers started
@@ -115,16 +116,16 @@ returns-clause-repeated g c = unrepeated _ _ (sym c.repeats.ensures.exact ∙ c.
 
 pub returns-in_err-start_all-clause-repeated : goal.returns-in_err-start_all-clause-repeated
 returns-in_err-start_all-clause-repeated g c =
-    unrepeated _ _ (sym c.repeats.ensures.exact ∙ c.if-repeats.false) (unstarted_alone _ _ _ _ (err_is c.from_residual-in_err-start_all.result c.in_err-start_all.field-0.0 c.from_residual-in_err-start_all.ensures.1) c.in_err-start_all.ensures.faults)
+    unrepeated _ _ (sym c.repeats.ensures.exact ∙ c.if-repeats.false) (unstarted_alone _ _ _ _ _ _ (err_is c.from_residual-in_err-start_all.result c.in_err-start_all.field-0.0 c.from_residual-in_err-start_all.ensures.1) c.in_err-start_all.ensures.faults)
 
 pub returns-in_err-start_all-clause-memory : goal.returns-in_err-start_all-clause-memory
-returns-in_err-start_all-clause-memory g c = unstarted_memory _ _ _ _ (err_is c.from_residual-in_err-start_all.result c.in_err-start_all.field-0.0 c.from_residual-in_err-start_all.ensures.1) c.in_err-start_all.ensures.faults
+returns-in_err-start_all-clause-memory g c = unstarted_memory _ _ _ _ _ _ (err_is c.from_residual-in_err-start_all.result c.in_err-start_all.field-0.0 c.from_residual-in_err-start_all.ensures.1) c.in_err-start_all.ensures.faults
 
 pub returns-in_err-start_all-clause-start_memory : goal.returns-in_err-start_all-clause-start_memory
-returns-in_err-start_all-clause-start_memory g c = unstarted_start _ _ _ _ (err_is c.from_residual-in_err-start_all.result c.in_err-start_all.field-0.0 c.from_residual-in_err-start_all.ensures.1) c.in_err-start_all.ensures.faults
+returns-in_err-start_all-clause-start_memory g c = unstarted_start _ _ _ _ _ _ (err_is c.from_residual-in_err-start_all.result c.in_err-start_all.field-0.0 c.from_residual-in_err-start_all.ensures.1) c.in_err-start_all.ensures.faults
 
 pub returns-in_err-start_all-clause-store_memory : goal.returns-in_err-start_all-clause-store_memory
-returns-in_err-start_all-clause-store_memory g c = unstarted_store _ _ _ _ (err_is c.from_residual-in_err-start_all.result c.in_err-start_all.field-0.0 c.from_residual-in_err-start_all.ensures.1) c.in_err-start_all.ensures.faults
+returns-in_err-start_all-clause-store_memory g c = unstarted_store _ _ _ _ _ _ (err_is c.from_residual-in_err-start_all.result c.in_err-start_all.field-0.0 c.from_residual-in_err-start_all.ensures.1) c.in_err-start_all.ensures.faults
 
 pub returns-clause-memory : goal.returns-clause-memory
 returns-clause-memory g c = taken _ _
@@ -161,3 +162,31 @@ returns-in_err-servers-clause-start_memory g c = λ node. memory_no_start _ node
 
 pub returns-in_err-servers-clause-store_memory : goal.returns-in_err-servers-clause-store_memory
 returns-in_err-servers-clause-store_memory g c = λ node. memory_no_start _ node _ c.from_residual-in_err-servers.ensures.1
+
+-- why none was made, in one word
+pub returns-then-repeats-clause-faults : goal.returns-then-repeats-clause-faults
+returns-then-repeats-clause-faults g c = sym c.repeats.ensures.exact ∙ c.if-repeats.true
+
+pub returns-in_err-addresses-clause-faults : goal.returns-in_err-addresses-clause-faults
+returns-in_err-addresses-clause-faults g c = memory_fault _ _ c.from_residual.ensures.1 c.in_err-addresses.ensures.memory
+
+pub returns-in_err-servers-clause-faults : goal.returns-in_err-servers-clause-faults
+returns-in_err-servers-clause-faults g c = memory_fault _ _ c.from_residual-in_err-servers.ensures.1 c.in_err-servers.ensures.memory
+
+pub returns-in_err-start_all-clause-faults : goal.returns-in_err-start_all-clause-faults
+returns-in_err-start_all-clause-faults g c = start_fault c.args.config.now _ _ _ _ _ c.in_ok-servers.ensures.nodes _ _
+    (err_is c.from_residual-in_err-start_all.result c.in_err-start_all.field-0.0 c.from_residual-in_err-start_all.ensures.1)
+    (subst (λ (l : List RouterNode). IsStartFault _ l _ _ _) c.deref_mut.ensures.value c.in_err-start_all.ensures.faults)
+
+-- and over calm stores
+pub returns-then-repeats-clause-calm_faults : goal.returns-then-repeats-clause-calm_faults
+returns-then-repeats-clause-calm_faults g c calm below = tt
+
+pub returns-in_err-addresses-clause-calm_faults : goal.returns-in_err-addresses-clause-calm_faults
+returns-in_err-addresses-clause-calm_faults g c calm below = calm_fault c.args.config.now _ _ _ calm below _ (returns-in_err-addresses-clause-faults g c)
+
+pub returns-in_err-servers-clause-calm_faults : goal.returns-in_err-servers-clause-calm_faults
+returns-in_err-servers-clause-calm_faults g c calm below = calm_fault c.args.config.now _ _ _ calm below _ (returns-in_err-servers-clause-faults g c)
+
+pub returns-in_err-start_all-clause-calm_faults : goal.returns-in_err-start_all-clause-calm_faults
+returns-in_err-start_all-clause-calm_faults g c calm below = calm_fault c.args.config.now _ _ _ calm below _ (returns-in_err-start_all-clause-faults g c)

@@ -1,0 +1,64 @@
+-- Why no network is made: by the part that failed, and over calm stores.
+use Rattle.std.proofs.Common.{◌≡◌, ◌⊎◌, ℕ, ◌+◌, ◌-◌, ◌^◌, ◌<◌, ◌≤◌, List, length, Result, Ok, Err, Some, refl, sym, ap, subst, inl, inr, ◌∙◌, arith}
+use Rattle.std.specs.Prelude.{◌≢◌, slice_get, IfErr, IsErrAnd}
+use Rattle.lisp_served.specs.Configuration.{Configuration}
+use Rattle.lisp_nonces.specs.Store.{StoreState, Rose}
+use Rattle.lisp_nonces.specs.declared.fault.StoreFault.{StoreFault}
+use Rattle.lisp_nonces.specs.declared.fault.StoreFault.TheVariants as store_faults
+use Rattle.lisp_etr.specs.declared.start_fault.StartFault.{StartFault}
+use Rattle.lisp_etr.specs.declared.start_fault.StartFault.TheVariants as starts
+use Rattle.lisp_schedules.specs.declared.world_fault.WorldFault.{WorldFault}
+use Rattle.lisp_schedules.specs.declared.world_fault.WorldFault.TheVariants as faults
+use Rattle.lisp_turns.specs.World.{ServerNode, RouterNode}
+use Rattle.lisp_world.specs.Making.{AreNodes, IsUnstarted, IsStartFault, IsNewFault, AllBelowEnd, IsCalmFault}
+use Rattle.lisp_world.specs.Quiet.{AllCalm}
+
+-- memory ran out
+pub memory_fault : {X : Type 0} (r : Result X WorldFault) (P : WorldFault → Type 0) → IsErrAnd r (λ e. e ≡ faults.OutOfMemory) → P faults.OutOfMemory → IfErr r P
+memory_fault (Ok x) P is holds = tt
+memory_fault (Err fault) P is holds = subst P (sym is) holds
+
+-- a router didn't start: its number, and its store among those of the nodes
+module _ (c : Configuration) (stores : List StoreState) (Refused StoreRefused : Type 0) (made : List ServerNode) (down : List RouterNode) (nodes : AreNodes c stores made down) {X : Type 0} (r : Result X WorldFault) (fault : WorldFault) where
+  pub start_fault : r ≡ Err fault → IsStartFault (length made) down fault Refused StoreRefused → IfErr r (λ why. IsNewFault c stores Refused StoreRefused why)
+  start_fault is why = subst (λ (x : Result X WorldFault). IfErr x (λ why. IsNewFault c stores Refused StoreRefused why)) (sym (is ∙ ap Err why.is)) row
+    where
+      was : (s : StoreState) × (slice_get stores (length c.servers + why.place) ≡ Some s) × (why.node.store ≡ s)
+      was = (let over = nodes.are_routers why.place why.node why.there in (over.0, over.1, ap (λ (n : RouterNode). n.store) over.2.2))
+
+      row : IsNewFault c stores Refused StoreRefused (faults.Start (length made + why.place) why.why)
+      row = (
+        (let count = nodes.server_count in omega (arith, count)),
+        was.0,
+        ap (λ n. slice_get stores (n + why.place)) nodes.server_count ∙ was.1,
+        why.after,
+        subst (λ (s : StoreState). IsUnstarted s why.after why.why Refused StoreRefused) was.2 why.unstarted,
+      )
+
+-- over calm stores none fails by its device
+module _ (c : Configuration) (stores : List StoreState) (Refused StoreRefused : Type 0) (calm : AllCalm stores) (below : AllBelowEnd stores) where
+  unfailing : (node : ℕ) (why : StartFault) (f : StoreFault) → why ≡ starts.Store f → f ≢ store_faults.OutOfMemory → IsNewFault c stores Refused StoreRefused (faults.Start node why) → ⊥
+  unfailing node why f is other (high, before, there, after, unstarted) = never (unstarted.cause f is other)
+    where
+      never : Rose before after → ⊥
+      never (inl more) = (let same = (unstarted.proceeds.quiet (calm node before there).quiet).1 in absurd (omega (arith, more, same)))
+      never (inr end) = (let same = (unstarted.proceeds.quiet (calm node before there).quiet).1 in let low = below node before there in absurd (omega (arith, end, same, low)))
+
+  device : store_faults.Device ≢ store_faults.OutOfMemory
+  device clash = absurd cc
+
+  damaged : store_faults.Damaged ≢ store_faults.OutOfMemory
+  damaged clash = absurd cc
+
+  by_fault : (fault : WorldFault) → IsNewFault c stores Refused StoreRefused fault → IsCalmFault Refused StoreRefused fault
+  by_fault faults.Repeated why = tt
+  by_fault faults.OutOfMemory why = why
+  by_fault (faults.Start node starts.OutOfMemory) (high, before, there, after, unstarted) = unstarted.memory refl
+  by_fault (faults.Start node (starts.Store store_faults.OutOfMemory)) (high, before, there, after, unstarted) = unstarted.store_memory refl
+  by_fault (faults.Start node (starts.Store store_faults.Device)) why = absurd (unfailing node (starts.Store store_faults.Device) store_faults.Device refl device why)
+  by_fault (faults.Start node (starts.Store store_faults.Damaged)) why = absurd (unfailing node (starts.Store store_faults.Damaged) store_faults.Damaged refl damaged why)
+  by_fault _ why = absurd why
+
+  pub calm_fault : {X : Type 0} (r : Result X WorldFault) → IfErr r (λ why. IsNewFault c stores Refused StoreRefused why) → IfErr r (IsCalmFault Refused StoreRefused)
+  calm_fault (Ok x) why = tt
+  calm_fault (Err fault) why = by_fault fault why
