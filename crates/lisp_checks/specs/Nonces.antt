@@ -4,19 +4,23 @@ use Rattle.std.specs.List.{Contains}
 use Rattle.lisp_nonces.specs.declared.pair.Pair.{Pair}
 use Rattle.lisp_nonces.specs.declared.fault.StoreFault.{StoreFault}
 use Rattle.lisp_nonces.specs.declared.fault.StoreFault.TheVariants as faults
-use Rattle.lisp_nonces.specs.Kept.{kept_at, number, InDoubt}
-use Rattle.lisp_nonces.specs.Store.{StoreState, Rose}
+use Rattle.lisp_nonces.specs.Kept.{kept_at, number, with_value, InDoubt}
+use Rattle.lisp_nonces.specs.Store.{StoreState, Rose, MayLoad, MayFailLoad, MayFailSave}
 use Rattle.lisp_checks.specs.declared.refused.Refused.{Refused}
 use Rattle.lisp_checks.specs.declared.refused.Refused.TheVariants.{StoreLoad, Replay, StoreSave}
 use Rattle.lisp_checks.specs.declared.notice_fault.NoticeFault.{NoticeFault}
 use Rattle.lisp_checks.specs.declared.notice_fault.NoticeFault.TheVariants as notices
 use Rattle.lisp_checks.specs.Pairs.{notice_pair}
 
+-- the store may answer a load so: an obedient one is armed to answer, and an honest one keeps the value
+abbrev pub MayAnswer : StoreState → Pair → Option ℕ → Type 0
+MayAnswer store pair value = MayLoad store × (IsTrue store.is_honest → Contains (kept_at store.kept pair) value)
+
 -- the number that a nonce has to be above: the pair's last since the start, or where there is none
 -- a value that the store may answer
 abbrev pub IsBase : Option ℕ → StoreState → Pair → Option ℕ → Type 0
 IsBase (Some last) store pair base = base ≡ Some last
-IsBase None store pair base = IsTrue store.is_honest → Contains (kept_at store.kept pair) base
+IsBase None store pair base = MayAnswer store pair base
 
 -- 'nothing' is below each nonce
 abbrev pub IsBelow : Option ℕ → ℕ → Type 0
@@ -43,9 +47,22 @@ Unasked last before after = IfSome last (λ _. after ≡ before)
 abbrev pub HasCause : StoreFault → StoreState → StoreState → Type 0
 HasCause fault before after = fault ≢ faults.OutOfMemory → Rose before after
 
+-- but for memory, an obedient store fails to load only where it is armed to
+abbrev pub FailsToLoad : StoreFault → StoreState → Type 0
+FailsToLoad fault before = fault ≢ faults.OutOfMemory → MayFailLoad before
+
+-- what an obedient store makes of a save that fails: it is armed to fail, and keeps the nonce too
+pub record Doubts (before after : StoreState) (pair : Pair) (nonce : ℕ) : Type 0 where
+  pub armed : MayFailSave before
+  pub keeps : IsTrue before.is_honest → IsTrue before.is_obedient → kept_at after.kept pair ≡ with_value (kept_at before.kept pair) nonce
+
+-- so it fails to save, but for memory
+abbrev pub FailsToSave : StoreFault → StoreState → StoreState → Pair → ℕ → Type 0
+FailsToSave fault before after pair nonce = fault ≢ faults.OutOfMemory → Doubts before after pair nonce
+
 -- the pair's base is not in memory, and can't be loaded: a device failed, or memory ran out, which changes nothing
 abbrev pub Unknown : Option ℕ → StoreState → StoreState → StoreFault → Type 0
-Unknown last before after fault = (last ≡ None) × HasCause fault before after × (fault ≡ faults.OutOfMemory → after ≡ before)
+Unknown last before after fault = (last ≡ None) × HasCause fault before after × (fault ≡ faults.OutOfMemory → after ≡ before) × FailsToLoad fault before
 
 -- why a nonce is not let through: its base can't be loaded, or is not below it
 abbrev pub Stops : Option ℕ → StoreState → StoreState → Pair → ℕ → Refused → Type 0
@@ -55,7 +72,7 @@ Stops last before after pair nonce _ = ⊥
 
 -- a nonce isn't saved, and what may be kept of it
 abbrev pub Unsaved : StoreState → StoreState → Pair → ℕ → StoreFault → Type 0
-Unsaved before after pair nonce fault = HasCause fault before after × (fault ≢ faults.Damaged) × (IsTrue before.is_honest → InDoubt (kept_at before.kept pair) (kept_at after.kept pair) nonce) × (fault ≡ faults.OutOfMemory → after ≡ before)
+Unsaved before after pair nonce fault = HasCause fault before after × (fault ≢ faults.Damaged) × (IsTrue before.is_honest → InDoubt (kept_at before.kept pair) (kept_at after.kept pair) nonce) × (fault ≡ faults.OutOfMemory → after ≡ before) × FailsToSave fault before after pair nonce
 
 abbrev pub NotKept : StoreState → StoreState → Pair → ℕ → Refused → Type 0
 NotKept before after pair nonce (StoreSave fault) = Unsaved before after pair nonce fault

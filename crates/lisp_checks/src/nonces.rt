@@ -3,7 +3,7 @@
 ghost use Rattle.std.specs.Prelude.{◌≡◌, ◌-◌, ◌^◌, [], ◌∷◌, Some, IsTrue, IfOk, IfErr, IsErrOf, OnOk};
 ghost use Rattle.lisp_nonces.specs.declared.fault.StoreFault.{StoreFault};
 ghost use Rattle.lisp_nonces.specs.Kept.{kept_at, SameElsewhere};
-ghost use Rattle.lisp_nonces.specs.Store.{Proceeds};
+ghost use Rattle.lisp_nonces.specs.Store.{Proceeds, MaySave, MayFailSave, MayLoad, MayFailLoad};
 ghost use Rattle.lisp_checks.specs.Nonces.{Follows, FollowsNone, NoticeNotKept, IsBase, IsBelow, IsFresh, IsReplay, IsUnspent, KeepsLists, nonce_after, Unasked, Unknown, Stops, NotKept};
 ghost use Rattle.lisp_checks.specs.Pairs.{notice_pair};
 ghost use Rattle.lisp_checks.specs.declared.refused.Refused.{Refused};
@@ -68,6 +68,7 @@ fn above(base: Option<u64>, nonce: u64) -> Result<(), Refused>
 pub fn save_nonce<S: NonceStore>(store: &mut S, pair: &Pair, nonce: u64) -> Result<(), Refused>
     ensures done { IsTrue (S.seen store.old).is_honest → OnOk result (kept_at (S.seen store.new).kept pair.now ≡ Some nonce ∷ []) }
     ensures others { IsTrue (S.seen store.old).is_honest → SameElsewhere (S.seen store.old).kept (S.seen store.new).kept pair.now }
+    ensures saves { OnOk result (MaySave (S.seen store.old)) }
     ensures refused { IfErr result (NotKept (S.seen store.old) (S.seen store.new) pair.now nonce) }
     ensures plain { ¬ (IsErrOf result Refused.OutOfMemory) }
     ensures store_memory { IsErrOf result (Refused.StoreSave StoreFault.OutOfMemory) → S.may_refuse }
@@ -106,6 +107,7 @@ fn following(last: Option<u64>) -> Result<u64, NoticeFault>
 pub fn save_notice<S: NonceStore>(store: &mut S, nonce: u64) -> Result<(), NoticeFault>
     ensures done { IsTrue (S.seen store.old).is_honest → OnOk result (kept_at (S.seen store.new).kept notice_pair ≡ Some nonce ∷ []) }
     ensures others { IsTrue (S.seen store.old).is_honest → SameElsewhere (S.seen store.old).kept (S.seen store.new).kept notice_pair }
+    ensures saves { OnOk result (MaySave (S.seen store.old)) }
     ensures refused { IfErr result (NoticeNotKept (S.seen store.old) (S.seen store.new) nonce) }
     ensures plain { ¬ (IsErrOf result NoticeFault.OutOfMemory) }
     ensures store_memory { IsErrOf result (NoticeFault.StoreSave StoreFault.OutOfMemory) → S.may_refuse }
