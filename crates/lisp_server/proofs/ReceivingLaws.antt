@@ -5,7 +5,7 @@ use Rattle.std.specs.Prelude.{MatchResult}
 use Rattle.lisp_records.specs.declared.address.Addr.{Addr}
 use Rattle.lisp_records.specs.Row.{Holding}
 use Rattle.lisp_messages.specs.Message.{Registration, Registers, Notification, IsNotification, Notifies, Said}
-use Rattle.lisp_messages.specs.Reading.{Fails}
+use Rattle.lisp_messages.specs.Reading.{Fails, HasRecords}
 use Rattle.lisp_messages.specs.Spelling.{Spells}
 use Rattle.lisp_messages.proofs.FitLaws.{said_fits}
 use Rattle.lisp_records.specs.Spelling.{IsBytes}
@@ -16,8 +16,8 @@ use Rattle.lisp_served.specs.Site.{SiteEntry, site_of, secret_of}
 use Rattle.lisp_nonces.specs.declared.pair.Pair.{Pair}
 use Rattle.lisp_nonces.specs.declared.fault.StoreFault.{StoreFault}
 use Rattle.lisp_nonces.specs.declared.fault.StoreFault.TheVariants as stores
-use Rattle.lisp_nonces.specs.Kept.{Kept, kept_at, SameElsewhere, InDoubt}
-use Rattle.lisp_nonces.specs.Store.{StoreState, Rose, Proceeds}
+use Rattle.lisp_nonces.specs.Kept.{Kept, kept_at, with_value, SameElsewhere, InDoubt}
+use Rattle.lisp_nonces.specs.Store.{StoreState, Rose, Proceeds, MaySave}
 use Rattle.lisp_checks.specs.declared.refused.Refused.{Refused}
 use Rattle.lisp_checks.specs.declared.refused.Refused.TheVariants as refusals
 use Rattle.lisp_server.specs.declared.contacts.Contact.{Contact}
@@ -36,7 +36,7 @@ use Rattle.lisp_records.specs.Result.{◌>>=◌}
 use Rattle.lisp_checks.specs.Checks.{secret_under, check, refused_at, first_not_allowed}
 use Rattle.lisp_checks.specs.Checks.{notification_of}
 use Rattle.lisp_server.specs.Checks.{Passed, register_checked, Acknowledges, RefusesAck, reply_of}
-use Rattle.lisp_checks.specs.Nonces.{IsFresh, KeepsLists, Unasked, HasCause, Stops, NotKept}
+use Rattle.lisp_checks.specs.Nonces.{IsFresh, KeepsLists, Unasked, HasCause, FailsToSave, Stops, NotKept}
 use Rattle.lisp_server.specs.Receiving.{Accepts, Takes, OutOfRoom, RefusesRegister, RefusesRead, Refuses, SaveFailed}
 
 abbrev register_passed : Registration → List ℕ → Result Passed Refused
@@ -46,9 +46,27 @@ pub proceeds_on : {a b c : StoreState} → Proceeds a b → Proceeds b c → Pro
 proceeds_on {a} {b} {c} first second = record {
   honest = second.honest ∙ first.honest;
   obedient = second.obedient ∙ first.obedient;
+  fate = second.fate ∙ first.fate;
   count = omega (arith, first.count, second.count);
   quiet = λ q. (let one = first.quiet q in let two = second.quiet one.0 in (two.0, two.1 ∙ one.1));
 }
+
+-- what an obedient store is armed with, it was armed with before
+module _ {a b : StoreState} (went : Proceeds a b) where
+  honest_still : IsTrue a.is_honest → IsTrue b.is_honest
+  honest_still = subst (λ (is : Bool). IsTrue is) (sym went.honest)
+
+  obedient_still : IsTrue a.is_obedient → IsTrue b.is_obedient
+  obedient_still = subst (λ (is : Bool). IsTrue is) (sym went.obedient)
+
+  pub may_save : MaySave b → MaySave a
+  may_save may obeys doubt = may (obedient_still obeys) (went.fate ∙ doubt)
+
+  pub fails_to_save : (fault : StoreFault) (c : StoreState) (pair : Pair) (nonce : ℕ) → KeepsLists a b → FailsToSave fault b c pair nonce → FailsToSave fault a c pair nonce
+  fails_to_save fault c pair nonce same fails other = record {
+    armed = λ obeys. sym went.fate ∙ (fails other).armed (obedient_still obeys);
+    keeps = λ honest obeys. subst (λ (was : Kept). kept_at c.kept pair ≡ with_value (kept_at was pair) nonce) (same honest) ((fails other).keeps (honest_still honest) (obedient_still obeys));
+  }
 
 rose_later : (a b c : StoreState) → a.faults ≤ b.faults → Rose b c → Rose a c
 rose_later a b c up (inl more) = inl (omega (arith, up, more))
@@ -61,7 +79,7 @@ pub record Saved {A : Type 0} (sites : List SiteEntry) (bytes : List ℕ) (m : R
   pub fits : IsNotification (notification_of m)
   pub fresh : IsFresh (nonce_at old.nonces.nonces pair) before pair nonce
   pub loaded : KeepsLists before between
-  pub honest : between.is_honest ≡ before.is_honest
+  pub went : Proceeds before between
   pub same : SameTables old mid
   pub brings : rows ≡ holdings m from now
   pub replies : reply ≡ reply_of secret m
@@ -69,6 +87,7 @@ pub record Saved {A : Type 0} (sites : List SiteEntry) (bytes : List ℕ) (m : R
   pub nonces : SetsNonce mid.nonces.nonces new.nonces.nonces pair nonce
   pub contacts : SetsContact mid.contacts.contacts new.contacts.contacts (record { router = pair.router; key = pair.key; from = from })
   pub notices : new.notices.notices ≡ mid.notices.notices
+  pub saves : MaySave between
   pub done : IsTrue between.is_honest → kept_at after.kept pair ≡ Some nonce ∷ []
   pub others : IsTrue between.is_honest → SameElsewhere between.kept after.kept pair
 
@@ -85,8 +104,9 @@ module _ {A : Type 0} {sites : List SiteEntry} {bytes : List ℕ} {m : Registrat
     contacts = subst (λ (was : List Contact). SetsContact was new.contacts.contacts (record { router = router_of m; key = m.key_id; from = from })) s.same.contacts s.contacts;
     notices = s.notices ∙ s.same.notices;
     sites = refl;
-    kept = λ honest. s.done (subst (λ (b : Bool). IsTrue b) (sym s.honest) honest);
-    others = λ honest. subst (λ (was : Kept). SameElsewhere was after.kept (pair_of m)) (s.loaded honest) (s.others (subst (λ (b : Bool). IsTrue b) (sym s.honest) honest));
+    kept = λ honest. s.done (subst (λ (b : Bool). IsTrue b) (sym s.went.honest) honest);
+    others = λ honest. subst (λ (was : Kept). SameElsewhere was after.kept (pair_of m)) (s.loaded honest) (s.others (subst (λ (b : Bool). IsTrue b) (sym s.went.honest) honest));
+    saves = may_save s.went s.saves;
   }
 
   pub accepts : (pair : Pair) (nonce : ℕ) → pair ≡ pair_of m → nonce ≡ m.nonce → Saved sites bytes m from now old mid new before between after rows reply pair nonce → Accepts {A = A} (register_checked sites bytes m) (state_of sites old) (state_of sites new) before after from now (Accepted pair.router pair.key nonce reply)
@@ -117,6 +137,7 @@ module _ {A : Type 0} {sites : List SiteEntry} {bytes : List ℕ} {m : Registrat
     memory = λ want honest. ap (λ (x : StoreState). x.kept) (s.not_kept.3 want) ∙ s.loaded honest;
     doubt = λ honest. subst (λ (was : Kept). InDoubt (kept_at was (pair_of m)) (kept_at after.kept (pair_of m)) m.nonce) (s.loaded honest) (s.not_kept.2 (subst (λ (b : Bool). IsTrue b) (sym s.went.honest) honest));
     others = λ honest. subst (λ (was : Kept). SameElsewhere was after.kept (pair_of m)) (s.loaded honest) (s.others (subst (λ (b : Bool). IsTrue b) (sym s.went.honest) honest));
+    doubted = fails_to_save s.went fault after (pair_of m) m.nonce s.loaded s.not_kept.4;
   }
 
   unsaved_own : (why : Refused) → Unsaved sites bytes m old before between after why (pair_of m) m.nonce → RefusesRegister (register_checked sites bytes m) (state_of sites old) before after why
@@ -203,7 +224,7 @@ stops sites bytes m secret old before after pair nonce e p n checks same = subst
     passes = ap (λ r. r >>= λ (s : List ℕ). register_passed m s) checks
 
     own : (e : Refused) → Unasked (nonce_at old.nonces (pair_of m)) before after → Stops (nonce_at old.nonces (pair_of m)) before after (pair_of m) m.nonce e → RefusesRegister (register_checked sites bytes m) old before after e
-    own (refusals.StoreLoad fault) unasked (unknown, cause, unchanged) = record { passed = record { message = m; secret = secret }; checks = passes; unknown = unknown; cause = cause; memory = unchanged; same = same }
+    own (refusals.StoreLoad fault) unasked (unknown, cause, unchanged, armed) = record { passed = record { message = m; secret = secret }; checks = passes; unknown = unknown; cause = cause; memory = unchanged; same = same; armed = armed }
     own (refusals.Replay saved) unasked (base, stale) = record { passed = record { message = m; secret = secret }; checks = passes; base = base; stale = stale; unasked = unasked; same = same }
     own (refusals.Read _) unasked never = absurd never
     own refusals.NotMine unasked never = absurd never
@@ -287,15 +308,15 @@ pub refuses_notify : (said : Result Said ReadFault) (m : Notification) (from : A
 refuses_notify said m from bytes old before why at r = subst (λ (s : Result Said ReadFault). Refuses s from bytes old before before why) (sym at) (refuses_read (Ok (Notifies m)) from bytes old before before why (r, refl))
 
 -- bytes that can't be read
-pub read_fails : (fault : ReadFault) (said : Result Said ReadFault) (from : Addr) (bytes : List ℕ) (old : ServerState) (before : StoreState) → Fails fault said → Refuses said from bytes old before before (refused_of_read fault)
-read_fails reads.OutOfMemory said from bytes old before at = inl refl
-read_fails reads.Short said from bytes old before at = subst (λ (s : Result Said ReadFault). Refuses s from bytes old before before (refusals.Read reads.Short)) (sym at) (refl, refl)
-read_fails reads.Kind said from bytes old before at = subst (λ (s : Result Said ReadFault). Refuses s from bytes old before before (refusals.Read reads.Kind)) (sym at) (refl, refl)
-read_fails reads.Algorithm said from bytes old before at = subst (λ (s : Result Said ReadFault). Refuses s from bytes old before before (refusals.Read reads.Algorithm)) (sym at) (refl, refl)
-read_fails reads.AuthLength said from bytes old before at = subst (λ (s : Result Said ReadFault). Refuses s from bytes old before before (refusals.Read reads.AuthLength)) (sym at) (refl, refl)
-read_fails reads.NoIds said from bytes old before at = subst (λ (s : Result Said ReadFault). Refuses s from bytes old before before (refusals.Read reads.NoIds)) (sym at) (refl, refl)
-read_fails reads.Trailing said from bytes old before at = subst (λ (s : Result Said ReadFault). Refuses s from bytes old before before (refusals.Read reads.Trailing)) (sym at) (refl, refl)
-read_fails (reads.Record i fault) said from bytes old before at = subst (λ (s : Result Said ReadFault). Refuses s from bytes old before before (refusals.Read (reads.Record i fault))) (sym at) (refl, refl)
+pub read_fails : (fault : ReadFault) (said : Result Said ReadFault) (from : Addr) (bytes : List ℕ) (old : ServerState) (before : StoreState) → (fault ≡ reads.OutOfMemory → HasRecords bytes) → Fails fault said → Refuses said from bytes old before before (refused_of_read fault)
+read_fails reads.OutOfMemory said from bytes old before grows at = inl (grows refl, refl)
+read_fails reads.Short said from bytes old before grows at = subst (λ (s : Result Said ReadFault). Refuses s from bytes old before before (refusals.Read reads.Short)) (sym at) (refl, refl)
+read_fails reads.Kind said from bytes old before grows at = subst (λ (s : Result Said ReadFault). Refuses s from bytes old before before (refusals.Read reads.Kind)) (sym at) (refl, refl)
+read_fails reads.Algorithm said from bytes old before grows at = subst (λ (s : Result Said ReadFault). Refuses s from bytes old before before (refusals.Read reads.Algorithm)) (sym at) (refl, refl)
+read_fails reads.AuthLength said from bytes old before grows at = subst (λ (s : Result Said ReadFault). Refuses s from bytes old before before (refusals.Read reads.AuthLength)) (sym at) (refl, refl)
+read_fails reads.NoIds said from bytes old before grows at = subst (λ (s : Result Said ReadFault). Refuses s from bytes old before before (refusals.Read reads.NoIds)) (sym at) (refl, refl)
+read_fails reads.Trailing said from bytes old before grows at = subst (λ (s : Result Said ReadFault). Refuses s from bytes old before before (refusals.Read reads.Trailing)) (sym at) (refl, refl)
+read_fails (reads.Record i fault) said from bytes old before grows at = subst (λ (s : Result Said ReadFault). Refuses s from bytes old before before (refusals.Read (reads.Record i fault))) (sym at) (refl, refl)
 
 -- the Map-Notify of a Map-Register that was read from bytes fits the format
 pub notification_fits : (bytes : List ℕ) (m : Registration) → IsBytes bytes → Spells bytes (Registers m) → IsNotification (notification_of m)

@@ -16,14 +16,14 @@ use Rattle.lisp_messages.specs.Written.{written_notify}
 use Rattle.lisp_served.specs.Site.{SiteEntry}
 use Rattle.lisp_nonces.specs.declared.fault.StoreFault.TheVariants as stores
 use Rattle.lisp_nonces.specs.Kept.{Kept, kept_at, SameElsewhere, InDoubt}
-use Rattle.lisp_nonces.specs.Store.{StoreState, Proceeds}
+use Rattle.lisp_nonces.specs.Store.{StoreState, Proceeds, MaySave}
 use Rattle.lisp_lookup.specs.Records.{live_of, ByPrefix}
 use Rattle.lisp_lookup.proofs.LiveLaws.{some_row}
 use Rattle.lisp_server.specs.declared.contacts.Contact.{Contact}
 use Rattle.lisp_server.specs.declared.tables.Tables.{Tables}
 use Rattle.lisp_checks.specs.declared.notice_fault.NoticeFault.{NoticeFault}
 use Rattle.lisp_checks.specs.declared.notice_fault.NoticeFault.TheVariants as faults
-use Rattle.lisp_checks.specs.Nonces.{IsBase, Follows, FollowsNone, NoticeNotKept, nonce_after, KeepsLists, Unasked}
+use Rattle.lisp_checks.specs.Nonces.{IsBase, Follows, FollowsNone, NoticeNotKept, nonce_after, KeepsLists, Unasked, FailsToSave}
 use Rattle.lisp_server.specs.SendNotice.{IsRegistered, Announces, IsNotice, NoticeWithoutRoom, RefusesNotice, Unregistered, notice_of}
 use Rattle.lisp_server.specs.Contacts.{IsHeard, Knows}
 use Rattle.lisp_server.specs.LastNonces.{Nonces, nonce_at, SetsNonce}
@@ -31,7 +31,7 @@ use Rattle.lisp_checks.specs.Pairs.{notice_pair}
 use Rattle.lisp_server.specs.Notices.{Standing, SetsNotice}
 use Rattle.lisp_server.specs.Server.{ServerState, SameTables, state_of}
 use Rattle.lisp_server.proofs.ContactLaws.{contact_router}
-use Rattle.lisp_server.proofs.ReceivingLaws.{cause_later}
+use Rattle.lisp_server.proofs.ReceivingLaws.{cause_later, may_save, fails_to_save}
 
 -- what one message can carry stays so when it is sorted
 pub few_left : (given records : List Mapping) → ByPrefix given records → length given ≤ 255 → length records < 256
@@ -74,7 +74,8 @@ pub record Sent {A : Type 0} (sites : List SiteEntry) (old mid new : Tables A) (
   pub contacts : new.contacts.contacts ≡ mid.contacts.contacts
   pub notices : SetsNotice mid.notices.notices new.notices.notices notice
   pub loaded : KeepsLists before between
-  pub honest : between.is_honest ≡ before.is_honest
+  pub went : Proceeds before between
+  pub saves : MaySave between
   pub done : IsTrue between.is_honest → kept_at after.kept notice_pair ≡ Some nonce ∷ []
   pub others : IsTrue between.is_honest → SameElsewhere between.kept after.kept notice_pair
 
@@ -93,8 +94,9 @@ module _ {A : Type 0} {sites : List SiteEntry} {old mid new : Tables A} {before 
     stands = subst (λ (x : List Standing × Standing). SetsNotice x.0 new.notices.notices x.1) (λ i. (s.same.notices i, standing i)) s.notices;
     nonces = subst (λ (x : Nonces × ℕ). SetsNonce x.0 new.nonces.nonces notice_pair x.1) (λ i. (s.same.nonces i, saved i)) s.nonces;
     rest = λ i. record { sites = sites; rows = rows_are i; nonces = new.nonces.nonces; contacts = contacts_are i; notices = new.notices.notices };
-    kept = λ honest. s.done (subst (λ (b : Bool). IsTrue b) (sym s.honest) honest) ∙ ap (λ (n : ℕ). Some n ∷ []) s.next.3;
-    others = λ honest. subst (λ (was : Kept). SameElsewhere was after.kept notice_pair) (s.loaded honest) (s.others (subst (λ (b : Bool). IsTrue b) (sym s.honest) honest));
+    kept = λ honest. s.done (subst (λ (b : Bool). IsTrue b) (sym s.went.honest) honest) ∙ ap (λ (n : ℕ). Some n ∷ []) s.next.3;
+    others = λ honest. subst (λ (was : Kept). SameElsewhere was after.kept notice_pair) (s.loaded honest) (s.others (subst (λ (b : Bool). IsTrue b) (sym s.went.honest) honest));
+    saves = may_save s.went s.saves;
   }
     where
       own : contact.router ≡ router
@@ -127,7 +129,7 @@ module _ (s : ServerState) (router : RouterId) (now : ℕ) where
   refuses_unfollowed fault before after known is registered unasked same = subst (λ (last : Option ℕ). Unasked last before after → FollowsNone last before after fault → RefusesNotice s before after router now fault) (sym is) (own fault) unasked
     where
       own : (fault : NoticeFault) → Unasked (nonce_at s.nonces notice_pair) before after → FollowsNone (nonce_at s.nonces notice_pair) before after fault → RefusesNotice s before after router now fault
-      own (faults.StoreLoad fault) unasked (unknown, cause, memory) = record { registered = registered; unknown = unknown; cause = cause; memory = memory; same = same }
+      own (faults.StoreLoad fault) unasked (unknown, cause, memory, armed) = record { registered = registered; unknown = unknown; cause = cause; memory = memory; same = same; armed = armed }
       own faults.NonceSpent unasked spent = record { registered = registered; spent = spent; unasked = unasked; same = same }
       own faults.NotRegistered unasked never = absurd never
       own faults.TooLarge unasked never = absurd never
@@ -156,6 +158,7 @@ module _ (s : ServerState) (router : RouterId) (now : ℕ) where
     memory = λ want honest. ap (λ (x : StoreState). x.kept) (not_kept.3 want) ∙ loaded honest;
     doubt = λ honest. subst (λ (x : Kept × ℕ). InDoubt (kept_at x.0 notice_pair) (kept_at after.kept notice_pair) x.1) (λ i. (loaded honest i, next.3 i)) (not_kept.2 (subst (λ (b : Bool). IsTrue b) (sym went.honest) honest));
     others = λ honest. subst (λ (was : Kept). SameElsewhere was after.kept notice_pair) (loaded honest) (others (subst (λ (b : Bool). IsTrue b) (sym went.honest) honest));
+    doubted = subst (λ (n : ℕ). FailsToSave fault before after notice_pair n) next.3 (fails_to_save went fault after notice_pair nonce loaded not_kept.4);
   }
   refuses_unsaved faults.NotRegistered before between after known nonce is registered next went loaded others never = absurd never
   refuses_unsaved faults.TooLarge before between after known nonce is registered next went loaded others never = absurd never

@@ -3,12 +3,13 @@ use Rattle.std.specs.Prelude.{◌≡◌, ◌≢◌, ◌≤◌, ◌⊎◌, ℕ, L
 use Rattle.lisp_records.specs.declared.address.Addr.{Addr}
 use Rattle.lisp_records.specs.declared.router.RouterId.{RouterId}
 use Rattle.lisp_messages.specs.Message.{Registration, Registers, Notification, IsNotification, Notifies, Said}
+use Rattle.lisp_messages.specs.Reading.{HasRecords}
 use Rattle.lisp_messages.specs.declared.fault.ReadFault.{ReadFault}
 use Rattle.lisp_nonces.specs.declared.pair.Pair.{Pair}
 use Rattle.lisp_nonces.specs.declared.fault.StoreFault.{StoreFault}
 use Rattle.lisp_nonces.specs.declared.fault.StoreFault.TheVariants as faults
 use Rattle.lisp_nonces.specs.Kept.{kept_at, SameElsewhere, InDoubt}
-use Rattle.lisp_nonces.specs.Store.{StoreState}
+use Rattle.lisp_nonces.specs.Store.{StoreState, MaySave}
 use Rattle.lisp_checks.specs.declared.refused.Refused.{Refused}
 use Rattle.lisp_checks.specs.declared.refused.Refused.TheVariants.{Read, StoreLoad, Replay, OutOfMemory, StoreSave}
 use Rattle.lisp_server.specs.declared.took.Took.{Took}
@@ -23,7 +24,7 @@ use Rattle.lisp_server.specs.Notices.{Standing, EndsNotice}
 use Rattle.lisp_server.specs.Server.{ServerState}
 use Rattle.lisp_checks.specs.Checks.{notification_of}
 use Rattle.lisp_server.specs.Checks.{Passed, register_checked, Acknowledges, RefusesAck, reply_of}
-use Rattle.lisp_checks.specs.Nonces.{IsBase, IsBelow, IsFresh, KeepsLists, Unasked, HasCause}
+use Rattle.lisp_checks.specs.Nonces.{IsBase, IsBelow, IsFresh, KeepsLists, Unasked, HasCause, FailsToLoad, FailsToSave}
 
 -- the nonce is above each value that may be its base
 abbrev pub IsAboveAnyBase : Option ℕ → StoreState → Pair → ℕ → Type 0
@@ -50,6 +51,9 @@ pub record Accepts {A : Type 0} (check : Result Passed Refused) (old new : Serve
   pub kept : IsTrue before.is_honest → kept_at after.kept (pair_of passed.message) ≡ Some passed.message.nonce ∷ []
   pub others : IsTrue before.is_honest → SameElsewhere before.kept after.kept (pair_of passed.message)
 
+  -- an obedient store was armed to save
+  pub saves : MaySave before
+
 -- a Map-Notify-Ack ended an unsolicited Map-Notify (notice) that it acknowledges, and changed nothing else
 pub record Ends (from : Addr) (bytes : List ℕ) (m : Notification) (old new : ServerState) (before after : StoreState) (router : RouterId) (nonce : ℕ) : Type 0 where
   pub notice : Standing
@@ -75,6 +79,9 @@ pub record LoadFailed (check : Result Passed Refused) (old : ServerState) (befor
   pub memory : fault ≡ faults.OutOfMemory → after ≡ before
   pub same : KeepsLists before after
 
+  -- but for memory, an obedient store was armed to fail
+  pub armed : FailsToLoad fault before
+
 -- the nonce isn't above the base
 pub record Replays (check : Result Passed Refused) (old : ServerState) (before after : StoreState) (saved : ℕ) : Type 0 where
   pub passed : Passed
@@ -94,6 +101,9 @@ pub record SaveFailed (check : Result Passed Refused) (old : ServerState) (befor
   pub memory : fault ≡ faults.OutOfMemory → KeepsLists before after
   pub doubt : IsTrue before.is_honest → InDoubt (kept_at before.kept (pair_of passed.message)) (kept_at after.kept (pair_of passed.message)) passed.message.nonce
   pub others : IsTrue before.is_honest → SameElsewhere before.kept after.kept (pair_of passed.message)
+
+  -- but for memory, an obedient store was armed to fail, and keeps the nonce too
+  pub doubted : FailsToSave fault before after (pair_of passed.message) passed.message.nonce
 
 -- the nonce was fresh, and memory ran out before it was saved
 pub record OutOfRoom (check : Result Passed Refused) (old : ServerState) (before after : StoreState) : Type 0 where
@@ -118,9 +128,9 @@ RefusesRead (Ok (Notifies m)) from bytes old before after why = RefusesAck old.s
 RefusesRead (Err fault) from bytes old before after why = (why ≡ Read fault) × (after ≡ before)
 
 -- the message that bytes from an address spell was refused: as what was read, but that memory may also
--- have run out in reading, which leaves the store untouched
+-- have run out in reading records, which leaves the store untouched
 abbrev pub Refuses : Result Said ReadFault → Addr → List ℕ → ServerState → StoreState → StoreState → Refused → Type 0
-Refuses said from bytes old before after OutOfMemory = (after ≡ before) ⊎ RefusesRead said from bytes old before after OutOfMemory
+Refuses said from bytes old before after OutOfMemory = (HasRecords bytes × (after ≡ before)) ⊎ RefusesRead said from bytes old before after OutOfMemory
 Refuses said from bytes old before after why = RefusesRead said from bytes old before after why
 
 -- what was read is a Map-Register that passes all checks, with a nonce above each value that may be its base

@@ -11,14 +11,14 @@ use Rattle.lisp_messages.specs.Written.{written_notify}
 use Rattle.lisp_nonces.specs.declared.fault.StoreFault.{StoreFault}
 use Rattle.lisp_nonces.specs.declared.fault.StoreFault.TheVariants as faults
 use Rattle.lisp_nonces.specs.Kept.{kept_at, SameElsewhere, InDoubt}
-use Rattle.lisp_nonces.specs.Store.{StoreState}
+use Rattle.lisp_nonces.specs.Store.{StoreState, MaySave}
 use Rattle.lisp_lookup.specs.Records.{live_of, ByPrefix}
 use Rattle.lisp_checks.specs.declared.notice_fault.NoticeFault.{NoticeFault}
 use Rattle.lisp_checks.specs.declared.notice_fault.NoticeFault.TheVariants.{NotRegistered, TooLarge, StoreLoad, NonceSpent, OutOfMemory, StoreSave, NotDue}
 use Rattle.lisp_server.specs.Contacts.{IsHeard}
 use Rattle.lisp_server.specs.LastNonces.{nonce_at, SetsNonce}
 use Rattle.lisp_checks.specs.Pairs.{notice_pair}
-use Rattle.lisp_checks.specs.Nonces.{IsUnspent, nonce_after, IsBase, KeepsLists, Unasked, HasCause}
+use Rattle.lisp_checks.specs.Nonces.{IsUnspent, nonce_after, IsBase, KeepsLists, Unasked, HasCause, FailsToLoad, FailsToSave}
 use Rattle.lisp_server.specs.Notices.{SetsNotice}
 use Rattle.lisp_server.specs.Server.{ServerState}
 
@@ -68,6 +68,9 @@ pub record Announces (old new : ServerState) (before after : StoreState) (router
   pub kept : IsTrue before.is_honest → kept_at after.kept notice_pair ≡ Some (nonce_after last) ∷ []
   pub others : IsTrue before.is_honest → SameElsewhere before.kept after.kept notice_pair
 
+  -- an obedient store was armed to save
+  pub saves : MaySave before
+
 -- the last nonce can't be loaded from the store, which is unchanged if memory ran out in that
 pub record LastUnknown (old : ServerState) (before after : StoreState) (router : RouterId) (now : ℕ) (fault : StoreFault) : Type 0 where
   pub registered : IsRegistered old router now
@@ -75,6 +78,9 @@ pub record LastUnknown (old : ServerState) (before after : StoreState) (router :
   pub cause : HasCause fault before after
   pub memory : fault ≡ faults.OutOfMemory → after ≡ before
   pub same : KeepsLists before after
+
+  -- but for memory, an obedient store was armed to fail
+  pub armed : FailsToLoad fault before
 
 -- the last nonce is the greatest
 pub record LastSpent (old : ServerState) (before after : StoreState) (router : RouterId) (now : ℕ) : Type 0 where
@@ -103,6 +109,9 @@ pub record NoticeUnsaved (old : ServerState) (before after : StoreState) (router
   pub memory : fault ≡ faults.OutOfMemory → KeepsLists before after
   pub doubt : IsTrue before.is_honest → InDoubt (kept_at before.kept notice_pair) (kept_at after.kept notice_pair) (nonce_after last)
   pub others : IsTrue before.is_honest → SameElsewhere before.kept after.kept notice_pair
+
+  -- but for memory, an obedient store was armed to fail, and keeps the next nonce too
+  pub doubted : FailsToSave fault before after notice_pair (nonce_after last)
 
 -- no notice was sent: what the refusal means, and what it leaves of the store
 abbrev pub RefusesNotice : ServerState → StoreState → StoreState → RouterId → ℕ → NoticeFault → Type 0

@@ -140,7 +140,8 @@ impl<A: Memory + Copy> Server<A> {
     /// ends the notice, which is not sent again, and the answer is `NoticeDone` (RFC 9301 section 5.7). The
     /// store isn't used.
     ///
-    /// In reading, `OutOfMemory` may come in place of any answer but a fault of the bytes before the records.
+    /// In reading, and only where the message has records, `OutOfMemory` may come in place of any answer but a
+    /// fault of the bytes before them.
     pub fn receive<S: NonceStore>(
         &mut self,
         store: &mut S,

@@ -57,7 +57,7 @@ returns-clause-answer g c = accepts {new = c.accept.new.self} {between = g.S.Non
   fits = c.requires;
   fresh = subst (λ (last : Option ℕ). IsFresh last (g.S.NonceStore.seen c.args.store.now) c.pair_of-pair.result c.nonce_of-nonce.result) c.get.ensures c.in_ok-check_nonce.ensures.fresh;
   loaded = c.check_nonce.ensures.same;
-  honest = c.check_nonce.ensures.proceeds.honest;
+  went = c.check_nonce.ensures.proceeds;
   same = c.prepared.ensures.same;
   brings = c.in_ok-rows.ensures.ok.0;
   replies = c.in_ok-rows.ensures.ok.1;
@@ -65,6 +65,7 @@ returns-clause-answer g c = accepts {new = c.accept.new.self} {between = g.S.Non
   nonces = c.accept.ensures.nonces;
   contacts = c.accept.ensures.contacts;
   notices = c.accept.ensures.notices;
+  saves = c.in_ok-save_nonce.ensures.saves;
   done = c.in_ok-save_nonce.ensures.done;
   others = c.save_nonce.ensures.others;
 })

@@ -72,7 +72,8 @@ returns-clause-answer g c =
       contacts = c.keep_notice.ensures.contacts;
       notices = c.keep_notice.ensures.notices;
       loaded = c.next_nonce.ensures.same;
-      honest = c.next_nonce.ensures.proceeds.honest;
+      went = c.next_nonce.ensures.proceeds;
+      saves = c.in_ok-save_notice.ensures.saves;
       done = c.in_ok-save_notice.ensures.done;
       others = c.save_notice.ensures.others;
     })

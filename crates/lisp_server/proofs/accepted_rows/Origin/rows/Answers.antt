@@ -7,11 +7,11 @@ use Rattle.lisp_server.specs.AcceptedRows.{row_of}
 use Rattle.lisp_server.proofs.ReceivingLaws.{on_err}
 use Rattle.lisp_server.proofs.accepted_rows.Origin.rows.Goals as goal
 
-pub returns-in_err-make_room-clause-rows : goal.returns-in_err-make_room-clause-rows
-returns-in_err-make_room-clause-rows g c = IfOk-from_err _ _ c.from_residual.ensures.0
+pub returns-in_err-make_room_for-clause-rows : goal.returns-in_err-make_room_for-clause-rows
+returns-in_err-make_room_for-clause-rows g c = IfOk-from_err _ _ c.from_residual.ensures.0
 
-pub returns-in_err-make_room-clause-memory : goal.returns-in_err-make_room-clause-memory
-returns-in_err-make_room-clause-memory g c = on_err _ _ c.in_err-make_room.ensures.refused
+pub returns-in_err-make_room_for-clause-memory : goal.returns-in_err-make_room_for-clause-memory
+returns-in_err-make_room_for-clause-memory g c = on_err _ _ c.in_err-make_room_for.ensures.refused
 
 pub returns-in_err-try_push-clause-rows : goal.returns-in_err-try_push-clause-rows
 returns-in_err-try_push-clause-rows g c = IfOk-from_err _ _ c.from_residual-in_err-try_push.ensures.0

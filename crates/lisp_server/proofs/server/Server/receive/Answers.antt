@@ -24,7 +24,7 @@ pub returns-in-Ok-Notify-clause-refused : goal.returns-in-Ok-Notify-clause-refus
 returns-in-Ok-Notify-clause-refused g c = rw (← c.self.view_is) (IfErr-weaker c.receive_ack.result _ _ (λ why. refuses_notify _ c.in-Ok-Notify.notify _ _ _ _ why (c.in-Ok-Notify.ensures.exact ∙ ap (λ m. Ok (said m)) c.in-Ok-Notify.field-0-is)) c.receive_ack.ensures.refused)
 
 pub returns-in-Err-clause-refused : goal.returns-in-Err-clause-refused
-returns-in-Err-clause-refused g c = rw c.of_read.ensures (read_fails c.in-Err.fault _ _ _ c.args.self.now (g.S.NonceStore.seen c.args.store.now) c.in-Err.ensures.exact)
+returns-in-Err-clause-refused g c = rw c.of_read.ensures (read_fails c.in-Err.fault _ _ _ c.args.self.now (g.S.NonceStore.seen c.args.store.now) (λ is. (c.in-Err.ensures.grows (ap Err is)).1) c.in-Err.ensures.exact)
 
 pub returns-in-Err-clause-early : goal.returns-in-Err-clause-early
 returns-in-Err-clause-early g c = λ fault at. ap Err (c.of_read.ensures ∙ ap refused_of_read (let e = c.in-Err.ensures.early fault at in cc))
