@@ -51,7 +51,7 @@ pub record Shown-in (fate : Fate) (armed called new : StoreState) (before : Show
 pub uses_shown : (old armed called new : StoreState) (fate : Fate) (before : Shown) → Shows old before → Uses old fate armed called new → Shown-in fate armed called new before
 uses_shown old armed called new fate before shows uses = record {
   armed_shows = record { honest = honest; kept = uses.arms.kept ∙ shows.kept; faults = uses.arms.count ∙ shows.faults; obedient = obedient };
-  fated = λ obeys. uses.arms.fate (subst (λ (b : Bool). IsTrue b) (sym shows.obedient) obeys);
+  fated = λ obeys. uses.arms.armed_with (subst (λ (b : Bool). IsTrue b) (sym shows.obedient) obeys);
   honest = called_honest;
   after = record { honest = subst (λ (b : Bool). IsTrue b) (sym uses.disarms.honest) called_honest; kept = uses.disarms.kept; faults = uses.disarms.count; obedient = uses.disarms.obedient };
   obedient = uses.proceeds.obedient ∙ obedient;

@@ -1,5 +1,5 @@
 -- What arrives at a router: the row of its line, and what stands of the router afterwards.
-use Rattle.std.proofs.Common.{◌≡◌, ℕ, Bool, true, false, List, [], ◌∷◌, ◌++◌, length, Option, Some, None, Result, Ok, Err, refl, sym, ap, subst, inl, inr, ◌∙◌, arith}
+use Rattle.std.proofs.Common.{◌≤◌, ◌≡◌, ℕ, Bool, true, false, List, [], ◌∷◌, ◌++◌, length, Option, Some, None, Result, Ok, Err, refl, sym, ap, subst, inl, inr, ◌∙◌, arith}
 use Rattle.std.specs.Prelude.{◌≢◌, ◌⊎◌, ◌==◌, not, nat_le, slice_get, slice_set, slice_index_or, IfOk, IsErrOf, if◌then◌else◌}
 use Rattle.std.specs.List.{AllPairs, position}
 use Rattle.std.specs.Option.{option_map, option_to_list}

@@ -127,7 +127,7 @@ module _ (o : Opening) (T : List Step) (node : ℕ) (kind : is_server o.config n
     -- that is a legal step
     done_row : IsDone (turn_at o T node (fate_of event) called) (arriving from bytes (Ok (Notifies m))) node router nonce
     done_row =
-        let found = awaited o T node before.core.notices part.notices (shown o T node) (shown_by called) from m legal e.notice e.acknowledges.awaiting in
+        let found = awaited o T node before.core.notices part.notices (fate_of event) (shown o T node) (shown_by called) from m legal e.notice e.acknowledges.awaiting in
         record {
           acts = acts;
           message = m;

@@ -11,6 +11,7 @@ use Rattle.lisp_nonces.specs.declared.fate.Fate.{Fate}
 use Rattle.lisp_nonces.specs.declared.fate.Fate.TheVariants.{Doubt, LoadFails}
 use Rattle.lisp_nonces.specs.Kept.{Kept, kept_at, with_value, SameElsewhere, InDoubt}
 use Rattle.lisp_nonces.specs.Store.{StoreState}
+use Rattle.lisp_nonces.specs.declared.pair.Pair.{Pair}
 use Rattle.lisp_checks.specs.declared.refused.Refused.{Refused}
 use Rattle.lisp_checks.specs.declared.refused.Refused.TheVariants as refuseds
 use Rattle.lisp_checks.specs.Checks.{secret_under}
@@ -143,10 +144,10 @@ module _ (o : Opening) (T : List Step) (node : ℕ) (before : ServerNode) (part 
       refuses_notify : (why : Refused) → RefusesAckOf before.core.sites before.core.notices from bytes m why → FailsNotify turn arrival m m.ack why
       refuses_notify refuseds.NotMine r = subst (λ (b : Bool). FailsNotify turn arrival m b refuseds.NotMine) (sym r) refl
       refuses_notify refuseds.NoNotice r =
-          let none = none_awaited o T node before.core.notices part.notices turn.before turn.after from m r.1 in
+          let none = none_awaited o T node before.core.notices part.notices fate turn.before turn.after from m r.1 in
           subst (λ (b : Bool). FailsNotify turn arrival m b refuseds.NoNotice) (sym r.0) (subst (λ (n : Option Notice). RefusesAck turn arrival n refuseds.NoNotice) (sym none) refl)
       refuses_notify refuseds.BadAuth r =
-          let found = awaited o T node before.core.notices part.notices turn.before turn.after from m legal r.1 r.2 in
+          let found = awaited o T node before.core.notices part.notices fate turn.before turn.after from m legal r.1 r.2 in
           let tag = ap (λ (sites : List SiteEntry). answers_under sites bytes r.1) (sym part.sites) ∙ r.3 in
           subst (λ (b : Bool). FailsNotify turn arrival m b refuseds.BadAuth) (sym r.0) (subst (λ (n : Option Notice). RefusesAck turn arrival n refuseds.BadAuth) (sym found.stands)
           (signed_same o T node before.core.notices part.notices o.config.sites bytes found.notice r.1 found.is ∙ tag, refl))

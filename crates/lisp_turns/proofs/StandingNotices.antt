@@ -15,6 +15,7 @@ use Rattle.lisp_checks.specs.Checks.{secret_at}
 use Rattle.lisp_checks.specs.Checks.{signed_by}
 use Rattle.lisp_server.specs.Checks.{answers_under}
 use Rattle.lisp_server.specs.Notices.{Standing, notice_at, awaits as waits_for, IsAwaiting, NoneAwaits, EndsNotice}
+use Rattle.lisp_nonces.specs.declared.fate.Fate.{Fate}
 use Rattle.lisp_schedules.specs.Trace.{Shown, Step, Opening}
 use Rattle.lisp_schedules.specs.Timers.{Notice, notices, notice_to, without}
 use Rattle.lisp_schedules.specs.Bag.{Item, bag}
@@ -59,9 +60,9 @@ module _ (o : Opening) (T : List Step) (node : ℕ) (kept : List Standing) (same
       at (Some y) None e there is = absurd is
       at None b e there is = absurd (none_is_some e)
 
-  module _ (before after : Shown) (from : Addr) (m : Notification) where
+  module _ (fate : Fate) (before after : Shown) (from : Addr) (m : Notification) where
     abbrev turn : Turn
-    turn = record { opening = o; past = T; node = node; before = before; after = after }
+    turn = record { opening = o; past = T; node = node; fate = fate; before = before; after = after }
 
     -- they wait for the same acknowledgements
     waits_same : (x : Notice) (n : Standing) → IsStanding o T node x n → awaits turn from m x ≡ waits_for from m.key_id m.nonce n

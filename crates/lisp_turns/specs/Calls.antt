@@ -40,7 +40,7 @@ pub record Arms (old : StoreState) (fate : Fate) (new : StoreState) : Type 0 whe
   pub count : new.faults ≡ old.faults
   pub honest : new.is_honest ≡ old.is_honest
   pub obedient : new.is_obedient ≡ old.is_obedient
-  pub fate : IsTrue old.is_obedient → new.fate ≡ fate
+  pub armed_with : IsTrue old.is_obedient → new.fate ≡ fate
   pub quiet : IsTrue old.is_obedient → fate ≡ Done → IsTrue new.is_quiet
 
 -- what an event makes of a store: armed for the call, used in it, and armed with `Done`
