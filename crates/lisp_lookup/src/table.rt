@@ -14,6 +14,7 @@ ghost use Rattle.lisp_records.specs.Database.{database_of};
 
 use crate::answer::Answer;
 use crate::best::best;
+use crate::counted_rows::CountedRows;
 use crate::find::find;
 use crate::index::{self, Near};
 use crate::live::{copy_live, count_live};
@@ -133,7 +134,8 @@ impl<A: Allocator + Copy> Table<A> {
         ensures grows { steps.old ≤ steps.new }
         ensures cost { 2 ^ (steps.new - steps.old) ≤ 2 * length self.now.rows + 1 }
     {
-        find(&self.items, &self.by_prefix, &Probe::Prefix(*prefix), steps)
+        let rows = CountedRows::new(&self.items, &self.by_prefix);
+        find(&rows, &Probe::Prefix(*prefix), steps)
     }
 
     /// How many records of a router are alive at a moment, in ms; `TooLarge` where they are too many, or too
