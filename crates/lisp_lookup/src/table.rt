@@ -1,6 +1,6 @@
 //! The rows that a Map-Server holds.
 
-ghost use Rattle.std.specs.Prelude.{◌≡◌, ◌+◌, ◌-◌, ◌*◌, ◌^◌, ◌≤◌, ◌<◌, [], ◌∷◌, List, length, nat_le, slice_get, Ok, Err, IfOk, IfErr, OnOk, OnErr};
+ghost use Rattle.std.specs.Prelude.{◌≡◌, ◌+◌, ◌-◌, ◌*◌, ◌^◌, ◌≤◌, ◌<◌, [], ◌∷◌, List, length, nat_le, slice_get, Ok, Err, IsOk, IfOk, IfErr, OnOk, OnErr};
 ghost use Rattle.std.specs.Option.{option_map};
 ghost use Rattle.std.specs.List.{filter, count_by};
 ghost use Rattle.std.specs.Ordering.{is_lt};
@@ -55,7 +55,8 @@ impl<A: Allocator> Model for Table<A> {
 impl<A: Allocator + Copy> Table<A> {
     /// No rows; takes no memory.
     pub fn new(alloc: A) -> Table<A>
-        ensures { result.rows ≡ [] }
+        ensures none { result.rows ≡ [] }
+        ensures no_room { result.spare ≡ 0 }
     {
         Table {
             items: Vec::new(alloc),
@@ -170,6 +171,7 @@ impl<A: Memory + Copy> Table<A> {
     pub fn prepare(&mut self, rows: &[Row<A>]) -> Result<(), AllocError>
         ensures same { self.new.rows ≡ self.old.rows }
         ensures room { OnOk result (length rows.now ≤ self.new.spare) }
+        ensures succeeds { length rows.now ≤ self.old.spare → IsOk result }
         ensures memory { OnErr result A.may_refuse }
     {
         self.items.make_room_for(rows)?;
