@@ -167,7 +167,7 @@ impl<A: Allocator + Copy> Table<A> {
 }
 
 impl<A: Memory + Copy> Table<A> {
-    /// Makes room for these rows; no row changes, also where memory is refused.
+    /// Makes room for these rows, where there is none yet; no row changes, also where memory is refused.
     pub fn prepare(&mut self, rows: &[Row<A>]) -> Result<(), AllocError>
         ensures same { self.new.rows ≡ self.old.rows }
         ensures room { OnOk result (length rows.now ≤ self.new.spare) }
@@ -179,9 +179,11 @@ impl<A: Memory + Copy> Table<A> {
         self.by_deadline.make_room_for(rows)
     }
 
-    /// Copies of the rows that are alive at a moment, in ms: by router, then by prefix.
+    /// Copies of the rows that are alive at a moment, in ms: by router, then by prefix. Takes no memory where
+    /// none is.
     pub fn rows(&self, now: u64) -> Result<Vec<Row<A>, A>, AllocError>
         ensures held { IfOk result (λ rows. IsHeld self.now.rows now rows.items) }
+        ensures none_alive { filter (λ h. is_alive h now) self.now.rows ≡ [] → IsOk result }
         ensures memory { OnErr result A.may_refuse }
     {
         let mut live = live_rows(*self.items.allocator(), &self.items, now)?;
@@ -189,13 +191,15 @@ impl<A: Memory + Copy> Table<A> {
         Ok(live)
     }
 
-    /// Copies of the records of a router that are alive at a moment, in ms, by prefix.
+    /// Copies of the records of a router that are alive at a moment, in ms, by prefix. Takes no memory where
+    /// none is.
     pub fn live_records(
         &self,
         router: &RouterId,
         now: u64,
     ) -> Result<Vec<MapRecord<A>, A>, AllocError>
         ensures records { IfOk result (λ records. ByPrefix (live_of self.now.rows router.now now) records.items) }
+        ensures none_alive { live_of self.now.rows router.now now ≡ [] → IsOk result }
         ensures memory { OnErr result A.may_refuse }
     {
         let mut records = copy_live(*self.items.allocator(), &self.items, router, now)?;
@@ -211,6 +215,7 @@ fn live_rows<A: Memory + Copy>(
     now: u64,
 ) -> Result<Vec<Row<A>, A>, AllocError>
     ensures live { IfOk result (λ live. live.items ≡ filter (λ h. is_alive h now) rows.now) }
+    ensures none_alive { filter (λ h. is_alive h now) rows.now ≡ [] → IsOk result }
     ensures memory { OnErr result A.may_refuse }
 {
     let mut live = Vec::new(alloc);

@@ -1,4 +1,4 @@
-use Rattle.std.proofs.Common.{◌+◌, ◌-◌, ◌/◌, length, sym, ◌∙◌, arith}
+use Rattle.std.proofs.Common.{◌+◌, ◌-◌, ◌/◌, length, sym, arith}
 use Rattle.lisp_lookup.proofs.FindLaws.{cost_look, before_too, after_too}
 use Rattle.lisp_lookup.proofs.find.find.Goals as goal
 
@@ -8,7 +8,7 @@ loop-size-preserved-then-is_after g c =
     let left = c.loop-size.size - (c.loop-size.size / 2 + 1) in
     record {
       within = omega (arith, within, c.loop-size-test.true);
-      before = λ i d lt. before_too c.args.probe.now c.args.rows.now.rows c.args.rows.now.numbers (c.loop-size.low + c.loop-size.size / 2) c.look.result.now (omega (arith, within, c.loop-size-test.true)) c.requires.falls c.look.ensures.row (sym c.is_after.ensures ∙ c.if-is_after.true) i d (omega (arith, lt));
+      before = λ i d lt. before_too c.args.probe.now c.args.rows.now.rows c.args.rows.now.numbers (c.loop-size.low + c.loop-size.size / 2) c.look.result.now (omega (arith, within, c.loop-size-test.true)) c.requires.falls c.look.ensures.row (sym c.if-is_after.ensures) i d (omega (arith, lt));
       after = λ i d le lt. c.loop-size.invariant.after i d (omega (arith, le, c.loop-size-test.true)) lt;
       grown = omega (arith, c.look.ensures.step, c.loop-size.invariant.grown);
       cost = cost_look c.args.steps.now c.loop-size.steps c.look.new.steps c.loop-size.size left (length c.args.rows.now.numbers) c.look.ensures.step c.loop-size.invariant.grown c.loop-size.invariant.cost c.loop-size-test.true (omega arith);
@@ -20,7 +20,7 @@ loop-size-preserved g c =
     record {
       within = omega (arith, within, c.loop-size-test.true);
       before = c.loop-size.invariant.before;
-      after = λ i d le lt. after_too c.args.probe.now c.args.rows.now.rows c.args.rows.now.numbers (c.loop-size.low + c.loop-size.size / 2) c.look.result.now (omega (arith, within, c.loop-size-test.true)) c.requires.falls c.look.ensures.row (sym c.is_after.ensures ∙ c.if-is_after.false) i d le lt;
+      after = λ i d le lt. after_too c.args.probe.now c.args.rows.now.rows c.args.rows.now.numbers (c.loop-size.low + c.loop-size.size / 2) c.look.result.now (omega (arith, within, c.loop-size-test.true)) c.requires.falls c.look.ensures.row (sym c.if-is_after.ensures) i d le lt;
       grown = omega (arith, c.look.ensures.step, c.loop-size.invariant.grown);
       cost = cost_look c.args.steps.now c.loop-size.steps c.look.new.steps c.loop-size.size (c.loop-size.size / 2) (length c.args.rows.now.numbers) c.look.ensures.step c.loop-size.invariant.grown c.loop-size.invariant.cost c.loop-size-test.true (omega arith);
     }
