@@ -1,6 +1,6 @@
 //! The site router.
 
-ghost use Rattle.std.specs.Prelude.{◌≡◌, ◌≢◌, ◌↔◌, ◌≤◌, ◌<◌, ◌+◌, ℕ, List, Some, Ok, Err, IsTrue, IfOk, IfErr, IfSome, OnOk, OnErr, IsErrOf, length, map, nat_le, position, slice_get};
+ghost use Rattle.std.specs.Prelude.{◌≡◌, ◌≢◌, ◌↔◌, ◌≤◌, ◌<◌, ◌+◌, ℕ, List, [], ◌∷◌, Some, Ok, Err, IsTrue, IfOk, IfErr, IfSome, OnOk, OnErr, IsErrOf, length, map, nat_le, position, slice_get};
 ghost use Rattle.std.specs.Option.{option_and_then};
 ghost use Rattle.lisp_nonces.specs.Kept.{kept_at, with_value, IsKept, NoneBelow, SameElsewhere};
 ghost use Rattle.lisp_nonces.specs.Store.{Rose, Proceeds, MayLoad, MayFailLoad, MaySave, MayFailSave};
@@ -165,6 +165,9 @@ impl<A: Memory + Copy> Etr<A> {
 
         // A nonce that is safe is sent without a save.
         ensures unasked { self.old.last + 1 ≤ self.old.safe → S.seen store.new ≡ S.seen store.old }
+
+        // For any other the end of its block is kept, and nothing else.
+        ensures saved { IsTrue (S.seen store.old).is_honest → self.old.safe < self.old.last + 1 → OnOk result (kept_at (S.seen store.new).kept (sent_pair self.old.config) ≡ Some (block_end (self.old.last + 1) self.old.config.nonce_block) ∷ []) }
 
         // An obedient store fails where it is armed to, and keeps the end of the block too then.
         ensures saves { self.old.safe < self.old.last + 1 → OnOk result (MaySave (S.seen store.old)) }

@@ -1,6 +1,6 @@
 //! The Map-Registers of a router.
 
-ghost use Rattle.std.specs.Prelude.{◌≡◌, ◌≢◌, ◌<◌, ◌≤◌, IsTrue, IfOk, IfErr, IsErrOf, OnErr, OnOk};
+ghost use Rattle.std.specs.Prelude.{◌≡◌, ◌≢◌, ◌<◌, ◌≤◌, ◌∷◌, [], Some, IsTrue, IfOk, IfErr, IsErrOf, OnErr, OnOk};
 ghost use Rattle.lisp_nonces.specs.Kept.{kept_at, with_value, NoneBelow, SameElsewhere};
 ghost use Rattle.lisp_nonces.specs.Store.{Rose, Proceeds, MaySave, MayFailSave};
 ghost use Rattle.lisp_nonces.specs.declared.fault.StoreFault.{StoreFault};
@@ -55,6 +55,7 @@ pub(crate) fn keep_block<S: NonceStore, A: Allocator>(
     requires { nonce ≤ last_nonce }
     ensures exact { IfOk result (λ saved. saved ≡ safe_after safe nonce config.now.nonce_block) }
     ensures safe { IfOk result (λ saved. nonce ≤ saved) }
+    ensures saved { IsTrue (S.seen store.old).is_honest → safe < nonce → OnOk result (kept_at (S.seen store.new).kept (sent_pair config.now) ≡ Some (block_end nonce config.now.nonce_block) ∷ []) }
     ensures unasked { nonce ≤ safe → S.seen store.new ≡ S.seen store.old }
     ensures keeps_safe { IsTrue (S.seen store.old).is_honest → NoneBelow safe (kept_at (S.seen store.old).kept (sent_pair config.now)) → IfOk result (λ saved. NoneBelow saved (kept_at (S.seen store.new).kept (sent_pair config.now))) }
     ensures still_safe { IsTrue (S.seen store.old).is_honest → NoneBelow safe (kept_at (S.seen store.old).kept (sent_pair config.now)) → OnErr result (NoneBelow safe (kept_at (S.seen store.new).kept (sent_pair config.now))) }

@@ -11,14 +11,18 @@ use sha2::{Digest, Sha256};
 use std::marker::Model;
 
 /// A secret of any length, made ready for tags: the states of both digests after the padded key
-/// (RFC 2104 section 4). It holds none of the secret's bytes; a clause sees the secret. It has no
-/// `Debug`, so that no text shows it.
+/// (RFC 2104 section 4), by which tags can be made, and nothing else: none of the secret's bytes,
+/// since a hasher keeps none of a whole block. A clause sees the secret. It has no `Debug`, so that no
+/// text shows it.
 #[derive(Drop)]
 pub struct Key {
     inner: Sha256,
     outer: Sha256,
     secret: Secret,
 }
+
+// No field but the two states takes room.
+const _: () = prove!(size_of::<Key>() == 2 * size_of::<Sha256>());
 
 impl Model for Key {
     ghost use Rattle.std.specs.Prelude.{ℕ, List};

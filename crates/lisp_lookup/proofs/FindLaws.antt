@@ -38,13 +38,13 @@ cost_look start steps ticked left next all is grown cost some halves =
     let looks : ticked - start ≡ (steps - start) + 1 = omega (arith, is, grown) in
     subst (λ (n : ℕ). Cost n next all) (sym looks) (cost_more (steps - start) left next all cost some halves)
 
-module _ {A : Type 0} (probe : Probe A) (rows : List Holding) (numbers : List ℕ) (p number : ℕ) (x : Holding) (within : p < length numbers) (below : (k : ℕ) → k < length numbers → slice_index numbers k < length rows) (falls : Falls probe rows numbers) (read : number ≡ slice_index_or numbers p number) (at : x ≡ slice_index_or rows number x) where
-  number_at : number ≡ slice_index numbers p
-  number_at = get_or_read numbers p number within read 0
+-- the row that is read at a place of an order
+pub row_looked : (rows : List Holding) (numbers : List ℕ) (p number : ℕ) (x : Holding) → ((k : ℕ) → k < length numbers → slice_index numbers k < length rows) → p < length numbers → number ≡ slice_index_or numbers p number → x ≡ slice_index_or rows number x → (d : Holding) → x ≡ row_at_place rows numbers p d
+row_looked rows numbers p number x below within read at =
+    let number_at = get_or_read numbers p number within read 0 in
+    get_or_read rows (slice_index numbers p) x (below p within) (at ∙ ap (λ (n : ℕ). slice_index_or rows n x) number_at)
 
-  at_any : (d : Holding) → x ≡ row_at_place rows numbers p d
-  at_any = get_or_read rows (slice_index numbers p) x (below p within) (at ∙ ap (λ (n : ℕ). slice_index_or rows n x) number_at)
-
+module _ {A : Type 0} (probe : Probe A) (rows : List Holding) (numbers : List ℕ) (p : ℕ) (x : Holding) (within : p < length numbers) (falls : Falls probe rows numbers) (at_any : (d : Holding) → x ≡ row_at_place rows numbers p d) where
   -- no row up to one that stands before what is sought does otherwise
   pub before_too : is_before probe x ≡ true → (i : ℕ) (d : Holding) → i < p + 1 → is_before probe (row_at_place rows numbers i d) ≡ true
   before_too holds i d le = either (cases_eq i p)

@@ -24,7 +24,7 @@ use Rattle.lisp_lookup.specs.Records.{is_live_of, live_of, ByPrefix}
 use Rattle.lisp_served.proofs.Found.{not_true}
 use Rattle.lisp_lookup.proofs.Orders.{block_total, same_block}
 use Rattle.lisp_lookup.proofs.Apart.{found}
-use Rattle.lisp_lookup.proofs.TableLaws.{has_key, filtered_holds, less_from, differ_moved}
+use Rattle.lisp_lookup.proofs.TableLaws.{has_key, filtered_holds, filter_holds, less_from, differ_moved}
 
 -- the row at a place is the last of the first so many
 taken : (rows : List Holding) (i : ℕ) (h : Holding) → i < length rows → h ≡ slice_index_or rows i h → take (i + 1) rows ≡ take i rows ++ h ∷ []
@@ -193,3 +193,13 @@ rows_next test rows i h old new within at so_far either = by either
     by : ((test h ≡ true) × (new ≡ old ++ h ∷ [])) ⊎ ((test h ≡ false) × (new ≡ old)) → new ≡ filter test (take (i + 1) rows)
     by (inl (is, new_is)) = new_is ∙ ap (λ (l : List Holding). l ++ h ∷ []) so_far ∙ sym (grown true is)
     by (inr (is, new_is)) = new_is ∙ so_far ∙ sym (grown false is ∙ append-nil (filter test (take i rows)))
+
+-- where no row passes, none that is read does
+pub none_passes : (test : Holding → Bool) (rows : List Holding) (i : ℕ) (h : Holding) → i < length rows → h ≡ slice_index_or rows i h → test h ≡ true → length (filter test rows) ≡ 0 → ⊥
+none_passes test rows i h within at is none =
+    let held = filter_holds test rows h (i, within, sym at) is in
+    omega (arith, none, held.1)
+
+-- the same of the records
+pub none_recorded : (rows : List Holding) (i : ℕ) (h : Holding) (router : RouterId) (now : ℕ) → i < length rows → h ≡ slice_index_or rows i h → is_live_of router now h ≡ true → live_of rows router now ≡ [] → ⊥
+none_recorded rows i h router now within at is none = none_passes (is_live_of router now) rows i h within at is (sym (length-map (filter (is_live_of router now) rows) (λ (h : Holding). h.mapping)) ∙ ap length none)

@@ -34,6 +34,11 @@ order_cmp ByDeadline = deadline_cmp
 abbrev pub row_at_place : List Holding → List ℕ → ℕ → Holding → Holding
 row_at_place rows numbers place d = slice_index_or rows (slice_index numbers place) d
 
+-- rows, and the numbers of some of them in an order
+pub record RowsInOrder : Type 0 where
+  pub rows : List Holding
+  pub numbers : List ℕ
+
 -- numbers of rows, in rising order of these rows
 pub record Rises (cmp : Holding → Holding → Ordering) (rows : List Holding) (numbers : List ℕ) : Type 0 where
   pub below : (k : ℕ) → k < length numbers → slice_index numbers k < length rows

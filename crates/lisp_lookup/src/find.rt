@@ -3,6 +3,7 @@
 ghost use Rattle.std.specs.Prelude.{◌≡◌, ℕ, ◌+◌, ◌-◌, ◌*◌, ◌^◌, ◌<◌, ◌≤◌, length, slice_index};
 ghost use Rattle.lisp_lookup.specs.Index.{Falls, IsBound};
 
+use crate::counted_rows::CountedRows;
 use crate::probe::Probe;
 use crate::steps::Steps;
 use lisp_records::Row;
@@ -11,26 +12,23 @@ use std::collections::VecDeque;
 use std::marker::Brand;
 use std::sync::ledger::{Blank, Ledger};
 
-/// The first place whose row doesn't stand before what is sought; the length where there is none. Ticks
-/// at each row that it looks at.
+/// The first place whose row doesn't stand before what is sought; the length where there is none. The steps are
+/// the rows that it looks at.
 pub(crate) fn find<A: Allocator, L: Ledger>(
-    rows: &[Row<A>],
-    numbers: &VecDeque<usize, A>,
+    rows: &CountedRows<'_, A, L>,
     probe: &Probe<'_, A>,
     steps: &mut Steps<L>,
 ) -> usize
-    requires below { (k : ℕ) → k < length numbers.now.items → slice_index numbers.now.items k < length rows.now }
-    requires falls { Falls probe.now rows.now numbers.now.items }
-    ensures bound { IsBound probe.now rows.now numbers.now.items result }
+    requires falls { Falls probe.now rows.now.rows rows.now.numbers }
+    ensures bound { IsBound probe.now rows.now.rows rows.now.numbers result }
     ensures rises { steps.old ≤ steps.new }
-    ensures cost { 2 ^ (steps.new - steps.old) ≤ 2 * length numbers.now.items + 1 }
+    ensures cost { 2 ^ (steps.new - steps.old) ≤ 2 * length rows.now.numbers + 1 }
 {
     let mut low = 0;
-    let mut size = numbers.len();
+    let mut size = rows.len();
     while size > 0 {
         let half = size / 2;
-        steps.tick();
-        if probe.is_after(&rows[numbers[low + half]]) {
+        if probe.is_after(rows.look(low + half, steps)) {
             low += half + 1;
             size -= half + 1;
         } else {
@@ -67,5 +65,5 @@ fn counted<A: Allocator, L: Ledger>(
     ensures bound { IsBound probe.now rows.now numbers.now.items result }
 {
     let mut steps = Steps::<L>::new(blank);
-    find(rows, numbers, probe, &mut steps)
+    find(&CountedRows::new(rows, numbers), probe, &mut steps)
 }

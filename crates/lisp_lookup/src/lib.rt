@@ -4,6 +4,7 @@
 
 mod answer;
 mod best;
+mod counted_rows;
 mod edits;
 mod find;
 mod index;

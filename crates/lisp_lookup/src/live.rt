@@ -1,6 +1,6 @@
 //! The records of one router that are alive.
 
-ghost use Rattle.std.specs.Prelude.{◌≡◌, IfOk, IfErr, OnErr, length};
+ghost use Rattle.std.specs.Prelude.{◌≡◌, [], IsOk, IfOk, IfErr, OnErr, length};
 ghost use Rattle.lisp_records.specs.Database.{database_of};
 ghost use Rattle.lisp_lookup.specs.Table.{OneEach};
 ghost use Rattle.lisp_lookup.specs.Records.{is_live_of, live_of};
@@ -42,6 +42,7 @@ pub(crate) fn copy_live<A: Memory + Copy>(
     now: u64,
 ) -> Result<Vec<MapRecord<A>, A>, AllocError>
     ensures records { IfOk result (λ records. records.items ≡ live_of rows.now router.now now) }
+    ensures none_alive { live_of rows.now router.now now ≡ [] → IsOk result }
     ensures memory { OnErr result A.may_refuse }
 {
     let mut records = Vec::new(alloc);

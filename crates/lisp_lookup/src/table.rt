@@ -1,6 +1,6 @@
 //! The rows that a Map-Server holds.
 
-ghost use Rattle.std.specs.Prelude.{◌≡◌, ◌+◌, ◌-◌, ◌*◌, ◌^◌, ◌≤◌, ◌<◌, [], ◌∷◌, List, length, nat_le, slice_get, Ok, Err, IfOk, IfErr, OnOk, OnErr};
+ghost use Rattle.std.specs.Prelude.{◌≡◌, ◌+◌, ◌-◌, ◌*◌, ◌^◌, ◌≤◌, ◌<◌, [], ◌∷◌, List, length, nat_le, slice_get, Ok, Err, IsOk, IfOk, IfErr, OnOk, OnErr};
 ghost use Rattle.std.specs.Option.{option_map};
 ghost use Rattle.std.specs.List.{filter, count_by};
 ghost use Rattle.std.specs.Ordering.{is_lt};
@@ -14,6 +14,7 @@ ghost use Rattle.lisp_records.specs.Database.{database_of};
 
 use crate::answer::Answer;
 use crate::best::best;
+use crate::counted_rows::CountedRows;
 use crate::find::find;
 use crate::index::{self, Near};
 use crate::live::{copy_live, count_live};
@@ -54,7 +55,8 @@ impl<A: Allocator> Model for Table<A> {
 impl<A: Allocator + Copy> Table<A> {
     /// No rows; takes no memory.
     pub fn new(alloc: A) -> Table<A>
-        ensures { result.rows ≡ [] }
+        ensures none { result.rows ≡ [] }
+        ensures no_room { result.spare ≡ 0 }
     {
         Table {
             items: Vec::new(alloc),
@@ -133,7 +135,8 @@ impl<A: Allocator + Copy> Table<A> {
         ensures grows { steps.old ≤ steps.new }
         ensures cost { 2 ^ (steps.new - steps.old) ≤ 2 * length self.now.rows + 1 }
     {
-        find(&self.items, &self.by_prefix, &Probe::Prefix(*prefix), steps)
+        let rows = CountedRows::new(&self.items, &self.by_prefix);
+        find(&rows, &Probe::Prefix(*prefix), steps)
     }
 
     /// How many records of a router are alive at a moment, in ms; `TooLarge` where they are too many, or too
@@ -164,10 +167,11 @@ impl<A: Allocator + Copy> Table<A> {
 }
 
 impl<A: Memory + Copy> Table<A> {
-    /// Makes room for these rows; no row changes, also where memory is refused.
+    /// Makes room for these rows, where there is none yet; no row changes, also where memory is refused.
     pub fn prepare(&mut self, rows: &[Row<A>]) -> Result<(), AllocError>
         ensures same { self.new.rows ≡ self.old.rows }
         ensures room { OnOk result (length rows.now ≤ self.new.spare) }
+        ensures succeeds { length rows.now ≤ self.old.spare → IsOk result }
         ensures memory { OnErr result A.may_refuse }
     {
         self.items.make_room_for(rows)?;
@@ -175,9 +179,11 @@ impl<A: Memory + Copy> Table<A> {
         self.by_deadline.make_room_for(rows)
     }
 
-    /// Copies of the rows that are alive at a moment, in ms: by router, then by prefix.
+    /// Copies of the rows that are alive at a moment, in ms: by router, then by prefix. Takes no memory where
+    /// none is.
     pub fn rows(&self, now: u64) -> Result<Vec<Row<A>, A>, AllocError>
         ensures held { IfOk result (λ rows. IsHeld self.now.rows now rows.items) }
+        ensures none_alive { filter (λ h. is_alive h now) self.now.rows ≡ [] → IsOk result }
         ensures memory { OnErr result A.may_refuse }
     {
         let mut live = live_rows(*self.items.allocator(), &self.items, now)?;
@@ -185,13 +191,15 @@ impl<A: Memory + Copy> Table<A> {
         Ok(live)
     }
 
-    /// Copies of the records of a router that are alive at a moment, in ms, by prefix.
+    /// Copies of the records of a router that are alive at a moment, in ms, by prefix. Takes no memory where
+    /// none is.
     pub fn live_records(
         &self,
         router: &RouterId,
         now: u64,
     ) -> Result<Vec<MapRecord<A>, A>, AllocError>
         ensures records { IfOk result (λ records. ByPrefix (live_of self.now.rows router.now now) records.items) }
+        ensures none_alive { live_of self.now.rows router.now now ≡ [] → IsOk result }
         ensures memory { OnErr result A.may_refuse }
     {
         let mut records = copy_live(*self.items.allocator(), &self.items, router, now)?;
@@ -207,6 +215,7 @@ fn live_rows<A: Memory + Copy>(
     now: u64,
 ) -> Result<Vec<Row<A>, A>, AllocError>
     ensures live { IfOk result (λ live. live.items ≡ filter (λ h. is_alive h now) rows.now) }
+    ensures none_alive { filter (λ h. is_alive h now) rows.now ≡ [] → IsOk result }
     ensures memory { OnErr result A.may_refuse }
 {
     let mut live = Vec::new(alloc);

@@ -3,11 +3,15 @@
 #![tactic(auto)]
 
 mod deque;
+mod map;
 mod memory;
+mod set;
 mod string;
 mod vec;
 
 pub use deque::FallibleDeque;
+pub use map::FallibleMap;
 pub use memory::{Memory, Seal};
+pub use set::FallibleSet;
 pub use string::FallibleString;
 pub use vec::{FallibleCopies, FallibleVec};

@@ -50,7 +50,6 @@ pub record Accepts {A : Type 0} (check : Result Passed Refused) (old new : Serve
   pub sites : new.sites ≡ old.sites
   pub kept : IsTrue before.is_honest → kept_at after.kept (pair_of passed.message) ≡ Some passed.message.nonce ∷ []
   pub others : IsTrue before.is_honest → SameElsewhere before.kept after.kept (pair_of passed.message)
-
   -- an obedient store was armed to save
   pub saves : MaySave before
 
@@ -78,7 +77,6 @@ pub record LoadFailed (check : Result Passed Refused) (old : ServerState) (befor
   pub cause : HasCause fault before after
   pub memory : fault ≡ faults.OutOfMemory → after ≡ before
   pub same : KeepsLists before after
-
   -- but for memory, an obedient store was armed to fail
   pub armed : FailsToLoad fault before
 
@@ -101,7 +99,6 @@ pub record SaveFailed (check : Result Passed Refused) (old : ServerState) (befor
   pub memory : fault ≡ faults.OutOfMemory → KeepsLists before after
   pub doubt : IsTrue before.is_honest → InDoubt (kept_at before.kept (pair_of passed.message)) (kept_at after.kept (pair_of passed.message)) passed.message.nonce
   pub others : IsTrue before.is_honest → SameElsewhere before.kept after.kept (pair_of passed.message)
-
   -- but for memory, an obedient store was armed to fail, and keeps the nonce too
   pub doubted : FailsToSave fault before after (pair_of passed.message) passed.message.nonce
 

@@ -67,7 +67,6 @@ pub record Announces (old new : ServerState) (before after : StoreState) (router
   pub rest : new ≡ record old { notices = new.notices; nonces = new.nonces }
   pub kept : IsTrue before.is_honest → kept_at after.kept notice_pair ≡ Some (nonce_after last) ∷ []
   pub others : IsTrue before.is_honest → SameElsewhere before.kept after.kept notice_pair
-
   -- an obedient store was armed to save
   pub saves : MaySave before
 
@@ -78,7 +77,6 @@ pub record LastUnknown (old : ServerState) (before after : StoreState) (router :
   pub cause : HasCause fault before after
   pub memory : fault ≡ faults.OutOfMemory → after ≡ before
   pub same : KeepsLists before after
-
   -- but for memory, an obedient store was armed to fail
   pub armed : FailsToLoad fault before
 
@@ -109,7 +107,6 @@ pub record NoticeUnsaved (old : ServerState) (before after : StoreState) (router
   pub memory : fault ≡ faults.OutOfMemory → KeepsLists before after
   pub doubt : IsTrue before.is_honest → InDoubt (kept_at before.kept notice_pair) (kept_at after.kept notice_pair) (nonce_after last)
   pub others : IsTrue before.is_honest → SameElsewhere before.kept after.kept notice_pair
-
   -- but for memory, an obedient store was armed to fail, and keeps the next nonce too
   pub doubted : FailsToSave fault before after notice_pair (nonce_after last)
 

@@ -1,10 +1,11 @@
 //! The configuration of a network: its sites, Map-Servers and routers.
 
-ghost use Rattle.std.specs.Prelude.{◌≡◌, ◌+◌, length};
+ghost use Rattle.std.specs.Prelude.{◌≡◌, ◌+◌, IsErrOf, length};
 ghost use Rattle.toml.specs.Parse.{parse_document};
 ghost use Rattle.toml.specs.View.{view};
 ghost use Rattle.lisp_served.specs.Configuration.{IsConfiguration};
-ghost use Rattle.lisp_sites.specs.Table.{Gives, unplaced, configuration_of, config_of};
+ghost use Rattle.lisp_sites.specs.Table.{Gives, unplaced, document_of, configuration_of, config_of};
+ghost use Rattle.lisp_sites.specs.declared.fault.ConfigFault.TheVariants.{OutOfMemory};
 
 use crate::fault::ConfigFault;
 use crate::place::{Place, PlacedFault};
@@ -108,8 +109,16 @@ fn read_text<A: Memory + Copy>(
 ) -> Result<Config<A>, ConfigFault>
     ensures { Gives (λ c. c) result (config_of (parse_document text.now)) }
 {
+    let document = read_document(heap, text)?;
+    read_configuration(alloc, &document, place)
+}
+
+// The table of a text. Nothing is said of memory here, and here alone: `toml` asks for it.
+fn read_document(heap: Global, text: &str) -> Result<Value, ConfigFault>
+    ensures { Gives (λ document. view document) result (document_of (parse_document text.now)) }
+{
     match toml::table_from_str(heap, text) {
-        Ok(table) => read_configuration(alloc, &Value::Table(table), place),
+        Ok(table) => Ok(Value::Table(table)),
         Err(error) if error.is_memory() => Err(ConfigFault::OutOfMemory),
         Err(_) => Err(ConfigFault::Toml),
     }
@@ -121,7 +130,8 @@ fn read_configuration<A: Memory + Copy>(
     document: &Value,
     place: &mut Place,
 ) -> Result<Config<A>, ConfigFault>
-    ensures { Gives (λ c. c) result (configuration_of (view document.now)) }
+    ensures gives { Gives (λ c. c) result (configuration_of (view document.now)) }
+    ensures memory { IsErrOf result OutOfMemory → A.may_refuse }
 {
     let sites = read_sites(alloc, document, place)?;
     let servers = read_servers(alloc, document, place)?;

@@ -1,8 +1,9 @@
 //! Reading the entries of an array, one after the other.
 
-ghost use Rattle.std.specs.Prelude.{◌≡◌};
+ghost use Rattle.std.specs.Prelude.{◌≡◌, IsErrOf};
 ghost use Rattle.toml.specs.View.{view, items_view};
 ghost use Rattle.lisp_sites.specs.Table.{Gives, each, one_more, each_item};
+ghost use Rattle.lisp_sites.specs.declared.fault.ConfigFault.TheVariants.{OutOfMemory};
 
 use crate::fault::ConfigFault;
 use crate::field::Field;
@@ -22,6 +23,9 @@ pub(crate) trait Entries {
 
     ghost entries: { Self → List Self.Entry };
 
+    /// Whether the memory that reading asks for may be refused.
+    ghost may_refuse: { Type 0 };
+
     ghost read: { Self.Given → List Self.Entry → Data → Result Self.Entry ConfigFault };
 
     /// Reads one more entry, behind those before it.
@@ -31,7 +35,8 @@ pub(crate) trait Entries {
         entry: &Value,
         place: &mut Place,
     ) -> Result<(), ConfigFault>
-        ensures { Gives (λ _. entries self.new) result (one_more (read given.now) (entries self.old) (view entry.now)) };
+        ensures gives { Gives (λ _. entries self.new) result (one_more (read given.now) (entries self.old) (view entry.now)) }
+        ensures memory { IsErrOf result OutOfMemory → may_refuse };
 }
 
 /// Reads the entries of an array behind those of `list`.
@@ -42,7 +47,8 @@ pub(crate) fn read_each<L: Entries + Drop>(
     values: &[Value],
     place: &mut Place,
 ) -> Result<L, ConfigFault>
-    ensures { Gives L.entries result (each (L.read given.now) (L.entries list) (items_view values.now)) }
+    ensures gives { Gives L.entries result (each (L.read given.now) (L.entries list) (items_view values.now)) }
+    ensures memory { IsErrOf result OutOfMemory → L.may_refuse }
 {
     for value in values {
         place.enter(array);
@@ -61,7 +67,8 @@ pub(crate) fn read_tables<L: Entries + Drop>(
     key: &str,
     place: &mut Place,
 ) -> Result<L, ConfigFault>
-    ensures { Gives L.entries result (each_item array key.now (L.read given.now) (L.entries list) (view entry.now)) }
+    ensures gives { Gives L.entries result (each_item array key.now (L.read given.now) (L.entries list) (view entry.now)) }
+    ensures memory { IsErrOf result OutOfMemory → L.may_refuse }
 {
     read_each(list, given, array, tables(entry, key, array)?, place)
 }

@@ -6,6 +6,7 @@ ghost use Rattle.std.specs.List.{list_any};
 ghost use Rattle.lisp_sites.specs.declared.fault.ConfigFault.TheVariants.{OutOfMemory};
 
 use crate::fault::ConfigFault;
+use lisp_memory::{FallibleSet, FallibleVec, Memory};
 use std::alloc::Allocator;
 use std::collections::BTreeSet;
 use std::marker::Model;
@@ -39,7 +40,7 @@ impl<T: HasKey, A: Allocator> Model for Keyed<T, A> {
     ghost invariant = { λ k. AreKeys T.Key.cmp T.Key.eq k.keys T.key k.items.items };
 }
 
-impl<T: HasKey, A: Allocator + Copy> Keyed<T, A> {
+impl<T: HasKey, A: Memory + Copy> Keyed<T, A> {
     /// No elements; takes no memory.
     #[tactic(auto, using(crate::proofs::Keys::no_keys))]
     pub(crate) fn new(alloc: A) -> Keyed<T, A>
@@ -56,7 +57,7 @@ impl<T: HasKey, A: Allocator + Copy> Keyed<T, A> {
     where
         T: Copy,
         ensures added { OnOk result (self.new ≡ self.old ++ item ∷ []) }
-        ensures memory { IfErr result (λ fault. fault ≡ OutOfMemory) }
+        ensures memory { IfErr result (λ fault. (fault ≡ OutOfMemory) × A.may_refuse) }
     {
         add(&mut self.items, &mut self.keys, item, item.key())
     }
@@ -79,7 +80,7 @@ impl<T: HasKey, A: Allocator> Keyed<T, A> {
 }
 
 // Adds an element and its key.
-fn add<T: Copy, K: Ord + Copy, A: Allocator + Copy>(
+fn add<T: Copy, K: Ord + Copy, A: Memory + Copy>(
     items: &mut Vec<T, A>,
     keys: &mut BTreeSet<K, A>,
     item: T,
@@ -87,10 +88,10 @@ fn add<T: Copy, K: Ord + Copy, A: Allocator + Copy>(
 ) -> Result<(), ConfigFault>
     ensures added { OnOk result ((items.new.items ≡ items.old.items ++ item ∷ []) × Updates K.cmp keys.old keys.new key true) }
     ensures same { OnErr result ((items.new.items ≡ items.old.items) × IsUnchanged keys.old keys.new) }
-    ensures memory { IfErr result (λ fault. fault ≡ OutOfMemory) }
+    ensures memory { IfErr result (λ fault. (fault ≡ OutOfMemory) × A.may_refuse) }
 {
-    items.reserve(1)?;
-    keys.insert(key)?;
+    items.make_room(1)?;
+    keys.try_insert(key)?;
     items.push_reserved(item);
     Ok(())
 }

@@ -7,6 +7,7 @@ ghost use Rattle.lisp_sites.specs.Names.{ArePlaces};
 ghost use Rattle.lisp_sites.specs.declared.fault.ConfigFault.TheVariants.{OutOfMemory};
 
 use crate::fault::ConfigFault;
+use lisp_memory::{FallibleMap, FallibleString, FallibleVec, Memory};
 use std::alloc::Allocator;
 use std::collections::BTreeMap;
 use std::marker::Model;
@@ -41,7 +42,7 @@ impl<N: Named, A: Allocator> Model for Nodes<N, A> {
     ghost invariant = { λ n. ArePlaces n.places N.name n.items.items };
 }
 
-impl<N: Named, A: Allocator + Copy> Nodes<N, A> {
+impl<N: Named, A: Memory + Copy> Nodes<N, A> {
     /// No nodes; takes no memory.
     #[tactic(auto, using(crate::proofs::Placed::none_placed))]
     pub(crate) fn new(alloc: A) -> Nodes<N, A>
@@ -59,7 +60,7 @@ impl<N: Named, A: Allocator + Copy> Nodes<N, A> {
         N: Drop,
         requires { list_any (λ n. bytes_eq (N.name n) (N.name node)) self.old ≡ false }
         ensures added { OnOk result (self.new ≡ self.old ++ node ∷ []) }
-        ensures memory { IfErr result (λ fault. fault ≡ OutOfMemory) }
+        ensures memory { IfErr result (λ fault. (fault ≡ OutOfMemory) × A.may_refuse) }
     {
         add(&mut self.items, &mut self.places, alloc, node)
     }
@@ -90,7 +91,7 @@ impl<N: Named, A: Allocator> Nodes<N, A> {
 }
 
 // Adds a node and its place.
-fn add<N: Named + Drop, A: Allocator + Copy>(
+fn add<N: Named + Drop, A: Memory + Copy>(
     items: &mut Vec<N, A>,
     places: &mut BTreeMap<String<A>, usize, A>,
     alloc: A,
@@ -98,11 +99,11 @@ fn add<N: Named + Drop, A: Allocator + Copy>(
 ) -> Result<(), ConfigFault>
     ensures added { OnOk result (items.new.items ≡ items.old.items ++ node ∷ []) }
     ensures placed { ArePlaces places.old N.name items.old.items → list_any (λ n. bytes_eq (N.name n) (N.name node)) items.old.items ≡ false → ArePlaces places.new N.name items.new.items }
-    ensures memory { IfErr result (λ fault. fault ≡ OutOfMemory) }
+    ensures memory { IfErr result (λ fault. (fault ≡ OutOfMemory) × A.may_refuse) }
 {
-    items.reserve(1)?;
-    let name = String::from_str(alloc, node.name())?;
-    places.insert(name, items.len())?;
+    items.make_room(1)?;
+    let name = String::try_from_str(alloc, node.name())?;
+    places.try_insert(name, items.len())?;
     items.push_reserved(node);
     Ok(())
 }

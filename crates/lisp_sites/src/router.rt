@@ -1,10 +1,11 @@
 //! Site routers as a configuration names them.
 
-ghost use Rattle.std.specs.Prelude.{◌≡◌, []};
+ghost use Rattle.std.specs.Prelude.{◌≡◌, [], IsErrOf};
 ghost use Rattle.toml.specs.View.{view, items_view};
 ghost use Rattle.lisp_records.specs.Result.{Reads};
 ghost use Rattle.lisp_served.specs.Site.{has_key};
 ghost use Rattle.lisp_sites.specs.Table.{Gives, router_node, router_site, router_key, router_identity, place_of, place_at, places_of, router_flags, record_at, as_database, database_at, router_at, routers_of};
+ghost use Rattle.lisp_sites.specs.declared.fault.ConfigFault.TheVariants.{OutOfMemory};
 
 use crate::entries::{Entries, read_each, read_tables};
 use crate::fault::ConfigFault;
@@ -15,7 +16,7 @@ use crate::nodes::{Named, Nodes};
 use crate::place::Place;
 use crate::server::ServerEntry;
 use crate::value::{array, byte, check_table, flag, name, nonce_block, text_as};
-use lisp_memory::Memory;
+use lisp_memory::{FallibleString, FallibleVec, Memory};
 use lisp_records::{Addr, Database, MapRecord, RouterId};
 use lisp_served::{Places, Site, Sites};
 use lisp_texts::record_from_text;
@@ -76,7 +77,8 @@ pub(crate) fn read_routers<A: Memory + Copy>(
     document: &Value,
     place: &mut Place,
 ) -> Result<Nodes<RouterEntry<A>, A>, ConfigFault>
-    ensures { Gives (λ routers. routers) result (routers_of network.now.sites network.now.servers (view document.now)) }
+    ensures gives { Gives (λ routers. routers) result (routers_of network.now.sites network.now.servers (view document.now)) }
+    ensures memory { IsErrOf result OutOfMemory → A.may_refuse }
 {
     let routers = Nodes::new(network.alloc);
     read_tables(routers, network, Field::Router, document, "router", place)
@@ -88,6 +90,8 @@ impl<A: Memory + Copy> Entries for Nodes<RouterEntry<A>, A> {
     type Given = Network<A>;
 
     ghost entries = { λ routers. routers };
+
+    ghost may_refuse = { A.may_refuse };
 
     ghost read = { λ network. router_at network.sites network.servers };
 
@@ -109,7 +113,8 @@ fn read_router<A: Memory + Copy>(
     before: &Nodes<RouterEntry<A>, A>,
     place: &mut Place,
 ) -> Result<RouterEntry<A>, ConfigFault>
-    ensures { Gives (λ r. r) result (router_at network.now.sites network.now.servers before.now (view entry.now)) }
+    ensures gives { Gives (λ r. r) result (router_at network.now.sites network.now.servers before.now (view entry.now)) }
+    ensures memory { IsErrOf result OutOfMemory → A.may_refuse }
 {
     let alloc = network.alloc;
     let (name, address) = read_node(alloc, entry, &network.servers, before)?;
@@ -133,13 +138,14 @@ fn read_router<A: Memory + Copy>(
 
 // Name, which no other node has, and address.
 #[tactic(auto, unfolding(crate::specs::Table::router_node))]
-fn read_node<A: Allocator + Copy>(
+fn read_node<A: Memory + Copy>(
     alloc: A,
     entry: &Value,
     servers: &Nodes<ServerEntry<A>, A>,
     before: &Nodes<RouterEntry<A>, A>,
 ) -> Result<(Name<A>, Addr), ConfigFault>
-    ensures { Gives (λ n. (n.0, n.1)) result (router_node servers.now before.now (view entry.now)) }
+    ensures gives { Gives (λ n. (n.0, n.1)) result (router_node servers.now before.now (view entry.now)) }
+    ensures memory { IsErrOf result OutOfMemory → A.may_refuse }
 {
     check_table(entry, Field::Router)?;
     let name = name(entry, "name", Field::RouterName)?;
@@ -147,7 +153,7 @@ fn read_node<A: Allocator + Copy>(
         return Err(ConfigFault::Repeated(Field::RouterName));
     }
     let address = text_as(entry, "address", Field::RouterAddress)?;
-    Ok((Name::from_string(String::from_str(alloc, name)?), address))
+    Ok((Name::from_string(String::try_from_str(alloc, name)?), address))
 }
 
 // Site, xTR-ID and key.
@@ -156,7 +162,8 @@ fn read_identity<A: Allocator>(
     entry: &Value,
     sites: &Sites<A>,
 ) -> Result<(RouterId, u8), ConfigFault>
-    ensures { result ≡ router_identity sites.now (view entry.now) }
+    ensures value { result ≡ router_identity sites.now (view entry.now) }
+    ensures plain { ¬ (IsErrOf result OutOfMemory) }
 {
     let site = read_site(entry, sites)?;
     let xtr = text_as(entry, "xtr", Field::RouterXtr)?;
@@ -172,7 +179,8 @@ fn read_site<'a, A: Allocator>(
     entry: &Value,
     sites: &'a Sites<A>,
 ) -> Result<&'a Site<A>, ConfigFault>
-    ensures { Reads (λ s. s.now) result (router_site sites.now (view entry.now)) }
+    ensures reads { Reads (λ s. s.now) result (router_site sites.now (view entry.now)) }
+    ensures plain { ¬ (IsErrOf result OutOfMemory) }
 {
     let id = text_as(entry, "site", Field::RouterSite)?;
     sites
@@ -181,7 +189,8 @@ fn read_site<'a, A: Allocator>(
 }
 
 fn read_key<A: Allocator>(entry: &Value, site: &Site<A>) -> Result<u8, ConfigFault>
-    ensures { result ≡ router_key site.now (view entry.now) }
+    ensures value { result ≡ router_key site.now (view entry.now) }
+    ensures plain { ¬ (IsErrOf result OutOfMemory) }
 {
     let id = byte(entry, "key", Field::RouterKey)?;
     if !has_key(site, id) {
@@ -198,13 +207,14 @@ fn has_key<A: Allocator>(site: &Site<A>, id: u8) -> bool
 }
 
 // The places of the Map-Servers that the router names.
-fn read_places<A: Allocator + Copy>(
+fn read_places<A: Memory + Copy>(
     alloc: A,
     entry: &Value,
     servers: &Nodes<ServerEntry<A>, A>,
     place: &mut Place,
 ) -> Result<Places<A>, ConfigFault>
-    ensures { Gives (λ p. p) result (places_of servers.now (view entry.now)) }
+    ensures gives { Gives (λ p. p) result (places_of servers.now (view entry.now)) }
+    ensures memory { IsErrOf result OutOfMemory → A.may_refuse }
 {
     let names = array(entry, "servers", Field::RouterServers)?;
     let places = read_each(
@@ -217,12 +227,14 @@ fn read_places<A: Allocator + Copy>(
     Ok(Places::from_vec(places.into_vec()))
 }
 
-impl<A: Allocator + Copy> Entries for Keyed<usize, A> {
+impl<A: Memory + Copy> Entries for Keyed<usize, A> {
     type Entry = usize;
 
     type Given = Nodes<ServerEntry<A>, A>;
 
     ghost entries = { λ places. places };
+
+    ghost may_refuse = { A.may_refuse };
 
     ghost read = { place_at };
 
@@ -244,7 +256,8 @@ fn place<A: Allocator>(
     name: &Value,
     servers: &Nodes<ServerEntry<A>, A>,
 ) -> Result<usize, ConfigFault>
-    ensures { result ≡ place_of servers.now (view name.now) }
+    ensures value { result ≡ place_of servers.now (view name.now) }
+    ensures plain { ¬ (IsErrOf result OutOfMemory) }
 {
     match name.as_str() {
         Some(name) => servers
@@ -257,7 +270,8 @@ fn place<A: Allocator>(
 // Bits P and T.
 #[tactic(auto, unfolding(crate::specs::Table::router_flags))]
 fn read_flags(entry: &Value) -> Result<(bool, bool), ConfigFault>
-    ensures { result ≡ router_flags (view entry.now) }
+    ensures value { result ≡ router_flags (view entry.now) }
+    ensures plain { ¬ (IsErrOf result OutOfMemory) }
 {
     let proxy = flag(entry, "proxy", Field::RouterProxy)?;
     let use_ttl = flag(entry, "use_ttl", Field::RouterUseTtl)?;
@@ -270,7 +284,8 @@ fn read_database<A: Memory + Copy>(
     entry: &Value,
     place: &mut Place,
 ) -> Result<Database<A>, ConfigFault>
-    ensures { Gives (λ d. d) result (database_at (view entry.now)) }
+    ensures gives { Gives (λ d. d) result (database_at (view entry.now)) }
+    ensures memory { IsErrOf result OutOfMemory → A.may_refuse }
 {
     let records = read_tables(
         Vec::new(alloc),
@@ -293,6 +308,8 @@ impl<A: Memory + Copy> Entries for Vec<MapRecord<A>, A> {
 
     ghost entries = { λ records. records.items };
 
+    ghost may_refuse = { A.may_refuse };
+
     ghost read = { λ _. record_at };
 
     fn read_next(
@@ -307,7 +324,7 @@ impl<A: Memory + Copy> Entries for Vec<MapRecord<A>, A> {
         let Some(record) = record_from_text(*alloc, text)? else {
             return Err(ConfigFault::BadValue(Field::RouterRecords));
         };
-        self.push(record)?;
+        self.try_push(record)?;
         Ok(())
     }
 }

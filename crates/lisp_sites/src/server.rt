@@ -1,9 +1,10 @@
 //! Map-Servers as a configuration names them.
 
-ghost use Rattle.std.specs.Prelude.{◌≡◌, []};
+ghost use Rattle.std.specs.Prelude.{◌≡◌, [], IsErrOf};
 ghost use Rattle.toml.specs.View.{view, items_view};
 ghost use Rattle.lisp_records.specs.Result.{Reads};
 ghost use Rattle.lisp_sites.specs.Table.{Gives, server_at, servers_of};
+ghost use Rattle.lisp_sites.specs.declared.fault.ConfigFault.TheVariants.{OutOfMemory};
 
 use crate::entries::{Entries, read_tables};
 use crate::fault::ConfigFault;
@@ -12,6 +13,7 @@ use crate::name::Name;
 use crate::nodes::{Named, Nodes};
 use crate::place::Place;
 use crate::value::{check_table, name, text_as};
+use lisp_memory::{FallibleString, Memory};
 use lisp_records::Addr;
 use std::alloc::{Allocator, Global};
 use std::marker::Model;
@@ -43,23 +45,26 @@ impl<A: Allocator> Named for ServerEntry<A> {
 }
 
 /// The Map-Servers of the document, in its order.
-pub(crate) fn read_servers<A: Allocator + Copy>(
+pub(crate) fn read_servers<A: Memory + Copy>(
     alloc: A,
     document: &Value,
     place: &mut Place,
 ) -> Result<Nodes<ServerEntry<A>, A>, ConfigFault>
-    ensures { Gives (λ servers. servers) result (servers_of (view document.now)) }
+    ensures gives { Gives (λ servers. servers) result (servers_of (view document.now)) }
+    ensures memory { IsErrOf result OutOfMemory → A.may_refuse }
 {
     let servers = Nodes::new(alloc);
     read_tables(servers, &alloc, Field::Server, document, "server", place)
 }
 
-impl<A: Allocator + Copy> Entries for Nodes<ServerEntry<A>, A> {
+impl<A: Memory + Copy> Entries for Nodes<ServerEntry<A>, A> {
     type Entry = ServerEntry<A>;
 
     type Given = A;
 
     ghost entries = { λ servers. servers };
+
+    ghost may_refuse = { A.may_refuse };
 
     ghost read = { λ _. server_at };
 
@@ -76,7 +81,7 @@ impl<A: Allocator + Copy> Entries for Nodes<ServerEntry<A>, A> {
             return Err(ConfigFault::Repeated(Field::ServerName));
         }
         let address = text_as(entry, "address", Field::ServerAddress)?;
-        let name = Name::from_string(String::from_str(*alloc, name)?);
+        let name = Name::from_string(String::try_from_str(*alloc, name)?);
         self.push(*alloc, ServerEntry { name, address })
     }
 }

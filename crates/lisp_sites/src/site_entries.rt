@@ -1,9 +1,10 @@
 //! Reading the sites of a configuration file.
 
-ghost use Rattle.std.specs.Prelude.{◌≡◌, [], is_some};
+ghost use Rattle.std.specs.Prelude.{◌≡◌, [], IsErrOf, is_some};
 ghost use Rattle.toml.specs.View.{view, items_view};
 ghost use Rattle.lisp_served.specs.Site.{has_key};
 ghost use Rattle.lisp_sites.specs.Table.{Gives, fresh_key_id, key_at, has_eid, prefix_at, has_site, fresh_site_id, site_at, sites_of};
+ghost use Rattle.lisp_sites.specs.declared.fault.ConfigFault.TheVariants.{OutOfMemory};
 
 use crate::entries::{Entries, read_tables};
 use crate::fault::ConfigFault;
@@ -11,7 +12,7 @@ use crate::field::Field;
 use crate::keyed::{HasKey, Keyed};
 use crate::place::Place;
 use crate::value::{byte, check_table, flag, secret, text_as};
-use lisp_memory::Memory;
+use lisp_memory::{FallibleVec, Memory};
 use lisp_records::Prefix;
 use lisp_served::{Site, SiteKey, SitePrefix, Sites};
 use std::alloc::Allocator;
@@ -23,7 +24,8 @@ pub(crate) fn read_sites<A: Memory + Copy>(
     document: &Value,
     place: &mut Place,
 ) -> Result<Sites<A>, ConfigFault>
-    ensures { Gives (λ sites. sites) result (sites_of (view document.now)) }
+    ensures gives { Gives (λ sites. sites) result (sites_of (view document.now)) }
+    ensures memory { IsErrOf result OutOfMemory → A.may_refuse }
 {
     let sites = Sites::new(alloc);
     read_tables(sites, &alloc, Field::Site, document, "site", place)
@@ -35,6 +37,8 @@ impl<A: Memory + Copy> Entries for Sites<A> {
     type Given = A;
 
     ghost entries = { λ sites. sites };
+
+    ghost may_refuse = { A.may_refuse };
 
     ghost read = { λ _. site_at };
 
@@ -57,7 +61,8 @@ impl<A: Memory + Copy> Entries for Sites<A> {
 }
 
 fn fresh_site_id<A: Allocator>(entry: &Value, before: &Sites<A>) -> Result<u64, ConfigFault>
-    ensures { result ≡ fresh_site_id before.now (view entry.now) }
+    ensures value { result ≡ fresh_site_id before.now (view entry.now) }
+    ensures plain { ¬ (IsErrOf result OutOfMemory) }
 {
     let id = text_as(entry, "id", Field::SiteId)?;
     if has_site(before, id) {
@@ -72,12 +77,14 @@ fn has_site<A: Allocator>(sites: &Sites<A>, id: u64) -> bool
     sites.site(id).is_some()
 }
 
-impl<A: Allocator + Copy> Entries for Vec<SiteKey, A> {
+impl<A: Memory + Copy> Entries for Vec<SiteKey, A> {
     type Entry = SiteKey;
 
     type Given = A;
 
     ghost entries = { λ keys. keys.items };
+
+    ghost may_refuse = { A.may_refuse };
 
     ghost read = { λ _. key_at };
 
@@ -91,13 +98,14 @@ impl<A: Allocator + Copy> Entries for Vec<SiteKey, A> {
         check_table(entry, Field::SiteKey)?;
         let id = fresh_key_id(entry, self.as_slice())?;
         let secret = secret(*alloc, entry, "secret", Field::SiteKeySecret)?;
-        self.push(SiteKey::new(id, secret.as_slice()))?;
+        self.try_push(SiteKey::new(id, secret.as_slice()))?;
         Ok(())
     }
 }
 
 fn fresh_key_id(entry: &Value, before: &[SiteKey]) -> Result<u8, ConfigFault>
-    ensures { result ≡ fresh_key_id before.now (view entry.now) }
+    ensures value { result ≡ fresh_key_id before.now (view entry.now) }
+    ensures plain { ¬ (IsErrOf result OutOfMemory) }
 {
     let id = byte(entry, "id", Field::SiteKeyId)?;
     if has_key(before, id) {
@@ -123,12 +131,14 @@ impl HasKey for SitePrefix {
     }
 }
 
-impl<A: Allocator + Copy> Entries for Keyed<SitePrefix, A> {
+impl<A: Memory + Copy> Entries for Keyed<SitePrefix, A> {
     type Entry = SitePrefix;
 
     type Given = ();
 
     ghost entries = { λ prefixes. prefixes };
+
+    ghost may_refuse = { A.may_refuse };
 
     ghost read = { λ _. prefix_at };
 

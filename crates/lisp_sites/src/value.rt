@@ -1,7 +1,7 @@
 //! The fields of an entry of the configuration file: TOML values in their forms. Nothing here takes
 //! memory but what is passed an allocator.
 
-ghost use Rattle.std.specs.Prelude.{◌≡◌, false, ok_or};
+ghost use Rattle.std.specs.Prelude.{◌≡◌, IsErrOf, false, ok_or};
 ghost use Rattle.toml.specs.Data.{as_str, as_bool, as_array};
 ghost use Rattle.toml.specs.View.{view, items_view};
 ghost use Rattle.lisp_texts.specs.Reading.{address_of, prefix_of};
@@ -9,17 +9,17 @@ ghost use Rattle.lisp_texts.specs.Form.{site_id_of, xtr_of, secret_text_of};
 ghost use Rattle.lisp_sites.specs.Form.{name_of, text_as, byte_as, nonce_block_as};
 ghost use Rattle.lisp_records.specs.Result.{Reads};
 ghost use Rattle.lisp_sites.specs.Table.{Gives, required, optional, items, as_entry};
-ghost use Rattle.lisp_sites.specs.declared.fault.ConfigFault.TheVariants.{BadValue};
+ghost use Rattle.lisp_sites.specs.declared.fault.ConfigFault.TheVariants.{BadValue, OutOfMemory};
 
 use crate::fault::ConfigFault;
 use crate::field::Field;
 use crate::name::is_name;
+use lisp_memory::Memory;
 use lisp_nonces::MAX_NONCE_BLOCK;
 use lisp_records::{Addr, Bytes, Prefix};
 use lisp_texts::{
     addr_from_text, prefix_from_text, secret_from_text, site_id_from_text, xtr_from_text,
 };
-use std::alloc::Allocator;
 use toml::Value;
 
 /// The tables of an array of tables; none where the array is absent.
@@ -28,7 +28,8 @@ pub(crate) fn tables<'a>(
     key: &str,
     name: Field,
 ) -> Result<&'a [Value], ConfigFault>
-    ensures { Reads (λ vs. items_view vs.now) result (items name key.now (view entry.now)) }
+    ensures reads { Reads (λ vs. items_view vs.now) result (items name key.now (view entry.now)) }
+    ensures plain { ¬ (IsErrOf result OutOfMemory) }
 {
     match entry.get(key) {
         None => Ok(&[]),
@@ -42,7 +43,8 @@ pub(crate) fn array<'a>(
     key: &str,
     name: Field,
 ) -> Result<&'a [Value], ConfigFault>
-    ensures { Reads (λ vs. items_view vs.now) result (required name key.now as_array (view entry.now)) }
+    ensures reads { Reads (λ vs. items_view vs.now) result (required name key.now as_array (view entry.now)) }
+    ensures plain { ¬ (IsErrOf result OutOfMemory) }
 {
     match entry.get(key) {
         None => Err(ConfigFault::Missing(name)),
@@ -52,7 +54,8 @@ pub(crate) fn array<'a>(
 
 // The elements of an array.
 fn elements(value: &Value, name: Field) -> Result<&[Value], ConfigFault>
-    ensures { Reads (λ vs. items_view vs.now) result (ok_or (as_array (view value.now)) (BadValue name)) }
+    ensures reads { Reads (λ vs. items_view vs.now) result (ok_or (as_array (view value.now)) (BadValue name)) }
+    ensures plain { ¬ (IsErrOf result OutOfMemory) }
 {
     match value.as_array() {
         Some(values) => Ok(values),
@@ -62,7 +65,8 @@ fn elements(value: &Value, name: Field) -> Result<&[Value], ConfigFault>
 
 /// Checks that an entry is a table.
 pub(crate) fn check_table(entry: &Value, name: Field) -> Result<(), ConfigFault>
-    ensures { Reads (λ _. view entry.now) result (as_entry name (view entry.now)) }
+    ensures reads { Reads (λ _. view entry.now) result (as_entry name (view entry.now)) }
+    ensures plain { ¬ (IsErrOf result OutOfMemory) }
 {
     if entry.is_table() {
         Ok(())
@@ -73,7 +77,8 @@ pub(crate) fn check_table(entry: &Value, name: Field) -> Result<(), ConfigFault>
 
 // A text that has to be there.
 fn text<'a>(entry: &'a Value, key: &str, name: Field) -> Result<&'a str, ConfigFault>
-    ensures { Reads (λ t. t.now) result (required name key.now as_str (view entry.now)) }
+    ensures reads { Reads (λ t. t.now) result (required name key.now as_str (view entry.now)) }
+    ensures plain { ¬ (IsErrOf result OutOfMemory) }
 {
     match entry.get(key) {
         None => Err(ConfigFault::Missing(name)),
@@ -94,7 +99,8 @@ pub(crate) trait FromText: Sized {
 
 /// What a text that has to be there says.
 pub(crate) fn text_as<T: FromText>(entry: &Value, key: &str, name: Field) -> Result<T, ConfigFault>
-    ensures { result ≡ required name key.now (text_as T.form) (view entry.now) }
+    ensures value { result ≡ required name key.now (text_as T.form) (view entry.now) }
+    ensures plain { ¬ (IsErrOf result OutOfMemory) }
 {
     T::from_text(text(entry, key, name)?).ok_or(ConfigFault::BadValue(name))
 }
@@ -137,7 +143,8 @@ impl FromText for [u8; 16] {
 
 /// A whole number from 0 to 255.
 pub(crate) fn byte(entry: &Value, key: &str, name: Field) -> Result<u8, ConfigFault>
-    ensures { result ≡ required name key.now byte_as (view entry.now) }
+    ensures value { result ≡ required name key.now byte_as (view entry.now) }
+    ensures plain { ¬ (IsErrOf result OutOfMemory) }
 {
     match entry.get(key) {
         None => Err(ConfigFault::Missing(name)),
@@ -152,7 +159,8 @@ const MOST_NONCES: i64 = MAX_NONCE_BLOCK as i64;
 
 /// How many nonces one save serves, 1 to 1,024; 1 if it is absent.
 pub(crate) fn nonce_block(entry: &Value, key: &str, name: Field) -> Result<u16, ConfigFault>
-    ensures { result ≡ optional name key.now nonce_block_as 1 (view entry.now) }
+    ensures value { result ≡ optional name key.now nonce_block_as 1 (view entry.now) }
+    ensures plain { ¬ (IsErrOf result OutOfMemory) }
 {
     match entry.get(key) {
         None => Ok(1),
@@ -165,7 +173,8 @@ pub(crate) fn nonce_block(entry: &Value, key: &str, name: Field) -> Result<u16, 
 
 /// A boolean, false if it is absent.
 pub(crate) fn flag(entry: &Value, key: &str, name: Field) -> Result<bool, ConfigFault>
-    ensures { result ≡ optional name key.now as_bool false (view entry.now) }
+    ensures value { result ≡ optional name key.now as_bool false (view entry.now) }
+    ensures plain { ¬ (IsErrOf result OutOfMemory) }
 {
     match entry.get(key) {
         None => Ok(false),
@@ -174,13 +183,14 @@ pub(crate) fn flag(entry: &Value, key: &str, name: Field) -> Result<bool, Config
 }
 
 /// A secret.
-pub(crate) fn secret<A: Allocator>(
+pub(crate) fn secret<A: Memory>(
     alloc: A,
     entry: &Value,
     key: &str,
     name: Field,
 ) -> Result<Bytes<A>, ConfigFault>
-    ensures { Gives (λ b. b) result (required name key.now (text_as secret_text_of) (view entry.now)) }
+    ensures gives { Gives (λ b. b) result (required name key.now (text_as secret_text_of) (view entry.now)) }
+    ensures memory { IsErrOf result OutOfMemory → A.may_refuse }
 {
     match secret_from_text(alloc, text(entry, key, name)?)? {
         Some(secret) => Ok(secret),
@@ -190,7 +200,8 @@ pub(crate) fn secret<A: Allocator>(
 
 /// The text of a node's name.
 pub(crate) fn name<'a>(entry: &'a Value, key: &str, name: Field) -> Result<&'a str, ConfigFault>
-    ensures { Reads (λ t. t.now) result (required name key.now (text_as name_of) (view entry.now)) }
+    ensures reads { Reads (λ t. t.now) result (required name key.now (text_as name_of) (view entry.now)) }
+    ensures plain { ¬ (IsErrOf result OutOfMemory) }
 {
     let text = text(entry, key, name)?;
     if is_name(text) {

@@ -26,8 +26,11 @@ returns-in-Ok-clause-keeps_safe g c honest none = alone c.block_end-end.result _
 pub returns-in-Err-clause-leaves : goal.returns-in-Err-clause-leaves
 returns-in-Err-clause-leaves g c honest = saved (λ p end. InDoubt (kept_at (g.S.NonceStore.seen c.args.store.now).kept p) (kept_at (g.S.NonceStore.seen c.save.new.self).kept p) end) c.args.nonce c.pair.ensures c.block_end-end.ensures c.config.view_is (c.in-Err.ensures.doubt honest)
 
+pub returns-in-Ok-clause-saved : goal.returns-in-Ok-clause-saved
+returns-in-Ok-clause-saved g c honest above = saved (λ p end. kept_at (g.S.NonceStore.seen c.save.new.self).kept p ≡ Some end ∷ []) c.args.nonce c.pair.ensures c.block_end-end.ensures c.config.view_is (c.in-Ok.ensures.done honest)
+
 pub returns-in-Ok-clause-settles : goal.returns-in-Ok-clause-settles
-returns-in-Ok-clause-settles g c honest = inr (saved (λ p end. kept_at (g.S.NonceStore.seen c.save.new.self).kept p ≡ Some end ∷ []) c.args.nonce c.pair.ensures c.block_end-end.ensures c.config.view_is (c.in-Ok.ensures.done honest))
+returns-in-Ok-clause-settles g c honest = inr (returns-in-Ok-clause-saved g c honest (omega (arith, c.if-nonce-safe.false)))
 
 pub returns-in-Err-clause-refused : goal.returns-in-Err-clause-refused
 returns-in-Err-clause-refused g c = unsaved c.in-Err.fault c.in-Err.ensures.sound c.in-Err.ensures.refused

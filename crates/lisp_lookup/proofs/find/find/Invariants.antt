@@ -6,11 +6,11 @@ use Rattle.lisp_lookup.proofs.find.find.Given as goal
 
 abbrev pub invariant-loop-size : goal.invariant-loop-size
 invariant-loop-size g l = record {
-  within : l.low + l.size ≤ length l.numbers.items;
-  before : (i : ℕ) (d : Holding) → i < l.low → is_before l.probe (row_at_place l.rows l.numbers.items i d) ≡ true;
-  after : (i : ℕ) (d : Holding) → l.low + l.size ≤ i → i < length l.numbers.items → is_before l.probe (row_at_place l.rows l.numbers.items i d) ≡ false;
+  within : l.low + l.size ≤ length l.rows.numbers;
+  before : (i : ℕ) (d : Holding) → i < l.low → is_before l.probe (row_at_place l.rows.rows l.rows.numbers i d) ≡ true;
+  after : (i : ℕ) (d : Holding) → l.low + l.size ≤ i → i < length l.rows.numbers → is_before l.probe (row_at_place l.rows.rows l.rows.numbers i d) ≡ false;
   grown : l.fn.steps ≤ l.steps;
-  cost : Cost (l.steps - l.fn.steps) l.size (length l.numbers.items);
+  cost : Cost (l.steps - l.fn.steps) l.size (length l.rows.numbers);
 }
 
 abbrev pub decreases-loop-size : goal.decreases-loop-size

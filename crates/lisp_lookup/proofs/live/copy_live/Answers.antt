@@ -5,7 +5,7 @@ use Rattle.lisp_records.specs.Record.{Mapping}
 use Rattle.lisp_records.specs.Row.{Holding}
 use Rattle.lisp_records.proofs.Grown.{on_err}
 use Rattle.lisp_lookup.specs.Records.{live_of}
-use Rattle.lisp_lookup.proofs.LiveLaws.{copies_next}
+use Rattle.lisp_lookup.proofs.LiveLaws.{copies_next, none_recorded}
 use Rattle.lisp_lookup.proofs.live.copy_live.Goals.{then-is_live_of+in_ok-copy+in_ok-try_push, else-is_live_of}
 use Rattle.lisp_lookup.proofs.live.copy_live.Goals as goal
 
@@ -35,3 +35,9 @@ bounds-rows-row-index g c = c.loop-row-test.true
 
 pub offset_bounds-rows-row-index : goal.offset_bounds-rows-row-index
 offset_bounds-rows-row-index g c = omega (arith, c.loop-row-test.true)
+
+pub returns-in_err-copy-clause-none_alive : goal.returns-in_err-copy-clause-none_alive
+returns-in_err-copy-clause-none_alive g c = λ none. absurd (none_recorded c.args.rows.now c.loop-row.row-index c.row-item.result c.args.router.now c.args.now c.loop-row-test.true c.row-item.is (sym c.is_live_of.ensures ∙ c.if-is_live_of.true) none)
+
+pub returns-in_err-try_push-clause-none_alive : goal.returns-in_err-try_push-clause-none_alive
+returns-in_err-try_push-clause-none_alive g c = λ none. absurd (none_recorded c.args.rows.now c.loop-row.row-index c.row-item.result c.args.router.now c.args.now c.loop-row-test.true c.row-item.is (sym c.is_live_of.ensures ∙ c.if-is_live_of.true) none)

@@ -1,10 +1,10 @@
-use Rattle.std.proofs.Common.{◌++◌, ◌∷◌, [], inl, inr, sym, ap, ◌∙◌, arith}
+use Rattle.std.proofs.Common.{◌++◌, length, ◌∷◌, [], inl, inr, sym, ap, ◌∙◌, arith}
 use Rattle.std.specs.List.{filter}
 use Rattle.std.proofs.lemmas.List.{take_all}
 use Rattle.std.proofs.lemmas.Result.{IfOk-from_err}
 use Rattle.lisp_records.specs.Row.{Holding, is_alive}
 use Rattle.lisp_records.proofs.Grown.{on_err}
-use Rattle.lisp_lookup.proofs.LiveLaws.{rows_next}
+use Rattle.lisp_lookup.proofs.LiveLaws.{rows_next, none_passes}
 use Rattle.lisp_lookup.proofs.table.live_rows.Goals.{then-alive+in_ok-copy+in_ok-try_push, else-alive}
 use Rattle.lisp_lookup.proofs.table.live_rows.Goals as goal
 
@@ -34,3 +34,9 @@ bounds-rows-row-index g c = c.loop-row-test.true
 
 pub offset_bounds-rows-row-index : goal.offset_bounds-rows-row-index
 offset_bounds-rows-row-index g c = omega (arith, c.loop-row-test.true)
+
+pub returns-in_err-copy-clause-none_alive : goal.returns-in_err-copy-clause-none_alive
+returns-in_err-copy-clause-none_alive g c = λ none. absurd (none_passes (λ h. is_alive h c.args.now) c.args.rows.now c.loop-row.row-index c.row-item.result c.loop-row-test.true c.row-item.is (sym c.alive.ensures.test ∙ c.if-alive.true) (ap length none))
+
+pub returns-in_err-try_push-clause-none_alive : goal.returns-in_err-try_push-clause-none_alive
+returns-in_err-try_push-clause-none_alive g c = λ none. absurd (none_passes (λ h. is_alive h c.args.now) c.args.rows.now c.loop-row.row-index c.row-item.result c.loop-row-test.true c.row-item.is (sym c.alive.ensures.test ∙ c.if-alive.true) (ap length none))

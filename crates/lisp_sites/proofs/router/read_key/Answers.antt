@@ -8,7 +8,7 @@ use Rattle.lisp_sites.specs.Form.{byte_as}
 use Rattle.lisp_sites.proofs.Fields.{looked_up-Err}
 use Rattle.lisp_sites.proofs.router.read_key.Goals as goal
 
-pub returns-in_err-id : goal.returns-in_err-id
-returns-in_err-id g c =
+pub returns-in_err-id-clause-value : goal.returns-in_err-id-clause-value
+returns-in_err-id-clause-value g c =
     let p = err_from_is_err_and c.from_residual.result c.from_residual.ensures.1 in
-    rw (p.1, p.2) (sym (looked_up-Err fields.RouterKey (codes "key") byte_as (λ id. if_so (has_key c.args.site.now.keys id) id) c.in_err-id.field-0.0 (view c.args.entry.now) c.in_err-id.ensures))
+    rw (p.1, p.2) (sym (looked_up-Err fields.RouterKey (codes "key") byte_as (λ id. if_so (has_key c.args.site.now.keys id) id) c.in_err-id.field-0.0 (view c.args.entry.now) c.in_err-id.ensures.value))
