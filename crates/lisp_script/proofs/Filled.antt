@@ -1,5 +1,5 @@
 -- Lists whose empty elements are left out.
-use Rattle.std.proofs.Common.{◌≡◌, ℕ, true, false, List, [], ◌∷◌, ◌++◌, length, map, Bor, refl, sym, ap, ◌∙◌, nat_lt, arith}
+use Rattle.std.proofs.Common.{◌≡◌, ◌≢◌, ℕ, zero, suc, ◌<◌, true, false, List, [], ◌∷◌, ◌++◌, length, get_or, map, Bor, refl, sym, ap, ◌∙◌, nat_lt, arith}
 use Rattle.std.proofs.lemmas.Grind.{common_steps}
 use Rattle.std.specs.Prelude.{◌==◌}
 use Rattle.std.specs.List.{filter}
@@ -29,3 +29,19 @@ left_out xs x is = sym (one_more xs x ∙ ap (λ (t : List (List ℕ)). filled (
 -- any other is taken
 pub taken : (xs : List (Bor (List ℕ))) (x : Bor (List ℕ)) → false ≡ (length x.now == 0) → filled (map (λ w. w.now) xs) ++ x.now ∷ [] ≡ filled (map (λ w. w.now) (xs ++ x ∷ []))
 taken xs x is = sym (one_more xs x ∙ ap (λ (t : List (List ℕ)). filled (map (λ w. w.now) xs) ++ t) (filled_alone x.now is))
+
+-- of two lists, none has an element where both together have none
+no_last : (xs ys : List (List ℕ)) → xs ++ ys ≡ [] → ys ≡ []
+no_last [] ys none = none
+no_last (x ∷ xs) ys none = absurd cc
+
+-- where one isn't empty, not all are left out
+pub some_filled : (xs : List (List ℕ)) (i : ℕ) (x : List ℕ) → i < length xs → x ≡ get_or xs i x → false ≡ (length x == 0) → filled xs ≢ []
+some_filled [] i x inside is full none = absurd (omega (arith, inside))
+some_filled (y ∷ xs) zero x inside is full none =
+    let first : filled (y ∷ []) ≡ y ∷ [] = filled_alone y (rw is at full) in
+    let all : filled (y ∷ []) ++ filled xs ≡ [] = sym (filter-append (λ z. nat_lt 0 (length z)) (y ∷ []) xs) ∙ none in
+    let some : y ∷ filled xs ≡ [] = rw first at all in
+    absurd cc
+some_filled (y ∷ xs) (suc i) x inside is full none =
+    some_filled xs i x (omega (arith, inside)) is full (no_last (filled (y ∷ [])) (filled xs) (sym (filter-append (λ z. nat_lt 0 (length z)) (y ∷ []) xs) ∙ none))

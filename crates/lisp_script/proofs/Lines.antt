@@ -2,6 +2,7 @@
 use Rattle.std.proofs.Common.{◌≡◌, ◌≢◌, ◌⊎◌, inl, inr, ℕ, ◌+◌, ◌<◌, List, [], ◌∷◌, ◌++◌, length, get_or, map, take, drop, Option, Some, None, Result, Ok, Err, Bor, refl, sym, ap, ◌∙◌, arith, add-one, drop-cons}
 use Rattle.std.specs.List.{enumerate_from}
 use Rattle.std.specs.Option.{option_to_list}
+use Rattle.std.specs.Str.Lines.{lines}
 use Rattle.std.proofs.lemmas.List.{length-map, map-append, take-map, take-append-drop}
 use Rattle.std.proofs.lemmas.List.FromFn.{length-enumerate_from, get_or-enumerate_from}
 use Rattle.lisp_records.specs.Result.{◌>>=◌}
@@ -11,7 +12,7 @@ use Rattle.lisp_script.specs.declared.fault.ScriptWhat.{ScriptWhat}
 use Rattle.lisp_script.specs.declared.fault.ScriptWhat.TheVariants.{Memory}
 use Rattle.lisp_script.specs.Fault.{Gives}
 use Rattle.lisp_script.specs.Order.{Order}
-use Rattle.lisp_script.specs.Spelling.{and_more, at_line, in_line, in_lines, with_line}
+use Rattle.lisp_script.specs.Spelling.{and_more, at_line, in_line, in_lines, with_line, HasWords, IsReached}
 use Rattle.lisp_script.proofs.Plain.{in_line_plain}
 use Rattle.lisp_script.proofs.Records.{with_front}
 
@@ -151,3 +152,20 @@ runs_out May c line before after n fault (Ok _) gives is e = absurd cc
 runs_out May c line before after n fault (Err what) gives is e =
     let same : fault ≡ record { line = n; what = what } = cc in
     out what _ gives (sym (ap (λ (f : ScriptFault). f.what) same) ∙ e) (λ wrong. in_line_plain c line (first_fault before (in_line c line) Memory wrong))
+
+-- then the line has words, and those before it are read
+pub reaches : (c : Configuration) (text : List ℕ) (xs : List (ℕ × Bor (List ℕ))) (x : ℕ × Bor (List ℕ)) (before : List Order) (fault : ScriptFault) (read : Result (Unit {0}) ScriptWhat)
+    → in_lines c 1 (texts xs) ≡ Ok before → (read ≡ Err Memory → HasWords x.1.now) → Err fault ≡ at_line (x.0 + 1) read → IsNext (lines text) xs x → fault.what ≡ Memory → IsReached c text fault.line
+reaches c text xs x before fault (Ok _) so_far asked is next e = absurd cc
+reaches c text xs x before fault (Err what) so_far asked is next e =
+    let same : fault ≡ record { line = x.0 + 1; what = what } = cc in
+    let number : x.0 + 1 ≡ length (texts xs) + 1 = omega (arith, next.number, length-map xs (λ (y : ℕ × Bor (List ℕ)). y.1.now)) in
+    record {
+      before = texts xs;
+      line = x.1.now;
+      behind = drop (length xs + 1) (lines text);
+      parts = next.parts;
+      place = ap (λ (f : ScriptFault). f.line) same ∙ number;
+      read = rw so_far refl;
+      words = asked (ap Err (sym (ap (λ (f : ScriptFault). f.what) same) ∙ e));
+    }

@@ -1,6 +1,6 @@
 -- Which commands the lines of a script spell, or its first faulty line: the first word is looked at first, then the
 -- number of words, then the words from left to right.
-use Rattle.std.specs.Prelude.{ℕ, ◌+◌, ◌==◌, Bool, false, nat_lt, List, [], ◌∷◌, ◌++◌, length, codes, Option, Some, None, Result, Ok, Err, if◌then◌else◌}
+use Rattle.std.specs.Prelude.{◌≡◌, ◌≢◌, ℕ, ◌+◌, ◌==◌, Bool, false, nat_lt, List, [], ◌∷◌, ◌++◌, length, codes, Option, Some, None, Result, Ok, Err, IsOk, if◌then◌else◌}
 use Rattle.std.specs.List.{find}
 use Rattle.std.specs.Option.{option_map, option_to_list, ok_or}
 use Rattle.std.specs.Str.Lines.{lines}
@@ -169,3 +169,17 @@ in_lines c number (line ∷ more) = do
 -- the commands of a script
 abbrev pub script_of : Configuration → List ℕ → Result (List Order) ScriptFault
 script_of c text = in_lines c 1 (lines text)
+
+-- a line that is neither a comment nor blank
+abbrev pub HasWords : List ℕ → Type 0
+HasWords line = (is_comment line ≡ false) × (words_of line ≢ [])
+
+-- the line of a script with a number has words, and the lines before it are read without fault
+pub record IsReached (c : Configuration) (text : List ℕ) (number : ℕ) : Type 0 where
+  pub before : List (List ℕ)
+  pub line : List ℕ
+  pub behind : List (List ℕ)
+  pub parts : lines text ≡ before ++ line ∷ behind
+  pub place : number ≡ length before + 1
+  pub read : IsOk (in_lines c 1 before)
+  pub words : HasWords line

@@ -1,9 +1,9 @@
 //! Scripts.
 
-ghost use Rattle.std.specs.Prelude.{◌≡◌, ◌≢◌, map, Ok, Err, IfOk, IfErr};
+ghost use Rattle.std.specs.Prelude.{◌≡◌, ◌≢◌, [], map, Ok, Err, IfOk, IfErr};
 ghost use Rattle.lisp_script.specs.Fault.{Gives};
 ghost use Rattle.lisp_script.specs.Order.{order};
-ghost use Rattle.lisp_script.specs.Spelling.{script_of, with_words, with_line, is_comment, at_line};
+ghost use Rattle.lisp_script.specs.Spelling.{script_of, with_words, with_line, is_comment, at_line, HasWords, IsReached};
 ghost use Rattle.lisp_script.specs.declared.fault.ScriptWhat.TheVariants.{Memory};
 
 use crate::command::Command;
@@ -17,7 +17,8 @@ use std::alloc::Allocator;
 /// The commands of a script, by the names of a configuration: a line each, whose words are separated by spaces. Lines end
 /// with a line feed; a carriage return before it is dropped. Blank lines, and lines that begin with `#`, are skipped.
 ///
-/// The first faulty line is the fault, with its number, from 1 on; `Memory` where memory runs out in a line.
+/// The first faulty line is the fault, with its number, from 1 on; `Memory` where memory runs out in a line, which then
+/// has words, and before which no line is faulty.
 pub fn parse_script<A: Memory + Copy, E: Allocator>(
     alloc: A,
     config: &Config<E>,
@@ -26,6 +27,7 @@ pub fn parse_script<A: Memory + Copy, E: Allocator>(
     ensures commands { IfOk result (λ commands. script_of config.now text.now ≡ Ok (map order commands.items)) }
     ensures fault { IfErr result (λ fault. fault.what ≢ ScriptWhat.Memory → script_of config.now text.now ≡ Err fault) }
     ensures memory { IfErr result (λ fault. fault.what ≡ ScriptWhat.Memory → A.may_refuse) }
+    ensures reached { IfErr result (λ fault. fault.what ≡ ScriptWhat.Memory → IsReached config.now text.now fault.line) }
 {
     let mut commands = Vec::new(alloc);
     for (place, line) in text.lines().enumerate() {
@@ -42,7 +44,8 @@ fn read_line<A: Memory + Copy, E: Allocator>(
     line: &str,
     commands: &mut Vec<Command<A>, A>,
 ) -> Result<(), ScriptWhat>
-    ensures { Gives A.may_refuse (λ _. map order commands.new.items) result (with_line config.now (map order commands.old.items) line.now) }
+    ensures gives { Gives A.may_refuse (λ _. map order commands.new.items) result (with_line config.now (map order commands.old.items) line.now) }
+    ensures asked { result ≡ Err ScriptWhat.Memory → HasWords line.now }
 {
     if is_comment(line) {
         return Ok(());
@@ -58,7 +61,8 @@ fn read_words<A: Memory + Copy, E: Allocator>(
     words: &[&str],
     commands: &mut Vec<Command<A>, A>,
 ) -> Result<(), ScriptWhat>
-    ensures { Gives A.may_refuse (λ _. map order commands.new.items) result (with_words config.now (map order commands.old.items) (map (λ w. w.now) words.now)) }
+    ensures gives { Gives A.may_refuse (λ _. map order commands.new.items) result (with_words config.now (map order commands.old.items) (map (λ w. w.now) words.now)) }
+    ensures asked { result ≡ Err ScriptWhat.Memory → map (λ w. w.now) words.now ≢ [] }
 {
     let [word, words @ ..] = words else {
         return Ok(());

@@ -1,6 +1,6 @@
 //! The words of a line, and what single words stand for.
 
-ghost use Rattle.std.specs.Prelude.{◌≡◌, map, position, IfOk, OnErr};
+ghost use Rattle.std.specs.Prelude.{◌≡◌, ◌≢◌, [], map, position, IfOk, OnErr};
 ghost use Rattle.lisp_script.specs.Fault.{Gives};
 ghost use Rattle.lisp_script.specs.Words.{words_of, is_word, node_of, server_of, router_of, number_in, address_in, bytes_in, doubt_in, fate_in, records_in, some_records, database_in};
 ghost use Rattle.lisp_script.specs.declared.fault.ScriptWhat.TheVariants.{Memory};
@@ -17,6 +17,7 @@ use std::alloc::{AllocError, Allocator};
 pub(crate) fn words<A: Memory>(alloc: A, line: &str) -> Result<Vec<&str, A>, AllocError>
     ensures value { IfOk result (λ words. map (λ w. w.now) words.items ≡ words_of line.now) }
     ensures memory { OnErr result A.may_refuse }
+    ensures asked { OnErr result (words_of line.now ≢ []) }
 {
     let mut words = Vec::new(alloc);
     for word in line.split(' ') {
