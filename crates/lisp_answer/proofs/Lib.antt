@@ -1,3 +1,4 @@
 pub mod AnsweringLemmas
 pub mod InputLemmas
+pub mod OutputLemmas
 pub mod FreshLaws

@@ -4,5 +4,6 @@ pub mod Fresh
 pub mod Words
 pub mod Answer
 pub mod Line
+pub mod Output
 pub mod Fault
 pub mod Input

@@ -9,6 +9,7 @@ use Rattle.lisp_served.specs.Site.{SiteEntry}
 use Rattle.lisp_answer.specs.Setup.{Setup, sites_of}
 use Rattle.lisp_answer.specs.Words.{refusal_words}
 use Rattle.lisp_answer.specs.Answer.{Answer, Answers}
+use Rattle.lisp_answer.specs.Output.{WroteFront}
 
 -- an answer in words: the Map-Notify in digits, or why there is none
 abbrev pub answer_words : Answer → List ℕ
@@ -30,3 +31,7 @@ Adds may_refuse old new s input = (words : List ℕ) × AreWords may_refuse (sit
 -- these bytes are the line that answers an input
 abbrev pub IsLine : Type 0 → Setup → List ℕ → List ℕ → Type 0
 IsLine may_refuse s input line = (words : List ℕ) × AreWords may_refuse (sites_of s) (decode_of (first_line input)) words × (line ≡ words ++ 10 ∷ [])
+
+-- to what was held, a proper front of the line that answers an input was added
+abbrev pub AddsFront : Type 0 → Option (List ℕ) → Option (List ℕ) → Setup → List ℕ → Type 0
+AddsFront may_refuse old new s input = (line : List ℕ) × IsLine may_refuse s input line × WroteFront old new line

@@ -1,16 +1,17 @@
 //! The subcommand `answer`.
 
-ghost use Rattle.std.specs.Prelude.{◌≢◌, ◌<◌, ◌≤◌, length, IfOk, IfSome, OnOk, IfErr, IsErrOf};
+ghost use Rattle.std.specs.Prelude.{◌≢◌, ◌<◌, ◌≤◌, length, Err, IfOk, IfSome, OnOk, IfErr, IsErrOf};
 ghost use Rattle.std.specs.String.{string_bytes};
 ghost use Rattle.std.specs.Io.BufRead.{take_through};
 ghost use Rattle.std.specs.Io.KnownBytes.{Consumes, Keeps};
-ghost use Rattle.lisp_answer.specs.Line.{Adds, IsLine};
+ghost use Rattle.lisp_answer.specs.Line.{Adds, AddsFront, IsLine};
 ghost use Rattle.lisp_answer.specs.Input.{most_bytes};
 ghost use Rattle.lisp_answer.specs.declared.fault.AnswerFault.{AnswerFault};
 
 use crate::fault::AnswerFault;
 use crate::input::{content, read_line};
 use crate::line::words_for;
+use crate::output::write_bytes;
 use crate::site::AnswerSetup;
 use lisp_memory::{FallibleString, Memory};
 use std::alloc::Allocator;
@@ -27,7 +28,7 @@ use std::io::{Read, Write};
 /// has at most 1,048,576 bytes, its line feed among them, and nothing after it is read. Faults:
 /// `Read` where a read fails or 2,097,152 reads are not enough, `TooLong`, `OutOfMemory` where memory
 /// runs out for the site, the line or the text of its answer, `Write`. Only at `Write` may a part of
-/// the answer have been written.
+/// the answer have been written: a front of its line, but not the whole.
 pub fn answer<A: Memory + Copy, B: Allocator, R: Read, W: Write>(
     alloc: A,
     setup: &AnswerSetup<B>,
@@ -39,12 +40,10 @@ pub fn answer<A: Memory + Copy, B: Allocator, R: Read, W: Write>(
     ensures fits { OnOk result (IfSome (R.remaining reader.old) (λ input. length (take_through 10 input) ≤ most_bytes)) }
     ensures too_long { IsErrOf result AnswerFault.TooLong → IfSome (R.remaining reader.old) (λ input. most_bytes < length (take_through 10 input)) }
     ensures err { IfErr result (λ e. e ≢ AnswerFault.Write → Keeps (W.contents writer.old) (W.contents writer.new)) }
+    ensures front { IsErrOf result AnswerFault.Write → IfSome (R.remaining reader.old) (λ input. AddsFront A.may_refuse (W.contents writer.old) (W.contents writer.new) setup.now input) }
 {
     let line = answer_line(alloc, setup, reader)?;
-    match writer.write_all(line.as_bytes()) {
-        Ok(()) => Ok(()),
-        Err(_) => Err(AnswerFault::Write),
-    }
+    write_bytes(line.as_bytes(), writer)
 }
 
 // Reads one line, and gives the line that answers it.
@@ -57,6 +56,7 @@ fn answer_line<A: Memory + Copy, B: Allocator, R: Read>(
     ensures consumed { OnOk result (IfSome (R.remaining reader.old) (λ input. Consumes (R.remaining reader.old) (R.remaining reader.new) (take_through 10 input))) }
     ensures fits { OnOk result (IfSome (R.remaining reader.old) (λ input. length (take_through 10 input) ≤ most_bytes)) }
     ensures too_long { IsErrOf result AnswerFault.TooLong → IfSome (R.remaining reader.old) (λ input. most_bytes < length (take_through 10 input)) }
+    ensures unwritten { result ≢ Err AnswerFault.Write }
 {
     let sites = setup.sites(alloc)?;
     let line = read_line(alloc, reader)?;

@@ -1,6 +1,6 @@
 //! Reading the one line that is answered.
 
-ghost use Rattle.std.specs.Prelude.{◌≡◌, ◌<◌, ◌≤◌, length, vec_len, IfOk, IfSome, IsErrOf};
+ghost use Rattle.std.specs.Prelude.{◌≡◌, ◌≢◌, ◌<◌, ◌≤◌, length, vec_len, Err, IfOk, IfSome, IsErrOf};
 ghost use Rattle.std.specs.Io.BufRead.{take_through};
 ghost use Rattle.std.specs.Io.KnownBytes.{Consumes};
 ghost use Rattle.lisp_answer.specs.Input.{content};
@@ -27,6 +27,7 @@ pub(crate) fn read_line<A: Memory, R: Read>(
     ensures short { IfOk result (λ line. vec_len line ≤ MOST_BYTES) }
     ensures memory { IsErrOf result AnswerFault.OutOfMemory → A.may_refuse }
     ensures too_long { IsErrOf result AnswerFault.TooLong → IfSome (R.remaining reader.old) (λ input. MOST_BYTES < length (take_through 10 input)) }
+    ensures unwritten { result ≢ Err AnswerFault.Write }
 {
     let mut line = Vec::new(alloc);
     for _ in 0..MOST_READS {

@@ -7,6 +7,7 @@ mod fault;
 mod fresh;
 mod input;
 mod line;
+mod output;
 mod site;
 mod words;
 

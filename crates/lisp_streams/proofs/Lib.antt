@@ -1,3 +1,4 @@
 mod InputLemmas
+mod OutputLemmas
 mod PartsLemmas
 mod Scheduled

@@ -9,11 +9,13 @@ use Rattle.lisp_sites.specs.Table.{config_of, Fails}
 use Rattle.lisp_sites.specs.declared.fault.ConfigFault.{ConfigFault}
 use Rattle.lisp_sites.specs.declared.fault.ConfigFault.TheVariants as config_faults
 use Rattle.lisp_script.specs.Order.{Order}
-use Rattle.lisp_script.specs.Spelling.{script_of}
+use Rattle.lisp_script.specs.Spelling.{script_of, IsReached}
 use Rattle.lisp_script.specs.declared.fault.ScriptFault.{ScriptFault}
+use Rattle.lisp_script.specs.declared.fault.ScriptWhat.{ScriptWhat}
+use Rattle.lisp_script.specs.declared.fault.ScriptWhat.TheVariants as whats
 use Rattle.lisp_streams.specs.declared.play_fault.PlayFault.TheVariants as faults
 use Rattle.lisp_streams.specs.Parts.{parted}
-use Rattle.lisp_streams.specs.Schedule.{script_in, parts_in, schedule_of}
+use Rattle.lisp_streams.specs.Schedule.{script_in, parts_in, schedule_of, HasParts, IsNoConfig, IsNoScript}
 
 module _ (input : List ℕ) where
   -- it is no text
@@ -36,25 +38,38 @@ module _ (input : List ℕ) where
       unfolding schedule_of
       in_parts = rw (is_utf8-from_IsUtf8 input utf8, parts) refl
 
+      has_parts : HasParts input (configuration, script)
+      has_parts = (is_utf8-from_IsUtf8 input utf8, parts)
+
       -- the first one is no configuration
-      pub no_configuration : (why : ConfigFault) → config_of (parse_document configuration) ≡ Err why → schedule_of input ≡ Err (faults.Config why)
+      no_config : (why : ConfigFault) → config_of (parse_document configuration) ≡ Err why → schedule_of input ≡ Err (faults.Config why)
       unfolding parts_in
-      no_configuration why is = in_parts ∙ rw is refl
+      no_config why is = in_parts ∙ rw is refl
+
+      pub no_configuration : (why : ConfigFault) → Fails why (config_of (parse_document configuration)) → IsNoConfig input why
+      no_configuration config_faults.Toml is = no_config config_faults.Toml is
+      no_configuration (config_faults.Missing name) is = no_config (config_faults.Missing name) is
+      no_configuration (config_faults.BadValue name) is = no_config (config_faults.BadValue name) is
+      no_configuration (config_faults.Repeated name) is = no_config (config_faults.Repeated name) is
+      no_configuration config_faults.OutOfMemory is = ((configuration, script), has_parts)
 
       module _ (c : Configuration) (config : config_of (parse_document configuration) ≡ Ok c) where
         -- the second one is no script, or one
-        pub no_script : (why : ScriptFault) → script_of c script ≡ Err why → schedule_of input ≡ Err (faults.Script why)
+        faulty : (why : ScriptFault) → script_of c script ≡ Err why → schedule_of input ≡ Err (faults.Script why)
         unfolding parts_in script_in
-        no_script why is = in_parts ∙ rw (config, is) refl
+        faulty why is = in_parts ∙ rw (config, is) refl
 
         pub a_schedule : (orders : List Order) → script_of c script ≡ Ok orders → schedule_of input ≡ Ok (c, orders)
         unfolding parts_in script_in
         a_schedule orders is = in_parts ∙ rw (config, is) refl
 
--- what is wrong with a configuration, unless memory ran out
-pub fails_so : {Y : Type 0} (why : ConfigFault) (read : Result Y ConfigFault) → Fails why read → why ≢ ConfigFault.OutOfMemory → read ≡ Err why
-fails_so config_faults.Toml read fails other = fails
-fails_so (config_faults.Missing name) read fails other = fails
-fails_so (config_faults.BadValue name) read fails other = fails
-fails_so (config_faults.Repeated name) read fails other = fails
-fails_so config_faults.OutOfMemory read fails other = absurd (other refl)
+        module _ (May : Type 0) (line : ℕ) where
+          pub no_script : (what : ScriptWhat) → (what ≢ whats.Memory → script_of c script ≡ Err (record { line = line; what = what })) → (what ≡ whats.Memory → May) → (what ≡ whats.Memory → IsReached c script line)
+              → IsNoScript May input line what
+          no_script whats.Memory fault may reached = (may refl, record { parts = (configuration, script); parted = has_parts; config = c; configured = config; reached = reached refl })
+          no_script whats.Word fault may reached = faulty _ (fault (λ e. absurd cc))
+          no_script whats.Count fault may reached = faulty _ (fault (λ e. absurd cc))
+          no_script whats.Name fault may reached = faulty _ (fault (λ e. absurd cc))
+          no_script whats.Number fault may reached = faulty _ (fault (λ e. absurd cc))
+          no_script whats.Record fault may reached = faulty _ (fault (λ e. absurd cc))
+          no_script whats.Hex fault may reached = faulty _ (fault (λ e. absurd cc))

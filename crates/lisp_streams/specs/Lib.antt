@@ -1,5 +1,6 @@
 pub mod Fault
 pub mod Input
+pub mod Output
 pub mod Parts
 pub mod Schedule
 pub mod RunFault

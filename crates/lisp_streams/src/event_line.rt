@@ -3,6 +3,7 @@
 ghost use Rattle.std.specs.Prelude.{◌≡◌, ◌⊎◌, OnOk, IfErr, IsErrOf};
 ghost use Rattle.std.specs.Io.KnownBytes.{Appends, Keeps};
 ghost use Rattle.lisp_lines.specs.Line.{line_text};
+ghost use Rattle.lisp_streams.specs.Output.{WroteFront};
 ghost use Rattle.lisp_streams.specs.declared.play_fault.PlayFault.TheVariants.{OutOfMemory};
 ghost use Rattle.lisp_streams.specs.declared.play_fault.PlayFault.TheVariants as faults;
 
@@ -16,7 +17,7 @@ use std::alloc::Allocator;
 use std::io::Write;
 
 /// Writes the line of an event, with its line feed, by the names of a configuration; without the words `datagram D`
-/// unless `place`. Faults: `OutOfMemory`, where nothing was written; `Write`.
+/// unless `place`. Faults: `OutOfMemory`, where nothing was written; `Write`, where a front of the line was, but not the whole.
 pub fn write_line<A: Memory, E: Allocator, W: Write>(
     alloc: A,
     config: &Config<E>,
@@ -27,6 +28,7 @@ pub fn write_line<A: Memory, E: Allocator, W: Write>(
     ensures ok { OnOk result (Appends (W.contents writer.old) (W.contents writer.new) (line_text config.now place line.now)) }
     ensures memory { IsErrOf result PlayFault.OutOfMemory → Keeps (W.contents writer.old) (W.contents writer.new) }
     ensures asked { IsErrOf result PlayFault.OutOfMemory → A.may_refuse }
+    ensures front { IsErrOf result faults.Write → WroteFront (W.contents writer.old) (W.contents writer.new) (line_text config.now place line.now) }
     ensures faults { IfErr result (λ fault. (fault ≡ PlayFault.OutOfMemory) ⊎ (fault ≡ faults.Write)) }
 {
     let text = line_text(alloc, config, line, place)?;

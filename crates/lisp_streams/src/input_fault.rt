@@ -1,5 +1,9 @@
 //! Why a file can't be taken as an input.
 
+ghost use Rattle.std.specs.Prelude.{◌≡◌};
+ghost use Rattle.lisp_streams.specs.declared.input_fault.InputFault.TheVariants.{Config, Input};
+ghost use Rattle.lisp_streams.specs.declared.play_fault.PlayFault.{PlayFault};
+
 use crate::play_fault::PlayFault;
 use lisp_sites::PlacedFault;
 use std::alloc::{AllocError, AllocFailed};
@@ -16,24 +20,32 @@ pub enum InputFault {
 }
 
 impl From<PlayFault> for InputFault {
+    ghost from_gives = { λ why fault. fault ≡ Input why };
+
     fn from(fault: PlayFault) -> InputFault {
         InputFault::Input(fault)
     }
 }
 
 impl From<PlacedFault> for InputFault {
+    ghost from_gives = { λ why fault. fault ≡ Config why };
+
     fn from(fault: PlacedFault) -> InputFault {
         InputFault::Config(fault)
     }
 }
 
 impl From<AllocError> for InputFault {
+    ghost from_gives = { λ _ fault. fault ≡ Input PlayFault.OutOfMemory };
+
     fn from(_error: AllocError) -> InputFault {
         InputFault::Input(PlayFault::OutOfMemory)
     }
 }
 
 impl<T: Drop> From<AllocFailed<T>> for InputFault {
+    ghost from_gives = { λ _ fault. fault ≡ Input PlayFault.OutOfMemory };
+
     fn from(_failed: AllocFailed<T>) -> InputFault {
         InputFault::Input(PlayFault::OutOfMemory)
     }

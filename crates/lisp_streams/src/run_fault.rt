@@ -1,7 +1,9 @@
 //! Why a program on sockets and files ends before its end.
 
 ghost use Rattle.std.specs.Prelude.{◌≡◌};
-ghost use Rattle.lisp_streams.specs.RunFault.{is_failure, run_status, run_line};
+ghost use Rattle.lisp_etr.specs.Faults.{start_fault_number};
+ghost use Rattle.lisp_schedules.specs.Faults.{world_fault_number};
+ghost use Rattle.lisp_streams.specs.RunFault.{is_failure, run_status, run_line, numbered, from_play, from_input};
 
 use crate::input_fault::InputFault;
 use crate::play_fault::PlayFault;
@@ -75,7 +77,14 @@ fn is_failure(number: u16) -> bool
     FAILURES.iter().any(|failure| *failure == number)
 }
 
+const _: () = prove!(RunFault::BIND.number == 92 && RunFault::BIND.line == 0);
+const _: () = prove!(RunFault::FILE.number == 93 && RunFault::FILE.line == 0);
+const _: () = prove!(RunFault::WRITE.number == 88 && RunFault::WRITE.line == 0);
+const _: () = prove!(RunFault::MEMORY.number == 97 && RunFault::MEMORY.line == 0);
+
 impl From<PlayFault> for RunFault {
+    ghost from_gives = { λ fault run. run ≡ from_play fault };
+
     fn from(fault: PlayFault) -> RunFault {
         RunFault {
             number: fault.number(),
@@ -85,6 +94,8 @@ impl From<PlayFault> for RunFault {
 }
 
 impl From<InputFault> for RunFault {
+    ghost from_gives = { λ fault run. run ≡ from_input fault };
+
     fn from(fault: InputFault) -> RunFault {
         match fault {
             InputFault::File => RunFault::FILE,
@@ -95,6 +106,8 @@ impl From<InputFault> for RunFault {
 }
 
 impl From<WorldFault> for RunFault {
+    ghost from_gives = { λ fault run. run ≡ numbered (world_fault_number fault) };
+
     fn from(fault: WorldFault) -> RunFault {
         RunFault {
             number: fault.number(),
@@ -104,6 +117,8 @@ impl From<WorldFault> for RunFault {
 }
 
 impl From<StartFault> for RunFault {
+    ghost from_gives = { λ fault run. run ≡ numbered (start_fault_number fault) };
+
     fn from(fault: StartFault) -> RunFault {
         RunFault {
             number: fault.number(),
@@ -113,12 +128,16 @@ impl From<StartFault> for RunFault {
 }
 
 impl From<AllocError> for RunFault {
+    ghost from_gives = { λ _ run. run ≡ numbered 97 };
+
     fn from(_error: AllocError) -> RunFault {
         RunFault::MEMORY
     }
 }
 
 impl<T: Drop> From<AllocFailed<T>> for RunFault {
+    ghost from_gives = { λ _ run. run ≡ numbered 97 };
+
     fn from(_failed: AllocFailed<T>) -> RunFault {
         RunFault::MEMORY
     }

@@ -14,14 +14,15 @@ use std::str;
 
 /// The configuration and the commands of an input, a schedule. `heap` serves the reading of TOML alone.
 ///
-/// Faults, in this order: `NotUtf8`, `NoScript` where no line is `---`, `Config` and `Script`.
+/// Faults, in this order: `NotUtf8`, `NoScript` where no line is `---`, `Config` and `Script`. Memory runs out inside the last
+/// two alone: for the configuration, or in a line of the script, which is named.
 pub fn read_schedule<A: Memory + Copy>(
     heap: Global,
     alloc: A,
     input: &[u8],
 ) -> Result<(Config<A>, Vec<Command<A>, A>), PlayFault>
     ensures schedule { IfOk result (λ s. schedule_of input.now ≡ Ok (s.0, map order s.1.items)) }
-    ensures faults { IfErr result (λ fault. IsFaulty input.now fault) }
+    ensures faults { IfErr result (λ fault. IsFaulty A.may_refuse input.now fault) }
 {
     let Ok(text) = str::from_utf8(input) else {
         return Err(PlayFault::NotUtf8);

@@ -2,7 +2,7 @@ use Rattle.std.proofs.Common.{ap, sym, map, ◌∙◌}
 use Rattle.std.proofs.lemmas.Result.{err_from_is_err_and}
 use Rattle.lisp_script.specs.Order.{order}
 use Rattle.lisp_streams.specs.Parts.{parted}
-use Rattle.lisp_streams.proofs.Scheduled.{no_text, no_parts, no_configuration, no_script, a_schedule, fails_so}
+use Rattle.lisp_streams.proofs.Scheduled.{no_text, no_parts, no_configuration, no_script, a_schedule}
 use Rattle.lisp_streams.proofs.schedule.read_schedule.Goals as goal
 
 pub returns-in_default-clause-faults : goal.returns-in_default-clause-faults
@@ -15,13 +15,15 @@ pub returns-in_err-config-clause-faults : goal.returns-in_err-config-clause-faul
 returns-in_err-config-clause-faults g c =
     let p = err_from_is_err_and c.from_residual.result c.from_residual.ensures.1 in
     let parts = ap parted (sym c.in-Ok.ensures.cases.0) ∙ sym c.in-Some.ensures in
-    rw (p.1, p.2) (λ other. no_configuration c.args.input.now c.in-Ok.ensures.cases.1 c.in-Some.configuration.now c.in-Some.script.now parts c.in_err-config.field-0.0 (fails_so c.in_err-config.field-0.0 _ c.in_err-config.ensures other))
+    rw (p.1, p.2) (no_configuration c.args.input.now c.in-Ok.ensures.cases.1 c.in-Some.configuration.now c.in-Some.script.now parts c.in_err-config.field-0.0 c.in_err-config.ensures)
 
 pub returns-in_err-commands-clause-faults : goal.returns-in_err-commands-clause-faults
 returns-in_err-commands-clause-faults g c =
     let p = err_from_is_err_and c.from_residual-in_err-commands.result c.from_residual-in_err-commands.ensures.1 in
     let parts = ap parted (sym c.in-Ok.ensures.cases.0) ∙ sym c.in-Some.ensures in
-    rw (p.1, p.2) (λ other. no_script c.args.input.now c.in-Ok.ensures.cases.1 c.in-Some.configuration.now c.in-Some.script.now parts c.in_ok-config.config c.in_ok-config.ensures c.in_err-commands.field-0.0 (c.in_err-commands.ensures.fault other))
+    let script = c.in_err-commands.ensures in
+    let why = c.in_err-commands.field-0.0 in
+    rw (p.1, p.2) (no_script c.args.input.now c.in-Ok.ensures.cases.1 c.in-Some.configuration.now c.in-Some.script.now parts c.in_ok-config.config c.in_ok-config.ensures g.A.Memory.may_refuse why.line why.what script.fault script.memory script.reached)
 
 pub returns-clause-schedule : goal.returns-clause-schedule
 returns-clause-schedule g c =
