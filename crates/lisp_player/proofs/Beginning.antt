@@ -84,8 +84,9 @@ all_empty : (n : ℕ) (stores : List StoreState) → AllCalm stores → lists_of
 all_empty n [] calm kept faults = tt
 all_empty zero (s ∷ stores) calm kept faults = absurd cc
 all_empty (suc n) (s ∷ stores) calm kept faults = (
-    record { kept = same_head kept; faults = same_head faults; obedient = (calm 0 s refl).obedient },
-    all_empty n stores (λ k. calm (suc k)) (same_tail kept) (same_tail faults))
+  record { kept = same_head kept; faults = same_head faults; obedient = (calm 0 s refl).obedient },
+  all_empty n stores (λ k. calm (suc k)) (same_tail kept) (same_tail faults),
+)
 
 -- a network over them begins
 pub begins : (c : Configuration) (w : WorldState) (n : ℕ) (stores : List Memory) → stores ≡ replicate n fresh

@@ -15,7 +15,7 @@ pub returns-in_err-new-clause-memory : goal.returns-in_err-new-clause-memory
 returns-in_err-new-clause-memory g c = world_no_memory _ _ c.from_residual-in_err-new.ensures.1
 
 pub returns-in_err-new-clause-faults : goal.returns-in_err-new-clause-faults
-returns-in_err-new-clause-faults g c = 
+returns-in_err-new-clause-faults g c =
     let twice = c.in_err-new.ensures.repeated in
     world_ends _ g.A.Memory.may_refuse c.args.config.now _ c.from_residual-in_err-new.ensures.1
     (cannot_begin g.A.Memory.may_refuse c.args.config.now _ c.in_ok-stores.stores.items c.in_ok-stores.ensures.empty _ c.in_err-new.ensures.calm_faults (λ same. twice.0 (ap Err same)) (λ so. same_fault (twice.1 so)))
