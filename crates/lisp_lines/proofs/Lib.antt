@@ -1,3 +1,4 @@
 pub mod Appends
+pub mod Fronts
 pub mod Parts
 pub mod Places

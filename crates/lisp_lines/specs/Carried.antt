@@ -25,8 +25,11 @@ abbrev pub store_words : StoreFault → List ℕ
 store_words fault = carried (codes "store") (store_fault_number fault)
 
 -- the fault of a message; for a record its place and fault too
+abbrev pub record_words : ℕ → ℕ → ℕ → List ℕ
+record_words read place fault = carried (codes "read") read ++ carried (codes "record") place ++ carried (codes "fault") fault
+
 abbrev pub read_words : ReadFault → List ℕ
-read_words (reads.Record i f) = carried (codes "read") (read_fault_number (reads.Record i f)) ++ carried (codes "record") i ++ carried (codes "fault") (record_fault_number f)
+read_words (reads.Record i f) = record_words (read_fault_number (reads.Record i f)) i (record_fault_number f)
 read_words fault = carried (codes "read") (read_fault_number fault)
 
 abbrev pub refused_words : Refused → List ℕ

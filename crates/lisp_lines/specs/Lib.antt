@@ -1,5 +1,6 @@
 pub mod Name
 pub mod Carried
+pub mod Front
 pub mod Line
 pub mod Parts
 pub mod Query

@@ -2,10 +2,12 @@
 
 ghost use Rattle.std.specs.Prelude.{◌≡◌, ◌++◌, OnOk, OnErr};
 ghost use Rattle.std.specs.String.{string_bytes};
-ghost use Rattle.lisp_lines.specs.Carried.{carried, read_words, carried_words};
+ghost use Rattle.lisp_lines.specs.Carried.{record_words, read_words, carried_words};
+ghost use Rattle.lisp_lines.specs.Front.{LeavesFront};
 
+use crate::append::put_number;
 use lisp_etr::{NotifyFault, SendFault, StartFault};
-use lisp_memory::{FallibleString, Memory};
+use lisp_memory::Memory;
 use lisp_messages::ReadFault;
 use lisp_schedules::Refusal;
 use lisp_server::{NoticeFault, Refused};
@@ -13,52 +15,57 @@ use std::alloc::AllocError;
 
 /// Appends what a refusal carries: ` read F`, for a record with ` record I fault F` behind it; ` record I` for
 /// `NotAllowed`; ` store F`; ` saved N` for `Replay`; ` latest N` for `Stale`; nothing for any other. Out of memory, it
-/// may leave a part of it.
+/// leaves a front of it.
 pub fn put_carried<A: Memory>(text: &mut String<A>, refusal: &Refusal) -> Result<(), AllocError>
     ensures text { OnOk result (string_bytes text.new ≡ string_bytes text.old ++ carried_words refusal.now) }
+    ensures front { OnErr result (LeavesFront (string_bytes text.old) (string_bytes text.new) (carried_words refusal.now)) }
     ensures memory { OnErr result A.may_refuse }
 {
     match refusal {
         Refusal::Notify(NotifyFault::Read(fault)) | Refusal::Receive(Refused::Read(fault)) => {
             put_read(text, fault)
         }
-        Refusal::Notify(NotifyFault::Stale { latest }) => put_number(text, "latest", *latest),
-        Refusal::Receive(Refused::NotAllowed(place)) => put_number(text, "record", *place as u64),
-        Refusal::Receive(Refused::Replay { saved }) => put_number(text, "saved", *saved),
+        Refusal::Notify(NotifyFault::Stale { latest }) => put_number(text, " latest ", *latest),
+        Refusal::Receive(Refused::NotAllowed(place)) => put_number(text, " record ", *place as u64),
+        Refusal::Receive(Refused::Replay { saved }) => put_number(text, " saved ", *saved),
         Refusal::Receive(Refused::StoreLoad(fault) | Refused::StoreSave(fault))
         | Refusal::Send(SendFault::Store(fault))
         | Refusal::Notice(NoticeFault::StoreLoad(fault) | NoticeFault::StoreSave(fault))
         | Refusal::Start(StartFault::Store(fault)) => {
-            put_number(text, "store", u64::from(fault.number()))
+            put_number(text, " store ", u64::from(fault.number()))
         }
         _ => Ok(()),
     }
 }
 
-// Appends the fault of a message, with the place and the fault of its record where it has one. Out of memory, it may
-// leave a part of it.
+// Appends the fault of a message, with the place and the fault of its record where it has one.
 fn put_read<A: Memory>(text: &mut String<A>, fault: &ReadFault) -> Result<(), AllocError>
     ensures text { OnOk result (string_bytes text.new ≡ string_bytes text.old ++ read_words fault.now) }
+    ensures front { OnErr result (LeavesFront (string_bytes text.old) (string_bytes text.new) (read_words fault.now)) }
     ensures memory { OnErr result A.may_refuse }
 {
-    let read = fault.number();
+    let read = u64::from(fault.number());
     match fault {
         ReadFault::Record(place, fault) => {
-            let fault = fault.number();
-            text.try_write(format_args!(" read {read} record {place} fault {fault}"))
+            put_record(text, read, *place as u64, u64::from(fault.number()))
         }
-        _ => put_number(text, "read", u64::from(read)),
+        _ => put_number(text, " read ", read),
     }
 }
 
-/// Appends a number, behind what it is. Out of memory, it may leave a part of it.
-pub(crate) fn put_number<A: Memory>(
+// Appends the fault of a message at a record, the place and the fault of that.
+#[tactic(auto, using(crate::proofs::Appends::steps))]
+fn put_record<A: Memory>(
     text: &mut String<A>,
-    what: &str,
-    number: u64,
+    read: u64,
+    place: u64,
+    fault: u64,
 ) -> Result<(), AllocError>
-    ensures text { OnOk result (string_bytes text.new ≡ string_bytes text.old ++ carried what.now number) }
+    ensures text { OnOk result (string_bytes text.new ≡ string_bytes text.old ++ record_words read place fault) }
+    ensures front { OnErr result (LeavesFront (string_bytes text.old) (string_bytes text.new) (record_words read place fault)) }
     ensures memory { OnErr result A.may_refuse }
 {
-    text.try_write(format_args!(" {what} {number}"))
+    put_number(text, " read ", read)?;
+    put_number(text, " record ", place)?;
+    put_number(text, " fault ", fault)
 }

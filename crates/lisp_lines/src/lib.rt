@@ -1,6 +1,7 @@
 //! The text of each line that an event or a query of a schedule prints.
 #![tactic(auto)]
 
+mod append;
 mod carried;
 mod line;
 mod name;

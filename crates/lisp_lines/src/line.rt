@@ -2,10 +2,12 @@
 
 ghost use Rattle.std.specs.Prelude.{◌≡◌, ◌++◌, codes, IfOk, OnOk, OnErr};
 ghost use Rattle.std.specs.String.{string_bytes};
+ghost use Rattle.lisp_lines.specs.Front.{LeavesFront};
 ghost use Rattle.lisp_lines.specs.Line.{pair_text, keyed_text, datagram_text, line_words, line_text};
 ghost use Rattle.lisp_lines.specs.Parts.{verb, nodes_text, refusal_text, details_text, datagram_of};
 
-use crate::carried::{put_carried, put_number};
+use crate::append::put_number;
+use crate::carried::put_carried;
 use crate::name::{node_name, router_name};
 use lisp_memory::{FallibleString, Memory};
 use lisp_schedules::{Line, Refusal};
@@ -45,7 +47,7 @@ fn put_line<A: Memory, E: Allocator>(
     put_nodes(text, config, line)?;
     put_details(text, line)?;
     match datagram(line) {
-        Some(datagram) if place => put_number(text, "datagram", datagram as u64),
+        Some(datagram) if place => put_number(text, " datagram ", datagram as u64),
         _ => Ok(()),
     }
 }
@@ -113,12 +115,14 @@ fn put_details<A: Memory>(text: &mut String<A>, line: &Line) -> Result<(), Alloc
     ensures memory { OnErr result A.may_refuse }
 {
     match line {
-        Line::Changed { records, .. } => put_number(text, "records", *records as u64),
+        Line::Changed { records, .. } => put_number(text, " records ", *records as u64),
         Line::Sent { key, nonce, .. }
         | Line::Accepted { key, nonce, .. }
         | Line::Counted { key, nonce, .. }
         | Line::Notice { key, nonce, .. } => put_keyed(text, *key, *nonce),
-        Line::Done { nonce, .. } | Line::Noticed { nonce, .. } => put_number(text, "nonce", *nonce),
+        Line::Done { nonce, .. } | Line::Noticed { nonce, .. } => put_number(
+            text, " nonce ", *nonce,
+        ),
         Line::Nowhere { datagram } => text.try_write(format_args!(" {datagram}")),
         Line::Ticked { ms, now } => text.try_write(format_args!(" {ms} now {now}")),
         Line::Refused { what, .. } => put_refusal(text, what),
@@ -167,14 +171,17 @@ fn put_pair<A: Memory>(text: &mut String<A>, one: &str, other: &str) -> Result<(
     text.try_write(format_args!(" {one} {other}"))
 }
 
-/// Appends a Key ID and a nonce. Out of memory, it may leave a part of them.
+/// Appends a Key ID and a nonce. Out of memory, it leaves a front of them.
+#[tactic(auto, using(crate::proofs::Appends::steps))]
 pub(crate) fn put_keyed<A: Memory>(
     text: &mut String<A>,
     key: u8,
     nonce: u64,
 ) -> Result<(), AllocError>
     ensures text { OnOk result (string_bytes text.new ≡ string_bytes text.old ++ keyed_text key nonce) }
+    ensures front { OnErr result (LeavesFront (string_bytes text.old) (string_bytes text.new) (keyed_text key nonce)) }
     ensures memory { OnErr result A.may_refuse }
 {
-    text.try_write(format_args!(" key {key} nonce {nonce}"))
+    put_number(text, " key ", u64::from(key))?;
+    put_number(text, " nonce ", nonce)
 }

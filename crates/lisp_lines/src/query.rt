@@ -3,10 +3,12 @@
 ghost use Rattle.std.specs.Prelude.{◌≡◌, ◌++◌, ◌∷◌, [], codes, IfOk, OnOk, OnErr};
 ghost use Rattle.std.specs.Fmt.{decimal};
 ghost use Rattle.std.specs.String.{string_bytes};
+ghost use Rattle.lisp_lines.specs.Front.{LeavesFront};
 ghost use Rattle.lisp_lines.specs.Query.{row_text, hold_text, counted_words, ack_text, answer_words, ask_text, due_text, due_server, due_router};
 ghost use Rattle.lisp_lines.specs.Line.{pair_text};
 ghost use Rattle.lisp_texts.specs.Written.{addr_text};
 
+use crate::append::put_words;
 use crate::line::put_keyed;
 use crate::name::{node_name, router_name};
 use lisp_lookup::Answer;
@@ -63,8 +65,8 @@ fn put_row<A: Memory + Copy, E: Allocator, F: Allocator>(
     text.try_write(format_args!("row {router} {record} key {key} nonce {nonce} age {age}\n"))
 }
 
-/// Appends the line of what a router counted last from a Map-Server: its Key ID and nonce. Out of memory, it may leave a
-/// part of it.
+/// Appends the line of what a router counted last from a Map-Server: its Key ID and nonce. Out of memory, it leaves a
+/// front of it.
 pub fn put_ack<A: Memory, E: Allocator>(
     text: &mut String<A>,
     config: &Config<E>,
@@ -73,25 +75,40 @@ pub fn put_ack<A: Memory, E: Allocator>(
     counted: Option<(u8, u64)>,
 ) -> Result<(), AllocError>
     ensures text { OnOk result (string_bytes text.new ≡ string_bytes text.old ++ ack_text config.now router server counted) }
+    ensures front { OnErr result (LeavesFront (string_bytes text.old) (string_bytes text.new) (ack_text config.now router server counted)) }
     ensures memory { OnErr result A.may_refuse }
 {
     let (router, server) = (node_name(config, router), node_name(config, server));
-    text.try_write(format_args!("acks {router} {server}"))?;
+    put_words(text, "acks ")?;
+    put_pair(text, router, server)?;
     put_counted(text, counted)?;
-    text.try_push('\n')
+    put_words(text, "\n")
 }
 
-// Appends a Key ID and a nonce that were counted, or that there are none. Out of memory, it may leave a part of it.
+// Appends the names of two nodes.
+#[tactic(auto, using(crate::proofs::Appends::steps))]
+fn put_pair<A: Memory>(text: &mut String<A>, one: &str, other: &str) -> Result<(), AllocError>
+    ensures text { OnOk result (string_bytes text.new ≡ string_bytes text.old ++ pair_text one.now other.now) }
+    ensures front { OnErr result (LeavesFront (string_bytes text.old) (string_bytes text.new) (pair_text one.now other.now)) }
+    ensures memory { OnErr result A.may_refuse }
+{
+    put_words(text, one)?;
+    put_words(text, " ")?;
+    put_words(text, other)
+}
+
+// Appends a Key ID and a nonce that were counted, or that there are none.
 fn put_counted<A: Memory>(
     text: &mut String<A>,
     counted: Option<(u8, u64)>,
 ) -> Result<(), AllocError>
     ensures text { OnOk result (string_bytes text.new ≡ string_bytes text.old ++ counted_words counted) }
+    ensures front { OnErr result (LeavesFront (string_bytes text.old) (string_bytes text.new) (counted_words counted)) }
     ensures memory { OnErr result A.may_refuse }
 {
     match counted {
         Some((key, nonce)) => put_keyed(text, key, nonce),
-        None => text.try_write(" none"),
+        None => put_words(text, " none"),
     }
 }
 

@@ -1,4 +1,5 @@
-//! What holds of the format itself: each function's contract is a law, and its body is empty.
+//! What holds of the format itself: each function's contract is a law, and its body is empty, or the constant that the
+//! law is about.
 
 ghost use Rattle.std.specs.Prelude.{◌≡◌, ◌≢◌, ◌↔◌, ℕ, List, [], ◌++◌, map, false, Ok, Err};
 ghost use Rattle.std.specs.declared.cmp.Ordering.TheVariants.{Less};
@@ -7,6 +8,7 @@ ghost use Rattle.std.specs.List.Sorted.{IsPermutation};
 ghost use Rattle.lisp_records.specs.Address.{Block, Covers, Holds, block_cmp};
 ghost use Rattle.lisp_records.specs.Router.{router_cmp};
 ghost use Rattle.lisp_records.specs.Database.{repeats, database_of};
+ghost use Rattle.lisp_records.specs.Moment.{max_moment};
 ghost use Rattle.lisp_records.specs.Record.{Mapping, IsMapping};
 ghost use Rattle.lisp_records.specs.Spelling.{IsBytes, Spells};
 ghost use Rattle.lisp_records.specs.Written.{written};
@@ -17,6 +19,7 @@ ghost use Rattle.lisp_records.specs.declared.router.RouterId.{RouterId};
 
 use crate::prefix::Prefix;
 use crate::router::RouterId;
+use crate::row::MAX_MOMENT;
 
 /// Bytes spell at most one record.
 pub fn one_record()
@@ -78,3 +81,10 @@ pub fn any_order()
 pub fn one_rising_order()
     ensures { (one other : List Mapping) → IsPermutation one other → AllPairs (λ a b. block_cmp a.eid b.eid ≡ Less) one → AllPairs (λ a b. block_cmp a.eid b.eid ≡ Less) other → one ≡ other }
 {}
+
+/// `MAX_MOMENT` is 2^62 ms.
+pub const fn last_moment() -> u64
+    ensures { result ≡ max_moment }
+{
+    MAX_MOMENT
+}

@@ -6,7 +6,7 @@ use Rattle.lisp_sites.specs.declared.field.Field.TheVariants as fields
 use Rattle.lisp_served.specs.Site.{SiteEntry}
 use Rattle.lisp_served.specs.Configuration.{Server, Router, Configuration, IsRouter, IsConfiguration}
 use Rattle.lisp_sites.specs.Table.{items, each, sites_of, servers_of, router_at, routers_of}
-use Rattle.lisp_sites.proofs.Readings.{bind_ok}
+use Rattle.lisp_sites.proofs.Readings.{bind_told}
 use Rattle.lisp_sites.proofs.SiteLaws.{sites_apart}
 use Rattle.lisp_sites.proofs.NodeLaws.{servers_named, one_router}
 use Rattle.lisp_sites.proofs.Names.{each_named}
@@ -16,6 +16,6 @@ is_configuration d sites servers routers at_sites at_servers at_routers =
     let c : Configuration = record { sites = sites; servers = servers; routers = routers } in
     let each_site = sites_apart d sites at_sites in
     let each_server = servers_named d servers at_servers in
-    let entries = bind_ok (items fields.Router (codes "router") d) (each (router_at sites servers) []) routers at_routers in
-    let each_router = each_named (IsRouter c) (λ r. r.name) (map (λ s. s.name) servers) (router_at sites servers) (one_router c) each_server.names entries.0 routers entries.2 in
+    let entries = bind_told (items fields.Router (codes "router") d) (each fields.Router (router_at sites servers) [] 1) routers at_routers in
+    let each_router = each_named (IsRouter c) (λ r. r.name) (map (λ s. s.name) servers) fields.Router (router_at sites servers) (one_router c) each_server.names entries.0 routers entries.2 in
     record { sites = each_site.kind; site_ids = each_site.apart; servers = each_server.kind; routers = each_router.kind; names = each_router.names }

@@ -14,3 +14,4 @@ pub mod Readings
 pub mod RouterParts
 pub mod SiteLaws
 pub mod TextFits
+pub mod Told

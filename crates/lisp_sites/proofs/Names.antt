@@ -6,7 +6,8 @@ use Rattle.std.proofs.lemmas.List.{map-append}
 use Rattle.std.proofs.lemmas.List.Quantifiers.{all_pairs_push}
 use Rattle.std.proofs.lemmas.Slice.Eq.{bytes_eq-Decides}
 use Rattle.toml.specs.Data.{Data, Items}
-use Rattle.lisp_sites.specs.declared.fault.ConfigFault.{ConfigFault}
+use Rattle.lisp_sites.specs.declared.field.Field.{Field}
+use Rattle.lisp_sites.specs.declared.place.PlacedFault.{PlacedFault}
 use Rattle.lisp_sites.specs.Table.{each}
 use Rattle.lisp_sites.proofs.Readings.{none_like, each_keeps, all_push}
 
@@ -36,7 +37,7 @@ module _ {X : Type 0} (Kind : X → Type 0) (name : X → List ℕ) (others : Li
       }
 
   -- nodes that are read so
-  pub each_named : (read : List X → Data → Result X ConfigFault) → ((before : List X) (d : Data) (x : X) → read before d ≡ Ok x → TakesName Kind name others before x) → AllPairs (λ a b. a ≢ b) others → (ds : Items) (xs : List X) → each read [] ds ≡ Ok xs → AreNamed Kind name others xs
-  each_named read one apart ds xs e =
-      each_keeps (AreNamed Kind name others) read (λ before d x reads so_far. named_push before x so_far (one before d x reads)) ds [] xs e
+  pub each_named : (array : Field) (read : List X → Data → Result X PlacedFault) → ((before : List X) (d : Data) (x : X) → read before d ≡ Ok x → TakesName Kind name others before x) → AllPairs (λ a b. a ≢ b) others → (ds : Items) (xs : List X) → each array read [] 1 ds ≡ Ok xs → AreNamed Kind name others xs
+  each_named array read one apart ds xs e =
+      each_keeps (AreNamed Kind name others) array read (λ before d x reads so_far. named_push before x so_far (one before d x reads)) ds [] xs 1 e
       (record { kind = tt; names = subst (AllPairs (λ a b. a ≢ b)) (sym (append-nil others)) apart })

@@ -13,8 +13,8 @@ use Rattle.lisp_served.specs.Site.{SiteEntry}
 use Rattle.lisp_served.specs.Configuration.{Server, Router, Configuration, IsServer, IsRouter}
 use Rattle.lisp_served.specs.Configuration.{is_name}
 use Rattle.lisp_sites.specs.Form.{name_of, text_as}
-use Rattle.lisp_sites.specs.Table.{required, items, as_entry, each, has_server, fresh_server_name, server_at, servers_of, has_router, fresh_router_name, router_node, router_identity, places_of, router_flags, router_nonce_block, database_at, router_at}
-use Rattle.lisp_sites.proofs.Readings.{same_ok, bind_ok, required_text-Ok, fresh-Ok}
+use Rattle.lisp_sites.specs.Table.{required, items, as_entry, each, flat, has_server, fresh_server_name, server_at, servers_of, has_router, fresh_router_name, router_node, router_identity, places_of, router_flags, router_nonce_block, database_at, router_at}
+use Rattle.lisp_sites.proofs.Readings.{same_ok, bind_ok, bind_told, one_flat, required_text-Ok, fresh-Ok}
 use Rattle.lisp_sites.proofs.Forms.{name_fits}
 use Rattle.lisp_sites.proofs.TextFits.{address_fits}
 use Rattle.lisp_sites.proofs.Names.{list_any-map, AreNamed, TakesName, each_named}
@@ -38,8 +38,12 @@ one_server before d s e =
 
 pub servers_named : (d : Data) (servers : List Server) → servers_of d ≡ Ok servers → AreNamed IsServer (λ s. s.name) [] servers
 servers_named d servers e =
-    let entries = bind_ok (items fields.Server (codes "server") d) (each server_at []) servers e in
-    each_named IsServer (λ s. s.name) [] server_at one_server (λ i j d lt within. absurd (omega arith)) entries.0 servers entries.2
+    let entries = bind_told (items fields.Server (codes "server") d) (each fields.Server (flat server_at) [] 1) servers e in
+    each_named IsServer (λ s. s.name) [] fields.Server (flat server_at) (one_flat server_at one_server) (λ i j d lt within. absurd (omega arith)) entries.0 servers entries.2
+
+-- no server before has the name of one that is read
+pub server_is_new : (before : List Server) (d : Data) (s : Server) → server_at before d ≡ Ok s → list_any (λ x. bytes_eq x.name s.name) before ≡ false
+server_is_new before d s e = sym (list_any-map (λ n. bytes_eq n s.name) (λ x. x.name) before) ∙ (one_server before d s e).new
 
 -- ---- routers
 
@@ -68,11 +72,11 @@ module _ (c : Configuration) where
   pub one_router : (before : List Router) (d : Data) (r : Router) → router_at c.sites c.servers before d ≡ Ok r → TakesName (IsRouter c) (λ r. r.name) (map (λ s. s.name) c.servers) before r
   unfolding router_at
   one_router before d r e =
-      let node = bind_ok (router_node c.servers before d) _ r e in
-      let identity = bind_ok (router_identity c.sites d) _ r node.2 in
+      let node = bind_told (router_node c.servers before d) _ r e in
+      let identity = bind_told (router_identity c.sites d) _ r node.2 in
       let places = bind_ok (places_of c.servers d) _ r identity.2 in
-      let flags = bind_ok (router_flags d) _ r places.2 in
-      let block = bind_ok (router_nonce_block d) _ r flags.2 in
+      let flags = bind_told (router_flags d) _ r places.2 in
+      let block = bind_told (router_nonce_block d) _ r flags.2 in
       let database = bind_ok (database_at d) _ r block.2 in
       let named = is_node c.servers before d node.0 node.1 in
       let known = is_identity c.sites d identity.0 identity.1 in

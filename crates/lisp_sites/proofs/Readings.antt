@@ -1,5 +1,5 @@
 -- What is known of a value that was read.
-use Rattle.std.proofs.Common.{◌≡◌, ℕ, Bool, true, false, ◌<◌, List, [], ◌∷◌, ◌++◌, length, get_or, Option, Some, None, Result, Ok, Err, refl, sym, ap, subst, ◌∙◌, true≢false, arith}
+use Rattle.std.proofs.Common.{◌≡◌, ℕ, ◌+◌, Bool, true, false, ◌<◌, List, [], ◌∷◌, ◌++◌, length, get_or, Option, Some, None, Result, Ok, Err, refl, sym, ap, subst, ◌∙◌, true≢false, arith}
 use Rattle.std.specs.Prelude.{IfOk, ok_or, option_and_then}
 use Rattle.std.specs.List.{AllByRecursion, AllPairs, list_any}
 use Rattle.std.specs.Result.{result_ok}
@@ -11,9 +11,10 @@ use Rattle.lisp_texts.proofs.Options.{bind_some}
 use Rattle.lisp_sites.specs.declared.field.Field.{Field}
 use Rattle.lisp_sites.specs.declared.fault.ConfigFault.{ConfigFault}
 use Rattle.lisp_sites.specs.declared.fault.ConfigFault.TheVariants.{Missing, BadValue, Repeated}
+use Rattle.lisp_sites.specs.declared.place.PlacedFault.{PlacedFault}
 use Rattle.lisp_sites.specs.Form.{text_as}
 use Rattle.lisp_records.specs.Result.{◌>>=◌}
-use Rattle.lisp_sites.specs.Table.{required_at, required, fresh, each}
+use Rattle.lisp_sites.specs.Table.{required_at, required, fresh, nowhere, told, within, in_entry, each, flat}
 
 -- ---- one value
 
@@ -25,9 +26,21 @@ pub same_ok : {X E : Type 0} (x y : X) → ◌≡◌ {A = Result X E} (Ok x) (Ok
 same_ok {X} {E} x y e = subst (λ (r : Result X E). IfOk r (λ z. x ≡ z)) e refl
 
 -- the value of a step that was taken
-pub bind_ok : {A B : Type 0} (r : Result A ConfigFault) (f : A → Result B ConfigFault) (y : B) → (r >>= f) ≡ Ok y → (x : A) × (r ≡ Ok x) × (f x ≡ Ok y)
+pub bind_ok : {A B E : Type 0} (r : Result A E) (f : A → Result B E) (y : B) → (r >>= f) ≡ Ok y → (x : A) × (r ≡ Ok x) × (f x ≡ Ok y)
 bind_ok (Ok x) f y e = (x, refl, e)
 bind_ok (Err w) f y e = absurd (not_ok w y e)
+
+-- the same where its fault is told without an entry, or with one
+pub told-Ok : {X : Type 0} (r : Result X ConfigFault) (x : X) → told r ≡ Ok x → r ≡ Ok x
+told-Ok (Ok y) x e = ap Ok (same_ok y x e)
+told-Ok (Err w) x e = absurd (not_ok (record { fault = w; place = nowhere }) x e)
+
+in_entry-Ok : {X : Type 0} (array : Field) (number : ℕ) (r : Result X PlacedFault) (x : X) → in_entry array number r ≡ Ok x → r ≡ Ok x
+in_entry-Ok array number (Ok y) x e = ap Ok (same_ok y x e)
+in_entry-Ok array number (Err f) x e = absurd (not_ok (within array number f) x e)
+
+pub bind_told : {A B : Type 0} (r : Result A ConfigFault) (f : A → Result B PlacedFault) (y : B) → (told r >>= f) ≡ Ok y → (x : A) × (r ≡ Ok x) × (f x ≡ Ok y)
+bind_told r f y e = let x = bind_ok (told r) f y e in (x.0, told-Ok r x.0 x.1, x.2)
 
 pub ok_or-Ok : {X : Type 0} (o : Option X) (w : ConfigFault) (x : X) → ok_or o w ≡ Ok x → o ≡ Some x
 ok_or-Ok (Some y) w x e = ap Some (same_ok y x e)
@@ -74,16 +87,20 @@ none_like test Like passes xs none k d lt like = true≢false (sym (list_any_at 
 -- ---- the entries of an array
 
 -- what goes on from the entries before one to that one too holds of all
-pub each_keeps : {X : Type 0} (P : List X → Type 0) (read : List X → Data → Result X ConfigFault) → ((before : List X) (d : Data) (x : X) → read before d ≡ Ok x → P before → P (before ++ x ∷ [])) → (ds : Items) (before xs : List X) → each read before ds ≡ Ok xs → P before → P xs
+pub each_keeps : {X : Type 0} (P : List X → Type 0) (array : Field) (read : List X → Data → Result X PlacedFault) → ((before : List X) (d : Data) (x : X) → read before d ≡ Ok x → P before → P (before ++ x ∷ [])) → (ds : Items) (before xs : List X) (number : ℕ) → each array read before number ds ≡ Ok xs → P before → P xs
 unfolding each
-each_keeps P read next no_items before xs e so_far = subst P (same_ok before xs e) so_far
-each_keeps P read next (item d ds) before xs e so_far =
-    let x = bind_ok (read before d) _ xs e in
-    each_keeps P read next ds (before ++ x.0 ∷ []) xs x.2 (next before d x.0 x.1 so_far)
+each_keeps P array read next no_items before xs number e so_far = subst P (same_ok before xs e) so_far
+each_keeps P array read next (item d ds) before xs number e so_far =
+    let x = bind_ok (in_entry array number (read before d)) _ xs e in
+    each_keeps P array read next ds (before ++ x.0 ∷ []) xs (number + 1) x.2 (next before d x.0 (in_entry-Ok array number (read before d) x.0 x.1) so_far)
 
 pub all_push : {X : Type 0} (Kind : X → Type 0) (xs : List X) (x : X) → AllByRecursion Kind xs → Kind x → AllByRecursion Kind (xs ++ x ∷ [])
 all_push Kind [] x all one = (one, tt)
 all_push Kind (y ∷ ys) x all one = (all.0, all_push Kind ys x all.1 one)
+
+-- what is known of an entry is known of it where it has no entries of its own
+pub one_flat : {X : Type 0} {Known : List X → X → Type 0} (read : List X → Data → Result X ConfigFault) → ((before : List X) (d : Data) (x : X) → read before d ≡ Ok x → Known before x) → (before : List X) (d : Data) (x : X) → flat read before d ≡ Ok x → Known before x
+one_flat read one before d x e = one before d x (told-Ok (read before d) x e)
 
 -- entries of a kind, each two of them apart
 pub record AreApart {X : Type 0} (Kind : X → Type 0) (Apart : X → X → Type 0) (xs : List X) : Type 0 where
@@ -96,8 +113,8 @@ pub record Joins {X : Type 0} (Kind : X → Type 0) (Apart : X → X → Type 0)
   pub apart : (k : ℕ) (d : X) → k < length before → Apart (get_or before k d) x
 
 -- entries that are read so
-pub each_apart : {X : Type 0} (Kind : X → Type 0) (Apart : X → X → Type 0) (read : List X → Data → Result X ConfigFault) → ((before : List X) (d : Data) (x : X) → read before d ≡ Ok x → Joins Kind Apart before x) → (ds : Items) (xs : List X) → each read [] ds ≡ Ok xs → AreApart Kind Apart xs
-each_apart Kind Apart read one ds xs e =
-    each_keeps (AreApart Kind Apart) read
+pub each_apart : {X : Type 0} (Kind : X → Type 0) (Apart : X → X → Type 0) (array : Field) (read : List X → Data → Result X PlacedFault) → ((before : List X) (d : Data) (x : X) → read before d ≡ Ok x → Joins Kind Apart before x) → (ds : Items) (xs : List X) → each array read [] 1 ds ≡ Ok xs → AreApart Kind Apart xs
+each_apart Kind Apart array read one ds xs e =
+    each_keeps (AreApart Kind Apart) array read
     (λ before d x reads so_far. (let new = one before d x reads in record { kind = all_push Kind before x so_far.kind new.kind; apart = all_pairs_push Apart before x so_far.apart new.apart }))
-    ds [] xs e (record { kind = tt; apart = λ i j d lt within. absurd (omega arith) })
+    ds [] xs 1 e (record { kind = tt; apart = λ i j d lt within. absurd (omega arith) })

@@ -22,8 +22,8 @@ use Rattle.lisp_sites.specs.declared.fault.ConfigFault.TheVariants.{BadValue}
 use Rattle.lisp_served.specs.Site.{SiteEntry, site_of, has_key}
 use Rattle.lisp_served.specs.Configuration.{Server}
 use Rattle.lisp_sites.specs.Form.{text_as, byte_as, nonce_block_as}
-use Rattle.lisp_sites.specs.Table.{required, optional_at, items, each, router_site, router_key, router_identity, server_place, place_of, place_at, places_of, router_nonce_block, record_at, database_at}
-use Rattle.lisp_sites.proofs.Readings.{same_ok, bind_ok, ok_or-Ok, result_ok-Some, and_then-Some, required-Ok, required_text-Ok, fresh-Ok, none_like, each_keeps, all_push, AreApart, Joins, each_apart}
+use Rattle.lisp_sites.specs.Table.{required, optional_at, items, each, flat, router_site, router_key, router_identity, server_place, place_of, place_at, places_of, router_nonce_block, record_at, as_database, database_at}
+use Rattle.lisp_sites.proofs.Readings.{same_ok, bind_ok, bind_told, told-Ok, one_flat, ok_or-Ok, result_ok-Some, and_then-Some, required-Ok, required_text-Ok, fresh-Ok, none_like, each_keeps, all_push, AreApart, Joins, each_apart}
 use Rattle.lisp_sites.proofs.Forms.{byte_fits, nonce_block_fits, xtr_fits}
 use Rattle.lisp_sites.proofs.TextFits.{record_fits}
 
@@ -104,8 +104,8 @@ module _ (servers : List Server) where
 
   pub places_apart : (entry : Data) (places : List ℕ) → places_of servers entry ≡ Ok places → AreApart (λ k. k < length servers) (λ a b. a ≢ b) places
   places_apart entry places e =
-      let found = bind_ok (required fields.RouterServers (codes "servers") as_array entry) (each (place_at servers) []) places e in
-      each_apart (λ k. k < length servers) (λ a b. a ≢ b) (place_at servers) one_place found.0 places found.2
+      let found = bind_told (required fields.RouterServers (codes "servers") as_array entry) (each fields.RouterServers (flat (place_at servers)) [] 1) places e in
+      each_apart (λ k. k < length servers) (λ a b. a ≢ b) fields.RouterServers (flat (place_at servers)) (one_flat (place_at servers) one_place) found.0 places found.2
 
 -- ---- a router's records
 
@@ -131,9 +131,9 @@ pub record IsDatabase (db : List Mapping) : Type 0 where
 pub is_database : (entry : Data) (db : List Mapping) → database_at entry ≡ Ok db → IsDatabase db
 unfolding database_at
 is_database entry db e =
-    let texts = bind_ok (items fields.RouterRecords (codes "records") entry) _ db e in
-    let records = bind_ok (each record_at [] texts.0) _ db texts.2 in
-    let made = result_ok-Some (database_of records.0) db (ok_or-Ok (result_ok (database_of records.0)) (BadValue fields.RouterRecords) db records.2) in
+    let texts = bind_told (items fields.RouterRecords (codes "records") entry) _ db e in
+    let records = bind_ok (each fields.RouterRecords (flat record_at) [] 1 texts.0) _ db texts.2 in
+    let made = result_ok-Some (database_of records.0) db (ok_or-Ok (result_ok (database_of records.0)) (BadValue fields.RouterRecords) db (told-Ok (as_database records.0) db records.2)) in
     let same = database_same records.0 db made in
-    let all = each_keeps (AllByRecursion IsMapping) record_at (λ before d m reads so_far. all_push IsMapping before m so_far (one_record before d m reads)) texts.0 [] records.0 records.1 tt in
+    let all = each_keeps (AllByRecursion IsMapping) fields.RouterRecords (flat record_at) (λ before d m reads so_far. all_push IsMapping before m so_far (one_flat record_at one_record before d m reads)) texts.0 [] records.0 1 records.1 tt in
     record { records = subst (AllByRecursion IsMapping) same all; database = ap database_of (sym same) ∙ made }

@@ -12,8 +12,8 @@ use Rattle.lisp_served.specs.declared.site.SitePrefix.{SitePrefix}
 use Rattle.lisp_served.specs.Site.{KeyEntry, SiteEntry, has_key}
 use Rattle.lisp_served.specs.Configuration.{IsKey, IsSitePrefix, IsSite}
 use Rattle.lisp_sites.specs.Form.{text_as, byte_as}
-use Rattle.lisp_sites.specs.Table.{required, optional, items, as_entry, each, fresh_key_id, key_at, keys_of, has_eid, fresh_eid, prefix_at, prefixes_of, has_site, fresh_site_id, site_at, sites_of}
-use Rattle.lisp_sites.proofs.Readings.{same_ok, bind_ok, required-Ok, required_text-Ok, fresh-Ok, none_like, AreApart, Joins, each_apart}
+use Rattle.lisp_sites.specs.Table.{required, optional, items, as_entry, each, flat, fresh_key_id, key_at, keys_of, has_eid, fresh_eid, prefix_at, prefixes_of, has_site, fresh_site_id, site_at, sites_of}
+use Rattle.lisp_sites.proofs.Readings.{same_ok, bind_ok, bind_told, one_flat, required-Ok, required_text-Ok, fresh-Ok, none_like, AreApart, Joins, each_apart}
 use Rattle.lisp_sites.proofs.Forms.{byte_fits, secret_fits, site_id_fits}
 use Rattle.lisp_sites.proofs.TextFits.{prefix_fits}
 
@@ -34,8 +34,8 @@ one_key before d k e =
 
 keys_apart : (d : Data) (keys : List KeyEntry) → keys_of d ≡ Ok keys → AreApart IsKey (λ a b. a.id ≢ b.id) keys
 keys_apart d keys e =
-    let entries = bind_ok (items fields.SiteKey (codes "key") d) (each key_at []) keys e in
-    each_apart IsKey (λ a b. a.id ≢ b.id) key_at one_key entries.0 keys entries.2
+    let entries = bind_told (items fields.SiteKey (codes "key") d) (each fields.SiteKey (flat key_at) [] 1) keys e in
+    each_apart IsKey (λ a b. a.id ≢ b.id) fields.SiteKey (flat key_at) (one_flat key_at one_key) entries.0 keys entries.2
 
 one_prefix : (before : List SitePrefix) (d : Data) (p : SitePrefix) → prefix_at before d ≡ Ok p → Joins IsSitePrefix (λ a b. a.eid ≢ b.eid) before p
 unfolding prefix_at
@@ -53,14 +53,14 @@ one_prefix before d p e =
 
 prefixes_apart : (d : Data) (prefixes : List SitePrefix) → prefixes_of d ≡ Ok prefixes → AreApart IsSitePrefix (λ a b. a.eid ≢ b.eid) prefixes
 prefixes_apart d prefixes e =
-    let entries = bind_ok (items fields.SitePrefix (codes "prefix") d) (each prefix_at []) prefixes e in
-    each_apart IsSitePrefix (λ a b. a.eid ≢ b.eid) prefix_at one_prefix entries.0 prefixes entries.2
+    let entries = bind_told (items fields.SitePrefix (codes "prefix") d) (each fields.SitePrefix (flat prefix_at) [] 1) prefixes e in
+    each_apart IsSitePrefix (λ a b. a.eid ≢ b.eid) fields.SitePrefix (flat prefix_at) (one_flat prefix_at one_prefix) entries.0 prefixes entries.2
 
 one_site : (before : List SiteEntry) (d : Data) (s : SiteEntry) → site_at before d ≡ Ok s → Joins IsSite (λ a b. a.id ≢ b.id) before s
 unfolding site_at
 one_site before d s e =
-    let entry = bind_ok (as_entry fields.Site d) _ s e in
-    let id = bind_ok (fresh_site_id before entry.0) _ s entry.2 in
+    let entry = bind_told (as_entry fields.Site d) _ s e in
+    let id = bind_told (fresh_site_id before entry.0) _ s entry.2 in
     let keys = bind_ok (keys_of entry.0) _ s id.2 in
     let prefixes = bind_ok (prefixes_of entry.0) _ s keys.2 in
     let new = fresh-Ok fields.SiteId (required fields.SiteId (codes "id") (text_as site_id_of) entry.0) (has_site before) id.0 id.1 in
@@ -74,5 +74,5 @@ one_site before d s e =
 
 pub sites_apart : (d : Data) (sites : List SiteEntry) → sites_of d ≡ Ok sites → AreApart IsSite (λ a b. a.id ≢ b.id) sites
 sites_apart d sites e =
-    let entries = bind_ok (items fields.Site (codes "site") d) (each site_at []) sites e in
-    each_apart IsSite (λ a b. a.id ≢ b.id) site_at one_site entries.0 sites entries.2
+    let entries = bind_told (items fields.Site (codes "site") d) (each fields.Site site_at [] 1) sites e in
+    each_apart IsSite (λ a b. a.id ≢ b.id) fields.Site site_at one_site entries.0 sites entries.2

@@ -1,6 +1,6 @@
 -- The configuration's table: its fields, each with its name, its key, its form and its default, and
 -- the entries that a document has, read in order, or the first fault.
-use Rattle.std.specs.Prelude.{◌≡◌, ℕ, Bool, false, ◌==◌, ◌++◌, ◌||◌, List, [], ◌∷◌, Option, Some, None, Result, Ok, Err, codes, position, is_some, ok_or, option_and_then, if◌then◌else◌}
+use Rattle.std.specs.Prelude.{◌≡◌, ℕ, ◌+◌, Bool, false, ◌==◌, ◌++◌, ◌||◌, List, [], ◌∷◌, Option, Some, None, Result, Ok, Err, codes, position, is_some, ok_or, option_and_then, if◌then◌else◌}
 use Rattle.std.specs.List.{list_any}
 use Rattle.std.specs.Result.{result_ok}
 use Rattle.std.specs.Str.{bytes_eq}
@@ -16,6 +16,7 @@ use Rattle.lisp_texts.specs.Form.{site_id_of, xtr_of, secret_text_of}
 use Rattle.lisp_sites.specs.declared.field.Field.{Field}
 use Rattle.lisp_sites.specs.declared.field.Field.TheVariants as fields
 use Rattle.lisp_sites.specs.declared.fault.ConfigFault.{ConfigFault}
+use Rattle.lisp_sites.specs.declared.place.Place.{Place}
 use Rattle.lisp_sites.specs.declared.place.PlacedFault.{PlacedFault}
 use Rattle.lisp_sites.specs.declared.fault.ConfigFault.TheVariants.{Toml, Missing, BadValue, Repeated, OutOfMemory}
 use Rattle.lisp_served.specs.declared.site.SitePrefix.{SitePrefix}
@@ -52,20 +53,40 @@ fresh name is_taken x = if is_taken then Err (Repeated name) else Ok x
 abbrev pub as_entry : Field → Data → Result Data ConfigFault
 as_entry name d = if is_some (as_table d) then Ok d else Err (BadValue name)
 
--- the items, read one after the other, each knowing those before it
-unfoldable pub each : {X : Type 0} → (List X → Data → Result X ConfigFault) → List X → Items → Result (List X) ConfigFault
-each read before no_items = Ok before
-each read before (item d ds) = do
-  x ← read before d
-  each read (before ++ x ∷ []) ds
+-- a fault that is in no entry, or not known to be in one
+abbrev pub nowhere : Place
+nowhere = record { entry = None; part = None }
+
+abbrev pub told : {X : Type 0} → Result X ConfigFault → Result X PlacedFault
+told (Ok x) = Ok x
+told (Err fault) = Err (record { fault = fault; place = nowhere })
+
+-- a fault in an entry of an array: the entry is its place, and the entry that was its place is the part of it
+abbrev pub within : Field → ℕ → PlacedFault → PlacedFault
+within array number f = record { fault = f.fault; place = record { entry = Some (record { array = array; number = number }); part = f.place.entry } }
+
+abbrev pub in_entry : {X : Type 0} → Field → ℕ → Result X PlacedFault → Result X PlacedFault
+in_entry array number (Ok x) = Ok x
+in_entry array number (Err f) = Err (within array number f)
+
+-- the items of an array from a number on, read one after the other, each knowing those before it
+unfoldable pub each : {X : Type 0} → Field → (List X → Data → Result X PlacedFault) → List X → ℕ → Items → Result (List X) PlacedFault
+each array read before number no_items = Ok before
+each array read before number (item d ds) = do
+  x ← in_entry array number (read before d)
+  each array read (before ++ x ∷ []) (number + 1) ds
 
 -- one more item, behind those before it
-abbrev pub one_more : {X : Type 0} → (List X → Data → Result X ConfigFault) → List X → Data → Result (List X) ConfigFault
+abbrev pub one_more : {X : Type 0} → (List X → Data → Result X PlacedFault) → List X → Data → Result (List X) PlacedFault
 one_more read before d = read before d >>= λ x. Ok (before ++ x ∷ [])
 
 -- the items of an array, none where it is absent, read so
-abbrev pub each_item : {X : Type 0} → Field → List ℕ → (List X → Data → Result X ConfigFault) → List X → Data → Result (List X) ConfigFault
-each_item name key read before d = items name key d >>= each read before
+abbrev pub each_item : {X : Type 0} → Field → List ℕ → (List X → Data → Result X PlacedFault) → List X → Data → Result (List X) PlacedFault
+each_item name key read before d = told (items name key d) >>= each name read before 1
+
+-- an item that has no entries of its own
+abbrev pub flat : {X : Type 0} → (List X → Data → Result X ConfigFault) → List X → Data → Result X PlacedFault
+flat read before d = told (read before d)
 
 -- site.key: id, no two alike in a site; secret
 abbrev pub fresh_key_id : List KeyEntry → Data → Result ℕ ConfigFault
@@ -99,16 +120,16 @@ has_site sites id = list_any (λ s. s.id == id) sites
 abbrev pub fresh_site_id : List SiteEntry → Data → Result ℕ ConfigFault
 fresh_site_id before d = required fields.SiteId (codes "id") (text_as site_id_of) d >>= λ id. fresh fields.SiteId (has_site before id) id
 
-abbrev pub keys_of : Data → Result (List KeyEntry) ConfigFault
-keys_of d = items fields.SiteKey (codes "key") d >>= each key_at []
+abbrev pub keys_of : Data → Result (List KeyEntry) PlacedFault
+keys_of d = each_item fields.SiteKey (codes "key") (flat key_at) [] d
 
-abbrev pub prefixes_of : Data → Result (List SitePrefix) ConfigFault
-prefixes_of d = items fields.SitePrefix (codes "prefix") d >>= each prefix_at []
+abbrev pub prefixes_of : Data → Result (List SitePrefix) PlacedFault
+prefixes_of d = each_item fields.SitePrefix (codes "prefix") (flat prefix_at) [] d
 
-unfoldable pub site_at : List SiteEntry → Data → Result SiteEntry ConfigFault
+unfoldable pub site_at : List SiteEntry → Data → Result SiteEntry PlacedFault
 site_at before d = do
-  entry ← as_entry fields.Site d
-  id ← fresh_site_id before entry
+  entry ← told (as_entry fields.Site d)
+  id ← told (fresh_site_id before entry)
   keys ← keys_of entry
   prefixes ← prefixes_of entry
   Ok (record { id = id; keys = keys; prefixes = prefixes })
@@ -165,8 +186,8 @@ place_of servers d = ok_or (option_and_then (server_place servers) (as_str d)) (
 abbrev pub place_at : List Server → List ℕ → Data → Result ℕ ConfigFault
 place_at servers before d = place_of servers d >>= λ place. fresh fields.RouterServers (list_any (λ p. p == place) before) place
 
-abbrev pub places_of : List Server → Data → Result (List ℕ) ConfigFault
-places_of servers entry = required fields.RouterServers (codes "servers") as_array entry >>= each (place_at servers) []
+abbrev pub places_of : List Server → Data → Result (List ℕ) PlacedFault
+places_of servers entry = told (required fields.RouterServers (codes "servers") as_array entry) >>= each fields.RouterServers (flat (place_at servers)) [] 1
 
 -- proxy, use_ttl
 unfoldable pub router_flags : Data → Result (Bool × Bool) ConfigFault
@@ -186,19 +207,19 @@ record_at before d = ok_or (text_as record_text_of d) (BadValue fields.RouterRec
 abbrev pub as_database : List Mapping → Result (List Mapping) ConfigFault
 as_database records = ok_or (result_ok (database_of records)) (BadValue fields.RouterRecords)
 
-unfoldable pub database_at : Data → Result (List Mapping) ConfigFault
+unfoldable pub database_at : Data → Result (List Mapping) PlacedFault
 database_at entry = do
-  texts ← items fields.RouterRecords (codes "records") entry
-  records ← each record_at [] texts
-  as_database records
+  texts ← told (items fields.RouterRecords (codes "records") entry)
+  records ← each fields.RouterRecords (flat record_at) [] 1 texts
+  told (as_database records)
 
-unfoldable pub router_at : List SiteEntry → List Server → List Router → Data → Result Router ConfigFault
+unfoldable pub router_at : List SiteEntry → List Server → List Router → Data → Result Router PlacedFault
 router_at sites servers before d = do
-  node ← router_node servers before d
-  identity ← router_identity sites d
+  node ← told (router_node servers before d)
+  identity ← told (router_identity sites d)
   places ← places_of servers d
-  flags ← router_flags d
-  nonce_block ← router_nonce_block d
+  flags ← told (router_flags d)
+  nonce_block ← told (router_nonce_block d)
   database ← database_at d
   Ok (record {
     name = node.0;
@@ -213,16 +234,16 @@ router_at sites servers before d = do
   })
 
 -- the whole document: sites, then servers, then routers
-abbrev pub sites_of : Data → Result (List SiteEntry) ConfigFault
-sites_of d = items fields.Site (codes "site") d >>= each site_at []
+abbrev pub sites_of : Data → Result (List SiteEntry) PlacedFault
+sites_of d = each_item fields.Site (codes "site") site_at [] d
 
-abbrev pub servers_of : Data → Result (List Server) ConfigFault
-servers_of d = items fields.Server (codes "server") d >>= each server_at []
+abbrev pub servers_of : Data → Result (List Server) PlacedFault
+servers_of d = each_item fields.Server (codes "server") (flat server_at) [] d
 
-abbrev pub routers_of : List SiteEntry → List Server → Data → Result (List Router) ConfigFault
-routers_of sites servers d = items fields.Router (codes "router") d >>= each (router_at sites servers) []
+abbrev pub routers_of : List SiteEntry → List Server → Data → Result (List Router) PlacedFault
+routers_of sites servers d = each_item fields.Router (codes "router") (router_at sites servers) [] d
 
-unfoldable pub configuration_of : Data → Result Configuration ConfigFault
+unfoldable pub configuration_of : Data → Result Configuration PlacedFault
 configuration_of d = do
   sites ← sites_of d
   servers ← servers_of d
@@ -234,9 +255,17 @@ abbrev pub document_of : Option Members → Result Data ConfigFault
 document_of None = Err Toml
 document_of (Some ms) = Ok (table ms)
 
--- the configuration that a text says, as `toml` reads it
+-- the configuration that a text says, as `toml` reads it, or its first fault with the place
+abbrev pub placed_config_of : Option Members → Result Configuration PlacedFault
+placed_config_of read = told (document_of read) >>= configuration_of
+
+-- the same without the place
+abbrev pub unplaced : {X : Type 0} → Result X PlacedFault → Result X ConfigFault
+unplaced (Ok x) = Ok x
+unplaced (Err e) = Err e.fault
+
 abbrev pub config_of : Option Members → Result Configuration ConfigFault
-config_of read = document_of read >>= configuration_of
+config_of read = unplaced (placed_config_of read)
 
 -- what a function answers, seen by view, is what the table gives; out of memory may come at any time
 abbrev pub Fails : {Y : Type 0} → ConfigFault → Result Y ConfigFault → Type 0
@@ -250,7 +279,14 @@ abbrev pub Gives : {X Y : Type 0} → (X → Y) → Result X ConfigFault → Res
 Gives view (Ok x) read = read ≡ Ok (view x)
 Gives view (Err e) read = Fails e read
 
--- what is answered with the place of a fault, without the place
-abbrev pub unplaced : {X : Type 0} → Result X PlacedFault → Result X ConfigFault
-unplaced (Ok x) = Ok x
-unplaced (Err e) = Err e.fault
+-- the same of what is answered with the place of a fault
+abbrev pub FailsAt : {Y : Type 0} → ConfigFault → Place → Result Y PlacedFault → Type 0
+FailsAt Toml place read = read ≡ Err (record { fault = Toml; place = place })
+FailsAt (Missing name) place read = read ≡ Err (record { fault = Missing name; place = place })
+FailsAt (BadValue name) place read = read ≡ Err (record { fault = BadValue name; place = place })
+FailsAt (Repeated name) place read = read ≡ Err (record { fault = Repeated name; place = place })
+FailsAt OutOfMemory place read = Unit {0}
+
+abbrev pub GivesAt : {X Y : Type 0} → (X → Y) → Result X PlacedFault → Result Y PlacedFault → Type 0
+GivesAt view (Ok x) read = read ≡ Ok (view x)
+GivesAt view (Err f) read = FailsAt f.fault f.place read

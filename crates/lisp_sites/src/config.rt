@@ -1,10 +1,10 @@
 //! The configuration of a network: its sites, Map-Servers and routers.
 
-ghost use Rattle.std.specs.Prelude.{◌≡◌, ◌+◌, IsErrOf, length};
+ghost use Rattle.std.specs.Prelude.{◌≡◌, ◌+◌, IfErr, length};
 ghost use Rattle.toml.specs.Parse.{parse_document};
 ghost use Rattle.toml.specs.View.{view};
 ghost use Rattle.lisp_served.specs.Configuration.{IsConfiguration};
-ghost use Rattle.lisp_sites.specs.Table.{Gives, unplaced, document_of, configuration_of, config_of};
+ghost use Rattle.lisp_sites.specs.Table.{Gives, GivesAt, unplaced, document_of, configuration_of, placed_config_of, config_of};
 ghost use Rattle.lisp_sites.specs.declared.fault.ConfigFault.TheVariants.{OutOfMemory};
 
 use crate::fault::ConfigFault;
@@ -85,32 +85,22 @@ impl<A: Memory + Copy> Config<A> {
     pub fn from_toml(heap: Global, alloc: A, text: &str) -> Result<Config<A>, ConfigFault>
         ensures { Gives (λ c. c) result (config_of (parse_document text.now)) }
     {
-        read_text(heap, alloc, text, &mut Place::START)
+        match Config::read(heap, alloc, text) {
+            Ok(config) => Ok(config),
+            Err(placed) => Err(placed.fault),
+        }
     }
 
     /// Reads a configuration file as [`from_toml`](Config::from_toml) does; a fault comes with its
-    /// place in the file: the entry that was being read.
+    /// place in the file: the entry that it is in.
+    #[tactic(auto, using(crate::proofs::Told::without_place))]
     pub fn read(heap: Global, alloc: A, text: &str) -> Result<Config<A>, PlacedFault>
-        ensures { Gives (λ c. c) (unplaced result) (config_of (parse_document text.now)) }
+        ensures config { Gives (λ c. c) (unplaced result) (config_of (parse_document text.now)) }
+        ensures placed { GivesAt (λ c. c) result (placed_config_of (parse_document text.now)) }
     {
-        let mut place = Place::START;
-        match read_text(heap, alloc, text, &mut place) {
-            Ok(config) => Ok(config),
-            Err(fault) => Err(PlacedFault { fault, place }),
-        }
+        let document = read_document(heap, text)?;
+        read_configuration(alloc, &document)
     }
-}
-
-fn read_text<A: Memory + Copy>(
-    heap: Global,
-    alloc: A,
-    text: &str,
-    place: &mut Place,
-) -> Result<Config<A>, ConfigFault>
-    ensures { Gives (λ c. c) result (config_of (parse_document text.now)) }
-{
-    let document = read_document(heap, text)?;
-    read_configuration(alloc, &document, place)
 }
 
 // The table of a text. Nothing is said of memory here, and here alone: `toml` asks for it.
@@ -128,19 +118,18 @@ fn read_document(heap: Global, text: &str) -> Result<Value, ConfigFault>
 fn read_configuration<A: Memory + Copy>(
     alloc: A,
     document: &Value,
-    place: &mut Place,
-) -> Result<Config<A>, ConfigFault>
-    ensures gives { Gives (λ c. c) result (configuration_of (view document.now)) }
-    ensures memory { IsErrOf result OutOfMemory → A.may_refuse }
+) -> Result<Config<A>, PlacedFault>
+    ensures gives { GivesAt (λ c. c) result (configuration_of (view document.now)) }
+    ensures memory { IfErr result (λ f. f.fault ≡ OutOfMemory → A.may_refuse) }
 {
-    let sites = read_sites(alloc, document, place)?;
-    let servers = read_servers(alloc, document, place)?;
+    let sites = read_sites(alloc, document)?;
+    let servers = read_servers(alloc, document)?;
     let network = Network {
         alloc,
         sites,
         servers,
     };
-    let routers = read_routers(&network, document, place)?;
+    let routers = read_routers(&network, document)?;
     Ok(Config {
         sites: network.sites,
         servers: network.servers.into_vec(),

@@ -1,13 +1,12 @@
 //! Reading the entries of an array, one after the other.
 
-ghost use Rattle.std.specs.Prelude.{◌≡◌, IsErrOf};
+ghost use Rattle.std.specs.Prelude.{◌≡◌, IfErr};
 ghost use Rattle.toml.specs.View.{view, items_view};
-ghost use Rattle.lisp_sites.specs.Table.{Gives, each, one_more, each_item};
+ghost use Rattle.lisp_sites.specs.Table.{GivesAt, each, one_more, each_item};
 ghost use Rattle.lisp_sites.specs.declared.fault.ConfigFault.TheVariants.{OutOfMemory};
 
-use crate::fault::ConfigFault;
 use crate::field::Field;
-use crate::place::Place;
+use crate::place::PlacedFault;
 use crate::value::tables;
 use toml::Value;
 
@@ -15,7 +14,7 @@ use toml::Value;
 pub(crate) trait Entries {
     ghost use Rattle.std.specs.Prelude.{List, Result};
     ghost use Rattle.toml.specs.Data.{Data};
-    ghost use Rattle.lisp_sites.specs.declared.fault.ConfigFault.{ConfigFault};
+    ghost use Rattle.lisp_sites.specs.declared.place.PlacedFault.{PlacedFault};
 
     type Entry;
     /// What is known when they are read.
@@ -26,17 +25,12 @@ pub(crate) trait Entries {
     /// Whether the memory that reading asks for may be refused.
     ghost may_refuse: { Type 0 };
 
-    ghost read: { Self.Given → List Self.Entry → Data → Result Self.Entry ConfigFault };
+    ghost read: { Self.Given → List Self.Entry → Data → Result Self.Entry PlacedFault };
 
     /// Reads one more entry, behind those before it.
-    fn read_next(
-        &mut self,
-        given: &Self::Given,
-        entry: &Value,
-        place: &mut Place,
-    ) -> Result<(), ConfigFault>
-        ensures gives { Gives (λ _. entries self.new) result (one_more (read given.now) (entries self.old) (view entry.now)) }
-        ensures memory { IsErrOf result OutOfMemory → may_refuse };
+    fn read_next(&mut self, given: &Self::Given, entry: &Value) -> Result<(), PlacedFault>
+        ensures gives { GivesAt (λ _. entries self.new) result (one_more (read given.now) (entries self.old) (view entry.now)) }
+        ensures memory { IfErr result (λ f. f.fault ≡ OutOfMemory → may_refuse) };
 }
 
 /// Reads the entries of an array behind those of `list`.
@@ -45,16 +39,16 @@ pub(crate) fn read_each<L: Entries + Drop>(
     given: &L::Given,
     array: Field,
     values: &[Value],
-    place: &mut Place,
-) -> Result<L, ConfigFault>
-    ensures gives { Gives L.entries result (each (L.read given.now) (L.entries list) (items_view values.now)) }
-    ensures memory { IsErrOf result OutOfMemory → L.may_refuse }
+) -> Result<L, PlacedFault>
+    ensures gives { GivesAt L.entries result (each array (L.read given.now) (L.entries list) 1 (items_view values.now)) }
+    ensures memory { IfErr result (λ f. f.fault ≡ OutOfMemory → L.may_refuse) }
 {
-    for value in values {
-        place.enter(array);
-        list.read_next(given, value, place)?;
+    for (index, value) in values.iter().enumerate() {
+        match list.read_next(given, value) {
+            Ok(()) => {}
+            Err(fault) => return Err(fault.within(array, index + 1)),
+        }
     }
-    place.leave(array);
     Ok(list)
 }
 
@@ -65,10 +59,9 @@ pub(crate) fn read_tables<L: Entries + Drop>(
     array: Field,
     entry: &Value,
     key: &str,
-    place: &mut Place,
-) -> Result<L, ConfigFault>
-    ensures gives { Gives L.entries result (each_item array key.now (L.read given.now) (L.entries list) (view entry.now)) }
-    ensures memory { IsErrOf result OutOfMemory → L.may_refuse }
+) -> Result<L, PlacedFault>
+    ensures gives { GivesAt L.entries result (each_item array key.now (L.read given.now) (L.entries list) (view entry.now)) }
+    ensures memory { IfErr result (λ f. f.fault ≡ OutOfMemory → L.may_refuse) }
 {
-    read_each(list, given, array, tables(entry, key, array)?, place)
+    read_each(list, given, array, tables(entry, key, array)?)
 }

@@ -1,7 +1,11 @@
 //! Where in a configuration file a fault is.
 
+ghost use Rattle.std.specs.Prelude.{◌≡◌};
+ghost use Rattle.lisp_sites.specs.Table.{within};
+
 use crate::fault::ConfigFault;
 use crate::field::Field;
+use std::alloc::{AllocError, AllocFailed};
 use std::fmt::{Display, Error, Formatter, Write};
 
 /// An entry of an array of the file: the array, and which of its entries, counted from 1.
@@ -17,7 +21,7 @@ impl Display for Entry {
     }
 }
 
-/// The entry that is read, and the entry within it: as site 2, and its key 1. Neither while no entry is read.
+/// The entry that a fault is in, and the entry within it: as site 2, and its key 1. Neither where it is in no entry.
 #[derive(Clone, Copy, Debug, PartialEq, Eq)]
 pub struct Place {
     pub entry: Option<Entry>,
@@ -25,37 +29,11 @@ pub struct Place {
 }
 
 impl Place {
-    /// Before any entry.
-    pub(crate) const START: Place = Place {
+    /// In no entry.
+    const NOWHERE: Place = Place {
         entry: None,
         part: None,
     };
-
-    /// The next entry of `array` is read: the first one, if none was since `leave`.
-    pub(crate) fn enter(&mut self, array: Field) {
-        let level = self.level(array);
-        let before = match level {
-            Some(entry) => entry.number,
-            None => 0,
-        };
-        *level = Some(Entry {
-            array,
-            number: before.saturating_add(1),
-        });
-    }
-
-    /// The entries of `array` were read.
-    pub(crate) fn leave(&mut self, array: Field) {
-        *self.level(array) = None;
-    }
-
-    // Where an entry of `array` is told: as one of the file, or as one within the entry that is read.
-    fn level(&mut self, array: Field) -> &mut Option<Entry> {
-        match array {
-            Field::Site | Field::Server | Field::Router => &mut self.entry,
-            _ => &mut self.part,
-        }
-    }
 }
 
 impl Display for Place {
@@ -76,4 +54,53 @@ impl Display for Place {
 pub struct PlacedFault {
     pub fault: ConfigFault,
     pub place: Place,
+}
+
+impl PlacedFault {
+    /// The fault, told to be in this entry of `array`: the entry that it was told to be in is the part of it.
+    pub(crate) fn within(self, array: Field, number: usize) -> PlacedFault
+        ensures { result ≡ within array number self }
+    {
+        PlacedFault {
+            fault: self.fault,
+            place: Place {
+                entry: Some(Entry { array, number }),
+                part: self.place.entry,
+            },
+        }
+    }
+}
+
+/// A fault that is in no entry yet.
+impl From<ConfigFault> for PlacedFault {
+    ghost use Rattle.lisp_sites.specs.Table.{nowhere};
+
+    ghost from_gives = { λ fault placed. placed ≡ record { fault = fault; place = nowhere } };
+
+    fn from(fault: ConfigFault) -> PlacedFault {
+        PlacedFault {
+            fault,
+            place: Place::NOWHERE,
+        }
+    }
+}
+
+impl From<AllocError> for PlacedFault {
+    ghost use Rattle.lisp_sites.specs.declared.fault.ConfigFault.TheVariants.{OutOfMemory};
+
+    ghost from_gives = { λ _ placed. placed.fault ≡ OutOfMemory };
+
+    fn from(_error: AllocError) -> PlacedFault {
+        PlacedFault::from(ConfigFault::OutOfMemory)
+    }
+}
+
+impl<T: Drop> From<AllocFailed<T>> for PlacedFault {
+    ghost use Rattle.lisp_sites.specs.declared.fault.ConfigFault.TheVariants.{OutOfMemory};
+
+    ghost from_gives = { λ _ placed. placed.fault ≡ OutOfMemory };
+
+    fn from(_failed: AllocFailed<T>) -> PlacedFault {
+        PlacedFault::from(ConfigFault::OutOfMemory)
+    }
 }

@@ -1,10 +1,10 @@
 //! Site routers as a configuration names them.
 
-ghost use Rattle.std.specs.Prelude.{◌≡◌, [], IsErrOf};
+ghost use Rattle.std.specs.Prelude.{◌≡◌, [], IfErr, IsErrOf};
 ghost use Rattle.toml.specs.View.{view, items_view};
 ghost use Rattle.lisp_records.specs.Result.{Reads};
 ghost use Rattle.lisp_served.specs.Site.{has_key};
-ghost use Rattle.lisp_sites.specs.Table.{Gives, router_node, router_site, router_key, router_identity, place_of, place_at, places_of, router_flags, record_at, as_database, database_at, router_at, routers_of};
+ghost use Rattle.lisp_sites.specs.Table.{Gives, GivesAt, flat, router_node, router_site, router_key, router_identity, place_of, place_at, places_of, router_flags, record_at, as_database, database_at, router_at, routers_of};
 ghost use Rattle.lisp_sites.specs.declared.fault.ConfigFault.TheVariants.{OutOfMemory};
 
 use crate::entries::{Entries, read_each, read_tables};
@@ -13,7 +13,7 @@ use crate::field::Field;
 use crate::keyed::Keyed;
 use crate::name::Name;
 use crate::nodes::{Named, Nodes};
-use crate::place::Place;
+use crate::place::PlacedFault;
 use crate::server::ServerEntry;
 use crate::value::{array, byte, check_table, flag, name, nonce_block, text_as};
 use lisp_memory::{FallibleString, FallibleVec, Memory};
@@ -75,13 +75,12 @@ pub(crate) struct Network<A: Allocator> {
 pub(crate) fn read_routers<A: Memory + Copy>(
     network: &Network<A>,
     document: &Value,
-    place: &mut Place,
-) -> Result<Nodes<RouterEntry<A>, A>, ConfigFault>
-    ensures gives { Gives (λ routers. routers) result (routers_of network.now.sites network.now.servers (view document.now)) }
-    ensures memory { IsErrOf result OutOfMemory → A.may_refuse }
+) -> Result<Nodes<RouterEntry<A>, A>, PlacedFault>
+    ensures gives { GivesAt (λ routers. routers) result (routers_of network.now.sites network.now.servers (view document.now)) }
+    ensures memory { IfErr result (λ f. f.fault ≡ OutOfMemory → A.may_refuse) }
 {
     let routers = Nodes::new(network.alloc);
-    read_tables(routers, network, Field::Router, document, "router", place)
+    read_tables(routers, network, Field::Router, document, "router")
 }
 
 impl<A: Memory + Copy> Entries for Nodes<RouterEntry<A>, A> {
@@ -95,14 +94,10 @@ impl<A: Memory + Copy> Entries for Nodes<RouterEntry<A>, A> {
 
     ghost read = { λ network. router_at network.sites network.servers };
 
-    fn read_next(
-        &mut self,
-        network: &Network<A>,
-        entry: &Value,
-        place: &mut Place,
-    ) -> Result<(), ConfigFault> {
-        let router = read_router(network, entry, self, place)?;
-        self.push(network.alloc, router)
+    fn read_next(&mut self, network: &Network<A>, entry: &Value) -> Result<(), PlacedFault> {
+        let router = read_router(network, entry, self)?;
+        self.push(network.alloc, router)?;
+        Ok(())
     }
 }
 
@@ -111,18 +106,17 @@ fn read_router<A: Memory + Copy>(
     network: &Network<A>,
     entry: &Value,
     before: &Nodes<RouterEntry<A>, A>,
-    place: &mut Place,
-) -> Result<RouterEntry<A>, ConfigFault>
-    ensures gives { Gives (λ r. r) result (router_at network.now.sites network.now.servers before.now (view entry.now)) }
-    ensures memory { IsErrOf result OutOfMemory → A.may_refuse }
+) -> Result<RouterEntry<A>, PlacedFault>
+    ensures gives { GivesAt (λ r. r) result (router_at network.now.sites network.now.servers before.now (view entry.now)) }
+    ensures memory { IfErr result (λ f. f.fault ≡ OutOfMemory → A.may_refuse) }
 {
     let alloc = network.alloc;
     let (name, address) = read_node(alloc, entry, &network.servers, before)?;
     let (me, key_id) = read_identity(entry, &network.sites)?;
-    let servers = read_places(alloc, entry, &network.servers, place)?;
+    let servers = read_places(alloc, entry, &network.servers)?;
     let (proxy, use_ttl) = read_flags(entry)?;
     let nonce_block = nonce_block(entry, "nonce_block", Field::RouterNonceBlock)?;
-    let database = read_database(alloc, entry, place)?;
+    let database = read_database(alloc, entry)?;
     Ok(RouterEntry {
         name,
         address,
@@ -153,7 +147,10 @@ fn read_node<A: Memory + Copy>(
         return Err(ConfigFault::Repeated(Field::RouterName));
     }
     let address = text_as(entry, "address", Field::RouterAddress)?;
-    Ok((Name::from_string(String::try_from_str(alloc, name)?), address))
+    Ok((
+        Name::from_string(String::try_from_str(alloc, name)?),
+        address,
+    ))
 }
 
 // Site, xTR-ID and key.
@@ -211,19 +208,12 @@ fn read_places<A: Memory + Copy>(
     alloc: A,
     entry: &Value,
     servers: &Nodes<ServerEntry<A>, A>,
-    place: &mut Place,
-) -> Result<Places<A>, ConfigFault>
-    ensures gives { Gives (λ p. p) result (places_of servers.now (view entry.now)) }
-    ensures memory { IsErrOf result OutOfMemory → A.may_refuse }
+) -> Result<Places<A>, PlacedFault>
+    ensures gives { GivesAt (λ p. p) result (places_of servers.now (view entry.now)) }
+    ensures memory { IfErr result (λ f. f.fault ≡ OutOfMemory → A.may_refuse) }
 {
     let names = array(entry, "servers", Field::RouterServers)?;
-    let places = read_each(
-        Keyed::new(alloc),
-        servers,
-        Field::RouterServers,
-        names,
-        place,
-    )?;
+    let places = read_each(Keyed::new(alloc), servers, Field::RouterServers, names)?;
     Ok(Places::from_vec(places.into_vec()))
 }
 
@@ -236,20 +226,33 @@ impl<A: Memory + Copy> Entries for Keyed<usize, A> {
 
     ghost may_refuse = { A.may_refuse };
 
-    ghost read = { place_at };
+    ghost read = { λ servers. flat (place_at servers) };
 
     fn read_next(
         &mut self,
         servers: &Nodes<ServerEntry<A>, A>,
         name: &Value,
-        _place: &mut Place,
-    ) -> Result<(), ConfigFault> {
-        let server = place(name, servers)?;
-        if self.has(&server) {
-            return Err(ConfigFault::Repeated(Field::RouterServers));
-        }
-        self.push(server)
+    ) -> Result<(), PlacedFault> {
+        let server = fresh_place(name, servers, self)?;
+        self.push(server)?;
+        Ok(())
     }
+}
+
+// The place of a Map-Server that the router hasn't named before.
+fn fresh_place<A: Allocator>(
+    name: &Value,
+    servers: &Nodes<ServerEntry<A>, A>,
+    before: &Keyed<usize, A>,
+) -> Result<usize, ConfigFault>
+    ensures value { result ≡ place_at servers.now before.now (view name.now) }
+    ensures plain { ¬ (IsErrOf result OutOfMemory) }
+{
+    let server = place(name, servers)?;
+    if before.has(&server) {
+        return Err(ConfigFault::Repeated(Field::RouterServers));
+    }
+    Ok(server)
 }
 
 fn place<A: Allocator>(
@@ -279,13 +282,9 @@ fn read_flags(entry: &Value) -> Result<(bool, bool), ConfigFault>
 }
 
 // The records.
-fn read_database<A: Memory + Copy>(
-    alloc: A,
-    entry: &Value,
-    place: &mut Place,
-) -> Result<Database<A>, ConfigFault>
-    ensures gives { Gives (λ d. d) result (database_at (view entry.now)) }
-    ensures memory { IsErrOf result OutOfMemory → A.may_refuse }
+fn read_database<A: Memory + Copy>(alloc: A, entry: &Value) -> Result<Database<A>, PlacedFault>
+    ensures gives { GivesAt (λ d. d) result (database_at (view entry.now)) }
+    ensures memory { IfErr result (λ f. f.fault ≡ OutOfMemory → A.may_refuse) }
 {
     let records = read_tables(
         Vec::new(alloc),
@@ -293,11 +292,10 @@ fn read_database<A: Memory + Copy>(
         Field::RouterRecords,
         entry,
         "records",
-        place,
     )?;
     match Database::new(records) {
         Ok(database) => Ok(database),
-        Err(_) => Err(ConfigFault::BadValue(Field::RouterRecords)),
+        Err(_) => Err(PlacedFault::from(ConfigFault::BadValue(Field::RouterRecords))),
     }
 }
 
@@ -310,21 +308,24 @@ impl<A: Memory + Copy> Entries for Vec<MapRecord<A>, A> {
 
     ghost may_refuse = { A.may_refuse };
 
-    ghost read = { λ _. record_at };
+    ghost read = { λ _. flat record_at };
 
-    fn read_next(
-        &mut self,
-        alloc: &A,
-        text: &Value,
-        _place: &mut Place,
-    ) -> Result<(), ConfigFault> {
-        let Some(text) = text.as_str() else {
-            return Err(ConfigFault::BadValue(Field::RouterRecords));
-        };
-        let Some(record) = record_from_text(*alloc, text)? else {
-            return Err(ConfigFault::BadValue(Field::RouterRecords));
-        };
+    fn read_next(&mut self, alloc: &A, text: &Value) -> Result<(), PlacedFault> {
+        let record = read_record(*alloc, text)?;
         self.try_push(record)?;
         Ok(())
+    }
+}
+
+fn read_record<A: Memory + Copy>(alloc: A, text: &Value) -> Result<MapRecord<A>, ConfigFault>
+    ensures gives { Gives (λ r. r) result (record_at [] (view text.now)) }
+    ensures memory { IsErrOf result OutOfMemory → A.may_refuse }
+{
+    let Some(text) = text.as_str() else {
+        return Err(ConfigFault::BadValue(Field::RouterRecords));
+    };
+    match record_from_text(alloc, text)? {
+        Some(record) => Ok(record),
+        None => Err(ConfigFault::BadValue(Field::RouterRecords)),
     }
 }

@@ -1,9 +1,9 @@
 //! Map-Servers as a configuration names them.
 
-ghost use Rattle.std.specs.Prelude.{◌≡◌, [], IsErrOf};
+ghost use Rattle.std.specs.Prelude.{◌≡◌, [], IfErr, IsErrOf};
 ghost use Rattle.toml.specs.View.{view, items_view};
 ghost use Rattle.lisp_records.specs.Result.{Reads};
-ghost use Rattle.lisp_sites.specs.Table.{Gives, server_at, servers_of};
+ghost use Rattle.lisp_sites.specs.Table.{Gives, GivesAt, flat, server_at, servers_of};
 ghost use Rattle.lisp_sites.specs.declared.fault.ConfigFault.TheVariants.{OutOfMemory};
 
 use crate::entries::{Entries, read_tables};
@@ -11,7 +11,7 @@ use crate::fault::ConfigFault;
 use crate::field::Field;
 use crate::name::Name;
 use crate::nodes::{Named, Nodes};
-use crate::place::Place;
+use crate::place::PlacedFault;
 use crate::value::{check_table, name, text_as};
 use lisp_memory::{FallibleString, Memory};
 use lisp_records::Addr;
@@ -48,13 +48,12 @@ impl<A: Allocator> Named for ServerEntry<A> {
 pub(crate) fn read_servers<A: Memory + Copy>(
     alloc: A,
     document: &Value,
-    place: &mut Place,
-) -> Result<Nodes<ServerEntry<A>, A>, ConfigFault>
-    ensures gives { Gives (λ servers. servers) result (servers_of (view document.now)) }
-    ensures memory { IsErrOf result OutOfMemory → A.may_refuse }
+) -> Result<Nodes<ServerEntry<A>, A>, PlacedFault>
+    ensures gives { GivesAt (λ servers. servers) result (servers_of (view document.now)) }
+    ensures memory { IfErr result (λ f. f.fault ≡ OutOfMemory → A.may_refuse) }
 {
     let servers = Nodes::new(alloc);
-    read_tables(servers, &alloc, Field::Server, document, "server", place)
+    read_tables(servers, &alloc, Field::Server, document, "server")
 }
 
 impl<A: Memory + Copy> Entries for Nodes<ServerEntry<A>, A> {
@@ -66,22 +65,30 @@ impl<A: Memory + Copy> Entries for Nodes<ServerEntry<A>, A> {
 
     ghost may_refuse = { A.may_refuse };
 
-    ghost read = { λ _. server_at };
+    ghost read = { λ _. flat server_at };
 
-    #[tactic(auto, unfolding(crate::specs::Table::server_at))]
-    fn read_next(
-        &mut self,
-        alloc: &A,
-        entry: &Value,
-        _place: &mut Place,
-    ) -> Result<(), ConfigFault> {
-        check_table(entry, Field::Server)?;
-        let name = name(entry, "name", Field::ServerName)?;
-        if self.has(name) {
-            return Err(ConfigFault::Repeated(Field::ServerName));
-        }
-        let address = text_as(entry, "address", Field::ServerAddress)?;
-        let name = Name::from_string(String::try_from_str(*alloc, name)?);
-        self.push(*alloc, ServerEntry { name, address })
+    fn read_next(&mut self, alloc: &A, entry: &Value) -> Result<(), PlacedFault> {
+        let server = read_server(*alloc, entry, self)?;
+        self.push(*alloc, server)?;
+        Ok(())
     }
+}
+
+#[tactic(auto, unfolding(crate::specs::Table::server_at))]
+fn read_server<A: Memory + Copy>(
+    alloc: A,
+    entry: &Value,
+    before: &Nodes<ServerEntry<A>, A>,
+) -> Result<ServerEntry<A>, ConfigFault>
+    ensures gives { Gives (λ s. s) result (server_at before.now (view entry.now)) }
+    ensures memory { IsErrOf result OutOfMemory → A.may_refuse }
+{
+    check_table(entry, Field::Server)?;
+    let name = name(entry, "name", Field::ServerName)?;
+    if before.has(name) {
+        return Err(ConfigFault::Repeated(Field::ServerName));
+    }
+    let address = text_as(entry, "address", Field::ServerAddress)?;
+    let name = Name::from_string(String::try_from_str(alloc, name)?);
+    Ok(ServerEntry { name, address })
 }

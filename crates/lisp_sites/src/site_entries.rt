@@ -1,16 +1,16 @@
 //! Reading the sites of a configuration file.
 
-ghost use Rattle.std.specs.Prelude.{◌≡◌, [], IsErrOf, is_some};
+ghost use Rattle.std.specs.Prelude.{◌≡◌, [], IfErr, IsErrOf, is_some};
 ghost use Rattle.toml.specs.View.{view, items_view};
 ghost use Rattle.lisp_served.specs.Site.{has_key};
-ghost use Rattle.lisp_sites.specs.Table.{Gives, fresh_key_id, key_at, has_eid, prefix_at, has_site, fresh_site_id, site_at, sites_of};
+ghost use Rattle.lisp_sites.specs.Table.{Gives, GivesAt, flat, fresh_key_id, key_at, has_eid, prefix_at, has_site, fresh_site_id, site_at, sites_of};
 ghost use Rattle.lisp_sites.specs.declared.fault.ConfigFault.TheVariants.{OutOfMemory};
 
 use crate::entries::{Entries, read_tables};
 use crate::fault::ConfigFault;
 use crate::field::Field;
 use crate::keyed::{HasKey, Keyed};
-use crate::place::Place;
+use crate::place::PlacedFault;
 use crate::value::{byte, check_table, flag, secret, text_as};
 use lisp_memory::{FallibleVec, Memory};
 use lisp_records::Prefix;
@@ -22,13 +22,12 @@ use toml::Value;
 pub(crate) fn read_sites<A: Memory + Copy>(
     alloc: A,
     document: &Value,
-    place: &mut Place,
-) -> Result<Sites<A>, ConfigFault>
-    ensures gives { Gives (λ sites. sites) result (sites_of (view document.now)) }
-    ensures memory { IsErrOf result OutOfMemory → A.may_refuse }
+) -> Result<Sites<A>, PlacedFault>
+    ensures gives { GivesAt (λ sites. sites) result (sites_of (view document.now)) }
+    ensures memory { IfErr result (λ f. f.fault ≡ OutOfMemory → A.may_refuse) }
 {
     let sites = Sites::new(alloc);
-    read_tables(sites, &alloc, Field::Site, document, "site", place)
+    read_tables(sites, &alloc, Field::Site, document, "site")
 }
 
 impl<A: Memory + Copy> Entries for Sites<A> {
@@ -43,18 +42,13 @@ impl<A: Memory + Copy> Entries for Sites<A> {
     ghost read = { λ _. site_at };
 
     #[tactic(auto, unfolding(crate::specs::Table::site_at))]
-    fn read_next(
-        &mut self,
-        alloc: &A,
-        entry: &Value,
-        place: &mut Place,
-    ) -> Result<(), ConfigFault> {
+    fn read_next(&mut self, alloc: &A, entry: &Value) -> Result<(), PlacedFault> {
         check_table(entry, Field::Site)?;
         let id = fresh_site_id(entry, self)?;
         let keys = Vec::new(*alloc);
-        let keys = read_tables(keys, alloc, Field::SiteKey, entry, "key", place)?;
+        let keys = read_tables(keys, alloc, Field::SiteKey, entry, "key")?;
         let prefixes = Keyed::new(*alloc);
-        let prefixes = read_tables(prefixes, &(), Field::SitePrefix, entry, "prefix", place)?;
+        let prefixes = read_tables(prefixes, &(), Field::SitePrefix, entry, "prefix")?;
         self.push(Site::new(*alloc, id, keys, prefixes.into_vec())?)?;
         Ok(())
     }
@@ -86,21 +80,28 @@ impl<A: Memory + Copy> Entries for Vec<SiteKey, A> {
 
     ghost may_refuse = { A.may_refuse };
 
-    ghost read = { λ _. key_at };
+    ghost read = { λ _. flat key_at };
 
-    #[tactic(auto, unfolding(crate::specs::Table::key_at))]
-    fn read_next(
-        &mut self,
-        alloc: &A,
-        entry: &Value,
-        _place: &mut Place,
-    ) -> Result<(), ConfigFault> {
-        check_table(entry, Field::SiteKey)?;
-        let id = fresh_key_id(entry, self.as_slice())?;
-        let secret = secret(*alloc, entry, "secret", Field::SiteKeySecret)?;
-        self.try_push(SiteKey::new(id, secret.as_slice()))?;
+    fn read_next(&mut self, alloc: &A, entry: &Value) -> Result<(), PlacedFault> {
+        let key = read_key(*alloc, entry, self.as_slice())?;
+        self.try_push(key)?;
         Ok(())
     }
+}
+
+#[tactic(auto, unfolding(crate::specs::Table::key_at))]
+fn read_key<A: Memory + Copy>(
+    alloc: A,
+    entry: &Value,
+    before: &[SiteKey],
+) -> Result<SiteKey, ConfigFault>
+    ensures gives { Gives (λ k. k) result (key_at before.now (view entry.now)) }
+    ensures memory { IsErrOf result OutOfMemory → A.may_refuse }
+{
+    check_table(entry, Field::SiteKey)?;
+    let id = fresh_key_id(entry, before)?;
+    let secret = secret(alloc, entry, "secret", Field::SiteKeySecret)?;
+    Ok(SiteKey::new(id, secret.as_slice()))
 }
 
 fn fresh_key_id(entry: &Value, before: &[SiteKey]) -> Result<u8, ConfigFault>
@@ -140,26 +141,33 @@ impl<A: Memory + Copy> Entries for Keyed<SitePrefix, A> {
 
     ghost may_refuse = { A.may_refuse };
 
-    ghost read = { λ _. prefix_at };
+    ghost read = { λ _. flat prefix_at };
 
-    #[tactic(auto, unfolding(crate::specs::Table::prefix_at))]
-    fn read_next(
-        &mut self,
-        _given: &(),
-        entry: &Value,
-        _place: &mut Place,
-    ) -> Result<(), ConfigFault> {
-        check_table(entry, Field::SitePrefix)?;
-        let eid = text_as(entry, "eid", Field::SitePrefixEid)?;
-        if has_eid(self, &eid) {
-            return Err(ConfigFault::Repeated(Field::SitePrefixEid));
-        }
-        let more_specifics = flag(entry, "more_specifics", Field::SitePrefixMoreSpecifics)?;
-        self.push(SitePrefix {
-            eid,
-            more_specifics,
-        })
+    fn read_next(&mut self, _given: &(), entry: &Value) -> Result<(), PlacedFault> {
+        let prefix = read_prefix(entry, self)?;
+        self.push(prefix)?;
+        Ok(())
     }
+}
+
+#[tactic(auto, unfolding(crate::specs::Table::prefix_at))]
+fn read_prefix<A: Allocator>(
+    entry: &Value,
+    before: &Keyed<SitePrefix, A>,
+) -> Result<SitePrefix, ConfigFault>
+    ensures value { result ≡ prefix_at before.now (view entry.now) }
+    ensures plain { ¬ (IsErrOf result OutOfMemory) }
+{
+    check_table(entry, Field::SitePrefix)?;
+    let eid = text_as(entry, "eid", Field::SitePrefixEid)?;
+    if has_eid(before, &eid) {
+        return Err(ConfigFault::Repeated(Field::SitePrefixEid));
+    }
+    let more_specifics = flag(entry, "more_specifics", Field::SitePrefixMoreSpecifics)?;
+    Ok(SitePrefix {
+        eid,
+        more_specifics,
+    })
 }
 
 // Whether one of the prefixes has the EID-Prefix.

@@ -1,5 +1,5 @@
 -- A network that was just made: its stores go on from those that were given, and it stands for its opening.
-use Rattle.std.proofs.Common.{◌≡◌, ℕ, zero, suc, ◌+◌, ◌-◌, List, [], ◌∷◌, ◌++◌, length, map, Option, Some, refl, sym, ap, subst, inl, inr, ◌⊎◌, ◌∙◌, arith}
+use Rattle.std.proofs.Common.{false, ◌≡◌, ℕ, zero, suc, ◌+◌, ◌-◌, List, [], ◌∷◌, ◌++◌, length, map, Option, Some, refl, sym, ap, subst, inl, inr, ◌⊎◌, ◌∙◌, arith}
 use Rattle.std.specs.Prelude.{slice_get, IsTrue}
 use Rattle.std.specs.FinMap.{empty}
 use Rattle.std.specs.Option.{option_map}
@@ -22,7 +22,7 @@ use Rattle.lisp_turns.specs.Calls.{IsStarted}
 use Rattle.lisp_world.specs.Making.{server_over, router_over, AreNodes, HasStarted, HaveStarted}
 use Rattle.lisp_world.specs.Openings.{opening, lists_of}
 use Rattle.lisp_world.specs.Quiet.{AllHonest, AllCalm, stores_of, failures}
-use Rattle.lisp_turns.specs.Stands.{Shows, StandsForRound, StandsForEtr, StandsForCore, StandsForServer, StandsForRouter, Stands}
+use Rattle.lisp_turns.specs.Stands.{shown_by, Shows, StandsForRound, StandsForEtr, StandsForCore, StandsForServer, StandsForRouter, Stands}
 use Rattle.lisp_turns.proofs.Gets.{none_is_some, same_some, get_before, get_replicate, get_mapped}
 use Rattle.lisp_nodes.proofs.NodeCalls.{unused}
 use Rattle.lisp_turns.proofs.Restarting.{no_row, no_nonce, no_notice}

@@ -19,18 +19,18 @@ memory_fault (Ok x) P is holds = tt
 memory_fault (Err fault) P is holds = subst P (sym is) holds
 
 -- a router didn't start: its number, and its store among those of the nodes
-module _ (c : Configuration) (stores : List StoreState) (Refused StoreRefused : Type 0) (made : List ServerNode) (down : List RouterNode) (nodes : AreNodes c stores made down) {X : Type 0} (r : Result X WorldFault) (fault : WorldFault) where
-  pub start_fault : r ≡ Err fault → IsStartFault (length made) down fault Refused StoreRefused → IfErr r (λ why. IsNewFault c stores Refused StoreRefused why)
+module _ (c : Configuration) (stores : List StoreState) (Refused StoreRefused : Type 0) (made : List ServerNode) (down : List RouterNode) (nodes : AreNodes c stores made down) {X : Type 0} (r : Result X WorldFault) (fault : WorldFault) (first : ℕ) (count : first ≡ length made) where
+  pub start_fault : r ≡ Err fault → IsStartFault first down fault Refused StoreRefused → IfErr r (λ why. IsNewFault c stores Refused StoreRefused why)
   start_fault is why = subst (λ (x : Result X WorldFault). IfErr x (λ why. IsNewFault c stores Refused StoreRefused why)) (sym (is ∙ ap Err why.is)) row
     where
       was : (s : StoreState) × (slice_get stores (length c.servers + why.place) ≡ Some s) × (why.node.store ≡ s)
       was = (let over = nodes.are_routers why.place why.node why.there in (over.0, over.1, ap (λ (n : RouterNode). n.store) over.2.2))
 
-      row : IsNewFault c stores Refused StoreRefused (faults.Start (length made + why.place) why.why)
+      row : IsNewFault c stores Refused StoreRefused (faults.Start (first + why.place) why.why)
       row = (
-        (let count = nodes.server_count in omega (arith, count)),
+        (let made_count = nodes.server_count in omega (arith, count, made_count)),
         was.0,
-        ap (λ n. slice_get stores (n + why.place)) nodes.server_count ∙ was.1,
+        ap (λ n. slice_get stores (n + why.place)) (count ∙ nodes.server_count) ∙ was.1,
         why.after,
         subst (λ (s : StoreState). IsUnstarted s why.after why.why Refused StoreRefused) was.2 why.unstarted,
       )

@@ -1,7 +1,7 @@
 use Rattle.std.proofs.Common.{◌+◌, ◌<◌, length, Err, arith, refl, sym, ap, subst}
 use borrow.Author.Rules.{scaled_Fits}
 use Rattle.lisp_turns.specs.World.{RouterNode}
-use Rattle.lisp_world.specs.Making.{HasStarted}
+use Rattle.lisp_world.specs.Making.{HasStarted, IsUnstarted}
 use Rattle.lisp_world.proofs.MakingNodes.{started_to_none, next_was, started_more, all_started}
 use Rattle.lisp_world.proofs.new.start_all.Goals as goal
 
@@ -18,7 +18,7 @@ returns-in-Err-clause-faults g c =
       why = c.in-Err.fault;
       is = refl;
       after = c.start.new.router.store;
-      unstarted = c.in-Err.ensures.unstarted;
+      unstarted = subst (λ (m : RouterNode). IsUnstarted m.store c.start.new.router.store c.in-Err.fault g.A.Memory.may_refuse g.S.NonceStore.may_refuse) (sym c.index-routers-i.is) c.in-Err.ensures.unstarted;
     }
 
 pub loop-i-preserved : goal.loop-i-preserved

@@ -174,19 +174,25 @@ pub returns-in_err-servers-clause-faults : goal.returns-in_err-servers-clause-fa
 returns-in_err-servers-clause-faults g c = memory_fault _ _ c.from_residual-in_err-servers.ensures.1 c.in_err-servers.ensures.memory
 
 pub returns-in_err-start_all-clause-faults : goal.returns-in_err-start_all-clause-faults
-returns-in_err-start_all-clause-faults g c = start_fault c.args.config.now _ _ _ _ _ c.in_ok-servers.ensures.nodes _ _
+returns-in_err-start_all-clause-faults g c =
+    let first = c.len.ensures ∙ c.in_ok-servers.servers.ok.0 in
+    start_fault c.args.config.now (map g.S.NonceStore.seen c.args.stores.items) g.A.Memory.may_refuse g.S.NonceStore.may_refuse c.in_ok-servers.servers.items c.in_ok-servers.routers.items c.in_ok-servers.ensures.nodes
+    c.from_residual-in_err-start_all.result c.in_err-start_all.field-0.0 c.len.result first
     (err_is c.from_residual-in_err-start_all.result c.in_err-start_all.field-0.0 c.from_residual-in_err-start_all.ensures.1)
-    (subst (λ (l : List RouterNode). IsStartFault _ l _ _ _) c.deref_mut.ensures.value c.in_err-start_all.ensures.faults)
+    (subst (λ (l : List RouterNode). IsStartFault c.len.result l c.in_err-start_all.field-0.0 g.A.Memory.may_refuse g.S.NonceStore.may_refuse) c.deref_mut.ensures.value c.in_err-start_all.ensures.faults)
 
 -- and over calm stores
 pub returns-then-repeats-clause-calm_faults : goal.returns-then-repeats-clause-calm_faults
 returns-then-repeats-clause-calm_faults g c calm below = tt
 
 pub returns-in_err-addresses-clause-calm_faults : goal.returns-in_err-addresses-clause-calm_faults
-returns-in_err-addresses-clause-calm_faults g c calm below = calm_fault c.args.config.now _ _ _ calm below _ (returns-in_err-addresses-clause-faults g c)
+returns-in_err-addresses-clause-calm_faults g c calm below =
+    calm_fault c.args.config.now (map g.S.NonceStore.seen c.args.stores.items) g.A.Memory.may_refuse g.S.NonceStore.may_refuse calm below c.from_residual.result (returns-in_err-addresses-clause-faults g c)
 
 pub returns-in_err-servers-clause-calm_faults : goal.returns-in_err-servers-clause-calm_faults
-returns-in_err-servers-clause-calm_faults g c calm below = calm_fault c.args.config.now _ _ _ calm below _ (returns-in_err-servers-clause-faults g c)
+returns-in_err-servers-clause-calm_faults g c calm below =
+    calm_fault c.args.config.now (map g.S.NonceStore.seen c.args.stores.items) g.A.Memory.may_refuse g.S.NonceStore.may_refuse calm below c.from_residual-in_err-servers.result (returns-in_err-servers-clause-faults g c)
 
 pub returns-in_err-start_all-clause-calm_faults : goal.returns-in_err-start_all-clause-calm_faults
-returns-in_err-start_all-clause-calm_faults g c calm below = calm_fault c.args.config.now _ _ _ calm below _ (returns-in_err-start_all-clause-faults g c)
+returns-in_err-start_all-clause-calm_faults g c calm below =
+    calm_fault c.args.config.now (map g.S.NonceStore.seen c.args.stores.items) g.A.Memory.may_refuse g.S.NonceStore.may_refuse calm below c.from_residual-in_err-start_all.result (returns-in_err-start_all-clause-faults g c)

@@ -15,5 +15,5 @@ returns-then-is_server g c =
 pub returns : goal.returns
 returns g c =
     restarts_taken _ _ _ _ c.args.node c.args.pick c.args.db.now _ c.in_ok-check_restart.ensures.fault c.in_ok-db.ensures.fits
-    (inr (subst (λ (given : Option (List Mapping)). RestartsAt c.args.self.now c.restart_router.new.self c.args.node given c.restart_router.result) c.in_ok-db.ensures.equal c.restart_router.ensures.restarts))
+    (inr (subst (λ (given : Option (List Mapping)). RestartsAt c.args.self.now c.restart_router.new.self c.args.node c.args.pick given c.restart_router.result) c.in_ok-db.ensures.equal c.restart_router.ensures.restarts))
     c.restart_router.ensures.tells

@@ -1,0 +1,59 @@
+//! Appending to a text, a character at a time: where memory runs out, a front of what was to be appended is left.
+
+ghost use Rattle.std.specs.Prelude.{◌≡◌, ◌<◌, ◌+◌, ◌++◌, ◌∷◌, [], OnOk, OnErr};
+ghost use Rattle.std.specs.Fmt.{decimal};
+ghost use Rattle.std.specs.String.{string_bytes};
+ghost use Rattle.lisp_lines.specs.Front.{LeavesFront};
+
+use lisp_memory::{FallibleString, Memory};
+use std::alloc::AllocError;
+
+/// Appends words.
+pub(crate) fn put_words<A: Memory>(text: &mut String<A>, words: &str) -> Result<(), AllocError>
+    ensures text { OnOk result (string_bytes text.new ≡ string_bytes text.old ++ words.now) }
+    ensures front { OnErr result (LeavesFront (string_bytes text.old) (string_bytes text.new) words.now) }
+    ensures memory { OnErr result A.may_refuse }
+{
+    for character in words.chars() {
+        text.try_push(character)?;
+    }
+    Ok(())
+}
+
+/// Appends a number, behind what it is.
+#[tactic(auto, using(crate::proofs::Appends::steps))]
+pub(crate) fn put_number<A: Memory>(
+    text: &mut String<A>,
+    what: &str,
+    number: u64,
+) -> Result<(), AllocError>
+    ensures text { OnOk result (string_bytes text.new ≡ string_bytes text.old ++ (what.now ++ decimal number)) }
+    ensures front { OnErr result (LeavesFront (string_bytes text.old) (string_bytes text.new) (what.now ++ decimal number)) }
+    ensures memory { OnErr result A.may_refuse }
+{
+    put_words(text, what)?;
+    put_decimal(text, number)
+}
+
+// Appends a number in decimal digits.
+fn put_decimal<A: Memory>(text: &mut String<A>, number: u64) -> Result<(), AllocError>
+    ensures text { OnOk result (string_bytes text.new ≡ string_bytes text.old ++ decimal number) }
+    ensures front { OnErr result (LeavesFront (string_bytes text.old) (string_bytes text.new) (decimal number)) }
+    ensures memory { OnErr result A.may_refuse }
+{
+    if number < 10 {
+        return put_digit(text, number as u8);
+    }
+    put_decimal(text, number / 10)?;
+    put_digit(text, (number % 10) as u8)
+}
+
+// Appends one digit.
+fn put_digit<A: Memory>(text: &mut String<A>, digit: u8) -> Result<(), AllocError>
+    requires { digit < 10 }
+    ensures text { OnOk result (string_bytes text.new ≡ string_bytes text.old ++ (48 + digit) ∷ []) }
+    ensures same { OnErr result (string_bytes text.new ≡ string_bytes text.old) }
+    ensures memory { OnErr result A.may_refuse }
+{
+    text.try_push(char::from(b'0' + digit))
+}
