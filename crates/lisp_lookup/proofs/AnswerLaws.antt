@@ -133,3 +133,12 @@ module _ {R : Type 0} (view : R → Holding) (rows seen : List Holding) (addr : 
   -- where none was found among equal rows, none answers
   pub none_found : result ≡ None → NoneAnswers rows addr now
   none_found is = of_rows None is
+
+-- rows neither of which is above the other tie
+tie_case : (a b : Holding) (o : Ordering) → rank_cmp a b ≡ o → o ≢ Greater → rank_cmp b a ≢ Greater → o ≡ Equal
+tie_case a b Less is not_above not_below = absurd (not_below (rank_total.antisymm b a ∙ ap ordering_reverse is))
+tie_case a b Equal is not_above not_below = refl
+tie_case a b Greater is not_above not_below = absurd (not_above refl)
+
+pub ranks_tie : (a b : Holding) → rank_cmp a b ≢ Greater → rank_cmp b a ≢ Greater → rank_cmp a b ≡ Equal
+ranks_tie a b not_above not_below = tie_case a b (rank_cmp a b) refl not_above not_below

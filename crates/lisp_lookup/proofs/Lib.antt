@@ -11,3 +11,4 @@ pub mod PutLaws
 pub mod CountLaws
 pub mod BestLaws
 pub mod RoomLaws
+pub mod OneAnswerLaws

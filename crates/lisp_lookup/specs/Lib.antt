@@ -2,3 +2,4 @@ pub mod Table
 pub mod Records
 pub mod Answer
 pub mod Index
+pub mod OneAnswer

@@ -8,6 +8,7 @@ mod counted_rows;
 mod edits;
 mod find;
 mod index;
+pub mod laws;
 mod live;
 mod order;
 mod probe;

@@ -54,3 +54,7 @@ parsed {E} nonce text digits read r lt is cut same parses =
     let all : read ≡ last_digits 20 nonce = same ∙ cut ∙ ap (λ (t : List ℕ). slice_range t 6 26) is ∙ digits_of_text nonce in
     let answer = subst (λ (t : List ℕ). ParsesUnsigned 64 10 t r) all parses in
     parse_gives (numerals_by_value (AllDigits 10) tells_digits) {E = E} 64 (last_digits 20 nonce) r answer (all_digits 20 nonce) (omega (arith, length-last_digits 20 nonce)) (omega (arith, value, lt)) ∙ ap (λ (n : ℕ). Ok n) value
+
+-- the digits of a nonce's text are twenty, and the nonce is their value
+pub twenty_digits : (nonce : ℕ) → nonce < 2 ^ 64 → (length (last_digits 20 nonce) ≡ 20) × AllDigits 10 (last_digits 20 nonce) × (digits_value 10 (last_digits 20 nonce) ≡ nonce)
+twenty_digits nonce lt = (length-last_digits 20 nonce, all_digits 20 nonce, digits_value-last 20 nonce (omega (arith, lt)))

@@ -1,2 +1,3 @@
 pub mod Digits
 mod Turns
+mod LineLaws

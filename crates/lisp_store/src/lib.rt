@@ -4,6 +4,7 @@
 
 mod failing;
 mod file;
+pub mod laws;
 mod liar;
 mod text;
 

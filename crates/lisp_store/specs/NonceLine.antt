@@ -1,0 +1,13 @@
+-- What the text of a nonce says: its number, in twenty decimal digits.
+use Rattle.std.specs.Prelude.{◌≡◌, ℕ, true, List, [], ◌∷◌, ◌++◌, length, codes}
+use Rattle.std.specs.Char.{is_ascii_digit}
+use Rattle.std.specs.List.{list_all}
+use Rattle.std.specs.Str.Parse.{digits_value}
+
+-- the word `nonce`, a space, twenty digits whose value the number is, and a line feed
+pub record IsNonceLine (text : List ℕ) (number : ℕ) : Type 0 where
+  pub digits : List ℕ
+  pub line : text ≡ codes "nonce " ++ digits ++ 10 ∷ []
+  pub twenty : length digits ≡ 20
+  pub decimal : list_all is_ascii_digit digits ≡ true
+  pub value : digits_value 10 digits ≡ number
