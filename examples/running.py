@@ -180,6 +180,10 @@ def each_fault_has_its_number(folder):
     for text, status, number in ((b"\xff", 2, "95"), (b"send s1 r1\n", 2, "82 line 1"), (b"#" * 1048577, 1, "89")):
         Path(file).write_bytes(text)
         check(f"loop, script {text[:12]!r}", ran("loop", CONFIG, file, *node[:2]), (status, "", f"lispd: fault {number}\n"))
+    alike, empty = f"{folder}/alike", f"{folder}/empty"
+    Path(alike).write_text(Path(CONFIG).read_text().replace("127.0.0.12", "127.0.0.11"))
+    Path(empty).write_bytes(b"")
+    check("loop over two nodes of one address", ran("loop", alike, empty, *node[:2]), (2, "", "lispd: fault 74\n"))
     check("a file as the folder", ran("router", CONFIG, "r1", "--store", file, "--turns", "1"), (1, "", "lispd: fault 93\n"))
     with peer(ROUTER):
         check("a socket that is taken", ran("router", CONFIG, "r1", *node), (1, "", "lispd: fault 92\n"))

@@ -26,12 +26,12 @@ wrote_more before mid after text rest n wrote more =
       parts = wrote.parts ∙ ap (λ t. wrote.front ++ t) (sym (take-append-drop n rest)) ∙ sym (append_assoc wrote.front (take n rest) (drop n rest));
       written = appended before mid after wrote.front (take n rest) wrote.written more;
     }
-    where
-      appended : (before mid after : Option (List ℕ)) (front more : List ℕ) → Appends before mid front → Appends mid after more → Appends before after (front ++ more)
-      appended None mid after front more one other = tt
-      appended (Some old) None after front more one other = absurd one
-      appended (Some old) (Some mid) None front more one other = absurd other
-      appended (Some old) (Some mid) (Some new) front more one other = other ∙ ap (λ t. t ++ more) one ∙ append_assoc old front more
+  where
+    appended : (before mid after : Option (List ℕ)) (front more : List ℕ) → Appends before mid front → Appends mid after more → Appends before after (front ++ more)
+    appended None mid after front more one other = tt
+    appended (Some old) None after front more one other = absurd one
+    appended (Some old) (Some mid) None front more one other = absurd other
+    appended (Some old) (Some mid) (Some new) front more one other = other ∙ ap (λ t. t ++ more) one ∙ append_assoc old front more
 
 -- a write took nothing
 pub wrote_zero : (before mid after : Option (List ℕ)) (text rest : List ℕ) (n : ℕ) → n ≡ 0 → Wrote before mid text rest → Appends mid after (take n rest) → Wrote before after text rest

@@ -1,11 +1,11 @@
 //! What a client asks of a network, and what it is promised of the answers.
 
-ghost use Rattle.std.specs.Prelude.{◌≡◌, List, IfOk, IfSome, length, map};
-ghost use Rattle.lisp_nonces.specs.Memory.{memory_state};
+ghost use Rattle.std.specs.Prelude.{◌≡◌, ◌⊎◌, List, IfOk, IfSome, IfNone, OnErr, map, replicate};
+ghost use Rattle.std.specs.FinMap.{empty};
+ghost use Rattle.lisp_nonces.specs.declared.fate.Fate.TheVariants.{Done};
 ghost use Rattle.lisp_served.specs.Configuration.{Configuration};
 ghost use Rattle.lisp_schedules.specs.Trace.{Happening, happening};
-ghost use Rattle.lisp_world.specs.Quiet.{AllHonest};
-ghost use Rattle.lisp_client.specs.Promised.{HasRun, IsPromised};
+ghost use Rattle.lisp_client.specs.Promised.{HasRun, IsPromised, IsNotThere, HasNotRun, IsUntold};
 
 use lisp_memory::{FallibleVec, Memory};
 use lisp_nonces::MemoryStore;
@@ -25,8 +25,8 @@ pub struct Told<A: Allocator = Global> {
 }
 
 /// Makes a network over stores in memory, lets the events happen, and asks one Map-Server what it holds and one router,
-/// by its number, what it counted last from the Map-Server at a place of its list. `None` if the network isn't made, doesn't
-/// take an event, has no such nodes, or memory runs out.
+/// by its number, what it counted last from the Map-Server at a place of its list. `None` if two nodes of the configuration
+/// are alike, an event isn't taken, no Map-Server has the one number, no router that is up the other, or memory runs out.
 pub fn ask<A: Memory + Copy, E: Allocator, F: Allocator>(
     alloc: A,
     config: &Config<E>,
@@ -35,7 +35,8 @@ pub fn ask<A: Memory + Copy, E: Allocator, F: Allocator>(
     router: usize,
     place: usize,
 ) -> Option<Told<A>>
-    ensures { IfSome result (λ told. IsPromised config.now (map happening events.now) server router place told.rows.items told.counted) }
+    ensures told { IfSome result (λ told. IsPromised config.now (map happening events.now) server router place told.rows.items told.counted) }
+    ensures untold { IfNone result (IsUntold A.may_refuse config.now (map happening events.now) server router) }
 {
     let world = run(alloc, config, events)?;
     heard(&world, server, router, place)
@@ -48,7 +49,8 @@ fn heard<A: Memory + Copy>(
     router: usize,
     place: usize,
 ) -> Option<Told<A>>
-    ensures { IfSome result (λ told. (c : Configuration) (events : List Happening) → HasRun c events world.now → IsPromised c events server router place told.rows.items told.counted) }
+    ensures told { IfSome result (λ told. (c : Configuration) (events : List Happening) → HasRun c events world.now → IsPromised c events server router place told.rows.items told.counted) }
+    ensures untold { IfNone result (A.may_refuse ⊎ ((c : Configuration) (events : List Happening) → HasRun c events world.now → IsNotThere c events server router)) }
 {
     let counted = world.router(router)?.acked(place);
     match world.server(server)?.held(world.clock()) {
@@ -63,7 +65,8 @@ fn run<A: Memory + Copy, E: Allocator, F: Allocator>(
     config: &Config<E>,
     events: &[Event<F>],
 ) -> Option<World<MemoryStore<A>, A>>
-    ensures { IfSome result (λ w. HasRun config.now (map happening events.now) w) }
+    ensures ran { IfSome result (λ w. HasRun config.now (map happening events.now) w) }
+    ensures not_run { IfNone result (HasNotRun A.may_refuse config.now (map happening events.now)) }
 {
     let Ok(stores) = stores(alloc, config.node_count()) else {
         return None;
@@ -79,8 +82,8 @@ fn run<A: Memory + Copy, E: Allocator, F: Allocator>(
 
 // So many stores that keep nothing.
 fn stores<A: Memory + Copy>(alloc: A, count: usize) -> Result<Vec<MemoryStore<A>, A>, AllocError>
-    ensures count { IfOk result (λ stores. length stores.items ≡ count) }
-    ensures honest { IfOk result (λ stores. AllHonest (map memory_state stores.items)) }
+    ensures empty { IfOk result (λ stores. stores.items ≡ replicate count (record { kept = empty; faults = 0; fate = Done })) }
+    ensures memory { OnErr result A.may_refuse }
 {
     let mut stores = Vec::new(alloc);
     for _ in 0..count {

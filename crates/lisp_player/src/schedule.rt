@@ -1,13 +1,11 @@
 //! A schedule: a configuration and a script, parted by a line `---`.
 
-ghost use Rattle.std.specs.Prelude.{◌≡◌, ◌≢◌, ◌⊎◌, ◌↔◌, ℕ, true, false, take, map, replicate, Ok, Err, OnOk, OnErr, IfOk, IfErr, IfSome, IsErrOf};
+ghost use Rattle.std.specs.Prelude.{◌≡◌, false, map, replicate, OnOk, OnErr, IfOk, IfErr, IfSome, IsErrOf};
 ghost use Rattle.std.specs.FinMap.{empty};
-ghost use Rattle.std.specs.Io.KnownBytes.{Keeps};
 ghost use Rattle.lisp_nonces.specs.declared.fate.Fate.TheVariants.{Done};
 ghost use Rattle.lisp_world.specs.Openings.{repeats};
-ghost use Rattle.lisp_schedules.specs.declared.world_fault.WorldFault.{WorldFault};
 ghost use Rattle.lisp_script.specs.Order.{order};
-ghost use Rattle.lisp_player.specs.Schedule.{Refuses, IsSilent, Begins, PlayedFrom, Played, Stopped};
+ghost use Rattle.lisp_player.specs.Schedule.{NotBegun, EndsBy, Refuses, IsSilent, Begins, PlayedFrom, Played, StoppedFrom, Stopped, BrokenFrom, Broken};
 ghost use Rattle.lisp_streams.specs.declared.play_fault.PlayFault.TheVariants as faults;
 
 use lisp_memory::{FallibleVec, Memory};
@@ -25,7 +23,7 @@ use std::io::{Read, Write};
 ///
 /// It reads at most 1,048,576 bytes (`TooLong`) in at most 2,097,152 reads (`Read`); then come `NotUtf8`, `NoScript`,
 /// `Config`, `Script` and `World`, in this order. At these nothing was written; at `OutOfMemory` whole lines of the
-/// commands before; at `Write` it is open how much went out.
+/// commands before; at `Write` these, and a front of the lines of the next one.
 pub fn play<A: Memory + Copy, R: Read, W: Write>(
     heap: Global,
     alloc: A,
@@ -34,7 +32,8 @@ pub fn play<A: Memory + Copy, R: Read, W: Write>(
 ) -> Result<(), PlayFault>
     ensures plays { OnOk result (IfSome (R.remaining reader.old) (λ input. Played A A.may_refuse input (λ orders. orders) (W.contents writer.old) (W.contents writer.new))) }
     ensures stops { IsErrOf result PlayFault.OutOfMemory → IfSome (R.remaining reader.old) (λ input. Stopped A A.may_refuse input (W.contents writer.old) (W.contents writer.new)) }
-    ensures refuses { IfErr result (λ fault. IfSome (R.remaining reader.old) (λ input. Refuses input fault)) }
+    ensures breaks { IsErrOf result faults.Write → IfSome (R.remaining reader.old) (λ input. Broken A A.may_refuse input (W.contents writer.old) (W.contents writer.new)) }
+    ensures refuses { IfErr result (λ fault. IfSome (R.remaining reader.old) (λ input. Refuses A.may_refuse input fault)) }
     ensures silent { IfErr result (λ fault. IsSilent fault (W.contents writer.old) (W.contents writer.new)) }
     ensures memory { IsErrOf result PlayFault.OutOfMemory → A.may_refuse }
 {
@@ -51,7 +50,8 @@ fn play_input<A: Memory + Copy, W: Write>(
 ) -> Result<(), PlayFault>
     ensures plays { OnOk result (Played A A.may_refuse input.now (λ orders. orders) (W.contents writer.old) (W.contents writer.new)) }
     ensures stops { IsErrOf result PlayFault.OutOfMemory → Stopped A A.may_refuse input.now (W.contents writer.old) (W.contents writer.new) }
-    ensures refuses { IfErr result (λ fault. Refuses input.now fault) }
+    ensures breaks { IsErrOf result faults.Write → Broken A A.may_refuse input.now (W.contents writer.old) (W.contents writer.new) }
+    ensures refuses { IfErr result (λ fault. Refuses A.may_refuse input.now fault) }
     ensures silent { IfErr result (λ fault. IsSilent fault (W.contents writer.old) (W.contents writer.new)) }
     ensures memory { IsErrOf result PlayFault.OutOfMemory → A.may_refuse }
 {
@@ -67,11 +67,11 @@ fn play_commands<A: Memory + Copy, E: Allocator, F: Allocator, W: Write>(
     writer: &mut W,
 ) -> Result<(), PlayFault>
     ensures plays { OnOk result (PlayedFrom A A.may_refuse config.now (map order commands.now) (W.contents writer.old) (W.contents writer.new)) }
-    ensures stops { IsErrOf result PlayFault.OutOfMemory → Keeps (W.contents writer.old) (W.contents writer.new) ⊎ ((count : ℕ) × PlayedFrom A A.may_refuse config.now (take count (map order commands.now)) (W.contents writer.old) (W.contents writer.new)) }
+    ensures stops { IsErrOf result PlayFault.OutOfMemory → StoppedFrom A A.may_refuse config.now (map order commands.now) (W.contents writer.old) (W.contents writer.new) }
+    ensures breaks { IsErrOf result faults.Write → BrokenFrom A A.may_refuse config.now (map order commands.now) (W.contents writer.old) (W.contents writer.new) }
     ensures silent { IfErr result (λ fault. IsSilent fault (W.contents writer.old) (W.contents writer.new)) }
-    ensures repeated { IsErrOf result (faults.World WorldFault.Repeated) → repeats config.now ≡ true }
     ensures memory { IsErrOf result PlayFault.OutOfMemory → A.may_refuse }
-    ensures faults { IfErr result (λ fault. (fault ≡ PlayFault.OutOfMemory) ⊎ (fault ≡ faults.Write) ⊎ ((why : WorldFault) × (fault ≡ faults.World why))) }
+    ensures faults { IfErr result (EndsBy A.may_refuse config.now) }
 {
     let mut world = begin(alloc, config)?;
     play_on(alloc, &mut world, config, commands, writer)
@@ -84,9 +84,8 @@ fn begin<A: Memory + Copy, E: Allocator>(
 ) -> Result<World<MemoryStore<A>, A>, PlayFault>
     ensures begins { IfOk result (λ w. Begins config.now w) }
     ensures repeats { IfOk result (λ w. repeats config.now ≡ false) }
-    ensures repeated { IsErrOf result (faults.World WorldFault.Repeated) → repeats config.now ≡ true }
     ensures memory { IsErrOf result PlayFault.OutOfMemory → A.may_refuse }
-    ensures faults { IfErr result (λ fault. (fault ≡ PlayFault.OutOfMemory) ⊎ ((why : WorldFault) × (fault ≡ faults.World why))) }
+    ensures faults { IfErr result (NotBegun A.may_refuse config.now) }
 {
     let stores = stores(alloc, config.node_count())?;
     Ok(World::new(alloc, config, stores)?)

@@ -3,12 +3,13 @@ use Rattle.std.proofs.Common.{◌≡◌, ℕ, List, ◌∷◌, Option, Some, Non
 use Rattle.std.specs.Prelude.{true, OnOk, OnErr}
 use Rattle.lisp_records.specs.declared.address.Addr.{Addr}
 use Rattle.lisp_served.specs.Configuration.{Configuration}
-use Rattle.lisp_schedules.specs.Trace.{Happening, Step, Opening}
+use Rattle.lisp_schedules.specs.Trace.{Happening, Step, Opening, fate_of}
+use Rattle.lisp_schedules.specs.Memory.{MayTell}
 use Rattle.lisp_schedules.specs.declared.line.Line.{Line}
 use Rattle.lisp_turns.specs.World.{WorldState}
 use Rattle.lisp_turns.specs.Stands.{Stands, StandsAfter}
 use Rattle.lisp_world.specs.Faults.{Faults, fault_of}
-use Rattle.lisp_world.specs.Quiet.{AllCalm, stores_of, KeepsCalm, fate_of}
+use Rattle.lisp_world.specs.Quiet.{AllCalm, stores_of, KeepsCalm}
 use Rattle.lisp_schedules.specs.declared.world_fault.WorldFault.{WorldFault}
 use Rattle.lisp_schedules.specs.declared.world_fault.WorldFault.TheVariants.{OutOfMemory}
 use Rattle.lisp_lines.specs.Line.{line_text}
@@ -31,54 +32,54 @@ stays old new c Tell same told = record {
   };
 }
 
-module _ (A M : Type 0) (old new : WorldState) (c : Configuration) (text : List ℕ) where
+module _ (A N S : Type 0) (old new : WorldState) (c : Configuration) (text : List ℕ) where
   -- an event is taken
-  pub event_taken : (event : Happening) (line : Line) → StandsAfter old new event line → KeepsCalm old new (fate_of event) → text ≡ line_text c true line → Turns A M old new c (Act event) text
-  event_taken event line after keeps is = record {
+  pub event_taken : (event : Happening) (line : Line) → StandsAfter old new event line → MayTell N S line → KeepsCalm old new (fate_of event) → text ≡ line_text c true line → Turns A N S old new c (Act event) text
+  event_taken event line after tells keeps is = record {
     calm = keeps.calm;
     comes = λ o T stand config. (
         let its = after o T stand in
         let s : Step = record { event = event; line = line; actor = its.0; shown = its.1 } in
         record {
           after = s ∷ T;
-          told = inl (record { step = s; of = refl; legal = its.2.steps.legal.0; said = is ∙ ap (λ (c : Configuration). line_text c true line) (sym config); next = refl });
+          told = inl (record { step = s; of = refl; legal = its.2.steps.legal.0; tells = tells; said = is ∙ ap (λ (c : Configuration). line_text c true line) (sym config); next = refl });
           stands = its.2;
           failures = λ calm asked. (λ done node within. none_failed old new o T s stand its.2 (keeps.unfailing calm done) node within, asked);
         });
   }
 
   -- an event is not taken
-  pub event_refused : (X : Type 0) (event : Happening) (fault : WorldFault) → new ≡ old → Faults {X = X} (fault_of old event) (Err fault) → (fault ≡ OutOfMemory → M) → text ≡ fault_text fault → Turns A M old new c (Act event) text
+  pub event_refused : (X : Type 0) (event : Happening) (fault : WorldFault) → new ≡ old → Faults {X = X} (fault_of old event) (Err fault) → (fault ≡ OutOfMemory → N) → text ≡ fault_text fault → Turns A N S old new c (Act event) text
   event_refused X event fault same faulty memory is = stays old new c _ same
       (λ o T stand config. inr (record { fault = fault; why = why o T stand (fault_of old event) refl faulty; said = is; same = refl }))
     where
-      why : (o : Opening) (T : List Step) → Stands old o T → (known : Option WorldFault) → fault_of old event ≡ known → Faults {X = X} known (Err fault) → IsFaultOf M o T event fault
+      why : (o : Opening) (T : List Step) → Stands old o T → (known : Option WorldFault) → fault_of old event ≡ known → Faults {X = X} known (Err fault) → IsFaultOf N o T event fault
       why o T stand (Some other) is_known refused = inl (old, stand, is_known ∙ ap Some (sym (same_fault other refused)))
         where
           same_fault : (other : WorldFault) → ◌≡◌ {A = Result X WorldFault} (Err fault) (Err other) → fault ≡ other
           same_fault other e = cc
       why o T stand None is_known refused = inr (refused, memory refused)
 
-module _ (A M : Type 0) (old new : WorldState) (c : Configuration) (text : List ℕ) (same : new ≡ old) where
+module _ (A N S : Type 0) (old new : WorldState) (c : Configuration) (text : List ℕ) (same : new ≡ old) where
   -- a query leaves the network as it was
-  pub hold_turns : (server : ℕ) → OfTraces old c (λ o T. Holds o T server text) → Turns A M old new c (Hold server) text
+  pub hold_turns : (server : ℕ) → OfTraces old c (λ o T. Holds o T server text) → Turns A N S old new c (Hold server) text
   hold_turns server told = stays old new c _ same (λ o T stand config. (told o T stand config, refl))
 
-  pub acks_turns : (router : ℕ) → OfTraces old c (λ o T. Acknowledges o T router text) → Turns A M old new c (Acks router) text
+  pub acks_turns : (router : ℕ) → OfTraces old c (λ o T. Acknowledges o T router text) → Turns A N S old new c (Acks router) text
   acks_turns router told = stays old new c _ same (λ o T stand config. (told o T stand config, refl))
 
-  pub ask_turns : (server : ℕ) (addr : Addr) → OfTraces old c (λ o T. Asks A o T server addr text) → Turns A M old new c (Ask server addr) text
+  pub ask_turns : (server : ℕ) (addr : Addr) → OfTraces old c (λ o T. Asks A o T server addr text) → Turns A N S old new c (Ask server addr) text
   ask_turns server addr told = stays old new c _ same (λ o T stand config. (told o T stand config, refl))
 
-  pub due_turns : (node : ℕ) → OfTraces old c (λ o T. IsDue o T node text) → Turns A M old new c (Due node) text
+  pub due_turns : (node : ℕ) → OfTraces old c (λ o T. IsDue o T node text) → Turns A N S old new c (Due node) text
   due_turns node told = stays old new c _ same (λ o T stand config. (told o T stand config, refl))
 
 -- a command, wherever its parts lie in memory
-pub as_order : {F : Type 0} (A M : Type 0) (old new : WorldState) (c : Configuration) (text : List ℕ) (command : Command F) (o : Order) → order command ≡ o → Turns A M old new c o text → Turns A M old new c (order command) text
-as_order A M old new c text command o is turns = subst (λ (o : Order). Turns A M old new c o text) (sym is) turns
+pub as_order : {F : Type 0} (A N S : Type 0) (old new : WorldState) (c : Configuration) (text : List ℕ) (command : Command F) (o : Order) → order command ≡ o → Turns A N S old new c o text → Turns A N S old new c (order command) text
+as_order A N S old new c text command o is turns = subst (λ (o : Order). Turns A N S old new c o text) (sym is) turns
 
-pub lost_order : {F : Type 0} (A M : Type 0) (old new : WorldState) (c : Configuration) (command : Command F) (o : Order) → order command ≡ o → Loses A M old new c o → Loses A M old new c (order command)
-lost_order A M old new c command o is loses = subst (λ (o : Order). Loses A M old new c o) (sym is) loses
+pub lost_order : {F : Type 0} (A N S : Type 0) (old new : WorldState) (c : Configuration) (command : Command F) (o : Order) → order command ≡ o → Loses A N S old new c o → Loses A N S old new c (order command)
+lost_order A N S old new c command o is loses = subst (λ (o : Order). Loses A N S old new c o) (sym is) loses
 
 -- what is said of a result says more
 pub at_ok : {X E : Type 0} (r : Result X E) (P Q : Type 0) → (P → Q) → OnOk r P → OnOk r Q

@@ -2,47 +2,53 @@
 use Rattle.std.specs.Prelude.{◌≡◌, ◌⊎◌, ℕ, ◌<◌, true, List, [], ◌∷◌, ◌++◌, length, take, slice_get, Option, Some}
 use Rattle.std.specs.Io.KnownBytes.{Appends}
 use Rattle.lisp_nonces.specs.declared.fate.Fate.TheVariants.{Done}
-use Rattle.lisp_schedules.specs.Trace.{Happening, Step, Opening, addresses, shown}
+use Rattle.lisp_schedules.specs.Trace.{Happening, Step, Opening, addresses, shown, fate_of}
 use Rattle.lisp_schedules.specs.Legal.{Legal}
+use Rattle.lisp_schedules.specs.Memory.{MayTell}
 use Rattle.lisp_turns.specs.World.{WorldState}
 use Rattle.lisp_turns.specs.Stands.{Stands}
-use Rattle.lisp_world.specs.Quiet.{AllCalm, stores_of, fate_of}
+use Rattle.lisp_world.specs.Quiet.{AllCalm, stores_of}
 use Rattle.lisp_world.specs.Faults.{fault_of}
 use Rattle.lisp_schedules.specs.declared.world_fault.WorldFault.{WorldFault}
 use Rattle.lisp_schedules.specs.declared.world_fault.WorldFault.TheVariants.{OutOfMemory}
 use Rattle.lisp_lines.specs.Line.{line_text}
+use Rattle.lisp_streams.specs.Output.{WroteFront}
 use Rattle.lisp_script.specs.declared.command.Command.TheVariants.{Act, Hold, Acks, Ask, Due}
 use Rattle.lisp_script.specs.Order.{Order}
 use Rattle.lisp_served.specs.Configuration.{Configuration}
 use Rattle.lisp_playing.specs.Asked.{OfTraces, fault_text, Holds, Asks, Acknowledges, IsDue}
 
+-- In what follows A is where answers lie; `nodes` says that memory may be refused to the nodes, `stores` that it may be
+-- to their stores.
+
 -- what keeps a network that stands for the trace from taking an event; memory only where it may be refused
 abbrev pub IsFaultOf : Type 0 → Opening → List Step → Happening → WorldFault → Type 0
-IsFaultOf may_refuse o T event fault =
-    ((w : WorldState) × Stands w o T × (fault_of w event ≡ Some fault)) ⊎ ((fault ≡ OutOfMemory) × may_refuse)
+IsFaultOf nodes o T event fault =
+    ((w : WorldState) × Stands w o T × (fault_of w event ≡ Some fault)) ⊎ ((fault ≡ OutOfMemory) × nodes)
 
--- an event after a trace was taken, and its line is the text; or it was not taken, and the text says why
-pub record IsTaken (o : Opening) (T : List Step) (event : Happening) (text : List ℕ) (after : List Step) : Type 0 where
+-- an event after a trace was taken, and its line is the text, which tells of memory only where it may be refused; or it
+-- was not taken, and the text says why
+pub record IsTaken (nodes stores : Type 0) (o : Opening) (T : List Step) (event : Happening) (text : List ℕ) (after : List Step) : Type 0 where
   pub step : Step
   pub of : step.event ≡ event
   pub legal : Legal o T step
+  pub tells : MayTell nodes stores step.line
   pub said : text ≡ line_text o.config true step.line
   pub next : after ≡ step ∷ T
 
-pub record IsRefused (may_refuse : Type 0) (o : Opening) (T : List Step) (event : Happening) (text : List ℕ) (after : List Step) : Type 0 where
+pub record IsRefused (nodes : Type 0) (o : Opening) (T : List Step) (event : Happening) (text : List ℕ) (after : List Step) : Type 0 where
   pub fault : WorldFault
-  pub why : IsFaultOf may_refuse o T event fault
+  pub why : IsFaultOf nodes o T event fault
   pub said : text ≡ fault_text fault
   pub same : after ≡ T
 
--- the text of a command after a trace, and the trace that it leads to: a query leads nowhere. A is where answers lie;
--- memory may be refused or not
-abbrev pub Tells : Type 0 → Type 0 → Opening → List Step → Order → List ℕ → List Step → Type 0
-Tells A may_refuse o T (Act event) text after = IsTaken o T event text after ⊎ IsRefused may_refuse o T event text after
-Tells A may_refuse o T (Hold server) text after = Holds o T server text × (after ≡ T)
-Tells A may_refuse o T (Acks router) text after = Acknowledges o T router text × (after ≡ T)
-Tells A may_refuse o T (Ask server addr) text after = Asks A o T server addr text × (after ≡ T)
-Tells A may_refuse o T (Due node) text after = IsDue o T node text × (after ≡ T)
+-- the text of a command after a trace, and the trace that it leads to: a query leads nowhere
+abbrev pub Tells : Type 0 → Type 0 → Type 0 → Opening → List Step → Order → List ℕ → List Step → Type 0
+Tells A nodes stores o T (Act event) text after = IsTaken nodes stores o T event text after ⊎ IsRefused nodes o T event text after
+Tells A nodes stores o T (Hold server) text after = Holds o T server text × (after ≡ T)
+Tells A nodes stores o T (Acks router) text after = Acknowledges o T router text × (after ≡ T)
+Tells A nodes stores o T (Ask server addr) text after = Asks A o T server addr text × (after ≡ T)
+Tells A nodes stores o T (Due node) text after = IsDue o T node text × (after ≡ T)
 
 -- and of commands, one after the other
 pub record TellsFirst (Others : List Step → List ℕ → Type 0) (First : List ℕ → List Step → Type 0) (text : List ℕ) : Type 0 where
@@ -53,10 +59,10 @@ pub record TellsFirst (Others : List Step → List ℕ → Type 0) (First : List
   pub first : First told next
   pub others : Others next rest
 
-abbrev pub Plays : Type 0 → Type 0 → Opening → List Step → List Order → List ℕ → List Step → Type 0
-Plays A may_refuse o T [] text after = (text ≡ []) × (after ≡ T)
-Plays A may_refuse o T (order ∷ orders) text after =
-    TellsFirst (λ next rest. Plays A may_refuse o next orders rest after) (λ told next. Tells A may_refuse o T order told next) text
+abbrev pub Plays : Type 0 → Type 0 → Type 0 → Opening → List Step → List Order → List ℕ → List Step → Type 0
+Plays A nodes stores o T [] text after = (text ≡ []) × (after ≡ T)
+Plays A nodes stores o T (order ∷ orders) text after =
+    TellsFirst (λ next rest. Plays A nodes stores o next orders rest after) (λ told next. Tells A nodes stores o T order told next) text
 
 -- no store failed, but where an event's fate asks for that
 abbrev pub FailsAsAsked : Opening → List Step → Type 0
@@ -76,38 +82,48 @@ pub record Moves (old new : WorldState) (c : Configuration) (Tell : Opening → 
   pub comes : OfTraces old c (λ o T. Comes old new o T (Tell o T))
 
 -- what a command printed, and where it led the network; and commands
-abbrev pub Turns : Type 0 → Type 0 → WorldState → WorldState → Configuration → Order → List ℕ → Type 0
-Turns A may_refuse old new c order text = Moves old new c (λ o T after. Tells A may_refuse o T order text after)
+abbrev pub Turns : Type 0 → Type 0 → Type 0 → WorldState → WorldState → Configuration → Order → List ℕ → Type 0
+Turns A nodes stores old new c order text = Moves old new c (λ o T after. Tells A nodes stores o T order text after)
 
-abbrev pub Leads : Type 0 → Type 0 → WorldState → WorldState → Configuration → List Order → List ℕ → Type 0
-Leads A may_refuse old new c orders text = Moves old new c (λ o T after. Plays A may_refuse o T orders text after)
+abbrev pub Leads : Type 0 → Type 0 → Type 0 → WorldState → WorldState → Configuration → List Order → List ℕ → Type 0
+Leads A nodes stores old new c orders text = Moves old new c (λ o T after. Plays A nodes stores o T orders text after)
 
 -- a command was not taken, or its text was lost
-abbrev pub Loses : Type 0 → Type 0 → WorldState → WorldState → Configuration → Order → Type 0
-Loses A may_refuse old new c order = (new ≡ old) ⊎ ((text : List ℕ) × Turns A may_refuse old new c order text)
+abbrev pub Loses : Type 0 → Type 0 → Type 0 → WorldState → WorldState → Configuration → Order → Type 0
+Loses A nodes stores old new c order = (new ≡ old) ⊎ ((text : List ℕ) × Turns A nodes stores old new c order text)
 
 -- what was written is the text of a command; and of commands
-pub record WroteOne (A may_refuse : Type 0) (old new : WorldState) (c : Configuration) (order : Order) (before after : Option (List ℕ)) : Type 0 where
+pub record WroteOne (A nodes stores : Type 0) (old new : WorldState) (c : Configuration) (order : Order) (before after : Option (List ℕ)) : Type 0 where
   pub text : List ℕ
   pub written : Appends before after text
-  pub turns : Turns A may_refuse old new c order text
+  pub turns : Turns A nodes stores old new c order text
 
-pub record Wrote (A may_refuse : Type 0) (old new : WorldState) (c : Configuration) (orders : List Order) (before after : Option (List ℕ)) : Type 0 where
+pub record Wrote (A nodes stores : Type 0) (old new : WorldState) (c : Configuration) (orders : List Order) (before after : Option (List ℕ)) : Type 0 where
   pub text : List ℕ
   pub written : Appends before after text
-  pub leads : Leads A may_refuse old new c orders text
+  pub leads : Leads A nodes stores old new c orders text
 
 -- out of memory in one of the commands: the text of those before it was written, and it may be that its own was lost
-pub record StopsAt (A may_refuse : Type 0) (old new : WorldState) (c : Configuration) (orders : List Order) (before after : Option (List ℕ)) : Type 0 where
+pub record StopsAt (A nodes stores : Type 0) (old new : WorldState) (c : Configuration) (orders : List Order) (before after : Option (List ℕ)) : Type 0 where
   pub place : ℕ
   pub order : Order
   pub there : slice_get orders place ≡ Some order
   pub between : WorldState
-  pub wrote : Wrote A may_refuse old between c (take place orders) before after
-  pub lost : Loses A may_refuse between new c order
+  pub wrote : Wrote A nodes stores old between c (take place orders) before after
+  pub lost : Loses A nodes stores between new c order
 
--- a command's text could not be written: the network stands behind it
-pub record Breaks (A may_refuse : Type 0) (old new : WorldState) (c : Configuration) (orders : List Order) : Type 0 where
-  pub count : ℕ
+-- the text of a command could not be written whole: a proper front of it went out. The network stands behind the command
+pub record BreaksOne (A nodes stores : Type 0) (old new : WorldState) (c : Configuration) (order : Order) (before after : Option (List ℕ)) : Type 0 where
   pub text : List ℕ
-  pub leads : Leads A may_refuse old new c (take count orders) text
+  pub turns : Turns A nodes stores old new c order text
+  pub written : WroteFront before after text
+
+-- and so it is of one of the commands, behind the text of those before it
+pub record Breaks (A nodes stores : Type 0) (old new : WorldState) (c : Configuration) (orders : List Order) (before after : Option (List ℕ)) : Type 0 where
+  pub place : ℕ
+  pub order : Order
+  pub there : slice_get orders place ≡ Some order
+  pub between : WorldState
+  pub middle : Option (List ℕ)
+  pub wrote : Wrote A nodes stores old between c (take place orders) before middle
+  pub next : BreaksOne A nodes stores between new c order middle after

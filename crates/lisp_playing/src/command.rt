@@ -25,8 +25,8 @@ pub(crate) fn command_text<S: WorldStore, A: Memory + Copy, E: Allocator, F: All
     config: &Config<E>,
     command: &Command<F>,
 ) -> Result<String<A>, AllocError>
-    ensures turns { IfOk result (λ text. Turns A A.may_refuse world.old world.new config.now (order command.now) (string_bytes text)) }
-    ensures lost { OnErr result (Loses A A.may_refuse world.old world.new config.now (order command.now)) }
+    ensures turns { IfOk result (λ text. Turns A A.may_refuse S.may_refuse world.old world.new config.now (order command.now) (string_bytes text)) }
+    ensures lost { OnErr result (Loses A A.may_refuse S.may_refuse world.old world.new config.now (order command.now)) }
     ensures memory { OnErr result A.may_refuse }
 {
     match command {
@@ -45,8 +45,8 @@ fn event_text<S: WorldStore, A: Memory + Copy, E: Allocator, F: Allocator>(
     config: &Config<E>,
     event: &Event<F>,
 ) -> Result<String<A>, AllocError>
-    ensures turns { IfOk result (λ text. Turns A A.may_refuse world.old world.new config.now (Act (happening event.now)) (string_bytes text)) }
-    ensures lost { OnErr result (Loses A A.may_refuse world.old world.new config.now (Act (happening event.now))) }
+    ensures turns { IfOk result (λ text. Turns A A.may_refuse S.may_refuse world.old world.new config.now (Act (happening event.now)) (string_bytes text)) }
+    ensures lost { OnErr result (Loses A A.may_refuse S.may_refuse world.old world.new config.now (Act (happening event.now))) }
     ensures memory { OnErr result A.may_refuse }
 {
     match world.step(event) {

@@ -78,8 +78,11 @@ fn is_failure(number: u16) -> bool
 }
 
 const _: () = prove!(RunFault::BIND.number == 92 && RunFault::BIND.line == 0);
+
 const _: () = prove!(RunFault::FILE.number == 93 && RunFault::FILE.line == 0);
+
 const _: () = prove!(RunFault::WRITE.number == 88 && RunFault::WRITE.line == 0);
+
 const _: () = prove!(RunFault::MEMORY.number == 97 && RunFault::MEMORY.line == 0);
 
 impl From<PlayFault> for RunFault {

@@ -1,12 +1,10 @@
-use Rattle.std.proofs.Common.{ℕ, ◌+◌, ap, ◌∙◌, length, length-append, arith}
-use Rattle.lisp_client.proofs.Promise.{are_honest}
+use Rattle.std.proofs.Common.{ℕ, ◌∷◌, [], ◌++◌, replicate, ap, ◌∙◌, arith}
+use Rattle.std.proofs.lemmas.List.{replicate-append-replicate}
+use Rattle.lisp_client.proofs.Promise.{fresh}
 use Rattle.lisp_client.proofs.client.stores.Goals as goal
 
 pub loop-preserved : goal.loop-preserved
-loop-preserved g c = ap length c.in_ok-try_push.ensures.items ∙ length-append c.loop.stores.items _ ∙ ap (λ (n : ℕ). n + 1) c.loop.invariant
+loop-preserved g c = c.in_ok-try_push.ensures.items ∙ (λ i. c.loop.invariant i ++ c.new.ensures i ∷ []) ∙ replicate-append-replicate c.loop.counter 1 fresh
 
-pub returns-clause-count : goal.returns-clause-count
-returns-clause-count g c = omega (arith, c.loop.invariant, c.loop-test.false, c.loop.auto.counter-end)
-
-pub returns-clause-honest : goal.returns-clause-honest
-returns-clause-honest g c = are_honest c.loop.stores.items
+pub returns-clause-empty : goal.returns-clause-empty
+returns-clause-empty g c = c.loop.invariant ∙ ap (λ (n : ℕ). replicate n fresh) (omega (arith, c.loop-test.false, c.loop.auto.counter-end))

@@ -9,5 +9,8 @@ returns-clause-plays g c = at_ok c.play_input.result _ _ (λ played. of_input _ 
 pub returns-clause-stops : goal.returns-clause-stops
 returns-clause-stops g c = λ memory. of_input _ c.in_ok-input.input.items _ c.in_ok-input.ensures.whole (rw c.deref.ensures.value at (c.play_input.ensures.stops memory))
 
+pub returns-clause-breaks : goal.returns-clause-breaks
+returns-clause-breaks g c = λ cut. of_input _ c.in_ok-input.input.items _ c.in_ok-input.ensures.whole (rw c.deref.ensures.value at (c.play_input.ensures.breaks cut))
+
 pub returns-clause-refuses : goal.returns-clause-refuses
 returns-clause-refuses g c = IfErr-weaker c.play_input.result _ _ (λ fault refuses. of_input _ c.in_ok-input.input.items _ c.in_ok-input.ensures.whole (rw c.deref.ensures.value at refuses)) c.play_input.ensures.refuses

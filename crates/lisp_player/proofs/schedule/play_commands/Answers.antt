@@ -1,14 +1,19 @@
-use Rattle.std.proofs.Common.{map, inr}
+use Rattle.std.proofs.Common.{map}
 use Rattle.std.proofs.lemmas.Result.{err_from_is_err_and, IfErr-weaker}
 use Rattle.lisp_script.specs.Order.{order}
 use Rattle.lisp_playing.proofs.Turning.{at_ok}
-use Rattle.lisp_player.proofs.Beginning.{played_from, stopped_from, neither, begun_ends, played_ends, no_world}
+use Rattle.lisp_player.proofs.Beginning.{same_fault, played_from, stopped_from, broken_from, neither, begun_ends, played_ends, not_broken}
 use Rattle.lisp_player.proofs.schedule.play_commands.Goals as goal
 
 pub returns-in_err-world-clause-faults : goal.returns-in_err-world-clause-faults
 returns-in_err-world-clause-faults g c =
     let p = err_from_is_err_and c.from_residual.result c.from_residual.ensures.1 in
-    rw (p.1, p.2) (begun_ends c.in_err-world.field-0.0 c.in_err-world.ensures.faults)
+    rw (p.1, p.2) (begun_ends g.A.Memory.may_refuse c.args.config.now c.in_err-world.field-0.0 c.in_err-world.ensures.faults)
+
+pub returns-in_err-world-clause-breaks : goal.returns-in_err-world-clause-breaks
+returns-in_err-world-clause-breaks g c =
+    let p = err_from_is_err_and c.from_residual.result c.from_residual.ensures.1 in
+    rw (p.1, p.2) (λ is. not_broken g.A.Memory.may_refuse c.args.config.now c.in_err-world.field-0.0 c.in_err-world.ensures.faults (same_fault is))
 
 pub returns-clause-plays : goal.returns-clause-plays
 returns-clause-plays g c = at_ok c.play_on.result _ _
@@ -16,13 +21,14 @@ returns-clause-plays g c = at_ok c.play_on.result _ _
 
 pub returns-clause-stops : goal.returns-clause-stops
 returns-clause-stops g c = λ memory.
-    inr (stopped_from _ _ c.args.config.now (map order c.args.commands.now) c.in_ok-world.world c.play_on.new.world _ _ c.in_ok-world.ensures.repeats c.in_ok-world.ensures.begins (c.play_on.ensures.stops memory))
+    stopped_from _ _ c.args.config.now (map order c.args.commands.now) c.in_ok-world.world c.play_on.new.world _ _ c.in_ok-world.ensures.repeats c.in_ok-world.ensures.begins (c.play_on.ensures.stops memory)
+
+pub returns-clause-breaks : goal.returns-clause-breaks
+returns-clause-breaks g c = λ cut.
+    broken_from _ _ c.args.config.now (map order c.args.commands.now) c.in_ok-world.world c.play_on.new.world _ _ c.in_ok-world.ensures.repeats c.in_ok-world.ensures.begins (c.play_on.ensures.breaks cut)
 
 pub returns-clause-silent : goal.returns-clause-silent
 returns-clause-silent g c = IfErr-weaker c.play_on.result _ _ (λ fault why. neither fault why) c.play_on.ensures.faults
 
-pub returns-clause-repeated : goal.returns-clause-repeated
-returns-clause-repeated g c = no_world c.play_on.result _ c.play_on.ensures.faults
-
 pub returns-clause-faults : goal.returns-clause-faults
-returns-clause-faults g c = IfErr-weaker c.play_on.result _ _ (λ fault why. played_ends fault why) c.play_on.ensures.faults
+returns-clause-faults g c = played_ends g.A.Memory.may_refuse c.args.config.now c.play_on.result c.play_on.ensures.faults c.play_on.ensures.memory

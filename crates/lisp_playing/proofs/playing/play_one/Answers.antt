@@ -1,5 +1,5 @@
 use Rattle.std.specs.String.{string_bytes}
-use Rattle.lisp_playing.proofs.Leading.{only_write}
+use Rattle.lisp_playing.proofs.Leading.{only_write, of_err}
 use Rattle.lisp_playing.proofs.Turning.{at_ok}
 use Rattle.lisp_playing.proofs.playing.play_one.Goals as goal
 
@@ -7,7 +7,9 @@ pub returns-clause-plays : goal.returns-clause-plays
 returns-clause-plays g c = at_ok c.write_text.result _ _ (λ wrote. record { text = string_bytes c.in_ok-text.text; written = rw c.deref.ensures at wrote; turns = c.in_ok-text.ensures.turns }) c.write_text.ensures.ok
 
 pub returns-clause-breaks : goal.returns-clause-breaks
-returns-clause-breaks g c = λ _. (string_bytes c.in_ok-text.text, c.in_ok-text.ensures.turns)
+returns-clause-breaks g c = λ is.
+    let written = rw c.deref.ensures at (of_err c.write_text.result is c.write_text.ensures.front) in
+    record { text = string_bytes c.in_ok-text.text; turns = c.in_ok-text.ensures.turns; written = written }
 
 pub returns-clause-keeps : goal.returns-clause-keeps
 returns-clause-keeps g c = only_write _ c.write_text.ensures.fault

@@ -1,0 +1,41 @@
+//! What a client is told of a network of one Map-Server and one router, after a registration and its reply.
+
+use crate::playing::SCHEDULE;
+use lisp_client::{Told, ask};
+use lisp_nonces::Fate;
+use lisp_sites::Config;
+use lisp_world::Event;
+use std::alloc::Global;
+
+/// A registration of the router, and its way to the Map-Server and back.
+const EVENTS: [Event; 3] = [
+    Event::Send {
+        router: 1,
+        server: 0,
+        fate: Fate::Done,
+    },
+    Event::Deliver {
+        k: 0,
+        fate: Fate::Done,
+    },
+    Event::Deliver {
+        k: 1,
+        fate: Fate::Done,
+    },
+];
+
+#[test]
+fn a_client_is_told_the_row_that_was_sent_and_what_was_counted(rt: HostRuntime) {
+    let told = told(rt.alloc()).expect(&rt, "what is told");
+    let nonce = told.rows.first().map(|row| row.nonce);
+    assert!(rt; told.rows.len() == 1);
+    assert!(rt; nonce == Some(1));
+    assert!(rt; told.counted == Some((1, 1)));
+}
+
+/// What the Map-Server and the router tell after the events.
+fn told(alloc: Global) -> Option<Told> {
+    let (configuration, _) = SCHEDULE.split_once("---\n")?;
+    let config = Config::from_toml(alloc, alloc, configuration).ok()?;
+    ask(alloc, &config, &EVENTS, 0, 1, 0)
+}
