@@ -5,6 +5,9 @@ use Rattle.lisp_answer.specs.Fault.{fault_number}
 use Rattle.lisp_streams.specs.Fault.{play_fault_number, play_fault_status, play_fault_line}
 use Rattle.lisp_numbers.specs.Fault.{explain_fault_number, explain_fault_status}
 use Rattle.lisp_streams.specs.RunFault.{run_status, run_line}
+use Rattle.lisp_streams.specs.declared.input_fault.InputFault.{InputFault}
+use Rattle.lisp_streams.specs.declared.input_fault.InputFault.TheVariants as input_faults
+use Rattle.lisp_streams.specs.declared.play_fault.PlayFault.TheVariants as play_faults
 use Rattle.lispd_words.specs.declared.fault.SetupFault.{SetupFault}
 use Rattle.lispd_words.specs.declared.fault.SetupFault.TheVariants as setup_faults
 use Rattle.lispd_words.specs.declared.fault.ProgramFault.{ProgramFault}
@@ -43,3 +46,9 @@ abbrev pub program_fault_line : ProgramFault → Option ℕ
 program_fault_line (Play fault) = play_fault_line fault
 program_fault_line (Run fault) = run_line fault.line
 program_fault_line _ = None
+
+-- what a fault of an input is to the program: a configuration's fault without its place
+abbrev pub of_input : InputFault → ProgramFault
+of_input input_faults.File = File
+of_input (input_faults.Config placed) = Play (play_faults.Config placed.fault)
+of_input (input_faults.Input fault) = Play fault

@@ -62,25 +62,25 @@ pub enum ProgramFault {
     Words,
     /// The options give no setup.
     #[error(transparent)]
-    Setup(#[from] SetupFault),
+    Setup(SetupFault),
     /// The line was not answered.
     #[error(transparent)]
-    Answer(#[from] AnswerFault),
+    Answer(AnswerFault),
     /// The file can't be opened.
     #[error("the file can't be opened")]
     File,
     /// The schedule was not played to its end, or the configuration is faulty.
     #[error(transparent)]
-    Play(#[from] PlayFault),
+    Play(PlayFault),
     /// `--turns` has another form than it takes.
     #[error("--turns takes a whole number from 0 to 4294967295")]
     Turns,
     /// A node or network on sockets and files ended before its end.
     #[error("the program stopped")]
-    Run(#[from] RunFault),
+    Run(RunFault),
     /// The number has another form than `explain` takes, is that of nothing, or its text can't be written.
     #[error(transparent)]
-    Explain(#[from] ExplainFault),
+    Explain(ExplainFault),
 }
 
 impl ProgramFault {
@@ -126,11 +126,65 @@ impl ProgramFault {
     }
 }
 
+impl From<SetupFault> for ProgramFault {
+    ghost use Rattle.lispd_words.specs.declared.fault.ProgramFault.TheVariants.{Setup};
+
+    ghost from_gives = { λ why fault. fault ≡ Setup why };
+
+    fn from(why: SetupFault) -> ProgramFault {
+        ProgramFault::Setup(why)
+    }
+}
+
+impl From<AnswerFault> for ProgramFault {
+    ghost use Rattle.lispd_words.specs.declared.fault.ProgramFault.TheVariants.{Answer};
+
+    ghost from_gives = { λ why fault. fault ≡ Answer why };
+
+    fn from(why: AnswerFault) -> ProgramFault {
+        ProgramFault::Answer(why)
+    }
+}
+
+impl From<PlayFault> for ProgramFault {
+    ghost use Rattle.lispd_words.specs.declared.fault.ProgramFault.TheVariants.{Play};
+
+    ghost from_gives = { λ why fault. fault ≡ Play why };
+
+    fn from(why: PlayFault) -> ProgramFault {
+        ProgramFault::Play(why)
+    }
+}
+
+impl From<RunFault> for ProgramFault {
+    ghost use Rattle.lispd_words.specs.declared.fault.ProgramFault.TheVariants.{Run};
+
+    ghost from_gives = { λ why fault. fault ≡ Run why };
+
+    fn from(why: RunFault) -> ProgramFault {
+        ProgramFault::Run(why)
+    }
+}
+
+impl From<ExplainFault> for ProgramFault {
+    ghost use Rattle.lispd_words.specs.declared.fault.ProgramFault.TheVariants.{Explain};
+
+    ghost from_gives = { λ why fault. fault ≡ Explain why };
+
+    fn from(why: ExplainFault) -> ProgramFault {
+        ProgramFault::Explain(why)
+    }
+}
+
 impl From<InputFault> for ProgramFault {
-    fn from(fault: InputFault) -> ProgramFault {
-        match fault {
+    ghost use Rattle.lispd_words.specs.Fault.{of_input};
+
+    ghost from_gives = { λ why fault. fault ≡ of_input why };
+
+    fn from(why: InputFault) -> ProgramFault {
+        match why {
             InputFault::File => ProgramFault::File,
-            InputFault::Config(fault) => ProgramFault::Play(PlayFault::Config(fault.fault)),
+            InputFault::Config(placed) => ProgramFault::Play(PlayFault::Config(placed.fault)),
             InputFault::Input(fault) => ProgramFault::Play(fault),
         }
     }

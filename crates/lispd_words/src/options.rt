@@ -1,11 +1,10 @@
 //! The options of `answer`.
 
-ghost use Rattle.std.specs.Prelude.{◌≡◌, None, IsErrOf, IsOk};
+ghost use Rattle.std.specs.Prelude.{◌≡◌, IsErrOf, IsOk};
 ghost use Rattle.std.specs.Option.{option_map};
 ghost use Rattle.lisp_records.specs.Result.{Reads};
-ghost use Rattle.lispd_words.specs.Options.{Gives, option_name, option_text, site_in, key_in, secret_in, prefix_in, flag_of, setup_of};
+ghost use Rattle.lispd_words.specs.Options.{Gives, option_text, site_in, key_in, secret_in, prefix_in, flag_of, setup_of};
 ghost use Rattle.lispd_words.specs.declared.fault.SetupFault.{SetupFault};
-ghost use Rattle.lispd_words.specs.declared.option.AnswerOption.TheVariants as answer_options;
 
 use crate::fault::SetupFault;
 use crate::option::AnswerOption;
@@ -27,9 +26,9 @@ pub fn setup<A: Memory>(
 ) -> Result<AnswerSetup<A>, SetupFault>
     ensures setup { Gives (λ s. s) result (setup_of matches.entry) }
 
-    // Before the secret nothing takes memory; the default secret is out of memory only where its memory may be refused.
+    // Before the secret nothing takes memory; the secret is out of memory only where its memory may be refused.
     ensures early { IsErrOf result SetupFault.OutOfMemory → IsOk (site_in matches.entry) × IsOk (key_in matches.entry) }
-    ensures memory { option_text matches.entry (option_name answer_options.Secret) ≡ None → IsErrOf result SetupFault.OutOfMemory → A.may_refuse }
+    ensures memory { IsErrOf result SetupFault.OutOfMemory → A.may_refuse }
 {
     let site = site(matches)?;
     let key = key(matches)?;
@@ -82,7 +81,7 @@ fn key(matches: Option<&ArgMatches<'_>>) -> Result<u8, SetupFault>
 
 fn secret<A: Memory>(alloc: A, matches: Option<&ArgMatches<'_>>) -> Result<Bytes<A>, SetupFault>
     ensures secret { Gives (λ b. b) result (secret_in matches.entry) }
-    ensures memory { option_text matches.entry (option_name answer_options.Secret) ≡ None → IsErrOf result SetupFault.OutOfMemory → A.may_refuse }
+    ensures memory { IsErrOf result SetupFault.OutOfMemory → A.may_refuse }
 {
     let Some(digits) = text(matches, AnswerOption::Secret.name()) else {
         return Ok(Bytes::from_vec(Vec::try_from_slice(alloc, DEFAULT_SECRET)?));
