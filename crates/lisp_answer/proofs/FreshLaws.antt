@@ -56,7 +56,7 @@ only_memory after faults.OutOfMemory went cause = refl
 -- and no number was saved there
 no_base : (pair : Pair) (saved : ℕ) → IsBase (nonce_at empty pair) fresh_store pair (Some saved) → ⊥
 no_base pair saved base =
-    let kept : Contains (kept_at empty pair) (Some saved) = subst (λ (last : Option ℕ). IsBase last fresh_store pair (Some saved)) (nothing_at pair) base refl in
+    let kept : Contains (kept_at empty pair) (Some saved) = (subst (λ (last : Option ℕ). IsBase last fresh_store pair (Some saved)) (nothing_at pair) base).1 refl in
     only_none saved (subst (λ (values : List (Option ℕ)). Contains values (Some saved)) (nothing_kept pair) kept)
   where
     only_none : (saved : ℕ) → Contains (None ∷ []) (Some saved) → ⊥
