@@ -2,6 +2,7 @@
 
 ghost use Rattle.std.specs.FinMap.{empty};
 ghost use Rattle.std.specs.Prelude.{false};
+ghost use Rattle.lisp_nonces.specs.declared.fate.Fate.{Fate};
 
 use lisp_etr::{Etr, EtrConfig, Servers};
 use lisp_hmac::Key;
@@ -21,7 +22,7 @@ struct CountingStore {
 }
 
 impl NonceStore for CountingStore {
-    ghost seen = { λ s. record { kept = empty; faults = 0; is_honest = false; is_quiet = false; is_obedient = false } };
+    ghost seen = { λ s. record { kept = empty; faults = 0; is_honest = false; is_quiet = false; is_obedient = false; fate = Fate.Done } };
 
     ghost may_refuse = { ⊥ };
 
