@@ -1,4 +1,3 @@
 pub mod AnsweringLemmas
 pub mod InputLemmas
-pub mod OutputLemmas
 pub mod FreshLaws

@@ -4,6 +4,5 @@ pub mod Fresh
 pub mod Words
 pub mod Answer
 pub mod Line
-pub mod Output
 pub mod Fault
 pub mod Input

@@ -9,7 +9,7 @@ use Rattle.lisp_served.specs.Site.{SiteEntry}
 use Rattle.lisp_answer.specs.Setup.{Setup, sites_of}
 use Rattle.lisp_answer.specs.Words.{refusal_words}
 use Rattle.lisp_answer.specs.Answer.{Answer, Answers}
-use Rattle.lisp_answer.specs.Output.{WroteFront}
+use Rattle.lisp_output.specs.Output.{WroteFront}
 
 -- an answer in words: the Map-Notify in digits, or why there is none
 abbrev pub answer_words : Answer → List ℕ

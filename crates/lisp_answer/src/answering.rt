@@ -11,9 +11,9 @@ ghost use Rattle.lisp_answer.specs.declared.fault.AnswerFault.{AnswerFault};
 use crate::fault::AnswerFault;
 use crate::input::{content, read_line};
 use crate::line::words_for;
-use crate::output::write_bytes;
 use crate::site::AnswerSetup;
 use lisp_memory::{FallibleString, Memory};
+use lisp_output::write_bytes;
 use std::alloc::Allocator;
 use std::io::{Read, Write};
 
@@ -43,7 +43,7 @@ pub fn answer<A: Memory + Copy, B: Allocator, R: Read, W: Write>(
     ensures front { IsErrOf result AnswerFault.Write → IfSome (R.remaining reader.old) (λ input. AddsFront A.may_refuse (W.contents writer.old) (W.contents writer.new) setup.now input) }
 {
     let line = answer_line(alloc, setup, reader)?;
-    write_bytes(line.as_bytes(), writer)
+    write_bytes(line.as_bytes(), writer).map_err(|_| AnswerFault::Write)
 }
 
 // Reads one line, and gives the line that answers it.

@@ -7,7 +7,6 @@ mod fault;
 mod fresh;
 mod input;
 mod line;
-mod output;
 mod site;
 mod words;
 

@@ -16,7 +16,7 @@ use Rattle.lisp_script.specs.Order.{Order}
 use Rattle.lisp_streams.specs.declared.play_fault.PlayFault.{PlayFault}
 use Rattle.lisp_streams.specs.declared.play_fault.PlayFault.TheVariants as faults
 use Rattle.lisp_streams.specs.Input.{most_bytes}
-use Rattle.lisp_streams.specs.Output.{WroteFront}
+use Rattle.lisp_output.specs.Output.{WroteFront}
 use Rattle.lisp_streams.specs.Schedule.{schedule_of, IsFaulty}
 use Rattle.lisp_playing.specs.Playing.{Tells, Plays, FailsAsAsked}
 

@@ -12,7 +12,7 @@ use Rattle.lisp_world.specs.Faults.{fault_of}
 use Rattle.lisp_schedules.specs.declared.world_fault.WorldFault.{WorldFault}
 use Rattle.lisp_schedules.specs.declared.world_fault.WorldFault.TheVariants.{OutOfMemory}
 use Rattle.lisp_lines.specs.Line.{line_text}
-use Rattle.lisp_streams.specs.Output.{WroteFront}
+use Rattle.lisp_output.specs.Output.{WroteFront}
 use Rattle.lisp_script.specs.declared.command.Command.TheVariants.{Act, Hold, Acks, Ask, Due}
 use Rattle.lisp_script.specs.Order.{Order}
 use Rattle.lisp_served.specs.Configuration.{Configuration}

@@ -1,4 +1,3 @@
 mod InputLemmas
-mod OutputLemmas
 mod PartsLemmas
 mod Scheduled

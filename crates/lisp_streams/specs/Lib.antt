@@ -1,6 +1,5 @@
 pub mod Fault
 pub mod Input
-pub mod Output
 pub mod Parts
 pub mod Schedule
 pub mod RunFault

@@ -3,7 +3,7 @@
 ghost use Rattle.std.specs.Prelude.{◌≡◌, ◌⊎◌, OnOk, IfErr, IsErrOf};
 ghost use Rattle.std.specs.Io.KnownBytes.{Appends, Keeps};
 ghost use Rattle.lisp_lines.specs.Line.{line_text};
-ghost use Rattle.lisp_streams.specs.Output.{WroteFront};
+ghost use Rattle.lisp_output.specs.Output.{WroteFront};
 ghost use Rattle.lisp_streams.specs.declared.play_fault.PlayFault.TheVariants.{OutOfMemory};
 ghost use Rattle.lisp_streams.specs.declared.play_fault.PlayFault.TheVariants as faults;
 

@@ -3,7 +3,7 @@ use Rattle.std.proofs.Common.{◌≡◌, ℕ, ◌+◌, List, [], ◌∷◌, ◌+
 use Rattle.std.specs.Prelude.{◌==◌}
 use Rattle.std.specs.Io.KnownBytes.{Appends, Keeps}
 use Rattle.std.proofs.Math.Seq.{take-append_seam}
-use Rattle.lisp_answer.specs.Output.{WroteFront}
+use Rattle.lisp_output.specs.Output.{WroteFront}
 
 -- a front of the text went out, and the rest is left
 pub record Wrote (before after : Option (List ℕ)) (text rest : List ℕ) : Type 0 where

@@ -1,6 +1,6 @@
-use Rattle.lisp_answer.proofs.OutputLemmas.{Wrote, wrote_none, wrote_more, wrote_zero, wrote_front}
-use Rattle.lisp_answer.proofs.output.write_bytes.Goals as goal
-use Rattle.lisp_answer.proofs.output.write_bytes.Goals.{in-Ok, in-Err, else-loop-test, then-loop-test+then-is_empty, then-loop-test+else-is_empty+in-Ok-eq0, then-loop-test+else-is_empty+in-Err-2}
+use Rattle.lisp_output.proofs.OutputLemmas.{Wrote, wrote_none, wrote_more, wrote_zero, wrote_front}
+use Rattle.lisp_output.proofs.output.write_bytes.Goals as goal
+use Rattle.lisp_output.proofs.output.write_bytes.Goals.{in-Ok, in-Err, else-loop-test, then-loop-test+then-is_empty, then-loop-test+else-is_empty+in-Ok-eq0, then-loop-test+else-is_empty+in-Err-2}
 
 pub loop-preserved : goal.loop-preserved
 loop-preserved g c =

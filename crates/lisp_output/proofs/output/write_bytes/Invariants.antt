@@ -1,5 +1,5 @@
-use Rattle.lisp_streams.proofs.OutputLemmas.{Wrote}
-use Rattle.lisp_streams.proofs.output.write_bytes.Given as goal
+use Rattle.lisp_output.proofs.OutputLemmas.{Wrote}
+use Rattle.lisp_output.proofs.output.write_bytes.Given as goal
 
 -- what went out, and what is left
 abbrev pub invariant-loop : goal.invariant-loop

@@ -1,17 +1,18 @@
-//! Writing the line of the answer.
+//! Writing bytes.
 
-ghost use Rattle.std.specs.Prelude.{◌≡◌, OnOk, IfErr, OnErr};
+ghost use Rattle.std.specs.Prelude.{◌≡◌, OnOk, OnErr};
 ghost use Rattle.std.specs.Io.KnownBytes.{Appends};
-ghost use Rattle.lisp_answer.specs.Output.{WroteFront};
-ghost use Rattle.lisp_answer.specs.declared.fault.AnswerFault.TheVariants as faults;
+ghost use Rattle.lisp_output.specs.Output.{WroteFront};
 
-use crate::fault::AnswerFault;
 use std::io::{ErrorKind, Write};
 
-/// Writes bytes, in as many writes as it takes; at `Write` a front of them went out, but not the whole.
-pub(crate) fn write_bytes<W: Write>(bytes: &[u8], writer: &mut W) -> Result<(), AnswerFault>
+/// The writer failed, or took nothing more.
+#[derive(Clone, Copy, Debug, PartialEq, Eq)]
+pub struct Unwritten;
+
+/// Writes bytes, in as many writes as it takes. At `Unwritten` a front of them went out, but not the whole.
+pub fn write_bytes<W: Write>(bytes: &[u8], writer: &mut W) -> Result<(), Unwritten>
     ensures ok { OnOk result (Appends (W.contents writer.old) (W.contents writer.new) bytes.now) }
-    ensures fault { IfErr result (λ f. f ≡ faults.Write) }
     ensures front { OnErr result (WroteFront (W.contents writer.old) (W.contents writer.new) bytes.now) }
 {
     let mut rest = bytes;
@@ -29,6 +30,6 @@ pub(crate) fn write_bytes<W: Write>(bytes: &[u8], writer: &mut W) -> Result<(), 
     if rest.is_empty() {
         Ok(())
     } else {
-        Err(AnswerFault::Write)
+        Err(Unwritten)
     }
 }
