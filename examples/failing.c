@@ -4,9 +4,11 @@
  *   read       a read fails (EIO)
  *   interrupt  a read is interrupted (EINTR)
  *   unready    a read is interrupted, and so is each read after it
+ *   early      a read is interrupted, and so is each read before it
  *   write      a write fails (EIO)
  *   short      a write takes one byte alone
- * Once it did, the byte '!' is written to file descriptor FAILING_REPORT. Calls count once main began. */
+ * Once it did, the byte '!' is written to file descriptor FAILING_REPORT. Calls count once main began. A read of standard
+ * input behind its end fails in any case (EIO). */
 #define _GNU_SOURCE
 #include <dlfcn.h>
 #include <errno.h>
@@ -29,6 +31,12 @@ __attribute__((constructor)) static void begin(void)
     at = atol(number);
     report = atoi(to);
     kind = call;
+}
+
+/* Whether this call comes before the one that fails. */
+static int precedes(const char *call)
+{
+    return strcmp(kind, call) == 0 && count + 1 < at;
 }
 
 /* Whether this call is the one that fails. */
@@ -94,13 +102,16 @@ static int failed(int error)
 
 ssize_t read(int from, void *into, size_t length)
 {
-    static int unready;
-    if (fails("read"))
+    static int unready, ended;
+    if (fails("read") || (ended && from == STDIN_FILENO))
         return failed(EIO);
     unready = unready || fails("unready");
-    if (unready || fails("interrupt"))
+    int early = precedes("early");
+    if (fails("early") || early || unready || fails("interrupt"))
         return failed(EINTR);
-    return syscall(SYS_read, from, into, length);
+    ssize_t taken = syscall(SYS_read, from, into, length);
+    ended = ended || (from == STDIN_FILENO && taken == 0);
+    return taken;
 }
 
 ssize_t write(int to, const void *from, size_t length)

@@ -24,6 +24,8 @@ ENDED = re.compile(r"lispd: fault (?:24|75|76|86 line \d+|97)\n")
 IN_WORDS = re.compile(r"fault (?:24|97): (?:\S+ \d+(?:, \S+ \d+)?: )?out of memory.*\n")
 # How many reads are never ready: each is tried two million times.
 UNREADY = 3
+# How often an input is read at most, a byte at a time, the reads that were interrupted among them.
+MOST_READS = 2_097_152
 # Further growths that a script with one line more may ask for before it is played.
 MORE = 40
 
@@ -143,6 +145,15 @@ def fail_streams(folder, words, given, printed):
             wrong(name, "write", at, (status, output, error))
 
 
+def bound_reads(folder, words, given, printed, reads):
+    """An input that takes so many reads is read if no more are interrupted than the bound leaves; one more is fault 87."""
+    most = MOST_READS - reads
+    for at, wanted in [(most, [0, printed, ""]), (most + 1, [1, "", "lispd: fault 87\n"])]:
+        has_failed, *ended = failing(folder, "early", at, words, given)
+        if not has_failed or ended != wanted:
+            wrong(f"lispd {' '.join(words)}", "early", at, ended)
+
+
 def short(schedule):
     return len(script_lines(schedule.read_text())[1]) <= LONGEST
 
@@ -153,10 +164,14 @@ with tempfile.TemporaryDirectory() as room, concurrent.futures.ThreadPoolExecuto
     asked = [side.submit(refuse_growth, room, it) for it in schedules]
     asked += [side.submit(refuse_text, room, words)
               for words in (["check", str(HERE / "configuration.toml")], ["explain"], ["explain", "57"], ["--help"])]
-    asked += [side.submit(refuse_answer, room),
-              side.submit(fail_streams, room, [], (HERE / "map-register.hex").read_bytes(), (HERE / "map-notify.hex").read_text())]
-    asked += [side.submit(fail_streams, room, ["play", "-"], it.read_bytes(), it.with_suffix(".out").read_text())
-              for it in schedules[:3]]
+    asked.append(side.submit(refuse_answer, room))
+    line, answer = (HERE / "map-register.hex").read_bytes(), (HERE / "map-notify.hex").read_text()
+    asked += [side.submit(fail_streams, room, [], line, answer), side.submit(bound_reads, room, [], line, answer, len(line))]
+    for it in schedules[:3]:
+        given, printed = it.read_bytes(), it.with_suffix(".out").read_text()
+        # (its end takes a read, too)
+        asked += [side.submit(fail_streams, room, ["play", "-"], given, printed),
+                  side.submit(bound_reads, room, ["play", "-"], given, printed, len(given) + 1)]
     for it in asked:
         it.result()
 print(f"{len(schedules)} schedules, {runs} runs with a call that fails, {len(failed)} wrong", file=sys.stderr)

@@ -1,11 +1,9 @@
 //! Tests of what neither a clause nor a stored run of `examples` shows: the vectors of HMAC (`hmac`), what worked bytes say
 //! (`records`, `messages`), a table of hundreds of rows (`rows`), readers and writers that fail (`playing`),
-//! readers that take long (`bounds`), stores that fail (`stores`), and what a client is told (`client`). This crate has no
+//! stores that fail (`stores`), and what a client is told (`client`). This crate has no
 //! function of its own.
 #![tactic(auto)]
 
-#[cfg(test)]
-mod bounds;
 #[cfg(test)]
 mod client;
 #[cfg(test)]

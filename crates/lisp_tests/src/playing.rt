@@ -66,8 +66,8 @@ fn ends_so(alloc: Global, before: usize, room: usize, fault: PlayFault, written:
     ended == Err(fault) && writer.taken.as_slice() == front.as_bytes()
 }
 
-/// A function of its own, since what `play` promises would be proved of this reader and this writer too.
-pub fn played<R: Read, W: Write>(
+// A function of its own, since what `play` promises would be proved of this reader and this writer too.
+fn played<R: Read, W: Write>(
     alloc: Global,
     reader: &mut R,
     writer: &mut W,
