@@ -13,7 +13,7 @@ use crate::input::{content, read_line};
 use crate::line::words_for;
 use crate::site::AnswerSetup;
 use lisp_memory::{FallibleString, Memory};
-use lisp_output::write_bytes;
+use lisp_output::{Unwritten, write_bytes};
 use std::alloc::Allocator;
 use std::io::{Read, Write};
 
@@ -43,7 +43,10 @@ pub fn answer<A: Memory + Copy, B: Allocator, R: Read, W: Write>(
     ensures front { IsErrOf result AnswerFault.Write → IfSome (R.remaining reader.old) (λ input. AddsFront A.may_refuse (W.contents writer.old) (W.contents writer.new) setup.now input) }
 {
     let line = answer_line(alloc, setup, reader)?;
-    write_bytes(line.as_bytes(), writer).map_err(|_| AnswerFault::Write)
+    match write_bytes(line.as_bytes(), writer) {
+        Ok(()) => Ok(()),
+        Err(Unwritten) => Err(AnswerFault::Write),
+    }
 }
 
 // Reads one line, and gives the line that answers it.

@@ -6,7 +6,7 @@ ghost use Rattle.lisp_output.specs.Output.{WroteFront};
 ghost use Rattle.lisp_streams.specs.declared.play_fault.PlayFault.TheVariants as faults;
 
 use crate::play_fault::PlayFault;
-use lisp_output::write_bytes;
+use lisp_output::{Unwritten, write_bytes};
 use std::io::Write;
 
 /// Writes a text; at `Write` a front of it went out, but not the whole.
@@ -15,5 +15,8 @@ pub fn write_text<W: Write>(text: &str, writer: &mut W) -> Result<(), PlayFault>
     ensures fault { IfErr result (λ f. f ≡ faults.Write) }
     ensures front { OnErr result (WroteFront (W.contents writer.old) (W.contents writer.new) text.now) }
 {
-    write_bytes(text.as_bytes(), writer).map_err(|_| PlayFault::Write)
+    match write_bytes(text.as_bytes(), writer) {
+        Ok(()) => Ok(()),
+        Err(Unwritten) => Err(PlayFault::Write),
+    }
 }
