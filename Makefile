@@ -3,10 +3,11 @@
 # make demo     a Map-Server and two routers on loopback, of which the Map-Server is killed and comes back: some seconds
 # make test     the gate: proves everything from nothing, tries the wrong bodies, runs the tests and the samples
 # make mutants  tries further wrong bodies; NAME=lisp_server those of one crate
+# make slips    plants wrong definitions: an example of theirs has to refuse each; NAME=lisp_client those of one list
 # make fuzz     plays schedules that are drawn: COUNT of them from SEED on, over out/lispd
 # make bench    measures the codec, the tag and registrations; and of out/lispd the reading of configurations, plays, and a server
 # make clean    removes what was built
-.PHONY: run lispd demo test mutants fuzz bench clean
+.PHONY: run lispd demo test mutants slips fuzz bench clean
 
 run:
 	@tools/run
@@ -20,11 +21,15 @@ demo: lispd
 # No crate may use lisp_memory's own proof that the machine's memory may be refused: grep prints the files that do.
 test:
 	@! grep -rlE 'Rattle\.lisp_memory|lisp_memory::(specs|proofs)' crates --include=*.antt --include=*.rt | grep -v '^crates/lisp_memory/'
+	@tools/slips --compare docs/PROMISES.md
 	rt ci
 	@examples/check.sh crates/lispd_main/out/lispd_main
 
 mutants:
 	@tools/mutants $(NAME)
+
+slips:
+	@tools/slips $(NAME)
 
 SEED = 1
 COUNT = 10000

@@ -1,13 +1,8 @@
 pub mod KeptLemmas
 pub mod TurnLemmas
 pub mod ItemLemmas
-pub mod Samples
-pub mod Steps
-pub mod LegalRows
-pub mod NearMisses
 pub mod Locality
 pub mod ListLemmas
-pub mod Meanings
 pub mod Rising
 pub mod RisingSteps
 pub mod RisingLaws
@@ -37,3 +32,4 @@ pub mod NoticeRising
 pub mod NoticeNonces
 pub mod CleanLaws
 pub mod RowLaws
+pub mod Examples

@@ -11,7 +11,6 @@ use Rattle.lisp_schedules.specs.declared.line.Line.TheVariants as lines
 use Rattle.lisp_schedules.specs.declared.refusal.Refusal.TheVariants as refusals
 use Rattle.lisp_schedules.specs.Trace.{Happening, Step, Opening, shown, is_up, up_after}
 use Rattle.lisp_schedules.specs.Turn.{Turn, values, values_after, Saves, IsBase, MaySave}
-use Rattle.lisp_etr.specs.Sending.{last_nonce}
 use Rattle.lisp_schedules.specs.Sending.{CountsFrom, pair_at, last_sent, last_sent_after, start_values, start_values_after}
 use Rattle.lisp_schedules.specs.Legal.{MayCome, Legal, LegalTrace, turn_of}
 use Rattle.lisp_schedules.proofs.ListLemmas.{at_head}

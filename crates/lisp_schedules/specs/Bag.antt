@@ -1,5 +1,5 @@
 -- Bag: the datagrams that the nodes sent. Nothing leaves it, so that each may arrive late, again, or never.
-use Rattle.std.specs.Prelude.{ℕ, ◌==◌, List, [], ◌∷◌, ◌++◌, slice_get, map, Option, Some, None, Result, Ok, Err, if◌then◌else◌, false, ◌≢◌}
+use Rattle.std.specs.Prelude.{ℕ, ◌==◌, List, [], ◌∷◌, ◌++◌, slice_get, map, Option, Some, None, Result, Ok, if◌then◌else◌, false}
 use Rattle.std.specs.Option.{option_map, option_and_then, option_to_list}
 use Rattle.lisp_records.specs.declared.address.Addr.{Addr}
 use Rattle.lisp_served.specs.Configuration.{Configuration}

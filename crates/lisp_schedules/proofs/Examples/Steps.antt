@@ -1,58 +1,45 @@
 -- Legal steps of the small network.
-use Rattle.std.proofs.Common.{true≢false, ◌∙◌, rules, ◌≡◌, ℕ, ◌+◌, ◌≤◌, Bool, true, false, List, [], ◌∷◌, length, Option, Some, None, Ok, refl, sym, ap, subst, inl, inr, arith}
-use Rattle.std.specs.Prelude.{◌≢◌, ◌⊎◌, ◌-◌, ◌<◌, ◌^◌, slice_get, nat_le, ok_or}
+use Rattle.std.proofs.Common.{Bool, List, None, Ok, Option, Some, [], ap, arith, false, inl, inr, length, refl, subst, sym, true, true≢false, ℕ, ◌+◌, ◌∙◌, ◌∷◌, ◌≡◌, ◌≤◌}
 use Rattle.std.specs.List.{Contains}
-use Rattle.std.proofs.lemmas.Bool.{leb-true, le-leb}
+use Rattle.std.specs.Prelude.{nat_le, slice_get, ◌<◌, ◌^◌, ◌≢◌, ◌⊎◌}
+use Rattle.std.proofs.lemmas.Bool.{le-leb, leb-true}
+use Rattle.lisp_records.specs.Database.{database_of, repeats as repeats_in}
 use Rattle.lisp_records.specs.Moment.{max_moment}
-use Rattle.lisp_records.specs.Address.{masked}
 use Rattle.lisp_records.specs.Record.{Mapping}
+use Rattle.lisp_records.specs.Written.{written}
+use Rattle.lisp_records.specs.declared.address.Addr.{Addr}
 use Rattle.lisp_nonces.specs.Kept.{kept_at, number}
-use Rattle.lisp_nonces.specs.declared.pair.Pair.{Pair}
 use Rattle.lisp_nonces.specs.declared.fate.Fate.TheVariants as fates
 use Rattle.lisp_nonces.specs.declared.fault.StoreFault.TheVariants as stores
-use Rattle.lisp_records.specs.Database.{database_of, repeats as repeats_in}
-use Rattle.lisp_records.specs.Written.{written}
-use Rattle.lisp_checks.specs.declared.refused.Refused.TheVariants as refuseds
+use Rattle.lisp_nonces.specs.declared.pair.Pair.{Pair}
+use Rattle.lisp_messages.specs.Authentic.{is_authentic}
+use Rattle.lisp_messages.specs.Message.{AreRecords, Registers, Said}
+use Rattle.lisp_etr.specs.Hearing.{first_notice, is_latest}
+use Rattle.lisp_etr.specs.Sending.{block_end, last_nonce}
+use Rattle.lisp_checks.specs.Checks.{first_not_allowed}
+use Rattle.lisp_checks.specs.Nonces.{IsBelow, nonce_after}
 use Rattle.lisp_checks.specs.Pairs.{notice_pair}
-use Rattle.lisp_checks.specs.Nonces.{nonce_after, IsBelow}
+use Rattle.lisp_checks.specs.declared.refused.Refused.TheVariants as refuseds
+use Rattle.lisp_schedules.specs.Bag.{Item, arrival_of, bag, bytes_of, since}
+use Rattle.lisp_schedules.specs.Counted.{heard, latest, server_from}
+use Rattle.lisp_schedules.specs.Held.{Acceptance, heard_last, held, last_of, records_of}
+use Rattle.lisp_schedules.specs.Legal.{Legal, turn_of}
+use Rattle.lisp_schedules.specs.Receiving.{FailsCheck, awaiting}
+use Rattle.lisp_schedules.specs.Sending.{CountsFrom}
+use Rattle.lisp_schedules.specs.Timers.{Notice, due, is_due, last_notice, notice_to}
+use Rattle.lisp_schedules.specs.Trace.{Step, clock, database, is_listed, is_router, is_server, is_up, node_at}
+use Rattle.lisp_schedules.specs.Turn.{IsBase, SaveFails, Saves}
 use Rattle.lisp_schedules.specs.declared.event.Event.TheVariants as events
 use Rattle.lisp_schedules.specs.declared.refusal.Refusal.TheVariants as refusals
-use Rattle.lisp_messages.specs.Message.{Said, IsRegistration, AreRecords, Registers, Notifies}
-use Rattle.lisp_messages.specs.Authentic.{is_authentic}
-use Rattle.lisp_checks.specs.Checks.{secret_under, first_not_allowed}
-use Rattle.lisp_etr.specs.declared.notify_fault.NotifyFault.TheVariants.{NotMine, BadAuth}
-use Rattle.lisp_records.specs.Result.{◌>>=◌}
-use Rattle.lisp_etr.specs.Hearing.{check, checked, Heard, first_notice, is_latest}
-use Rattle.lisp_etr.specs.Sending.{last_nonce, block_end}
-use Rattle.lisp_records.specs.declared.address.Addr.{Addr}
-use Rattle.lisp_schedules.specs.Trace.{Step, clock, is_up, is_server, is_router, is_listed, node_at, database}
-use Rattle.lisp_schedules.specs.Held.{Acceptance, last_of, heard_last, records_of}
-use Rattle.lisp_schedules.specs.Timers.{Notice, notice_to, is_due, last_notice}
-use Rattle.lisp_schedules.specs.Bag.{Item, bytes_of, arrival_of, bag, since}
-use Rattle.lisp_schedules.specs.Counted.{heard, server_from, latest}
-use Rattle.lisp_schedules.specs.Turn.{IsBase, Saves, SaveFails}
-use Rattle.lisp_schedules.specs.Sending.{CountsFrom}
-use Rattle.lisp_schedules.specs.Receiving.{FailsCheck, awaiting}
-use Rattle.lisp_schedules.specs.Legal.{Legal, turn_of}
-use Rattle.lisp_schedules.proofs.KeptLemmas.{set_here, set_others, IsFull, stays, narrows}
-use Rattle.lisp_schedules.proofs.TurnLemmas.{saved, in_doubt}
-use Rattle.lisp_schedules.proofs.ItemLemmas.{item_authentic, passes, is_not_allowed}
-use Rattle.lisp_schedules.proofs.Samples.{opening, network, site, secret, one, wide, mapping, registers, sent_by, got_from, local_at, at, sends, takes, replays, counts, changes, ticks, restarts, doubts_send, doubts_take, fails_load, restarts_to, tells, repeats, notices, ends, refuses}
+use Rattle.lisp_schedules.proofs.Examples.Arrivals.{admitted, fits, hears}
+use Rattle.lisp_schedules.proofs.Examples.Samples.{answered, at, changes, counts, doubts_send, doubts_take, ends, fails_load, got_from, local_at, mapping, network, notices, one, opening, refuses, registers, repeats, replays, restarts, restarts_to, secret, sends, sent_by, site, takes, tells, ticks, told, wide}
+use Rattle.lisp_schedules.proofs.ItemLemmas.{is_not_allowed, item_authentic}
+use Rattle.lisp_schedules.proofs.KeptLemmas.{IsFull, narrows, set_here, set_others, stays}
+use Rattle.lisp_schedules.proofs.TurnLemmas.{in_doubt, saved}
 
 -- a router that saves each nonce by itself
 block_of_one : (nonce : ℕ) → nonce ≤ last_nonce → block_end nonce 1 ≡ nonce
 block_of_one nonce low = omega (arith, low)
-
--- messages of a few records fit
-pub fits : (db : List Mapping) (nonce : ℕ) → nonce < 2 ^ 64 → AreRecords db → IsRegistration (registers db nonce)
-fits db nonce low records = record { nonce = low; key = omega arith; records = records; xtr = refl; xtr_bytes = search rules; site = omega arith }
-
-pub no_records : AreRecords []
-no_records = (omega arith, tt)
-
-pub wide_record : (ttl : ℕ) → ttl < 2 ^ 32 → AreRecords (mapping wide ttl ∷ [])
-unfolding masked
-wide_record ttl low = (omega arith, (record { ttl = low; act = omega arith; version = omega arith; block = (omega arith, refl); eid = record { width = refl; bytes = (omega arith, (omega arith, (omega arith, (omega arith, tt)))) }; count = omega arith; locators = tt }, tt))
 
 pub sends_legal : (T : List Step) (server nonce datagram : ℕ) (base : Option ℕ) → is_up T 2 ≡ true → is_server network server ≡ true → is_listed network 2 server ≡ true → CountsFrom opening T 2 base → nonce ≡ number base + 1 → nonce < 2 ^ 63
     → AreRecords (database opening T 2) → datagram ≡ length (bag opening T) → Legal opening T (sends T server nonce datagram)
@@ -77,10 +64,6 @@ sends_legal T server nonce datagram base up kind listed counts next low records 
     },
   );
 }
-
--- a Map-Register of the first router passes the checks
-admitted : (i : Item) (db : List Mapping) (nonce : ℕ) → i.secret ≡ secret → first_not_allowed site db ≡ None → secret_under network.sites (bytes_of i) (registers db nonce) ≡ Ok secret
-admitted i db nonce key allowed = passes network.sites (bytes_of i) (registers db nonce) site secret refl refl (subst (λ (s : List ℕ). is_authentic (bytes_of i) s ≡ true) key (item_authentic i)) refl allowed
 
 pub takes_legal : (T : List Step) (k server nonce datagram : ℕ) (i : Item) (db : List Mapping) (base : Option ℕ) → slice_get (bag opening T) k ≡ Some i → node_at network i.to ≡ Some server → is_server network server ≡ true
     → i.message ≡ Registers (registers db nonce) → i.secret ≡ secret → first_not_allowed site db ≡ None
@@ -131,22 +114,6 @@ replays_legal T k server nonce saved i db sent there kind says key allowed count
     );
   };
 }
-
--- a Map-Notify under the network's key
-abbrev pub told : Addr → Addr → ℕ → List Mapping → Item
-told from to nonce records = record { from = from; to = to; secret = secret; message = Notifies (record { ack = false; nonce = nonce; key_id = 1; records = records }) }
-
-abbrev pub heard_of : ℕ → ℕ → List Mapping → Heard
-heard_of server nonce records = record { server = server; message = record { ack = false; nonce = nonce; key_id = 1; records = records } }
-
-passed : (s : Option ℕ) (server nonce : ℕ) (records : List Mapping) (b : Bool) → s ≡ Some server → b ≡ true
-    → ok_or s NotMine >>= (λ n. check b BadAuth >>= λ _. Ok (heard_of n nonce records)) ≡ Ok (heard_of server nonce records)
-passed s server nonce records b from tag = rw (from, tag) refl
-
--- from a server it passes the checks of the first router
-pub hears : (from to : Addr) (nonce : ℕ) (records : List Mapping) (server : ℕ) → server_from network 2 from ≡ Some server → (T : List Step) → heard opening T 2 (arrival_of (told from to nonce records)) ≡ Ok (heard_of server nonce records)
-unfolding checked
-hears from to nonce records server is T = passed _ server nonce records _ is (item_authentic (told from to nonce records))
 
 -- a number below another isn't above it
 pub not_above : (m n : ℕ) → n < m → nat_le m n ≡ false
@@ -303,10 +270,6 @@ notices_legal T k nonce datagram records up sent high place = record {
     arrives = record { acts = record { kind = refl; acts = refl; state = up }; same = refl; comes = inl (rw (hears (local_at 11) (local_at 21) nonce records 0 refl T, le-leb first_notice nonce high, place) refl) };
   };
 }
-
--- the Map-Notify-Ack of the first router
-abbrev pub answered : ℕ → List Mapping → Item
-answered nonce records = record { from = local_at 21; to = local_at 11; secret = secret; message = Notifies (record { ack = true; nonce = nonce; key_id = 1; records = records }) }
 
 pub ends_legal : (T : List Step) (k nonce : ℕ) (records : List Mapping) (n : Notice) → slice_get (bag opening T) k ≡ Some (answered nonce records)
     → awaiting (turn_of opening T (ends T k nonce)) (local_at 21) (record { ack = true; nonce = nonce; key_id = 1; records = records }) ≡ Some n → n.router ≡ one → n.key ≡ 1 → nonce ≡ n.nonce → Legal opening T (ends T k nonce)

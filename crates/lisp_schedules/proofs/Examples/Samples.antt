@@ -1,30 +1,37 @@
 -- A small network, its messages, and what its stores keep.
-use Rattle.std.proofs.Common.{ℕ, true, false, List, [], ◌∷◌, Option, Some, None}
-use Rattle.std.specs.Prelude.{◌+◌, ◌++◌, length}
-use Rattle.std.specs.FinMap.{insert, empty}
+use Rattle.std.proofs.Common.{List, None, Option, Some, [], false, true, ℕ, ◌∷◌}
+use Rattle.std.specs.FinMap.{empty, insert}
+use Rattle.std.specs.Prelude.{length, ◌++◌, ◌+◌}
+use Rattle.lisp_records.specs.Address.{Block}
+use Rattle.lisp_records.specs.Record.{Mapping}
+use Rattle.lisp_records.specs.Row.{Holding}
 use Rattle.lisp_records.specs.declared.address.Addr.{Addr}
 use Rattle.lisp_records.specs.declared.address.Addr.TheVariants.{V4}
 use Rattle.lisp_records.specs.declared.router.RouterId.{RouterId}
-use Rattle.lisp_records.specs.Address.{Block}
-use Rattle.lisp_records.specs.Record.{Mapping}
-use Rattle.lisp_served.specs.Site.{SiteEntry}
 use Rattle.lisp_served.specs.Configuration.{Configuration}
+use Rattle.lisp_served.specs.Site.{SiteEntry}
+use Rattle.lisp_nonces.specs.Kept.{kept_at}
 use Rattle.lisp_nonces.specs.declared.fate.Fate.TheVariants as fates
+use Rattle.lisp_nonces.specs.declared.fault.StoreFault.TheVariants as stores
 use Rattle.lisp_nonces.specs.declared.pair.Pair.{Pair}
 use Rattle.lisp_nonces.specs.declared.pair.PairKind.TheVariants as kinds
-use Rattle.lisp_nonces.specs.Kept.{kept_at}
-use Rattle.lisp_nonces.specs.declared.fault.StoreFault.TheVariants as stores
+use Rattle.lisp_messages.specs.Message.{Notifies, Registration}
+use Rattle.lisp_messages.specs.Reading.{after}
+use Rattle.lisp_etr.specs.Hearing.{Heard}
+use Rattle.lisp_etr.specs.Sending.{registration_of}
 use Rattle.lisp_etr.specs.declared.send_fault.SendFault.TheVariants as send_faults
 use Rattle.lisp_checks.specs.Pairs.{notice_pair}
-use Rattle.lisp_schedules.specs.declared.refusal.Refusal.{Refusal}
-use Rattle.lisp_messages.specs.Message.{Registration}
-use Rattle.lisp_etr.specs.Sending.{registration_of}
+use Rattle.lisp_checks.specs.declared.refused.Refused.TheVariants as refuseds
+use Rattle.lisp_schedules.specs.Accepted.{accepted}
+use Rattle.lisp_schedules.specs.Bag.{Item}
+use Rattle.lisp_schedules.specs.Timers.{Notice}
+use Rattle.lisp_schedules.specs.Trace.{Happening, Opening, Shown, Step, router_at, settings_of, shown}
 use Rattle.lisp_schedules.specs.declared.event.Event.TheVariants as events
 use Rattle.lisp_schedules.specs.declared.line.Line.{Line}
 use Rattle.lisp_schedules.specs.declared.line.Line.TheVariants as lines
+use Rattle.lisp_schedules.specs.declared.refusal.Refusal.{Refusal}
 use Rattle.lisp_schedules.specs.declared.refusal.Refusal.TheVariants as refusals
-use Rattle.lisp_checks.specs.declared.refused.Refused.TheVariants as refuseds
-use Rattle.lisp_schedules.specs.Trace.{Happening, Shown, Step, Opening, settings_of, router_at, shown}
+use Rattle.lisp_schedules.proofs.TurnLemmas.{saved}
 
 -- the last part of an xTR-ID
 abbrev pub xtr_of : ℕ → List ℕ
@@ -162,3 +169,22 @@ ends T k nonce = step (events.Deliver k fates.Done) (lines.Done 0 one nonce) 0 (
 -- refusals that leave all as it is
 abbrev pub refuses : List Step → Happening → ℕ → Refusal → Step
 refuses T event node why = step event (lines.Refused node why) node (at T node)
+
+-- a Map-Notify under the network's key
+abbrev pub told : Addr → Addr → ℕ → List Mapping → Item
+told from to nonce records = record { from = from; to = to; secret = secret; message = Notifies (record { ack = false; nonce = nonce; key_id = 1; records = records }) }
+
+abbrev pub heard_of : ℕ → ℕ → List Mapping → Heard
+heard_of server nonce records = record { server = server; message = record { ack = false; nonce = nonce; key_id = 1; records = records } }
+
+-- the Map-Notify-Ack of the first router
+abbrev pub answered : ℕ → List Mapping → Item
+answered nonce records = record { from = local_at 21; to = local_at 11; secret = secret; message = Notifies (record { ack = true; nonce = nonce; key_id = 1; records = records }) }
+
+-- a row of the first router
+abbrev pub row_of : Mapping → ℕ → ℕ → Holding
+row_of m nonce accepted = record { router = one; key = 1; nonce = nonce; mapping = m; accepted = accepted; life = 180000; proxy = true; from = local_at 21 }
+
+-- a notice of the first site's key that stands
+abbrev pub told_to : RouterId → ℕ → ℕ → List ℕ → Notice
+told_to router nonce datagram moments = record { router = router; key = 1; nonce = nonce; datagram = datagram; moments = moments }

@@ -1,0 +1,11 @@
+-- Examples: a small network, what the definitions make of its traces, and what they don't allow.
+pub mod Samples
+pub mod Traces
+pub mod Arrivals
+pub mod Steps
+pub mod LegalRows
+pub mod NearMisses
+pub mod BrokenPromises
+pub mod Premises
+pub mod Answers
+pub mod Meanings

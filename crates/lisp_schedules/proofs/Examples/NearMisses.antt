@@ -1,0 +1,8 @@
+-- Steps that are illegal: each would be legal but for one thing.
+pub mod Common
+pub mod Sending
+pub mod Receiving
+pub mod Hearing
+pub mod Notifying
+pub mod Keeping
+pub mod Passing
