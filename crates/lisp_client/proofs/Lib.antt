@@ -1,1 +1,10 @@
 pub mod Promise
+pub mod Steps
+pub mod Arrivals
+pub mod AcceptedSteps
+pub mod Rises
+pub mod Tries
+pub mod Entries
+pub mod Rows
+pub mod Counts
+pub mod Stores

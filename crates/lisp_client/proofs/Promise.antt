@@ -1,14 +1,12 @@
 -- From the network's contracts to the client's.
-use Rattle.std.proofs.Common.{◌≡◌, ℕ, zero, suc, ◌+◌, ◌-◌, ◌^◌, ◌<◌, ◌≤◌, nat_lt, nat_le, ◌&&◌, Bool, true, false, List, [], ◌∷◌, ◌++◌, length, replicate, take, Option, Some, None, map, refl, sym, ap, subst, ◌∙◌, inl, inr, ◌⊎◌, arith}
+use Rattle.std.proofs.Common.{◌≡◌, ℕ, zero, suc, ◌+◌, ◌-◌, ◌^◌, ◌<◌, ◌≤◌, nat_lt, nat_le, ◌&&◌, Bool, true, false, List, [], ◌∷◌, ◌++◌, length, replicate, take, Option, Some, None, Ok, Err, map, refl, sym, ap, subst, ◌∙◌, inl, inr, ◌⊎◌, arith}
 use Rattle.std.proofs.lemmas.Bool.{ltb-true, ltb-false, leb-true}
 use Rattle.std.proofs.lemmas.List.{append-nil}
 use Rattle.std.proofs.lemmas.Option.{slice_get_within}
-use Rattle.std.specs.Prelude.{IfSome, IfNone, slice_get, IsTrue, if◌then◌else◌}
-use Rattle.std.specs.FinMap.{empty}
+use Rattle.std.specs.Prelude.{Result, IfOk, IfSome, IfNone, OnErr, slice_get, IsTrue, if◌then◌else◌}
 use Rattle.std.specs.Option.{option_map, option_and_then}
+use Rattle.std.specs.Result.{result_ok}
 use Rattle.lisp_nonces.specs.Memory.{Memory, memory_state}
-use Rattle.lisp_nonces.specs.Store.{StoreState}
-use Rattle.lisp_nonces.specs.declared.fate.Fate.TheVariants.{Done}
 use Rattle.lisp_nonces.specs.declared.fault.StoreFault.TheVariants as faults
 use Rattle.lisp_served.specs.Configuration.{Configuration}
 use Rattle.lisp_records.specs.Row.{Holding}
@@ -17,6 +15,7 @@ use Rattle.lisp_etr.specs.Etr.{EtrState}
 use Rattle.lisp_etr.specs.declared.round.Round.{Round}
 use Rattle.lisp_etr.specs.declared.start_fault.StartFault.TheVariants as starts
 use Rattle.lisp_server.specs.Server.{ServerState}
+use Rattle.lisp_schedules.specs.History.{Entry}
 use Rattle.lisp_schedules.specs.Trace.{Happening, Step, Opening, router_at, is_server, is_router, is_up}
 use Rattle.lisp_schedules.specs.Counted.{acked}
 use Rattle.lisp_schedules.specs.declared.line.Line.{Line}
@@ -25,24 +24,21 @@ use Rattle.lisp_schedules.specs.declared.world_fault.WorldFault.TheVariants.{NoN
 use Rattle.lisp_turns.specs.World.{WorldState, ServerNode, RouterNode, RouterCore, Up, Down}
 use Rattle.lisp_turns.specs.Nodes.{server_at, up_in, etr_at}
 use Rattle.lisp_turns.specs.Stands.{Stands, StandsForCore, StandsForEtr}
-use Rattle.lisp_turns.specs.Headline.{Lists, Promises}
+use Rattle.lisp_turns.specs.Headline.{Lists, IsSentRow, OverClean, Promises}
 use Rattle.lisp_world.specs.Faults.{fault_of}
 use Rattle.lisp_world.specs.Making.{AllBelowEnd, IsCalmFault}
-use Rattle.lisp_world.specs.Quiet.{AllHonest, AllCalm, IsCalm}
-use Rattle.lisp_world.specs.Openings.{opening, repeats}
+use Rattle.lisp_world.specs.Quiet.{AllHonest, AllCalm, IsCalm, stores_of}
+use Rattle.lisp_world.specs.Openings.{opening, repeats, lists_of}
 use Rattle.lisp_world.specs.Runs.{RunsOn, StopsAt}
-use Rattle.lisp_turns.proofs.Gets.{none_is_some, same_some, get_within, get_mapped, get_replicate}
-use Rattle.lisp_client.specs.Promised.{HasRun, IsPromised, IsNotTaken, IsNotThere, HasNotRun, IsUntold, counted_at}
-
--- a store that was made
-abbrev pub fresh : Memory
-fresh = record { kept = empty; faults = 0; fate = Done }
-
--- what is so of it is so of each of many
-each_fresh : (P : StoreState → Type 0) → P (memory_state fresh) → (n k : ℕ) (s : StoreState) → slice_get (map memory_state (replicate n fresh)) k ≡ Some s → P s
-each_fresh P holds n k s at =
-    let its = get_mapped memory_state (replicate n fresh) k s at in
-    subst P (ap memory_state (get_replicate n fresh k its.0 its.1) ∙ its.2) holds
+use Rattle.lisp_turns.proofs.Gets.{none_is_some, same_some, get_within}
+use Rattle.lisp_client.specs.declared.question.Question.{Question}
+use Rattle.lisp_client.specs.Promised.{WasRegistered}
+use Rattle.lisp_client.specs.Told.{HasRun, IsPromised, IsPromisedOverClean, IsNotThere, HasNotRun, IsUntold, counted_at}
+use Rattle.lisp_client.proofs.Stores.{fresh, each_fresh, nothing_kept}
+use Rattle.lisp_client.proofs.Rises.{nonces_rise, notice_nonces_rise}
+use Rattle.lisp_client.proofs.Tries.{replays_are_tried}
+use Rattle.lisp_client.proofs.Rows.{registered, agree}
+use Rattle.lisp_client.proofs.Counts.{counted_were_accepted, accepted_were_sent, counted as was_counted, done_was_noticed}
 
 module _ (n : ℕ) (stores : List Memory) (made : stores ≡ replicate n fresh) where
   -- they are honest
@@ -73,36 +69,38 @@ module _ (n : ℕ) (stores : List Memory) (made : stores ≡ replicate n fresh) 
       by NoDatagram may twice = absurd may
       by Clock may twice = absurd may
 
--- a network that was made and took the events has run
-pub has_run : (N S : Type 0) (c : Configuration) (events : List Happening) (old new : WorldState) (before after : List Line)
-    → Stands old (opening c old) [] → Promises new → RunsOn N S old new before after events → HasRun c events new
-has_run N S c events old new before after stands promises runs =
-    let follows = runs.follows (opening c old) [] stands in
-    record {
-      opening = opening c old;
-      config = refl;
-      trace = follows.steps ++ [];
-      events_are = ap (λ (T : List Step). map (λ (s : Step). s.event) T) (append-nil follows.steps) ∙ follows.events_are;
-      stands = follows.stands;
-      promises = promises;
-    }
+  -- over them it keeps nothing at its opening: one that took the events has run
+  pub has_run : (N S : Type 0) (c : Configuration) (events : List Happening) (old new : WorldState) (before after : List Line)
+      → lists_of (stores_of old) ≡ lists_of (map memory_state stores) → Stands old (opening c old) [] → Promises new → RunsOn N S old new before after events → HasRun c events new
+  has_run N S c events old new before after same stands promises runs =
+      let follows = runs.follows (opening c old) [] stands in
+      record {
+        opening = opening c old;
+        config = refl;
+        nothing_kept = nothing_kept n stores made c old same;
+        trace = follows.steps ++ [];
+        events_are = ap (λ (T : List Step). map (λ (s : Step). s.event) T) (append-nil follows.steps) ∙ follows.events_are;
+        stands = follows.stands;
+        promises = promises;
+      }
 
--- and one that was made, but took only those before one, has a fault of that one, or memory was refused
-pub not_taken : (memory S : Type 0) (c : Configuration) (events : List Happening) (old new : WorldState) (before after : List Line) (place : ℕ) (fault : WorldFault)
-    → Stands old (opening c old) [] → Promises new → StopsAt memory S old new before after events place fault → (fault ≡ OutOfMemory → memory) → HasNotRun memory c events
-not_taken memory S c events old new before after place fault stands promises stops may = by stops.why
-  where
-    by : (fault_of new stops.event ≡ Some fault) ⊎ (fault ≡ OutOfMemory) → HasNotRun memory c events
-    by (inl why) = inr (inl (record {
-      place = place;
-      event = stops.event;
-      there = stops.there;
-      network = new;
-      ran = has_run memory S c (take place events) old new before after stands promises stops.runs;
-      fault = fault;
-      why = why;
-    }))
-    by (inr out) = inr (inr (may out))
+  -- and one that was made, but took only those before one, has a fault of that one, or memory was refused
+  pub not_taken : (memory S : Type 0) (c : Configuration) (events : List Happening) (old new : WorldState) (before after : List Line) (place : ℕ) (fault : WorldFault)
+      → lists_of (stores_of old) ≡ lists_of (map memory_state stores) → Stands old (opening c old) [] → Promises new
+      → StopsAt memory S old new before after events place fault → (fault ≡ OutOfMemory → memory) → HasNotRun memory c events
+  not_taken memory S c events old new before after place fault same stands promises stops may = by stops.why
+    where
+      by : (fault_of new stops.event ≡ Some fault) ⊎ (fault ≡ OutOfMemory) → HasNotRun memory c events
+      by (inl why) = inr (inl (record {
+        place = place;
+        event = stops.event;
+        there = stops.there;
+        network = new;
+        ran = has_run memory S c (take place events) old new before after same stands promises stops.runs;
+        fault = fault;
+        why = why;
+      }))
+      by (inr out) = inr (inr (may out))
 
 -- a router's number is behind the Map-Servers'
 router_bounds : (c : Configuration) (router : ℕ) → is_router c router ≡ true → (length c.servers ≤ router) × (router < length c.servers + length c.routers)
@@ -207,39 +205,74 @@ module _ (w : WorldState) (o : Opening) (T : List Step) (stand : Stands w o T) w
           let its = get_within w.servers server (omega (arith, count, ltb-true server (length o.config.servers) below)) in
           absurd (none_is_some (sym none ∙ ap (option_map (λ (n : ServerNode). n.core)) its.1))
 
+-- what a Map-Server lists
+pub lists : (w : WorldState) (server : ℕ) (listed : List Holding) (core : ServerState) (now : ℕ) → server_at w server ≡ Some core → now ≡ w.clock → IsHeld core.rows now listed → Lists w server listed
+lists w server listed core now serves clock holds = record { core = core; running = serves; held = subst (λ (moment : ℕ). IsHeld core.rows moment listed) clock holds }
+
 -- what its nodes told is as promised
-pub promised : (c : Configuration) (events : List Happening) (w : WorldState) → HasRun c events w
-    → (server router place : ℕ) (listed : List Holding) (counted : Option (ℕ × ℕ))
-    → (core : ServerState) → server_at w server ≡ Some core → IsHeld core.rows w.clock listed
-    → (etr : EtrState) → etr_at w router ≡ Some etr → counted ≡ option_and_then (λ round. round.acked) (slice_get etr.rounds place)
-    → IsPromised c events server router place listed counted
-promised c events w ran server router place listed counted core serves holds etr is_up told =
-    let headline = ran.promises ran.opening ran.trace ran.stands in
-    let lists : Lists w server listed = record { core = core; running = serves; held = holds } in
-    record {
-      opening = ran.opening;
-      config = ran.config;
-      trace = ran.trace;
-      legal = ran.stands.steps.legal;
-      events_are = ran.events_are;
-      held = headline.listed_is_held server listed lists;
-      counts = subst (λ (d : Configuration). counted ≡ counted_at d ran.trace router place) ran.config (told ∙ counts_so w ran.opening ran.trace ran.stands router etr is_up place);
-      sent = λ clean row has. (headline.over_clean clean).listed_was_sent server listed lists row has;
-      accepted = λ clean key nonce target is_place is.
-          (headline.over_clean clean).counts_are_accepted router place key nonce target (subst (λ (d : Configuration). slice_get (router_at d router).servers place ≡ Some target) (sym ran.config) is_place) (record { core = etr; running = is_up; counted = sym told ∙ is });
-    }
+module _ (c : Configuration) (events : List Happening) (w : WorldState) (ran : HasRun c events w) (question : Question) where
+  module _ (listed listed_by_other : List Holding) (one : Lists w question.server listed) (other : Lists w question.other listed_by_other)
+      (etr : EtrState) (is_up : etr_at w question.router ≡ Some etr) (counted : Option (ℕ × ℕ)) (told : counted ≡ option_and_then (λ round. round.acked) (slice_get etr.rounds question.place)) where
+    over_clean : OverClean w ran.opening ran.trace → IsPromisedOverClean ran.opening ran.trace question listed listed_by_other counted
+    over_clean promised =
+        let legal = ran.stands.steps.legal in
+        let network = ran.stands.steps.network in
+        record {
+          accepted_were_sent = accepted_were_sent ran.opening ran.trace promised.accepted_was_sent;
+          registered = λ row has. row_registered question.server row (promised.listed_was_sent question.server listed one row has);
+          registered_at_other = λ row has. row_registered question.other row (promised.listed_was_sent question.other listed_by_other other row has);
+          agree = agree w ran.opening ran.trace legal network promised.listed_was_sent promised.listed_agree question.server question.other listed listed_by_other one other;
+          counted_was_accepted = λ key nonce server is_place is.
+              was_counted ran.opening ran.trace legal network promised.accepted_was_sent question.router server key nonce
+              (promised.counts_are_accepted question.router question.place key nonce server is_place (record { core = etr; running = is_up; counted = sym told ∙ is }));
+          counted_were_accepted = counted_were_accepted ran.opening ran.trace legal network promised.accepted_was_sent promised.counted_was_accepted;
+          done = done_was_noticed ran.opening ran.trace promised.done_was_noticed;
+        }
+      where
+        row_registered : (server : ℕ) (row : Holding) → (e : Entry) × IsSentRow ran.opening ran.trace server row e → WasRegistered ran.opening ran.trace server row
+        row_registered server row sent = registered ran.opening ran.trace ran.stands.steps.legal server row sent.0 sent.1
+
+    pub promised : IsPromised c events question listed listed_by_other counted
+    promised =
+        let headline = ran.promises ran.opening ran.trace ran.stands in
+        record {
+          opening = ran.opening;
+          config = ran.config;
+          nothing_kept = ran.nothing_kept;
+          trace = ran.trace;
+          legal = ran.stands.steps.legal;
+          events_are = ran.events_are;
+          held = headline.listed_is_held question.server listed one;
+          held_by_other = headline.listed_is_held question.other listed_by_other other;
+          counts = subst (λ (d : Configuration). counted ≡ counted_at d ran.trace question.router question.place) ran.config
+              (told ∙ counts_so w ran.opening ran.trace ran.stands question.router etr is_up question.place);
+          nonces_rise = nonces_rise ran.opening ran.trace ran.stands.steps.legal headline.nonces_rise;
+          replays_are_tried = replays_are_tried ran.opening ran.nothing_kept ran.trace headline.replays_are_tried;
+          notice_nonces_rise = notice_nonces_rise ran.trace headline.notice_nonces_rise;
+          over_clean = λ clean. over_clean (headline.over_clean clean);
+        }
 
 -- or a node isn't there
-pub not_there : (c : Configuration) (events : List Happening) (w : WorldState) → (ran : HasRun c events w) → (server router : ℕ)
-    → (server_at w server ≡ None) ⊎ (etr_at w router ≡ None) → IsNotThere c events server router
-not_there c events w ran server router none = record { network = w; ran = ran; missing = subst Missing ran.config (by none) }
+pub not_there : (c : Configuration) (events : List Happening) (w : WorldState) → (ran : HasRun c events w) → (question : Question)
+    → (server_at w question.server ≡ None) ⊎ (server_at w question.other ≡ None) ⊎ (etr_at w question.router ≡ None) → IsNotThere c events question
+not_there c events w ran question none = record { network = w; ran = ran; missing = subst Missing ran.config (by none) }
   where
     Missing : Configuration → Type 0
-    Missing d = (is_server d server ≡ false) ⊎ (is_router d router ≡ false) ⊎ (is_up ran.trace router ≡ false)
+    Missing d = (is_server d question.server ≡ false) ⊎ (is_server d question.other ≡ false) ⊎ (is_router d question.router ≡ false) ⊎ (is_up ran.trace question.router ≡ false)
 
-    by : (server_at w server ≡ None) ⊎ (etr_at w router ≡ None) → Missing ran.opening.config
-    by (inl none) = inl (server_missing w ran.opening ran.trace ran.stands server none)
-    by (inr none) = inr (router_missing w ran.opening ran.trace ran.stands router none)
+    by : (server_at w question.server ≡ None) ⊎ (server_at w question.other ≡ None) ⊎ (etr_at w question.router ≡ None) → Missing ran.opening.config
+    by (inl none) = inl (server_missing w ran.opening ran.trace ran.stands question.server none)
+    by (inr (inl none)) = inr (inl (server_missing w ran.opening ran.trace ran.stands question.other none))
+    by (inr (inr none)) = inr (inr (router_missing w ran.opening ran.trace ran.stands question.router none))
+
+-- what is so of a result's value, and of a fault
+pub at_value : {X F : Type 0} (r : Result X F) (P : X → Type 0) (x : X) → ◌≡◌ {A = Option X} (Some x) (result_ok r) → IfOk r P → P x
+at_value (Ok y) P x is holds = let same : y ≡ x = cc in subst P same holds
+at_value (Err fault) P x is holds = absurd (none_is_some (sym is))
+
+pub at_fault : {X F : Type 0} (r : Result X F) (P : Type 0) → ◌≡◌ {A = Option X} None (result_ok r) → OnErr r P → P
+at_fault (Ok x) P is holds = absurd (none_is_some is)
+at_fault (Err fault) P is holds = holds
 
 -- what is so of no value, and what follows from it
 pub if_none : {X : Type 0} (o : Option X) (P : Type 0) → P → IfNone o P
@@ -256,7 +289,7 @@ if_some (Some x) P Q follows is = follows x is
 if_some None P Q follows is = tt
 
 -- why a client is told nothing by a network that took the events
-pub unheard : (memory : Type 0) (c : Configuration) (events : List Happening) (w : WorldState) → HasRun c events w → (server router : ℕ)
-    → memory ⊎ ((c : Configuration) (events : List Happening) → HasRun c events w → IsNotThere c events server router) → IsUntold memory c events server router
-unheard memory c events w ran server router (inl out) = inl (inr (inr out))
-unheard memory c events w ran server router (inr none) = inr (none c events ran)
+pub unheard : (memory : Type 0) (c : Configuration) (events : List Happening) (w : WorldState) → HasRun c events w → (question : Question)
+    → memory ⊎ ((c : Configuration) (events : List Happening) → HasRun c events w → IsNotThere c events question) → IsUntold memory c events question
+unheard memory c events w ran question (inl out) = inl (inr (inr out))
+unheard memory c events w ran question (inr none) = inr (none c events ran)

@@ -1,1 +1,3 @@
+pub mod Steps
 pub mod Promised
+pub mod Told

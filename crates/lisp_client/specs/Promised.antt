@@ -1,72 +1,102 @@
--- What a client is promised of the answers that it got (RFC 9301 sections 5.6, 5.7 and 8.2).
-use Rattle.std.specs.Prelude.{◌≡◌, ◌⊎◌, ℕ, true, false, List, map, reverse, take, slice_get, Option, Some}
+-- What a client is promised of a network's trace (RFC 9301 sections 5.6, 5.7, 8.2 and 8.3). Each promise is spelt out over the
+-- lines and steps of the trace, so that a weaker one below would fail here.
+use Rattle.std.specs.Prelude.{◌≡◌, ℕ, ◌<◌, List, Option, Some}
 use Rattle.std.specs.List.{Contains}
-use Rattle.std.specs.Option.{option_and_then}
+use Rattle.lisp_records.specs.declared.router.RouterId.{RouterId}
 use Rattle.lisp_records.specs.Row.{Holding}
-use Rattle.lisp_served.specs.Configuration.{Configuration}
-use Rattle.lisp_schedules.specs.Trace.{Happening, Step, Opening, router_at, clock, is_server, is_router, is_up}
-use Rattle.lisp_schedules.specs.Counted.{acked}
-use Rattle.lisp_schedules.specs.History.{Entry}
-use Rattle.lisp_schedules.specs.Held.{rows}
-use Rattle.lisp_schedules.specs.Bag.{since}
-use Rattle.lisp_schedules.specs.Clean.{Clean}
-use Rattle.lisp_schedules.specs.Legal.{LegalTrace}
-use Rattle.lisp_schedules.specs.Promises.{WasAccepted}
-use Rattle.lisp_turns.specs.World.{WorldState}
-use Rattle.lisp_turns.specs.Stands.{Stands}
-use Rattle.lisp_turns.specs.Headline.{IsSentRow, Promises}
-use Rattle.lisp_schedules.specs.declared.world_fault.WorldFault.{WorldFault}
-use Rattle.lisp_world.specs.Faults.{fault_of}
-use Rattle.lisp_world.specs.Openings.{repeats}
+use Rattle.lisp_checks.specs.declared.refused.Refused.TheVariants.{Replay, StoreSave}
+use Rattle.lisp_schedules.specs.declared.line.Line.{Line}
+use Rattle.lisp_schedules.specs.declared.line.Line.TheVariants as lines
+use Rattle.lisp_schedules.specs.declared.refusal.Refusal.TheVariants.{Receive}
+use Rattle.lisp_schedules.specs.Trace.{Step, Opening, database, router_at}
+use Rattle.lisp_schedules.specs.History.{record_for}
+use Rattle.lisp_client.specs.Steps.{IsIn, Arrives, WasSent, IsAcceptedIn, IsSentIn, UnchangedBetween}
 
--- a network of the configuration stands for a trace of these events, and keeps the headline
-pub record HasRun (c : Configuration) (events : List Happening) (w : WorldState) : Type 0 where
-  pub opening : Opening
-  pub config : opening.config ≡ c
-  pub trace : List Step
-  pub events_are : map (λ s. s.event) trace ≡ reverse events
-  pub stands : Stands w opening trace
-  pub promises : Promises w
+-- of two Map-Registers of a router under a key that a Map-Server accepted, the later one has the greater nonce, whatever
+-- stands between, restarts included
+abbrev pub NoncesRise : List Step → Type 0
+NoncesRise T = (s t : Step) (earlier between : List Step) → IsIn T t between → IsIn between s earlier
+    → (server : ℕ) (router : RouterId) (key m n : ℕ) (c d : Option ℕ)
+    → s.line ≡ lines.Accepted server router key m c → t.line ≡ lines.Accepted server router key n d → m < n
 
--- what a trace counts last from the Map-Server at a place of a router's list; nothing behind the list's end
-abbrev pub counted_at : Configuration → List Step → ℕ → ℕ → Option (ℕ × ℕ)
-counted_at c T router place = option_and_then (acked T router) (slice_get (router_at c router).servers place)
+-- the Map-Server accepted what arrived, or couldn't save its nonce
+abbrev pub Tries : ℕ → Line → Type 0
+Tries server (lines.Accepted node _ _ _ _) = node ≡ server
+Tries server (lines.Refused node (Receive (StoreSave _))) = node ≡ server
+Tries server _ = ⊥
 
--- There is a legal trace of the client's events, and by it: the rows are all that the Map-Server holds, and what the router
--- counted is what the trace counts; where nobody outside knows a secret, each row's record is the one that its router's
--- database had at the send of the latest Map-Register for that prefix which the Map-Server accepted; and what the router
--- counted was accepted
-pub record IsPromised (c : Configuration) (events : List Happening) (server router place : ℕ) (listed : List Holding) (counted : Option (ℕ × ℕ)) : Type 0 where
-  pub opening : Opening
-  pub config : opening.config ≡ c
-  pub trace : List Step
-  pub legal : LegalTrace opening trace
-  pub events_are : map (λ s. s.event) trace ≡ reverse events
-  pub held : listed ≡ rows (since opening trace server) (clock trace)
-  pub counts : counted ≡ counted_at c trace router place
-  pub sent : Clean opening trace → (row : Holding) → Contains listed row → (e : Entry) × IsSentRow opening trace server row e
-  pub accepted : Clean opening trace → (key nonce target : ℕ) → slice_get (router_at c router).servers place ≡ Some target → counted ≡ Some (key, nonce) → WasAccepted opening trace router target key nonce
+-- a Map-Register of that router, key and nonce arrived, and the Map-Server accepted it or couldn't save its nonce
+pub record WasTried (o : Opening) (T : List Step) (server : ℕ) (router : RouterId) (key nonce : ℕ) : Type 0 where
+  pub step : Step
+  pub before : List Step
+  pub there : IsIn T step before
+  pub arrived : Arrives o step before router key nonce
+  pub tried : Tries server step.line
 
--- an event isn't taken: a network of the configuration that took those before it has a fault of it
-pub record IsNotTaken (c : Configuration) (events : List Happening) : Type 0 where
-  pub place : ℕ
-  pub event : Happening
-  pub there : slice_get events place ≡ Some event
-  pub network : WorldState
-  pub ran : HasRun c (take place events) network
-  pub fault : WorldFault
-  pub why : fault_of network event ≡ Some fault
+-- a replay is told with a nonce that the Map-Server tried before, of the same router under the same key
+abbrev pub ReplaysAreTried : Opening → List Step → Type 0
+ReplaysAreTried o T = (s : Step) (before : List Step) → IsIn T s before
+    → (server saved : ℕ) → s.line ≡ lines.Refused server (Receive (Replay saved))
+    → (router : RouterId) (key nonce : ℕ) → Arrives o s before router key nonce → WasTried o before server router key saved
 
--- all are taken, and then a number isn't a Map-Server's, or another not that of a router that is up
-pub record IsNotThere (c : Configuration) (events : List Happening) (server router : ℕ) : Type 0 where
-  pub network : WorldState
-  pub ran : HasRun c events network
-  pub missing : (is_server c server ≡ false) ⊎ (is_router c router ≡ false) ⊎ (is_up ran.trace router ≡ false)
+-- each Map-Register that a Map-Server accepted was sent
+abbrev pub AcceptedWereSent : Opening → List Step → Type 0
+AcceptedWereSent o T = (t : Step) (before : List Step) → IsIn T t before
+    → (server : ℕ) (router : RouterId) (key nonce : ℕ) (reply : Option ℕ) → t.line ≡ lines.Accepted server router key nonce reply
+    → (arrived : Arrives o t before router key nonce)
+    → (node : ℕ) × (s : Step) × (before_s : List Step) × WasSent o T server arrived.message arrived.arrival.from node s before_s
 
--- why no network takes the events: two nodes are alike, an event isn't taken, or memory may be refused
-abbrev pub HasNotRun : Type 0 → Configuration → List Happening → Type 0
-HasNotRun memory c events = (repeats c ≡ true) ⊎ IsNotTaken c events ⊎ memory
+-- a row was accepted, and what it was made of was sent: its record is the one that the router's database had then for its prefix
+pub record WasRegistered (o : Opening) (T : List Step) (server : ℕ) (row : Holding) : Type 0 where
+  pub accepting : Step
+  pub before_accepting : List Step
+  pub accepted : IsAcceptedIn o T server row accepting before_accepting
+  pub node : ℕ
+  pub sending : Step
+  pub before_sending : List Step
+  pub sent : WasSent o T server accepted.arrived.message accepted.arrived.arrival.from node sending before_sending
+  pub record_of : record_for (database o before_sending node) row.mapping.eid ≡ Some row.mapping
 
--- and why a client is told nothing
-abbrev pub IsUntold : Type 0 → Configuration → List Happening → ℕ → ℕ → Type 0
-IsUntold memory c events server router = HasNotRun memory c events ⊎ IsNotThere c events server router
+-- rows of one router and prefix at two Map-Servers, sent in steps with no change between, have equal records
+abbrev pub RowsAgree : Opening → List Step → (one other : ℕ) → (listed listed_by_other : List Holding) → Type 0
+RowsAgree o T one other listed listed_by_other = (g h : Holding) → Contains listed g → Contains listed_by_other h
+    → g.router ≡ h.router → g.mapping.eid ≡ h.mapping.eid
+    → (node : ℕ) (s t : Step) (before_s before_t : List Step)
+    → IsSentIn o T one g node s before_s → IsSentIn o T other h node t before_t
+    → UnchangedBetween T node before_s before_t → g.mapping ≡ h.mapping
+
+-- what a router counted was sent to the Map-Server, which accepted it
+pub record CountedWasAccepted (o : Opening) (T : List Step) (node server key nonce : ℕ) : Type 0 where
+  pub accepting : Step
+  pub before_accepting : List Step
+  pub there : IsIn T accepting before_accepting
+  pub reply : Option ℕ
+  pub line : accepting.line ≡ lines.Accepted server (router_at o.config node).me key nonce reply
+  pub arrived : Arrives o accepting before_accepting (router_at o.config node).me key nonce
+  pub sending : Step
+  pub before_sending : List Step
+  pub sent : WasSent o T server arrived.message arrived.arrival.from node sending before_sending
+
+-- so was each that a router ever counted
+abbrev pub CountedWereAccepted : Opening → List Step → Type 0
+CountedWereAccepted o T = (s : Step) (before : List Step) → IsIn T s before
+    → (node server key nonce : ℕ) → s.line ≡ lines.Counted node server key nonce → CountedWasAccepted o T node server key nonce
+
+-- a notice that is done was noticed before by the router that it was for, with that nonce, from that Map-Server
+pub record WasNoticed (o : Opening) (T : List Step) (server nonce : ℕ) (router : RouterId) : Type 0 where
+  pub step : Step
+  pub before : Contains T step
+  pub node : ℕ
+  pub who : (router_at o.config node).me ≡ router
+  pub datagram : ℕ
+  pub line : step.line ≡ lines.Noticed node server nonce datagram
+
+abbrev pub DoneWasNoticed : Opening → List Step → Type 0
+DoneWasNoticed o T = (s : Step) (before : List Step) → IsIn T s before
+    → (server nonce : ℕ) (router : RouterId) → s.line ≡ lines.Done server router nonce → WasNoticed o before server nonce router
+
+-- of two notices that a Map-Server sent, the later one has the greater nonce, restarts included
+abbrev pub NoticeNoncesRise : List Step → Type 0
+NoticeNoncesRise T = (s t : Step) (earlier between : List Step) → IsIn T t between → IsIn between s earlier
+    → (server one other j k m n c d : ℕ)
+    → s.line ≡ lines.Notice server one j m c → t.line ≡ lines.Notice server other k n d → m < n

@@ -5,58 +5,47 @@ ghost use Rattle.std.specs.FinMap.{empty};
 ghost use Rattle.lisp_nonces.specs.declared.fate.Fate.TheVariants.{Done};
 ghost use Rattle.lisp_served.specs.Configuration.{Configuration};
 ghost use Rattle.lisp_schedules.specs.Trace.{Happening, happening};
-ghost use Rattle.lisp_client.specs.Promised.{HasRun, IsPromised, IsNotThere, HasNotRun, IsUntold};
+ghost use Rattle.lisp_client.specs.Told.{HasRun, IsPromised, IsNotThere, HasNotRun, IsUntold};
 
+use crate::question::Question;
+use crate::told::Told;
 use lisp_memory::{FallibleVec, Memory};
 use lisp_nonces::MemoryStore;
-use lisp_records::Row;
 use lisp_schedules::Event;
 use lisp_sites::Config;
 use lisp_world::World;
-use std::alloc::{AllocError, Allocator, Global};
+use std::alloc::{AllocError, Allocator};
 
-/// What a Map-Server and a router told at the end of a schedule.
-#[derive(Drop)]
-pub struct Told<A: Allocator = Global> {
-    /// The rows that the Map-Server holds, by router, then prefix.
-    pub rows: Vec<Row<A>, A>,
-    /// The Key ID and nonce of the last Map-Register that the router counted as acknowledged.
-    pub counted: Option<(u8, u64)>,
-}
-
-/// Makes a network over stores in memory, lets the events happen, and asks one Map-Server what it holds and one router,
-/// by its number, what it counted last from the Map-Server at a place of its list. `None` if two nodes of the configuration
-/// are alike, an event isn't taken, no Map-Server has the one number, no router that is up the other, or memory runs out.
+/// Makes a network over stores in memory that keep nothing yet, lets the events happen, and asks two Map-Servers what they
+/// hold and one router what it counted last from the Map-Server at a place of its list. `None` if two nodes of the
+/// configuration are alike, an event isn't taken, a Map-Server's number isn't one, the router's isn't that of one that is up,
+/// or memory runs out.
 pub fn ask<A: Memory + Copy, E: Allocator, F: Allocator>(
     alloc: A,
     config: &Config<E>,
     events: &[Event<F>],
-    server: usize,
-    router: usize,
-    place: usize,
+    question: Question,
 ) -> Option<Told<A>>
-    ensures told { IfSome result (λ told. IsPromised config.now (map happening events.now) server router place told.rows.items told.counted) }
-    ensures untold { IfNone result (IsUntold A.may_refuse config.now (map happening events.now) server router) }
+    ensures told { IfSome result (λ told. IsPromised config.now (map happening events.now) question told.rows.items told.other_rows.items told.counted) }
+    ensures untold { IfNone result (IsUntold A.may_refuse config.now (map happening events.now) question) }
 {
     let world = run(alloc, config, events)?;
-    heard(&world, server, router, place)
+    heard(&world, question)
 }
 
-// What the client hears from the Map-Server and the router of a network.
-fn heard<A: Memory + Copy>(
-    world: &World<MemoryStore<A>, A>,
-    server: usize,
-    router: usize,
-    place: usize,
-) -> Option<Told<A>>
-    ensures told { IfSome result (λ told. (c : Configuration) (events : List Happening) → HasRun c events world.now → IsPromised c events server router place told.rows.items told.counted) }
-    ensures untold { IfNone result (A.may_refuse ⊎ ((c : Configuration) (events : List Happening) → HasRun c events world.now → IsNotThere c events server router)) }
+// What the client hears from the Map-Servers and the router of a network.
+fn heard<A: Memory + Copy>(world: &World<MemoryStore<A>, A>, question: Question) -> Option<Told<A>>
+    ensures told { IfSome result (λ told. (c : Configuration) (events : List Happening) → HasRun c events world.now → IsPromised c events question told.rows.items told.other_rows.items told.counted) }
+    ensures untold { IfNone result (A.may_refuse ⊎ ((c : Configuration) (events : List Happening) → HasRun c events world.now → IsNotThere c events question)) }
 {
-    let counted = world.router(router)?.acked(place);
-    match world.server(server)?.held(world.clock()) {
-        Ok(rows) => Some(Told { rows, counted }),
-        Err(_) => None,
-    }
+    let counted = world.router(question.router)?.acked(question.place);
+    let rows = world.server(question.server)?.held(world.clock()).ok()?;
+    let other_rows = world.server(question.other)?.held(world.clock()).ok()?;
+    Some(Told {
+        rows,
+        other_rows,
+        counted,
+    })
 }
 
 // A network of the configuration, over stores in memory, after the events.

@@ -2,5 +2,9 @@
 #![tactic(auto)]
 
 mod client;
+mod question;
+mod told;
 
-pub use client::{Told, ask};
+pub use client::ask;
+pub use question::Question;
+pub use told::Told;

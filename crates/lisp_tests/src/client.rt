@@ -1,7 +1,7 @@
 //! What a client is told of a network of one Map-Server and one router, after a registration and its reply.
 
 use crate::playing::SCHEDULE;
-use lisp_client::{Told, ask};
+use lisp_client::{Question, Told, ask};
 use lisp_nonces::Fate;
 use lisp_sites::Config;
 use lisp_world::Event;
@@ -29,6 +29,7 @@ fn a_client_is_told_the_row_that_was_sent_and_what_was_counted(rt: HostRuntime) 
     let told = told(rt.alloc()).expect(&rt, "what is told");
     let nonce = told.rows.first().map(|row| row.nonce);
     assert!(rt; told.rows.len() == 1);
+    assert!(rt; told.other_rows.len() == 1);
     assert!(rt; nonce == Some(1));
     assert!(rt; told.counted == Some((1, 1)));
 }
@@ -37,5 +38,11 @@ fn a_client_is_told_the_row_that_was_sent_and_what_was_counted(rt: HostRuntime) 
 fn told(alloc: Global) -> Option<Told> {
     let (configuration, _) = SCHEDULE.split_once("---\n")?;
     let config = Config::from_toml(alloc, alloc, configuration).ok()?;
-    ask(alloc, &config, &EVENTS, 0, 1, 0)
+    let question = Question {
+        server: 0,
+        other: 0,
+        router: 1,
+        place: 0,
+    };
+    ask(alloc, &config, &EVENTS, question)
 }

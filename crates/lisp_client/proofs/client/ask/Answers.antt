@@ -9,4 +9,4 @@ pub returns-in_err-world-clause-untold : goal.returns-in_err-world-clause-untold
 returns-in_err-world-clause-untold g c = if_none c.from_residual.result _ (inl c.in_err-world.ensures.not_run)
 
 pub returns-clause-untold : goal.returns-clause-untold
-returns-clause-untold g c = none_more c.heard.result _ _ (λ none. unheard g.A.Memory.may_refuse _ _ _ c.in_ok-world.ensures.ran _ _ none) c.heard.ensures.untold
+returns-clause-untold g c = none_more c.heard.result _ _ (λ none. unheard g.A.Memory.may_refuse _ _ _ c.in_ok-world.ensures.ran _ none) c.heard.ensures.untold

@@ -1,0 +1,154 @@
+-- What a Map-Server accepted, by the steps in which it did.
+use Rattle.std.proofs.Common.{◌≡◌, ℕ, Bool, true, false, List, [], ◌∷◌, ◌++◌, Option, refl, sym, ap, subst, inl, inr, ◌∙◌, true≢false}
+use Rattle.std.specs.Prelude.{◌≢◌, ◌⊎◌, ◌==◌, if◌then◌else◌}
+use Rattle.std.specs.List.{Contains}
+use Rattle.std.proofs.lemmas.Bool.Decides.{Decides-eqb}
+use Rattle.std.proofs.lemmas.List.Elements.{Contains-append_cases, Contains-append_right}
+use Rattle.lisp_records.specs.declared.router.RouterId.{RouterId}
+use Rattle.lisp_checks.specs.Pairs.{router_of}
+use Rattle.lisp_schedules.specs.declared.line.Line.{Line}
+use Rattle.lisp_schedules.specs.declared.line.Line.TheVariants as lines
+use Rattle.lisp_schedules.specs.Trace.{Step, Opening}
+use Rattle.lisp_schedules.specs.Held.{Acceptance}
+use Rattle.lisp_schedules.specs.Bag.{since, since_after}
+use Rattle.lisp_schedules.specs.Accepted.{accepted, accepted_after, arriving}
+use Rattle.lisp_schedules.specs.Legal.{Legal, LegalTrace}
+use Rattle.lisp_client.specs.Steps.{IsIn, Arrives}
+use Rattle.lisp_client.proofs.Steps.{at_head, head_or_tail, in_none, here, later, goes_up}
+use Rattle.lisp_client.proofs.Arrivals.{IsTaken, taken_of, taken_alone, was_taken, accepting}
+
+pub same_number : (a : ℕ) → (a == a) ≡ true
+same_number a = (Decides-eqb a a).1 refl
+
+-- nothing that was accepted is forgotten
+stays : (line : Line) (new old : List Acceptance) (server : ℕ) (x : Acceptance) → Contains old x → Contains (accepted_after line new server old) x
+stays (lines.Accepted node _ _ _ _) new old server x has = by (node == server)
+  where
+    by : (b : Bool) → Contains (if b then new ++ old else old) x
+    by true = Contains-append_right new old x has
+    by false = has
+stays _ new old server x has = has
+
+-- a step with a line of acceptance adds what arrives
+pub adds : (o : Opening) (s : Step) (before : List Step) (server : ℕ) (router : RouterId) (key nonce : ℕ) (reply : Option ℕ) → s.line ≡ lines.Accepted server router key nonce reply
+    → (a : Arrives o s before router key nonce) → accepted o (s ∷ before) server ≡ taken_of o s before router key nonce a ∷ accepted o before server
+adds o s before server router key nonce reply is a =
+    ap (λ (line : Line). accepted_after line (arriving o before s) server (accepted o before server)) is
+    ∙ ap (λ (b : Bool). if b then arriving o before s ++ accepted o before server else accepted o before server) (same_number server)
+    ∙ ap (λ (new : List Acceptance). new ++ accepted o before server) (taken_alone o s before router key nonce a)
+
+-- and that stays
+pub stays_accepted : (o : Opening) (T : List Step) (s : Step) (before : List Step) → IsIn T s before → (server : ℕ) (router : RouterId) (key nonce : ℕ) (reply : Option ℕ)
+    → s.line ≡ lines.Accepted server router key nonce reply → (a : Arrives o s before router key nonce) → Contains (accepted o T server) (taken_of o s before router key nonce a)
+stays_accepted o T s before there server router key nonce reply is a =
+    let x = taken_of o s before router key nonce a in
+    goes_up (λ (U : List Step). Contains (accepted o U server) x) (λ y U has. stays y.line (arriving o U y) (accepted o U server) server x has) T s before there
+    (subst (λ (xs : List Acceptance). Contains xs x) (sym (adds o s before server router key nonce reply is a)) (at_head x (accepted o before server)))
+
+-- a line of acceptance, and what is new by it
+record IsNew (line : Line) (new : List Acceptance) (server : ℕ) (x : Acceptance) : Type 0 where
+  router : RouterId
+  key : ℕ
+  nonce : ℕ
+  reply : Option ℕ
+  line_is : line ≡ lines.Accepted server router key nonce reply
+  among : Contains new x
+
+accepted_case : (line : Line) (new old : List Acceptance) (server : ℕ) (x : Acceptance) → Contains (accepted_after line new server old) x → IsNew line new server x ⊎ Contains old x
+accepted_case (lines.Accepted node router key nonce reply) new old server x has = by (node == server) refl has
+  where
+    by : (b : Bool) → (node == server) ≡ b → Contains (if b then new ++ old else old) x → IsNew (lines.Accepted node router key nonce reply) new server x ⊎ Contains old x
+    by true same has = either (Contains-append_cases new old x has)
+      where
+        either : Contains new x ⊎ Contains old x → IsNew (lines.Accepted node router key nonce reply) new server x ⊎ Contains old x
+        either (inl one) = inl (record { router = router; key = key; nonce = nonce; reply = reply; line_is = ap (λ (n : ℕ). lines.Accepted n router key nonce reply) ((Decides-eqb node server).0 same); among = one })
+        either (inr before) = inr before
+    by false other has = inr has
+accepted_case _ new old server x has = inr has
+
+-- a Map-Server starts again
+abbrev restarts : Line → Bool
+restarts (lines.Restarted node) = true
+restarts _ = false
+
+not_restarted : (line : Line) (server : ℕ) → restarts line ≡ false → line ≢ lines.Restarted server
+not_restarted line server other is = true≢false (sym (ap restarts is) ∙ other)
+
+since_case : (line : Line) (new old : List Acceptance) (server : ℕ) (x : Acceptance) → Contains (since_after line new server old) x → IsNew line new server x ⊎ ((line ≢ lines.Restarted server) × Contains old x)
+since_case (lines.Accepted node router key nonce reply) new old server x has = by (accepted_case (lines.Accepted node router key nonce reply) new old server x has)
+  where
+    by : IsNew (lines.Accepted node router key nonce reply) new server x ⊎ Contains old x → IsNew (lines.Accepted node router key nonce reply) new server x ⊎ ((lines.Accepted node router key nonce reply ≢ lines.Restarted server) × Contains old x)
+    by (inl one) = inl one
+    by (inr before) = inr (not_restarted (lines.Accepted node router key nonce reply) server refl, before)
+since_case (lines.Restarted node) new old server x has = by (node == server) refl has
+  where
+    node_of : Line → ℕ
+    node_of (lines.Restarted n) = n
+    node_of _ = 0
+
+    by : (b : Bool) → (node == server) ≡ b → Contains (if b then [] else old) x → IsNew (lines.Restarted node) new server x ⊎ ((lines.Restarted node ≢ lines.Restarted server) × Contains old x)
+    by true same has = absurd (in_none x has)
+    by false other has = inr (λ is. true≢false (sym ((Decides-eqb node server).1 (ap node_of is)) ∙ other), has)
+since_case line new old server x has = inr (not_restarted _ server refl, has)
+
+-- a step in which a Map-Server accepted
+pub record IsAcceptedAs (o : Opening) (server : ℕ) (x : Acceptance) (t : Step) (before : List Step) : Type 0 where
+  pub taken : IsTaken o t before x
+  pub reply : Option ℕ
+  pub line : t.line ≡ lines.Accepted server (router_of x.message) x.message.key_id x.message.nonce reply
+
+module _ (o : Opening) (server : ℕ) (x : Acceptance) where
+  -- its line is that of the message
+  accepted_as : (s : Step) (before : List Step) → Legal o before s → IsNew s.line (arriving o before s) server x → IsAcceptedAs o server x s before
+  accepted_as s before legal new =
+      let a = accepting o s before legal server new.router new.key new.nonce new.reply new.line_is in
+      let only = alone (head_or_tail (taken_of o s before new.router new.key new.nonce a) [] x (subst (λ (xs : List Acceptance). Contains xs x) (taken_alone o s before new.router new.key new.nonce a) new.among)) in
+      let who : new.router ≡ router_of x.message = sym a.who ∙ ap (λ (y : Acceptance). router_of y.message) (sym only) in
+      let under : new.key ≡ x.message.key_id = sym a.under ∙ ap (λ (y : Acceptance). y.message.key_id) (sym only) in
+      let number : new.nonce ≡ x.message.nonce = sym a.number ∙ ap (λ (y : Acceptance). y.message.nonce) (sym only) in
+      record {
+        taken = was_taken o s before x new.among;
+        reply = new.reply;
+        line = new.line_is ∙ (λ i. lines.Accepted server (who i) (under i) (number i) new.reply);
+      }
+    where
+      alone : {y : Acceptance} → (x ≡ y) ⊎ Contains [] x → x ≡ y
+      alone (inl is) = is
+      alone (inr none) = absurd (in_none x none)
+
+  -- what was accepted, at any time
+  pub record WasAccepted (T : List Step) : Type 0 where
+    pub step : Step
+    pub before : List Step
+    pub there : IsIn T step before
+    pub how : IsAcceptedAs o server x step before
+
+  pub was_accepted : (T : List Step) → LegalTrace o T → Contains (accepted o T server) x → WasAccepted T
+  was_accepted [] legal has = absurd (in_none x has)
+  was_accepted (s ∷ T) legal has = by (accepted_case s.line (arriving o T s) (accepted o T server) server x has) (was_accepted T legal.1)
+    where
+      by : IsNew s.line (arriving o T s) server x ⊎ Contains (accepted o T server) x → (Contains (accepted o T server) x → WasAccepted T) → WasAccepted (s ∷ T)
+      by (inl new) go = record { step = s; before = T; there = here s T; how = accepted_as s T legal.0 new }
+      by (inr old) go = let w = go old in record { step = w.step; before = w.before; there = later s T w.step w.before w.there; how = w.how }
+
+  -- and what was accepted since the Map-Server's last restart
+  pub record WasAcceptedSince (T : List Step) : Type 0 where
+    pub step : Step
+    pub before : List Step
+    pub there : IsIn T step before
+    pub how : IsAcceptedAs o server x step before
+    pub no_restart : (r : Step) → Contains there.after r → r.line ≢ lines.Restarted server
+
+  pub was_accepted_since : (T : List Step) → LegalTrace o T → Contains (since o T server) x → WasAcceptedSince T
+  was_accepted_since [] legal has = absurd (in_none x has)
+  was_accepted_since (s ∷ T) legal has = by (since_case s.line (arriving o T s) (since o T server) server x has) (was_accepted_since T legal.1)
+    where
+      by : IsNew s.line (arriving o T s) server x ⊎ ((s.line ≢ lines.Restarted server) × Contains (since o T server) x) → (Contains (since o T server) x → WasAcceptedSince T) → WasAcceptedSince (s ∷ T)
+      by (inl new) go = record { step = s; before = T; there = here s T; how = accepted_as s T legal.0 new; no_restart = λ r has. absurd (in_none r has) }
+      by (inr old) go =
+          let w = go old.1 in
+          record { step = w.step; before = w.before; there = later s T w.step w.before w.there; how = w.how; no_restart = λ r has. none r w.there.after w.no_restart (head_or_tail s w.there.after r has) }
+        where
+          none : (r : Step) (after : List Step) → ((q : Step) → Contains after q → q.line ≢ lines.Restarted server) → (r ≡ s) ⊎ Contains after r → r.line ≢ lines.Restarted server
+          none r after rest (inl is) line = old.0 (ap (λ (q : Step). q.line) (sym is) ∙ line)
+          none r after rest (inr more) line = rest r more line
