@@ -5,7 +5,7 @@ use Rattle.std.specs.Option.{unwrap_or}
 use Rattle.std.specs.List.{Contains}
 use Rattle.lisp_records.specs.declared.address.Addr.{Addr}
 use Rattle.lisp_records.specs.declared.router.RouterId.{RouterId}
-use Rattle.lisp_served.specs.Site.{SiteEntry}
+use Rattle.lisp_policy.specs.Site.{SiteEntry}
 use Rattle.lisp_nonces.specs.declared.fault.StoreFault.{StoreFault}
 use Rattle.lisp_nonces.specs.declared.fault.StoreFault.TheVariants as faults
 use Rattle.lisp_nonces.specs.declared.pair.Pair.{Pair}
@@ -20,14 +20,14 @@ use Rattle.lisp_messages.specs.declared.fault.ReadFault.{ReadFault}
 use Rattle.lisp_server.specs.Checks.{register_checked, RefusesAck}
 use Rattle.lisp_server.specs.Notices.{Standing, notice_at}
 use Rattle.lisp_server.specs.LastNonces.{nonce_at}
-use Rattle.lisp_checks.specs.Nonces.{IsBase, HasCause}
+use Rattle.lisp_admission.specs.Nonces.{IsBase, HasCause}
 use Rattle.lisp_server.specs.Receiving.{Takes, RefusesRegister, RefusesRead, Refuses}
-use Rattle.lisp_checks.specs.Pairs.{pair_of}
+use Rattle.lisp_admission.specs.Pairs.{pair_of}
 use Rattle.lisp_server.specs.Took.{reply_in}
 use Rattle.lisp_server.specs.declared.took.Took.{Took}
 use Rattle.lisp_server.specs.declared.took.Took.TheVariants.{Accepted, NoticeDone}
-use Rattle.lisp_checks.specs.declared.refused.Refused.{Refused}
-use Rattle.lisp_checks.specs.declared.refused.Refused.TheVariants as refusals
+use Rattle.lisp_admission.specs.declared.refused.Refused.{Refused}
+use Rattle.lisp_admission.specs.declared.refused.Refused.TheVariants as refusals
 use Rattle.lisp_server.specs.Server.{ServerState}
 use Rattle.lisp_answer.specs.Fresh.{fresh_server, fresh_memory}
 use Rattle.lisp_answer.specs.Answer.{answer_to, read_answer, answer_of, RanOut}

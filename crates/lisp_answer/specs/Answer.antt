@@ -3,11 +3,11 @@ use Rattle.std.specs.Prelude.{◌≡◌, ◌⊎◌, ℕ, List, Option, Result, O
 use Rattle.lisp_messages.specs.Message.{Registration, Said, Registers, Notifies}
 use Rattle.lisp_messages.specs.Reading.{HasHead, message_at}
 use Rattle.lisp_messages.specs.declared.fault.ReadFault.{ReadFault}
-use Rattle.lisp_served.specs.Site.{SiteEntry}
+use Rattle.lisp_policy.specs.Site.{SiteEntry}
 use Rattle.lisp_nonces.specs.declared.fault.StoreFault.TheVariants as faults
 use Rattle.lisp_server.specs.Checks.{Passed, register_checked, reply_of}
-use Rattle.lisp_checks.specs.declared.refused.Refused.{Refused}
-use Rattle.lisp_checks.specs.declared.refused.Refused.TheVariants.{Read, StoreLoad, OutOfMemory, StoreSave, NoNotice, NotMine}
+use Rattle.lisp_admission.specs.declared.refused.Refused.{Refused}
+use Rattle.lisp_admission.specs.declared.refused.Refused.TheVariants.{Read, StoreLoad, OutOfMemory, StoreSave, NoNotice, NotMine}
 
 -- a Map-Notify, or nothing where none is wanted; or a refusal
 abbrev pub Answer : Type 0

@@ -1,7 +1,7 @@
 -- A Map-Server that was just started, and a store in memory that keeps nothing.
 use Rattle.std.specs.Prelude.{List, []}
 use Rattle.std.specs.FinMap.{empty}
-use Rattle.lisp_served.specs.Site.{SiteEntry}
+use Rattle.lisp_policy.specs.Site.{SiteEntry}
 use Rattle.lisp_nonces.specs.declared.fate.Fate.TheVariants.{Done}
 use Rattle.lisp_nonces.specs.Memory.{Memory}
 use Rattle.lisp_server.specs.Server.{ServerState}

@@ -5,7 +5,7 @@ use Rattle.std.specs.Io.BufRead.{first_line}
 use Rattle.std.specs.Io.KnownBytes.{Appends}
 use Rattle.hex.specs.Hex.{decode_of, encode_lower}
 use Rattle.hex.specs.declared.error.FromHexError.{FromHexError}
-use Rattle.lisp_served.specs.Site.{SiteEntry}
+use Rattle.lisp_policy.specs.Site.{SiteEntry}
 use Rattle.lisp_answer.specs.Setup.{Setup, sites_of}
 use Rattle.lisp_answer.specs.Words.{refusal_words}
 use Rattle.lisp_answer.specs.Answer.{Answer, Answers}

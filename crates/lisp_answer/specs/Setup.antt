@@ -1,7 +1,7 @@
 -- The one site of a fresh server (RFC 9301 section 8.2).
 use Rattle.std.specs.Prelude.{ℕ, Bool, false, List, codes}
 use Rattle.lisp_records.specs.Address.{Block}
-use Rattle.lisp_served.specs.Site.{SiteEntry, single}
+use Rattle.lisp_policy.specs.Site.{SiteEntry, single}
 use Rattle.lisp_answer.specs.Block.{default_block}
 
 -- a site with one key and one prefix

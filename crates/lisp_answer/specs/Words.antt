@@ -1,8 +1,8 @@
 -- A refusal in words.
 use Rattle.std.specs.Prelude.{ℕ, List, ◌++◌, codes}
 use Rattle.std.specs.Fmt.{decimal}
-use Rattle.lisp_checks.specs.Refused.{refused_number}
-use Rattle.lisp_checks.specs.declared.refused.Refused.{Refused}
+use Rattle.lisp_admission.specs.Refused.{refused_number}
+use Rattle.lisp_admission.specs.declared.refused.Refused.{Refused}
 use Rattle.lisp_lines.specs.Carried.{refused_words}
 
 -- its number, and what it carries

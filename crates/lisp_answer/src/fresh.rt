@@ -1,14 +1,14 @@
 //! The answer of a fresh Map-Server to one datagram.
 
 ghost use Rattle.std.specs.Prelude.{◌≡◌, List};
-ghost use Rattle.lisp_served.specs.Site.{SiteEntry};
+ghost use Rattle.lisp_policy.specs.Site.{SiteEntry};
 ghost use Rattle.lisp_answer.specs.Answer.{Answers};
 ghost use Rattle.lisp_answer.specs.Fresh.{fresh_server, fresh_memory};
 
 use lisp_memory::Memory;
 use lisp_nonces::MemoryStore;
 use lisp_records::{Addr, Bytes};
-use lisp_served::Sites;
+use lisp_policy::Sites;
 use lisp_server::{Refused, Server};
 
 /// Where the datagram is said to come from: no answer shows it.

@@ -10,7 +10,7 @@ use crate::words::words_of_refused;
 use hex::FromHexError;
 use lisp_memory::{FallibleString, Memory};
 use lisp_records::Bytes;
-use lisp_served::Sites;
+use lisp_policy::Sites;
 use lisp_server::Refused;
 use std::alloc::AllocError;
 

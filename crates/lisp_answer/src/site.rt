@@ -5,7 +5,7 @@ ghost use Rattle.lisp_answer.specs.Block.{default_block};
 
 use lisp_memory::{FallibleCopies, Memory};
 use lisp_records::{Addr, Bytes, Prefix};
-use lisp_served::Sites;
+use lisp_policy::Sites;
 use std::alloc::{AllocError, Allocator, Global};
 use std::marker::Model;
 

@@ -6,7 +6,7 @@ ghost use Rattle.lisp_answer.specs.Words.{refusal_words};
 
 use lisp_lines::put_carried;
 use lisp_memory::{FallibleString, Memory};
-use lisp_schedules::Refusal;
+use lisp_model::Refusal;
 use lisp_server::Refused;
 use std::alloc::AllocError;
 

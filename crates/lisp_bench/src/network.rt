@@ -7,7 +7,7 @@ use lisp_hmac::Key;
 use lisp_messages::{MapRegister, write_register_under};
 use lisp_nonces::{MemoryStore, NonceStore};
 use lisp_records::{Addr, Prefix};
-use lisp_served::Sites;
+use lisp_policy::Sites;
 use lisp_server::Server;
 use std::alloc::{AllocError, Global};
 use std::rt::Clock;

@@ -5,14 +5,14 @@ use Rattle.std.specs.List.{Contains}
 use Rattle.std.proofs.lemmas.Bool.Decides.{Decides-eqb}
 use Rattle.std.proofs.lemmas.List.Elements.{Contains-append_cases, Contains-append_right}
 use Rattle.lisp_records.specs.declared.router.RouterId.{RouterId}
-use Rattle.lisp_checks.specs.Pairs.{router_of}
-use Rattle.lisp_schedules.specs.declared.line.Line.{Line}
-use Rattle.lisp_schedules.specs.declared.line.Line.TheVariants as lines
-use Rattle.lisp_schedules.specs.Trace.{Step, Opening}
-use Rattle.lisp_schedules.specs.Held.{Acceptance}
-use Rattle.lisp_schedules.specs.Bag.{since, since_after}
-use Rattle.lisp_schedules.specs.Accepted.{accepted, accepted_after, arriving}
-use Rattle.lisp_schedules.specs.Legal.{Legal, LegalTrace}
+use Rattle.lisp_admission.specs.Pairs.{router_of}
+use Rattle.lisp_model.specs.declared.line.Line.{Line}
+use Rattle.lisp_model.specs.declared.line.Line.TheVariants as lines
+use Rattle.lisp_model.specs.Trace.{Step, Opening}
+use Rattle.lisp_model.specs.Held.{Acceptance}
+use Rattle.lisp_model.specs.Bag.{since, since_after}
+use Rattle.lisp_model.specs.Accepted.{accepted, accepted_after, arriving}
+use Rattle.lisp_model.specs.Legal.{Legal, LegalTrace}
 use Rattle.lisp_client.specs.Steps.{IsIn, Arrives}
 use Rattle.lisp_client.proofs.Steps.{at_head, head_or_tail, in_none, here, later, goes_up}
 use Rattle.lisp_client.proofs.Arrivals.{IsTaken, taken_of, taken_alone, was_taken, accepting}

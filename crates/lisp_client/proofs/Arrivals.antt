@@ -6,17 +6,17 @@ use Rattle.std.specs.Option.{option_map, option_to_list}
 use Rattle.lisp_records.specs.declared.router.RouterId.{RouterId}
 use Rattle.lisp_messages.specs.declared.fault.ReadFault.{ReadFault}
 use Rattle.lisp_messages.specs.Message.{Said, Registration, Registers, Notifies}
-use Rattle.lisp_checks.specs.Pairs.{router_of}
-use Rattle.lisp_schedules.specs.declared.event.Event.TheVariants as events
-use Rattle.lisp_schedules.specs.declared.line.Line.{Line}
-use Rattle.lisp_schedules.specs.declared.line.Line.TheVariants as lines
-use Rattle.lisp_schedules.specs.Trace.{Happening, Step, Opening, clock}
-use Rattle.lisp_schedules.specs.Held.{Acceptance}
-use Rattle.lisp_schedules.specs.Bag.{Arrival, arrival_of, arrival_in, thrown, as_register, taken, bag}
-use Rattle.lisp_schedules.specs.Accepted.{arriving}
-use Rattle.lisp_schedules.specs.Turn.{Turn}
-use Rattle.lisp_schedules.specs.Receiving.{IsAccepted}
-use Rattle.lisp_schedules.specs.Legal.{MayCome, Legal, turn_of}
+use Rattle.lisp_admission.specs.Pairs.{router_of}
+use Rattle.lisp_model.specs.declared.event.Event.TheVariants as events
+use Rattle.lisp_model.specs.declared.line.Line.{Line}
+use Rattle.lisp_model.specs.declared.line.Line.TheVariants as lines
+use Rattle.lisp_model.specs.Trace.{Happening, Step, Opening, clock}
+use Rattle.lisp_model.specs.Held.{Acceptance}
+use Rattle.lisp_model.specs.Bag.{Arrival, arrival_of, arrival_in, thrown, as_register, taken, bag}
+use Rattle.lisp_model.specs.Accepted.{arriving}
+use Rattle.lisp_model.specs.Turn.{Turn}
+use Rattle.lisp_model.specs.Receiving.{IsAccepted}
+use Rattle.lisp_model.specs.Legal.{MayCome, Legal, turn_of}
 use Rattle.lisp_client.specs.Steps.{Arrives}
 use Rattle.lisp_client.proofs.Steps.{head_or_tail, in_none}
 

@@ -3,17 +3,17 @@ use Rattle.std.proofs.Common.{◌≡◌, ℕ, ◌==◌, ◌&&◌, Bool, true, fa
 use Rattle.std.specs.Prelude.{if◌then◌else◌}
 use Rattle.std.specs.List.{Contains}
 use Rattle.lisp_messages.specs.Message.{Registration}
-use Rattle.lisp_checks.specs.Pairs.{router_of}
-use Rattle.lisp_schedules.specs.declared.line.Line.TheVariants as lines
-use Rattle.lisp_schedules.specs.Trace.{Step, Opening, router_at}
-use Rattle.lisp_schedules.specs.Held.{Acceptance}
-use Rattle.lisp_schedules.specs.Counted.{acknowledged, acknowledged_after}
-use Rattle.lisp_schedules.specs.declared.line.Line.{Line}
-use Rattle.lisp_schedules.specs.Legal.{LegalTrace}
-use Rattle.lisp_schedules.specs.Network.{IsNetwork}
-use Rattle.lisp_schedules.specs.Promises.{AcceptedWasSent, WasAccepted}
-use Rattle.lisp_schedules.specs.Promises as schedules
-use Rattle.lisp_turns.specs.Headline.{OfEachStep}
+use Rattle.lisp_admission.specs.Pairs.{router_of}
+use Rattle.lisp_model.specs.declared.line.Line.TheVariants as lines
+use Rattle.lisp_model.specs.Trace.{Step, Opening, router_at}
+use Rattle.lisp_model.specs.Held.{Acceptance}
+use Rattle.lisp_model.specs.Counted.{acknowledged, acknowledged_after}
+use Rattle.lisp_model.specs.declared.line.Line.{Line}
+use Rattle.lisp_model.specs.Legal.{LegalTrace}
+use Rattle.lisp_model.specs.Network.{IsNetwork}
+use Rattle.lisp_model.specs.Promises.{AcceptedWasSent, WasAccepted}
+use Rattle.lisp_model.specs.Promises as schedules
+use Rattle.lisp_refinement.specs.Headline.{OfEachStep}
 use Rattle.lisp_client.specs.Steps.{IsIn, WasSent}
 use Rattle.lisp_client.specs.Promised.{AcceptedWereSent, CountedWasAccepted, CountedWereAccepted, DoneWasNoticed}
 use Rattle.lisp_client.proofs.Steps.{at_head, in_tail, goes_up, each_at}

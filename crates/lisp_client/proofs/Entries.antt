@@ -5,16 +5,16 @@ use Rattle.std.specs.List.{AllPairs, Contains}
 use Rattle.std.proofs.lemmas.Bool.{and_parts, ltb-true, leb-true, cases_lt}
 use Rattle.std.proofs.lemmas.List.Elements.{Contains-append_right}
 use Rattle.lisp_records.specs.declared.address.Addr.{Addr}
-use Rattle.lisp_served.specs.Configuration.{Configuration}
+use Rattle.lisp_policy.specs.Configuration.{Configuration}
 use Rattle.lisp_messages.specs.Message.{Registration}
 use Rattle.lisp_etr.specs.Sending.{registration_of}
-use Rattle.lisp_schedules.specs.declared.event.Event.TheVariants as events
-use Rattle.lisp_schedules.specs.declared.line.Line.{Line}
-use Rattle.lisp_schedules.specs.declared.line.Line.TheVariants as lines
-use Rattle.lisp_schedules.specs.Trace.{Happening, Step, Opening, address_at, database, is_router, router_at, settings_of}
-use Rattle.lisp_schedules.specs.History.{Entry, entry_in, history, message_of}
-use Rattle.lisp_schedules.specs.Turn.{Turn}
-use Rattle.lisp_schedules.specs.Legal.{MayCome, LegalTrace, turn_of}
+use Rattle.lisp_model.specs.declared.event.Event.TheVariants as events
+use Rattle.lisp_model.specs.declared.line.Line.{Line}
+use Rattle.lisp_model.specs.declared.line.Line.TheVariants as lines
+use Rattle.lisp_model.specs.Trace.{Happening, Step, Opening, address_at, database, is_router, router_at, settings_of}
+use Rattle.lisp_model.specs.History.{Entry, entry_in, history, message_of}
+use Rattle.lisp_model.specs.Turn.{Turn}
+use Rattle.lisp_model.specs.Legal.{MayCome, LegalTrace, turn_of}
 use Rattle.lisp_client.specs.Steps.{IsIn, WasSent}
 use Rattle.lisp_client.proofs.Steps.{at_head, head_or_tail, in_none, here, later, goes_up, legal_at}
 

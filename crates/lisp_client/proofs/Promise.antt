@@ -8,29 +8,29 @@ use Rattle.std.specs.Option.{option_map, option_and_then}
 use Rattle.std.specs.Result.{result_ok}
 use Rattle.lisp_nonces.specs.Memory.{Memory, memory_state}
 use Rattle.lisp_nonces.specs.declared.fault.StoreFault.TheVariants as faults
-use Rattle.lisp_served.specs.Configuration.{Configuration}
+use Rattle.lisp_policy.specs.Configuration.{Configuration}
 use Rattle.lisp_records.specs.Row.{Holding}
 use Rattle.lisp_lookup.specs.Table.{IsHeld}
 use Rattle.lisp_etr.specs.Etr.{EtrState}
 use Rattle.lisp_etr.specs.declared.round.Round.{Round}
 use Rattle.lisp_etr.specs.declared.start_fault.StartFault.TheVariants as starts
 use Rattle.lisp_server.specs.Server.{ServerState}
-use Rattle.lisp_schedules.specs.History.{Entry}
-use Rattle.lisp_schedules.specs.Trace.{Happening, Step, Opening, router_at, is_server, is_router, is_up}
-use Rattle.lisp_schedules.specs.Counted.{acked}
-use Rattle.lisp_schedules.specs.declared.line.Line.{Line}
-use Rattle.lisp_schedules.specs.declared.world_fault.WorldFault.{WorldFault}
-use Rattle.lisp_schedules.specs.declared.world_fault.WorldFault.TheVariants.{NoNode, WrongKind, NoDatagram, Clock, Repeated, OutOfMemory, Start}
-use Rattle.lisp_turns.specs.World.{WorldState, ServerNode, RouterNode, RouterCore, Up, Down}
-use Rattle.lisp_turns.specs.Nodes.{server_at, up_in, etr_at}
-use Rattle.lisp_turns.specs.Stands.{Stands, StandsForCore, StandsForEtr}
-use Rattle.lisp_turns.specs.Headline.{Lists, IsSentRow, OverClean, Promises}
+use Rattle.lisp_model.specs.History.{Entry}
+use Rattle.lisp_model.specs.Trace.{Happening, Step, Opening, router_at, is_server, is_router, is_up}
+use Rattle.lisp_model.specs.Counted.{acked}
+use Rattle.lisp_model.specs.declared.line.Line.{Line}
+use Rattle.lisp_model.specs.declared.world_fault.WorldFault.{WorldFault}
+use Rattle.lisp_model.specs.declared.world_fault.WorldFault.TheVariants.{NoNode, WrongKind, NoDatagram, Clock, Repeated, OutOfMemory, Start}
+use Rattle.lisp_refinement.specs.World.{WorldState, ServerNode, RouterNode, RouterCore, Up, Down}
+use Rattle.lisp_refinement.specs.Nodes.{server_at, up_in, etr_at}
+use Rattle.lisp_refinement.specs.Stands.{Stands, StandsForCore, StandsForEtr}
+use Rattle.lisp_refinement.specs.Headline.{Lists, IsSentRow, OverClean, Promises}
 use Rattle.lisp_world.specs.Faults.{fault_of}
 use Rattle.lisp_world.specs.Making.{AllBelowEnd, IsCalmFault}
 use Rattle.lisp_world.specs.Quiet.{AllHonest, AllCalm, IsCalm, stores_of}
 use Rattle.lisp_world.specs.Openings.{opening, repeats, lists_of}
 use Rattle.lisp_world.specs.Runs.{RunsOn, StopsAt}
-use Rattle.lisp_turns.proofs.Gets.{none_is_some, same_some, get_within}
+use Rattle.lisp_refinement.proofs.Gets.{none_is_some, same_some, get_within}
 use Rattle.lisp_client.specs.declared.question.Question.{Question}
 use Rattle.lisp_client.specs.Promised.{WasRegistered}
 use Rattle.lisp_client.specs.Told.{HasRun, IsPromised, IsPromisedOverClean, IsNotThere, HasNotRun, IsUntold, counted_at}

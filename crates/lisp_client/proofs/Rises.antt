@@ -8,16 +8,16 @@ use Rattle.lisp_nonces.specs.declared.pair.Pair.{Pair}
 use Rattle.lisp_nonces.specs.declared.pair.PairKind.TheVariants as kinds
 use Rattle.lisp_nonces.specs.Pair.{pair_cmp}
 use Rattle.lisp_messages.specs.Message.{Registration}
-use Rattle.lisp_checks.specs.Pairs.{router_of, pair_of}
-use Rattle.lisp_schedules.specs.declared.line.Line.{Line}
-use Rattle.lisp_schedules.specs.declared.line.Line.TheVariants as lines
-use Rattle.lisp_schedules.specs.Trace.{Step, Opening}
-use Rattle.lisp_schedules.specs.Held.{Acceptance, is_of_pair}
-use Rattle.lisp_schedules.specs.Accepted.{accepted, accepted_after, arriving, nonces_of}
-use Rattle.lisp_schedules.specs.Legal.{LegalTrace}
-use Rattle.lisp_schedules.specs.Promises.{Falls, notice_nonces, notice_nonces_after}
-use Rattle.lisp_schedules.specs.Promises as schedules
-use Rattle.lisp_schedules.proofs.KeptLemmas.{pair_itself}
+use Rattle.lisp_admission.specs.Pairs.{router_of, pair_of}
+use Rattle.lisp_model.specs.declared.line.Line.{Line}
+use Rattle.lisp_model.specs.declared.line.Line.TheVariants as lines
+use Rattle.lisp_model.specs.Trace.{Step, Opening}
+use Rattle.lisp_model.specs.Held.{Acceptance, is_of_pair}
+use Rattle.lisp_model.specs.Accepted.{accepted, accepted_after, arriving, nonces_of}
+use Rattle.lisp_model.specs.Legal.{LegalTrace}
+use Rattle.lisp_model.specs.Promises.{Falls, notice_nonces, notice_nonces_after}
+use Rattle.lisp_model.specs.Promises as schedules
+use Rattle.lisp_model.proofs.KeptLemmas.{pair_itself}
 use Rattle.lisp_client.specs.Promised.{NoncesRise, NoticeNoncesRise}
 use Rattle.lisp_client.proofs.Steps.{at_head, in_tail, head_or_tail, in_none, goes_down, goes_up, legal_at}
 use Rattle.lisp_client.proofs.Arrivals.{taken_of, accepting}

@@ -4,18 +4,18 @@ use Rattle.std.specs.Prelude.{◌==◌}
 use Rattle.std.proofs.lemmas.Bool.Decides.{Decides-eqb}
 use Rattle.lisp_records.specs.Record.{Mapping}
 use Rattle.lisp_records.specs.Row.{Holding}
-use Rattle.lisp_checks.specs.Pairs.{router_of}
-use Rattle.lisp_checks.specs.AcceptedRows.{holding}
-use Rattle.lisp_schedules.specs.declared.event.Event.TheVariants as events
-use Rattle.lisp_schedules.specs.declared.line.Line.TheVariants as lines
-use Rattle.lisp_schedules.specs.Trace.{Happening, Step, Opening}
-use Rattle.lisp_schedules.specs.Held.{Acceptance}
-use Rattle.lisp_schedules.specs.History.{Entry, record_for}
-use Rattle.lisp_schedules.specs.Change.{gives, Keeps, NoChange}
-use Rattle.lisp_schedules.specs.Legal.{LegalTrace}
-use Rattle.lisp_schedules.specs.Network.{IsNetwork}
-use Rattle.lisp_turns.specs.World.{WorldState}
-use Rattle.lisp_turns.specs.Headline.{Lists, IsSentRow, ListedWasSent, ListedAgree}
+use Rattle.lisp_admission.specs.Pairs.{router_of}
+use Rattle.lisp_admission.specs.AcceptedRows.{holding}
+use Rattle.lisp_model.specs.declared.event.Event.TheVariants as events
+use Rattle.lisp_model.specs.declared.line.Line.TheVariants as lines
+use Rattle.lisp_model.specs.Trace.{Happening, Step, Opening}
+use Rattle.lisp_model.specs.Held.{Acceptance}
+use Rattle.lisp_model.specs.History.{Entry, record_for}
+use Rattle.lisp_model.specs.Change.{gives, Keeps, NoChange}
+use Rattle.lisp_model.specs.Legal.{LegalTrace}
+use Rattle.lisp_model.specs.Network.{IsNetwork}
+use Rattle.lisp_refinement.specs.World.{WorldState}
+use Rattle.lisp_refinement.specs.Headline.{Lists, IsSentRow, ListedWasSent, ListedAgree}
 use Rattle.lisp_client.specs.Steps.{IsSentIn, IsAcceptedIn, GivesNone, UnchangedBetween}
 use Rattle.lisp_client.specs.Promised.{WasRegistered, RowsAgree}
 use Rattle.lisp_client.proofs.Steps.{IsPlaced, placed}

@@ -3,9 +3,9 @@ use Rattle.std.proofs.Common.{◌≡◌, ℕ, zero, suc, List, [], ◌∷◌, �
 use Rattle.std.specs.Prelude.{◌⊎◌, reverse, slice_get}
 use Rattle.std.specs.List.{Contains}
 use Rattle.std.proofs.lemmas.List.{length-reverse, reverse-append}
-use Rattle.lisp_schedules.specs.Trace.{Step, Opening}
-use Rattle.lisp_schedules.specs.Legal.{LegalTrace}
-use Rattle.lisp_turns.specs.Headline.{OfEachStep}
+use Rattle.lisp_model.specs.Trace.{Step, Opening}
+use Rattle.lisp_model.specs.Legal.{LegalTrace}
+use Rattle.lisp_refinement.specs.Headline.{OfEachStep}
 use Rattle.lisp_client.specs.Steps.{IsIn}
 
 -- what a list has

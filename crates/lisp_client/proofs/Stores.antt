@@ -3,15 +3,15 @@ use Rattle.std.proofs.Common.{◌≡◌, ℕ, zero, suc, false, List, [], ◌∷
 use Rattle.std.specs.Prelude.{slice_get, slice_index_or}
 use Rattle.std.specs.FinMap.{empty}
 use Rattle.std.specs.List.{AllByRecursion}
-use Rattle.lisp_served.specs.Configuration.{Configuration}
+use Rattle.lisp_policy.specs.Configuration.{Configuration}
 use Rattle.lisp_nonces.specs.Kept.{Kept}
 use Rattle.lisp_nonces.specs.Memory.{Memory, memory_state}
 use Rattle.lisp_nonces.specs.Store.{StoreState}
 use Rattle.lisp_nonces.specs.declared.fate.Fate.TheVariants.{Done}
-use Rattle.lisp_schedules.specs.Trace.{shown}
-use Rattle.lisp_turns.specs.World.{WorldState}
-use Rattle.lisp_turns.specs.Stands.{shown_by}
-use Rattle.lisp_turns.proofs.Gets.{get_mapped, get_replicate}
+use Rattle.lisp_model.specs.Trace.{shown}
+use Rattle.lisp_refinement.specs.World.{WorldState}
+use Rattle.lisp_refinement.specs.Stands.{shown_by}
+use Rattle.lisp_refinement.proofs.Gets.{get_mapped, get_replicate}
 use Rattle.lisp_world.specs.Quiet.{stores_of}
 use Rattle.lisp_world.specs.Openings.{opening, lists_of}
 

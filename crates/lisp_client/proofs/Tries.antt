@@ -9,17 +9,17 @@ use Rattle.std.proofs.lemmas.List.Elements.{Contains-append_cases}
 use Rattle.lisp_records.specs.declared.router.RouterId.{RouterId}
 use Rattle.lisp_nonces.specs.declared.pair.Pair.{Pair}
 use Rattle.lisp_nonces.specs.Kept.{Kept, kept_at}
-use Rattle.lisp_checks.specs.declared.refused.Refused.TheVariants.{StoreSave}
-use Rattle.lisp_checks.specs.Pairs.{pair_of}
-use Rattle.lisp_schedules.specs.declared.line.Line.{Line}
-use Rattle.lisp_schedules.specs.declared.line.Line.TheVariants as lines
-use Rattle.lisp_schedules.specs.declared.refusal.Refusal.TheVariants.{Receive}
-use Rattle.lisp_schedules.specs.Trace.{Step, Opening, shown}
-use Rattle.lisp_schedules.specs.Held.{Acceptance, is_of_pair}
-use Rattle.lisp_schedules.specs.Accepted.{arriving, nonces_of, tried, tried_after}
-use Rattle.lisp_schedules.specs.Promises as schedules
-use Rattle.lisp_schedules.proofs.KeptLemmas.{kept_at-empty, pair_same}
-use Rattle.lisp_turns.specs.Headline.{OfEachStep}
+use Rattle.lisp_admission.specs.declared.refused.Refused.TheVariants.{StoreSave}
+use Rattle.lisp_admission.specs.Pairs.{pair_of}
+use Rattle.lisp_model.specs.declared.line.Line.{Line}
+use Rattle.lisp_model.specs.declared.line.Line.TheVariants as lines
+use Rattle.lisp_model.specs.declared.refusal.Refusal.TheVariants.{Receive}
+use Rattle.lisp_model.specs.Trace.{Step, Opening, shown}
+use Rattle.lisp_model.specs.Held.{Acceptance, is_of_pair}
+use Rattle.lisp_model.specs.Accepted.{arriving, nonces_of, tried, tried_after}
+use Rattle.lisp_model.specs.Promises as schedules
+use Rattle.lisp_model.proofs.KeptLemmas.{kept_at-empty, pair_same}
+use Rattle.lisp_refinement.specs.Headline.{OfEachStep}
 use Rattle.lisp_client.specs.Promised.{Tries, WasTried, ReplaysAreTried}
 use Rattle.lisp_client.proofs.Steps.{at_head, in_tail, head_or_tail, in_none, here, later, each_at}
 use Rattle.lisp_client.proofs.Arrivals.{taken_of, taken_alone, was_taken}

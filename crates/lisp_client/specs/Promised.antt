@@ -4,12 +4,12 @@ use Rattle.std.specs.Prelude.{◌≡◌, ℕ, ◌<◌, List, Option, Some}
 use Rattle.std.specs.List.{Contains}
 use Rattle.lisp_records.specs.declared.router.RouterId.{RouterId}
 use Rattle.lisp_records.specs.Row.{Holding}
-use Rattle.lisp_checks.specs.declared.refused.Refused.TheVariants.{Replay, StoreSave}
-use Rattle.lisp_schedules.specs.declared.line.Line.{Line}
-use Rattle.lisp_schedules.specs.declared.line.Line.TheVariants as lines
-use Rattle.lisp_schedules.specs.declared.refusal.Refusal.TheVariants.{Receive}
-use Rattle.lisp_schedules.specs.Trace.{Step, Opening, database, router_at}
-use Rattle.lisp_schedules.specs.History.{record_for}
+use Rattle.lisp_admission.specs.declared.refused.Refused.TheVariants.{Replay, StoreSave}
+use Rattle.lisp_model.specs.declared.line.Line.{Line}
+use Rattle.lisp_model.specs.declared.line.Line.TheVariants as lines
+use Rattle.lisp_model.specs.declared.refusal.Refusal.TheVariants.{Receive}
+use Rattle.lisp_model.specs.Trace.{Step, Opening, database, router_at}
+use Rattle.lisp_model.specs.History.{record_for}
 use Rattle.lisp_client.specs.Steps.{IsIn, Arrives, WasSent, IsAcceptedIn, IsSentIn, UnchangedBetween}
 
 -- of two Map-Registers of a router under a key that a Map-Server accepted, the later one has the greater nonce, whatever

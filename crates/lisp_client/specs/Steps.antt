@@ -8,12 +8,12 @@ use Rattle.lisp_records.specs.Record.{Mapping}
 use Rattle.lisp_records.specs.Row.{Holding}
 use Rattle.lisp_messages.specs.Message.{Registration, Registers}
 use Rattle.lisp_etr.specs.Sending.{registration_of}
-use Rattle.lisp_checks.specs.AcceptedRows.{holding}
-use Rattle.lisp_checks.specs.Pairs.{router_of}
-use Rattle.lisp_schedules.specs.declared.event.Event.TheVariants as events
-use Rattle.lisp_schedules.specs.declared.line.Line.TheVariants as lines
-use Rattle.lisp_schedules.specs.Trace.{Happening, Step, Opening, database, address_at, router_at, settings_of, clock}
-use Rattle.lisp_schedules.specs.Bag.{Arrival, arrival_in, bag}
+use Rattle.lisp_admission.specs.AcceptedRows.{holding}
+use Rattle.lisp_admission.specs.Pairs.{router_of}
+use Rattle.lisp_model.specs.declared.event.Event.TheVariants as events
+use Rattle.lisp_model.specs.declared.line.Line.TheVariants as lines
+use Rattle.lisp_model.specs.Trace.{Happening, Step, Opening, database, address_at, router_at, settings_of, clock}
+use Rattle.lisp_model.specs.Bag.{Arrival, arrival_in, bag}
 
 -- a step of a trace, and those before it
 pub record IsIn (T : List Step) (s : Step) (before : List Step) : Type 0 where

@@ -4,17 +4,17 @@ use Rattle.std.specs.FinMap.{empty}
 use Rattle.std.specs.List.{Contains}
 use Rattle.std.specs.Option.{option_and_then}
 use Rattle.lisp_records.specs.Row.{Holding}
-use Rattle.lisp_served.specs.Configuration.{Configuration}
-use Rattle.lisp_schedules.specs.Trace.{Happening, Step, Opening, shown, router_at, clock, is_server, is_router, is_up}
-use Rattle.lisp_schedules.specs.Counted.{acked}
-use Rattle.lisp_schedules.specs.Held.{rows}
-use Rattle.lisp_schedules.specs.Bag.{since}
-use Rattle.lisp_schedules.specs.Clean.{Clean}
-use Rattle.lisp_schedules.specs.Legal.{LegalTrace}
-use Rattle.lisp_schedules.specs.declared.world_fault.WorldFault.{WorldFault}
-use Rattle.lisp_turns.specs.World.{WorldState}
-use Rattle.lisp_turns.specs.Stands.{Stands}
-use Rattle.lisp_turns.specs.Headline.{Promises}
+use Rattle.lisp_policy.specs.Configuration.{Configuration}
+use Rattle.lisp_model.specs.Trace.{Happening, Step, Opening, shown, router_at, clock, is_server, is_router, is_up}
+use Rattle.lisp_model.specs.Counted.{acked}
+use Rattle.lisp_model.specs.Held.{rows}
+use Rattle.lisp_model.specs.Bag.{since}
+use Rattle.lisp_model.specs.Clean.{Clean}
+use Rattle.lisp_model.specs.Legal.{LegalTrace}
+use Rattle.lisp_model.specs.declared.world_fault.WorldFault.{WorldFault}
+use Rattle.lisp_refinement.specs.World.{WorldState}
+use Rattle.lisp_refinement.specs.Stands.{Stands}
+use Rattle.lisp_refinement.specs.Headline.{Promises}
 use Rattle.lisp_world.specs.Faults.{fault_of}
 use Rattle.lisp_world.specs.Openings.{repeats}
 use Rattle.lisp_client.specs.declared.question.Question.{Question}

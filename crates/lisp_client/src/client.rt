@@ -3,15 +3,15 @@
 ghost use Rattle.std.specs.Prelude.{◌≡◌, ◌⊎◌, List, IfOk, IfSome, IfNone, OnErr, map, replicate};
 ghost use Rattle.std.specs.FinMap.{empty};
 ghost use Rattle.lisp_nonces.specs.declared.fate.Fate.TheVariants.{Done};
-ghost use Rattle.lisp_served.specs.Configuration.{Configuration};
-ghost use Rattle.lisp_schedules.specs.Trace.{Happening, happening};
+ghost use Rattle.lisp_policy.specs.Configuration.{Configuration};
+ghost use Rattle.lisp_model.specs.Trace.{Happening, happening};
 ghost use Rattle.lisp_client.specs.Told.{HasRun, IsPromised, IsNotThere, HasNotRun, IsUntold};
 
 use crate::question::Question;
 use crate::told::Told;
 use lisp_memory::{FallibleVec, Memory};
 use lisp_nonces::MemoryStore;
-use lisp_schedules::Event;
+use lisp_model::Event;
 use lisp_sites::Config;
 use lisp_world::World;
 use std::alloc::{AllocError, Allocator};

@@ -2,10 +2,10 @@
 use Rattle.std.proofs.Common.{◌≡◌, ℕ, Bool, true, false, List, [], ◌++◌, None, refl, ap, ◌∙◌, codes, append_assoc}
 use Rattle.std.proofs.lemmas.List.{append-nil}
 use Rattle.std.specs.Fmt.{decimal}
-use Rattle.lisp_served.specs.Configuration.{Configuration}
-use Rattle.lisp_schedules.specs.Faults.{refusal_number}
-use Rattle.lisp_schedules.specs.declared.line.Line.{Line}
-use Rattle.lisp_schedules.specs.declared.line.Line.TheVariants as lines
+use Rattle.lisp_policy.specs.Configuration.{Configuration}
+use Rattle.lisp_model.specs.Faults.{refusal_number}
+use Rattle.lisp_model.specs.declared.line.Line.{Line}
+use Rattle.lisp_model.specs.declared.line.Line.TheVariants as lines
 use Rattle.lisp_lines.specs.Name.{node_name, router_name}
 use Rattle.lisp_lines.specs.Carried.{carried_words}
 use Rattle.lisp_lines.specs.Line.{datagram_text, line_words}

@@ -10,11 +10,11 @@ use Rattle.lisp_nonces.specs.declared.fault.StoreFault.{StoreFault}
 use Rattle.lisp_etr.specs.declared.send_fault.SendFault.TheVariants as sends
 use Rattle.lisp_etr.specs.declared.notify_fault.NotifyFault.TheVariants as notifies
 use Rattle.lisp_etr.specs.declared.start_fault.StartFault.TheVariants as starts
-use Rattle.lisp_checks.specs.declared.notice_fault.NoticeFault.TheVariants as notices
-use Rattle.lisp_checks.specs.declared.refused.Refused.{Refused}
-use Rattle.lisp_checks.specs.declared.refused.Refused.TheVariants as refused
-use Rattle.lisp_schedules.specs.declared.refusal.Refusal.{Refusal}
-use Rattle.lisp_schedules.specs.declared.refusal.Refusal.TheVariants as refusals
+use Rattle.lisp_admission.specs.declared.notice_fault.NoticeFault.TheVariants as notices
+use Rattle.lisp_admission.specs.declared.refused.Refused.{Refused}
+use Rattle.lisp_admission.specs.declared.refused.Refused.TheVariants as refused
+use Rattle.lisp_model.specs.declared.refusal.Refusal.{Refusal}
+use Rattle.lisp_model.specs.declared.refusal.Refusal.TheVariants as refusals
 
 -- a number, and what it is
 abbrev pub carried : List ℕ → ℕ → List ℕ

@@ -1,10 +1,10 @@
 -- The text of the line of each event.
 use Rattle.std.specs.Prelude.{ℕ, Bool, true, List, [], ◌∷◌, ◌++◌, codes, Option, Some}
 use Rattle.std.specs.Fmt.{decimal}
-use Rattle.lisp_served.specs.Configuration.{Configuration}
-use Rattle.lisp_schedules.specs.Faults.{refusal_number}
-use Rattle.lisp_schedules.specs.declared.line.Line.{Line}
-use Rattle.lisp_schedules.specs.declared.line.Line.TheVariants as lines
+use Rattle.lisp_policy.specs.Configuration.{Configuration}
+use Rattle.lisp_model.specs.Faults.{refusal_number}
+use Rattle.lisp_model.specs.declared.line.Line.{Line}
+use Rattle.lisp_model.specs.declared.line.Line.TheVariants as lines
 use Rattle.lisp_lines.specs.Name.{node_name, router_name}
 use Rattle.lisp_lines.specs.Carried.{carried_words}
 

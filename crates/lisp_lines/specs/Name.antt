@@ -3,7 +3,7 @@ use Rattle.std.specs.Prelude.{ℕ, List, codes, slice_index_or, Option, Some, No
 use Rattle.std.specs.List.{find}
 use Rattle.lisp_records.specs.declared.router.RouterId.{RouterId}
 use Rattle.lisp_records.specs.Router.{router_eq}
-use Rattle.lisp_served.specs.Configuration.{Configuration, Router, names}
+use Rattle.lisp_policy.specs.Configuration.{Configuration, Router, names}
 
 -- a node by its number; one that the configuration doesn't have is 'other'
 abbrev pub node_name : Configuration → ℕ → List ℕ

@@ -7,7 +7,7 @@ use Rattle.lisp_records.specs.declared.router.RouterId.{RouterId}
 use Rattle.lisp_records.specs.Row.{Holding}
 use Rattle.lisp_lookup.specs.declared.answer.Answer.{Answer}
 use Rattle.lisp_lookup.specs.declared.answer.Answer.TheVariants.{NoSite, NotRegistered, Reply, Forward}
-use Rattle.lisp_served.specs.Configuration.{Configuration}
+use Rattle.lisp_policy.specs.Configuration.{Configuration}
 use Rattle.lisp_texts.specs.Written.{addr_text, record_text}
 use Rattle.lisp_lines.specs.Name.{node_name, router_name}
 use Rattle.lisp_lines.specs.Line.{pair_text, keyed_text}

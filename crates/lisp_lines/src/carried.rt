@@ -9,7 +9,7 @@ use crate::append::put_number;
 use lisp_etr::{NotifyFault, SendFault, StartFault};
 use lisp_memory::Memory;
 use lisp_messages::ReadFault;
-use lisp_schedules::Refusal;
+use lisp_model::Refusal;
 use lisp_server::{NoticeFault, Refused};
 use std::alloc::AllocError;
 

@@ -10,7 +10,7 @@ use crate::append::put_number;
 use crate::carried::put_carried;
 use crate::name::{node_name, router_name};
 use lisp_memory::{FallibleString, Memory};
-use lisp_schedules::{Line, Refusal};
+use lisp_model::{Line, Refusal};
 use lisp_sites::Config;
 use std::alloc::{AllocError, Allocator};
 

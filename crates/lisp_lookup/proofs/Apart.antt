@@ -7,7 +7,7 @@ use Rattle.std.proofs.lemmas.Grind.{get_or-set_at}
 use Rattle.std.proofs.lemmas.List.{get_or-set_other, length-set}
 use Rattle.std.proofs.lemmas.List.Quantifiers.{position-Some, all_pairs_push}
 use Rattle.std.proofs.lemmas.List.Recursion.{found_at}
-use Rattle.lisp_served.proofs.Found.{nowhere, not_true}
+use Rattle.lisp_policy.proofs.Found.{nowhere, not_true}
 
 -- what passes a test is found
 found_case : {X : Type 0} (p : X → Bool) (x : X) (xs : List X) (k : ℕ) (d : X) → k < length (x ∷ xs) → p (slice_index_or (x ∷ xs) k d) ≡ true → (b : Bool) → p x ≡ b → ((j : ℕ) → j < length xs → p (slice_index_or xs j d) ≡ true → find p xs ≢ None) → cond b (Some x) (find p xs) ≢ None

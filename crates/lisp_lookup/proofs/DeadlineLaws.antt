@@ -18,7 +18,7 @@ use Rattle.lisp_records.specs.Row.{Holding, is_alive}
 use Rattle.lisp_lookup.specs.Table.{is_row_of, row_key, row_at, OneEach, Expires}
 use Rattle.lisp_lookup.specs.Index.{deadline, prefix_cmp, deadline_cmp, row_at_place, IsIndex}
 use Rattle.lisp_lookup.proofs.IndexLaws.{number_at, prefix_total, itself}
-use Rattle.lisp_served.proofs.Found.{not_true}
+use Rattle.lisp_policy.proofs.Found.{not_true}
 use Rattle.lisp_lookup.proofs.TableLaws.{has_key, found_own, found_holds, filtered_holds, filter_holds, alive_of, one_each_alive, expires}
 
 by_life : (accepted life now : ℕ) (none : Bool) → (life == 0) ≡ none → cond none 0 (min (accepted + life) (2 ^ 64 - 1)) ≤ now → now ≤ max_moment → nat_lt (now - accepted) life ≡ false

@@ -6,7 +6,7 @@ use Rattle.std.proofs.lemmas.Nat.{pow-add}
 use Rattle.std.proofs.Math.Nat.{mul-le-mul_left}
 use Rattle.lisp_records.specs.Row.{Holding}
 use Rattle.lisp_lookup.specs.declared.probe.Probe.{Probe}
-use Rattle.lisp_served.proofs.Found.{not_true}
+use Rattle.lisp_policy.proofs.Found.{not_true}
 use Rattle.lisp_lookup.specs.Index.{is_before, row_at_place, Falls}
 
 -- a number that is read at a place is that of a row

@@ -21,7 +21,7 @@ use Rattle.lisp_records.specs.Written.{written}
 use Rattle.lisp_records.specs.Database.{size, database_of, repeats}
 use Rattle.lisp_lookup.specs.Table.{is_row_of, row_key, row_at, OneEach}
 use Rattle.lisp_lookup.specs.Records.{is_live_of, live_of, ByPrefix}
-use Rattle.lisp_served.proofs.Found.{not_true}
+use Rattle.lisp_policy.proofs.Found.{not_true}
 use Rattle.lisp_lookup.proofs.Orders.{block_total, same_block}
 use Rattle.lisp_lookup.proofs.Apart.{found}
 use Rattle.lisp_lookup.proofs.TableLaws.{has_key, filtered_holds, filter_holds, less_from, differ_moved}

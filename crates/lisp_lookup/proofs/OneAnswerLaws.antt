@@ -9,7 +9,7 @@ use Rattle.lisp_records.specs.declared.router.RouterId.{RouterId}
 use Rattle.lisp_records.specs.Address.{Block}
 use Rattle.lisp_records.specs.Router.{router_cmp}
 use Rattle.lisp_records.specs.Row.{Holding}
-use Rattle.lisp_served.specs.Site.{SiteEntry, is_configured}
+use Rattle.lisp_policy.specs.Site.{SiteEntry, is_configured}
 use Rattle.lisp_lookup.specs.Answer.{may_answer, rank_cmp, Answers, IsBest, IsBestOf}
 use Rattle.lisp_lookup.specs.OneAnswer as shows
 use Rattle.lisp_lookup.specs.OneAnswer.{ShownAnswer, shown_of, AnswersAgree}

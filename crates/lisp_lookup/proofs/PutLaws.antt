@@ -12,7 +12,7 @@ use Rattle.lisp_lookup.specs.declared.order.Order.{Order}
 use Rattle.lisp_lookup.specs.declared.probe.Probe.{Probe}
 use Rattle.lisp_lookup.specs.Table.{is_row_of, row_key, OneEach}
 use Rattle.lisp_lookup.specs.Index.{prefix_cmp, order_cmp, is_before, row_at_place, IsBound, Rises, IsIndex, IsFresh, Left, Entered}
-use Rattle.lisp_served.proofs.Found.{nowhere}
+use Rattle.lisp_policy.proofs.Found.{nowhere}
 use Rattle.lisp_lookup.proofs.Apart.{found}
 use Rattle.lisp_lookup.proofs.IndexLaws.{number_at, order_total, rises_same, exact, prefix_total}
 use Rattle.lisp_lookup.proofs.DeadlineLaws.{one_each, same_tie, key_prefix_cmp}

@@ -22,7 +22,7 @@ use Rattle.lisp_records.specs.Address.{Block}
 use Rattle.lisp_records.specs.Row.{Holding, is_alive}
 use Rattle.lisp_lookup.specs.Table.{is_row_of, row_key, row_at, last_of, OneEach, Sets, Expires, if_alive, row_cmp, IsHeld}
 use Rattle.lisp_lookup.proofs.Apart.{own_found}
-use Rattle.lisp_served.proofs.Found.{put_set, put_push}
+use Rattle.lisp_policy.proofs.Found.{put_set, put_push}
 use Rattle.lisp_lookup.proofs.Orders.{key_cmp, key_total, same_key}
 
 abbrev has : RouterId × Block → Holding → Bool

@@ -8,7 +8,7 @@ use Rattle.lisp_records.specs.declared.address.Addr.{Addr}
 use Rattle.lisp_records.specs.Address.{holds}
 use Rattle.lisp_records.specs.Router.{router_cmp}
 use Rattle.lisp_records.specs.Row.{Holding, is_alive}
-use Rattle.lisp_served.specs.Site.{SiteEntry, is_configured}
+use Rattle.lisp_policy.specs.Site.{SiteEntry, is_configured}
 use Rattle.lisp_lookup.specs.declared.answer.Answer.{Answer}
 use Rattle.lisp_lookup.specs.declared.answer.Answer.TheVariants.{NoSite, NotRegistered, Reply, Forward}
 

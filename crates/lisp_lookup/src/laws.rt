@@ -3,7 +3,7 @@
 ghost use Rattle.std.specs.Prelude.{ℕ, List};
 ghost use Rattle.lisp_records.specs.declared.address.Addr.{Addr};
 ghost use Rattle.lisp_records.specs.Row.{Holding};
-ghost use Rattle.lisp_served.specs.Site.{SiteEntry};
+ghost use Rattle.lisp_policy.specs.Site.{SiteEntry};
 ghost use Rattle.lisp_lookup.specs.Table.{OneEach};
 ghost use Rattle.lisp_lookup.specs.OneAnswer.{AnswersAgree};
 

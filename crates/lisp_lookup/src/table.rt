@@ -22,7 +22,7 @@ use crate::probe::Probe;
 use crate::steps::Steps;
 use lisp_memory::{FallibleDeque, FallibleVec, Memory};
 use lisp_records::{Addr, DatabaseFault, MapRecord, Prefix, RouterId, Row};
-use lisp_served::Sites;
+use lisp_policy::Sites;
 use std::alloc::{AllocError, Allocator, Global};
 use std::cmp::Ordering;
 use std::collections::VecDeque;

@@ -12,16 +12,16 @@ use Rattle.lisp_etr.specs.declared.notify_fault.NotifyFault.{NotifyFault}
 use Rattle.lisp_etr.specs.declared.notify_fault.NotifyFault.TheVariants as notifies
 use Rattle.lisp_etr.specs.declared.seen.Seen.{Seen}
 use Rattle.lisp_etr.specs.declared.seen.Seen.TheVariants.{Counted, Notice}
-use Rattle.lisp_checks.specs.declared.refused.Refused.{Refused}
-use Rattle.lisp_checks.specs.declared.refused.Refused.TheVariants as refuseds
+use Rattle.lisp_admission.specs.declared.refused.Refused.{Refused}
+use Rattle.lisp_admission.specs.declared.refused.Refused.TheVariants as refuseds
 use Rattle.lisp_server.specs.declared.took.Took.{Took}
 use Rattle.lisp_server.specs.declared.took.Took.TheVariants.{Accepted, NoticeDone}
-use Rattle.lisp_schedules.specs.declared.line.Line.{Line}
-use Rattle.lisp_schedules.specs.declared.refusal.Refusal.TheVariants as refusals
-use Rattle.lisp_schedules.specs.Memory.{MayTell, is_node_memory, is_store_memory}
-use Rattle.lisp_turns.specs.World.{Posted, RouterNode, RouterCore, WorldState}
-use Rattle.lisp_turns.specs.Calls.{config_of}
-use Rattle.lisp_turns.specs.Turns.{address_of, server_line, router_line, acknowledges, HearsWhileUp, HearsAt}
+use Rattle.lisp_model.specs.declared.line.Line.{Line}
+use Rattle.lisp_model.specs.declared.refusal.Refusal.TheVariants as refusals
+use Rattle.lisp_model.specs.Memory.{MayTell, is_node_memory, is_store_memory}
+use Rattle.lisp_refinement.specs.World.{Posted, RouterNode, RouterCore, WorldState}
+use Rattle.lisp_refinement.specs.Calls.{config_of}
+use Rattle.lisp_refinement.specs.Turns.{address_of, server_line, router_line, acknowledges, HearsWhileUp, HearsAt}
 
 -- what a router hears leaves its configuration
 module _ {A : Type 0} where

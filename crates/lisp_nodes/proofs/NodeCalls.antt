@@ -17,7 +17,7 @@ use Rattle.lisp_etr.specs.declared.notify_fault.NotifyFault.{NotifyFault}
 use Rattle.lisp_etr.specs.declared.notify_fault.NotifyFault.TheVariants as notify_faults
 use Rattle.lisp_etr.specs.declared.send_fault.SendFault.{SendFault}
 use Rattle.lisp_etr.specs.declared.send_fault.SendFault.TheVariants.{NoServer, NonceSpent, OutOfMemory, Store}
-use Rattle.lisp_turns.specs.Calls.{IsWhy}
+use Rattle.lisp_refinement.specs.Calls.{IsWhy}
 
 -- a call that isn't refused as `NoServer` is for a Map-Server that is there
 pub server_there : {X : Type 0} (r : Result X SendFault) (count place : ℕ) → r ≢ Err NoServer → ((r ≡ Err NoServer) ↔ (count ≤ place)) → place < count

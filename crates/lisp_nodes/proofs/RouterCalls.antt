@@ -11,12 +11,12 @@ use Rattle.lisp_nonces.specs.Store.{StoreState}
 use Rattle.lisp_etr.specs.Etr.{EtrState}
 use Rattle.lisp_etr.specs.Sending.{registration_of}
 use Rattle.lisp_etr.specs.declared.send_fault.SendFault.{SendFault}
-use Rattle.lisp_schedules.specs.declared.line.Line.{Line}
-use Rattle.lisp_schedules.specs.declared.line.Line.TheVariants as lines
-use Rattle.lisp_turns.specs.World.{Posted, RouterNode, RouterCore, Up, Down, WorldState}
-use Rattle.lisp_turns.specs.Calls.{IsSentTo}
-use Rattle.lisp_turns.specs.Turns.{RouterActs, is_up, change_line, SendsWhileUp, SaysSend, SendsAt}
-use Rattle.lisp_turns.proofs.Heads.{head_written}
+use Rattle.lisp_model.specs.declared.line.Line.{Line}
+use Rattle.lisp_model.specs.declared.line.Line.TheVariants as lines
+use Rattle.lisp_refinement.specs.World.{Posted, RouterNode, RouterCore, Up, Down, WorldState}
+use Rattle.lisp_refinement.specs.Calls.{IsSentTo}
+use Rattle.lisp_refinement.specs.Turns.{RouterActs, is_up, change_line, SendsWhileUp, SaysSend, SendsAt}
+use Rattle.lisp_refinement.proofs.Heads.{head_written}
 
 -- a network with a bag is itself where that is its bag
 pub same_bag : (w : WorldState) (bag : List Posted) → w.bag ≡ bag → w ≡ record w { bag = bag }

@@ -8,12 +8,12 @@ use Rattle.lisp_messages.specs.declared.head.Head.{Head}
 use Rattle.lisp_messages.specs.Head.{head_at}
 use Rattle.lisp_messages.specs.Message.{Notifies}
 use Rattle.lisp_nonces.specs.Store.{StoreState}
-use Rattle.lisp_checks.specs.Nonces.{nonce_after}
+use Rattle.lisp_admission.specs.Nonces.{nonce_after}
 use Rattle.lisp_server.specs.SendNotice.{Announces, notice_of}
 use Rattle.lisp_server.specs.Server.{ServerState}
-use Rattle.lisp_turns.specs.World.{Posted, ServerNode, WorldState}
-use Rattle.lisp_turns.specs.Turns.{ServerActs}
-use Rattle.lisp_turns.proofs.Heads.{head_written}
+use Rattle.lisp_refinement.specs.World.{Posted, ServerNode, WorldState}
+use Rattle.lisp_refinement.specs.Turns.{ServerActs}
+use Rattle.lisp_refinement.proofs.Heads.{head_written}
 
 -- the Map-Server with a number changed, and these datagrams went to the end of the bag
 abbrev pub server_acted : (old : WorldState) (node : ℕ) (before after : ServerNode) (bag more : List Posted)

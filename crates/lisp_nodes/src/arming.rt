@@ -1,6 +1,6 @@
 //! A store is armed with what is to become of its calls.
 
-ghost use Rattle.lisp_turns.specs.Calls.{Arms};
+ghost use Rattle.lisp_refinement.specs.Calls.{Arms};
 
 use lisp_nonces::{Fate, WorldStore};
 

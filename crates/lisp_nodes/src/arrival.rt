@@ -4,22 +4,22 @@ ghost use Rattle.std.specs.Prelude.{◌≡◌, ◌<◌, ◌+◌, ◌++◌, Resul
 ghost use Rattle.std.specs.Vec.{vec_len, vec_capacity};
 ghost use Rattle.lisp_etr.specs.Etr.{EtrState};
 ghost use Rattle.lisp_records.specs.declared.address.Addr.{Addr};
-ghost use Rattle.lisp_schedules.specs.Memory.{MayTell};
-ghost use Rattle.lisp_checks.specs.declared.refused.Refused.{Refused};
+ghost use Rattle.lisp_model.specs.Memory.{MayTell};
+ghost use Rattle.lisp_admission.specs.declared.refused.Refused.{Refused};
 ghost use Rattle.lisp_server.specs.declared.took.Took.{Took};
-ghost use Rattle.lisp_turns.specs.Calls.{Receives};
-ghost use Rattle.lisp_turns.specs.World.{WorldState};
-ghost use Rattle.lisp_turns.specs.Turns.{server_line, server_number, replies, router_line, acknowledges, posted, address_of, Arrives, HearsAt};
+ghost use Rattle.lisp_refinement.specs.Calls.{Receives};
+ghost use Rattle.lisp_refinement.specs.World.{WorldState};
+ghost use Rattle.lisp_refinement.specs.Turns.{server_line, server_number, replies, router_line, acknowledges, posted, address_of, Arrives, HearsAt};
 
 use crate::datagram::{Datagram, post};
 use crate::router_node::RouterNode;
 use crate::server_node::ServerNode;
-use lisp_checks::Refused;
+use lisp_admission::Refused;
 use lisp_etr::{NotifyFault, Seen};
 use lisp_memory::Memory;
 use lisp_nonces::{Fate, WorldStore};
 use lisp_records::{Addr, Bytes};
-use lisp_schedules::{Line, Refusal};
+use lisp_model::{Line, Refusal};
 use lisp_server::Took;
 use std::alloc::Allocator;
 

@@ -22,7 +22,7 @@ pub struct Datagram<A: Allocator = Global> {
 }
 
 impl<A: Allocator> Model for Datagram<A> {
-    ghost use Rattle.lisp_turns.specs.World.{Posted};
+    ghost use Rattle.lisp_refinement.specs.World.{Posted};
 
     ghost Value = { Posted };
 

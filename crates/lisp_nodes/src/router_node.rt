@@ -7,11 +7,11 @@ ghost use Rattle.lisp_nonces.specs.declared.fault.StoreFault.{StoreFault};
 ghost use Rattle.lisp_etr.specs.declared.notify_fault.NotifyFault.{NotifyFault};
 ghost use Rattle.lisp_etr.specs.declared.send_fault.SendFault.{SendFault};
 ghost use Rattle.lisp_etr.specs.declared.start_fault.StartFault.{StartFault};
-ghost use Rattle.lisp_turns.specs.Calls.{config_of, database_of, StartsOver, RestartsRouter};
-ghost use Rattle.lisp_turns.specs.World.{Down};
+ghost use Rattle.lisp_refinement.specs.Calls.{config_of, database_of, StartsOver, RestartsRouter};
+ghost use Rattle.lisp_refinement.specs.World.{Down};
 ghost use Rattle.lisp_nodes.specs.Cores.{core_of};
-ghost use Rattle.lisp_turns.specs.Turns.{changed_core, is_up, place_of, SendsWhileUp, HearsWhileUp};
-ghost use Rattle.lisp_turns.specs.Nodes.{up_in};
+ghost use Rattle.lisp_refinement.specs.Turns.{changed_core, is_up, place_of, SendsWhileUp, HearsWhileUp};
+ghost use Rattle.lisp_refinement.specs.Nodes.{up_in};
 
 use crate::arming::arm;
 use crate::router_core::RouterCore;
@@ -20,7 +20,7 @@ use lisp_etr::{Etr, EtrConfig, NotifyFault, Seen, SendFault, StartFault, StartRe
 use lisp_memory::Memory;
 use lisp_nonces::{Fate, WorldStore};
 use lisp_records::{Addr, Bytes, Database, RouterId};
-use lisp_served::Places;
+use lisp_policy::Places;
 use std::alloc::{Allocator, Global};
 use std::marker::Model;
 
@@ -50,9 +50,9 @@ impl<S: WorldStore, A: Allocator> Model for RouterNode<S, A> {
     ghost use Rattle.std.specs.Prelude.{◌≡◌};
     ghost use Rattle.std.specs.Coded.{codes};
     ghost use Rattle.lisp_nonces.specs.Kept.{kept_code};
-    ghost use Rattle.lisp_turns.specs.Calls.{config_of};
+    ghost use Rattle.lisp_refinement.specs.Calls.{config_of};
     ghost use Rattle.lisp_nodes.specs.Cores.{core_of};
-    ghost use Rattle.lisp_turns.specs.World.{RouterNode};
+    ghost use Rattle.lisp_refinement.specs.World.{RouterNode};
 
     ghost Value = { RouterNode };
 

@@ -4,17 +4,17 @@ ghost use Rattle.std.specs.Prelude.{◌≡◌, ◌≤◌, [], IsErrOf};
 ghost use Rattle.std.specs.FinMap.{empty};
 ghost use Rattle.lisp_records.specs.Moment.{max_moment};
 ghost use Rattle.lisp_nonces.specs.declared.fault.StoreFault.{StoreFault};
-ghost use Rattle.lisp_checks.specs.declared.refused.Refused.{Refused};
-ghost use Rattle.lisp_checks.specs.declared.notice_fault.NoticeFault.{NoticeFault};
-ghost use Rattle.lisp_turns.specs.Calls.{Receives, Notifies, Restarts};
-ghost use Rattle.lisp_turns.specs.Turns.{ExpiresNode, ResendsTo};
+ghost use Rattle.lisp_admission.specs.declared.refused.Refused.{Refused};
+ghost use Rattle.lisp_admission.specs.declared.notice_fault.NoticeFault.{NoticeFault};
+ghost use Rattle.lisp_refinement.specs.Calls.{Receives, Notifies, Restarts};
+ghost use Rattle.lisp_refinement.specs.Turns.{ExpiresNode, ResendsTo};
 
 use crate::arming::arm;
 use core::mem::replace_with;
 use lisp_memory::Memory;
 use lisp_nonces::{Fate, WorldStore};
 use lisp_records::{Addr, Bytes, RouterId};
-use lisp_served::Sites;
+use lisp_policy::Sites;
 use lisp_server::{NoticeFault, Refused, Server, Took};
 use std::alloc::{Allocator, Global};
 use std::marker::Model;
@@ -30,7 +30,7 @@ impl<S: WorldStore, A: Allocator> Model for ServerNode<S, A> {
     ghost use Rattle.std.specs.Coded.{codes};
     ghost use Rattle.lisp_nonces.specs.Kept.{kept_code};
     ghost use Rattle.lisp_server.specs.LastNonces.{nonces_code};
-    ghost use Rattle.lisp_turns.specs.World.{ServerNode};
+    ghost use Rattle.lisp_refinement.specs.World.{ServerNode};
 
     ghost Value = { ServerNode };
 

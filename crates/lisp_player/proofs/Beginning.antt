@@ -10,15 +10,15 @@ use Rattle.lisp_records.specs.Result.{◌>>=◌}
 use Rattle.lisp_nonces.specs.Memory.{Memory, memory_state}
 use Rattle.lisp_nonces.specs.Store.{StoreState}
 use Rattle.lisp_nonces.specs.declared.fate.Fate.TheVariants.{Done}
-use Rattle.lisp_served.specs.Configuration.{Configuration}
-use Rattle.lisp_turns.specs.World.{WorldState}
-use Rattle.lisp_turns.specs.Stands.{Stands, shown_by}
-use Rattle.lisp_turns.proofs.Gets.{none_is_some, same_some}
+use Rattle.lisp_policy.specs.Configuration.{Configuration}
+use Rattle.lisp_refinement.specs.World.{WorldState}
+use Rattle.lisp_refinement.specs.Stands.{Stands, shown_by}
+use Rattle.lisp_refinement.proofs.Gets.{none_is_some, same_some}
 use Rattle.lisp_world.specs.Openings.{opening, lists_of, repeats}
 use Rattle.lisp_world.specs.Making.{AllBelowEnd, IsCalmFault}
 use Rattle.lisp_world.specs.Quiet.{AllHonest, AllCalm, IsCalm, stores_of, failures}
-use Rattle.lisp_schedules.specs.declared.world_fault.WorldFault.{WorldFault}
-use Rattle.lisp_schedules.specs.declared.world_fault.WorldFault.TheVariants as whys
+use Rattle.lisp_model.specs.declared.world_fault.WorldFault.{WorldFault}
+use Rattle.lisp_model.specs.declared.world_fault.WorldFault.TheVariants as whys
 use Rattle.lisp_script.specs.Order.{Order}
 use Rattle.lisp_streams.specs.declared.play_fault.PlayFault.{PlayFault}
 use Rattle.lisp_streams.specs.declared.play_fault.PlayFault.TheVariants as faults

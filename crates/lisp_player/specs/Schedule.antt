@@ -4,14 +4,14 @@ use Rattle.std.specs.FinMap.{empty}
 use Rattle.std.specs.List.{AllByRecursion}
 use Rattle.std.specs.Io.KnownBytes.{Appends, Keeps}
 use Rattle.lisp_records.specs.Result.{◌>>=◌}
-use Rattle.lisp_served.specs.Configuration.{Configuration}
-use Rattle.lisp_schedules.specs.Trace.{Shown, Step, Opening}
-use Rattle.lisp_turns.specs.World.{WorldState}
-use Rattle.lisp_turns.specs.Stands.{Stands}
+use Rattle.lisp_policy.specs.Configuration.{Configuration}
+use Rattle.lisp_model.specs.Trace.{Shown, Step, Opening}
+use Rattle.lisp_refinement.specs.World.{WorldState}
+use Rattle.lisp_refinement.specs.Stands.{Stands}
 use Rattle.lisp_world.specs.Openings.{repeats, opening}
 use Rattle.lisp_world.specs.Making.{IsCalmFault}
 use Rattle.lisp_world.specs.Quiet.{AllCalm, stores_of}
-use Rattle.lisp_schedules.specs.declared.world_fault.WorldFault.{WorldFault}
+use Rattle.lisp_model.specs.declared.world_fault.WorldFault.{WorldFault}
 use Rattle.lisp_script.specs.Order.{Order}
 use Rattle.lisp_streams.specs.declared.play_fault.PlayFault.{PlayFault}
 use Rattle.lisp_streams.specs.declared.play_fault.PlayFault.TheVariants as faults

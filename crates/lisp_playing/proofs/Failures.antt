@@ -5,10 +5,10 @@ use Rattle.std.specs.Option.{option_map}
 use Rattle.std.proofs.lemmas.List.{length-append, length-map}
 use Rattle.std.proofs.lemmas.Option.{slice_get-map}
 use Rattle.lisp_nonces.specs.Store.{StoreState}
-use Rattle.lisp_schedules.specs.Trace.{Step, Opening, addresses, shown}
-use Rattle.lisp_turns.specs.World.{ServerNode, RouterNode, WorldState}
-use Rattle.lisp_turns.specs.Stands.{Stands}
-use Rattle.lisp_turns.proofs.Gets.{same_some, get_within, get_mapped}
+use Rattle.lisp_model.specs.Trace.{Step, Opening, addresses, shown}
+use Rattle.lisp_refinement.specs.World.{ServerNode, RouterNode, WorldState}
+use Rattle.lisp_refinement.specs.Stands.{Stands}
+use Rattle.lisp_refinement.proofs.Gets.{same_some, get_within, get_mapped}
 use Rattle.lisp_world.specs.Quiet.{stores_of, failures}
 use Rattle.lisp_world.proofs.Making.{get_joined}
 

@@ -8,9 +8,9 @@ use Rattle.std.specs.Io.KnownBytes.{Appends, Keeps}
 use Rattle.std.specs.Prelude.{IfErr, OnErr}
 use Rattle.lisp_streams.specs.declared.play_fault.PlayFault.{PlayFault}
 use Rattle.lisp_streams.specs.declared.play_fault.PlayFault.TheVariants.{OutOfMemory, Write}
-use Rattle.lisp_served.specs.Configuration.{Configuration}
-use Rattle.lisp_schedules.specs.Trace.{Step, Opening}
-use Rattle.lisp_turns.specs.World.{WorldState}
+use Rattle.lisp_policy.specs.Configuration.{Configuration}
+use Rattle.lisp_model.specs.Trace.{Step, Opening}
+use Rattle.lisp_refinement.specs.World.{WorldState}
 use Rattle.lisp_script.specs.declared.command.Command.{Command}
 use Rattle.lisp_script.specs.Order.{Order, order}
 use Rattle.lisp_playing.specs.Playing.{Tells, Plays, Turns, Leads, Loses, WroteOne, Wrote, StopsAt, BreaksOne, Breaks}

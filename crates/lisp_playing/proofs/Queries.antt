@@ -11,26 +11,26 @@ use Rattle.std.proofs.lemmas.Option.{slice_get_within, slice_get_past}
 use Rattle.lisp_records.specs.declared.address.Addr.{Addr}
 use Rattle.lisp_records.specs.declared.router.RouterId.{RouterId}
 use Rattle.lisp_records.specs.Row.{Holding}
-use Rattle.lisp_served.specs.Configuration.{Configuration, Router}
+use Rattle.lisp_policy.specs.Configuration.{Configuration, Router}
 use Rattle.lisp_lookup.specs.declared.answer.Answer.{Answer}
 use Rattle.lisp_lookup.specs.Answer.{Answers}
 use Rattle.lisp_lookup.specs.Table.{OneEach, IsHeld}
 use Rattle.lisp_etr.specs.Etr.{EtrState}
 use Rattle.lisp_server.specs.Server.{ServerState}
 use Rattle.lisp_server.specs.Notices.{OneForEach, IsDueRouter}
-use Rattle.lisp_schedules.specs.Trace.{Step, Opening, router_at, clock, is_up}
-use Rattle.lisp_schedules.specs.Counted.{acked}
-use Rattle.lisp_schedules.specs.Timers.{due}
-use Rattle.lisp_turns.specs.World.{WorldState, ServerNode, RouterNode, RouterCore, Up, Down}
-use Rattle.lisp_turns.specs.Nodes.{server_at, up_in, etr_at}
-use Rattle.lisp_turns.specs.Stands.{StandsForCore, Stands}
-use Rattle.lisp_turns.specs.Asked.{ServerTells, RouterTells}
-use Rattle.lisp_turns.proofs.Gets.{none_is_some, same_some, get_within}
-use Rattle.lisp_turns.proofs.Asking.{servers_tell, routers_tell}
+use Rattle.lisp_model.specs.Trace.{Step, Opening, router_at, clock, is_up}
+use Rattle.lisp_model.specs.Counted.{acked}
+use Rattle.lisp_model.specs.Timers.{due}
+use Rattle.lisp_refinement.specs.World.{WorldState, ServerNode, RouterNode, RouterCore, Up, Down}
+use Rattle.lisp_refinement.specs.Nodes.{server_at, up_in, etr_at}
+use Rattle.lisp_refinement.specs.Stands.{StandsForCore, Stands}
+use Rattle.lisp_refinement.specs.Asked.{ServerTells, RouterTells}
+use Rattle.lisp_refinement.proofs.Gets.{none_is_some, same_some, get_within}
+use Rattle.lisp_refinement.proofs.Asking.{servers_tell, routers_tell}
 use Rattle.lisp_lines.specs.Query.{hold_text, ack_text, ask_text, due_text, due_server, due_router}
 use Rattle.lisp_playing.specs.Asked.{Where, Holds, Asks, Acknowledges, IsDue, IsDueAtRouter, OfTraces, CountedFrom, router_in, due_in, is_router, of_router, down_text, fault_text, missing_text}
-use Rattle.lisp_schedules.specs.declared.world_fault.WorldFault.{WorldFault}
-use Rattle.lisp_schedules.specs.declared.world_fault.WorldFault.TheVariants.{NoNode, WrongKind}
+use Rattle.lisp_model.specs.declared.world_fault.WorldFault.{WorldFault}
+use Rattle.lisp_model.specs.declared.world_fault.WorldFault.TheVariants.{NoNode, WrongKind}
 
 -- of two, the one that a test picks
 where_true : (test : Bool) (Yes No : Type 0) → test ≡ true → Yes → Where test Yes No

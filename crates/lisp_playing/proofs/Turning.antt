@@ -2,16 +2,16 @@
 use Rattle.std.proofs.Common.{◌≡◌, ℕ, List, ◌∷◌, Option, Some, None, Result, Ok, Err, refl, sym, ap, subst, ◌∙◌, inl, inr}
 use Rattle.std.specs.Prelude.{true, OnOk, OnErr}
 use Rattle.lisp_records.specs.declared.address.Addr.{Addr}
-use Rattle.lisp_served.specs.Configuration.{Configuration}
-use Rattle.lisp_schedules.specs.Trace.{Happening, Step, Opening, fate_of}
-use Rattle.lisp_schedules.specs.Memory.{MayTell}
-use Rattle.lisp_schedules.specs.declared.line.Line.{Line}
-use Rattle.lisp_turns.specs.World.{WorldState}
-use Rattle.lisp_turns.specs.Stands.{Stands, StandsAfter}
+use Rattle.lisp_policy.specs.Configuration.{Configuration}
+use Rattle.lisp_model.specs.Trace.{Happening, Step, Opening, fate_of}
+use Rattle.lisp_model.specs.Memory.{MayTell}
+use Rattle.lisp_model.specs.declared.line.Line.{Line}
+use Rattle.lisp_refinement.specs.World.{WorldState}
+use Rattle.lisp_refinement.specs.Stands.{Stands, StandsAfter}
 use Rattle.lisp_world.specs.Faults.{Faults, fault_of}
 use Rattle.lisp_world.specs.Quiet.{AllCalm, stores_of, KeepsCalm}
-use Rattle.lisp_schedules.specs.declared.world_fault.WorldFault.{WorldFault}
-use Rattle.lisp_schedules.specs.declared.world_fault.WorldFault.TheVariants.{OutOfMemory}
+use Rattle.lisp_model.specs.declared.world_fault.WorldFault.{WorldFault}
+use Rattle.lisp_model.specs.declared.world_fault.WorldFault.TheVariants.{OutOfMemory}
 use Rattle.lisp_lines.specs.Line.{line_text}
 use Rattle.lisp_script.specs.declared.command.Command.TheVariants.{Act, Hold, Acks, Ask, Due}
 use Rattle.lisp_script.specs.declared.command.Command.{Command}

@@ -6,21 +6,21 @@ use Rattle.std.specs.Option.{option_and_then}
 use Rattle.lisp_records.specs.declared.address.Addr.{Addr}
 use Rattle.lisp_records.specs.declared.router.RouterId.{RouterId}
 use Rattle.lisp_lookup.specs.declared.answer.Answer.{Answer}
-use Rattle.lisp_served.specs.Configuration.{Configuration, Router}
-use Rattle.lisp_schedules.specs.declared.line.Line.TheVariants as lines
-use Rattle.lisp_schedules.specs.Trace.{Step, Opening, router_at, clock, is_up}
-use Rattle.lisp_schedules.specs.Held.{rows}
-use Rattle.lisp_schedules.specs.Bag.{since}
-use Rattle.lisp_schedules.specs.Counted.{acked}
-use Rattle.lisp_schedules.specs.Timers.{due}
-use Rattle.lisp_schedules.specs.Answer.{IsAnswer}
+use Rattle.lisp_policy.specs.Configuration.{Configuration, Router}
+use Rattle.lisp_model.specs.declared.line.Line.TheVariants as lines
+use Rattle.lisp_model.specs.Trace.{Step, Opening, router_at, clock, is_up}
+use Rattle.lisp_model.specs.Held.{rows}
+use Rattle.lisp_model.specs.Bag.{since}
+use Rattle.lisp_model.specs.Counted.{acked}
+use Rattle.lisp_model.specs.Timers.{due}
+use Rattle.lisp_model.specs.Answer.{IsAnswer}
 use Rattle.lisp_etr.specs.Etr.{EtrState}
-use Rattle.lisp_turns.specs.World.{WorldState}
-use Rattle.lisp_turns.specs.Stands.{Stands}
-use Rattle.lisp_turns.specs.Asked.{IsNextNotice}
-use Rattle.lisp_schedules.specs.declared.world_fault.WorldFault.{WorldFault}
-use Rattle.lisp_schedules.specs.declared.world_fault.WorldFault.TheVariants.{NoNode, WrongKind}
-use Rattle.lisp_schedules.specs.Faults.{world_fault_number}
+use Rattle.lisp_refinement.specs.World.{WorldState}
+use Rattle.lisp_refinement.specs.Stands.{Stands}
+use Rattle.lisp_refinement.specs.Asked.{IsNextNotice}
+use Rattle.lisp_model.specs.declared.world_fault.WorldFault.{WorldFault}
+use Rattle.lisp_model.specs.declared.world_fault.WorldFault.TheVariants.{NoNode, WrongKind}
+use Rattle.lisp_model.specs.Faults.{world_fault_number}
 use Rattle.lisp_lines.specs.Line.{line_text}
 use Rattle.lisp_lines.specs.Query.{hold_text, ack_text, ask_text, due_text, due_server, due_router}
 

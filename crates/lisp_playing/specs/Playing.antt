@@ -2,20 +2,20 @@
 use Rattle.std.specs.Prelude.{◌≡◌, ◌⊎◌, ℕ, ◌<◌, true, List, [], ◌∷◌, ◌++◌, length, take, slice_get, Option, Some}
 use Rattle.std.specs.Io.KnownBytes.{Appends}
 use Rattle.lisp_nonces.specs.declared.fate.Fate.TheVariants.{Done}
-use Rattle.lisp_schedules.specs.Trace.{Happening, Step, Opening, addresses, shown, fate_of}
-use Rattle.lisp_schedules.specs.Legal.{Legal}
-use Rattle.lisp_schedules.specs.Memory.{MayTell}
-use Rattle.lisp_turns.specs.World.{WorldState}
-use Rattle.lisp_turns.specs.Stands.{Stands}
+use Rattle.lisp_model.specs.Trace.{Happening, Step, Opening, addresses, shown, fate_of}
+use Rattle.lisp_model.specs.Legal.{Legal}
+use Rattle.lisp_model.specs.Memory.{MayTell}
+use Rattle.lisp_refinement.specs.World.{WorldState}
+use Rattle.lisp_refinement.specs.Stands.{Stands}
 use Rattle.lisp_world.specs.Quiet.{AllCalm, stores_of}
 use Rattle.lisp_world.specs.Faults.{fault_of}
-use Rattle.lisp_schedules.specs.declared.world_fault.WorldFault.{WorldFault}
-use Rattle.lisp_schedules.specs.declared.world_fault.WorldFault.TheVariants.{OutOfMemory}
+use Rattle.lisp_model.specs.declared.world_fault.WorldFault.{WorldFault}
+use Rattle.lisp_model.specs.declared.world_fault.WorldFault.TheVariants.{OutOfMemory}
 use Rattle.lisp_lines.specs.Line.{line_text}
 use Rattle.lisp_output.specs.Output.{WroteFront}
 use Rattle.lisp_script.specs.declared.command.Command.TheVariants.{Act, Hold, Acks, Ask, Due}
 use Rattle.lisp_script.specs.Order.{Order}
-use Rattle.lisp_served.specs.Configuration.{Configuration}
+use Rattle.lisp_policy.specs.Configuration.{Configuration}
 use Rattle.lisp_playing.specs.Asked.{OfTraces, fault_text, Holds, Asks, Acknowledges, IsDue}
 
 -- In what follows A is where answers lie; `nodes` says that memory may be refused to the nodes, `stores` that it may be

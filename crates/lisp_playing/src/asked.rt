@@ -12,7 +12,7 @@ use lisp_lines::{ask_text, due_router_text, due_server_text, hold_text, line_tex
 use lisp_memory::{FallibleString, Memory};
 use lisp_nonces::WorldStore;
 use lisp_records::Addr;
-use lisp_schedules::Line;
+use lisp_model::Line;
 use lisp_sites::{Config, RouterEntry};
 use lisp_world::{World, WorldFault};
 use std::alloc::{AllocError, Allocator};

@@ -2,7 +2,7 @@
 
 ghost use Rattle.std.specs.Prelude.{◌≡◌, ◌⊎◌, IfOk, OnErr};
 ghost use Rattle.std.specs.String.{string_bytes};
-ghost use Rattle.lisp_schedules.specs.Trace.{happening};
+ghost use Rattle.lisp_model.specs.Trace.{happening};
 ghost use Rattle.lisp_script.specs.Order.{order};
 ghost use Rattle.lisp_script.specs.declared.command.Command.TheVariants.{Act};
 ghost use Rattle.lisp_playing.specs.Playing.{Turns, Loses};
@@ -11,7 +11,7 @@ use crate::asked::{ack_lines, ask_line, due_line, fault_line, hold_lines};
 use lisp_lines::line_text;
 use lisp_memory::Memory;
 use lisp_nonces::WorldStore;
-use lisp_schedules::Event;
+use lisp_model::Event;
 use lisp_script::Command;
 use lisp_sites::Config;
 use lisp_world::World;

@@ -10,7 +10,7 @@ use crate::turns::take_turns;
 use lisp_nodes::Arrival;
 use lisp_nonces::WorldStore;
 use lisp_records::Bytes;
-use lisp_schedules::Line;
+use lisp_model::Line;
 use lisp_sites::Config;
 use lisp_sockets::{Folder, Kind, number_named, open_folder};
 use lisp_streams::{RunFault, read_config};

@@ -11,7 +11,7 @@ use lisp_messages::Head;
 use lisp_nodes::{Arrival, RouterNode, Start, router_hears};
 use lisp_nonces::{Fate, WorldStore};
 use lisp_records::Bytes;
-use lisp_schedules::{Line, Refusal};
+use lisp_model::{Line, Refusal};
 use lisp_sites::Config;
 use lisp_sockets::Kind;
 use lisp_streams::RunFault;

@@ -8,7 +8,7 @@ use crate::station::Station;
 use lisp_nodes::{Arrival, ServerNode, server_hears};
 use lisp_nonces::WorldStore;
 use lisp_records::{Bytes, RouterId};
-use lisp_schedules::{Line, Refusal};
+use lisp_model::{Line, Refusal};
 use lisp_sites::Config;
 use lisp_sockets::Kind;
 use lisp_streams::RunFault;

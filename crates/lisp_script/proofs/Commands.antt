@@ -2,7 +2,7 @@
 use Rattle.std.proofs.Common.{◌≡◌, ◌⊎◌, inl, inr, ℕ, ◌-◌, ◌<◌, ◌≤◌, List, [], ◌∷◌, ◌++◌, length, get_or, map, take, drop, Ok, Err, Bor, refl, sym, ap, ◌∙◌, arith}
 use Rattle.std.proofs.lemmas.Grind.{common_steps}
 use Rattle.std.proofs.lemmas.List.{append-nil, map-append}
-use Rattle.lisp_served.specs.Configuration.{Configuration}
+use Rattle.lisp_policy.specs.Configuration.{Configuration}
 use Rattle.lisp_script.specs.declared.command.Command.{Command}
 use Rattle.lisp_script.specs.Order.{Order, order}
 use Rattle.lisp_script.specs.declared.fault.ScriptWhat.{ScriptWhat}

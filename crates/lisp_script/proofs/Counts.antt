@@ -2,7 +2,7 @@
 use Rattle.std.proofs.Common.{◌≡◌, ℕ, ◌-◌, ◌<◌, ◌≤◌, ◌≢◌, List, [], ◌∷◌, length, get_or, map, take, drop, Result, Err, Bor, refl, arith}
 use Rattle.std.proofs.lemmas.Grind.{common_steps}
 use Rattle.lisp_records.specs.Result.{Reads}
-use Rattle.lisp_served.specs.Configuration.{Configuration}
+use Rattle.lisp_policy.specs.Configuration.{Configuration}
 use Rattle.lisp_script.specs.declared.fault.ScriptWhat.TheVariants.{Count}
 use Rattle.lisp_script.specs.declared.verb.Verb.{Verb}
 use Rattle.lisp_script.specs.declared.verb.Verb.TheVariants as verbs

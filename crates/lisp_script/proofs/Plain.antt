@@ -5,7 +5,7 @@ use Rattle.hex.specs.Hex.{decode_of}
 use Rattle.lisp_records.specs.Result.{◌>>=◌}
 use Rattle.lisp_nonces.specs.declared.fate.Fate.{Fate}
 use Rattle.lisp_nonces.specs.declared.fate.Fate.TheVariants as fates
-use Rattle.lisp_served.specs.Configuration.{Configuration}
+use Rattle.lisp_policy.specs.Configuration.{Configuration}
 use Rattle.lisp_script.specs.declared.fault.ScriptWhat.{ScriptWhat}
 use Rattle.lisp_script.specs.declared.fault.ScriptWhat.TheVariants as whats
 use Rattle.lisp_script.specs.declared.verb.Verb.{Verb}

@@ -1,5 +1,5 @@
 -- A command, wherever its parts lie in memory.
-use Rattle.lisp_schedules.specs.Trace.{happening}
+use Rattle.lisp_model.specs.Trace.{happening}
 use Rattle.lisp_script.specs.declared.command.Command.{Command}
 use Rattle.lisp_script.specs.declared.command.Command.TheVariants as commands
 

@@ -12,7 +12,7 @@ use Rattle.lisp_nonces.specs.declared.fate.Fate.{Fate}
 use Rattle.lisp_nonces.specs.declared.fate.Fate.TheVariants.{Doubt, LoadFails}
 use Rattle.lisp_texts.specs.Number.{number_of}
 use Rattle.lisp_texts.specs.Reading.{address_of, record_text_of}
-use Rattle.lisp_served.specs.Configuration.{Configuration, names}
+use Rattle.lisp_policy.specs.Configuration.{Configuration, names}
 use Rattle.lisp_script.specs.declared.fault.ScriptWhat.{ScriptWhat}
 use Rattle.lisp_script.specs.declared.fault.ScriptWhat.TheVariants.{Word, Name, Number, Record, Hex}
 

@@ -2,7 +2,7 @@
 
 ghost use Rattle.std.specs.Prelude.{◌≡◌, ◌≢◌, [], ◌∷◌, map};
 ghost use Rattle.lisp_records.specs.Result.{Reads};
-ghost use Rattle.lisp_served.specs.Configuration.{Configuration};
+ghost use Rattle.lisp_policy.specs.Configuration.{Configuration};
 ghost use Rattle.lisp_script.specs.Fault.{Gives};
 ghost use Rattle.lisp_script.specs.Order.{order};
 ghost use Rattle.lisp_script.specs.Spelling.{change_of, send_of, deliver_of, restart_of, restart_with, notice_of, given_to, spelt, command_of};
@@ -14,7 +14,7 @@ use crate::verb::Verb;
 use crate::words::{address, bytes, database, doubt, fate, node, number, router, server};
 use lisp_memory::Memory;
 use lisp_nonces::Fate;
-use lisp_schedules::Event;
+use lisp_model::Event;
 use lisp_sites::Config;
 use std::alloc::Allocator;
 

@@ -7,13 +7,13 @@ use Rattle.lisp_messages.specs.declared.fault.ReadFault.{ReadFault}
 use Rattle.lisp_nonces.specs.declared.fault.StoreFault.{StoreFault}
 use Rattle.lisp_nonces.specs.declared.fault.StoreFault.TheVariants as faults
 use Rattle.lisp_nonces.specs.Store.{StoreState, Rose}
-use Rattle.lisp_checks.specs.declared.refused.Refused.{Refused}
-use Rattle.lisp_checks.specs.declared.refused.Refused.TheVariants as refusals
-use Rattle.lisp_checks.specs.Pairs.{pair_of}
+use Rattle.lisp_admission.specs.declared.refused.Refused.{Refused}
+use Rattle.lisp_admission.specs.declared.refused.Refused.TheVariants as refusals
+use Rattle.lisp_admission.specs.Pairs.{pair_of}
 use Rattle.lisp_server.specs.LastNonces.{nonce_at}
 use Rattle.lisp_server.specs.Server.{ServerState}
 use Rattle.lisp_server.specs.Checks.{Passed}
-use Rattle.lisp_checks.specs.Nonces.{IsBase, HasCause}
+use Rattle.lisp_admission.specs.Nonces.{IsBase, HasCause}
 use Rattle.lisp_server.specs.Receiving.{IsAboveAnyBase, IsAcceptable, Refuses}
 
 -- a fault of the store: it was refused memory, or a device failed

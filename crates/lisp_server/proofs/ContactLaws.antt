@@ -9,11 +9,11 @@ use Rattle.lisp_records.specs.declared.router.RouterId.{RouterId}
 use Rattle.lisp_server.specs.declared.contacts.Contact.{Contact}
 use Rattle.lisp_server.specs.Contacts.{contact_at, is_contact_of, SetsContact}
 use Rattle.lisp_records.specs.Router.{router_cmp}
-use Rattle.lisp_served.specs.Order.{KeysRise, IsGap}
-use Rattle.lisp_served.proofs.Halving as halving
+use Rattle.lisp_policy.specs.Order.{KeysRise, IsGap}
+use Rattle.lisp_policy.proofs.Halving as halving
 use Rattle.lisp_lookup.proofs.Orders.{router_total, same_router}
 use Rattle.lisp_lookup.proofs.TableLaws.{found_holds}
-use Rattle.lisp_served.proofs.Found.{nowhere, there, at_place, put_set, has_own, has_no_other}
+use Rattle.lisp_policy.proofs.Found.{nowhere, there, at_place, put_set, has_own, has_no_other}
 
 decides : (q : RouterId) (c : Contact) → Decides (is_contact_of q c) (c.router ≡ q)
 decides q c = router_eq-Decides c.router q

@@ -13,23 +13,23 @@ use Rattle.lisp_records.specs.Router.{router_eq}
 use Rattle.lisp_records.specs.Row.{Holding}
 use Rattle.lisp_messages.specs.Message.{Registration}
 use Rattle.lisp_messages.specs.Authentic.{is_authentic}
-use Rattle.lisp_served.specs.Site.{SiteEntry, site_of, secret_of}
+use Rattle.lisp_policy.specs.Site.{SiteEntry, site_of, secret_of}
 use Rattle.lisp_nonces.specs.Store.{StoreState}
 use Rattle.lisp_lookup.specs.Table.{is_row_of, row_at, last_of, Sets}
 use Rattle.lisp_lookup.proofs.TableLaws.{found_holds, has_key, some_inj}
 use Rattle.lisp_server.specs.declared.contacts.Contact.{Contact}
-use Rattle.lisp_checks.specs.declared.refused.Refused.{Refused}
-use Rattle.lisp_checks.specs.declared.refused.Refused.TheVariants as refusals
+use Rattle.lisp_admission.specs.declared.refused.Refused.{Refused}
+use Rattle.lisp_admission.specs.declared.refused.Refused.TheVariants as refusals
 use Rattle.lisp_server.specs.declared.tables.Tables.{Tables}
 use Rattle.lisp_server.specs.declared.took.Took.{Took}
 use Rattle.lisp_records.specs.Result.{◌>>=◌}
-use Rattle.lisp_checks.specs.Checks.{secret_under, check, refused_at, first_not_allowed, secret_at}
+use Rattle.lisp_admission.specs.Checks.{secret_under, check, refused_at, first_not_allowed, secret_at}
 use Rattle.lisp_server.specs.Checks.{Passed, register_checked}
 use Rattle.lisp_server.specs.Contacts.{SetsContact, IsHeard, Knows}
 use Rattle.lisp_server.specs.Receiving.{Accepts, contact_of}
-use Rattle.lisp_checks.specs.Pairs.{router_of}
-use Rattle.lisp_checks.specs.AcceptedRows.{holding, holdings}
-use Rattle.lisp_checks.proofs.Turned.{turned}
+use Rattle.lisp_admission.specs.Pairs.{router_of}
+use Rattle.lisp_admission.specs.AcceptedRows.{holding, holdings}
+use Rattle.lisp_admission.proofs.Turned.{turned}
 use Rattle.lisp_server.specs.Server.{SameTables, state_of}
 
 -- no row, no router

@@ -18,9 +18,9 @@ use Rattle.lisp_records.specs.declared.router.RouterId.{RouterId}
 use Rattle.std.specs.declared.cmp.Ordering.{Ordering}
 use Rattle.lisp_server.specs.declared.last_nonces.LastNonce.{LastNonce}
 use Rattle.lisp_server.specs.LastNonces.{nonce_at, nonces_of, is_of, SetsNonce}
-use Rattle.lisp_served.specs.Order.{KeysRise, IsGap}
-use Rattle.lisp_served.proofs.Halving as halving
-use Rattle.lisp_served.proofs.Found.{nowhere, there, at_place, put_set, has_own, has_no_other}
+use Rattle.lisp_policy.specs.Order.{KeysRise, IsGap}
+use Rattle.lisp_policy.proofs.Halving as halving
+use Rattle.lisp_policy.proofs.Found.{nowhere, there, at_place, put_set, has_own, has_no_other}
 
 find_in_map : (q : Pair) (es : List LastNonce) → map_find pair_cmp q (map (λ e. (e.pair, e.nonce)) es) ≡ option_map (λ e. e.nonce) (find (is_of q) es)
 find_in_map q [] = refl

@@ -6,13 +6,13 @@ use Rattle.std.specs.declared.cmp.Ordering.TheVariants.{Less}
 use Rattle.lisp_records.specs.declared.router.RouterId.{RouterId}
 use Rattle.lisp_records.specs.Moment.{second}
 use Rattle.lisp_records.specs.Router.{router_cmp}
-use Rattle.lisp_served.specs.Order.{KeysRise}
-use Rattle.lisp_served.proofs.Found.{not_true}
-use Rattle.lisp_served.proofs.Halving as halving
+use Rattle.lisp_policy.specs.Order.{KeysRise}
+use Rattle.lisp_policy.proofs.Found.{not_true}
+use Rattle.lisp_policy.proofs.Halving as halving
 use Rattle.lisp_lookup.proofs.Apart.{found}
 use Rattle.lisp_lookup.proofs.Orders.{router_total, same_router}
 use Rattle.lisp_lookup.proofs.TableLaws.{found_holds, some_inj}
-use Rattle.lisp_checks.specs.NoticeTimer.{gaps, elapsed, due_after, IsPrompt, PromptNotices}
+use Rattle.lisp_admission.specs.NoticeTimer.{gaps, elapsed, due_after, IsPrompt, PromptNotices}
 use Rattle.lisp_server.specs.Notices.{Standing, NoticesKeepTime, is_due, is_due_at, notice_at, is_notice_of, IsDueRouter}
 use Rattle.lisp_server.proofs.StandingLaws.{decides, notice_own, notice_held, one_for_each}
 

@@ -12,31 +12,31 @@ use Rattle.lisp_records.specs.Spelling.{IsBytes}
 use Rattle.lisp_messages.specs.declared.fault.ReadFault.{ReadFault}
 use Rattle.lisp_messages.specs.declared.fault.ReadFault.TheVariants as reads
 use Rattle.lisp_messages.specs.Authentic.{is_authentic}
-use Rattle.lisp_served.specs.Site.{SiteEntry, site_of, secret_of}
+use Rattle.lisp_policy.specs.Site.{SiteEntry, site_of, secret_of}
 use Rattle.lisp_nonces.specs.declared.pair.Pair.{Pair}
 use Rattle.lisp_nonces.specs.declared.fault.StoreFault.{StoreFault}
 use Rattle.lisp_nonces.specs.declared.fault.StoreFault.TheVariants as stores
 use Rattle.lisp_nonces.specs.Kept.{Kept, kept_at, with_value, SameElsewhere, InDoubt}
 use Rattle.lisp_nonces.specs.Store.{StoreState, Rose, Proceeds, MaySave}
-use Rattle.lisp_checks.specs.declared.refused.Refused.{Refused}
-use Rattle.lisp_checks.specs.declared.refused.Refused.TheVariants as refusals
+use Rattle.lisp_admission.specs.declared.refused.Refused.{Refused}
+use Rattle.lisp_admission.specs.declared.refused.Refused.TheVariants as refusals
 use Rattle.lisp_server.specs.declared.contacts.Contact.{Contact}
 use Rattle.lisp_server.specs.declared.tables.Tables.{Tables}
 use Rattle.lisp_server.specs.declared.took.Took.{Took}
 use Rattle.lisp_server.specs.declared.took.Took.TheVariants.{Accepted, NoticeDone}
-use Rattle.lisp_checks.specs.Refused.{refused_of_read}
-use Rattle.lisp_checks.specs.Pairs.{router_of, pair_of}
-use Rattle.lisp_checks.specs.AcceptedRows.{holdings}
+use Rattle.lisp_admission.specs.Refused.{refused_of_read}
+use Rattle.lisp_admission.specs.Pairs.{router_of, pair_of}
+use Rattle.lisp_admission.specs.AcceptedRows.{holdings}
 use Rattle.lisp_lookup.specs.Table.{Sets}
 use Rattle.lisp_server.specs.LastNonces.{Nonces, nonce_at, SetsNonce}
 use Rattle.lisp_server.specs.Contacts.{SetsContact}
 use Rattle.lisp_server.specs.Notices.{Standing, EndsNotice}
 use Rattle.lisp_server.specs.Server.{ServerState, SameTables, state_of}
 use Rattle.lisp_records.specs.Result.{◌>>=◌}
-use Rattle.lisp_checks.specs.Checks.{secret_under, check, refused_at, first_not_allowed}
-use Rattle.lisp_checks.specs.Checks.{notification_of}
+use Rattle.lisp_admission.specs.Checks.{secret_under, check, refused_at, first_not_allowed}
+use Rattle.lisp_admission.specs.Checks.{notification_of}
 use Rattle.lisp_server.specs.Checks.{Passed, register_checked, Acknowledges, RefusesAck, reply_of}
-use Rattle.lisp_checks.specs.Nonces.{IsFresh, KeepsLists, Unasked, HasCause, FailsToSave, Stops, NotKept}
+use Rattle.lisp_admission.specs.Nonces.{IsFresh, KeepsLists, Unasked, HasCause, FailsToSave, Stops, NotKept}
 use Rattle.lisp_server.specs.Receiving.{Accepts, Takes, OutOfRoom, RefusesRegister, RefusesRead, Refuses, SaveFailed}
 
 abbrev register_passed : Registration → List ℕ → Result Passed Refused

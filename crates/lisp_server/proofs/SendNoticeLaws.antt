@@ -13,7 +13,7 @@ use Rattle.lisp_records.specs.Row.{Holding}
 use Rattle.lisp_messages.specs.Message.{IsNotification}
 use Rattle.lisp_messages.specs.Authentic.{signed}
 use Rattle.lisp_messages.specs.Written.{written_notify}
-use Rattle.lisp_served.specs.Site.{SiteEntry}
+use Rattle.lisp_policy.specs.Site.{SiteEntry}
 use Rattle.lisp_nonces.specs.declared.fault.StoreFault.TheVariants as stores
 use Rattle.lisp_nonces.specs.Kept.{Kept, kept_at, SameElsewhere, InDoubt}
 use Rattle.lisp_nonces.specs.Store.{StoreState, Proceeds, MaySave}
@@ -21,13 +21,13 @@ use Rattle.lisp_lookup.specs.Records.{live_of, ByPrefix}
 use Rattle.lisp_lookup.proofs.LiveLaws.{some_row}
 use Rattle.lisp_server.specs.declared.contacts.Contact.{Contact}
 use Rattle.lisp_server.specs.declared.tables.Tables.{Tables}
-use Rattle.lisp_checks.specs.declared.notice_fault.NoticeFault.{NoticeFault}
-use Rattle.lisp_checks.specs.declared.notice_fault.NoticeFault.TheVariants as faults
-use Rattle.lisp_checks.specs.Nonces.{IsBase, Follows, FollowsNone, NoticeNotKept, nonce_after, KeepsLists, Unasked, FailsToSave}
+use Rattle.lisp_admission.specs.declared.notice_fault.NoticeFault.{NoticeFault}
+use Rattle.lisp_admission.specs.declared.notice_fault.NoticeFault.TheVariants as faults
+use Rattle.lisp_admission.specs.Nonces.{IsBase, Follows, FollowsNone, NoticeNotKept, nonce_after, KeepsLists, Unasked, FailsToSave}
 use Rattle.lisp_server.specs.SendNotice.{IsRegistered, Announces, IsNotice, NoticeWithoutRoom, RefusesNotice, Unregistered, notice_of}
 use Rattle.lisp_server.specs.Contacts.{IsHeard, Knows}
 use Rattle.lisp_server.specs.LastNonces.{Nonces, nonce_at, SetsNonce}
-use Rattle.lisp_checks.specs.Pairs.{notice_pair}
+use Rattle.lisp_admission.specs.Pairs.{notice_pair}
 use Rattle.lisp_server.specs.Notices.{Standing, SetsNotice}
 use Rattle.lisp_server.specs.Server.{ServerState, SameTables, state_of}
 use Rattle.lisp_server.proofs.ContactLaws.{contact_router}

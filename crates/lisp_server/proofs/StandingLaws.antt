@@ -14,12 +14,12 @@ use Rattle.lisp_records.specs.declared.router.RouterId.{RouterId}
 use Rattle.lisp_records.specs.Router.{router_cmp}
 use Rattle.lisp_lookup.proofs.Apart.{found, own_found}
 use Rattle.lisp_lookup.proofs.Orders.{router_total, same_router}
-use Rattle.lisp_served.specs.Order.{KeysRise, IsGap}
-use Rattle.lisp_served.proofs.Halving as halving
-use Rattle.lisp_served.proofs.Found.{not_true, nowhere, there, at_place, put_set, has_own, has_no_other}
+use Rattle.lisp_policy.specs.Order.{KeysRise, IsGap}
+use Rattle.lisp_policy.proofs.Halving as halving
+use Rattle.lisp_policy.proofs.Found.{not_true, nowhere, there, at_place, put_set, has_own, has_no_other}
 use Rattle.lisp_lookup.proofs.TableLaws.{found_holds, some_inj}
-use Rattle.lisp_checks.specs.declared.notice_fault.NoticeFault.TheVariants as faults
-use Rattle.lisp_checks.specs.NoticeTimer.{gaps, has_come}
+use Rattle.lisp_admission.specs.declared.notice_fault.NoticeFault.TheVariants as faults
+use Rattle.lisp_admission.specs.NoticeTimer.{gaps, has_come}
 use Rattle.lisp_server.specs.Notices.{Standing, is_notice_of, notice_at, OneForEach, SetsNotice, EndsNotice, awaits, Awaited, is_due, is_due_at, resent, Resends}
 
 pub decides : (q : RouterId) (n : Standing) → Decides (is_notice_of q n) (n.router ≡ q)

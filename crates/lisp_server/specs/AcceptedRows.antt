@@ -4,8 +4,8 @@ use Rattle.lisp_records.specs.declared.address.Addr.{Addr}
 use Rattle.lisp_records.specs.Record.{Mapping}
 use Rattle.lisp_records.specs.Row.{Holding}
 use Rattle.lisp_messages.specs.Message.{Registration}
-use Rattle.lisp_checks.specs.AcceptedRows.{life_of}
-use Rattle.lisp_checks.specs.Pairs.{router_of}
+use Rattle.lisp_admission.specs.AcceptedRows.{life_of}
+use Rattle.lisp_admission.specs.Pairs.{router_of}
 use Rattle.lisp_server.specs.declared.accepted_rows.Origin.{Origin}
 
 abbrev pub origin_of : Registration → Addr → ℕ → Origin

@@ -5,10 +5,10 @@ use Rattle.lisp_messages.specs.Message.{Registration, Notification}
 use Rattle.lisp_records.specs.declared.address.Addr.{Addr}
 use Rattle.lisp_messages.specs.Authentic.{signed}
 use Rattle.lisp_messages.specs.Written.{written_notify}
-use Rattle.lisp_served.specs.Site.{SiteEntry}
-use Rattle.lisp_checks.specs.declared.refused.Refused.{Refused}
-use Rattle.lisp_checks.specs.declared.refused.Refused.TheVariants.{BadAuth, NoNotice, NotMine}
-use Rattle.lisp_checks.specs.Checks.{secret_under, secret_at, signed_by, notification_of}
+use Rattle.lisp_policy.specs.Site.{SiteEntry}
+use Rattle.lisp_admission.specs.declared.refused.Refused.{Refused}
+use Rattle.lisp_admission.specs.declared.refused.Refused.TheVariants.{BadAuth, NoNotice, NotMine}
+use Rattle.lisp_admission.specs.Checks.{secret_under, secret_at, signed_by, notification_of}
 use Rattle.lisp_server.specs.Notices.{Standing, IsAwaiting, NoneAwaits}
 
 -- a Map-Register that passes all checks, with its secret

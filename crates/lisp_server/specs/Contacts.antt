@@ -5,10 +5,10 @@ use Rattle.lisp_records.specs.declared.router.RouterId.{RouterId}
 use Rattle.lisp_records.specs.Address.{Block}
 use Rattle.lisp_records.specs.Router.{router_eq}
 use Rattle.lisp_records.specs.Row.{Holding}
-use Rattle.lisp_served.specs.Site.{SiteEntry}
+use Rattle.lisp_policy.specs.Site.{SiteEntry}
 use Rattle.lisp_lookup.specs.Table.{row_at}
 use Rattle.lisp_server.specs.declared.contacts.Contact.{Contact}
-use Rattle.lisp_checks.specs.Checks.{secret_at}
+use Rattle.lisp_admission.specs.Checks.{secret_at}
 
 abbrev pub is_contact_of : RouterId → Contact → Bool
 is_contact_of router c = router_eq c.router router

@@ -9,9 +9,9 @@ use Rattle.lisp_records.specs.declared.router.RouterId.{RouterId}
 use Rattle.lisp_records.specs.Address.{addr_eq}
 use Rattle.lisp_records.specs.Moment.{second}
 use Rattle.lisp_records.specs.Router.{router_eq, router_cmp}
-use Rattle.lisp_checks.specs.NoticeTimer.{gaps, due_after, has_come}
-use Rattle.lisp_checks.specs.declared.notice_fault.NoticeFault.{NoticeFault}
-use Rattle.lisp_checks.specs.declared.notice_fault.NoticeFault.TheVariants.{OutOfMemory, NotDue}
+use Rattle.lisp_admission.specs.NoticeTimer.{gaps, due_after, has_come}
+use Rattle.lisp_admission.specs.declared.notice_fault.NoticeFault.{NoticeFault}
+use Rattle.lisp_admission.specs.declared.notice_fault.NoticeFault.TheVariants.{OutOfMemory, NotDue}
 
 -- a notice that stands: for which router, to which address, under which key and nonce; its bytes; how
 -- often it was sent again, and when it was sent last

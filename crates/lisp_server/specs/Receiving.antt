@@ -10,21 +10,21 @@ use Rattle.lisp_nonces.specs.declared.fault.StoreFault.{StoreFault}
 use Rattle.lisp_nonces.specs.declared.fault.StoreFault.TheVariants as faults
 use Rattle.lisp_nonces.specs.Kept.{kept_at, SameElsewhere, InDoubt}
 use Rattle.lisp_nonces.specs.Store.{StoreState, MaySave}
-use Rattle.lisp_checks.specs.declared.refused.Refused.{Refused}
-use Rattle.lisp_checks.specs.declared.refused.Refused.TheVariants.{Read, StoreLoad, Replay, OutOfMemory, StoreSave}
+use Rattle.lisp_admission.specs.declared.refused.Refused.{Refused}
+use Rattle.lisp_admission.specs.declared.refused.Refused.TheVariants.{Read, StoreLoad, Replay, OutOfMemory, StoreSave}
 use Rattle.lisp_server.specs.declared.took.Took.{Took}
 use Rattle.lisp_server.specs.declared.took.Took.TheVariants.{Accepted, NoticeDone}
 use Rattle.lisp_server.specs.declared.contacts.Contact.{Contact}
-use Rattle.lisp_checks.specs.Pairs.{router_of, pair_of}
-use Rattle.lisp_checks.specs.AcceptedRows.{holdings}
+use Rattle.lisp_admission.specs.Pairs.{router_of, pair_of}
+use Rattle.lisp_admission.specs.AcceptedRows.{holdings}
 use Rattle.lisp_lookup.specs.Table.{Sets}
 use Rattle.lisp_server.specs.LastNonces.{nonce_at, SetsNonce}
 use Rattle.lisp_server.specs.Contacts.{SetsContact}
 use Rattle.lisp_server.specs.Notices.{Standing, EndsNotice}
 use Rattle.lisp_server.specs.Server.{ServerState}
-use Rattle.lisp_checks.specs.Checks.{notification_of}
+use Rattle.lisp_admission.specs.Checks.{notification_of}
 use Rattle.lisp_server.specs.Checks.{Passed, register_checked, Acknowledges, RefusesAck, reply_of}
-use Rattle.lisp_checks.specs.Nonces.{IsBase, IsBelow, IsFresh, KeepsLists, Unasked, HasCause, FailsToLoad, FailsToSave}
+use Rattle.lisp_admission.specs.Nonces.{IsBase, IsBelow, IsFresh, KeepsLists, Unasked, HasCause, FailsToLoad, FailsToSave}
 
 -- the nonce is above each value that may be its base
 abbrev pub IsAboveAnyBase : Option ℕ → StoreState → Pair → ℕ → Type 0

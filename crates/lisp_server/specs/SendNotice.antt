@@ -13,12 +13,12 @@ use Rattle.lisp_nonces.specs.declared.fault.StoreFault.TheVariants as faults
 use Rattle.lisp_nonces.specs.Kept.{kept_at, SameElsewhere, InDoubt}
 use Rattle.lisp_nonces.specs.Store.{StoreState, MaySave}
 use Rattle.lisp_lookup.specs.Records.{live_of, ByPrefix}
-use Rattle.lisp_checks.specs.declared.notice_fault.NoticeFault.{NoticeFault}
-use Rattle.lisp_checks.specs.declared.notice_fault.NoticeFault.TheVariants.{NotRegistered, TooLarge, StoreLoad, NonceSpent, OutOfMemory, StoreSave, NotDue}
+use Rattle.lisp_admission.specs.declared.notice_fault.NoticeFault.{NoticeFault}
+use Rattle.lisp_admission.specs.declared.notice_fault.NoticeFault.TheVariants.{NotRegistered, TooLarge, StoreLoad, NonceSpent, OutOfMemory, StoreSave, NotDue}
 use Rattle.lisp_server.specs.Contacts.{IsHeard}
 use Rattle.lisp_server.specs.LastNonces.{nonce_at, SetsNonce}
-use Rattle.lisp_checks.specs.Pairs.{notice_pair}
-use Rattle.lisp_checks.specs.Nonces.{IsUnspent, nonce_after, IsBase, KeepsLists, Unasked, HasCause, FailsToLoad, FailsToSave}
+use Rattle.lisp_admission.specs.Pairs.{notice_pair}
+use Rattle.lisp_admission.specs.Nonces.{IsUnspent, nonce_after, IsBase, KeepsLists, Unasked, HasCause, FailsToLoad, FailsToSave}
 use Rattle.lisp_server.specs.Notices.{SetsNotice}
 use Rattle.lisp_server.specs.Server.{ServerState}
 

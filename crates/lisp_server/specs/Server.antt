@@ -2,11 +2,11 @@
 use Rattle.std.specs.Prelude.{◌≡◌, ◌<◌, ◌≤◌, ℕ, List, None}
 use Rattle.lisp_records.specs.declared.router.RouterId.{RouterId}
 use Rattle.lisp_records.specs.Row.{Holding}
-use Rattle.lisp_served.specs.Site.{SiteEntry}
+use Rattle.lisp_policy.specs.Site.{SiteEntry}
 use Rattle.lisp_server.specs.declared.contacts.Contact.{Contact}
 use Rattle.lisp_server.specs.declared.tables.Tables.{Tables}
 use Rattle.lisp_nonces.specs.declared.pair.Pair.{Pair}
-use Rattle.lisp_checks.specs.Pairs.{notice_pair}
+use Rattle.lisp_admission.specs.Pairs.{notice_pair}
 use Rattle.lisp_server.specs.Contacts.{contact_at}
 use Rattle.lisp_server.specs.LastNonces.{Nonces, nonce_at}
 use Rattle.lisp_server.specs.Notices.{Standing, notice_at}

@@ -1,13 +1,13 @@
 //! The rows that an accepted Map-Register sets (RFC 9301 section 5.6).
 
 ghost use Rattle.std.specs.Prelude.{◌≡◌, map, IfOk, OnErr};
-ghost use Rattle.lisp_checks.specs.Pairs.{router_of};
-ghost use Rattle.lisp_checks.specs.AcceptedRows.{life_of, holdings};
+ghost use Rattle.lisp_admission.specs.Pairs.{router_of};
+ghost use Rattle.lisp_admission.specs.AcceptedRows.{life_of, holdings};
 ghost use Rattle.lisp_server.specs.AcceptedRows.{origin_of, row_of};
 ghost use Rattle.lisp_server.specs.Checks.{reply_of};
 
 use crate::reply::reply;
-use lisp_checks::router_of;
+use lisp_admission::router_of;
 use lisp_hmac::Key;
 use lisp_memory::{FallibleVec, Memory};
 use lisp_messages::{MapNotify, MapRegister};

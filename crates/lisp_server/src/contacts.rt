@@ -3,7 +3,7 @@
 ghost use Rattle.std.specs.Prelude.{◌≡◌, ◌<◌, [], None, Some, IfOk, IfErr, OnOk, OnErr};
 ghost use Rattle.std.specs.List.{position};
 ghost use Rattle.lisp_records.specs.Router.{router_cmp};
-ghost use Rattle.lisp_served.specs.Order.{KeysRise, IsGap};
+ghost use Rattle.lisp_policy.specs.Order.{KeysRise, IsGap};
 ghost use Rattle.lisp_server.specs.Contacts.{is_contact_of, contact_at, SetsContact};
 
 use crate::reserved::insert_reserved;
@@ -29,7 +29,7 @@ pub(crate) struct Contacts<A: Allocator> {
 impl<A: Allocator> Model for Contacts<A> {
     ghost use Rattle.std.specs.Prelude.{◌-◌, vec_len, vec_capacity};
     ghost use Rattle.lisp_records.specs.Router.{router_cmp};
-    ghost use Rattle.lisp_served.specs.Order.{KeysRise};
+    ghost use Rattle.lisp_policy.specs.Order.{KeysRise};
     ghost use Rattle.lisp_server.specs.Contacts.{ContactTable};
 
     ghost Value = { ContactTable };

@@ -5,7 +5,7 @@ ghost use Rattle.std.specs.Prelude.{◌≡◌, ◌<◌, None, Some, IfOk, IfErr,
 ghost use Rattle.std.specs.FinMap.{empty};
 ghost use Rattle.std.specs.List.{position};
 ghost use Rattle.lisp_nonces.specs.Pair.{pair_cmp};
-ghost use Rattle.lisp_served.specs.Order.{KeysRise, IsGap};
+ghost use Rattle.lisp_policy.specs.Order.{KeysRise, IsGap};
 ghost use Rattle.lisp_server.specs.LastNonces.{nonce_at, SetsNonce, is_of, nonces_of};
 
 use crate::reserved::insert_reserved;
@@ -31,7 +31,7 @@ impl<A: Allocator> Model for LastNonces<A> {
     ghost use Rattle.std.specs.Prelude.{◌-◌, vec_len, vec_capacity};
     ghost use Rattle.std.specs.Coded.{codes};
     ghost use Rattle.lisp_nonces.specs.Pair.{pair_cmp};
-    ghost use Rattle.lisp_served.specs.Order.{KeysRise};
+    ghost use Rattle.lisp_policy.specs.Order.{KeysRise};
     ghost use Rattle.lisp_server.specs.LastNonces.{NonceTable, nonces_code, nonces_of};
 
     ghost Value = { NonceTable };

@@ -4,13 +4,13 @@
 ghost use Rattle.std.specs.Prelude.{IfOk, IsOk};
 ghost use Rattle.lisp_nonces.specs.Store.{Rose};
 ghost use Rattle.lisp_messages.specs.Reading.{message_at};
-ghost use Rattle.lisp_checks.specs.NoticeTimer.{PromptNotices};
+ghost use Rattle.lisp_admission.specs.NoticeTimer.{PromptNotices};
 ghost use Rattle.lisp_server.specs.Notices.{NoticesKeepTime};
 ghost use Rattle.lisp_server.specs.Receiving.{IsAcceptable, Takes};
 
 use crate::server::Server;
 use crate::took::Took;
-use lisp_checks::Refused;
+use lisp_admission::Refused;
 use lisp_memory::Memory;
 use lisp_nonces::NonceStore;
 use lisp_records::Addr;

@@ -9,9 +9,9 @@ use crate::arrival::Arrival;
 use crate::standing_notice::StandingNotice;
 use crate::standing_notices::StandingNotices;
 use crate::took::Took;
-use lisp_checks::{Refused, key_at};
+use lisp_admission::{Refused, key_at};
 use lisp_messages::{MapNotify, authentic_under};
-use lisp_served::Sites;
+use lisp_policy::Sites;
 use std::alloc::Allocator;
 
 /// Receives a Map-Notify-Ack that was read from the bytes of an arrival, and ends the notice that it

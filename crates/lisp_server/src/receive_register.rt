@@ -3,26 +3,26 @@
 ghost use Rattle.std.specs.Prelude.{◌≡◌, length, IfOk, MatchResult, OnErr};
 ghost use Rattle.lisp_nonces.specs.declared.fault.StoreFault.{StoreFault};
 ghost use Rattle.lisp_nonces.specs.Store.{Proceeds};
-ghost use Rattle.lisp_checks.specs.Pairs.{pair_of};
+ghost use Rattle.lisp_admission.specs.Pairs.{pair_of};
 ghost use Rattle.lisp_messages.specs.Message.{IsNotification};
-ghost use Rattle.lisp_checks.specs.AcceptedRows.{holdings};
-ghost use Rattle.lisp_checks.specs.Checks.{notification_of};
+ghost use Rattle.lisp_admission.specs.AcceptedRows.{holdings};
+ghost use Rattle.lisp_admission.specs.Checks.{notification_of};
 ghost use Rattle.lisp_server.specs.Checks.{register_checked, reply_of};
 ghost use Rattle.lisp_server.specs.Receiving.{Accepts, RefusesRegister};
 ghost use Rattle.lisp_server.specs.Server.{SameTables, HasRoom, state_of};
-ghost use Rattle.lisp_checks.specs.declared.refused.Refused.{Refused};
+ghost use Rattle.lisp_admission.specs.declared.refused.Refused.{Refused};
 
 use crate::accepted_rows::rows_and_reply;
 use crate::arrival::Arrival;
 use crate::tables::Tables;
 use crate::took::Took;
-use lisp_checks::{Refused, check_nonce, key_under, pair_of, save_nonce};
+use lisp_admission::{Refused, check_nonce, key_under, pair_of, save_nonce};
 use lisp_hmac::Key;
 use lisp_memory::Memory;
 use lisp_messages::MapRegister;
 use lisp_nonces::{NonceStore, Pair, PairKind};
 use lisp_records::{Bytes, Row};
-use lisp_served::Sites;
+use lisp_policy::Sites;
 use std::alloc::{AllocError, Allocator};
 
 /// Receives a Map-Register that was read from the bytes of an arrival. All that takes memory comes before

@@ -9,19 +9,19 @@ ghost use Rattle.lisp_lookup.specs.Records.{live_of};
 ghost use Rattle.lisp_server.specs.SendNotice.{IsRegistered, Announces, RefusesNotice, IsNotice, Unregistered};
 ghost use Rattle.lisp_server.specs.Contacts.{IsHeard, Knows};
 ghost use Rattle.lisp_server.specs.Server.{SameTables, HasNoticeRoom, state_of};
-ghost use Rattle.lisp_checks.specs.declared.notice_fault.NoticeFault.{NoticeFault};
+ghost use Rattle.lisp_admission.specs.declared.notice_fault.NoticeFault.{NoticeFault};
 
 use crate::contacts::{Contact, Contacts};
 use crate::standing_notice::StandingNotice;
 use crate::tables::Tables;
-use lisp_checks::{NOTICES, NoticeFault, key_at, next_nonce, save_notice};
+use lisp_admission::{NOTICES, NoticeFault, key_at, next_nonce, save_notice};
 use lisp_hmac::Key;
 use lisp_lookup::Table;
 use lisp_memory::Memory;
 use lisp_messages::{MapNotify, write_notify_under};
 use lisp_nonces::NonceStore;
 use lisp_records::{Addr, Bytes, Records, RouterId};
-use lisp_served::Sites;
+use lisp_policy::Sites;
 use std::alloc::{AllocError, Allocator};
 
 /// Sends a notice to a router at a time, in ms. All that takes memory comes before its nonce is saved; what

@@ -13,9 +13,9 @@ ghost use Rattle.lisp_server.specs.SendNotice.{Announces, RefusesNotice};
 ghost use Rattle.lisp_server.specs.LastNonces.{nonce_at};
 ghost use Rattle.lisp_server.specs.Notices.{OneForEach, IsDueRouter, Resends, RefusesResend};
 ghost use Rattle.lisp_server.specs.Receiving.{Takes, Refuses};
-ghost use Rattle.lisp_checks.specs.Refused.{refused_of_read};
-ghost use Rattle.lisp_checks.specs.declared.refused.Refused.{Refused};
-ghost use Rattle.lisp_checks.specs.declared.notice_fault.NoticeFault.{NoticeFault};
+ghost use Rattle.lisp_admission.specs.Refused.{refused_of_read};
+ghost use Rattle.lisp_admission.specs.declared.refused.Refused.{Refused};
+ghost use Rattle.lisp_admission.specs.declared.notice_fault.NoticeFault.{NoticeFault};
 
 use crate::arrival::Arrival;
 use crate::contacts::Contacts;
@@ -26,13 +26,13 @@ use crate::send_notice::send_notice;
 use crate::standing_notices::StandingNotices;
 use crate::tables::Tables;
 use crate::took::Took;
-use lisp_checks::{NoticeFault, Refused};
+use lisp_admission::{NoticeFault, Refused};
 use lisp_lookup::{Answer, Table};
 use lisp_memory::Memory;
 use lisp_messages::{Message, read_message};
 use lisp_nonces::{NonceStore, Pair};
 use lisp_records::{Addr, RouterId, Row};
-use lisp_served::Sites;
+use lisp_policy::Sites;
 use std::alloc::{AllocError, Allocator, Global};
 use std::marker::Model;
 

@@ -2,7 +2,7 @@
 
 ghost use Rattle.std.specs.Prelude.{◌≡◌, ◌≤◌, ◌<◌, IfOk, IfSome, OnOk, OnErr, slice_get};
 ghost use Rattle.lisp_records.specs.Moment.{max_moment};
-ghost use Rattle.lisp_checks.specs.NoticeTimer.{gaps};
+ghost use Rattle.lisp_admission.specs.NoticeTimer.{gaps};
 ghost use Rattle.lisp_server.specs.Notices.{is_due, awaits, resent};
 
 use lisp_memory::Memory;

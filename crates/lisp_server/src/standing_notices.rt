@@ -5,13 +5,13 @@ ghost use Rattle.lisp_records.specs.Moment.{max_moment};
 ghost use Rattle.std.specs.List.{find};
 ghost use Rattle.std.specs.Option.{option_map};
 ghost use Rattle.lisp_records.specs.Router.{router_cmp};
-ghost use Rattle.lisp_served.specs.Order.{KeysRise, IsGap};
-ghost use Rattle.lisp_checks.specs.declared.notice_fault.NoticeFault.{NoticeFault};
+ghost use Rattle.lisp_policy.specs.Order.{KeysRise, IsGap};
+ghost use Rattle.lisp_admission.specs.declared.notice_fault.NoticeFault.{NoticeFault};
 ghost use Rattle.lisp_server.specs.Notices.{is_notice_of, notice_at, is_due, OneForEach, SetsNotice, EndsNotice, awaits, Awaited, IsDueRouter, Resends, RefusesResend};
 
 use crate::reserved::insert_reserved;
 use crate::standing_notice::StandingNotice;
-use lisp_checks::NoticeFault;
+use lisp_admission::NoticeFault;
 use lisp_memory::{FallibleVec, Memory};
 use lisp_records::{Addr, RouterId};
 use std::alloc::{AllocError, Allocator};
@@ -26,7 +26,7 @@ pub(crate) struct StandingNotices<A: Allocator> {
 impl<A: Allocator> Model for StandingNotices<A> {
     ghost use Rattle.std.specs.Prelude.{◌-◌, vec_len, vec_capacity};
     ghost use Rattle.lisp_records.specs.Router.{router_cmp};
-    ghost use Rattle.lisp_served.specs.Order.{KeysRise};
+    ghost use Rattle.lisp_policy.specs.Order.{KeysRise};
     ghost use Rattle.lisp_server.specs.Notices.{NoticeTable};
 
     ghost Value = { NoticeTable };

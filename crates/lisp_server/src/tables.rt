@@ -4,7 +4,7 @@ ghost use Rattle.std.specs.Prelude.{◌≡◌, length, OnOk, OnErr};
 ghost use Rattle.lisp_lookup.specs.Table.{Sets};
 ghost use Rattle.lisp_server.specs.LastNonces.{SetsNonce};
 ghost use Rattle.lisp_server.specs.Contacts.{SetsContact};
-ghost use Rattle.lisp_checks.specs.Pairs.{notice_pair};
+ghost use Rattle.lisp_admission.specs.Pairs.{notice_pair};
 ghost use Rattle.lisp_server.specs.Notices.{SetsNotice};
 ghost use Rattle.lisp_server.specs.Server.{SameTables, HasRoom, HasNoticeRoom};
 
@@ -12,7 +12,7 @@ use crate::contacts::{Contact, Contacts};
 use crate::last_nonces::LastNonces;
 use crate::standing_notice::StandingNotice;
 use crate::standing_notices::StandingNotices;
-use lisp_checks::NOTICES;
+use lisp_admission::NOTICES;
 use lisp_lookup::Table;
 use lisp_memory::Memory;
 use lisp_nonces::Pair;

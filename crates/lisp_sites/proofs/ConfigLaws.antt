@@ -3,8 +3,8 @@ use Rattle.std.proofs.Common.{◌≡◌, List, [], map, Ok}
 use Rattle.std.specs.Prelude.{codes}
 use Rattle.toml.specs.Data.{Data}
 use Rattle.lisp_sites.specs.declared.field.Field.TheVariants as fields
-use Rattle.lisp_served.specs.Site.{SiteEntry}
-use Rattle.lisp_served.specs.Configuration.{Server, Router, Configuration, IsRouter, IsConfiguration}
+use Rattle.lisp_policy.specs.Site.{SiteEntry}
+use Rattle.lisp_policy.specs.Configuration.{Server, Router, Configuration, IsRouter, IsConfiguration}
 use Rattle.lisp_sites.specs.Table.{items, each, sites_of, servers_of, router_at, routers_of}
 use Rattle.lisp_sites.proofs.Readings.{bind_told}
 use Rattle.lisp_sites.proofs.SiteLaws.{sites_apart}

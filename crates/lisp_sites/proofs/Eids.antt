@@ -5,7 +5,7 @@ use Rattle.lisp_records.specs.contracts.prefix.PrefixPartialEq.TheImpl.{ghosts a
 use Rattle.lisp_records.specs.declared.address.Addr.{Addr}
 use Rattle.lisp_records.specs.declared.address.Addr.TheVariants.{V4, V6}
 use Rattle.lisp_records.specs.Address.{Block, block_eq}
-use Rattle.lisp_served.specs.declared.site.SitePrefix.{SitePrefix}
+use Rattle.lisp_policy.specs.declared.site.SitePrefix.{SitePrefix}
 use Rattle.lisp_sites.specs.Table.{has_eid}
 
 same_parts : (a b : Addr) (m n : ℕ) → derived.eq (record { addr = a; mask_len = m }) (record { addr = b; mask_len = n }) ≡ block_eq (record { addr = a; mask_len = m }) (record { addr = b; mask_len = n })

@@ -10,7 +10,7 @@ use Rattle.hex.specs.Hex.{IsBytes, decode_of, decode_sized}
 use Rattle.hex.proofs.HexLemmas.{decode_of-ok, decode_sized-ok, decode_sized-twice}
 use Rattle.lisp_texts.specs.Form.{site_id_of, xtr_of, secret_text_of}
 use Rattle.lisp_texts.proofs.Options.{bind_some, option_map-Some}
-use Rattle.lisp_served.specs.Configuration.{is_name}
+use Rattle.lisp_policy.specs.Configuration.{is_name}
 use Rattle.lisp_sites.specs.Form.{name_of, byte_from, byte_as, nonce_block_from, nonce_block_as}
 use Rattle.lisp_sites.proofs.Readings.{result_ok-Some}
 

@@ -9,9 +9,9 @@ use Rattle.lisp_records.specs.declared.address.Addr.{Addr}
 use Rattle.lisp_records.specs.Address.{IsWhole}
 use Rattle.lisp_texts.specs.Reading.{address_of}
 use Rattle.lisp_sites.specs.declared.field.Field.TheVariants as fields
-use Rattle.lisp_served.specs.Site.{SiteEntry}
-use Rattle.lisp_served.specs.Configuration.{Server, Router, Configuration, IsServer, IsRouter}
-use Rattle.lisp_served.specs.Configuration.{is_name}
+use Rattle.lisp_policy.specs.Site.{SiteEntry}
+use Rattle.lisp_policy.specs.Configuration.{Server, Router, Configuration, IsServer, IsRouter}
+use Rattle.lisp_policy.specs.Configuration.{is_name}
 use Rattle.lisp_sites.specs.Form.{name_of, text_as}
 use Rattle.lisp_sites.specs.Table.{required, items, as_entry, each, flat, has_server, fresh_server_name, server_at, servers_of, has_router, fresh_router_name, router_node, router_identity, places_of, router_flags, router_nonce_block, database_at, router_at}
 use Rattle.lisp_sites.proofs.Readings.{same_ok, bind_ok, bind_told, one_flat, required_text-Ok, fresh-Ok}

@@ -7,7 +7,7 @@ use Rattle.std.specs.Option.{option_or}
 use Rattle.std.specs.Str.{bytes_eq}
 use Rattle.std.proofs.lemmas.Iterator.Adapters.{position_from-zero}
 use Rattle.std.proofs.lemmas.Slice.Eq.{bytes_eq-Decides}
-use Rattle.lisp_served.proofs.IndexLaws.{position-push}
+use Rattle.lisp_policy.proofs.IndexLaws.{position-push}
 use Rattle.lisp_sites.specs.Names.{ArePlaces}
 
 there_from : {X : Type 0} (p : X → Bool) (xs : List X) (start : ℕ) → is_some (position_from p start xs) ≡ list_any p xs

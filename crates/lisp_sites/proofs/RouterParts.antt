@@ -19,8 +19,8 @@ use Rattle.lisp_texts.specs.Form.{site_id_of, xtr_of}
 use Rattle.lisp_texts.proofs.Options.{bind_some}
 use Rattle.lisp_sites.specs.declared.field.Field.TheVariants as fields
 use Rattle.lisp_sites.specs.declared.fault.ConfigFault.TheVariants.{BadValue}
-use Rattle.lisp_served.specs.Site.{SiteEntry, site_of, has_key}
-use Rattle.lisp_served.specs.Configuration.{Server}
+use Rattle.lisp_policy.specs.Site.{SiteEntry, site_of, has_key}
+use Rattle.lisp_policy.specs.Configuration.{Server}
 use Rattle.lisp_sites.specs.Form.{text_as, byte_as, nonce_block_as}
 use Rattle.lisp_sites.specs.Table.{required, optional_at, items, each, flat, router_site, router_key, router_identity, server_place, place_of, place_at, places_of, router_nonce_block, record_at, as_database, database_at}
 use Rattle.lisp_sites.proofs.Readings.{same_ok, bind_ok, bind_told, told-Ok, one_flat, ok_or-Ok, result_ok-Some, and_then-Some, required-Ok, required_text-Ok, fresh-Ok, none_like, each_keeps, all_push, AreApart, Joins, each_apart}

@@ -8,9 +8,9 @@ use Rattle.lisp_records.proofs.DatabaseLaws.{block_eq-Decides}
 use Rattle.lisp_texts.specs.Reading.{prefix_of}
 use Rattle.lisp_texts.specs.Form.{site_id_of, secret_text_of}
 use Rattle.lisp_sites.specs.declared.field.Field.TheVariants as fields
-use Rattle.lisp_served.specs.declared.site.SitePrefix.{SitePrefix}
-use Rattle.lisp_served.specs.Site.{KeyEntry, SiteEntry, has_key}
-use Rattle.lisp_served.specs.Configuration.{IsKey, IsSitePrefix, IsSite}
+use Rattle.lisp_policy.specs.declared.site.SitePrefix.{SitePrefix}
+use Rattle.lisp_policy.specs.Site.{KeyEntry, SiteEntry, has_key}
+use Rattle.lisp_policy.specs.Configuration.{IsKey, IsSitePrefix, IsSite}
 use Rattle.lisp_sites.specs.Form.{text_as, byte_as}
 use Rattle.lisp_sites.specs.Table.{required, optional, items, as_entry, each, flat, fresh_key_id, key_at, keys_of, has_eid, fresh_eid, prefix_at, prefixes_of, has_site, fresh_site_id, site_at, sites_of}
 use Rattle.lisp_sites.proofs.Readings.{same_ok, bind_ok, bind_told, one_flat, required-Ok, required_text-Ok, fresh-Ok, none_like, AreApart, Joins, each_apart}

@@ -1,7 +1,7 @@
 -- The forms that a field's value may have: which values are of the form, and what they stand for.
 use Rattle.std.specs.Prelude.{ℕ, ℤ, pos, negsuc, ◌&&◌, List, Option, None, nat_le, nat_lt}
 use Rattle.toml.specs.Data.{Data, as_str, as_integer}
-use Rattle.lisp_served.specs.Configuration.{is_name}
+use Rattle.lisp_policy.specs.Configuration.{is_name}
 use Rattle.lisp_texts.specs.Reading.{◌>>=◌, if_so}
 
 -- a name

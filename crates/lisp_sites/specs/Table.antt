@@ -19,9 +19,9 @@ use Rattle.lisp_sites.specs.declared.fault.ConfigFault.{ConfigFault}
 use Rattle.lisp_sites.specs.declared.place.Place.{Place}
 use Rattle.lisp_sites.specs.declared.place.PlacedFault.{PlacedFault}
 use Rattle.lisp_sites.specs.declared.fault.ConfigFault.TheVariants.{Toml, Missing, BadValue, Repeated, OutOfMemory}
-use Rattle.lisp_served.specs.declared.site.SitePrefix.{SitePrefix}
-use Rattle.lisp_served.specs.Site.{KeyEntry, SiteEntry, site_of, has_key}
-use Rattle.lisp_served.specs.Configuration.{Server, Router, Configuration}
+use Rattle.lisp_policy.specs.declared.site.SitePrefix.{SitePrefix}
+use Rattle.lisp_policy.specs.Site.{KeyEntry, SiteEntry, site_of, has_key}
+use Rattle.lisp_policy.specs.Configuration.{Server, Router, Configuration}
 use Rattle.lisp_sites.specs.Form.{name_of, text_as, byte_as, nonce_block_as}
 
 -- a field that has to be there: its name, its key in the entry, and the form of its value; Missing

@@ -3,7 +3,7 @@
 ghost use Rattle.std.specs.Prelude.{◌≡◌, ◌+◌, IfErr, length};
 ghost use Rattle.toml.specs.Parse.{parse_document};
 ghost use Rattle.toml.specs.View.{view};
-ghost use Rattle.lisp_served.specs.Configuration.{IsConfiguration};
+ghost use Rattle.lisp_policy.specs.Configuration.{IsConfiguration};
 ghost use Rattle.lisp_sites.specs.Table.{Gives, GivesAt, unplaced, document_of, configuration_of, placed_config_of, config_of};
 ghost use Rattle.lisp_sites.specs.declared.fault.ConfigFault.TheVariants.{OutOfMemory};
 
@@ -13,7 +13,7 @@ use crate::router::{Network, RouterEntry, read_routers};
 use crate::server::{ServerEntry, read_servers};
 use crate::site_entries::read_sites;
 use lisp_memory::Memory;
-use lisp_served::Sites;
+use lisp_policy::Sites;
 use std::alloc::{Allocator, Global};
 use std::marker::Model;
 use toml::Value;
@@ -33,7 +33,7 @@ pub struct Config<A: Allocator = Global> {
 }
 
 impl<A: Allocator> Model for Config<A> {
-    ghost use Rattle.lisp_served.specs.Configuration.{Configuration, IsConfiguration};
+    ghost use Rattle.lisp_policy.specs.Configuration.{Configuration, IsConfiguration};
 
     ghost Value = { Configuration };
 

@@ -1,5 +1,5 @@
 //! The configuration of a network: sites with their keys and prefixes, Map-Servers and site routers,
-//! as an operator writes them. The sites of `lisp_served` and the texts of `lisp_texts` are passed on.
+//! as an operator writes them. The sites of `lisp_policy` and the texts of `lisp_texts` are passed on.
 #![tactic(auto)]
 
 mod config;
@@ -18,7 +18,7 @@ mod value;
 pub use config::Config;
 pub use fault::ConfigFault;
 pub use field::Field;
-pub use lisp_served::{Places, Site, SitePrefix, Sites};
+pub use lisp_policy::{Places, Site, SitePrefix, Sites};
 pub use lisp_texts::{
     MAX_SECRET, addr_from_text, addr_to_text, number_from_text, prefix_from_text, prefix_to_text,
     record_from_text, record_to_text, secret_from_text, site_id_from_text, xtr_from_text,

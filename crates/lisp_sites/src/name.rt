@@ -2,7 +2,7 @@
 
 ghost use Rattle.std.specs.Prelude.{◌≡◌, string_bytes};
 ghost use Rattle.std.specs.List.{list_all};
-ghost use Rattle.lisp_served.specs.Configuration.{is_name, is_name_letter};
+ghost use Rattle.lisp_policy.specs.Configuration.{is_name, is_name_letter};
 
 use std::alloc::{Allocator, Global};
 use std::marker::Model;

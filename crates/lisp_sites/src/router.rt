@@ -3,7 +3,7 @@
 ghost use Rattle.std.specs.Prelude.{◌≡◌, [], IfErr, IsErrOf};
 ghost use Rattle.toml.specs.View.{view, items_view};
 ghost use Rattle.lisp_records.specs.Result.{Reads};
-ghost use Rattle.lisp_served.specs.Site.{has_key};
+ghost use Rattle.lisp_policy.specs.Site.{has_key};
 ghost use Rattle.lisp_sites.specs.Table.{Gives, GivesAt, flat, router_node, router_site, router_key, router_identity, place_of, place_at, places_of, router_flags, record_at, as_database, database_at, router_at, routers_of};
 ghost use Rattle.lisp_sites.specs.declared.fault.ConfigFault.TheVariants.{OutOfMemory};
 
@@ -18,7 +18,7 @@ use crate::server::ServerEntry;
 use crate::value::{array, byte, check_table, flag, name, nonce_block, text_as};
 use lisp_memory::{FallibleString, FallibleVec, Memory};
 use lisp_records::{Addr, Database, MapRecord, RouterId};
-use lisp_served::{Places, Site, Sites};
+use lisp_policy::{Places, Site, Sites};
 use lisp_texts::record_from_text;
 use std::alloc::{Allocator, Global};
 use std::marker::Model;
@@ -48,7 +48,7 @@ pub struct RouterEntry<A: Allocator = Global> {
 }
 
 impl<A: Allocator> Model for RouterEntry<A> {
-    ghost use Rattle.lisp_served.specs.Configuration.{Router};
+    ghost use Rattle.lisp_policy.specs.Configuration.{Router};
 
     ghost Value = { Router };
 

@@ -29,7 +29,7 @@ pub struct ServerEntry<A: Allocator = Global> {
 }
 
 impl<A: Allocator> Model for ServerEntry<A> {
-    ghost use Rattle.lisp_served.specs.Configuration.{Server};
+    ghost use Rattle.lisp_policy.specs.Configuration.{Server};
 
     ghost Value = { Server };
 

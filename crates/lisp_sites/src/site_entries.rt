@@ -2,7 +2,7 @@
 
 ghost use Rattle.std.specs.Prelude.{◌≡◌, [], IfErr, IsErrOf, is_some};
 ghost use Rattle.toml.specs.View.{view, items_view};
-ghost use Rattle.lisp_served.specs.Site.{has_key};
+ghost use Rattle.lisp_policy.specs.Site.{has_key};
 ghost use Rattle.lisp_sites.specs.Table.{Gives, GivesAt, flat, fresh_key_id, key_at, has_eid, prefix_at, has_site, fresh_site_id, site_at, sites_of};
 ghost use Rattle.lisp_sites.specs.declared.fault.ConfigFault.TheVariants.{OutOfMemory};
 
@@ -14,7 +14,7 @@ use crate::place::PlacedFault;
 use crate::value::{byte, check_table, flag, secret, text_as};
 use lisp_memory::{FallibleVec, Memory};
 use lisp_records::Prefix;
-use lisp_served::{Site, SiteKey, SitePrefix, Sites};
+use lisp_policy::{Site, SiteKey, SitePrefix, Sites};
 use std::alloc::Allocator;
 use toml::Value;
 

@@ -3,7 +3,7 @@
 ghost use Rattle.std.specs.Prelude.{◌≡◌, ◌<◌, ◌+◌, IfOk, IfSome, length};
 
 use lisp_records::Addr;
-use lisp_schedules::WorldFault;
+use lisp_model::WorldFault;
 use lisp_sites::Config;
 use lisp_streams::RunFault;
 

@@ -7,9 +7,9 @@ use Rattle.lisp_sites.specs.declared.fault.ConfigFault.TheVariants as config_fau
 use Rattle.lisp_script.specs.Fault.{what_number}
 use Rattle.lisp_script.specs.declared.fault.ScriptWhat.{ScriptWhat}
 use Rattle.lisp_script.specs.declared.fault.ScriptWhat.TheVariants as whats
-use Rattle.lisp_schedules.specs.Faults.{world_fault_number}
-use Rattle.lisp_schedules.specs.declared.world_fault.WorldFault.{WorldFault}
-use Rattle.lisp_schedules.specs.declared.world_fault.WorldFault.TheVariants as world_faults
+use Rattle.lisp_model.specs.Faults.{world_fault_number}
+use Rattle.lisp_model.specs.declared.world_fault.WorldFault.{WorldFault}
+use Rattle.lisp_model.specs.declared.world_fault.WorldFault.TheVariants as world_faults
 use Rattle.lisp_streams.specs.declared.play_fault.PlayFault.{PlayFault}
 use Rattle.lisp_streams.specs.declared.play_fault.PlayFault.TheVariants.{Read, Write, TooLong, NotUtf8, NoScript, Config, Script, World, OutOfMemory}
 

@@ -5,7 +5,7 @@ use crate::input_fault::InputFault;
 use crate::play_fault::PlayFault;
 use lisp_memory::FallibleString;
 use lisp_records::{Addr, MapRecord};
-use lisp_served::{Site, SitePrefix};
+use lisp_policy::{Site, SitePrefix};
 use lisp_sites::{Config, Name, RouterEntry};
 use lisp_texts::{addr_to_text, prefix_to_text, record_to_text};
 use std::alloc::{AllocError, Global};

@@ -11,7 +11,7 @@ use crate::output::write_text;
 use crate::play_fault::PlayFault;
 use lisp_lines::line_text;
 use lisp_memory::Memory;
-use lisp_schedules::Line;
+use lisp_model::Line;
 use lisp_sites::Config;
 use std::alloc::Allocator;
 use std::io::Write;

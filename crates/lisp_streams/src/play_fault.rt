@@ -4,7 +4,7 @@ ghost use Rattle.std.specs.Prelude.{◌≡◌};
 ghost use Rattle.lisp_streams.specs.Fault.{play_fault_number, play_fault_status, play_fault_line};
 ghost use Rattle.lisp_streams.specs.declared.play_fault.PlayFault.TheVariants.{Config, Script, World, OutOfMemory};
 
-use lisp_schedules::WorldFault;
+use lisp_model::WorldFault;
 use lisp_script::{ScriptFault, ScriptWhat};
 use lisp_sites::ConfigFault;
 use std::alloc::{AllocError, AllocFailed};

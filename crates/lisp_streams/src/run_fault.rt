@@ -2,13 +2,13 @@
 
 ghost use Rattle.std.specs.Prelude.{◌≡◌};
 ghost use Rattle.lisp_etr.specs.Faults.{start_fault_number};
-ghost use Rattle.lisp_schedules.specs.Faults.{world_fault_number};
+ghost use Rattle.lisp_model.specs.Faults.{world_fault_number};
 ghost use Rattle.lisp_streams.specs.RunFault.{is_failure, run_status, run_line, numbered, from_play, from_input};
 
 use crate::input_fault::InputFault;
 use crate::play_fault::PlayFault;
 use lisp_etr::StartFault;
-use lisp_schedules::WorldFault;
+use lisp_model::WorldFault;
 use std::alloc::{AllocError, AllocFailed};
 use thiserror::Error;
 

@@ -10,12 +10,12 @@ use Rattle.std.proofs.lemmas.Option.{slice_get-get_or, slice_get_past, slice_get
 use Rattle.lisp_records.specs.Address.{addr_eq}
 use Rattle.lisp_records.specs.declared.address.Addr.{Addr}
 use Rattle.lisp_nonces.specs.declared.fate.Fate.{Fate}
-use Rattle.lisp_schedules.specs.declared.line.Line.{Line}
-use Rattle.lisp_turns.specs.World.{Posted, ServerNode, RouterNode, WorldState}
-use Rattle.lisp_turns.specs.Turns.{address_of, node_with, posted, Arrives, ArrivesWhere, Delivers}
+use Rattle.lisp_model.specs.declared.line.Line.{Line}
+use Rattle.lisp_refinement.specs.World.{Posted, ServerNode, RouterNode, WorldState}
+use Rattle.lisp_refinement.specs.Turns.{address_of, node_with, posted, Arrives, ArrivesWhere, Delivers}
 use Rattle.lisp_world.specs.Faults.{datagram_fault, node_fault, refusal_of}
-use Rattle.lisp_schedules.specs.declared.world_fault.WorldFault.{WorldFault}
-use Rattle.lisp_schedules.specs.declared.world_fault.WorldFault.TheVariants.{NoDatagram}
+use Rattle.lisp_model.specs.declared.world_fault.WorldFault.{WorldFault}
+use Rattle.lisp_model.specs.declared.world_fault.WorldFault.TheVariants.{NoDatagram}
 use Rattle.lisp_world.proofs.Loops.{rewritten}
 
 -- a test that a check lets through fails

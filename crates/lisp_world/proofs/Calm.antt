@@ -10,12 +10,12 @@ use Rattle.lisp_records.specs.Record.{Mapping}
 use Rattle.lisp_nonces.specs.declared.fate.Fate.{Fate}
 use Rattle.lisp_nonces.specs.declared.fate.Fate.TheVariants.{Done}
 use Rattle.lisp_nonces.specs.Store.{StoreState, Proceeds}
-use Rattle.lisp_schedules.specs.declared.line.Line.{Line}
-use Rattle.lisp_turns.specs.World.{Posted, ServerNode, RouterNode, RouterCore, Up, Down, WorldState}
-use Rattle.lisp_turns.specs.Calls.{Uses}
-use Rattle.lisp_turns.specs.Turns.{ServerActs, RouterActs, ExpiresEach, Ticks, Changes, SendsAt, SendsFrom, HearsAt, Arrives, ArrivesWhere, Delivers, RestartsNode, NoticesFrom, ResendsFrom, node_with}
+use Rattle.lisp_model.specs.declared.line.Line.{Line}
+use Rattle.lisp_refinement.specs.World.{Posted, ServerNode, RouterNode, RouterCore, Up, Down, WorldState}
+use Rattle.lisp_refinement.specs.Calls.{Uses}
+use Rattle.lisp_refinement.specs.Turns.{ServerActs, RouterActs, ExpiresEach, Ticks, Changes, SendsAt, SendsFrom, HearsAt, Arrives, ArrivesWhere, Delivers, RestartsNode, NoticesFrom, ResendsFrom, node_with}
 use Rattle.lisp_world.specs.Quiet.{stores_of, IsCalm, AllCalm, failures, KeepsCalm}
-use Rattle.lisp_turns.proofs.Gets.{AtSet, get_set, get_before}
+use Rattle.lisp_refinement.proofs.Gets.{AtSet, get_set, get_before}
 
 -- what a call makes of one calm store
 record KeepsStore (old new : StoreState) (fate : Fate) : Type 0 where

@@ -3,7 +3,7 @@ use Rattle.std.proofs.Common.{◌≡◌, ℕ, zero, suc, ◌+◌, ◌<◌, ◌�
 use Rattle.std.specs.Prelude.{◌⊎◌, ◌≢◌, slice_get}
 use Rattle.std.proofs.lemmas.Option.{slice_get-get_or}
 use Rattle.std.proofs.Math.Seq.{take-append_seam}
-use Rattle.lisp_turns.proofs.Gets.{same_some, get_set}
+use Rattle.lisp_refinement.proofs.Gets.{same_some, get_set}
 
 -- a loop that takes each element of a list once
 module _ {X : Type 0} where

@@ -6,7 +6,7 @@ use Rattle.std.specs.Option.{option_map}
 use Rattle.std.specs.List.{Contains}
 use Rattle.std.proofs.lemmas.List.{length-append, length-map, length-replicate}
 use Rattle.std.proofs.lemmas.Option.{slice_get-map, get_or_from_slice_get}
-use Rattle.lisp_served.specs.Configuration.{Configuration, Router}
+use Rattle.lisp_policy.specs.Configuration.{Configuration, Router}
 use Rattle.lisp_nonces.specs.Store.{StoreState, Proceeds}
 use Rattle.lisp_nonces.specs.Kept.{Kept, kept_at}
 use Rattle.lisp_etr.specs.Config.{sent_pair}
@@ -14,18 +14,18 @@ use Rattle.lisp_etr.specs.Etr.{EtrState}
 use Rattle.lisp_etr.specs.Round.{started}
 use Rattle.lisp_etr.specs.declared.round.Round.{Round}
 use Rattle.lisp_etr.proofs.TimerLaws.{rounds_keep_time}
-use Rattle.lisp_schedules.specs.Trace.{Shown, Opening, addresses, address_at, router_at, settings_of, shown}
-use Rattle.lisp_schedules.specs.Network.{IsNetwork}
-use Rattle.lisp_schedules.specs.Sending.{CountsFrom}
-use Rattle.lisp_turns.specs.World.{Posted, ServerNode, RouterNode, RouterCore, WorldState}
-use Rattle.lisp_turns.specs.Calls.{IsStarted}
+use Rattle.lisp_model.specs.Trace.{Shown, Opening, addresses, address_at, router_at, settings_of, shown}
+use Rattle.lisp_model.specs.Network.{IsNetwork}
+use Rattle.lisp_model.specs.Sending.{CountsFrom}
+use Rattle.lisp_refinement.specs.World.{Posted, ServerNode, RouterNode, RouterCore, WorldState}
+use Rattle.lisp_refinement.specs.Calls.{IsStarted}
 use Rattle.lisp_world.specs.Making.{server_over, router_over, AreNodes, HasStarted, HaveStarted}
 use Rattle.lisp_world.specs.Openings.{opening, lists_of}
 use Rattle.lisp_world.specs.Quiet.{AllHonest, AllCalm, stores_of, failures}
-use Rattle.lisp_turns.specs.Stands.{shown_by, Shows, StandsForRound, StandsForEtr, StandsForCore, StandsForServer, StandsForRouter, Stands}
-use Rattle.lisp_turns.proofs.Gets.{none_is_some, same_some, get_before, get_replicate, get_mapped}
+use Rattle.lisp_refinement.specs.Stands.{shown_by, Shows, StandsForRound, StandsForEtr, StandsForCore, StandsForServer, StandsForRouter, Stands}
+use Rattle.lisp_refinement.proofs.Gets.{none_is_some, same_some, get_before, get_replicate, get_mapped}
 use Rattle.lisp_nodes.proofs.NodeCalls.{unused}
-use Rattle.lisp_turns.proofs.Restarting.{no_row, no_nonce, no_notice}
+use Rattle.lisp_refinement.proofs.Restarting.{no_row, no_nonce, no_notice}
 
 module _ {X : Type 0} where
   -- what stands in two lists, one behind the other, stands in the first one or in the second one

@@ -13,9 +13,9 @@ use Rattle.lisp_records.specs.declared.address.Addr.TheVariants.{V4, V6}
 use Rattle.lisp_records.specs.Address.{addr_eq}
 use Rattle.lisp_records.specs.Router.{router_eq}
 use Rattle.lisp_records.proofs.RouterLaws.{router_eq-Decides}
-use Rattle.lisp_served.specs.Configuration.{Configuration, Router, HasServers, IsRouter, IsConfiguration}
-use Rattle.lisp_schedules.specs.Trace.{addresses}
-use Rattle.lisp_schedules.specs.Network.{IsNetwork}
+use Rattle.lisp_policy.specs.Configuration.{Configuration, Router, HasServers, IsRouter, IsConfiguration}
+use Rattle.lisp_model.specs.Trace.{addresses}
+use Rattle.lisp_model.specs.Network.{IsNetwork}
 use Rattle.lisp_world.specs.Openings.{has_twice, repeats}
 
 module _ {X : Type 0} where

@@ -6,11 +6,11 @@ use Rattle.std.proofs.Math.Seq.{take-suc, take-length}
 use Rattle.std.proofs.Math.ListN.{drop_of_length-le}
 use Rattle.std.proofs.lemmas.List.{map-append, append_assoc}
 use Rattle.std.proofs.lemmas.Option.{slice_get-get_or, slice_get_within}
-use Rattle.lisp_served.specs.Configuration.{Configuration}
+use Rattle.lisp_policy.specs.Configuration.{Configuration}
 use Rattle.lisp_nonces.specs.Store.{StoreState}
-use Rattle.lisp_turns.specs.World.{ServerNode, RouterNode}
+use Rattle.lisp_refinement.specs.World.{ServerNode, RouterNode}
 use Rattle.lisp_world.specs.Making.{server_over, IsRouterOver, AddsNode, AreServers, AreRouters, AreNodes, HasStarted, HaveStarted}
-use Rattle.lisp_turns.proofs.Gets.{none_is_some, same_some, get_set, get_before}
+use Rattle.lisp_refinement.proofs.Gets.{none_is_some, same_some, get_set, get_before}
 
 module _ {X Y : Type 0} where
   -- one more element is mapped behind others

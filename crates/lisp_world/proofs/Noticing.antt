@@ -5,13 +5,13 @@ use Rattle.std.proofs.lemmas.Option.{slice_get_read}
 use Rattle.lisp_records.specs.declared.address.Addr.{Addr}
 use Rattle.lisp_records.specs.declared.router.RouterId.{RouterId}
 use Rattle.lisp_nonces.specs.declared.fate.Fate.{Fate}
-use Rattle.lisp_checks.specs.declared.notice_fault.NoticeFault.{NoticeFault}
-use Rattle.lisp_schedules.specs.declared.line.Line.{Line}
+use Rattle.lisp_admission.specs.declared.notice_fault.NoticeFault.{NoticeFault}
+use Rattle.lisp_model.specs.declared.line.Line.{Line}
 use Rattle.lisp_messages.specs.Head.{head_at}
 use Rattle.lisp_nodes.proofs.ServerCalls.{server_acted, notice_head}
-use Rattle.lisp_turns.specs.Calls.{Notifies}
-use Rattle.lisp_turns.specs.World.{Posted, ServerNode, RouterNode, WorldState}
-use Rattle.lisp_turns.specs.Turns.{NoticesFrom, ResendsFrom, ResendsTo, SaysNotice, SaysResend}
+use Rattle.lisp_refinement.specs.Calls.{Notifies}
+use Rattle.lisp_refinement.specs.World.{Posted, ServerNode, RouterNode, WorldState}
+use Rattle.lisp_refinement.specs.Turns.{NoticesFrom, ResendsFrom, ResendsTo, SaysNotice, SaysResend}
 
 -- the bytes of a notice that was made have a Key ID and a nonce
 pub notice_headed : (before after : ServerNode) (fate : Fate) (me : RouterId) (now : ℕ) {answer : Result (Addr × List ℕ) NoticeFault}

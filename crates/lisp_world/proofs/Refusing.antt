@@ -3,14 +3,14 @@ use Rattle.std.proofs.Common.{◌≡◌, ℕ, Bool, true, false, Option, Some, N
 use Rattle.std.specs.Prelude.{◌≢◌, IfOk, IsErrAnd, IsErrOf, OnErr, if◌then◌else◌}
 use Rattle.std.specs.Option.{unwrap_or}
 use Rattle.lisp_etr.specs.declared.start_fault.StartFault.{StartFault}
-use Rattle.lisp_schedules.specs.Memory.{MayTell}
-use Rattle.lisp_schedules.specs.Trace.{Happening, fate_of}
-use Rattle.lisp_schedules.specs.declared.event.Event.TheVariants as events
-use Rattle.lisp_schedules.specs.declared.line.Line.{Line}
-use Rattle.lisp_schedules.specs.declared.world_fault.WorldFault.{WorldFault}
-use Rattle.lisp_schedules.specs.declared.world_fault.WorldFault.TheVariants.{Clock, NoDatagram, NoNode, OutOfMemory, Repeated, Start, WrongKind}
-use Rattle.lisp_turns.specs.World.{WorldState}
-use Rattle.lisp_turns.specs.Stands.{StandsAfter}
+use Rattle.lisp_model.specs.Memory.{MayTell}
+use Rattle.lisp_model.specs.Trace.{Happening, fate_of}
+use Rattle.lisp_model.specs.declared.event.Event.TheVariants as events
+use Rattle.lisp_model.specs.declared.line.Line.{Line}
+use Rattle.lisp_model.specs.declared.world_fault.WorldFault.{WorldFault}
+use Rattle.lisp_model.specs.declared.world_fault.WorldFault.TheVariants.{Clock, NoDatagram, NoNode, OutOfMemory, Repeated, Start, WrongKind}
+use Rattle.lisp_refinement.specs.World.{WorldState}
+use Rattle.lisp_refinement.specs.Stands.{StandsAfter}
 use Rattle.lisp_world.specs.Faults.{Faults, fault_of, refusal_of}
 use Rattle.lisp_world.specs.Quiet.{KeepsCalm}
 use Rattle.lisp_world.specs.Taking.{Takes}

@@ -6,15 +6,15 @@ use Rattle.std.specs.Result.{is_err, OnOk, OnErr}
 use Rattle.std.proofs.lemmas.List.{append-nil, append_assoc, reverse-append, take_all}
 use Rattle.std.proofs.lemmas.Option.{get_or_from_slice_get, slice_get_read, slice_get-map, slice_get_within}
 use Rattle.std.proofs.Math.Seq.{take-suc}
-use Rattle.lisp_schedules.specs.Trace.{Happening, happening, Step, Opening}
-use Rattle.lisp_schedules.specs.declared.event.Event.{Event}
-use Rattle.lisp_schedules.specs.declared.line.Line.{Line}
-use Rattle.lisp_turns.specs.World.{WorldState}
+use Rattle.lisp_model.specs.Trace.{Happening, happening, Step, Opening}
+use Rattle.lisp_model.specs.declared.event.Event.{Event}
+use Rattle.lisp_model.specs.declared.line.Line.{Line}
+use Rattle.lisp_refinement.specs.World.{WorldState}
 use Rattle.lisp_world.specs.Faults.{Faults, fault_of}
 use Rattle.lisp_world.specs.Runs.{Chain, Follows, RunsOn, StopsAt}
 use Rattle.lisp_world.specs.Taking.{Took}
-use Rattle.lisp_schedules.specs.declared.world_fault.WorldFault.{WorldFault}
-use Rattle.lisp_schedules.specs.declared.world_fault.WorldFault.TheVariants.{OutOfMemory}
+use Rattle.lisp_model.specs.declared.world_fault.WorldFault.{WorldFault}
+use Rattle.lisp_model.specs.declared.world_fault.WorldFault.TheVariants.{OutOfMemory}
 
 -- the event that a loop reads, in any memory, is the one at its place
 pub event_there : {A : Type 0} (events : List (Event A)) (i : ℕ) (event : Event A) → i < length events → event ≡ get_or events i event

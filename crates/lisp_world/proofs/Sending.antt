@@ -4,10 +4,10 @@ use Rattle.std.specs.Prelude.{IfOk, IfSome, IsSome, slice_set}
 use Rattle.lisp_messages.specs.Head.{head_at}
 use Rattle.lisp_nonces.specs.declared.fate.Fate.{Fate}
 use Rattle.lisp_etr.specs.declared.send_fault.SendFault.{SendFault}
-use Rattle.lisp_schedules.specs.declared.line.Line.{Line}
+use Rattle.lisp_model.specs.declared.line.Line.{Line}
 use Rattle.lisp_nodes.proofs.RouterCalls.{acted, sent_head, sends_up, sends_down}
-use Rattle.lisp_turns.specs.World.{Posted, RouterNode, WorldState}
-use Rattle.lisp_turns.specs.Turns.{SendsFrom, SendsAt, SendsWhileUp, is_up}
+use Rattle.lisp_refinement.specs.World.{Posted, RouterNode, WorldState}
+use Rattle.lisp_refinement.specs.Turns.{SendsFrom, SendsAt, SendsWhileUp, is_up}
 use Rattle.lisp_world.specs.Asked.{SaysAsked}
 
 -- the bytes of a Map-Register that was made have a Key ID and a nonce

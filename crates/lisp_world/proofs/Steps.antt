@@ -4,15 +4,15 @@ use Rattle.lisp_records.specs.declared.address.Addr.{Addr}
 use Rattle.lisp_records.specs.Record.{Mapping}
 use Rattle.lisp_nonces.specs.declared.fate.Fate.{Fate}
 use Rattle.lisp_nonces.specs.declared.fate.Fate.TheVariants.{Done}
-use Rattle.lisp_schedules.specs.declared.event.Event.TheVariants as events
-use Rattle.lisp_schedules.specs.declared.line.Line.{Line}
-use Rattle.lisp_schedules.specs.Legal.{Fits}
-use Rattle.lisp_turns.specs.World.{WorldState}
-use Rattle.lisp_turns.specs.Turns.{node_with, Arrives, ArrivesWhere, Delivers, RestartsNode}
-use Rattle.lisp_turns.specs.Stands.{StandsAfter}
-use Rattle.lisp_turns.proofs.ServerArrivals.{deliver_to_server_stands, junk_to_server_stands, nowhere_stands}
-use Rattle.lisp_turns.proofs.RouterArrivals.{deliver_to_router_stands, junk_to_router_stands}
-use Rattle.lisp_turns.proofs.Restarting.{restart_server_stands, restart_router_stands}
+use Rattle.lisp_model.specs.declared.event.Event.TheVariants as events
+use Rattle.lisp_model.specs.declared.line.Line.{Line}
+use Rattle.lisp_model.specs.Legal.{Fits}
+use Rattle.lisp_refinement.specs.World.{WorldState}
+use Rattle.lisp_refinement.specs.Turns.{node_with, Arrives, ArrivesWhere, Delivers, RestartsNode}
+use Rattle.lisp_refinement.specs.Stands.{StandsAfter}
+use Rattle.lisp_refinement.proofs.ServerArrivals.{deliver_to_server_stands, junk_to_server_stands, nowhere_stands}
+use Rattle.lisp_refinement.proofs.RouterArrivals.{deliver_to_router_stands, junk_to_router_stands}
+use Rattle.lisp_refinement.proofs.Restarting.{restart_server_stands, restart_router_stands}
 
 -- a datagram that was sent arrives
 pub delivers_stand : (A : Type 0) (old new : WorldState) (k : ℕ) (fate : Fate) (line : Line) → Delivers A old new k fate line → StandsAfter old new (events.Deliver k fate) line

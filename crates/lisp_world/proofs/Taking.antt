@@ -5,19 +5,19 @@ use Rattle.lisp_records.specs.declared.address.Addr.{Addr}
 use Rattle.lisp_records.specs.Record.{Mapping}
 use Rattle.lisp_nonces.specs.declared.fate.Fate.{Fate}
 use Rattle.lisp_nonces.specs.declared.fate.Fate.TheVariants.{Done}
-use Rattle.lisp_schedules.specs.Legal.{Fits}
-use Rattle.lisp_schedules.specs.Memory.{MayTell}
-use Rattle.lisp_schedules.specs.declared.event.Event.TheVariants as events
-use Rattle.lisp_schedules.specs.declared.line.Line.{Line}
-use Rattle.lisp_schedules.specs.declared.line.Line.TheVariants as lines
-use Rattle.lisp_schedules.specs.declared.world_fault.WorldFault.{WorldFault}
-use Rattle.lisp_turns.specs.World.{Posted, RouterCore, Up, Down, ServerNode, RouterNode, WorldState}
-use Rattle.lisp_turns.specs.Turns.{address_of, change_line, node_with, posted, Arrives, Changes, Delivers, NoticesFrom, ResendsFrom, RestartsNode, SendsFrom, Ticks}
-use Rattle.lisp_turns.proofs.Changing.{change_stands}
-use Rattle.lisp_turns.proofs.Noticing.{notice_stands}
-use Rattle.lisp_turns.proofs.Resending.{resend_stands}
-use Rattle.lisp_turns.proofs.Sending.{send_stands}
-use Rattle.lisp_turns.proofs.Ticking.{tick_stands}
+use Rattle.lisp_model.specs.Legal.{Fits}
+use Rattle.lisp_model.specs.Memory.{MayTell}
+use Rattle.lisp_model.specs.declared.event.Event.TheVariants as events
+use Rattle.lisp_model.specs.declared.line.Line.{Line}
+use Rattle.lisp_model.specs.declared.line.Line.TheVariants as lines
+use Rattle.lisp_model.specs.declared.world_fault.WorldFault.{WorldFault}
+use Rattle.lisp_refinement.specs.World.{Posted, RouterCore, Up, Down, ServerNode, RouterNode, WorldState}
+use Rattle.lisp_refinement.specs.Turns.{address_of, change_line, node_with, posted, Arrives, Changes, Delivers, NoticesFrom, ResendsFrom, RestartsNode, SendsFrom, Ticks}
+use Rattle.lisp_refinement.proofs.Changing.{change_stands}
+use Rattle.lisp_refinement.proofs.Noticing.{notice_stands}
+use Rattle.lisp_refinement.proofs.Resending.{resend_stands}
+use Rattle.lisp_refinement.proofs.Sending.{send_stands}
+use Rattle.lisp_refinement.proofs.Ticking.{tick_stands}
 use Rattle.lisp_world.specs.Faults.{datagram_fault, node_fault, pair_fault, refusal_of, restart_fault, router_fault, tick_fault}
 use Rattle.lisp_world.specs.Taking.{Took}
 use Rattle.lisp_world.proofs.Arrivals.{arrived, datagram_there, delivered, read_again, read_still, same_world}

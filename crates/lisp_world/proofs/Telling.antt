@@ -9,15 +9,15 @@ use Rattle.lisp_etr.specs.declared.send_fault.SendFault.{SendFault}
 use Rattle.lisp_etr.specs.declared.send_fault.SendFault.TheVariants as sends
 use Rattle.lisp_etr.specs.declared.start_fault.StartFault.{StartFault}
 use Rattle.lisp_etr.specs.declared.start_fault.StartFault.TheVariants as starts
-use Rattle.lisp_checks.specs.declared.notice_fault.NoticeFault.{NoticeFault}
-use Rattle.lisp_checks.specs.declared.notice_fault.NoticeFault.TheVariants as notices
+use Rattle.lisp_admission.specs.declared.notice_fault.NoticeFault.{NoticeFault}
+use Rattle.lisp_admission.specs.declared.notice_fault.NoticeFault.TheVariants as notices
 use Rattle.lisp_server.specs.Notices.{Standing, RefusesResend}
-use Rattle.lisp_schedules.specs.declared.line.Line.{Line}
-use Rattle.lisp_schedules.specs.declared.line.Line.TheVariants as lines
-use Rattle.lisp_schedules.specs.declared.refusal.Refusal.TheVariants as refusals
-use Rattle.lisp_schedules.specs.Memory.{MayTell, is_store_memory}
-use Rattle.lisp_turns.specs.World.{Posted, ServerNode, WorldState}
-use Rattle.lisp_turns.specs.Turns.{ResendsTo, SaysNotice, SaysResend}
+use Rattle.lisp_model.specs.declared.line.Line.{Line}
+use Rattle.lisp_model.specs.declared.line.Line.TheVariants as lines
+use Rattle.lisp_model.specs.declared.refusal.Refusal.TheVariants as refusals
+use Rattle.lisp_model.specs.Memory.{MayTell, is_store_memory}
+use Rattle.lisp_refinement.specs.World.{Posted, ServerNode, WorldState}
+use Rattle.lisp_refinement.specs.Turns.{ResendsTo, SaysNotice, SaysResend}
 use Rattle.lisp_world.specs.Asked.{SaysAsked}
 
 module _ (node_may store_may : Type 0) (node : ℕ) where

@@ -1,15 +1,15 @@
 -- Why no network is made: by the part that failed, and over calm stores.
 use Rattle.std.proofs.Common.{◌≡◌, ◌⊎◌, ℕ, ◌+◌, ◌-◌, ◌^◌, ◌<◌, ◌≤◌, List, length, Result, Ok, Err, Some, refl, sym, ap, subst, inl, inr, ◌∙◌, arith}
 use Rattle.std.specs.Prelude.{◌≢◌, slice_get, IfErr, IsErrAnd}
-use Rattle.lisp_served.specs.Configuration.{Configuration}
+use Rattle.lisp_policy.specs.Configuration.{Configuration}
 use Rattle.lisp_nonces.specs.Store.{StoreState, Rose}
 use Rattle.lisp_nonces.specs.declared.fault.StoreFault.{StoreFault}
 use Rattle.lisp_nonces.specs.declared.fault.StoreFault.TheVariants as store_faults
 use Rattle.lisp_etr.specs.declared.start_fault.StartFault.{StartFault}
 use Rattle.lisp_etr.specs.declared.start_fault.StartFault.TheVariants as starts
-use Rattle.lisp_schedules.specs.declared.world_fault.WorldFault.{WorldFault}
-use Rattle.lisp_schedules.specs.declared.world_fault.WorldFault.TheVariants as faults
-use Rattle.lisp_turns.specs.World.{ServerNode, RouterNode}
+use Rattle.lisp_model.specs.declared.world_fault.WorldFault.{WorldFault}
+use Rattle.lisp_model.specs.declared.world_fault.WorldFault.TheVariants as faults
+use Rattle.lisp_refinement.specs.World.{ServerNode, RouterNode}
 use Rattle.lisp_world.specs.Making.{AreNodes, IsUnstarted, IsStartFault, IsNewFault, AllBelowEnd, IsCalmFault}
 use Rattle.lisp_world.specs.Quiet.{AllCalm}
 

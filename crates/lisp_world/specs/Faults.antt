@@ -1,11 +1,11 @@
 -- A network's faults: what keeps it from taking an event.
 use Rattle.std.specs.Prelude.{◌≡◌, ℕ, ◌+◌, ◌&&◌, ◌||◌, nat_le, nat_lt, not, is_some, Bool, length, Option, Some, None, Result, Ok, Err, IfErr, if◌then◌else◌}
 use Rattle.lisp_records.specs.Moment.{max_moment}
-use Rattle.lisp_schedules.specs.Trace.{Happening}
-use Rattle.lisp_schedules.specs.declared.event.Event.TheVariants as events
-use Rattle.lisp_turns.specs.World.{WorldState}
-use Rattle.lisp_schedules.specs.declared.world_fault.WorldFault.{WorldFault}
-use Rattle.lisp_schedules.specs.declared.world_fault.WorldFault.TheVariants as faults
+use Rattle.lisp_model.specs.Trace.{Happening}
+use Rattle.lisp_model.specs.declared.event.Event.TheVariants as events
+use Rattle.lisp_refinement.specs.World.{WorldState}
+use Rattle.lisp_model.specs.declared.world_fault.WorldFault.{WorldFault}
+use Rattle.lisp_model.specs.declared.world_fault.WorldFault.TheVariants as faults
 
 -- no node has the number; a Map-Server has it
 abbrev pub is_missing : WorldState → ℕ → Bool

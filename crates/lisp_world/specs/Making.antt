@@ -1,18 +1,18 @@
 -- How a network is made: its nodes over their stores before the routers start, and routers that start.
 use Rattle.std.specs.Prelude.{◌≡◌, ◌≢◌, ◌⊎◌, ◌<◌, ◌≤◌, ℕ, ◌+◌, ◌-◌, ◌^◌, true, List, [], ◌∷◌, ◌++◌, length, slice_get, Some, Ok}
 use Rattle.std.specs.FinMap.{empty}
-use Rattle.lisp_served.specs.Configuration.{Configuration, Router}
+use Rattle.lisp_policy.specs.Configuration.{Configuration, Router}
 use Rattle.lisp_nonces.specs.Store.{StoreState, Rose, Proceeds}
 use Rattle.lisp_nonces.specs.declared.fault.StoreFault.{StoreFault}
 use Rattle.lisp_nonces.specs.declared.fault.StoreFault.TheVariants as faults
 use Rattle.lisp_etr.specs.declared.start_fault.StartFault.{StartFault}
 use Rattle.lisp_etr.specs.declared.start_fault.StartFault.TheVariants as start_faults
-use Rattle.lisp_schedules.specs.Trace.{settings_of}
-use Rattle.lisp_turns.specs.World.{ServerNode, RouterNode, Down}
-use Rattle.lisp_turns.specs.Calls.{StartsOver, config_of, database_of}
-use Rattle.lisp_schedules.specs.declared.world_fault.WorldFault.{WorldFault}
-use Rattle.lisp_schedules.specs.declared.world_fault.WorldFault.TheVariants.{Start}
-use Rattle.lisp_schedules.specs.declared.world_fault.WorldFault.TheVariants as world_faults
+use Rattle.lisp_model.specs.Trace.{settings_of}
+use Rattle.lisp_refinement.specs.World.{ServerNode, RouterNode, Down}
+use Rattle.lisp_refinement.specs.Calls.{StartsOver, config_of, database_of}
+use Rattle.lisp_model.specs.declared.world_fault.WorldFault.{WorldFault}
+use Rattle.lisp_model.specs.declared.world_fault.WorldFault.TheVariants.{Start}
+use Rattle.lisp_model.specs.declared.world_fault.WorldFault.TheVariants as world_faults
 use Rattle.lisp_world.specs.Openings.{repeats}
 
 -- a Map-Server of a configuration that holds nothing, over its store

@@ -3,12 +3,12 @@ use Rattle.std.specs.Prelude.{Bool, false, ◌||◌, List, [], ◌∷◌, map}
 use Rattle.std.specs.List.{list_any}
 use Rattle.lisp_records.specs.Address.{addr_eq}
 use Rattle.lisp_records.specs.Router.{router_eq}
-use Rattle.lisp_served.specs.Configuration.{Configuration}
+use Rattle.lisp_policy.specs.Configuration.{Configuration}
 use Rattle.lisp_nonces.specs.Kept.{Kept}
 use Rattle.lisp_nonces.specs.Store.{StoreState}
-use Rattle.lisp_schedules.specs.Trace.{Opening, addresses}
-use Rattle.lisp_turns.specs.World.{WorldState}
-use Rattle.lisp_turns.specs.Stands.{shown_by}
+use Rattle.lisp_model.specs.Trace.{Opening, addresses}
+use Rattle.lisp_refinement.specs.World.{WorldState}
+use Rattle.lisp_refinement.specs.Stands.{shown_by}
 use Rattle.lisp_world.specs.Quiet.{stores_of}
 
 -- two of a list are alike

@@ -3,7 +3,7 @@ use Rattle.std.specs.Prelude.{◌≡◌, ℕ, List, ◌++◌, map, slice_get, So
 use Rattle.lisp_nonces.specs.Store.{StoreState}
 use Rattle.lisp_nonces.specs.declared.fate.Fate.{Fate}
 use Rattle.lisp_nonces.specs.declared.fate.Fate.TheVariants.{Done}
-use Rattle.lisp_turns.specs.World.{WorldState}
+use Rattle.lisp_refinement.specs.World.{WorldState}
 
 -- the stores of the nodes, Map-Servers first
 abbrev pub stores_of : WorldState → List StoreState

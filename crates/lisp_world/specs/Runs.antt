@@ -1,13 +1,13 @@
 -- What running events comes to.
 use Rattle.std.specs.Prelude.{◌≡◌, ◌⊎◌, ◌<◌, ℕ, List, [], ◌∷◌, ◌++◌, length, map, reverse, take, slice_get, Some}
-use Rattle.lisp_schedules.specs.Trace.{Happening, Step, Opening}
-use Rattle.lisp_schedules.specs.declared.line.Line.{Line}
-use Rattle.lisp_turns.specs.World.{WorldState}
+use Rattle.lisp_model.specs.Trace.{Happening, Step, Opening}
+use Rattle.lisp_model.specs.declared.line.Line.{Line}
+use Rattle.lisp_refinement.specs.World.{WorldState}
 use Rattle.lisp_world.specs.Faults.{fault_of}
 use Rattle.lisp_world.specs.Taking.{Took}
-use Rattle.lisp_turns.specs.Stands.{Stands}
-use Rattle.lisp_schedules.specs.declared.world_fault.WorldFault.{WorldFault}
-use Rattle.lisp_schedules.specs.declared.world_fault.WorldFault.TheVariants.{OutOfMemory}
+use Rattle.lisp_refinement.specs.Stands.{Stands}
+use Rattle.lisp_model.specs.declared.world_fault.WorldFault.{WorldFault}
+use Rattle.lisp_model.specs.declared.world_fault.WorldFault.TheVariants.{OutOfMemory}
 
 -- steps of these events with these lines, the last one first
 pub record Follows (old new : WorldState) (o : Opening) (T : List Step) (events : List Happening) (lines : List Line) : Type 0 where

@@ -1,12 +1,12 @@
 -- What it comes to that a network takes an event.
 use Rattle.std.specs.Prelude.{◌≡◌, ◌⊎◌, Option, Some, None, Result, Ok, Err}
-use Rattle.lisp_schedules.specs.Memory.{MayTell}
-use Rattle.lisp_schedules.specs.Trace.{Happening, fate_of}
-use Rattle.lisp_schedules.specs.declared.line.Line.{Line}
-use Rattle.lisp_schedules.specs.declared.world_fault.WorldFault.{WorldFault}
-use Rattle.lisp_schedules.specs.declared.world_fault.WorldFault.TheVariants.{OutOfMemory}
-use Rattle.lisp_turns.specs.World.{WorldState}
-use Rattle.lisp_turns.specs.Stands.{StandsAfter}
+use Rattle.lisp_model.specs.Memory.{MayTell}
+use Rattle.lisp_model.specs.Trace.{Happening, fate_of}
+use Rattle.lisp_model.specs.declared.line.Line.{Line}
+use Rattle.lisp_model.specs.declared.world_fault.WorldFault.{WorldFault}
+use Rattle.lisp_model.specs.declared.world_fault.WorldFault.TheVariants.{OutOfMemory}
+use Rattle.lisp_refinement.specs.World.{WorldState}
+use Rattle.lisp_refinement.specs.Stands.{StandsAfter}
 use Rattle.lisp_world.specs.Faults.{fault_of, refusal_of}
 use Rattle.lisp_world.specs.Quiet.{KeepsCalm}
 

@@ -1,13 +1,13 @@
 //! A router is given another database.
 
-ghost use Rattle.lisp_schedules.specs.declared.event.Event.TheVariants.{Change};
+ghost use Rattle.lisp_model.specs.declared.event.Event.TheVariants.{Change};
 ghost use Rattle.lisp_world.specs.Taking.{Takes};
 
 use crate::world::World;
 use lisp_memory::Memory;
 use lisp_nonces::WorldStore;
 use lisp_records::Database;
-use lisp_schedules::{Line, WorldFault};
+use lisp_model::{Line, WorldFault};
 use std::alloc::Allocator;
 
 impl<S: WorldStore, A: Memory + Copy> World<S, A> {

@@ -1,7 +1,7 @@
 //! A datagram that was sent arrives.
 
 ghost use Rattle.std.specs.Prelude.{◌≡◌};
-ghost use Rattle.lisp_schedules.specs.declared.event.Event.TheVariants.{Deliver};
+ghost use Rattle.lisp_model.specs.declared.event.Event.TheVariants.{Deliver};
 ghost use Rattle.lisp_world.specs.Faults.{datagram_fault, refusal_of};
 ghost use Rattle.lisp_world.specs.Taking.{Takes};
 
@@ -10,7 +10,7 @@ use crate::world::World;
 use lisp_memory::Memory;
 use lisp_nodes::{Arrival, hear, post_reply};
 use lisp_nonces::{Fate, WorldStore};
-use lisp_schedules::{Line, WorldFault};
+use lisp_model::{Line, WorldFault};
 
 impl<S: WorldStore, A: Memory + Copy> World<S, A> {
     // A datagram arrives at the first node with its address, perhaps not for the first time.

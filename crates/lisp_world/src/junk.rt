@@ -1,6 +1,6 @@
 //! Bytes from outside arrive.
 
-ghost use Rattle.lisp_schedules.specs.declared.event.Event.TheVariants.{Junk};
+ghost use Rattle.lisp_model.specs.declared.event.Event.TheVariants.{Junk};
 ghost use Rattle.lisp_world.specs.Taking.{Takes};
 
 use crate::world::World;
@@ -8,7 +8,7 @@ use lisp_memory::{FallibleVec, Memory};
 use lisp_nodes::{Arrival, hear, post_reply};
 use lisp_nonces::{Fate, WorldStore};
 use lisp_records::Addr;
-use lisp_schedules::{Line, WorldFault};
+use lisp_model::{Line, WorldFault};
 
 impl<S: WorldStore, A: Memory + Copy> World<S, A> {
     // Bytes that no node sent arrive at a node, as if they came from an address.

@@ -18,6 +18,6 @@ mod tick;
 mod world;
 
 pub use lisp_nodes::Datagram;
-pub use lisp_schedules::{Event, Line, Refusal, WorldFault};
+pub use lisp_model::{Event, Line, Refusal, WorldFault};
 pub use new::router_node;
 pub use world::World;

@@ -2,12 +2,12 @@
 
 ghost use Rattle.std.specs.Prelude.{◌≡◌, ◌+◌, ◌<◌, IfOk, length, slice_index_or};
 ghost use Rattle.lisp_world.specs.Faults.{is_missing, is_server, node_fault, router_fault, pair_fault, refusal_of};
-ghost use Rattle.lisp_turns.specs.Turns.{address_of, node_with};
+ghost use Rattle.lisp_refinement.specs.Turns.{address_of, node_with};
 
 use crate::world::World;
 use lisp_nonces::WorldStore;
 use lisp_records::Addr;
-use lisp_schedules::WorldFault;
+use lisp_model::WorldFault;
 use std::alloc::Allocator;
 
 impl<S: WorldStore, A: Allocator> World<S, A> {

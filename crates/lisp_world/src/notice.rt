@@ -3,9 +3,9 @@
 ghost use Rattle.std.specs.Prelude.{◌≡◌, ◌<◌, ◌++◌, List, IfOk, IsSome};
 ghost use Rattle.std.specs.Vec.{vec_len, vec_capacity};
 ghost use Rattle.lisp_messages.specs.Head.{head_at};
-ghost use Rattle.lisp_schedules.specs.declared.event.Event.TheVariants.{Notice};
-ghost use Rattle.lisp_turns.specs.World.{Posted, WorldState};
-ghost use Rattle.lisp_turns.specs.Turns.{address_of, SaysNotice};
+ghost use Rattle.lisp_model.specs.declared.event.Event.TheVariants.{Notice};
+ghost use Rattle.lisp_refinement.specs.World.{Posted, WorldState};
+ghost use Rattle.lisp_refinement.specs.Turns.{address_of, SaysNotice};
 ghost use Rattle.lisp_world.specs.Taking.{Takes};
 
 use crate::room::with_room;
@@ -14,7 +14,7 @@ use lisp_memory::Memory;
 use lisp_nodes::{Datagram, post_message};
 use lisp_nonces::{Fate, WorldStore};
 use lisp_records::{Addr, Bytes};
-use lisp_schedules::{Line, Refusal, WorldFault};
+use lisp_model::{Line, Refusal, WorldFault};
 use lisp_server::NoticeFault;
 
 impl<S: WorldStore, A: Memory + Copy> World<S, A> {

@@ -2,9 +2,9 @@
 
 ghost use Rattle.std.specs.Prelude.{◌≡◌, ◌<◌, ◌++◌, List};
 ghost use Rattle.std.specs.Vec.{vec_len, vec_capacity};
-ghost use Rattle.lisp_schedules.specs.declared.event.Event.TheVariants.{Resend};
-ghost use Rattle.lisp_turns.specs.World.{Posted, WorldState};
-ghost use Rattle.lisp_turns.specs.Turns.{address_of, SaysResend};
+ghost use Rattle.lisp_model.specs.declared.event.Event.TheVariants.{Resend};
+ghost use Rattle.lisp_refinement.specs.World.{Posted, WorldState};
+ghost use Rattle.lisp_refinement.specs.Turns.{address_of, SaysResend};
 ghost use Rattle.lisp_world.specs.Taking.{Takes};
 
 use crate::room::with_room;
@@ -13,7 +13,7 @@ use lisp_memory::Memory;
 use lisp_nodes::{Datagram, post};
 use lisp_nonces::WorldStore;
 use lisp_records::{Addr, Bytes};
-use lisp_schedules::{Line, Refusal, WorldFault};
+use lisp_model::{Line, Refusal, WorldFault};
 use lisp_server::NoticeFault;
 
 impl<S: WorldStore, A: Memory + Copy> World<S, A> {

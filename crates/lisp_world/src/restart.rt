@@ -1,19 +1,19 @@
 //! A node stops and starts again.
 
 ghost use Rattle.std.specs.Prelude.{◌≡◌, ◌≤◌, ◌<◌, None, true, IfOk, OnOk, OnErr, length};
-ghost use Rattle.lisp_schedules.specs.Memory.{MayTell};
-ghost use Rattle.lisp_schedules.specs.Legal.{Fits};
-ghost use Rattle.lisp_schedules.specs.declared.event.Event.TheVariants.{Restart};
+ghost use Rattle.lisp_model.specs.Memory.{MayTell};
+ghost use Rattle.lisp_model.specs.Legal.{Fits};
+ghost use Rattle.lisp_model.specs.declared.event.Event.TheVariants.{Restart};
 ghost use Rattle.lisp_world.specs.Faults.{is_server, refusal_of, restart_fault};
 ghost use Rattle.lisp_world.specs.Taking.{Takes};
-ghost use Rattle.lisp_turns.specs.Turns.{RestartsServer, RestartsAt};
+ghost use Rattle.lisp_refinement.specs.Turns.{RestartsServer, RestartsAt};
 
 use crate::world::World;
 use lisp_memory::Memory;
 use lisp_nodes::Start;
 use lisp_nonces::WorldStore;
 use lisp_records::Database;
-use lisp_schedules::{Line, Refusal, WorldFault};
+use lisp_model::{Line, Refusal, WorldFault};
 use std::alloc::{AllocError, Allocator};
 
 impl<S: WorldStore, A: Memory + Copy> World<S, A> {

@@ -6,7 +6,7 @@ ghost use Rattle.lisp_world.specs.Taking.{HasRoom};
 
 use lisp_memory::{FallibleVec, Memory};
 use lisp_nodes::Datagram;
-use lisp_schedules::WorldFault;
+use lisp_model::WorldFault;
 
 // Where a check passed, there is room for one more datagram, or the memory for it is refused.
 pub(crate) fn with_room<T: Copy, A: Memory>(

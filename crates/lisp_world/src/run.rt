@@ -2,16 +2,16 @@
 
 ghost use Rattle.std.specs.Prelude.{◌≡◌, ◌<◌, ◌++◌, ◌∷◌, [], MatchResult, IfErr, map};
 ghost use Rattle.std.specs.Vec.{vec_len, vec_capacity};
-ghost use Rattle.lisp_schedules.specs.Trace.{happening};
+ghost use Rattle.lisp_model.specs.Trace.{happening};
 ghost use Rattle.lisp_world.specs.Quiet.{AllCalm, stores_of};
 ghost use Rattle.lisp_world.specs.Runs.{RunsOn, StopsAt};
-ghost use Rattle.lisp_schedules.specs.declared.world_fault.WorldFault.TheVariants.{OutOfMemory};
-ghost use Rattle.lisp_turns.specs.Headline.{Promises};
+ghost use Rattle.lisp_model.specs.declared.world_fault.WorldFault.TheVariants.{OutOfMemory};
+ghost use Rattle.lisp_refinement.specs.Headline.{Promises};
 
 use crate::world::World;
 use lisp_memory::{FallibleVec, Memory};
 use lisp_nonces::WorldStore;
-use lisp_schedules::{Event, Line, WorldFault};
+use lisp_model::{Event, Line, WorldFault};
 use std::alloc::Allocator;
 
 impl<S: WorldStore, A: Memory + Copy> World<S, A> {

@@ -3,9 +3,9 @@
 ghost use Rattle.std.specs.Prelude.{◌≡◌, ◌<◌, ◌++◌, List, IfOk, IfSome, IsSome};
 ghost use Rattle.std.specs.Vec.{vec_len, vec_capacity};
 ghost use Rattle.lisp_messages.specs.Head.{head_at};
-ghost use Rattle.lisp_schedules.specs.declared.event.Event.TheVariants.{Send};
-ghost use Rattle.lisp_turns.specs.World.{Posted, WorldState};
-ghost use Rattle.lisp_turns.specs.Turns.{address_of};
+ghost use Rattle.lisp_model.specs.declared.event.Event.TheVariants.{Send};
+ghost use Rattle.lisp_refinement.specs.World.{Posted, WorldState};
+ghost use Rattle.lisp_refinement.specs.Turns.{address_of};
 ghost use Rattle.lisp_world.specs.Asked.{SaysAsked};
 ghost use Rattle.lisp_world.specs.Taking.{Takes};
 
@@ -16,7 +16,7 @@ use lisp_memory::Memory;
 use lisp_nodes::{Datagram, post_message};
 use lisp_nonces::{Fate, WorldStore};
 use lisp_records::{Addr, Bytes};
-use lisp_schedules::{Line, Refusal, WorldFault};
+use lisp_model::{Line, Refusal, WorldFault};
 
 impl<S: WorldStore, A: Memory + Copy> World<S, A> {
     // A router sends a Map-Register to a Map-Server.

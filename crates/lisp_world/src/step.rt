@@ -1,18 +1,18 @@
 //! A network takes an event.
 
 ghost use Rattle.std.specs.Prelude.{◌≡◌, IfOk, OnErr, IsErrOf};
-ghost use Rattle.lisp_schedules.specs.Memory.{MayTell};
-ghost use Rattle.lisp_schedules.specs.Trace.{fate_of, happening};
+ghost use Rattle.lisp_model.specs.Memory.{MayTell};
+ghost use Rattle.lisp_model.specs.Trace.{fate_of, happening};
 ghost use Rattle.lisp_world.specs.Faults.{Faults, fault_of};
 ghost use Rattle.lisp_world.specs.Quiet.{KeepsCalm};
 ghost use Rattle.lisp_world.specs.Taking.{Takes};
-ghost use Rattle.lisp_turns.specs.Headline.{Promises};
-ghost use Rattle.lisp_turns.specs.Stands.{StandsAfter};
+ghost use Rattle.lisp_refinement.specs.Headline.{Promises};
+ghost use Rattle.lisp_refinement.specs.Stands.{StandsAfter};
 
 use crate::world::World;
 use lisp_memory::Memory;
 use lisp_nonces::WorldStore;
-use lisp_schedules::{Event, Line, WorldFault};
+use lisp_model::{Event, Line, WorldFault};
 use std::alloc::Allocator;
 
 impl<S: WorldStore, A: Memory + Copy> World<S, A> {

@@ -2,8 +2,8 @@
 
 ghost use Rattle.std.specs.Prelude.{◌≡◌, ◌≤◌, length};
 ghost use Rattle.lisp_records.specs.Moment.{max_moment};
-ghost use Rattle.lisp_schedules.specs.declared.event.Event.TheVariants.{Tick};
-ghost use Rattle.lisp_turns.specs.Turns.{ExpiresEach};
+ghost use Rattle.lisp_model.specs.declared.event.Event.TheVariants.{Tick};
+ghost use Rattle.lisp_refinement.specs.Turns.{ExpiresEach};
 ghost use Rattle.lisp_world.specs.Taking.{Takes};
 
 use crate::world::World;
@@ -11,7 +11,7 @@ use lisp_memory::Memory;
 use lisp_nodes::ServerNode;
 use lisp_nonces::WorldStore;
 use lisp_records::MAX_MOMENT;
-use lisp_schedules::{Line, WorldFault};
+use lisp_model::{Line, WorldFault};
 
 impl<S: WorldStore, A: Memory + Copy> World<S, A> {
     // Time passes, in ms, and each Map-Server drops its dead rows.

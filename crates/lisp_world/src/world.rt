@@ -2,7 +2,7 @@
 
 ghost use Rattle.std.specs.Prelude.{◌≡◌, length, slice_get};
 ghost use Rattle.std.specs.Option.{option_map};
-ghost use Rattle.lisp_turns.specs.Nodes.{server_at, etr_at};
+ghost use Rattle.lisp_refinement.specs.Nodes.{server_at, etr_at};
 
 use lisp_etr::Etr;
 use lisp_nodes::{Datagram, RouterNode, ServerNode};
@@ -31,7 +31,7 @@ impl<S: WorldStore, A: Allocator> Model for World<S, A> {
     ghost use Rattle.lisp_records.specs.Moment.{max_moment};
     ghost use Rattle.lisp_nonces.specs.Kept.{kept_code};
     ghost use Rattle.lisp_server.specs.LastNonces.{nonces_code};
-    ghost use Rattle.lisp_turns.specs.World.{WorldState};
+    ghost use Rattle.lisp_refinement.specs.World.{WorldState};
 
     ghost Value = { WorldState };
 

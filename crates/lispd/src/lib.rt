@@ -6,7 +6,7 @@
 
 pub use lisp_answer::{AnswerFault, AnswerSetup, answer};
 pub use lisp_loop::run_loop;
-pub use lisp_numbers::{ExplainFault, explain, explain_all};
+pub use lisp_refusals::{ExplainFault, explain, explain_all};
 pub use lisp_running::{keep_router_running, keep_server_running, run_router, run_server};
 pub use lisp_streams::{InputFault, PlayFault, RunFault, check_config};
-pub use lispd_words::{AnswerOption, ProgramFault, SetupFault, setup};
+pub use lispd_cli::{AnswerOption, ProgramFault, SetupFault, setup};

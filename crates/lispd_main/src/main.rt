@@ -6,7 +6,7 @@ mod subcommands;
 use crate::subcommands::run_subcommand;
 use clap::error::ErrorKind as WordsErrorKind;
 use lisp_answer::AnswerFault;
-use lispd_words::{ProgramFault, SetupFault, command, report};
+use lispd_cli::{ProgramFault, SetupFault, command, report};
 use std::env;
 use std::fs::File;
 use std::io::{self, ErrorKind, IsTerminal};

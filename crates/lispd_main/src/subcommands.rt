@@ -5,7 +5,7 @@ use lisp_loop::run_loop;
 use lisp_player::play;
 use lisp_running::{keep_router_running, keep_server_running, run_router, run_server};
 use lisp_streams::PlayFault;
-use lispd_words::{CONFIG, FILE, NodeWords, ProgramFault, STORE, node_words, run_alone, word};
+use lispd_cli::{CONFIG, FILE, NodeWords, ProgramFault, STORE, node_words, run_alone, word};
 use std::alloc::Global;
 use std::fs::{self, File};
 use std::io::{self, BufReader, Read, Write};

@@ -1,7 +1,7 @@
 use Rattle.std.proofs.Common.{List, ℕ, ◌≤◌, length, subst, ap, ◌∙◌, arith}
 use Rattle.std.specs.String.{string_bytes}
 use Rattle.hex.specs.Hex.{decode_of}
-use Rattle.lisp_served.specs.Site.{SiteEntry}
+use Rattle.lisp_policy.specs.Site.{SiteEntry}
 use Rattle.lisp_answer.specs.Input.{content, most_bytes}
 use Rattle.lisp_answer.specs.Line.{AreWords}
 use Rattle.lisp_answer.proofs.AnsweringLemmas.{answered, consumed, fits}

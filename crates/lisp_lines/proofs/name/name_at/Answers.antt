@@ -1,6 +1,6 @@
 use Rattle.std.proofs.Common.{List, codes, get_or, map, sym, ap, ◌∙◌}
 use Rattle.std.proofs.lemmas.Bool.{ltb-true, ltb-false}
-use Rattle.lisp_served.specs.Configuration.{Router}
+use Rattle.lisp_policy.specs.Configuration.{Router}
 use Rattle.lisp_lines.proofs.Places.{at_place, at_none}
 use Rattle.lisp_lines.proofs.name.name_at.Goals as goal
 

@@ -1,6 +1,6 @@
 use Rattle.std.proofs.Common.{List, codes, get_or, map, sym, ap, ◌++◌, ◌∙◌}
 use Rattle.std.proofs.lemmas.Bool.{ltb-true, ltb-false}
-use Rattle.lisp_served.specs.Configuration.{Server}
+use Rattle.lisp_policy.specs.Configuration.{Server}
 use Rattle.lisp_lines.proofs.Places.{in_front, past_front}
 use Rattle.lisp_lines.proofs.name.node_name.Goals as goal
 

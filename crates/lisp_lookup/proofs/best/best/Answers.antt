@@ -2,7 +2,7 @@ use Rattle.std.proofs.Common.{◌-◌, sym, ap, arith}
 use Rattle.std.proofs.lemmas.Bool.{false≢true}
 use Rattle.lisp_records.specs.Address.{width}
 use Rattle.lisp_lookup.specs.Answer.{may_answer}
-use Rattle.lisp_served.proofs.Found.{not_true}
+use Rattle.lisp_policy.proofs.Found.{not_true}
 use Rattle.lisp_lookup.proofs.BestLaws.{none_longer, found_longest, missed_longest}
 use Rattle.lisp_lookup.proofs.best.best.Goals as goal
 

@@ -2,9 +2,9 @@ use Rattle.std.proofs.Common.{ℕ, ◌-◌, ◌<◌, List, length, get_or, ◌++
 use borrow.Author.Rules.{scaled_Fits}
 use Rattle.std.specs.Prelude.{slice_get, slice_set}
 use Rattle.std.proofs.lemmas.Option.{slice_get-get_or}
-use Rattle.lisp_turns.specs.Calls.{Receives}
-use Rattle.lisp_turns.specs.Turns.{address_of, posted, server_line}
-use Rattle.lisp_turns.specs.World.{ServerNode, RouterNode}
+use Rattle.lisp_refinement.specs.Calls.{Receives}
+use Rattle.lisp_refinement.specs.Turns.{address_of, posted, server_line}
+use Rattle.lisp_refinement.specs.World.{ServerNode, RouterNode}
 use Rattle.lisp_nodes.proofs.arrival.hear.Goals as goal
 
 pub returns-then-node-servers-clause-hears : goal.returns-then-node-servers-clause-hears

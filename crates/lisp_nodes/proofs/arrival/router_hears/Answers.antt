@@ -1,7 +1,7 @@
 use Rattle.std.proofs.Common.{ℕ, List, sym, ◌∙◌, ap}
-use Rattle.lisp_turns.specs.Calls.{config_of}
-use Rattle.lisp_turns.specs.Turns.{router_line}
-use Rattle.lisp_turns.specs.World.{RouterNode}
+use Rattle.lisp_refinement.specs.Calls.{config_of}
+use Rattle.lisp_refinement.specs.Turns.{router_line}
+use Rattle.lisp_refinement.specs.World.{RouterNode}
 use Rattle.lisp_nodes.proofs.ArrivalCalls.{hears_at, router_tells}
 use Rattle.lisp_nodes.proofs.arrival.router_hears.Goals as goal
 

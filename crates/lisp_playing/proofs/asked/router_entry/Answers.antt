@@ -1,7 +1,7 @@
 use Rattle.std.proofs.Common.{ℕ, ◌-◌, nat_lt, List, length, ap, ◌∙◌, arith}
 use Rattle.std.specs.Prelude.{slice_index_or}
 use Rattle.std.specs.Option.{option_map}
-use Rattle.lisp_served.specs.Configuration.{Router}
+use Rattle.lisp_policy.specs.Configuration.{Router}
 use Rattle.lisp_playing.proofs.Queries.{entry_before, entry_read}
 use Rattle.lisp_playing.proofs.asked.router_entry.Goals as goal
 

@@ -1,5 +1,5 @@
 use Rattle.std.proofs.Common.{ℕ, Option, Err, ap, subst}
-use Rattle.lisp_checks.specs.Nonces.{IsFresh, Unasked, Stops}
+use Rattle.lisp_admission.specs.Nonces.{IsFresh, Unasked, Stops}
 use Rattle.lisp_server.specs.Server.{state_of}
 use Rattle.lisp_server.proofs.ReceivingLaws.{proceeds_on, accepts, save_fails, check_fails, stops, no_room, refused_for, unchanged, told_stopped, told_memory, told_unsaved}
 use Rattle.lisp_server.proofs.receive_register.receive_register.Goals as goal

@@ -1,7 +1,7 @@
 use Rattle.std.proofs.Common.{sym, ap, subst, Option, Err, ℕ, ◌≤◌, ◌∙◌, length}
 use Rattle.lisp_records.specs.declared.router.RouterId.{RouterId}
 use Rattle.lisp_lookup.specs.Records.{live_of}
-use Rattle.lisp_checks.specs.Nonces.{Follows}
+use Rattle.lisp_admission.specs.Nonces.{Follows}
 use Rattle.lisp_server.specs.declared.contacts.Contact.{Contact}
 use Rattle.lisp_server.specs.Server.{state_of}
 use Rattle.lisp_server.proofs.ContactLaws.{contact_router}

@@ -1,6 +1,6 @@
 use Rattle.std.proofs.Common.{sym, ap, ◌∙◌}
 use Rattle.std.specs.Prelude.{is_some}
-use Rattle.lisp_served.specs.Site.{key_of}
+use Rattle.lisp_policy.specs.Site.{key_of}
 use Rattle.lisp_sites.proofs.Found.{is_some-map, is_some-find}
 use Rattle.lisp_sites.proofs.router.has_key.Goals as goal
 

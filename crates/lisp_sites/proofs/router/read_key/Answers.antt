@@ -2,7 +2,7 @@ use Rattle.std.proofs.Common.{sym, codes}
 use Rattle.std.proofs.lemmas.Result.{err_from_is_err_and}
 use Rattle.toml.specs.View.{view}
 use Rattle.lisp_texts.specs.Reading.{if_so}
-use Rattle.lisp_served.specs.Site.{has_key}
+use Rattle.lisp_policy.specs.Site.{has_key}
 use Rattle.lisp_sites.specs.declared.field.Field.TheVariants as fields
 use Rattle.lisp_sites.specs.Form.{byte_as}
 use Rattle.lisp_sites.proofs.Fields.{looked_up-Err}

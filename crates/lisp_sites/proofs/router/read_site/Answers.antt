@@ -2,7 +2,7 @@ use Rattle.std.proofs.Common.{codes}
 use Rattle.std.proofs.lemmas.Result.{err_from_is_err_and}
 use Rattle.toml.specs.View.{view}
 use Rattle.lisp_texts.specs.Form.{site_id_of}
-use Rattle.lisp_served.specs.Site.{site_of}
+use Rattle.lisp_policy.specs.Site.{site_of}
 use Rattle.lisp_sites.specs.declared.field.Field.TheVariants as fields
 use Rattle.lisp_sites.specs.declared.fault.ConfigFault.TheVariants.{BadValue}
 use Rattle.lisp_sites.specs.Form.{text_as}

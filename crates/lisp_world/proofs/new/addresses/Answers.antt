@@ -1,6 +1,6 @@
 use Rattle.std.proofs.Common.{◌≡◌, ◌<◌, ℕ, List, [], ◌∷◌, ◌++◌, length, map, take, get_or, append-nil, arith, sym, ap, ◌∙◌}
 use Rattle.std.proofs.Math.Seq.{take-length}
-use Rattle.lisp_served.specs.Configuration.{Server, Router}
+use Rattle.lisp_policy.specs.Configuration.{Server, Router}
 use Rattle.lisp_world.proofs.MakingNodes.{more_mapped}
 use Rattle.lisp_world.proofs.new.addresses.Goals as goal
 

@@ -2,8 +2,8 @@ use Rattle.std.proofs.Common.{◌≡◌, List, Some, get_or, sym, ap, subst, ◌
 use Rattle.std.specs.Prelude.{slice_get}
 use Rattle.std.proofs.lemmas.Option.{slice_get-get_or}
 use Rattle.std.proofs.lemmas.Result.{IfOk-weaker}
-use Rattle.lisp_served.specs.Configuration.{Router, IsRouter, HasServers}
-use Rattle.lisp_turns.proofs.Places.{all_at}
+use Rattle.lisp_policy.specs.Configuration.{Router, IsRouter, HasServers}
+use Rattle.lisp_refinement.proofs.Places.{all_at}
 use Rattle.lisp_world.proofs.new.router.Goals as goal
 
 pub down-requires-clause-servers : goal.down-requires-clause-servers

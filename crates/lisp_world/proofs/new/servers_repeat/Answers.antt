@@ -1,7 +1,7 @@
 use Rattle.std.proofs.Common.{ℕ, Bool, List, ap, sym, ◌∙◌}
 use Rattle.std.specs.List.{list_any}
 use Rattle.lisp_records.specs.Address.{addr_eq}
-use Rattle.lisp_served.specs.Configuration.{Server, Router}
+use Rattle.lisp_policy.specs.Configuration.{Server, Router}
 use Rattle.lisp_world.proofs.MakingChecks.{behind, passed_first, passed_second, meets_here, meets_later, joined_rest}
 use Rattle.lisp_world.proofs.new.servers_repeat.Goals as goal
 use Rattle.lisp_world.proofs.new.servers_repeat.Goals.{then-is_server_at-via-then-is_server_at, then-is_server_at-via-else-is_server_at+then-is_router_at}

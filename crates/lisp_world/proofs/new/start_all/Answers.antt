@@ -1,6 +1,6 @@
 use Rattle.std.proofs.Common.{◌+◌, ◌<◌, length, Err, arith, refl, sym, ap, subst}
 use borrow.Author.Rules.{scaled_Fits}
-use Rattle.lisp_turns.specs.World.{RouterNode}
+use Rattle.lisp_refinement.specs.World.{RouterNode}
 use Rattle.lisp_world.specs.Making.{HasStarted, IsUnstarted}
 use Rattle.lisp_world.proofs.MakingNodes.{started_to_none, next_was, started_more, all_started}
 use Rattle.lisp_world.proofs.new.start_all.Goals as goal

@@ -1,8 +1,8 @@
 use Rattle.std.proofs.Common.{ℕ, List, refl, sym, ap, ◌∙◌, length, [], ◌∷◌, ◌++◌}
 use Rattle.std.proofs.lemmas.List.{append-nil}
 use Rattle.lisp_records.specs.declared.address.Addr.{Addr}
-use Rattle.lisp_schedules.specs.declared.line.Line.TheVariants as lines
-use Rattle.lisp_turns.specs.World.{Posted}
+use Rattle.lisp_model.specs.declared.line.Line.TheVariants as lines
+use Rattle.lisp_refinement.specs.World.{Posted}
 use Rattle.lisp_world.proofs.notice.notice_line.Goals as goal
 
 pub returns-in-Ok : goal.returns-in-Ok

@@ -1,7 +1,7 @@
 use Rattle.std.proofs.Common.{List, length, refl, sym, ap, ◌∙◌, [], ◌∷◌, ◌++◌}
 use Rattle.std.proofs.lemmas.List.{append-nil}
-use Rattle.lisp_schedules.specs.declared.line.Line.TheVariants as lines
-use Rattle.lisp_turns.specs.World.{Posted}
+use Rattle.lisp_model.specs.declared.line.Line.TheVariants as lines
+use Rattle.lisp_refinement.specs.World.{Posted}
 use Rattle.lisp_world.proofs.send.send_line.Goals as goal
 
 pub returns-in-Some-Ok : goal.returns-in-Some-Ok

@@ -2,7 +2,7 @@ use Rattle.std.proofs.Common.{List, sym, ap, ◌∙◌, subst, ◌≡◌, true, 
 use Rattle.std.specs.List.{All}
 use Rattle.lisp_records.specs.Address.{IsBlock}
 use Rattle.lisp_records.specs.Row.{Holding}
-use Rattle.lisp_served.specs.Site.{is_configured}
+use Rattle.lisp_policy.specs.Site.{is_configured}
 use Rattle.lisp_lookup.specs.Table.{TableState, OneEach}
 use Rattle.lisp_lookup.specs.Answer.{NoneAnswers}
 use Rattle.lisp_lookup.specs.Index.{prefix_cmp, IsIndex}

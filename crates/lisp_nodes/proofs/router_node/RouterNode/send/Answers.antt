@@ -2,8 +2,8 @@ use Rattle.std.proofs.Common.{List, ℕ, ap, refl, sym, subst, ◌∙◌, Err}
 use Rattle.lisp_nonces.specs.Kept.{NoneBelow, kept_at}
 use Rattle.lisp_etr.specs.Config.{sent_pair}
 use Rattle.lisp_etr.specs.Etr.{EtrState}
-use Rattle.lisp_turns.specs.Calls.{SendsTo}
-use Rattle.lisp_turns.specs.Turns.{place_of}
+use Rattle.lisp_refinement.specs.Calls.{SendsTo}
+use Rattle.lisp_refinement.specs.Turns.{place_of}
 use Rattle.lisp_nodes.specs.Cores.{core_of}
 use Rattle.lisp_nodes.proofs.NodeCalls.{server_there, nonce_left, why_not_sent}
 use Rattle.lisp_nodes.proofs.router_node.RouterNode.send.Goals as goal

@@ -3,8 +3,8 @@ use Rattle.std.specs.Option.{unwrap_or}
 use Rattle.lisp_records.specs.Record.{Mapping}
 use Rattle.lisp_etr.specs.Config.{Settings}
 use Rattle.lisp_etr.specs.Etr.{EtrState}
-use Rattle.lisp_turns.specs.World.{Down}
-use Rattle.lisp_turns.specs.Calls.{Starts}
+use Rattle.lisp_refinement.specs.World.{Down}
+use Rattle.lisp_refinement.specs.Calls.{Starts}
 use Rattle.lisp_nodes.specs.Cores.{core_of}
 use Rattle.lisp_nodes.proofs.RouterCalls.{no_fault, same_fault}
 use Rattle.lisp_nodes.proofs.router_node.RouterNode.start.Goals as goal

@@ -2,7 +2,7 @@ use Rattle.std.proofs.Common.{refl, ap, ◌∙◌, subst, Ok, Err, is_ok, true�
 use Rattle.std.proofs.lemmas.Result.{IfOk-weaker, IfErr-weaker, IfErr-at_err, on_err_weaker}
 use Rattle.lisp_messages.specs.Meaning.{said}
 use Rattle.lisp_messages.specs.Spelling.{Spells}
-use Rattle.lisp_checks.specs.Refused.{refused_of_read}
+use Rattle.lisp_admission.specs.Refused.{refused_of_read}
 use Rattle.lisp_server.proofs.ReceivingLaws.{read_fails, notification_fits, takes_register, takes_notify, refuses_register, refuses_notify, same_state, same_notices, err_of, answer_ok, answer_err, answer_on_err, answer_at}
 use Rattle.lisp_server.specs.Server.{state_of}
 use Rattle.lisp_server.proofs.KnownLaws.{known_after}

@@ -1,6 +1,6 @@
 use Rattle.std.proofs.Common.{List, ap, ◌∙◌}
 use Rattle.std.specs.Prelude.{slice_get}
-use Rattle.lisp_turns.specs.World.{Posted, WorldState}
+use Rattle.lisp_refinement.specs.World.{Posted, WorldState}
 use Rattle.lisp_world.proofs.Arrivals.{element_read}
 use Rattle.lisp_world.proofs.world.World.datagram.Goals as goal
 

@@ -1,6 +1,6 @@
 use Rattle.std.proofs.Common.{◌≡◌, ◌<◌, length, refl, sym, ap, ◌∙◌, arith}
 use Rattle.std.specs.List.{length_refill}
-use Rattle.lisp_turns.specs.World.{Posted, WorldState}
+use Rattle.lisp_refinement.specs.World.{Posted, WorldState}
 use Rattle.lisp_world.proofs.Arrivals.{addressed_there, datagram_there, no_datagram_fault}
 use Rattle.lisp_world.proofs.Taking.{handed, lost}
 use Rattle.lisp_world.proofs.world.World.deliver.Goals as goal

@@ -1,6 +1,6 @@
 use Rattle.std.proofs.Common.{arith}
 use Rattle.std.proofs.lemmas.List.{length-set}
-use Rattle.lisp_turns.specs.World.{WorldState}
+use Rattle.lisp_refinement.specs.World.{WorldState}
 use Rattle.lisp_world.proofs.Noticing.{noticed, notice_headed}
 use Rattle.lisp_world.proofs.Taking.{no_pair_fault, notices_taken, router_there, server_there}
 use Rattle.lisp_world.proofs.Telling.{noticed_tells}

@@ -1,8 +1,8 @@
 use Rattle.std.proofs.Common.{Option, List, inl, inr, sym, subst, ◌∙◌}
 use Rattle.lisp_records.specs.Record.{Mapping}
-use Rattle.lisp_schedules.specs.Legal.{Fits}
-use Rattle.lisp_schedules.specs.Memory.{MayTell}
-use Rattle.lisp_turns.specs.Turns.{RestartsAt}
+use Rattle.lisp_model.specs.Legal.{Fits}
+use Rattle.lisp_model.specs.Memory.{MayTell}
+use Rattle.lisp_refinement.specs.Turns.{RestartsAt}
 use Rattle.lisp_world.proofs.Taking.{restarts_taken}
 use Rattle.lisp_world.proofs.world.World.restart.Goals as goal
 

@@ -1,10 +1,10 @@
 use Rattle.std.proofs.Common.{◌∙◌, ap, refl, inr, sym, arith, map, Result, Err}
 use Rattle.std.proofs.lemmas.List.{length-map}
-use Rattle.lisp_schedules.specs.Trace.{happening}
-use Rattle.lisp_schedules.specs.declared.line.Line.{Line}
-use Rattle.lisp_schedules.specs.declared.world_fault.WorldFault.{WorldFault}
+use Rattle.lisp_model.specs.Trace.{happening}
+use Rattle.lisp_model.specs.declared.line.Line.{Line}
+use Rattle.lisp_model.specs.declared.world_fault.WorldFault.{WorldFault}
 use Rattle.lisp_world.proofs.Running.{possible_of, event_there, runs_none, runs_all, runs_next, stops_here, why_refused, at_error, at_value}
-use Rattle.lisp_turns.proofs.Headlines.{networks_promise}
+use Rattle.lisp_refinement.proofs.Headlines.{networks_promise}
 use Rattle.lisp_world.proofs.world.World.run.Goals as goal
 
 pub loop-i-init : goal.loop-i-init

@@ -1,5 +1,5 @@
 use Rattle.std.specs.Prelude.{map, take}
-use Rattle.lisp_schedules.specs.Trace.{happening}
+use Rattle.lisp_model.specs.Trace.{happening}
 use Rattle.lisp_world.specs.Quiet.{AllCalm, stores_of}
 use Rattle.lisp_world.specs.Runs.{RunsOn}
 use Rattle.lisp_world.proofs.world.World.run.Given as goal

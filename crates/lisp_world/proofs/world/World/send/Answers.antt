@@ -1,6 +1,6 @@
 use Rattle.std.proofs.Common.{arith}
 use Rattle.std.proofs.lemmas.List.{length-set}
-use Rattle.lisp_turns.specs.World.{WorldState}
+use Rattle.lisp_refinement.specs.World.{WorldState}
 use Rattle.lisp_world.proofs.Sending.{sent, sent_headed}
 use Rattle.lisp_world.proofs.Taking.{no_pair_fault, router_there, sends_taken, server_there}
 use Rattle.lisp_world.proofs.Telling.{sent_tells}

@@ -1,4 +1,4 @@
-use Rattle.lisp_turns.proofs.Headlines.{networks_promise}
+use Rattle.lisp_refinement.proofs.Headlines.{networks_promise}
 use Rattle.lisp_world.proofs.Refusing.{took_stands, took_calm, has_fault, left, no_memory, tells_of}
 use Rattle.lisp_world.proofs.world.World.step.Goals as goal
 

@@ -2,7 +2,7 @@ use Rattle.std.proofs.Common.{◌+◌, ◌∙◌, Bool, Some, None, inl, refl, s
 use Rattle.std.specs.Prelude.{if◌then◌else◌}
 use Rattle.std.proofs.lemmas.Bool.{lt-ltb, le-ltb}
 use Rattle.lisp_records.specs.Moment.{max_moment}
-use Rattle.lisp_schedules.specs.declared.world_fault.WorldFault.TheVariants.{Clock}
+use Rattle.lisp_model.specs.declared.world_fault.WorldFault.TheVariants.{Clock}
 use Rattle.lisp_world.proofs.Loops.{rewritten}
 use Rattle.lisp_world.proofs.Taking.{ticks_taken}
 use Rattle.lisp_world.proofs.world.World.tick.Goals as goal

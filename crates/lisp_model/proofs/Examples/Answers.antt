@@ -1,0 +1,114 @@
+-- Who answers for an address: what is so, and what isn't.
+use Rattle.std.proofs.Common.{Bor, [], ap, arith, false, inl, inr, refl, subst, suc, sym, true, true≢false, zero, ℕ, ◌∙◌, ◌∷◌, ◌≡◌, ◌≢◌, ◌⊎◌}
+use Rattle.std.specs.List.{Contains}
+use Rattle.std.specs.declared.cmp.Ordering.TheVariants.{Equal, Greater, Less}
+use Rattle.lisp_records.specs.Address.{masked}
+use Rattle.lisp_records.specs.Record.{Mapping}
+use Rattle.lisp_records.specs.Row.{Holding}
+use Rattle.lisp_records.specs.declared.address.Addr.TheVariants.{V4}
+use Rattle.lisp_lookup.specs.Answer.{IsBest, may_answer, rank_cmp}
+use Rattle.lisp_lookup.specs.declared.answer.Answer.TheVariants.{Forward, NoSite, NotRegistered, Reply}
+use Rattle.lisp_model.specs.Answer.{IsAnswer}
+use Rattle.lisp_model.specs.Bag.{since}
+use Rattle.lisp_model.specs.Held.{rows}
+use Rattle.lisp_model.proofs.Examples.Samples.{local_at, mapping, one, opening, row_of, two, wide}
+use Rattle.lisp_model.proofs.Examples.Traces.{both_heard, one_taken, row_of_one, row_of_two}
+use Rattle.lisp_model.proofs.ListLemmas.{at_head, head_or_tail, in_none}
+
+-- who answers: no site has the address; a site has it, and nobody registered it
+empty_has : (h : Holding) → Contains [] h → ⊥
+empty_has h (k, lt, is) = absurd (omega arith)
+
+nobody_has_it : IsAnswer {A = Unit {0}} opening [] 0 (V4 (11 ∷ 0 ∷ 0 ∷ 1 ∷ [])) NoSite
+unfolding masked
+nobody_has_it = (λ h has. absurd (empty_has h has), refl)
+
+a_site_has_it : IsAnswer {A = Unit {0}} opening [] 0 (V4 (10 ∷ 1 ∷ 2 ∷ 3 ∷ [])) NotRegistered
+unfolding masked
+a_site_has_it = (λ h has. absurd (empty_has h has), refl)
+
+two_rows : rows (since opening both_heard 0) 0 ≡ row_of_one ∷ row_of_two ∷ []
+two_rows = refl
+
+among : (x : Holding) → Contains (row_of_one ∷ row_of_two ∷ []) x → (x ≡ row_of_one) ⊎ (x ≡ row_of_two)
+among x (zero, lt, is) = inl (sym is)
+among x (suc zero, lt, is) = inr (sym is)
+among x (suc (suc k), lt, is) = absurd (omega (arith, lt))
+
+-- its own router answers for an address of the longer prefix; for another one the server does, with the
+-- first router's record
+its_router_answers : IsAnswer {A = Unit {0}} opening both_heard 0 (V4 (10 ∷ 1 ∷ 2 ∷ 3 ∷ [])) (Forward (local_at 22))
+unfolding masked
+its_router_answers = (row_of_two, record { held = (1, omega arith, refl); may = refl; most = λ x has may. by (among x has) }, refl, refl)
+  where
+    by : {x : Holding} → (x ≡ row_of_one) ⊎ (x ≡ row_of_two) → rank_cmp x row_of_two ≢ Greater
+    by (inl is) = subst (λ (h : Holding). rank_cmp h row_of_two ≢ Greater) (sym is) (λ e. let clash : Less ≡ Greater = e in absurd cc)
+    by (inr is) = subst (λ (h : Holding). rank_cmp h row_of_two ≢ Greater) (sym is) (λ e. let clash : Equal ≡ Greater = e in absurd cc)
+
+the_server_answers : (answer : Bor Mapping) → answer.now ≡ mapping wide 1440 → IsAnswer {A = Unit {0}} opening both_heard 0 (V4 (10 ∷ 1 ∷ 3 ∷ 4 ∷ [])) (Reply answer)
+unfolding masked
+the_server_answers answer is = (row_of_one, record { held = (0, omega arith, refl); may = refl; most = λ x has may. by (among x has) may }, refl, is)
+  where
+    by : {x : Holding} → (x ≡ row_of_one) ⊎ (x ≡ row_of_two) → may_answer (V4 (10 ∷ 1 ∷ 3 ∷ 4 ∷ [])) 0 x ≡ true → rank_cmp x row_of_one ≢ Greater
+    by (inl is) may = subst (λ (h : Holding). rank_cmp h row_of_one ≢ Greater) (sym is) (λ e. let clash : Equal ≡ Greater = e in absurd cc)
+    by (inr is) may = absurd (let clash : false ≡ true = ap (may_answer (V4 (10 ∷ 1 ∷ 3 ∷ 4 ∷ [])) 0) (sym is) ∙ may in cc)
+
+-- the router asked for proxy replies: the server replies with its record
+the_row : (h : Holding) → Contains (rows (since opening one_taken 0) 0) h → h ≡ row_of (mapping wide 1440) 1 0
+the_row h has = at (head_or_tail (row_of (mapping wide 1440) 1 0) [] h has)
+  where
+    at : (h ≡ row_of (mapping wide 1440) 1 0) ⊎ Contains [] h → h ≡ row_of (mapping wide 1440) 1 0
+    at (inl e) = e
+    at (inr no_more) = absurd (in_none h no_more)
+
+equal_is_not_greater : Equal ≢ Greater
+equal_is_not_greater e = absurd cc
+
+replies : IsBest (rows (since opening one_taken 0) 0) (V4 (10 ∷ 1 ∷ 2 ∷ 3 ∷ [])) 0 (row_of (mapping wide 1440) 1 0)
+unfolding masked
+replies = record {
+  held = at_head (row_of (mapping wide 1440) 1 0) [];
+  may = refl;
+  most = λ other has may. subst (λ (h : Holding). rank_cmp h (row_of (mapping wide 1440) 1 0) ≢ Greater) (sym (the_row other has)) equal_is_not_greater;
+}
+
+answers_by_proxy : (record_of : Bor Mapping) → record_of.now ≡ mapping wide 1440 → IsAnswer {A = Unit {0}} opening one_taken 0 (V4 (10 ∷ 1 ∷ 2 ∷ 3 ∷ [])) (Reply record_of)
+answers_by_proxy record_of is = (row_of (mapping wide 1440) 1 0, replies, refl, is)
+
+-- what isn't so: a shorter prefix answers; another address than the best row's source; another record than the best row's; the
+-- wrong of the two where no row has the address
+shorter_answers : (r : Bor Mapping) → IsAnswer {A = Unit {0}} opening both_heard 0 (V4 (10 ∷ 1 ∷ 2 ∷ 3 ∷ [])) (Reply r) → ⊥
+unfolding masked
+shorter_answers r (h, best, proxy, is) = by (among h best.held)
+  where
+    by : (h ≡ row_of_one) ⊎ (h ≡ row_of_two) → ⊥
+    by (inl one) = best.most row_of_two (1, omega arith, refl) refl (subst (λ (x : Holding). rank_cmp row_of_two x ≡ Greater) (sym one) refl)
+    by (inr two) = true≢false (sym proxy ∙ ap (λ (x : Holding). x.proxy) two)
+
+forwards_elsewhere : IsAnswer {A = Unit {0}} opening both_heard 0 (V4 (10 ∷ 1 ∷ 2 ∷ 3 ∷ [])) (Forward (local_at 21)) → ⊥
+forwards_elsewhere (h, best, proxy, is) = by (among h best.held)
+  where
+    by : (h ≡ row_of_one) ⊎ (h ≡ row_of_two) → ⊥
+    by (inl one) = true≢false (sym (ap (λ (x : Holding). x.proxy) one) ∙ proxy)
+    by (inr two) = let from : local_at 21 ≡ local_at 22 = is ∙ ap (λ (x : Holding). x.from) two in let last : ◌≡◌ {A = ℕ} 21 22 = cc in absurd (omega (arith, last))
+
+replies_otherwise : (r : Bor Mapping) → r.now ≡ mapping wide 60 → IsAnswer {A = Unit {0}} opening one_taken 0 (V4 (10 ∷ 1 ∷ 2 ∷ 3 ∷ [])) (Reply r) → ⊥
+replies_otherwise r other (h, best, proxy, is) =
+    let same : mapping wide 60 ≡ mapping wide 1440 = sym other ∙ is ∙ ap (λ (x : Holding). x.mapping) (the_row h best.held) in
+    let ttl : ◌≡◌ {A = ℕ} 60 1440 = ap (λ (m : Mapping). m.ttl) same in
+    absurd (omega (arith, ttl))
+
+not_registered_without_site : IsAnswer {A = Unit {0}} opening [] 0 (V4 (11 ∷ 0 ∷ 0 ∷ 1 ∷ [])) NotRegistered → ⊥
+unfolding masked
+not_registered_without_site answers = true≢false (sym answers.1)
+
+no_site_though_one : IsAnswer {A = Unit {0}} opening [] 0 (V4 (10 ∷ 1 ∷ 2 ∷ 3 ∷ [])) NoSite → ⊥
+unfolding masked
+no_site_though_one answers = true≢false answers.1
+
+not_registered_though_held : IsAnswer {A = Unit {0}} opening one_taken 0 (V4 (10 ∷ 1 ∷ 2 ∷ 3 ∷ [])) NotRegistered → ⊥
+unfolding masked
+not_registered_though_held answers = true≢false (answers.0 (row_of (mapping wide 1440) 1 0) (at_head (row_of (mapping wide 1440) 1 0) []))
+
+forwards_though_proxy : IsAnswer {A = Unit {0}} opening one_taken 0 (V4 (10 ∷ 1 ∷ 2 ∷ 3 ∷ [])) (Forward (local_at 21)) → ⊥
+forwards_though_proxy (h, best, proxy, is) = true≢false (sym (ap (λ (x : Holding). x.proxy) (the_row h best.held)) ∙ proxy)

@@ -1,0 +1,320 @@
+-- Illegal traces, each of which breaks one promise: they are legal up to the steps that break it.
+use Rattle.std.proofs.Common.{Bool, List, None, Ok, Option, Some, [], ap, arith, false, inl, inr, refl, slice_index_or, subst, suc, sym, true, true≢false, zero, ℕ, ◌∙◌, ◌∷◌, ◌≡◌}
+use Rattle.std.specs.FinMap.{empty, insert}
+use Rattle.std.specs.List.{Contains, flat_map}
+use Rattle.std.specs.Option.{option_to_list}
+use Rattle.std.specs.Prelude.{Result, ◌++◌, ◌+◌, ◌-◌, ◌<◌, ◌^◌, ◌⊎◌}
+use Rattle.lisp_records.specs.Record.{Mapping}
+use Rattle.lisp_records.specs.Row.{Holding}
+use Rattle.lisp_records.specs.declared.router.RouterId.{RouterId}
+use Rattle.lisp_nonces.specs.Kept.{kept_at, number}
+use Rattle.lisp_nonces.specs.declared.fate.Fate.TheVariants as fates
+use Rattle.lisp_nonces.specs.declared.pair.Pair.{Pair}
+use Rattle.lisp_messages.specs.Message.{Registers, Registration, Said}
+use Rattle.lisp_messages.specs.Reading.{message_at}
+use Rattle.lisp_messages.specs.declared.fault.ReadFault.{ReadFault}
+use Rattle.lisp_etr.specs.Sending.{last_nonce}
+use Rattle.lisp_etr.specs.declared.notify_fault.NotifyFault.TheVariants as notify_faults
+use Rattle.lisp_etr.specs.declared.send_fault.SendFault.TheVariants as send_faults
+use Rattle.lisp_admission.specs.Nonces.{IsBelow}
+use Rattle.lisp_admission.specs.declared.refused.Refused.TheVariants as refuseds
+use Rattle.lisp_model.specs.Bag.{Item, bytes_of, register_item, since, taken, thrown}
+use Rattle.lisp_model.specs.Held.{Acceptance, held}
+use Rattle.lisp_model.specs.History.{Entry, message_of, record_in}
+use Rattle.lisp_model.specs.Must.{IsExcused, Must}
+use Rattle.lisp_model.specs.Promises.{AcceptedWasSent, CountedWasAccepted, DoneWasNoticed, HeldAgree, HeldWasSent, IsOf, LeavesOthers, NoncesRise, NoticeNoncesRise, NoticesDiffer, ReplaysAreTried}
+use Rattle.lisp_model.specs.Timers.{Notice}
+use Rattle.lisp_model.specs.Trace.{Opening, Step, address_at, router_at}
+use Rattle.lisp_model.specs.declared.event.Event.TheVariants as events
+use Rattle.lisp_model.specs.declared.line.Line.{Line}
+use Rattle.lisp_model.specs.declared.line.Line.TheVariants as lines
+use Rattle.lisp_model.specs.declared.refusal.Refusal.TheVariants as refusals
+use Rattle.lisp_model.proofs.Examples.Arrivals.{admitted, hears, registers_read}
+use Rattle.lisp_model.proofs.Examples.Samples.{answered, at, blank, counts, ends, got_from, heard_of, keeps, local_at, mapping, network, notices, one, opening, refuses, registers, replays, row_of, secret, sends, sent_by, step, takes, tells, two, wide}
+use Rattle.lisp_model.proofs.Examples.Traces.{both_heard, both_sent, first_entry, first_told, foreign, foreign_sent, newer_taken, one_sent, one_taken, registered_again, restarted, sent_twice, short, was_noticed}
+use Rattle.lisp_model.proofs.ItemLemmas.{item_authentic}
+use Rattle.lisp_model.proofs.KeptLemmas.{kept_at-empty, only_value, set_here}
+use Rattle.lisp_model.proofs.ListLemmas.{at_head, head_or_tail, in_none}
+use Rattle.lisp_model.proofs.MustLaws.{must}
+
+only_first : (e : Entry) → Contains (first_entry ∷ []) e → e ≡ first_entry
+only_first e has = at (head_or_tail first_entry [] e has)
+  where
+    at : (e ≡ first_entry) ⊎ Contains [] e → e ≡ first_entry
+    at (inl same) = same
+    at (inr none) = absurd (in_none e none)
+
+-- nonces rise: one is accepted twice over a restart; an older one after a newer one
+accepted_twice : NoncesRise opening (takes restarted 0 0 1 2 ∷ restarted) → ⊥
+accepted_twice rise = let less : 1 < 1 = (rise 0 (got_from one)).0 1 (at_head 1 []) in absurd (omega (arith, less))
+
+accepted_older : NoncesRise opening (takes newer_taken 0 0 1 3 ∷ newer_taken) → ⊥
+accepted_older rise = let less : 2 < 1 = (rise 0 (got_from one)).0 2 (at_head 2 []) in absurd (omega (arith, less))
+
+-- replays are told with nonces that were tried. None was: at all; at that Map-Server; since it was refused for another
+-- reason; of that router
+abbrev arrived : List Mapping → ℕ → Acceptance
+arrived records nonce = record { message = registers records nonce; from = local_at 21; moment = 0 }
+
+none_kept : (pair : Pair) (n : ℕ) → Contains (flat_map option_to_list (kept_at empty pair)) n → ⊥
+none_kept pair n has = in_none n (subst (λ (vs : List (Option ℕ)). Contains (flat_map option_to_list vs) n) (kept_at-empty pair) has)
+
+replay_of_none : ReplaysAreTried opening one_sent (replays one_sent 0 0 1) → ⊥
+replay_of_none are_tried = none_kept (got_from one) 1 (are_tried 0 1 refl (arrived (mapping wide 1440 ∷ []) 1) (at_head _ []))
+
+abbrev taken_by_other : List Step
+taken_by_other = takes both_sent 1 1 2 2 ∷ both_sent
+
+replay_of_anothers : ReplaysAreTried opening taken_by_other (replays taken_by_other 0 0 2) → ⊥
+replay_of_anothers are_tried = none_kept (got_from one) 2 (are_tried 0 2 refl (arrived (mapping wide 1440 ∷ []) 1) (at_head _ []))
+
+abbrev foreign_refused : List Step
+foreign_refused = refuses foreign_sent (events.Deliver 0 fates.Done) 0 (refusals.Receive (refuseds.NotAllowed 1)) ∷ foreign_sent
+
+replay_of_refused : ReplaysAreTried opening foreign_refused (replays foreign_refused 0 0 1) → ⊥
+replay_of_refused are_tried = none_kept (got_from one) 1 (are_tried 0 1 refl (arrived foreign 1) (at_head _ []))
+
+abbrev other_routers_taken : List Step
+other_routers_taken = step (events.Deliver 1 fates.Done) (lines.Accepted 0 two 1 1 (Some 2)) 0 (keeps blank (got_from two) 1) ∷ step (events.Send 3 0 fates.Done) (lines.Sent 3 0 1 1 1) 3 (keeps blank (sent_by two) 1) ∷ one_sent
+
+replay_of_other_routers : ReplaysAreTried opening other_routers_taken (replays other_routers_taken 0 0 1) → ⊥
+replay_of_other_routers are_tried = none_kept (got_from one) 1 (are_tried 0 1 refl (arrived (mapping wide 1440 ∷ []) 1) (at_head _ []))
+
+-- the nonces of notices rise: one is used again after a restart
+noticed_twice : NoticeNoncesRise (tells registered_again (2 ^ 63) 5 ∷ registered_again) → ⊥
+noticed_twice rise = let less : 2 ^ 63 < 2 ^ 63 = (rise 0).0 (2 ^ 63) (at_head (2 ^ 63) []) in absurd (omega (arith, less))
+
+-- no two standing notices have one nonce: the second router's has the first one's
+abbrev told_alike : List Step
+told_alike = step (events.Notice 0 3 fates.Done) (lines.Notice 0 3 1 (2 ^ 63) 5) 0 (at [] 0) ∷ tells both_heard (2 ^ 63) 4 ∷ both_heard
+
+alike : NoticesDiffer opening told_alike → ⊥
+alike differ = let datagram : ◌≡◌ {A = ℕ} 5 4 = ap (λ (n : Notice). n.datagram) (differ 0 _ _ (0, omega arith, refl) (1, omega arith, refl) refl) in absurd (omega (arith, datagram))
+
+-- other nodes stay: a node's restart is that of another one, a Map-Server or a router
+restarted_by_another : LeavesOthers opening one_taken (step (events.Restart 0 0 None) (lines.Restarted 0) 1 (at one_taken 1)) → ⊥
+restarted_by_another leaves = let clash : ◌≡◌ {A = List Acceptance} [] (arrived (mapping wide 1440 ∷ []) 1 ∷ []) = (leaves.server 0 refl (λ e. absurd (omega (arith, e)))).since in absurd cc
+
+router_restarted_by_another : LeavesOthers opening one_taken (step (events.Restart 2 0 None) (lines.Restarted 2) 3 (at one_taken 3)) → ⊥
+router_restarted_by_another leaves = let clash : ◌≡◌ {A = Option ℕ} None (Some 1) = (leaves.router 2 refl (λ e. absurd (omega (arith, e)))).last_sent in absurd cc
+
+-- what is accepted was sent: to another Map-Server; with other records; twice under one nonce
+abbrev taken_elsewhere : List Step
+taken_elsewhere = takes one_sent 0 1 1 1 ∷ one_sent
+
+accepted_elsewhere : AcceptedWasSent opening taken_elsewhere → ⊥
+accepted_elsewhere all =
+    let of = all 1 (arrived (mapping wide 1440 ∷ []) 1) (at_head (arrived (mapping wide 1440 ∷ []) 1) []) in
+    let whom : ◌≡◌ {A = ℕ} 0 1 = sym (ap (λ (e : Entry). e.server) (only_first of.0 of.1.sent)) ∙ of.1.whom in
+    absurd (omega (arith, whom))
+
+-- the first message, with another record, to a Map-Server
+abbrev forged : ℕ → ℕ → Item
+forged server nonce = record { from = local_at 21; to = address_at network server; secret = secret; message = Registers (registers short nonce) }
+
+forged_read : (server nonce : ℕ) → nonce < 2 ^ 64 → message_at (bytes_of (forged server nonce)) ≡ Ok (Registers (registers short nonce))
+forged_read server nonce small = registers_read (forged server nonce) 60 nonce refl (omega arith) small
+
+taken_of : (server nonce : ℕ) → nonce < 2 ^ 64 → taken (Some (thrown (local_at 21) (bytes_of (forged server nonce)))) 0 ≡ arrived short nonce ∷ []
+taken_of server nonce small = ap (λ (r : Result Said ReadFault). taken (Some (record { from = local_at 21; bytes = bytes_of (forged server nonce); read = r })) 0) (forged_read server nonce small)
+
+abbrev forged_taken : List Step
+forged_taken = step (events.Junk 0 (local_at 21) (bytes_of (forged 0 1))) (lines.Accepted 0 one 1 1 (Some 1)) 0 (keeps blank (got_from one) 1) ∷ one_sent
+
+abbrev ttl_of : List Mapping → ℕ
+ttl_of [] = 0
+ttl_of (m ∷ ms) = m.ttl
+
+other_records : (mapping wide 60 ∷ []) ≡ (mapping wide 1440 ∷ []) → ⊥
+other_records e = let ttl : ◌≡◌ {A = ℕ} 60 1440 = ap ttl_of e in absurd (omega (arith, ttl))
+
+accepted_forged : AcceptedWasSent opening forged_taken → ⊥
+accepted_forged all =
+    let of = all 0 (arrived short 1) (subst (λ (xs : List Acceptance). Contains (xs ++ []) (arrived short 1)) (sym (taken_of 0 1 (omega arith))) (at_head (arrived short 1) [])) in
+    other_records (ap (λ (m : Registration). m.records) (of.1.message ∙ ap (message_of network) (only_first of.0 of.1.sent)))
+
+abbrev sent_again_alike : List Step
+sent_again_alike = sends one_sent 1 1 1 ∷ one_sent
+
+abbrev second_alike : Entry
+second_alike = record { router = 2; key = 1; nonce = 1; server = 1; database = mapping wide 1440 ∷ []; position = 1 }
+
+nonce_sent_twice : AcceptedWasSent opening (takes sent_again_alike 0 0 1 2 ∷ sent_again_alike) → ⊥
+nonce_sent_twice all = by (all 0 (arrived (mapping wide 1440 ∷ []) 1) (at_head (arrived (mapping wide 1440 ∷ []) 1) []))
+  where
+    both : List Entry
+    both = second_alike ∷ first_entry ∷ []
+
+    servers : (f : Entry) → ((g : Entry) → Contains both g → g.router ≡ f.router → g.key ≡ f.key → g.nonce ≡ f.nonce → g ≡ f) → f.router ≡ 2 → f.key ≡ 1 → f.nonce ≡ 1 → ⊥
+    servers f only router key nonce =
+        let same : second_alike ≡ first_entry = only second_alike (0, omega arith, refl) (sym router) (sym key) (sym nonce) ∙ sym (only first_entry (1, omega arith, refl) (sym router) (sym key) (sym nonce)) in
+        let server : ◌≡◌ {A = ℕ} 1 0 = ap (λ (e : Entry). e.server) same in
+        absurd (omega (arith, server))
+
+    by : (e : Entry) × IsOf opening (takes sent_again_alike 0 0 1 2 ∷ sent_again_alike) 0 (arrived (mapping wide 1440 ∷ []) 1) e → ⊥
+    by (e, of) = at (head_or_tail second_alike (first_entry ∷ []) e of.sent)
+      where
+        at : (e ≡ second_alike) ⊎ Contains (first_entry ∷ []) e → ⊥
+        at (inl is) = servers e of.only (ap (λ (x : Entry). x.router) is) (ap (λ (x : Entry). x.key) is) (ap (λ (x : Entry). x.nonce) is)
+        at (inr later) =
+            let is = only_first e later in
+            servers e of.only (ap (λ (x : Entry). x.router) is) (ap (λ (x : Entry). x.key) is) (ap (λ (x : Entry). x.nonce) is)
+
+-- what is held was sent: to another Map-Server; with another record
+held_elsewhere : HeldWasSent opening taken_elsewhere → ⊥
+held_elsewhere all =
+    let of = all 1 one wide (row_of (mapping wide 1440) 1 0) refl in
+    let whom : ◌≡◌ {A = ℕ} 0 1 = sym (ap (λ (e : Entry). e.server) (only_first of.0 of.1)) ∙ of.2 in
+    absurd (omega (arith, whom))
+
+-- what a Map-Server holds that accepted one message
+abbrev held_of : List Acceptance → Option Holding
+held_of since = held since one wide 0
+
+held_forged : HeldWasSent opening forged_taken → ⊥
+held_forged all =
+    let of = all 0 one wide (row_of (mapping wide 60) 1 0) (ap (λ (xs : List Acceptance). held_of (xs ++ [])) (taken_of 0 1 (omega arith))) in
+    other_records (sym (ap option_to_list (sym (ap (λ (e : Entry). record_in e wide) (only_first of.0 of.1)) ∙ of.4)))
+
+-- two Map-Servers agree: one accepted another record than what was sent to it, with no change between
+abbrev unequal : List Step
+unequal = step (events.Junk 1 (local_at 21) (bytes_of (forged 1 2))) (lines.Accepted 1 one 1 2 (Some 3)) 1 (keeps blank (got_from one) 2) ∷ takes both_sent 0 0 1 2 ∷ both_sent
+
+abbrev second_entry : Entry
+second_entry = record { router = 2; key = 1; nonce = 2; server = 1; database = mapping wide 1440 ∷ []; position = 1 }
+
+held_unequal : HeldAgree opening unequal → ⊥
+held_unequal agree =
+    let same : mapping wide 1440 ≡ mapping wide 60 = agree 0 1 one wide (row_of (mapping wide 1440) 1 0) (row_of (mapping wide 60) 2 0) first_entry second_entry
+    refl (ap (λ (xs : List Acceptance). held_of (xs ++ [])) (taken_of 1 2 (omega arith))) (1, omega arith, refl) (0, omega arith, refl)
+    (record { router = refl; key = refl; nonce = refl }) (record { router = refl; key = refl; nonce = refl })
+    (record { router = refl; later = λ place s low high is. absurd (omega (arith, low, high)); earlier = λ place s low high is. absurd (omega (arith, low, high)) }) in
+    let ttl : ◌≡◌ {A = ℕ} 1440 60 = ap (λ (m : Mapping). m.ttl) same in
+    absurd (omega (arith, ttl))
+
+-- what is counted was accepted: by no Map-Server; by none, and a later one was; another message; by another Map-Server
+counted_unaccepted : CountedWasAccepted opening (counts one_sent 0 0 1 ∷ one_sent) → ⊥
+counted_unaccepted all = let was = all 2 0 1 1 (at_head (1, 1) []) in in_none was.acceptance was.taken
+
+-- the nonce of the one message that was accepted
+only_nonce : (a x : Acceptance) (m : Registration) (nonce : ℕ) → Contains (a ∷ []) x → x.message ≡ m → m.nonce ≡ nonce → a.message.nonce ≡ nonce
+only_nonce a x m nonce has is number = by (head_or_tail a [] x has)
+  where
+    by : (x ≡ a) ⊎ Contains [] x → a.message.nonce ≡ nonce
+    by (inl same) = sym (ap (λ (y : Acceptance). y.message.nonce) same) ∙ ap (λ (n : Registration). n.nonce) is ∙ number
+    by (inr none) = absurd (in_none x none)
+
+abbrev counted_early : List Step
+counted_early = counts one_sent 0 0 1 ∷ one_sent
+
+abbrev sent_anew : List Step
+sent_anew = sends counted_early 0 2 1 ∷ counted_early
+
+abbrev taken_anew : List Step
+taken_anew = takes sent_anew 1 0 2 2 ∷ sent_anew
+
+counted_early_unaccepted : CountedWasAccepted opening (counts taken_anew 2 0 2 ∷ taken_anew) → ⊥
+counted_early_unaccepted all =
+    let was = all 2 0 1 1 (1, omega arith, refl) in
+    let nonce : ◌≡◌ {A = ℕ} 2 1 = only_nonce (arrived (mapping wide 1440 ∷ []) 2) was.acceptance (message_of network was.entry) 1 was.taken was.message was.number in
+    absurd (omega (arith, nonce))
+
+counted_another : CountedWasAccepted opening (counts sent_twice 1 0 2 ∷ sent_twice) → ⊥
+counted_another all =
+    let was = all 2 0 1 2 (at_head (1, 2) []) in
+    let nonce : ◌≡◌ {A = ℕ} 1 2 = only_nonce (arrived (mapping wide 1440 ∷ []) 1) was.acceptance (message_of network was.entry) 2 was.taken was.message was.number in
+    absurd (omega (arith, nonce))
+
+counted_of_another_server : CountedWasAccepted opening (counts taken_by_other 2 0 2 ∷ taken_by_other) → ⊥
+counted_of_another_server all = let was = all 2 0 1 2 (at_head (1, 2) []) in in_none was.acceptance was.taken
+
+-- what is done was noticed: by nobody; with another nonce; from another Map-Server; by another router
+abbrev is_noticed : Line → Bool
+is_noticed (lines.Noticed _ _ _ _) = true
+is_noticed _ = false
+
+noticed : {node server nonce datagram : ℕ} (line : Line) → line ≡ lines.Noticed node server nonce datagram → is_noticed line ≡ true
+noticed line e = ap is_noticed e
+
+none_in : (t : Step) → Contains first_told t → is_noticed t.line ≡ false
+none_in t (zero, lt, is) = sym (ap (λ (x : Step). is_noticed x.line) is)
+none_in t (suc zero, lt, is) = sym (ap (λ (x : Step). is_noticed x.line) is)
+none_in t (suc (suc zero), lt, is) = sym (ap (λ (x : Step). is_noticed x.line) is)
+none_in t (suc (suc (suc k)), lt, is) = absurd (omega (arith, lt))
+
+done_unnoticed : DoneWasNoticed opening first_told (ends first_told 2 (2 ^ 63)) → ⊥
+done_unnoticed was = let its = was 0 (2 ^ 63) one refl in true≢false (sym (noticed its.0.line its.4) ∙ none_in its.0 its.3)
+
+abbrev noticed_once : List Step
+noticed_once = notices first_told 2 (2 ^ 63) 3 ∷ first_told
+
+-- where one was noticed, its line is the only one
+line_is : (t : Step) → Contains noticed_once t → is_noticed t.line ≡ true → t.line ≡ lines.Noticed 2 0 (2 ^ 63) 3
+line_is t has is = at (head_or_tail (notices first_told 2 (2 ^ 63) 3) first_told t has)
+  where
+    at : (t ≡ notices first_told 2 (2 ^ 63) 3) ⊎ Contains first_told t → t.line ≡ lines.Noticed 2 0 (2 ^ 63) 3
+    at (inl same) = ap (λ (x : Step). x.line) same
+    at (inr later) = absurd (true≢false (sym is ∙ none_in t later))
+
+done_with_another_nonce : DoneWasNoticed opening noticed_once (ends noticed_once 3 (2 ^ 63 + 1)) → ⊥
+done_with_another_nonce was =
+    let its = was 0 (2 ^ 63 + 1) one refl in
+    let both : lines.Noticed 2 0 (2 ^ 63) 3 ≡ lines.Noticed its.1 0 (2 ^ 63 + 1) its.2 = sym (line_is its.0 its.3 (noticed its.0.line its.4)) ∙ its.4 in
+    let nonce : ◌≡◌ {A = ℕ} (2 ^ 63) (2 ^ 63 + 1) = cc in
+    absurd (omega (arith, nonce))
+
+abbrev done_elsewhere : Step
+done_elsewhere = step (events.Deliver 3 fates.Done) (lines.Done 1 one (2 ^ 63)) 1 blank
+
+done_by_another_server : DoneWasNoticed opening noticed_once done_elsewhere → ⊥
+done_by_another_server was =
+    let its = was 1 (2 ^ 63) one refl in
+    let both : lines.Noticed 2 0 (2 ^ 63) 3 ≡ lines.Noticed its.1 1 (2 ^ 63) its.2 = sym (line_is its.0 its.3 (noticed its.0.line its.4)) ∙ its.4 in
+    let server : ◌≡◌ {A = ℕ} 0 1 = cc in
+    absurd (omega (arith, server))
+
+abbrev done_for_other : Step
+done_for_other = step (events.Deliver 3 fates.Done) (lines.Done 0 two (2 ^ 63)) 0 (at noticed_once 0)
+
+done_for_another_router : DoneWasNoticed opening noticed_once done_for_other → ⊥
+done_for_another_router was =
+    let its = was 0 (2 ^ 63) two refl in
+    let both : lines.Noticed 2 0 (2 ^ 63) 3 ≡ lines.Noticed its.1 0 (2 ^ 63) its.2 = sym (line_is its.0 its.3 (noticed its.0.line its.4)) ∙ its.4 in
+    let router : ◌≡◌ {A = ℕ} 2 its.1 = cc in
+    let last : ◌≡◌ {A = ℕ} 10 11 = ap (λ (r : RouterId). slice_index_or r.xtr 15 0) (ap (λ (n : ℕ). (router_at network n).me) router ∙ its.5) in
+    absurd (omega (arith, last))
+
+-- what must be done: a router says that its nonces are spent where one is left
+not_done : (false ≡ true) ⊎ ⊥ → ⊥
+not_done (inl e) = absurd cc
+not_done (inr never) = never
+
+abbrev one_left : Opening
+one_left = record { config = network; stores = blank ∷ blank ∷ keeps blank (sent_by one) (2 ^ 63 - 2) ∷ blank ∷ [] }
+
+not_sent : Must IsExcused one_left [] (step (events.Send 2 0 fates.Done) (lines.Refused 2 (refusals.Send send_faults.NonceSpent)) 2 (keeps blank (sent_by one) (2 ^ 63 - 2))) → ⊥
+not_sent must = not_done (must.send 2 0 fates.Done refl refl refl below)
+  where
+    below : (v : Option ℕ) → Contains (kept_at (insert empty (sent_by one) (Some (2 ^ 63 - 2) ∷ [])) (sent_by one)) v → number v < last_nonce
+    below v has = subst (λ (w : Option ℕ). number w < last_nonce) (sym (only_value (Some (2 ^ 63 - 2)) v (subst (λ (vs : List (Option ℕ)). Contains vs v) (set_here empty (sent_by one) (Some (2 ^ 63 - 2) ∷ [])) has))) (omega arith)
+
+-- a Map-Server calls the next nonce a replay, and the first one
+not_accepted : Must IsExcused opening sent_twice (replays sent_twice 2 0 1) → ⊥
+not_accepted must = not_done (must.accept _ (registers (mapping wide 1440 ∷ []) 2) refl refl (record { read = refl; secret = secret; checks = admitted (register_item opening one_taken 2 0 2) (mapping wide 1440 ∷ []) 2 refl refl }) (omega arith))
+
+first_not_accepted : Must IsExcused opening one_sent (replays one_sent 0 0 1) → ⊥
+first_not_accepted must = not_done (must.accept _ (registers (mapping wide 1440 ∷ []) 1) refl refl (record { read = refl; secret = secret; checks = admitted (register_item opening [] 2 0 1) (mapping wide 1440 ∷ []) 1 refl refl }) below)
+  where
+    below : (v : Option ℕ) → Contains (kept_at empty (got_from one)) v → IsBelow v 1
+    below v has = subst (λ (w : Option ℕ). IsBelow w 1) (sym (only_value None v (subst (λ (vs : List (Option ℕ)). Contains vs v) (kept_at-empty (got_from one)) has))) tt
+
+-- it knows no notice, though one waits
+not_ended : Must IsExcused opening was_noticed (refuses was_noticed (events.Deliver 4 fates.Done) 0 (refusals.Receive refuseds.NoNotice)) → ⊥
+not_ended must = not_done (must.done _ _ _ refl refl refl refl refl (item_authentic (answered (2 ^ 63) (mapping wide 1440 ∷ []))))
+
+-- a router calls the reply to its last Map-Register stale, and a notice
+not_counted : Must IsExcused opening one_taken (refuses one_taken (events.Deliver 1 fates.Done) 2 (refusals.Notify (notify_faults.Stale 1))) → ⊥
+not_counted must = not_done (must.counted _ (heard_of 0 1 (mapping wide 1440 ∷ [])) refl refl refl (hears (local_at 11) (local_at 21) 1 (mapping wide 1440 ∷ []) 0 refl one_taken) (omega arith) refl)
+
+not_noticed_yet : Must IsExcused opening first_told (refuses first_told (events.Deliver 2 fates.Done) 2 (refusals.Notify (notify_faults.Stale 1))) → ⊥
+not_noticed_yet must = not_done (must.noticed _ (heard_of 0 (2 ^ 63) (mapping wide 1440 ∷ [])) refl refl refl (hears (local_at 11) (local_at 21) (2 ^ 63) (mapping wide 1440 ∷ []) 0 refl first_told) (omega arith))

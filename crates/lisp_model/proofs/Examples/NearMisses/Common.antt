@@ -1,0 +1,52 @@
+-- What the near misses have in common.
+use Rattle.std.proofs.Common.{List, None, Ok, Option, Some, [], false, subst, true, ℕ, ◌∷◌, ◌≡◌}
+use Rattle.std.specs.FinMap.{insert}
+use Rattle.std.specs.List.{Contains}
+use Rattle.std.specs.Prelude.{Err, Result, ◌-◌, ◌^◌}
+use Rattle.lisp_records.specs.Database.{database_of, repeats as repeats_in}
+use Rattle.lisp_records.specs.Record.{Mapping}
+use Rattle.lisp_records.specs.declared.database.DatabaseFault.{DatabaseFault}
+use Rattle.lisp_records.specs.declared.database.DatabaseFault.TheVariants.{RepeatedPrefix}
+use Rattle.lisp_nonces.specs.Kept.{Kept, kept_at}
+use Rattle.lisp_nonces.specs.declared.pair.Pair.{Pair}
+use Rattle.lisp_messages.specs.Message.{Registration}
+use Rattle.lisp_admission.specs.Pairs.{notice_pair}
+use Rattle.lisp_admission.specs.declared.refused.Refused.{Refused}
+use Rattle.lisp_model.specs.Bag.{Item, register_item}
+use Rattle.lisp_model.specs.Trace.{Opening}
+use Rattle.lisp_model.proofs.Examples.Arrivals.{fits}
+use Rattle.lisp_model.proofs.Examples.Samples.{blank, keeps, mapping, network, one, opening, registers, sent_by, wide}
+use Rattle.lisp_model.proofs.KeptLemmas.{only_value, set_here}
+
+-- the one value that was set, and none before
+pub only_set_of : (pair : Pair) (kept : Kept) (base v : Option ℕ) → Contains (kept_at (insert kept pair (v ∷ [])) pair) base → base ≡ v
+only_set_of pair kept base v has = only_value v base (subst (λ (vs : List (Option ℕ)). Contains vs base) (set_here kept pair (v ∷ [])) has)
+
+pub nothing_is_no_number : {n : ℕ} → ◌≡◌ {A = List (Option ℕ)} (None ∷ []) (Some n ∷ []) → ⊥
+nothing_is_no_number e = absurd cc
+
+pub ok_is_no_refusal : {key : List ℕ} {why : Refused} → ◌≡◌ {A = Result (List ℕ) Refused} (Err why) (Ok key) → ⊥
+ok_is_no_refusal e = absurd cc
+
+-- what can't be so
+pub never : false ≡ true → ⊥
+never e = absurd cc
+
+-- the first router's first Map-Register, as a message and as a datagram
+abbrev pub first : Registration
+first = registers (mapping wide 1440 ∷ []) 1
+
+abbrev pub first_item : Item
+first_item = register_item opening [] 2 0 1
+
+-- stores of which two keep the last nonce that there is
+abbrev pub spent : Opening
+spent = record { config = network; stores = keeps blank notice_pair (2 ^ 64 - 1) ∷ blank ∷ keeps blank (sent_by one) (2 ^ 63 - 1) ∷ blank ∷ [] }
+
+-- records that are no database: two of one EID-Prefix
+abbrev pub repeated : List Mapping
+repeated = mapping wide 60 ∷ mapping wide 30 ∷ []
+
+pub no_database : database_of repeated ≡ Ok repeated → ⊥
+unfolding repeats_in
+no_database fits = let clash : ◌≡◌ {A = Result (List Mapping) DatabaseFault} (Err RepeatedPrefix) (Ok repeated) = fits in absurd cc

@@ -1,0 +1,62 @@
+-- Illegal steps of a router at which a message arrives.
+use Rattle.std.proofs.Common.{Ok, [], ap, arith, inl, inr, refl, subst, ℕ, ◌∙◌, ◌∷◌, ◌≡◌}
+use Rattle.std.specs.Prelude.{◌^◌, ◌⊎◌}
+use Rattle.lisp_messages.specs.Reading.{HasHead, HasRecords}
+use Rattle.lisp_messages.specs.declared.fault.ReadFault.TheVariants as reads
+use Rattle.lisp_etr.specs.Hearing.{checked}
+use Rattle.lisp_etr.specs.declared.notify_fault.NotifyFault.TheVariants as notify_faults
+use Rattle.lisp_model.specs.Bag.{Item, arrival_of, thrown}
+use Rattle.lisp_model.specs.Counted.{heard}
+use Rattle.lisp_model.specs.Hearing.{IsToAnswer, line_of}
+use Rattle.lisp_model.specs.Legal.{Legal, turn_of}
+use Rattle.lisp_model.specs.declared.event.Event.TheVariants as events
+use Rattle.lisp_model.specs.declared.line.Line.{Line}
+use Rattle.lisp_model.specs.declared.line.Line.TheVariants as lines
+use Rattle.lisp_model.specs.declared.refusal.Refusal.TheVariants as refusals
+use Rattle.lisp_model.proofs.Examples.Arrivals.{hears, short_heard}
+use Rattle.lisp_model.proofs.Examples.Samples.{counts, heard_of, local_at, mapping, notices, opening, refuses, told, wide}
+use Rattle.lisp_model.proofs.Examples.Traces.{one_taken, sent_twice, told_again}
+use Rattle.lisp_model.proofs.HeardLines.{comes_to}
+
+-- a Map-Notify counts as another server's
+counted_from_other : Legal opening one_taken (counts one_taken 1 1 1) → ⊥
+counted_from_other l =
+    let item : told (local_at 11) (local_at 21) 1 (mapping wide 1440 ∷ []) ≡ l.row.item = cc in
+    by (comes_to _ (arrival_of l.row.item) (heard_of 0 1 (mapping wide 1440 ∷ [])) (subst (λ (i : Item). heard opening one_taken 2 (arrival_of i) ≡ Ok (heard_of 0 1 (mapping wide 1440 ∷ []))) item (hears (local_at 11) (local_at 21) 1 (mapping wide 1440 ∷ []) 0 refl one_taken)) _ l.row.arrives)
+  where
+    by : (lines.Counted 2 1 1 1 ≡ lines.Counted 2 0 1 1) ⊎ (lines.Counted 2 1 1 1 ≡ lines.Refused 2 (refusals.Notify notify_faults.OutOfMemory)) → ⊥
+    by (inl is) = let server : ◌≡◌ {A = ℕ} 1 0 = cc in absurd (omega (arith, server))
+    by (inr is) = absurd cc
+
+-- a Map-Notify for an older Map-Register counts
+counted_stale : Legal opening sent_twice (counts sent_twice 1 0 1) → ⊥
+counted_stale l =
+    let item : told (local_at 11) (local_at 21) 1 (mapping wide 1440 ∷ []) ≡ l.row.item = cc in
+    by (comes_to _ (arrival_of l.row.item) (heard_of 0 1 (mapping wide 1440 ∷ [])) (subst (λ (i : Item). heard opening sent_twice 2 (arrival_of i) ≡ Ok (heard_of 0 1 (mapping wide 1440 ∷ []))) item (hears (local_at 11) (local_at 21) 1 (mapping wide 1440 ∷ []) 0 refl sent_twice)) _ l.row.arrives)
+  where
+    by : (lines.Counted 2 0 1 1 ≡ lines.Refused 2 (refusals.Notify (notify_faults.Stale 2))) ⊎ (lines.Counted 2 0 1 1 ≡ lines.Refused 2 (refusals.Notify notify_faults.OutOfMemory)) → ⊥
+    by (inl is) = absurd cc
+    by (inr is) = absurd cc
+
+-- a router's answer to a notice stands elsewhere than at the end of the bag
+noticed_elsewhere : Legal opening told_again (notices told_again 3 (2 ^ 63) 5) → ⊥
+noticed_elsewhere l =
+    let item : told (local_at 11) (local_at 21) (2 ^ 63) (mapping wide 1440 ∷ []) ≡ l.row.item = cc in
+    by (comes_to _ (arrival_of l.row.item) (heard_of 0 (2 ^ 63) (mapping wide 1440 ∷ [])) (subst (λ (i : Item). heard opening told_again 2 (arrival_of i) ≡ Ok (heard_of 0 (2 ^ 63) (mapping wide 1440 ∷ []))) item (hears (local_at 11) (local_at 21) (2 ^ 63) (mapping wide 1440 ∷ []) 0 refl told_again)) _ l.row.arrives)
+  where
+    by : (lines.Noticed 2 0 (2 ^ 63) 5 ≡ lines.Noticed 2 0 (2 ^ 63) 4) ⊎ (lines.Noticed 2 0 (2 ^ 63) 5 ≡ lines.Refused 2 (refusals.Notify notify_faults.OutOfMemory)) → ⊥
+    by (inl is) = let place : ◌≡◌ {A = ℕ} 5 4 = cc in absurd (omega (arith, place))
+    by (inr is) = absurd cc
+
+-- no bytes are refused by a router for their tag
+refused_otherwise : Legal opening [] (refuses [] (events.Junk 2 (local_at 11) []) 2 (refusals.Notify notify_faults.BadAuth)) → ⊥
+unfolding checked
+refused_otherwise l = by l.row.arrives.comes
+  where
+    line : Line
+    line = lines.Refused 2 (refusals.Notify notify_faults.BadAuth)
+
+    by : (lines.Refused 2 (refusals.Notify notify_faults.BadAuth) ≡ line_of (turn_of opening [] (refuses [] (events.Junk 2 (local_at 11) []) 2 (refusals.Notify notify_faults.BadAuth))) (heard opening [] 2 (thrown (local_at 11) [])))
+        ⊎ (HasHead [] × (HasRecords [] ⊎ IsToAnswer (turn_of opening [] (refuses [] (events.Junk 2 (local_at 11) []) 2 (refusals.Notify notify_faults.BadAuth))) (thrown (local_at 11) [])) × (lines.Refused 2 (refusals.Notify notify_faults.BadAuth) ≡ lines.Refused 2 (refusals.Notify notify_faults.OutOfMemory))) → ⊥
+    by (inl is) = let clash : lines.Refused 2 (refusals.Notify notify_faults.BadAuth) ≡ lines.Refused 2 (refusals.Notify (notify_faults.Read reads.Short)) = is ∙ ap (line_of (turn_of opening [] (refuses [] (events.Junk 2 (local_at 11) []) 2 (refusals.Notify notify_faults.BadAuth)))) short_heard in absurd cc
+    by (inr memory) = let clash : lines.Refused 2 (refusals.Notify notify_faults.BadAuth) ≡ lines.Refused 2 (refusals.Notify notify_faults.OutOfMemory) = memory.2 in absurd cc

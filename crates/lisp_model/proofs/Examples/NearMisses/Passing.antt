@@ -1,0 +1,70 @@
+-- Illegal steps in which time passes, a node starts again, a router is down, or a datagram gets nowhere.
+use Rattle.std.proofs.Common.{None, Option, Some, [], ap, arith, false, inl, inr, true, ℕ, ◌∙◌, ◌≡◌}
+use Rattle.std.specs.Prelude.{◌+◌, ◌-◌, ◌<◌, ◌^◌, ◌≤◌, ◌⊎◌}
+use Rattle.lisp_records.specs.Moment.{max_moment}
+use Rattle.lisp_nonces.specs.Kept.{number}
+use Rattle.lisp_nonces.specs.declared.fate.Fate.TheVariants as fates
+use Rattle.lisp_nonces.specs.declared.fault.StoreFault.TheVariants as stores
+use Rattle.lisp_etr.specs.declared.start_fault.StartFault.TheVariants as start_faults
+use Rattle.lisp_model.specs.Bag.{Item}
+use Rattle.lisp_model.specs.Legal.{Legal}
+use Rattle.lisp_model.specs.Trace.{node_at}
+use Rattle.lisp_model.specs.declared.event.Event.TheVariants as events
+use Rattle.lisp_model.specs.declared.line.Line.TheVariants as lines
+use Rattle.lisp_model.specs.declared.refusal.Refusal.TheVariants as refusals
+use Rattle.lisp_model.proofs.Examples.NearMisses.Common.{first_item, never, no_database, repeated}
+use Rattle.lisp_model.proofs.Examples.Samples.{at, blank, local_at, network, opening, step, ticks}
+use Rattle.lisp_model.proofs.Examples.Traces.{answered_elsewhere, not_started, one_sent, short}
+
+-- the clock goes its own way
+wrong_clock : Legal opening [] (ticks [] 1000 2000) → ⊥
+wrong_clock l = let is : ◌≡◌ {A = ℕ} 2000 1000 = l.row.clock in absurd (omega (arith, is))
+
+-- the line says another time than the event
+ticked_by_another_time : Legal opening [] (step (events.Tick 1000) (lines.Ticked 2000 1000) 4 (at [] 4)) → ⊥
+ticked_by_another_time l = let passed : ◌≡◌ {A = ℕ} 2000 1000 = l.row.names in absurd (omega (arith, passed))
+
+-- the clock goes past its end
+past_the_end : Legal opening [] (ticks [] (max_moment + 1) (max_moment + 1)) → ⊥
+past_the_end l = let bound : max_moment + 1 ≤ max_moment = l.row.bound in absurd (omega (arith, bound))
+
+-- a router starts with records that are no database
+started_with_no_database : Legal opening [] (step (events.Restart 2 0 (Some repeated)) (lines.Restarted 2) 2 blank) → ⊥
+started_with_no_database l = no_database l.row.fits
+
+-- a Map-Server starts with a database
+server_started_with_database : Legal opening [] (step (events.Restart 0 0 (Some short)) (lines.Restarted 0) 0 blank) → ⊥
+server_started_with_database l = by l.row.kind
+  where
+    by : ((true ≡ true) × (Some short ≡ None)) ⊎ (false ≡ true) → ⊥
+    by (inl server) = let clash : Some short ≡ None = server.1 in absurd cc
+    by (inr router) = never router
+
+-- a router's start fails by its store, though the device didn't fail
+not_started_unfailed : Legal opening one_sent (step (events.Restart 2 0 None) (lines.Refused 2 (refusals.Start (start_faults.Store stores.Device))) 2 (at one_sent 2)) → ⊥
+not_started_unfailed l = never (l.row.cause (λ e. let clash : stores.Device ≡ stores.OutOfMemory = e in absurd cc))
+  where
+    never : (0 < 0) ⊎ (◌≡◌ {A = ℕ} 0 (2 ^ 64 - 1)) → ⊥
+    never (inl less) = absurd (omega (arith, less))
+    never (inr same) = absurd (omega (arith, same))
+
+-- another router than the one that is down says so: at a change, at a send, where a datagram arrives
+another_is_down : Legal opening not_started (step (events.Change 2 []) (lines.Down 3) 2 (at not_started 2)) → ⊥
+another_is_down l = let named : ◌≡◌ {A = ℕ} 3 2 = l.row.names in absurd (omega (arith, named))
+
+another_is_down_at_a_send : Legal opening not_started (step (events.Send 2 0 fates.Done) (lines.Down 3) 2 (at not_started 2)) → ⊥
+another_is_down_at_a_send l = let named : ◌≡◌ {A = ℕ} 3 2 = l.row.1.names in absurd (omega (arith, named))
+
+another_is_down_at_an_arrival : Legal opening not_started (step (events.Junk 2 (local_at 11) []) (lines.Down 3) 2 (at not_started 2)) → ⊥
+another_is_down_at_an_arrival l = let acts : ◌≡◌ {A = ℕ} 2 3 = l.row.arrives.acts.acts in absurd (omega (arith, acts))
+
+-- a datagram is called lost, though a node has its address
+nowhere_though_there : Legal opening one_sent (step (events.Deliver 0 fates.Done) (lines.Nowhere 0) 4 (at [] 4)) → ⊥
+nowhere_though_there l =
+    let item : first_item ≡ l.row.item = cc in
+    let nobody : ◌≡◌ {A = Option ℕ} (Some 0) None = ap (λ (i : Item). node_at network i.to) item ∙ l.row.nobody in
+    absurd cc
+
+-- the line names another datagram than the event
+another_datagram_nowhere : Legal opening answered_elsewhere (step (events.Deliver 1 fates.Done) (lines.Nowhere 0) 4 (at [] 4)) → ⊥
+another_datagram_nowhere l = let number : ◌≡◌ {A = ℕ} 0 1 = l.row.names in absurd (omega (arith, number))

@@ -1,0 +1,296 @@
+-- Legal steps of the small network.
+use Rattle.std.proofs.Common.{Bool, List, None, Ok, Option, Some, [], ap, arith, false, inl, inr, length, refl, subst, sym, true, true≢false, ℕ, ◌+◌, ◌∙◌, ◌∷◌, ◌≡◌, ◌≤◌}
+use Rattle.std.specs.List.{Contains}
+use Rattle.std.specs.Prelude.{nat_le, slice_get, ◌<◌, ◌^◌, ◌≢◌, ◌⊎◌}
+use Rattle.std.proofs.lemmas.Bool.{le-leb, leb-true}
+use Rattle.lisp_records.specs.Database.{database_of, repeats as repeats_in}
+use Rattle.lisp_records.specs.Moment.{max_moment}
+use Rattle.lisp_records.specs.Record.{Mapping}
+use Rattle.lisp_records.specs.Written.{written}
+use Rattle.lisp_records.specs.declared.address.Addr.{Addr}
+use Rattle.lisp_nonces.specs.Kept.{kept_at, number}
+use Rattle.lisp_nonces.specs.declared.fate.Fate.TheVariants as fates
+use Rattle.lisp_nonces.specs.declared.fault.StoreFault.TheVariants as stores
+use Rattle.lisp_nonces.specs.declared.pair.Pair.{Pair}
+use Rattle.lisp_messages.specs.Authentic.{is_authentic}
+use Rattle.lisp_messages.specs.Message.{AreRecords, Registers, Said}
+use Rattle.lisp_etr.specs.Hearing.{first_notice, is_latest}
+use Rattle.lisp_etr.specs.Sending.{block_end, last_nonce}
+use Rattle.lisp_admission.specs.Checks.{first_not_allowed}
+use Rattle.lisp_admission.specs.Nonces.{IsBelow, nonce_after}
+use Rattle.lisp_admission.specs.Pairs.{notice_pair}
+use Rattle.lisp_admission.specs.declared.refused.Refused.TheVariants as refuseds
+use Rattle.lisp_model.specs.Bag.{Item, arrival_of, bag, bytes_of, since}
+use Rattle.lisp_model.specs.Counted.{heard, latest, server_from}
+use Rattle.lisp_model.specs.Held.{Acceptance, heard_last, held, last_of, records_of}
+use Rattle.lisp_model.specs.Legal.{Legal, turn_of}
+use Rattle.lisp_model.specs.Receiving.{FailsCheck, awaiting}
+use Rattle.lisp_model.specs.Sending.{CountsFrom}
+use Rattle.lisp_model.specs.Timers.{Notice, due, is_due, last_notice, notice_to}
+use Rattle.lisp_model.specs.Trace.{Step, clock, database, is_listed, is_router, is_server, is_up, node_at}
+use Rattle.lisp_model.specs.Turn.{IsBase, SaveFails, Saves}
+use Rattle.lisp_model.specs.declared.event.Event.TheVariants as events
+use Rattle.lisp_model.specs.declared.refusal.Refusal.TheVariants as refusals
+use Rattle.lisp_model.proofs.Examples.Arrivals.{admitted, fits, hears}
+use Rattle.lisp_model.proofs.Examples.Samples.{answered, at, changes, counts, doubts_send, doubts_take, ends, fails_load, got_from, local_at, mapping, network, notices, one, opening, refuses, registers, repeats, replays, restarts, restarts_to, secret, sends, sent_by, site, takes, tells, ticks, told, wide}
+use Rattle.lisp_model.proofs.ItemLemmas.{is_not_allowed, item_authentic}
+use Rattle.lisp_model.proofs.KeptLemmas.{IsFull, narrows, set_here, set_others, stays}
+use Rattle.lisp_model.proofs.TurnLemmas.{in_doubt, saved}
+
+-- a router that saves each nonce by itself
+block_of_one : (nonce : ℕ) → nonce ≤ last_nonce → block_end nonce 1 ≡ nonce
+block_of_one nonce low = omega (arith, low)
+
+pub sends_legal : (T : List Step) (server nonce datagram : ℕ) (base : Option ℕ) → is_up T 2 ≡ true → is_server network server ≡ true → is_listed network 2 server ≡ true → CountsFrom opening T 2 base → nonce ≡ number base + 1 → nonce < 2 ^ 63
+    → AreRecords (database opening T 2) → datagram ≡ length (bag opening T) → Legal opening T (sends T server nonce datagram)
+sends_legal T server nonce datagram base up kind listed counts next low records place = record {
+  faults = omega arith;
+  obedient = refl;
+  row = (
+    refl,
+    refl,
+    record {
+      acts = record { kind = refl; acts = refl; state = up };
+      kind = kind;
+      listed = listed;
+      under = refl;
+      base = base;
+      counts = counts;
+      next = next;
+      within = omega (arith, low);
+      message = fits (database opening T 2) nonce (omega (arith, low)) records;
+      place = place;
+      saves = subst (Saves _ (sent_by one) nonce) (sym (block_of_one nonce (omega (arith, low)))) (saved _ (sent_by one) nonce (λ obeys clash. absurd cc) refl);
+    },
+  );
+}
+
+pub takes_legal : (T : List Step) (k server nonce datagram : ℕ) (i : Item) (db : List Mapping) (base : Option ℕ) → slice_get (bag opening T) k ≡ Some i → node_at network i.to ≡ Some server → is_server network server ≡ true
+    → i.message ≡ Registers (registers db nonce) → i.secret ≡ secret → first_not_allowed site db ≡ None
+    → IsBase (last_of (got_from one) (since opening T server)) (kept_at (at T server).kept (got_from one)) base → IsBelow base nonce → datagram ≡ length (bag opening T) → Legal opening T (takes T k server nonce datagram)
+takes_legal T k server nonce datagram i db base sent there kind says key allowed counts below place = record {
+  faults = omega arith;
+  obedient = refl;
+  row = record {
+    item = i;
+    sent = sent;
+    there = there;
+    arrives = record {
+      acts = record { kind = kind; acts = refl };
+      message = registers db nonce;
+      admits = record { read = ap Ok says; secret = secret; checks = admitted i db nonce key allowed };
+      who = refl;
+      under = refl;
+      number = refl;
+      fresh = record { base = base; counts = counts; above = below; loads = λ none obeys clash. absurd cc };
+      may = λ obeys clash. absurd cc;
+      kept = set_here (at T server).kept (got_from one) (Some nonce ∷ []);
+      others = set_others (at T server).kept (got_from one) (Some nonce ∷ []);
+      reply = ap Some place;
+    };
+  };
+}
+
+pub replays_legal : (T : List Step) (k server nonce saved : ℕ) (i : Item) (db : List Mapping) → slice_get (bag opening T) k ≡ Some i → node_at network i.to ≡ Some server → is_server network server ≡ true
+    → i.message ≡ Registers (registers db nonce) → i.secret ≡ secret → first_not_allowed site db ≡ None
+    → IsBase (last_of (got_from one) (since opening T server)) (kept_at (at T server).kept (got_from one)) (Some saved) → nonce ≤ saved → Legal opening T (replays T k server saved)
+replays_legal T k server nonce saved i db sent there kind says key allowed counts stale = record {
+  faults = omega arith;
+  obedient = refl;
+  row = record {
+    item = i;
+    sent = sent;
+    there = there;
+    arrives = (
+      record { kind = kind; acts = refl },
+      record {
+        message = registers db nonce;
+        admits = record { read = ap Ok says; secret = secret; checks = admitted i db nonce key allowed };
+        counts = counts;
+        loads = λ none obeys clash. absurd cc;
+        stale = stale;
+        same = refl;
+      },
+    );
+  };
+}
+
+-- a number below another isn't above it
+pub not_above : (m n : ℕ) → n < m → nat_le m n ≡ false
+not_above m n low = at (nat_le m n) refl
+  where
+    at : (b : Bool) → nat_le m n ≡ b → nat_le m n ≡ false
+    at false is = is
+    at true is = let above = leb-true m n is in absurd (omega (arith, low, above))
+
+pub counts_legal : (T : List Step) (k server nonce : ℕ) (from : Addr) (records : List Mapping) → is_up T 2 ≡ true → slice_get (bag opening T) k ≡ Some (told from (local_at 21) nonce records)
+    → server_from network 2 from ≡ Some server → nonce < first_notice → is_latest nonce (latest T 2 server) ≡ true → Legal opening T (counts T k server nonce)
+counts_legal T k server nonce from records up sent is low last = record {
+  faults = omega arith;
+  obedient = refl;
+  row = record {
+    item = told from (local_at 21) nonce records;
+    sent = sent;
+    there = refl;
+    arrives = record { acts = record { kind = refl; acts = refl; state = up }; same = refl; comes = inl (rw (hears from (local_at 21) nonce records server is T, not_above first_notice nonce low, last) refl) };
+  };
+}
+
+pub changes_legal : (T : List Step) (db : List Mapping) → database_of db ≡ Ok db → is_up T 2 ≡ true → Legal opening T (changes T db)
+changes_legal T db fits up = record { faults = omega arith; obedient = refl; row = record { acts = record { kind = refl; acts = refl; state = up }; names = refl; fits = fits; count = refl; same = refl } }
+
+pub ticks_legal : (T : List Step) (ms now : ℕ) → now ≡ clock T + ms → now ≤ max_moment → Legal opening T (ticks T ms now)
+ticks_legal T ms now is low = record { faults = omega arith; obedient = refl; row = record { names = refl; clock = is; bound = low; idle = record { server = refl; router = refl; same = refl } } }
+
+pub doubts_send_legal : (T : List Step) (server : ℕ) (base : Option ℕ) → is_up T 2 ≡ true → is_server network server ≡ true → is_listed network 2 server ≡ true → CountsFrom opening T 2 base → number base < last_nonce → (at T 2).is_obedient ≡ false
+    → Legal opening T (doubts_send T server (number base + 1))
+doubts_send_legal T server base up kind listed counted left unbound = record {
+  faults = omega arith;
+  obedient = refl;
+  row = (refl, kind, record { kind = refl; acts = refl; state = up }, (listed, record { base = base; counts = counted; left = left; fails = subst (λ (n : ℕ). SaveFails (turn_of opening T (doubts_send T server (number base + 1))) (sent_by one) n stores.Device) (sym (block_of_one (number base + 1) (omega (arith, left)))) (in_doubt (turn_of opening T (doubts_send T server (number base + 1))) (sent_by one) (number base + 1) unbound refl (omega arith)) }));
+}
+
+pub doubts_take_legal : (T : List Step) (k server nonce : ℕ) (i : Item) (db : List Mapping) (base : Option ℕ) → slice_get (bag opening T) k ≡ Some i → node_at network i.to ≡ Some server → is_server network server ≡ true
+    → i.message ≡ Registers (registers db nonce) → i.secret ≡ secret → first_not_allowed site db ≡ None
+    → IsBase (last_of (got_from one) (since opening T server)) (kept_at (at T server).kept (got_from one)) base → IsBelow base nonce → (at T server).is_obedient ≡ false → Legal opening T (doubts_take T k server nonce)
+doubts_take_legal T k server nonce i db base sent there kind says key allowed counts below unbound = record {
+  faults = omega arith;
+  obedient = refl;
+  row = record {
+    item = i;
+    sent = sent;
+    there = there;
+    arrives = (
+      record { kind = kind; acts = refl },
+      record {
+        message = registers db nonce;
+        admits = record { read = ap Ok says; secret = secret; checks = admitted i db nonce key allowed };
+        fresh = record { base = base; counts = counts; above = below; loads = λ none obeys clash. absurd cc };
+        fails = in_doubt _ (got_from one) nonce unbound refl (omega arith);
+      },
+    );
+  };
+}
+
+pub fails_load_legal : (T : List Step) (k server nonce : ℕ) (i : Item) (db : List Mapping) → slice_get (bag opening T) k ≡ Some i → node_at network i.to ≡ Some server → is_server network server ≡ true
+    → i.message ≡ Registers (registers db nonce) → i.secret ≡ secret → first_not_allowed site db ≡ None → last_of (got_from one) (since opening T server) ≡ None → Legal opening T (fails_load T k server)
+fails_load_legal T k server nonce i db sent there kind says key allowed unknown = record {
+  faults = omega arith;
+  obedient = refl;
+  row = record {
+    item = i;
+    sent = sent;
+    there = there;
+    arrives = (
+      record { kind = kind; acts = refl },
+      record {
+        message = registers db nonce;
+        admits = record { read = ap Ok says; secret = secret; checks = admitted i db nonce key allowed };
+        unknown = unknown;
+        fails = record { same = refl; cause = λ other. inl (omega arith); may = λ other obeys. refl };
+      },
+    );
+  };
+}
+
+-- a record that the site doesn't have is refused
+pub refuses_record : (T : List Step) (k server nonce place : ℕ) (i : Item) (db : List Mapping) → slice_get (bag opening T) k ≡ Some i → node_at network i.to ≡ Some server → is_server network server ≡ true
+    → i.message ≡ Registers (registers db nonce) → i.secret ≡ secret → first_not_allowed site db ≡ Some place → Legal opening T (refuses T (events.Deliver k fates.Done) server (refusals.Receive (refuseds.NotAllowed place)))
+refuses_record T k server nonce place i db sent there kind says key bad = record {
+  faults = omega arith;
+  obedient = refl;
+  row = record {
+    item = i;
+    sent = sent;
+    there = there;
+    arrives = (
+      record { kind = kind; acts = refl },
+      (
+        subst (λ (x : Said). FailsCheck (turn_of opening T (refuses T (events.Deliver k fates.Done) server (refusals.Receive (refuseds.NotAllowed place)))) (arrival_of i) (Ok x) (refuseds.NotAllowed place)) (sym says)
+            (is_not_allowed network.sites (bytes_of i) (registers db nonce) site secret place refl refl (subst (λ (s : List ℕ). is_authentic (bytes_of i) s ≡ true) key (item_authentic i)) refl bad),
+        refl,
+      ),
+    );
+  };
+}
+
+pub restarts_legal : (T : List Step) (node : ℕ) → ((is_server network node ≡ true) ⊎ (is_router network node ≡ true)) → IsFull (at T node).kept → (at T node).is_obedient ≡ false → Legal opening T (restarts T node)
+restarts_legal T node (inl server) full unbound = record { faults = omega arith; obedient = refl; row = record { names = refl; acts = refl; kind = inl (server, refl); fits = tt; narrows = stays (at T node).kept full; picks = λ obeys. absurd (true≢false (sym obeys ∙ unbound)) } }
+restarts_legal T node (inr router) full unbound = record { faults = omega arith; obedient = refl; row = record { names = refl; acts = refl; kind = inr router; fits = tt; narrows = stays (at T node).kept full; picks = λ obeys. absurd (true≢false (sym obeys ∙ unbound)) } }
+
+pub restarts_to_legal : (T : List Step) (node : ℕ) (pair : Pair) (v : Option ℕ) → ((is_server network node ≡ true) ⊎ (is_router network node ≡ true)) → Contains (kept_at (at T node).kept pair) v → IsFull (at T node).kept → (at T node).is_obedient ≡ false → Legal opening T (restarts_to T node pair v)
+restarts_to_legal T node pair v (inl server) has full unbound = record { faults = omega arith; obedient = refl; row = record { names = refl; acts = refl; kind = inl (server, refl); fits = tt; narrows = narrows (at T node).kept pair v has full; picks = λ obeys. absurd (true≢false (sym obeys ∙ unbound)) } }
+restarts_to_legal T node pair v (inr router) has full unbound = record { faults = omega arith; obedient = refl; row = record { names = refl; acts = refl; kind = inr router; fits = tt; narrows = narrows (at T node).kept pair v has full; picks = λ obeys. absurd (true≢false (sym obeys ∙ unbound)) } }
+
+-- the record of the first router, told
+wide_fits : database_of (mapping wide 1440 ∷ []) ≡ Ok (mapping wide 1440 ∷ [])
+unfolding written repeats_in
+wide_fits = refl
+
+wide_some : (mapping wide 1440 ∷ []) ≢ []
+wide_some e = absurd cc
+
+pub tells_legal : (T : List Step) (nonce datagram : ℕ) (last : Acceptance) (base : Option ℕ) → records_of (since opening T 0) one (clock T) ≡ mapping wide 1440 ∷ [] → heard_last one (since opening T 0) ≡ Some last → last.message.key_id ≡ 1
+    → IsBase (last_notice T 0) (kept_at (at T 0).kept notice_pair) base → nonce ≡ nonce_after base → nonce < 2 ^ 64 → datagram ≡ length (bag opening T) → Legal opening T (tells T nonce datagram)
+tells_legal T nonce datagram last base held heard key counts next bound place = record {
+  faults = omega arith;
+  obedient = refl;
+  row = (
+    refl,
+    refl,
+    record {
+      acts = record { kind = refl; acts = refl };
+      kind = refl;
+      tells = record { some = subst (λ (rs : List Mapping). rs ≢ []) (sym held) wide_some; fits = subst (λ (rs : List Mapping). database_of rs ≡ Ok rs) (sym held) wide_fits };
+      last = last;
+      heard = heard;
+      under = sym key;
+      base = base;
+      counts = counts;
+      loads = λ none obeys clash. absurd cc;
+      next = next;
+      bound = bound;
+      place = place;
+      saves = saved _ notice_pair nonce (λ obeys clash. absurd cc) refl;
+    },
+  );
+}
+
+pub repeats_legal : (T : List Step) (datagram : ℕ) → is_due (notice_to opening T 0 one) (clock T) ≡ true → datagram ≡ length (bag opening T) → Legal opening T (repeats T datagram)
+repeats_legal T datagram due place = record { faults = omega arith; obedient = refl; row = (refl, refl, record { acts = record { kind = refl; acts = refl }; kind = refl; due = due; place = place; same = refl }) }
+
+pub notices_legal : (T : List Step) (k nonce datagram : ℕ) (records : List Mapping) → is_up T 2 ≡ true → slice_get (bag opening T) k ≡ Some (told (local_at 11) (local_at 21) nonce records) → first_notice ≤ nonce → datagram ≡ length (bag opening T) → Legal opening T (notices T k nonce datagram)
+notices_legal T k nonce datagram records up sent high place = record {
+  faults = omega arith;
+  obedient = refl;
+  row = record {
+    item = told (local_at 11) (local_at 21) nonce records;
+    sent = sent;
+    there = refl;
+    arrives = record { acts = record { kind = refl; acts = refl; state = up }; same = refl; comes = inl (rw (hears (local_at 11) (local_at 21) nonce records 0 refl T, le-leb first_notice nonce high, place) refl) };
+  };
+}
+
+pub ends_legal : (T : List Step) (k nonce : ℕ) (records : List Mapping) (n : Notice) → slice_get (bag opening T) k ≡ Some (answered nonce records)
+    → awaiting (turn_of opening T (ends T k nonce)) (local_at 21) (record { ack = true; nonce = nonce; key_id = 1; records = records }) ≡ Some n → n.router ≡ one → n.key ≡ 1 → nonce ≡ n.nonce → Legal opening T (ends T k nonce)
+ends_legal T k nonce records n sent stands router key number = record {
+  faults = omega arith;
+  obedient = refl;
+  row = record {
+    item = answered nonce records;
+    sent = sent;
+    there = refl;
+    arrives = record {
+      acts = record { kind = refl; acts = refl };
+      message = _;
+      read = refl;
+      ack = refl;
+      notice = n;
+      stands = stands;
+      authentic = rw (router, key) (item_authentic (answered nonce records));
+      who = sym router;
+      number = number;
+      same = refl;
+    };
+  };
+}

@@ -1,0 +1,149 @@
+-- Over legal traces accepted nonces rise, and replays are told with numbers that were tried.
+use Rattle.std.proofs.Common.{◌≡◌, ℕ, Bool, true, false, cond, List, [], ◌∷◌, ◌++◌, map, Option, Some, None, refl, sym, ap, subst, inl, inr, ◌∙◌}
+use Rattle.std.specs.Prelude.{◌≢◌, ◌⊎◌, ◌==◌, if◌then◌else◌}
+use Rattle.std.specs.List.{Contains, filter, flat_map}
+use Rattle.std.specs.Option.{option_map, option_to_list}
+use Rattle.std.specs.Ordering.{eq_by_cmp}
+use Rattle.std.proofs.lemmas.Bool.Decides.{Decides-eqb}
+use Rattle.lisp_nonces.specs.declared.pair.Pair.{Pair}
+use Rattle.lisp_nonces.specs.declared.pair.PairKind.{PairKind}
+use Rattle.lisp_nonces.specs.declared.pair.PairKind.TheVariants as kinds
+use Rattle.lisp_nonces.specs.Pair.{pair_cmp}
+use Rattle.lisp_nonces.specs.Kept.{kept_at}
+use Rattle.lisp_admission.specs.declared.refused.Refused.TheVariants.{Replay}
+use Rattle.lisp_admission.specs.Pairs.{pair_of}
+use Rattle.lisp_model.specs.declared.event.Event.TheVariants as events
+use Rattle.lisp_model.specs.declared.line.Line.TheVariants as lines
+use Rattle.lisp_model.specs.declared.refusal.Refusal.TheVariants as refusals
+use Rattle.lisp_model.specs.Trace.{Happening, Step, Opening, shown, clock}
+use Rattle.lisp_model.specs.Held.{Acceptance, is_of_pair, last_of}
+use Rattle.lisp_model.specs.Bag.{Arrival, arrival_of, arrival_in, thrown, taken, bag, since}
+use Rattle.lisp_model.specs.Accepted.{accepted, arriving, nonces_of, tried}
+use Rattle.lisp_model.specs.Turn.{Turn, values, IsBase}
+use Rattle.lisp_model.specs.Receiving.{last_in}
+use Rattle.lisp_model.specs.Legal.{MayCome, Arrives, Legal, LegalTrace, turn_of}
+use Rattle.lisp_model.specs.Promises.{Falls, NoncesRise, ReplaysAreTried}
+use Rattle.lisp_model.proofs.KeptLemmas.{pair_same}
+use Rattle.lisp_model.proofs.ListLemmas.{at_head, in_tail, head_or_tail, in_none}
+use Rattle.lisp_model.proofs.Locality.{by_actor, same_number, other_number, since_other, accepted_other, tried_other}
+use Rattle.lisp_model.proofs.Rising.{Safe}
+use Rattle.lisp_model.proofs.RisingSteps.{row_safe, taken_one}
+
+-- a number among values is among their numbers
+some_number : (v : Option ℕ) (m : ℕ) (ms : List ℕ) → (Some m ≡ v) ⊎ Contains ms m → Contains (option_to_list v ++ ms) m
+some_number None m ms (inl e) = absurd (clash e)
+  where
+    clash : ◌≡◌ {A = Option ℕ} (Some m) None → ⊥
+    clash e = absurd cc
+some_number None m ms (inr has) = has
+some_number (Some n) m ms (inl e) = let same : m ≡ n = cc in subst (λ (x : ℕ). Contains (n ∷ ms) x) (sym same) (at_head n ms)
+some_number (Some n) m ms (inr has) = in_tail n ms m has
+
+in_numbers : (vs : List (Option ℕ)) (m : ℕ) → Contains vs (Some m) → Contains (flat_map option_to_list vs) m
+in_numbers [] m has = absurd (in_none (Some m) has)
+in_numbers (v ∷ vs) m has = some_number v m (flat_map option_to_list vs) (at (head_or_tail v vs (Some m) has) (λ later. in_numbers vs m later))
+  where
+    at : (Some m ≡ v) ⊎ Contains vs (Some m) → (Contains vs (Some m) → Contains (flat_map option_to_list vs) m) → (Some m ≡ v) ⊎ Contains (flat_map option_to_list vs) m
+    at (inl e) go = inl e
+    at (inr later) go = inr (go later)
+
+-- at each server, for each pair of received nonces
+module _ (o : Opening) (q : Pair) (kind : q.kind ≡ kinds.Received) where
+  abbrev SafeAt : List Step → ℕ → Type 0
+  SafeAt T k = Safe q (accepted o T k) (since o T k) (tried o T k q) (kept_at (shown o T k).kept q)
+
+  safe_opening : (k : ℕ) → SafeAt [] k
+  safe_opening k = record {
+    falls = tt;
+    floor = λ n has. absurd (in_none n has);
+    last = λ l e. absurd (clash e);
+    tried_kept = in_numbers (kept_at (shown o [] k).kept q);
+    tried_last = λ l e. absurd (clash e);
+  }
+    where
+      clash : {l : ℕ} → ◌≡◌ {A = Option ℕ} None (Some l) → ⊥
+      clash e = absurd cc
+
+  safe_actor : (T : List Step) (s : Step) → Legal o T s → SafeAt T s.actor → SafeAt (s ∷ T) s.actor
+  safe_actor T s l safe = subst (λ b. Safe q (accepted o (s ∷ T) s.actor) (since o (s ∷ T) s.actor) (tried o (s ∷ T) s.actor q) (kept_at (if b then s.shown else shown o T s.actor).kept q)) (sym (same_number s.actor))
+      (row_safe (turn_of o T s) q kind (accepted o T s.actor) (tried o T s.actor q) safe s.event s.line l.row)
+
+  safe_other : (T : List Step) (s : Step) (k : ℕ) → k ≢ s.actor → Legal o T s → SafeAt T k → SafeAt (s ∷ T) k
+  safe_other T s k differ l safe =
+      let by = by_actor (turn_of o T s) s.event s.line l.row in
+      subst (λ (acc : List Acceptance). Safe q acc (since o (s ∷ T) k) (tried o (s ∷ T) k q) (kept_at (shown o (s ∷ T) k).kept q)) (sym (accepted_other s.actor k differ s.line by (arriving o T s) (accepted o T k)))
+      (subst (λ (new : List Acceptance). Safe q (accepted o T k) new (tried o (s ∷ T) k q) (kept_at (shown o (s ∷ T) k).kept q)) (sym (since_other s.actor k differ s.line by (arriving o T s) (since o T k)))
+      (subst (λ (ns : List ℕ). Safe q (accepted o T k) (since o T k) ns (kept_at (shown o (s ∷ T) k).kept q)) (sym (tried_other s.actor k differ s.line by (nonces_of q (arriving o T s)) (tried o T k q)))
+      (subst (λ b. Safe q (accepted o T k) (since o T k) (tried o T k q) (kept_at (if b then s.shown else shown o T k).kept q)) (sym (other_number s.actor k (λ e. differ (sym e)))) safe)))
+
+  safe_step : (T : List Step) (s : Step) (k : ℕ) (b : Bool) → (s.actor == k) ≡ b → Legal o T s → ((n : ℕ) → SafeAt T n) → SafeAt (s ∷ T) k
+  safe_step T s k true e l safe = subst (SafeAt (s ∷ T)) ((Decides-eqb s.actor k).0 e) (safe_actor T s l (safe s.actor))
+  safe_step T s k false e l safe = safe_other T s k (λ same. not_same same) l (safe k)
+    where
+      not_same : k ≡ s.actor → ⊥
+      not_same same = let clash : true ≡ false = sym (same_number s.actor) ∙ ap (λ n. s.actor == n) (sym same) ∙ e in absurd cc
+
+  pub safe_trace : (T : List Step) → LegalTrace o T → (k : ℕ) → SafeAt T k
+  safe_trace [] legal k = safe_opening k
+  safe_trace (s ∷ T) legal k = safe_step T s k (s.actor == k) refl legal.0 (safe_trace T legal.1)
+
+-- pairs of other kinds have no accepted nonces
+no_nonces : (q : Pair) → q.kind ≢ kinds.Received → (acc : List Acceptance) → nonces_of q acc ≡ []
+no_nonces q other [] = refl
+no_nonces q other (a ∷ acc) = at (eq_by_cmp pair_cmp q (pair_of a.message)) refl (no_nonces q other acc)
+  where
+    at : (b : Bool) → eq_by_cmp pair_cmp q (pair_of a.message) ≡ b → nonces_of q acc ≡ [] → map (λ (x : Acceptance). x.message.nonce) (cond b (a ∷ filter (is_of_pair q) acc) (filter (is_of_pair q) acc)) ≡ []
+    at true e rest = absurd (other (ap (λ (p : Pair). p.kind) (pair_same q (pair_of a.message) e)))
+    at false e rest = rest
+
+pub nonces_rise : (o : Opening) (T : List Step) → LegalTrace o T → NoncesRise o T
+nonces_rise o T legal server q = at q.kind refl
+  where
+    at : (kind : PairKind) → q.kind ≡ kind → Falls (nonces_of q (accepted o T server))
+    at kinds.Received e = (safe_trace o q e T legal server).falls
+    at kinds.Sent e = subst Falls (sym (no_nonces q (λ is. sent_clash (sym e ∙ is)) (accepted o T server))) tt
+      where
+        sent_clash : kinds.Sent ≢ kinds.Received
+        sent_clash is = absurd cc
+    at kinds.Notice e = subst Falls (sym (no_nonces q (λ is. notice_clash (sym e ∙ is)) (accepted o T server))) tt
+      where
+        notice_clash : kinds.Notice ≢ kinds.Received
+        notice_clash is = absurd cc
+
+-- a replay has a base
+module _ (t : Turn) (server saved : ℕ) where
+  record HasBase (x : Acceptance) : Type 0 where
+    acts : t.node ≡ server
+    base : IsBase (last_in t (pair_of x.message)) (values t (pair_of x.message)) (Some saved)
+
+  has_base : (a : Arrival) (now : ℕ) → Arrives t a (lines.Refused server (refusals.Receive (Replay saved))) → (x : Acceptance) → Contains (taken (Some a) now) x → HasBase x
+  has_base a now row x has = record { acts = row.0.acts; base = subst (λ (y : Acceptance). IsBase (last_in t (pair_of y.message)) (values t (pair_of y.message)) (Some saved)) (sym only) row.1.counts }
+    where
+      one : Acceptance
+      one = record { message = row.1.message; from = a.from; moment = now }
+
+      in_one : Contains (record { message = row.1.message; from = a.from; moment = now } ∷ []) x
+      in_one = subst (λ (xs : List Acceptance). Contains xs x) (taken_one a now row.1.message row.1.admits.read) has
+
+      at : (x ≡ record { message = row.1.message; from = a.from; moment = now }) ⊎ Contains [] x → x ≡ record { message = row.1.message; from = a.from; moment = now }
+      at (inl e) = e
+      at (inr no_more) = absurd (in_none x no_more)
+
+      only : x ≡ record { message = row.1.message; from = a.from; moment = now }
+      only = at (head_or_tail _ [] x in_one)
+
+  replay_base : (e : Happening) → MayCome t e (lines.Refused server (refusals.Receive (Replay saved))) → (x : Acceptance) → Contains (taken (arrival_in (bag t.opening t.past) e) (clock t.past)) x → HasBase x
+  replay_base (events.Deliver k fate) row x has = has_base (arrival_of row.item) (clock t.past) row.arrives x (subst (λ (a : Option Arrival). Contains (taken a (clock t.past)) x) (ap (option_map arrival_of) row.sent) has)
+  replay_base (events.Junk to from bytes) row x has = has_base (thrown from bytes) (clock t.past) row.arrives x has
+  replay_base _ row x has = absurd row
+
+based : (q : Pair) (acc since : List Acceptance) (tried : List ℕ) (kept : List (Option ℕ)) → Safe q acc since tried kept → (saved : ℕ) (last : Option ℕ) → last_of q since ≡ last → IsBase last kept (Some saved) → Contains tried saved
+based q acc since tried kept safe saved (Some l) is base = let same : saved ≡ l = cc in subst (Contains tried) (sym same) (safe.tried_last l is)
+based q acc since tried kept safe saved None is base = safe.tried_kept saved base
+
+pub replays_tried : (o : Opening) (T : List Step) (s : Step) → LegalTrace o T → Legal o T s → ReplaysAreTried o T s
+replays_tried o T s legal l server saved is x has =
+    let found = replay_base (turn_of o T s) server saved s.event (subst (MayCome (turn_of o T s) s.event) is l.row) x has in
+    let q = pair_of x.message in
+    subst (λ (k : ℕ). Contains (tried o T k (pair_of x.message)) saved) found.acts
+    (based q (accepted o T s.actor) (since o T s.actor) (tried o T s.actor q) (kept_at (shown o T s.actor).kept q) (safe_trace o q refl T legal s.actor) saved (last_of q (since o T s.actor)) refl found.base)

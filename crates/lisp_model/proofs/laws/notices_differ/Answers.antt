@@ -1,0 +1,5 @@
+use Rattle.lisp_model.proofs.laws.notices_differ.Goals as goal
+use Rattle.lisp_model.proofs.NoticeNonces.{notices_differ}
+
+pub returns : goal.returns
+returns c = notices_differ

@@ -1,9 +1,0 @@
-use Rattle.std.proofs.Common.{take}
-use Rattle.std.specs.List.{flat_map}
-use Rattle.std.specs.Io.KnownBytes.{Appends}
-use Rattle.lisp_numbers.specs.Table.{section_text}
-use Rattle.lisp_numbers.proofs.explaining.explain_in.Given as goal
-
--- what was written so far
-abbrev pub invariant-loop-section : goal.invariant-loop-section
-invariant-loop-section g l = Appends (g.W.Write.contents l.fn.writer) (g.W.Write.contents l.writer) (flat_map (section_text l.number) (take l.section-index l.sections))

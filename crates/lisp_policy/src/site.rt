@@ -1,0 +1,202 @@
+//! A site of a Map-Server: its secrets, and the prefixes that its routers may register.
+
+ghost use Rattle.std.specs.Prelude.{◌≡◌, ◌↔◌, IsTrue, IfOk, OnErr};
+ghost use Rattle.std.specs.List.{list_any};
+ghost use Rattle.std.specs.Option.{option_map};
+ghost use Rattle.lisp_policy.specs.Index.{Indexes};
+ghost use Rattle.lisp_policy.specs.Site.{Allowed, is_allowed, has_address, lets_in, secret_of};
+
+use crate::index::Index;
+use lisp_hmac::Key;
+use lisp_memory::{FallibleCopies, FallibleVec, Memory};
+use lisp_records::{Addr, Prefix};
+use std::alloc::{AllocError, Allocator, Global};
+use std::marker::Model;
+
+/// A pre-shared secret of a site, under its Key ID (RFC 9301 section 5.6).
+#[derive(Drop)]
+pub struct SiteKey {
+    /// Its Key ID.
+    pub id: u8,
+    /// The secret, made ready for tags.
+    pub key: Key,
+}
+
+impl Model for SiteKey {
+    ghost use Rattle.lisp_policy.specs.Site.{KeyEntry};
+
+    ghost Value = { KeyEntry };
+
+    ghost view = { λ k. record { id = k.id; secret = k.key } };
+}
+
+impl SiteKey {
+    /// The key of a Key ID and a secret, which may have any length; takes no memory.
+    pub fn new(id: u8, secret: &[u8]) -> SiteKey
+        ensures { result ≡ record { id = id; secret = secret.now } }
+    {
+        SiteKey {
+            id,
+            key: Key::new(secret),
+        }
+    }
+
+    // An equal key.
+    fn copy(&self) -> SiteKey
+        ensures { result ≡ self.now }
+    {
+        SiteKey {
+            id: self.id,
+            key: self.key.copy(),
+        }
+    }
+}
+
+/// A prefix that a site's routers may register, alone or with all prefixes inside it.
+#[derive(Clone, Copy, Debug, PartialEq, Eq)]
+pub struct SitePrefix {
+    /// The prefix itself.
+    pub eid: Prefix,
+    /// Prefixes inside it may be registered too.
+    pub more_specifics: bool,
+}
+
+impl SitePrefix {
+    // Whether a router may register the prefix by this entry.
+    fn lets_in(&self, prefix: &Prefix) -> bool
+        ensures { result ≡ lets_in self.now prefix.now }
+    {
+        self.eid == *prefix || self.more_specifics && self.eid.covers(prefix)
+    }
+}
+
+/// A site (RFC 9301 section 8.2): its Site-ID, its keys and its prefixes.
+#[derive(Drop)]
+pub struct Site<A: Allocator = Global> {
+    id: u64,
+    keys: Vec<SiteKey, A>,
+    // Their places, by their Key IDs.
+    by_id: Index<A>,
+    prefixes: Vec<SitePrefix, A>,
+}
+
+impl<A: Allocator> Model for Site<A> {
+    ghost use Rattle.lisp_policy.specs.Index.{Indexes};
+    ghost use Rattle.lisp_policy.specs.Site.{SiteEntry};
+
+    ghost Value = { SiteEntry };
+
+    ghost view = { λ s. record { id = s.id; keys = s.keys.items; prefixes = s.prefixes.items } };
+
+    ghost invariant = { λ s. Indexes s.by_id (λ k. k.id) s.keys.items };
+}
+
+impl<A: Memory> Site<A> {
+    /// The site of a Site-ID, keys and prefixes.
+    pub fn new(
+        alloc: A,
+        id: u64,
+        keys: Vec<SiteKey, A>,
+        prefixes: Vec<SitePrefix, A>,
+    ) -> Result<Site<A>, AllocError>
+        ensures site { IfOk result (λ s. s ≡ record { id = id; keys = keys.items; prefixes = prefixes.items }) }
+        ensures memory { OnErr result A.may_refuse }
+    {
+        let by_id = index_of(alloc, &keys)?;
+        Ok(Site {
+            id,
+            keys,
+            by_id,
+            prefixes,
+        })
+    }
+}
+
+impl<A: Allocator> Site<A> {
+    /// The Site-ID.
+    pub fn id(&self) -> u64
+        ensures { result ≡ self.now.id }
+    {
+        self.id
+    }
+
+    /// The site's keys, in the order of the configuration.
+    pub fn keys(&self) -> &[SiteKey]
+        ensures { result.now ≡ self.now.keys }
+    {
+        &self.keys
+    }
+
+    /// The prefixes that the site's routers may register, in the order of the configuration.
+    pub fn prefixes(&self) -> &[SitePrefix]
+        ensures { result.now ≡ self.now.prefixes }
+    {
+        &self.prefixes
+    }
+
+    /// The key under a Key ID, made ready for tags; `None` where the site has no such key.
+    pub fn key(&self, key_id: u8) -> Option<&Key>
+        ensures { option_map (λ k. k.now) result ≡ secret_of self.now key_id }
+    {
+        match self.by_id.place(u64::from(key_id)) {
+            Some(place) => Some(&self.keys[place].key),
+            None => None,
+        }
+    }
+
+    /// Whether the site's routers may register the prefix: one of the site's prefixes equals it, or
+    /// has more-specifics and covers it.
+    pub fn allows(&self, prefix: &Prefix) -> bool
+        ensures allowed { IsTrue result ↔ Allowed self.now prefix.now }
+        ensures test { result ≡ is_allowed self.now prefix.now }
+    {
+        self.is_allowed(prefix)
+    }
+
+    fn is_allowed(&self, prefix: &Prefix) -> bool
+        ensures { result ≡ is_allowed self.now prefix.now }
+    {
+        self.prefixes.iter().any(|entry| entry.lets_in(prefix))
+    }
+
+    // Whether the address is one of some prefix of the site.
+    pub(crate) fn has_address(&self, addr: &Addr) -> bool
+        ensures { result ≡ has_address self.now addr.now }
+    {
+        self.prefixes.iter().any(|prefix| prefix.eid.contains(addr))
+    }
+
+    // An equal site, in memory of `alloc`.
+    pub(crate) fn copy<B: Memory + Copy>(&self, alloc: B) -> Result<Site<B>, AllocError>
+        ensures equal { IfOk result (λ s. s ≡ self.now) }
+        ensures memory { OnErr result B.may_refuse }
+    {
+        let keys = copy_keys(alloc, &self.keys)?;
+        let prefixes = Vec::try_from_slice(alloc, &self.prefixes)?;
+        Site::new(alloc, self.id, keys, prefixes)
+    }
+}
+
+// The places of keys, by their Key IDs.
+fn index_of<A: Memory>(alloc: A, keys: &[SiteKey]) -> Result<Index<A>, AllocError>
+    ensures index { IfOk result (λ index. Indexes index (λ k. k.id) keys.now) }
+    ensures memory { OnErr result A.may_refuse }
+{
+    let mut index = Index::new(alloc);
+    for (place, key) in keys.iter().enumerate() {
+        index.add(u64::from(key.id), place)?;
+    }
+    Ok(index)
+}
+
+// Equal keys, in memory of `alloc`.
+fn copy_keys<B: Memory>(alloc: B, keys: &[SiteKey]) -> Result<Vec<SiteKey, B>, AllocError>
+    ensures equal { IfOk result (λ copies. copies.items ≡ keys.now) }
+    ensures memory { OnErr result B.may_refuse }
+{
+    let mut copies = Vec::new(alloc);
+    for key in keys {
+        copies.try_push(key.copy())?;
+    }
+    Ok(copies)
+}

@@ -1,0 +1,52 @@
+-- Which rows of a table have a number, and what is written of them.
+use Rattle.std.specs.Prelude.{ℕ, Bool, List, [], ◌∷◌, ◌++◌, codes, Option, Some, None, nat_eq, if◌then◌else◌}
+use Rattle.std.specs.List.{list_any, find, flat_map}
+use Rattle.std.specs.Fmt.{decimal}
+use Rattle.lisp_refusals.specs.declared.row.Row.{Row}
+use Rattle.lisp_refusals.specs.declared.row.Section.{Section}
+
+-- a row has the number
+abbrev pub has_number : ℕ → Row → Bool
+has_number number row = nat_eq row.number number
+
+-- a row of the section has it
+abbrev pub has_row : ℕ → Section → Bool
+has_row number section = list_any (has_number number) section.rows.now
+
+-- a row of the table has it
+abbrev pub is_in : ℕ → List Section → Bool
+is_in number sections = list_any (has_row number) sections
+
+-- what an operator does about the first row with the number
+abbrev pub remedy_of : Option Row → Option (List ℕ)
+remedy_of None = None
+remedy_of (Some row) = Some row.remedy.now
+
+abbrev pub first_remedy : ℕ → Option Section → Option (List ℕ)
+first_remedy number None = None
+first_remedy number (Some section) = remedy_of (find (has_number number) section.rows.now)
+
+abbrev pub remedy_in : ℕ → List Section → Option (List ℕ)
+remedy_in number sections = first_remedy number (find (has_row number) sections)
+
+-- a mark, where a text is there
+unfoldable pub mark_at : List ℕ → List ℕ → List ℕ
+mark_at [] mark = []
+mark_at (_ ∷ _) mark = mark
+
+-- the text of a row of a section
+unfoldable pub row_text : Section → Row → List ℕ
+row_text section row = decimal row.number
+    ++ flat_map (λ text. text) (mark_at row.carried.now (codes " ") ∷ row.carried.now ∷ mark_at row.name.now (codes ", ") ∷ row.name.now ∷ codes " (" ∷ section.title.now ∷ codes ")\n  meaning: " ∷ row.meaning.now ∷ mark_at row.status.now (codes "\n  status: ") ∷ row.status.now ∷ codes "\n  what to do: " ∷ row.remedy.now ∷ codes "\n" ∷ [])
+
+-- the text of a row, where it has the number
+abbrev pub row_text_if : ℕ → Section → Row → List ℕ
+row_text_if number section row = if has_number number row then row_text section row else []
+
+-- the text of the rows of a section with the number
+abbrev pub section_text : ℕ → Section → List ℕ
+section_text number section = flat_map (row_text_if number section) section.rows.now
+
+-- the text of all rows with the number
+abbrev pub explained : ℕ → List Section → List ℕ
+explained number sections = flat_map (section_text number) sections

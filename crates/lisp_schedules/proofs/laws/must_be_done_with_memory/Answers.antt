@@ -1,5 +1,0 @@
-use Rattle.lisp_schedules.proofs.MemoryLaws.{must_with_memory}
-use Rattle.lisp_schedules.proofs.laws.must_be_done_with_memory.Goals as goal
-
-pub returns : goal.returns
-returns c = must_with_memory ⊥ ⊥ (λ never. never) (λ never. never)

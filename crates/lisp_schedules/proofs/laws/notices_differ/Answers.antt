@@ -1,5 +1,0 @@
-use Rattle.lisp_schedules.proofs.laws.notices_differ.Goals as goal
-use Rattle.lisp_schedules.proofs.NoticeNonces.{notices_differ}
-
-pub returns : goal.returns
-returns c = notices_differ

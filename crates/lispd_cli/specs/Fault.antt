@@ -1,0 +1,54 @@
+-- The numbers of the program's faults, and its exit statuses: 1 where files, streams or memory failed, 2 for the
+-- words of the command line.
+use Rattle.std.specs.Prelude.{ℕ, Option, None}
+use Rattle.lisp_answer.specs.Fault.{fault_number}
+use Rattle.lisp_streams.specs.Fault.{play_fault_number, play_fault_status, play_fault_line}
+use Rattle.lisp_refusals.specs.Fault.{explain_fault_number, explain_fault_status}
+use Rattle.lisp_streams.specs.RunFault.{run_status, run_line}
+use Rattle.lisp_streams.specs.declared.input_fault.InputFault.{InputFault}
+use Rattle.lisp_streams.specs.declared.input_fault.InputFault.TheVariants as input_faults
+use Rattle.lisp_streams.specs.declared.play_fault.PlayFault.TheVariants as play_faults
+use Rattle.lispd_cli.specs.declared.fault.SetupFault.{SetupFault}
+use Rattle.lispd_cli.specs.declared.fault.SetupFault.TheVariants as setup_faults
+use Rattle.lispd_cli.specs.declared.fault.ProgramFault.{ProgramFault}
+use Rattle.lispd_cli.specs.declared.fault.ProgramFault.TheVariants.{Words, Setup, Answer, File, Play, Turns, Run, Explain}
+
+abbrev pub setup_fault_number : SetupFault → ℕ
+setup_fault_number (setup_faults.BadOption _) = 98
+setup_fault_number setup_faults.OutOfMemory = 97
+
+abbrev pub setup_fault_status : SetupFault → ℕ
+setup_fault_status (setup_faults.BadOption _) = 2
+setup_fault_status setup_faults.OutOfMemory = 1
+
+abbrev pub program_fault_number : ProgramFault → ℕ
+program_fault_number Words = 98
+program_fault_number (Setup fault) = setup_fault_number fault
+program_fault_number (Answer fault) = fault_number fault
+program_fault_number File = 93
+program_fault_number (Play fault) = play_fault_number fault
+program_fault_number Turns = 98
+program_fault_number (Run fault) = fault.number
+program_fault_number (Explain fault) = explain_fault_number fault
+
+abbrev pub program_fault_status : ProgramFault → ℕ
+program_fault_status Words = 2
+program_fault_status (Setup fault) = setup_fault_status fault
+program_fault_status (Answer _) = 1
+program_fault_status File = 1
+program_fault_status (Play fault) = play_fault_status fault
+program_fault_status Turns = 2
+program_fault_status (Run fault) = run_status fault.number
+program_fault_status (Explain fault) = explain_fault_status fault
+
+-- the faulty line of a script
+abbrev pub program_fault_line : ProgramFault → Option ℕ
+program_fault_line (Play fault) = play_fault_line fault
+program_fault_line (Run fault) = run_line fault.line
+program_fault_line _ = None
+
+-- what a fault of an input is to the program: a configuration's fault without its place
+abbrev pub of_input : InputFault → ProgramFault
+of_input input_faults.File = File
+of_input (input_faults.Config placed) = Play (play_faults.Config placed.fault)
+of_input (input_faults.Input fault) = Play fault

@@ -1,0 +1,191 @@
+//! What keeps `setup` from giving a setup, and what ends the program: each with its number and its exit
+//! status, 1 where files, streams or memory fail and 2 for the words of the command line.
+
+ghost use Rattle.std.specs.Prelude.{◌≡◌};
+ghost use Rattle.lispd_cli.specs.Fault.{setup_fault_number, setup_fault_status, program_fault_number, program_fault_status, program_fault_line};
+
+use crate::option::AnswerOption;
+use lisp_answer::AnswerFault;
+use lisp_refusals::ExplainFault;
+use lisp_streams::{InputFault, PlayFault, RunFault};
+use std::alloc::AllocError;
+use thiserror::Error;
+
+/// What kept `setup` from giving a setup.
+#[derive(Clone, Copy, Debug, PartialEq, Eq, Error)]
+pub enum SetupFault {
+    /// An option's value has another form than the option takes.
+    #[error("{0}")]
+    BadOption(AnswerOption),
+    /// Out of memory for the setup.
+    #[error("out of memory: free some and try again")]
+    OutOfMemory,
+}
+
+impl SetupFault {
+    /// The number that operators see: `BadOption` 98, `OutOfMemory` 97.
+    pub const fn number(&self) -> u16
+        ensures { result ≡ setup_fault_number self.now }
+    {
+        match self {
+            SetupFault::BadOption(_) => 98,
+            SetupFault::OutOfMemory => 97,
+        }
+    }
+
+    /// The exit status: `BadOption` 2, `OutOfMemory` 1.
+    pub const fn status(&self) -> u8
+        ensures { result ≡ setup_fault_status self.now }
+    {
+        match self {
+            SetupFault::BadOption(_) => 2,
+            SetupFault::OutOfMemory => 1,
+        }
+    }
+}
+
+impl From<AllocError> for SetupFault {
+    ghost use Rattle.lispd_cli.specs.declared.fault.SetupFault.TheVariants as setup_faults;
+
+    ghost from_gives = { λ _ fault. fault ≡ setup_faults.OutOfMemory };
+
+    fn from(_error: AllocError) -> SetupFault {
+        SetupFault::OutOfMemory
+    }
+}
+
+/// What ends the program.
+#[derive(Clone, Copy, Debug, PartialEq, Eq, Error)]
+pub enum ProgramFault {
+    /// A word of the command line is not UTF-8.
+    #[error("a word of the command line is not UTF-8")]
+    Words,
+    /// The options give no setup.
+    #[error(transparent)]
+    Setup(SetupFault),
+    /// The line was not answered.
+    #[error(transparent)]
+    Answer(AnswerFault),
+    /// The file can't be opened.
+    #[error("the file can't be opened")]
+    File,
+    /// The schedule was not played to its end, or the configuration is faulty.
+    #[error(transparent)]
+    Play(PlayFault),
+    /// `--turns` has another form than it takes.
+    #[error("--turns takes a whole number from 0 to 4294967295")]
+    Turns,
+    /// A node or network on sockets and files ended before its end.
+    #[error("the program stopped")]
+    Run(RunFault),
+    /// The number has another form than `explain` takes, is that of nothing, or its text can't be written.
+    #[error(transparent)]
+    Explain(ExplainFault),
+}
+
+impl ProgramFault {
+    /// The number that operators see: `Words` and `Turns` 98, `File` 93, or that of the fault inside.
+    pub const fn number(&self) -> u16
+        ensures { result ≡ program_fault_number self.now }
+    {
+        match self {
+            ProgramFault::Words | ProgramFault::Turns => 98,
+            ProgramFault::Setup(fault) => fault.number(),
+            ProgramFault::Answer(fault) => fault.number(),
+            ProgramFault::File => 93,
+            ProgramFault::Play(fault) => fault.number(),
+            ProgramFault::Run(fault) => fault.number,
+            ProgramFault::Explain(fault) => fault.number(),
+        }
+    }
+
+    /// The exit status: `Words` and `Turns` 2, `File` 1, or that of the fault inside.
+    pub fn status(&self) -> u8
+        ensures { result ≡ program_fault_status self.now }
+    {
+        match self {
+            ProgramFault::Words | ProgramFault::Turns => 2,
+            ProgramFault::Setup(fault) => fault.status(),
+            ProgramFault::Answer(fault) => fault.status(),
+            ProgramFault::File => 1,
+            ProgramFault::Play(fault) => fault.status(),
+            ProgramFault::Run(fault) => fault.status(),
+            ProgramFault::Explain(fault) => fault.status(),
+        }
+    }
+
+    /// The line of the script that is faulty, from 1 on; `None` where the fault is elsewhere.
+    pub const fn line(&self) -> Option<usize>
+        ensures { result ≡ program_fault_line self.now }
+    {
+        match self {
+            ProgramFault::Play(fault) => fault.line(),
+            ProgramFault::Run(fault) => fault.line(),
+            _ => None,
+        }
+    }
+}
+
+impl From<SetupFault> for ProgramFault {
+    ghost use Rattle.lispd_cli.specs.declared.fault.ProgramFault.TheVariants.{Setup};
+
+    ghost from_gives = { λ why fault. fault ≡ Setup why };
+
+    fn from(why: SetupFault) -> ProgramFault {
+        ProgramFault::Setup(why)
+    }
+}
+
+impl From<AnswerFault> for ProgramFault {
+    ghost use Rattle.lispd_cli.specs.declared.fault.ProgramFault.TheVariants.{Answer};
+
+    ghost from_gives = { λ why fault. fault ≡ Answer why };
+
+    fn from(why: AnswerFault) -> ProgramFault {
+        ProgramFault::Answer(why)
+    }
+}
+
+impl From<PlayFault> for ProgramFault {
+    ghost use Rattle.lispd_cli.specs.declared.fault.ProgramFault.TheVariants.{Play};
+
+    ghost from_gives = { λ why fault. fault ≡ Play why };
+
+    fn from(why: PlayFault) -> ProgramFault {
+        ProgramFault::Play(why)
+    }
+}
+
+impl From<RunFault> for ProgramFault {
+    ghost use Rattle.lispd_cli.specs.declared.fault.ProgramFault.TheVariants.{Run};
+
+    ghost from_gives = { λ why fault. fault ≡ Run why };
+
+    fn from(why: RunFault) -> ProgramFault {
+        ProgramFault::Run(why)
+    }
+}
+
+impl From<ExplainFault> for ProgramFault {
+    ghost use Rattle.lispd_cli.specs.declared.fault.ProgramFault.TheVariants.{Explain};
+
+    ghost from_gives = { λ why fault. fault ≡ Explain why };
+
+    fn from(why: ExplainFault) -> ProgramFault {
+        ProgramFault::Explain(why)
+    }
+}
+
+impl From<InputFault> for ProgramFault {
+    ghost use Rattle.lispd_cli.specs.Fault.{of_input};
+
+    ghost from_gives = { λ why fault. fault ≡ of_input why };
+
+    fn from(why: InputFault) -> ProgramFault {
+        match why {
+            InputFault::File => ProgramFault::File,
+            InputFault::Config(placed) => ProgramFault::Play(PlayFault::Config(placed.fault)),
+            InputFault::Input(fault) => ProgramFault::Play(fault),
+        }
+    }
+}

@@ -1,0 +1,81 @@
+//! What is reported of a fault, on standard error.
+
+use crate::fault::ProgramFault;
+use crate::remedy::advice;
+use lisp_refusals::remedy;
+use lisp_streams::PlayFault;
+use std::fmt::{self, Display, Formatter, Write};
+use std::process::ExitCode;
+
+/// What is wrong, and what would be right, in words.
+#[derive(Drop)]
+pub struct InWords<'a>(pub &'a ProgramFault);
+
+impl Display for InWords<'_> {
+    fn fmt<W: Write>(&self, formatter: &mut Formatter<W>) -> fmt::Result {
+        match self.0 {
+            ProgramFault::Play(fault) => put_advice(fault, formatter),
+            ProgramFault::Run(fault) => put_remedy(fault.number, formatter),
+            fault => fault.fmt(formatter),
+        }
+    }
+}
+
+fn put_advice<W: Write>(fault: &PlayFault, formatter: &mut Formatter<W>) -> fmt::Result {
+    match advice(fault) {
+        Some(words) => write!(formatter, "{fault}: {words}"),
+        None => fault.fmt(formatter),
+    }
+}
+
+// `lispd check` says more of a fault of a configuration.
+fn put_remedy<W: Write>(number: u16, formatter: &mut Formatter<W>) -> fmt::Result {
+    formatter.write_str(remedy(number).unwrap_or(""))?;
+    match number {
+        20..=23 => formatter.write_str("; `lispd check` names the entry and the field"),
+        _ => Ok(()),
+    }
+}
+
+/// The words after the program's name: which subcommand, file and node.
+#[derive(Drop)]
+struct Words<'a>(&'a [String]);
+
+impl Display for Words<'_> {
+    fn fmt<W: Write>(&self, formatter: &mut Formatter<W>) -> fmt::Result {
+        if let [_, words @ ..] = self.0 {
+            for word in words {
+                write!(formatter, " {word}")?;
+            }
+        }
+        Ok(())
+    }
+}
+
+/// Prints the fault's number, and the line of a script; to a terminal also what was asked for and what is wrong, in words.
+/// Returns the fault's exit status.
+pub fn report<R: Eprint>(
+    rt: &R,
+    fault: &ProgramFault,
+    words: &[String],
+    is_terminal: bool,
+) -> ExitCode {
+    let number = fault.number();
+    let _ = match fault.line() {
+        Some(line) => eprintln!(rt; "lispd: fault {number} line {line}"),
+        None => eprintln!(rt; "lispd: fault {number}"),
+    };
+    if is_terminal {
+        explain(rt, fault, words);
+    }
+    ExitCode::from(fault.status())
+}
+
+// A fault of a file, a schedule or a node comes with the words that name them.
+fn explain<R: Eprint>(rt: &R, fault: &ProgramFault, words: &[String]) {
+    let words = match fault {
+        ProgramFault::File | ProgramFault::Play(_) | ProgramFault::Run(_) => words,
+        _ => &[],
+    };
+    let _ = eprintln!(rt; "lispd{}: {}", Words(words), InWords(fault));
+}
