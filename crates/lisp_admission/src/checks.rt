@@ -10,8 +10,8 @@ ghost use Rattle.lisp_admission.specs.declared.refused.Refused.{Refused};
 use crate::refused::Refused;
 use lisp_hmac::Key;
 use lisp_messages::{MapRegister, authentic_under};
-use lisp_records::MapRecord;
 use lisp_policy::{Site, Sites};
+use lisp_records::MapRecord;
 use std::alloc::Allocator;
 
 /// The key that a Map-Register is authentic under, or the first check that it fails: `UnknownSite`,

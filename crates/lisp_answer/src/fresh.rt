@@ -7,8 +7,8 @@ ghost use Rattle.lisp_answer.specs.Fresh.{fresh_server, fresh_memory};
 
 use lisp_memory::Memory;
 use lisp_nonces::MemoryStore;
-use lisp_records::{Addr, Bytes};
 use lisp_policy::Sites;
+use lisp_records::{Addr, Bytes};
 use lisp_server::{Refused, Server};
 
 /// Where the datagram is said to come from: no answer shows it.

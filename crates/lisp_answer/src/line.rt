@@ -9,8 +9,8 @@ use crate::fresh::respond;
 use crate::words::words_of_refused;
 use hex::FromHexError;
 use lisp_memory::{FallibleString, Memory};
-use lisp_records::Bytes;
 use lisp_policy::Sites;
+use lisp_records::Bytes;
 use lisp_server::Refused;
 use std::alloc::AllocError;
 

@@ -4,8 +4,8 @@ ghost use Rattle.std.specs.Prelude.{◌≡◌, IfOk, OnErr};
 ghost use Rattle.lisp_answer.specs.Block.{default_block};
 
 use lisp_memory::{FallibleCopies, Memory};
-use lisp_records::{Addr, Bytes, Prefix};
 use lisp_policy::Sites;
+use lisp_records::{Addr, Bytes, Prefix};
 use std::alloc::{AllocError, Allocator, Global};
 use std::marker::Model;
 

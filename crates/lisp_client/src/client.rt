@@ -10,8 +10,8 @@ ghost use Rattle.lisp_client.specs.Told.{HasRun, IsPromised, IsNotThere, HasNotR
 use crate::question::Question;
 use crate::told::Told;
 use lisp_memory::{FallibleVec, Memory};
-use lisp_nonces::MemoryStore;
 use lisp_model::Event;
+use lisp_nonces::MemoryStore;
 use lisp_sites::Config;
 use lisp_world::World;
 use std::alloc::{AllocError, Allocator};

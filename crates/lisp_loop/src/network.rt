@@ -4,9 +4,9 @@ ghost use Rattle.std.specs.Prelude.{◌≡◌, ◌+◌, IfOk, OnOk, length};
 
 use crate::sockets::Sockets;
 use lisp_memory::FallibleVec;
+use lisp_model::Event;
 use lisp_nonces::WorldStore;
 use lisp_playing::{Command, play_on};
-use lisp_model::Event;
 use lisp_sites::Config;
 use lisp_sockets::{Folder, entry_at, flush, open_folder};
 use lisp_store::FileStore;

@@ -17,9 +17,9 @@ use crate::server_node::ServerNode;
 use lisp_admission::Refused;
 use lisp_etr::{NotifyFault, Seen};
 use lisp_memory::Memory;
+use lisp_model::{Line, Refusal};
 use lisp_nonces::{Fate, WorldStore};
 use lisp_records::{Addr, Bytes};
-use lisp_model::{Line, Refusal};
 use lisp_server::Took;
 use std::alloc::Allocator;
 

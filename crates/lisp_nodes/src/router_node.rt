@@ -19,8 +19,8 @@ use core::mem::replace_with;
 use lisp_etr::{Etr, EtrConfig, NotifyFault, Seen, SendFault, StartFault, StartRefused};
 use lisp_memory::Memory;
 use lisp_nonces::{Fate, WorldStore};
-use lisp_records::{Addr, Bytes, Database, RouterId};
 use lisp_policy::Places;
+use lisp_records::{Addr, Bytes, Database, RouterId};
 use std::alloc::{Allocator, Global};
 use std::marker::Model;
 

@@ -10,9 +10,9 @@ ghost use Rattle.lisp_playing.specs.Asked.{Acknowledges, Asks, CountedFrom, Hold
 use lisp_etr::Etr;
 use lisp_lines::{ask_text, due_router_text, due_server_text, hold_text, line_text, put_ack};
 use lisp_memory::{FallibleString, Memory};
+use lisp_model::Line;
 use lisp_nonces::WorldStore;
 use lisp_records::Addr;
-use lisp_model::Line;
 use lisp_sites::{Config, RouterEntry};
 use lisp_world::{World, WorldFault};
 use std::alloc::{AllocError, Allocator};

@@ -5,10 +5,10 @@ ghost use Rattle.lisp_records.specs.Moment.{max_moment};
 
 use crate::node::{Node, run};
 use crate::station::Station;
+use lisp_model::{Line, Refusal};
 use lisp_nodes::{Arrival, ServerNode, server_hears};
 use lisp_nonces::WorldStore;
 use lisp_records::{Bytes, RouterId};
-use lisp_model::{Line, Refusal};
 use lisp_sites::Config;
 use lisp_sockets::Kind;
 use lisp_streams::RunFault;

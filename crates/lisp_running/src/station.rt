@@ -2,8 +2,8 @@
 
 ghost use Rattle.std.specs.Prelude.{◌<◌, ◌+◌, length};
 
-use lisp_records::{Addr, Bytes, RouterId};
 use lisp_model::{Line, Refusal};
+use lisp_records::{Addr, Bytes, RouterId};
 use lisp_sites::Config;
 use lisp_sockets::{Endpoint, Entry, entry_at, flush};
 use lisp_streams::{RunFault, write_line};

@@ -1,7 +1,7 @@
 //! The commands of a script.
 
-use lisp_records::Addr;
 use lisp_model::Event;
+use lisp_records::Addr;
 use std::alloc::{Allocator, Global};
 
 /// A command: an event, or what is asked of a node. Nodes are named by their numbers: Map-Servers, then routers, in the

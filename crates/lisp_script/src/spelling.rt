@@ -13,8 +13,8 @@ use crate::fault::ScriptWhat;
 use crate::verb::Verb;
 use crate::words::{address, bytes, database, doubt, fate, node, number, router, server};
 use lisp_memory::Memory;
-use lisp_nonces::Fate;
 use lisp_model::Event;
+use lisp_nonces::Fate;
 use lisp_sites::Config;
 use std::alloc::Allocator;
 

@@ -21,8 +21,8 @@ use lisp_hmac::Key;
 use lisp_memory::Memory;
 use lisp_messages::MapRegister;
 use lisp_nonces::{NonceStore, Pair, PairKind};
-use lisp_records::{Bytes, Row};
 use lisp_policy::Sites;
+use lisp_records::{Bytes, Row};
 use std::alloc::{AllocError, Allocator};
 
 /// Receives a Map-Register that was read from the bytes of an arrival. All that takes memory comes before

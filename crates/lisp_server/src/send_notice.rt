@@ -20,8 +20,8 @@ use lisp_lookup::Table;
 use lisp_memory::Memory;
 use lisp_messages::{MapNotify, write_notify_under};
 use lisp_nonces::NonceStore;
-use lisp_records::{Addr, Bytes, Records, RouterId};
 use lisp_policy::Sites;
+use lisp_records::{Addr, Bytes, Records, RouterId};
 use std::alloc::{AllocError, Allocator};
 
 /// Sends a notice to a router at a time, in ms. All that takes memory comes before its nonce is saved; what

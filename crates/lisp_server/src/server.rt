@@ -31,8 +31,8 @@ use lisp_lookup::{Answer, Table};
 use lisp_memory::Memory;
 use lisp_messages::{Message, read_message};
 use lisp_nonces::{NonceStore, Pair};
-use lisp_records::{Addr, RouterId, Row};
 use lisp_policy::Sites;
+use lisp_records::{Addr, RouterId, Row};
 use std::alloc::{AllocError, Allocator, Global};
 use std::marker::Model;
 

@@ -13,8 +13,8 @@ use crate::keyed::{HasKey, Keyed};
 use crate::place::PlacedFault;
 use crate::value::{byte, check_table, flag, secret, text_as};
 use lisp_memory::{FallibleVec, Memory};
-use lisp_records::Prefix;
 use lisp_policy::{Site, SiteKey, SitePrefix, Sites};
+use lisp_records::Prefix;
 use std::alloc::Allocator;
 use toml::Value;
 

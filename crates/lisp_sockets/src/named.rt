@@ -2,8 +2,8 @@
 
 ghost use Rattle.std.specs.Prelude.{◌≡◌, ◌<◌, ◌+◌, IfOk, IfSome, length};
 
-use lisp_records::Addr;
 use lisp_model::WorldFault;
+use lisp_records::Addr;
 use lisp_sites::Config;
 use lisp_streams::RunFault;
 

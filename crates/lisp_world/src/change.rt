@@ -5,9 +5,9 @@ ghost use Rattle.lisp_world.specs.Taking.{Takes};
 
 use crate::world::World;
 use lisp_memory::Memory;
+use lisp_model::{Line, WorldFault};
 use lisp_nonces::WorldStore;
 use lisp_records::Database;
-use lisp_model::{Line, WorldFault};
 use std::alloc::Allocator;
 
 impl<S: WorldStore, A: Memory + Copy> World<S, A> {

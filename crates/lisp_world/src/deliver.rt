@@ -8,9 +8,9 @@ ghost use Rattle.lisp_world.specs.Taking.{Takes};
 use crate::room::with_room;
 use crate::world::World;
 use lisp_memory::Memory;
+use lisp_model::{Line, WorldFault};
 use lisp_nodes::{Arrival, hear, post_reply};
 use lisp_nonces::{Fate, WorldStore};
-use lisp_model::{Line, WorldFault};
 
 impl<S: WorldStore, A: Memory + Copy> World<S, A> {
     // A datagram arrives at the first node with its address, perhaps not for the first time.

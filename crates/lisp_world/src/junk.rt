@@ -5,10 +5,10 @@ ghost use Rattle.lisp_world.specs.Taking.{Takes};
 
 use crate::world::World;
 use lisp_memory::{FallibleVec, Memory};
+use lisp_model::{Line, WorldFault};
 use lisp_nodes::{Arrival, hear, post_reply};
 use lisp_nonces::{Fate, WorldStore};
 use lisp_records::Addr;
-use lisp_model::{Line, WorldFault};
 
 impl<S: WorldStore, A: Memory + Copy> World<S, A> {
     // Bytes that no node sent arrive at a node, as if they came from an address.

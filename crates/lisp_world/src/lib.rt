@@ -17,7 +17,7 @@ mod step;
 mod tick;
 mod world;
 
-pub use lisp_nodes::Datagram;
 pub use lisp_model::{Event, Line, Refusal, WorldFault};
+pub use lisp_nodes::Datagram;
 pub use new::router_node;
 pub use world::World;

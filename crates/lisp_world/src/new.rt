@@ -23,10 +23,10 @@ use lisp_admission::key_at;
 use lisp_etr::{EtrConfig, Servers, StartFault};
 use lisp_hmac::Key;
 use lisp_memory::{FallibleCopies, FallibleVec, Memory};
+use lisp_model::WorldFault;
 use lisp_nodes::{RouterNode, ServerNode, Start};
 use lisp_nonces::WorldStore;
 use lisp_records::{Addr, RouterId};
-use lisp_model::WorldFault;
 use lisp_sites::{Config, Places, RouterEntry, ServerEntry};
 use std::alloc::{AllocError, Allocator};
 

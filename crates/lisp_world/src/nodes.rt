@@ -5,9 +5,9 @@ ghost use Rattle.lisp_world.specs.Faults.{is_missing, is_server, node_fault, rou
 ghost use Rattle.lisp_refinement.specs.Turns.{address_of, node_with};
 
 use crate::world::World;
+use lisp_model::WorldFault;
 use lisp_nonces::WorldStore;
 use lisp_records::Addr;
-use lisp_model::WorldFault;
 use std::alloc::Allocator;
 
 impl<S: WorldStore, A: Allocator> World<S, A> {

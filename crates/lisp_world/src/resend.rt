@@ -10,10 +10,10 @@ ghost use Rattle.lisp_world.specs.Taking.{Takes};
 use crate::room::with_room;
 use crate::world::World;
 use lisp_memory::Memory;
+use lisp_model::{Line, Refusal, WorldFault};
 use lisp_nodes::{Datagram, post};
 use lisp_nonces::WorldStore;
 use lisp_records::{Addr, Bytes};
-use lisp_model::{Line, Refusal, WorldFault};
 use lisp_server::NoticeFault;
 
 impl<S: WorldStore, A: Memory + Copy> World<S, A> {

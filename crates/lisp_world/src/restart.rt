@@ -10,10 +10,10 @@ ghost use Rattle.lisp_refinement.specs.Turns.{RestartsServer, RestartsAt};
 
 use crate::world::World;
 use lisp_memory::Memory;
+use lisp_model::{Line, Refusal, WorldFault};
 use lisp_nodes::Start;
 use lisp_nonces::WorldStore;
 use lisp_records::Database;
-use lisp_model::{Line, Refusal, WorldFault};
 use std::alloc::{AllocError, Allocator};
 
 impl<S: WorldStore, A: Memory + Copy> World<S, A> {

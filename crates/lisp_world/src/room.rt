@@ -5,8 +5,8 @@ ghost use Rattle.std.specs.Vec.{vec_len, vec_capacity};
 ghost use Rattle.lisp_world.specs.Taking.{HasRoom};
 
 use lisp_memory::{FallibleVec, Memory};
-use lisp_nodes::Datagram;
 use lisp_model::WorldFault;
+use lisp_nodes::Datagram;
 
 // Where a check passed, there is room for one more datagram, or the memory for it is refused.
 pub(crate) fn with_room<T: Copy, A: Memory>(

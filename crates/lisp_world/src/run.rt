@@ -10,8 +10,8 @@ ghost use Rattle.lisp_refinement.specs.Headline.{Promises};
 
 use crate::world::World;
 use lisp_memory::{FallibleVec, Memory};
-use lisp_nonces::WorldStore;
 use lisp_model::{Event, Line, WorldFault};
+use lisp_nonces::WorldStore;
 use std::alloc::Allocator;
 
 impl<S: WorldStore, A: Memory + Copy> World<S, A> {

@@ -13,10 +13,10 @@ use crate::room::with_room;
 use crate::world::World;
 use lisp_etr::SendFault;
 use lisp_memory::Memory;
+use lisp_model::{Line, Refusal, WorldFault};
 use lisp_nodes::{Datagram, post_message};
 use lisp_nonces::{Fate, WorldStore};
 use lisp_records::{Addr, Bytes};
-use lisp_model::{Line, Refusal, WorldFault};
 
 impl<S: WorldStore, A: Memory + Copy> World<S, A> {
     // A router sends a Map-Register to a Map-Server.

@@ -11,8 +11,8 @@ ghost use Rattle.lisp_refinement.specs.Stands.{StandsAfter};
 
 use crate::world::World;
 use lisp_memory::Memory;
-use lisp_nonces::WorldStore;
 use lisp_model::{Event, Line, WorldFault};
+use lisp_nonces::WorldStore;
 use std::alloc::Allocator;
 
 impl<S: WorldStore, A: Memory + Copy> World<S, A> {

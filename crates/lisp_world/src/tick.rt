@@ -8,10 +8,10 @@ ghost use Rattle.lisp_world.specs.Taking.{Takes};
 
 use crate::world::World;
 use lisp_memory::Memory;
+use lisp_model::{Line, WorldFault};
 use lisp_nodes::ServerNode;
 use lisp_nonces::WorldStore;
 use lisp_records::MAX_MOMENT;
-use lisp_model::{Line, WorldFault};
 
 impl<S: WorldStore, A: Memory + Copy> World<S, A> {
     // Time passes, in ms, and each Map-Server drops its dead rows.
