@@ -9,3 +9,6 @@ pub mod BrokenPromises
 pub mod Premises
 pub mod Answers
 pub mod Meanings
+pub mod Indices
+pub mod Networks
+pub mod MemoryLines

@@ -1,12 +1,12 @@
 -- Who answers for an address: what is so, and what isn't.
-use Rattle.std.proofs.Common.{Bor, [], ap, arith, false, inl, inr, refl, subst, suc, sym, true, true≢false, zero, ℕ, ◌∙◌, ◌∷◌, ◌≡◌, ◌≢◌, ◌⊎◌}
+use Rattle.std.proofs.Common.{Bor, Some, [], ap, arith, false, inl, inr, refl, subst, suc, sym, true, true≢false, zero, ℕ, ◌∙◌, ◌∷◌, ◌≡◌, ◌≢◌, ◌⊎◌}
 use Rattle.std.specs.List.{Contains}
 use Rattle.std.specs.declared.cmp.Ordering.TheVariants.{Equal, Greater, Less}
 use Rattle.lisp_records.specs.Address.{masked}
 use Rattle.lisp_records.specs.Record.{Mapping}
 use Rattle.lisp_records.specs.Row.{Holding}
 use Rattle.lisp_records.specs.declared.address.Addr.TheVariants.{V4}
-use Rattle.lisp_lookup.specs.Answer.{IsBest, may_answer, rank_cmp}
+use Rattle.lisp_lookup.specs.Answer.{IsBest, greater, may_answer, rank_cmp}
 use Rattle.lisp_lookup.specs.declared.answer.Answer.TheVariants.{Forward, NoSite, NotRegistered, Reply}
 use Rattle.lisp_model.specs.Answer.{IsAnswer}
 use Rattle.lisp_model.specs.Bag.{since}
@@ -112,3 +112,29 @@ not_registered_though_held answers = true≢false (answers.0 (row_of (mapping wi
 
 forwards_though_proxy : IsAnswer {A = Unit {0}} opening one_taken 0 (V4 (10 ∷ 1 ∷ 2 ∷ 3 ∷ [])) (Forward (local_at 21)) → ⊥
 forwards_though_proxy (h, best, proxy, is) = true≢false (sym (ap (λ (x : Holding). x.proxy) (the_row h best.held)) ∙ proxy)
+
+-- the order of rows of one prefix length: with proxy replies, then the later one, then the greater router
+with_proxy_first : rank_cmp row_of_one (record row_of_one { proxy = false; accepted = 7; router = two }) ≡ Greater
+with_proxy_first = refl
+
+later_then : rank_cmp (record row_of_one { accepted = 7 }) (record row_of_one { router = two }) ≡ Greater
+later_then = refl
+
+router_then : rank_cmp (record row_of_one { router = two }) row_of_one ≡ Greater
+router_then = refl
+
+-- a row replies for no address outside of its prefix, and not when it is dead
+replies_for_another : (r : Bor Mapping) → IsAnswer {A = Unit {0}} opening one_taken 0 (V4 (11 ∷ 0 ∷ 0 ∷ 1 ∷ [])) (Reply r) → ⊥
+unfolding masked
+replies_for_another r (h, best, proxy, is) = true≢false (sym best.may ∙ ap (may_answer (V4 (11 ∷ 0 ∷ 0 ∷ 1 ∷ [])) 0) (the_row h best.held))
+
+dead_answers : may_answer (V4 (10 ∷ 1 ∷ 2 ∷ 3 ∷ [])) 180000 row_of_one ≡ false
+unfolding masked
+dead_answers = refl
+
+-- of two rows the greater one
+greater_first : greater (Some row_of_two) row_of_one ≡ row_of_two
+greater_first = refl
+
+greater_second : greater (Some row_of_one) row_of_two ≡ row_of_two
+greater_second = refl

@@ -1,14 +1,17 @@
 -- Illegal traces, each of which breaks one promise: they are legal up to the steps that break it.
-use Rattle.std.proofs.Common.{Bool, List, None, Ok, Option, Some, [], ap, arith, false, inl, inr, refl, slice_index_or, subst, suc, sym, true, true≢false, zero, ℕ, ◌∙◌, ◌∷◌, ◌≡◌}
+use Rattle.std.proofs.Common.{Bool, List, None, Ok, Option, Some, [], ap, arith, false, inl, inr, refl, slice_index_or, subst, suc, sym, true, true≢false, zero, ℕ, ◌∙◌, ◌∷◌, ◌≡◌, ◌≢◌}
 use Rattle.std.specs.FinMap.{empty, insert}
 use Rattle.std.specs.List.{Contains, flat_map}
 use Rattle.std.specs.Option.{option_to_list}
 use Rattle.std.specs.Prelude.{Result, ◌++◌, ◌+◌, ◌-◌, ◌<◌, ◌^◌, ◌⊎◌}
 use Rattle.lisp_records.specs.Record.{Mapping}
 use Rattle.lisp_records.specs.Row.{Holding}
+use Rattle.lisp_records.specs.declared.address.Addr.{Addr}
+use Rattle.lisp_records.specs.declared.address.Addr.TheVariants.{V4, V6}
 use Rattle.lisp_records.specs.declared.router.RouterId.{RouterId}
 use Rattle.lisp_nonces.specs.Kept.{kept_at, number}
 use Rattle.lisp_nonces.specs.declared.fate.Fate.TheVariants as fates
+use Rattle.lisp_nonces.specs.declared.fault.StoreFault.TheVariants as stores
 use Rattle.lisp_nonces.specs.declared.pair.Pair.{Pair}
 use Rattle.lisp_messages.specs.Message.{Registers, Registration, Said}
 use Rattle.lisp_messages.specs.Reading.{message_at}
@@ -16,22 +19,26 @@ use Rattle.lisp_messages.specs.declared.fault.ReadFault.{ReadFault}
 use Rattle.lisp_etr.specs.Sending.{last_nonce}
 use Rattle.lisp_etr.specs.declared.notify_fault.NotifyFault.TheVariants as notify_faults
 use Rattle.lisp_etr.specs.declared.send_fault.SendFault.TheVariants as send_faults
+use Rattle.lisp_etr.specs.declared.start_fault.StartFault.TheVariants as start_faults
 use Rattle.lisp_admission.specs.Nonces.{IsBelow}
 use Rattle.lisp_admission.specs.declared.refused.Refused.TheVariants as refuseds
 use Rattle.lisp_model.specs.Bag.{Item, bytes_of, register_item, since, taken, thrown}
 use Rattle.lisp_model.specs.Held.{Acceptance, held}
 use Rattle.lisp_model.specs.History.{Entry, message_of, record_in}
-use Rattle.lisp_model.specs.Must.{IsExcused, Must}
+use Rattle.lisp_model.specs.Legal.{turn_of}
+use Rattle.lisp_model.specs.Must.{DeviceFailed, IsExcused, Must}
 use Rattle.lisp_model.specs.Promises.{AcceptedWasSent, CountedWasAccepted, DoneWasNoticed, HeldAgree, HeldWasSent, IsOf, LeavesOthers, NoncesRise, NoticeNoncesRise, NoticesDiffer, ReplaysAreTried}
-use Rattle.lisp_model.specs.Timers.{Notice}
-use Rattle.lisp_model.specs.Trace.{Opening, Step, address_at, router_at}
+use Rattle.lisp_model.specs.Timers.{Notice, Sends}
+use Rattle.lisp_model.specs.Trace.{Step, address_at, router_at}
+use Rattle.lisp_model.specs.Turn.{HasCause}
 use Rattle.lisp_model.specs.declared.event.Event.TheVariants as events
 use Rattle.lisp_model.specs.declared.line.Line.{Line}
 use Rattle.lisp_model.specs.declared.line.Line.TheVariants as lines
 use Rattle.lisp_model.specs.declared.refusal.Refusal.TheVariants as refusals
 use Rattle.lisp_model.proofs.Examples.Arrivals.{admitted, hears, registers_read}
-use Rattle.lisp_model.proofs.Examples.Samples.{answered, at, blank, counts, ends, got_from, heard_of, keeps, local_at, mapping, network, notices, one, opening, refuses, registers, replays, row_of, secret, sends, sent_by, step, takes, tells, two, wide}
-use Rattle.lisp_model.proofs.Examples.Traces.{both_heard, both_sent, first_entry, first_told, foreign, foreign_sent, newer_taken, one_sent, one_taken, registered_again, restarted, sent_twice, short, was_noticed}
+use Rattle.lisp_model.proofs.Examples.NearMisses.Common.{never}
+use Rattle.lisp_model.proofs.Examples.Samples.{answered, arrived, at, blank, counts, ends, got_from, heard_of, keeps, local_at, mapping, network, notices, one, one_left, opening, refuses, registers, replays, row_of, secret, sends, sent_by, step, takes, tells, ticks, told_to, two, wide}
+use Rattle.lisp_model.proofs.Examples.Traces.{answered_elsewhere, both_heard, both_sent, both_taken, first_entry, first_told, foreign, foreign_sent, newer_taken, one_counted, one_sent, one_taken, registered_again, restarted, sent_twice, short, was_noticed}
 use Rattle.lisp_model.proofs.ItemLemmas.{item_authentic}
 use Rattle.lisp_model.proofs.KeptLemmas.{kept_at-empty, only_value, set_here}
 use Rattle.lisp_model.proofs.ListLemmas.{at_head, head_or_tail, in_none}
@@ -44,6 +51,22 @@ only_first e has = at (head_or_tail first_entry [] e has)
     at (inl same) = same
     at (inr none) = absurd (in_none e none)
 
+-- the record of another time to live
+abbrev ttl_of : List Mapping → ℕ
+ttl_of [] = 0
+ttl_of (m ∷ ms) = m.ttl
+
+other_records : (mapping wide 60 ∷ []) ≡ (mapping wide 1440 ∷ []) → ⊥
+other_records e = let ttl : ◌≡◌ {A = ℕ} 60 1440 = ap ttl_of e in absurd (omega (arith, ttl))
+
+-- the last byte of an address
+abbrev last_byte : Addr → ℕ
+last_byte (V4 bytes) = slice_index_or bytes 3 0
+last_byte (V6 bytes) = 0
+
+abbrev later_counted : List Step
+later_counted = ticks one_counted 5 5 ∷ one_counted
+
 -- nonces rise: one is accepted twice over a restart; an older one after a newer one
 accepted_twice : NoncesRise opening (takes restarted 0 0 1 2 ∷ restarted) → ⊥
 accepted_twice rise = let less : 1 < 1 = (rise 0 (got_from one)).0 1 (at_head 1 []) in absurd (omega (arith, less))
@@ -53,9 +76,6 @@ accepted_older rise = let less : 2 < 1 = (rise 0 (got_from one)).0 2 (at_head 2 
 
 -- replays are told with nonces that were tried. None was: at all; at that Map-Server; since it was refused for another
 -- reason; of that router
-abbrev arrived : List Mapping → ℕ → Acceptance
-arrived records nonce = record { message = registers records nonce; from = local_at 21; moment = 0 }
-
 none_kept : (pair : Pair) (n : ℕ) → Contains (flat_map option_to_list (kept_at empty pair)) n → ⊥
 none_kept pair n has = in_none n (subst (λ (vs : List (Option ℕ)). Contains (flat_map option_to_list vs) n) (kept_at-empty pair) has)
 
@@ -98,6 +118,31 @@ restarted_by_another leaves = let clash : ◌≡◌ {A = List Acceptance} [] (ar
 router_restarted_by_another : LeavesOthers opening one_taken (step (events.Restart 2 0 None) (lines.Restarted 2) 3 (at one_taken 3)) → ⊥
 router_restarted_by_another leaves = let clash : ◌≡◌ {A = Option ℕ} None (Some 1) = (leaves.router 2 refl (λ e. absurd (omega (arith, e)))).last_sent in absurd cc
 
+-- another one's database and round, its notices and their nonces, whether it is up, what it accepted ever and counted
+changed_by_another : LeavesOthers opening later_counted (step (events.Change 2 short) (lines.Changed 2 1) 3 blank) → ⊥
+changed_by_another leaves = other_records (leaves.router 2 refl (λ e. absurd (omega (arith, e)))).database
+
+rounds_of_another : LeavesOthers opening later_counted (step (events.Change 2 short) (lines.Changed 2 1) 3 blank) → ⊥
+rounds_of_another leaves = let begin : ◌≡◌ {A = ℕ} 5 60000 = ap (λ (r : Sends). r.begin) ((leaves.router 2 refl (λ e. absurd (omega (arith, e)))).round 0) in absurd (omega (arith, begin))
+
+told_by_another : LeavesOthers opening one_taken (step (events.Notice 0 2 fates.Done) (lines.Notice 0 2 1 (2 ^ 63) 2) 1 blank) → ⊥
+told_by_another leaves = let clash : ◌≡◌ {A = List Notice} (told_to one (2 ^ 63) 2 (0 ∷ []) ∷ []) [] = (leaves.server 0 refl (λ e. absurd (omega (arith, e)))).notices in absurd cc
+
+noticed_by_another : LeavesOthers opening one_taken (step (events.Notice 0 2 fates.Done) (lines.Notice 0 2 1 (2 ^ 63) 2) 1 blank) → ⊥
+noticed_by_another leaves = let clash : ◌≡◌ {A = Option ℕ} (Some (2 ^ 63)) None = (leaves.server 0 refl (λ e. absurd (omega (arith, e)))).last_notice in absurd cc
+
+downed_by_another : LeavesOthers opening one_sent (step (events.Restart 2 0 None) (lines.Refused 2 (refusals.Start (start_faults.Store stores.Device))) 3 blank) → ⊥
+downed_by_another leaves = let clash : false ≡ true = (leaves.router 2 refl (λ e. absurd (omega (arith, e)))).is_up in absurd cc
+
+accepted_by_another : LeavesOthers opening one_sent (step (events.Deliver 0 fates.Done) (lines.Accepted 0 one 1 1 (Some 1)) 1 blank) → ⊥
+accepted_by_another leaves = let clash : ◌≡◌ {A = List Acceptance} (arrived (mapping wide 1440 ∷ []) 1 ∷ []) [] = (leaves.server 0 refl (λ e. absurd (omega (arith, e)))).accepted in absurd cc
+
+latest_by_another : LeavesOthers opening [] (step (events.Send 2 0 fates.Done) (lines.Sent 2 0 1 1 0) 3 blank) → ⊥
+latest_by_another leaves = let latest : ◌≡◌ {A = ℕ} 1 0 = (leaves.router 2 refl (λ e. absurd (omega (arith, e)))).latest 0 in absurd (omega (arith, latest))
+
+acked_by_another : LeavesOthers opening one_taken (step (events.Deliver 1 fates.Done) (lines.Counted 2 0 1 1) 3 blank) → ⊥
+acked_by_another leaves = let clash : ◌≡◌ {A = Option (ℕ × ℕ)} (Some (1, 1)) None = (leaves.router 2 refl (λ e. absurd (omega (arith, e)))).acked 0 in absurd cc
+
 -- what is accepted was sent: to another Map-Server; with other records; twice under one nonce
 abbrev taken_elsewhere : List Step
 taken_elsewhere = takes one_sent 0 1 1 1 ∷ one_sent
@@ -107,6 +152,19 @@ accepted_elsewhere all =
     let of = all 1 (arrived (mapping wide 1440 ∷ []) 1) (at_head (arrived (mapping wide 1440 ∷ []) 1) []) in
     let whom : ◌≡◌ {A = ℕ} 0 1 = sym (ap (λ (e : Entry). e.server) (only_first of.0 of.1.sent)) ∙ of.1.whom in
     absurd (omega (arith, whom))
+
+-- from another address
+accepted_from_elsewhere : AcceptedWasSent opening answered_elsewhere → ⊥
+accepted_from_elsewhere all = by (all 0 (record (arrived (mapping wide 1440 ∷ []) 1) { from = local_at 99 }) (subst (λ (xs : List Acceptance). Contains (xs ++ []) (record (arrived (mapping wide 1440 ∷ []) 1) { from = local_at 99 })) (sym lost) (at_head _ [])))
+  where
+    lost : taken (Some (thrown (local_at 99) (bytes_of (register_item opening [] 2 0 1)))) 0 ≡ record (arrived (mapping wide 1440 ∷ []) 1) { from = local_at 99 } ∷ []
+    lost = ap (λ (r : Result Said ReadFault). taken (Some (record { from = local_at 99; bytes = bytes_of (register_item opening [] 2 0 1); read = r })) 0) (registers_read (register_item opening [] 2 0 1) 1440 1 refl (omega arith) (omega arith))
+
+    by : (e : Entry) × IsOf opening answered_elsewhere 0 (record (arrived (mapping wide 1440 ∷ []) 1) { from = local_at 99 }) e → ⊥
+    by (e, of) =
+        let from : local_at 99 ≡ local_at 21 = of.from ∙ ap (λ (x : Entry). address_at network x.router) (only_first e of.sent) in
+        let last : ◌≡◌ {A = ℕ} 99 21 = ap last_byte from in
+        absurd (omega (arith, last))
 
 -- the first message, with another record, to a Map-Server
 abbrev forged : ℕ → ℕ → Item
@@ -120,13 +178,6 @@ taken_of server nonce small = ap (λ (r : Result Said ReadFault). taken (Some (r
 
 abbrev forged_taken : List Step
 forged_taken = step (events.Junk 0 (local_at 21) (bytes_of (forged 0 1))) (lines.Accepted 0 one 1 1 (Some 1)) 0 (keeps blank (got_from one) 1) ∷ one_sent
-
-abbrev ttl_of : List Mapping → ℕ
-ttl_of [] = 0
-ttl_of (m ∷ ms) = m.ttl
-
-other_records : (mapping wide 60 ∷ []) ≡ (mapping wide 1440 ∷ []) → ⊥
-other_records e = let ttl : ◌≡◌ {A = ℕ} 60 1440 = ap ttl_of e in absurd (omega (arith, ttl))
 
 accepted_forged : AcceptedWasSent opening forged_taken → ⊥
 accepted_forged all =
@@ -228,6 +279,25 @@ counted_another all =
 counted_of_another_server : CountedWasAccepted opening (counts taken_by_other 2 0 2 ∷ taken_by_other) → ⊥
 counted_of_another_server all = let was = all 2 0 1 2 (at_head (1, 2) []) in in_none was.acceptance was.taken
 
+-- another router, another key, another Map-Server than those of the send
+counted_by_another : CountedWasAccepted opening (step (events.Deliver 1 fates.Done) (lines.Counted 3 0 1 1) 3 blank ∷ one_taken) → ⊥
+counted_by_another all =
+    let was = all 3 0 1 1 (at_head (1, 1) []) in
+    let who : ◌≡◌ {A = ℕ} 2 3 = sym (ap (λ (e : Entry). e.router) (only_first was.entry was.sent)) ∙ was.who in
+    absurd (omega (arith, who))
+
+counted_under_another_key : CountedWasAccepted opening (step (events.Deliver 1 fates.Done) (lines.Counted 2 0 7 1) 2 blank ∷ one_taken) → ⊥
+counted_under_another_key all =
+    let was = all 2 0 7 1 (at_head (7, 1) []) in
+    let under : ◌≡◌ {A = ℕ} 1 7 = sym (ap (λ (e : Entry). e.key) (only_first was.entry was.sent)) ∙ was.under in
+    absurd (omega (arith, under))
+
+counted_elsewhere : CountedWasAccepted opening (step (events.Deliver 1 fates.Done) (lines.Counted 2 1 1 1) 2 blank ∷ taken_elsewhere) → ⊥
+counted_elsewhere all =
+    let was = all 2 1 1 1 (at_head (1, 1) []) in
+    let whom : ◌≡◌ {A = ℕ} 0 1 = sym (ap (λ (e : Entry). e.server) (only_first was.entry was.sent)) ∙ was.whom in
+    absurd (omega (arith, whom))
+
 -- what is done was noticed: by nobody; with another nonce; from another Map-Server; by another router
 abbrev is_noticed : Line → Bool
 is_noticed (lines.Noticed _ _ _ _) = true
@@ -289,9 +359,6 @@ not_done : (false ≡ true) ⊎ ⊥ → ⊥
 not_done (inl e) = absurd cc
 not_done (inr never) = never
 
-abbrev one_left : Opening
-one_left = record { config = network; stores = blank ∷ blank ∷ keeps blank (sent_by one) (2 ^ 63 - 2) ∷ blank ∷ [] }
-
 not_sent : Must IsExcused one_left [] (step (events.Send 2 0 fates.Done) (lines.Refused 2 (refusals.Send send_faults.NonceSpent)) 2 (keeps blank (sent_by one) (2 ^ 63 - 2))) → ⊥
 not_sent must = not_done (must.send 2 0 fates.Done refl refl refl below)
   where
@@ -318,3 +385,49 @@ not_counted must = not_done (must.counted _ (heard_of 0 1 (mapping wide 1440 ∷
 
 not_noticed_yet : Must IsExcused opening first_told (refuses first_told (events.Deliver 2 fates.Done) 2 (refusals.Notify (notify_faults.Stale 1))) → ⊥
 not_noticed_yet must = not_done (must.noticed _ (heard_of 0 (2 ^ 63) (mapping wide 1440 ∷ [])) refl refl refl (hears (local_at 11) (local_at 21) (2 ^ 63) (mapping wide 1440 ∷ []) 0 refl first_told) (omega arith))
+
+-- after a restart the next nonce is called a replay
+abbrev sent_after_restart : List Step
+sent_after_restart = sends restarted 0 2 2 ∷ restarted
+
+next_not_accepted : Must IsExcused opening sent_after_restart (replays sent_after_restart 2 0 1) → ⊥
+next_not_accepted must = not_done (must.accept _ (registers (mapping wide 1440 ∷ []) 2) refl refl (record { read = refl; secret = secret; checks = admitted (register_item opening restarted 2 0 2) (mapping wide 1440 ∷ []) 2 refl refl }) below)
+  where
+    below : (v : Option ℕ) → Contains (kept_at (insert empty (got_from one) (Some 1 ∷ [])) (got_from one)) v → IsBelow v 2
+    below v has = subst (λ (w : Option ℕ). IsBelow w 2) (sym (only_value (Some 1) v (subst (λ (vs : List (Option ℕ)). Contains vs v) (set_here empty (got_from one) (Some 1 ∷ [])) has))) (omega arith)
+
+-- a router that is up says that it is down
+not_down : Must IsExcused opening [] (step (events.Send 2 0 fates.Done) (lines.Down 2) 2 blank) → ⊥
+not_down must = not_done (must.send 2 0 fates.Done refl refl refl none_spent)
+  where
+    none_spent : (v : Option ℕ) → Contains (kept_at empty (sent_by one)) v → number v < last_nonce
+    none_spent v has = subst (λ (w : Option ℕ). number w < last_nonce) (sym (only_value None v (subst (λ (vs : List (Option ℕ)). Contains vs v) (kept_at-empty (sent_by one)) has))) (omega arith)
+
+-- the reply to the last Map-Register to a Map-Server is stale, since another one was sent to another Map-Server
+not_counted_of_each : Must IsExcused opening both_taken (refuses both_taken (events.Deliver 2 fates.Done) 2 (refusals.Notify (notify_faults.Stale 2))) → ⊥
+not_counted_of_each must = not_done (must.counted _ (heard_of 0 1 (mapping wide 1440 ∷ [])) refl refl refl (hears (local_at 11) (local_at 21) 1 (mapping wide 1440 ∷ []) 0 refl both_taken) (omega arith) refl)
+
+-- no excuse: a store's fault though no device failed; memory, where it can't be refused
+unfailed : (0 < 0) ⊎ (◌≡◌ {A = ℕ} 0 (2 ^ 64 - 1)) → ⊥
+unfailed (inl less) = absurd (omega (arith, less))
+unfailed (inr same) = absurd (omega (arith, same))
+
+fault_is_no_excuse : Must IsExcused opening [] (refuses [] (events.Send 2 0 fates.Done) 2 (refusals.Send (send_faults.Store stores.Device))) → ⊥
+fault_is_no_excuse must = by (must.send 2 0 fates.Done refl refl refl none_spent)
+  where
+    none_spent : (v : Option ℕ) → Contains (kept_at empty (sent_by one)) v → number v < last_nonce
+    none_spent v has = subst (λ (w : Option ℕ). number w < last_nonce) (sym (only_value None v (subst (λ (vs : List (Option ℕ)). Contains vs v) (kept_at-empty (sent_by one)) has))) (omega arith)
+
+    by : (false ≡ true) ⊎ HasCause (turn_of opening [] (refuses [] (events.Send 2 0 fates.Done) 2 (refusals.Send (send_faults.Store stores.Device)))) stores.Device → ⊥
+    by (inl e) = absurd cc
+    by (inr cause) = unfailed (cause (λ e. let clash : stores.Device ≡ stores.OutOfMemory = e in absurd cc))
+
+memory_is_no_excuse : Must DeviceFailed opening [] (refuses [] (events.Send 2 0 fates.Done) 2 (refusals.Send send_faults.OutOfMemory)) → ⊥
+memory_is_no_excuse must = by (must.send 2 0 fates.Done refl refl refl none_spent)
+  where
+    none_spent : (v : Option ℕ) → Contains (kept_at empty (sent_by one)) v → number v < last_nonce
+    none_spent v has = subst (λ (w : Option ℕ). number w < last_nonce) (sym (only_value None v (subst (λ (vs : List (Option ℕ)). Contains vs v) (kept_at-empty (sent_by one)) has))) (omega arith)
+
+    by : (false ≡ true) ⊎ ((stores.OutOfMemory ≢ stores.OutOfMemory) × HasCause (turn_of opening [] (refuses [] (events.Send 2 0 fates.Done) 2 (refusals.Send send_faults.OutOfMemory))) stores.OutOfMemory) → ⊥
+    by (inl e) = absurd cc
+    by (inr cause) = cause.0 refl

@@ -1,13 +1,19 @@
 -- Legal traces of the small network: what each meaning makes of them.
-use Rattle.std.proofs.Common.{List, None, Ok, Some, [], ap, arith, inl, inr, map, refl, subst, sym, true, true≢false, ◌∷◌, ◌≡◌}
+use Rattle.std.proofs.Common.{rules, List, None, Ok, Option, Some, [], ap, arith, inl, inr, map, refl, subst, sym, true, true≢false, ℕ, ◌-◌, ◌∷◌, ◌≡◌, ◌≤◌}
+use Rattle.std.specs.FinMap.{empty}
+use Rattle.std.specs.List.{Contains}
 use Rattle.std.specs.Prelude.{Result, slice_get, ◌+◌, ◌^◌}
 use Rattle.lisp_records.specs.Address.{masked}
 use Rattle.lisp_records.specs.Database.{database_of, repeats as repeats_in}
+use Rattle.lisp_records.specs.Moment.{max_moment}
+use Rattle.lisp_records.specs.Record.{Mapping}
 use Rattle.lisp_records.specs.Written.{written}
+use Rattle.lisp_nonces.specs.Kept.{number}
 use Rattle.lisp_nonces.specs.declared.fate.Fate.TheVariants as fates
 use Rattle.lisp_messages.specs.Message.{AreRecords, Said}
 use Rattle.lisp_messages.specs.declared.fault.ReadFault.{ReadFault}
 use Rattle.lisp_messages.specs.declared.fault.ReadFault.TheVariants as reads
+use Rattle.lisp_etr.specs.Sending.{last_nonce}
 use Rattle.lisp_etr.specs.declared.notify_fault.NotifyFault.TheVariants as notify_faults
 use Rattle.lisp_etr.specs.declared.send_fault.SendFault.TheVariants as send_faults
 use Rattle.lisp_admission.specs.NoticeTimer.{due_after}
@@ -18,14 +24,15 @@ use Rattle.lisp_model.specs.Bag.{Item, bag, bytes_of, register_item, reply_item,
 use Rattle.lisp_model.specs.Held.{held}
 use Rattle.lisp_model.specs.Legal.{Legal, LegalTrace, turn_of}
 use Rattle.lisp_model.specs.Receiving.{FailsCheck}
+use Rattle.lisp_model.specs.Trace.{Step}
 use Rattle.lisp_model.specs.declared.event.Event.TheVariants as events
 use Rattle.lisp_model.specs.declared.line.Line.TheVariants as lines
 use Rattle.lisp_model.specs.declared.refusal.Refusal.TheVariants as refusals
 use Rattle.lisp_model.proofs.Examples.Arrivals.{hears, kinds_differ, registers_read, short_heard, short_message, strange_refused, wide_record}
-use Rattle.lisp_model.proofs.Examples.Samples.{answered, at, changes, counts, fails_load, got_from, local_at, mapping, network, one, opening, refuses, replays, restarts, sends, sent_by, step, takes, tells, ticks, told, wide}
+use Rattle.lisp_model.proofs.Examples.Samples.{answered, at, blank, blocks, changes, counts, fails_load, got_from, keeps, local_at, mapping, narrow, network, one, opening, refuses, replays, restarts, sends, sent_by, spent, step, takes, tells, ticks, told, two, wide}
 use Rattle.lisp_model.proofs.Examples.Steps.{changes_legal, counts_legal, doubts_send_legal, doubts_take_legal, ends_legal, fails_load_legal, notices_legal, refuses_record, repeats_legal, replays_legal, restarts_legal, restarts_to_legal, sends_legal, takes_legal, tells_legal, ticks_legal}
-use Rattle.lisp_model.proofs.Examples.Traces.{aged, answered_elsewhere, both_sent, both_taken, doubted, ended, first_told, foreign, foreign_sent, forgot, held_at, is_down, kept_it, newer_taken, not_started, older_noticed, one_counted, one_sent, one_taken, registered_again, restarted, sent_after, sent_twice, short, told_again, told_and_gone, told_anew, two_sent, unsure, unsure_forgot, unsure_kept, waited, was_noticed}
-use Rattle.lisp_model.proofs.KeptLemmas.{empty_full, insert_full, set_full, stays}
+use Rattle.lisp_model.proofs.Examples.Traces.{aged, answered_elsewhere, both_sent, both_taken, doubted, ended, first_told, foreign, foreign_sent, forgot, held_at, is_down, kept_it, newer_taken, not_started, older_noticed, one_counted, one_sent, one_taken, registered_again, restarted, sent_after, sent_twice, short, spent_taken, told_again, told_and_gone, told_anew, two_sent, unsure, unsure_forgot, unsure_kept, waited, was_noticed}
+use Rattle.lisp_model.proofs.KeptLemmas.{empty_full, insert_full, only_value, set_full, set_here, set_others, stays}
 use Rattle.lisp_model.proofs.TurnLemmas.{doubted_end, doubted_new, doubted_old, fresh_value, other_value, set_value}
 
 pub one_sent_legal : LegalTrace opening one_sent
@@ -268,3 +275,60 @@ lost = record {
 -- each Map-Server's reply counts, though a Map-Register went to the other one since
 pub counted_of_each : Legal opening both_taken (counts both_taken 2 0 1)
 counted_of_each = counts_legal both_taken 2 0 1 _ _ refl refl refl (omega arith) refl
+
+-- the clock goes to its end; the last nonce of the routers counts; nonces are spent, and those of notices
+pub to_the_end : Legal opening [] (ticks [] max_moment max_moment)
+to_the_end = ticks_legal [] max_moment max_moment refl (omega arith)
+
+abbrev last_taken : List Step
+last_taken = step (events.Deliver 0 fates.Done) (lines.Accepted 0 one 1 last_nonce (Some 1)) 0 blank ∷ step (events.Send 2 0 fates.Done) (lines.Sent 2 0 1 last_nonce 0) 2 blank ∷ []
+
+pub last_counts : Legal opening last_taken (counts last_taken 1 0 last_nonce)
+last_counts = counts_legal last_taken 1 0 last_nonce _ _ refl refl refl (omega arith) refl
+
+pub spent_told : Legal spent [] (step (events.Send 2 0 fates.Done) (lines.Refused 2 (refusals.Send send_faults.NonceSpent)) 2 (keeps blank (sent_by one) (2 ^ 63 - 1)))
+spent_told = record { faults = omega arith; obedient = refl; row = (refl, refl, record { kind = refl; acts = refl; state = refl }, (refl, (Some (2 ^ 63 - 1), set_value _ _ _, omega arith), refl)) }
+
+narrow_fits : database_of (mapping narrow 1440 ∷ []) ≡ Ok (mapping narrow 1440 ∷ [])
+unfolding written repeats_in
+narrow_fits = refl
+
+pub notices_spent_told : Legal spent spent_taken (step (events.Notice 0 3 fates.Done) (lines.Refused 0 (refusals.Notice notice_faults.NonceSpent)) 0 (keeps (keeps blank notice_pair (2 ^ 64 - 1)) (got_from two) 1))
+notices_spent_told = record {
+  faults = omega arith;
+  obedient = refl;
+  row = (
+    refl,
+    record { kind = refl; acts = refl },
+    refl,
+    (record { some = λ e. let clash : ◌≡◌ {A = List Mapping} (mapping narrow 1440 ∷ []) [] = e in absurd cc; fits = narrow_fits }, Some (2 ^ 64 - 1), other_value _ (got_from two) notice_pair _ (Some (2 ^ 64 - 1)) (λ e. absurd (kinds_differ e)) (set_value _ _ _), λ none obeys clash. absurd cc, omega arith, refl),
+  );
+}
+
+-- a router that saves ten nonces at once keeps the last of them
+pub saved_its_block : Legal blocks [] (step (events.Send 2 0 fates.Done) (lines.Sent 2 0 1 1 0) 2 (keeps blank (sent_by one) 10))
+saved_its_block = record {
+  faults = omega arith;
+  obedient = refl;
+  row = (
+    refl,
+    refl,
+    record {
+      acts = record { kind = refl; acts = refl; state = refl };
+      kind = refl;
+      listed = refl;
+      under = refl;
+      base = None;
+      counts = fresh_value (sent_by one);
+      next = refl;
+      within = omega arith;
+      message = record { nonce = omega arith; key = omega arith; records = wide_record 1440 (omega arith); xtr = refl; xtr_bytes = search rules; site = omega arith };
+      place = refl;
+      saves = record {
+        here = inr (set_here empty (sent_by one) (Some 10 ∷ []), λ obeys clash. absurd cc);
+        none_below = λ v has. subst (λ (w : Option ℕ). 1 ≤ number w) (sym (only_value (Some 10) v (subst (λ (vs : List (Option ℕ)). Contains vs v) (set_here empty (sent_by one) (Some 10 ∷ [])) has))) (omega arith);
+        others = set_others empty (sent_by one) (Some 10 ∷ []);
+      };
+    },
+  );
+}

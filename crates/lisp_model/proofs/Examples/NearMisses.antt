@@ -1,4 +1,5 @@
 -- Steps that are illegal: each would be legal but for one thing.
+
 pub mod Common
 pub mod Sending
 pub mod Receiving
@@ -6,3 +7,4 @@ pub mod Hearing
 pub mod Notifying
 pub mod Keeping
 pub mod Passing
+pub mod Ends

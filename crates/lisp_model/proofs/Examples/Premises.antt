@@ -1,11 +1,12 @@
 -- What the premises of the promises let through: traces that are clean, and entries with no change between them.
 use Rattle.std.proofs.Common.{Err, List, Ok, Some, [], ap, arith, false, inl, inr, refl, reverse, subst, sym, true≢false, ℕ, ◌∙◌, ◌∷◌, ◌≡◌}
 use Rattle.std.specs.List.{Contains}
-use Rattle.std.specs.Prelude.{Result, slice_get, ◌⊎◌}
+use Rattle.std.specs.Prelude.{Result, position, slice_get, ◌⊎◌}
 use Rattle.lisp_records.specs.Record.{Mapping}
 use Rattle.lisp_records.specs.declared.address.Addr.{Addr}
 use Rattle.lisp_messages.specs.Authentic.{is_authentic}
-use Rattle.lisp_messages.specs.Message.{IsSaid, Said}
+use Rattle.lisp_messages.specs.Message.{IsSaid, Registers, Registration, Said}
+use Rattle.lisp_messages.specs.Reading.{message_at}
 use Rattle.lisp_messages.specs.declared.fault.ReadFault.{ReadFault}
 use Rattle.lisp_messages.specs.declared.fault.ReadFault.TheVariants as reads
 use Rattle.lisp_etr.specs.declared.notify_fault.NotifyFault.TheVariants as notify_faults
@@ -19,8 +20,8 @@ use Rattle.lisp_model.specs.declared.event.Event.TheVariants as events
 use Rattle.lisp_model.specs.declared.line.Line.TheVariants as lines
 use Rattle.lisp_model.specs.declared.refusal.Refusal.TheVariants as refusals
 use Rattle.lisp_model.proofs.Examples.Arrivals.{fits, item_reads, short_message, wide_record}
-use Rattle.lisp_model.proofs.Examples.Samples.{at, blank, changes, local_at, mapping, network, opening, refuses, restarts, secret, sends, site, step, wide}
-use Rattle.lisp_model.proofs.Examples.Traces.{both_sent, first_entry, one_sent, short, two_sent}
+use Rattle.lisp_model.proofs.Examples.Samples.{at, blank, changes, local_at, mapping, network, opening, refuses, registers, restarts, secret, sends, site, step, ticks, wide}
+use Rattle.lisp_model.proofs.Examples.Traces.{both_sent, first_entry, one_sent, restarted_changed, short, two_sent}
 use Rattle.lisp_model.proofs.ItemLemmas.{item_authentic}
 use Rattle.lisp_model.proofs.ListLemmas.{at_head, head_or_tail, in_none}
 
@@ -128,8 +129,44 @@ unchanged_by_anothers_restart = unchanged_by (sent_after_step (step (events.Rest
 sent_changed : NoChange two_sent first_entry (third_entry short) → ⊥
 sent_changed n = absurd (true≢false (n.later 1 (changes one_sent short) (omega arith) (omega arith) refl))
 
-abbrev restarted_changed : Step
-restarted_changed = step (events.Restart 2 0 (Some short)) (lines.Restarted 2) 2 (at one_sent 2)
-
 sent_restarted : NoChange (sent_after_step restarted_changed) first_entry (third_entry short) → ⊥
 sent_restarted n = absurd (true≢false (n.later 1 restarted_changed (omega arith) (omega arith) refl))
+
+-- of longer traces: a change before both sends, or between two of three; entries in the other order; entries of two routers
+abbrev sent_later : List Step
+sent_later = sends (sends (changes [] short ∷ []) 0 1 0 ∷ changes [] short ∷ []) 0 2 1 ∷ sends (changes [] short ∷ []) 0 1 0 ∷ changes [] short ∷ []
+
+abbrev entry_at : ℕ → ℕ → ℕ → Entry
+entry_at router nonce position = record { router = router; key = 1; nonce = nonce; server = 0; database = short; position = position }
+
+changed_before : NoChange sent_later (entry_at 2 1 1) (entry_at 2 2 2)
+changed_before = record { router = refl; later = λ place s low high is. absurd (omega (arith, low, high)); earlier = λ place s low high is. absurd (omega (arith, low, high)) }
+
+abbrev sent_thrice : List Step
+sent_thrice = sends (changes (sends one_sent 0 2 1 ∷ one_sent) short ∷ sends one_sent 0 2 1 ∷ one_sent) 0 3 2 ∷ changes (sends one_sent 0 2 1 ∷ one_sent) short ∷ sends one_sent 0 2 1 ∷ one_sent
+
+changed_between : NoChange sent_thrice (entry_at 2 2 1) (entry_at 2 3 3) → ⊥
+changed_between n = absurd (true≢false (n.later 2 (changes (sends one_sent 0 2 1 ∷ one_sent) short) (omega arith) (omega arith) refl))
+
+changed_between_backwards : NoChange sent_thrice (entry_at 2 3 3) (entry_at 2 2 1) → ⊥
+changed_between_backwards n = absurd (true≢false (n.earlier 2 (changes (sends one_sent 0 2 1 ∷ one_sent) short) (omega arith) (omega arith) refl))
+
+of_two_routers : NoChange both_sent (entry_at 2 1 0) (entry_at 3 1 1) → ⊥
+of_two_routers n = let same : ◌≡◌ {A = ℕ} 2 3 = n.router in absurd (omega (arith, same))
+
+-- unclean: a step before the last one; other bytes between the same addresses as a datagram's
+unclean_before : Clean opening (ticks [] 1 1 ∷ step (events.Junk 0 (local_at 21) (bytes_of first_item)) (lines.Down 0) 0 blank ∷ []) → ⊥
+unclean_before clean = sent_by_nobody clean.1
+
+abbrev other_item : Item
+other_item = record first_item { message = Registers (registers short 9) }
+
+other_said : IsSaid other_item.message
+other_said = fits short 9 (omega arith) (wide_record 60 (omega arith))
+
+other_bytes : Clean opening (step (events.Junk 0 (local_at 21) (bytes_of other_item)) (lines.Down 0) 0 blank ∷ one_sent) → ⊥
+other_bytes clean = no_echo one_sent 0 (local_at 21) other_item refl other_said refl (λ echo.
+    let read : ◌≡◌ {A = Result Said ReadFault} (Ok first_item.message) (Ok other_item.message) = sym (item_reads first_item first_said) ∙ ap (λ (i : Item). message_at (bytes_of i)) (sym (in_bag first_item echo.item echo.sent)) ∙ ap message_at echo.same ∙ item_reads other_item other_said in
+    let message : registers (mapping wide 1440 ∷ []) 1 ≡ registers short 9 = cc in
+    let nonce : ◌≡◌ {A = ℕ} 1 9 = ap (λ (m : Registration). m.nonce) message in
+    absurd (omega (arith, nonce))) clean.0

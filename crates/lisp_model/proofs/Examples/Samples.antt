@@ -1,5 +1,5 @@
 -- A small network, its messages, and what its stores keep.
-use Rattle.std.proofs.Common.{List, None, Option, Some, [], false, true, ℕ, ◌∷◌}
+use Rattle.std.proofs.Common.{List, None, Option, Some, [], false, true, ℕ, ◌-◌, ◌^◌, ◌∷◌}
 use Rattle.std.specs.FinMap.{empty, insert}
 use Rattle.std.specs.Prelude.{length, ◌++◌, ◌+◌}
 use Rattle.lisp_records.specs.Address.{Block}
@@ -24,6 +24,7 @@ use Rattle.lisp_admission.specs.Pairs.{notice_pair}
 use Rattle.lisp_admission.specs.declared.refused.Refused.TheVariants as refuseds
 use Rattle.lisp_model.specs.Accepted.{accepted}
 use Rattle.lisp_model.specs.Bag.{Item}
+use Rattle.lisp_model.specs.Held.{Acceptance}
 use Rattle.lisp_model.specs.Timers.{Notice}
 use Rattle.lisp_model.specs.Trace.{Happening, Opening, Shown, Step, router_at, settings_of, shown}
 use Rattle.lisp_model.specs.declared.event.Event.TheVariants as events
@@ -188,3 +189,19 @@ row_of m nonce accepted = record { router = one; key = 1; nonce = nonce; mapping
 -- a notice of the first site's key that stands
 abbrev pub told_to : RouterId → ℕ → ℕ → List ℕ → Notice
 told_to router nonce datagram moments = record { router = router; key = 1; nonce = nonce; datagram = datagram; moments = moments }
+
+-- a Map-Register of the first router that was accepted at the moment 0
+abbrev pub arrived : List Mapping → ℕ → Acceptance
+arrived records nonce = record { message = registers records nonce; from = local_at 21; moment = 0 }
+
+-- stores of which two keep the last nonce that there is
+abbrev pub spent : Opening
+spent = record { config = network; stores = keeps blank notice_pair (2 ^ 64 - 1) ∷ blank ∷ keeps blank (sent_by one) (2 ^ 63 - 1) ∷ blank ∷ [] }
+
+-- and of which they keep the one before
+abbrev pub one_left : Opening
+one_left = record { config = network; stores = keeps blank notice_pair (2 ^ 64 - 2) ∷ blank ∷ keeps blank (sent_by one) (2 ^ 63 - 2) ∷ blank ∷ [] }
+
+-- a router that saves ten nonces at once, and asks that its records live as long as they say
+abbrev pub blocks : Opening
+blocks = record opening { config = record network { routers = record (router_at network 2) { nonce_block = 10; use_ttl = true } ∷ [] } }

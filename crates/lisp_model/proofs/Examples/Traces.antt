@@ -1,11 +1,12 @@
 -- Traces of the small network.
-use Rattle.std.proofs.Common.{List, None, Option, Some, [], false, true, ℕ, ◌∷◌}
+use Rattle.std.proofs.Common.{List, None, Option, Some, [], false, true, ℕ, ◌-◌, ◌∷◌}
 use Rattle.std.specs.Prelude.{◌+◌, ◌^◌}
 use Rattle.lisp_records.specs.Record.{Mapping}
 use Rattle.lisp_records.specs.Row.{Holding}
 use Rattle.lisp_nonces.specs.declared.fate.Fate.TheVariants as fates
 use Rattle.lisp_nonces.specs.declared.fault.StoreFault.TheVariants as stores
 use Rattle.lisp_etr.specs.declared.start_fault.StartFault.TheVariants as start_faults
+use Rattle.lisp_admission.specs.Pairs.{notice_pair}
 use Rattle.lisp_model.specs.Bag.{bytes_of, register_item, since}
 use Rattle.lisp_model.specs.Held.{held}
 use Rattle.lisp_model.specs.History.{Entry}
@@ -13,7 +14,7 @@ use Rattle.lisp_model.specs.Trace.{Step, clock}
 use Rattle.lisp_model.specs.declared.event.Event.TheVariants as events
 use Rattle.lisp_model.specs.declared.line.Line.TheVariants as lines
 use Rattle.lisp_model.specs.declared.refusal.Refusal.TheVariants as refusals
-use Rattle.lisp_model.proofs.Examples.Samples.{at, changes, counts, doubts_send, doubts_take, ends, failed, got_from, keeps, local_at, mapping, narrow, notices, one, opening, repeats, restarts, restarts_to, sends, sent_by, step, strange, takes, tells, ticks, two, wide}
+use Rattle.lisp_model.proofs.Examples.Samples.{at, blank, changes, counts, doubts_send, doubts_take, ends, failed, got_from, keeps, local_at, mapping, narrow, notices, one, opening, repeats, restarts, restarts_to, sends, sent_by, step, strange, takes, tells, ticks, two, wide}
 
 -- a Map-Register is sent, accepted and counted
 abbrev pub one_sent : List Step
@@ -142,3 +143,21 @@ answered_elsewhere = step (events.Junk 0 (local_at 99) (bytes_of (register_item 
 -- what the first router sent first
 abbrev pub first_entry : Entry
 first_entry = record { router = 2; key = 1; nonce = 1; server = 0; database = mapping wide 1440 ∷ []; position = 0 }
+
+-- the first router starts again with another database
+abbrev pub restarted_changed : Step
+restarted_changed = step (events.Restart 2 0 (Some short)) (lines.Restarted 2) 2 (at one_sent 2)
+
+-- its start with another database is refused
+abbrev pub refused_changed : Step
+refused_changed = step (events.Restart 2 0 (Some short)) (lines.Refused 2 (refusals.Start (start_faults.Store stores.Device))) 2 (failed (at one_sent 2))
+
+-- the second router registers where the nonces of notices are spent, and where one is left
+abbrev pub taken_from_two : ℕ → List Step
+taken_from_two kept = step (events.Deliver 0 fates.Done) (lines.Accepted 0 two 1 1 (Some 1)) 0 (keeps (keeps blank notice_pair kept) (got_from two) 1) ∷ step (events.Send 3 0 fates.Done) (lines.Sent 3 0 1 1 0) 3 (keeps blank (sent_by two) 1) ∷ []
+
+abbrev pub spent_taken : List Step
+spent_taken = taken_from_two (2 ^ 64 - 1)
+
+abbrev pub one_left_taken : List Step
+one_left_taken = taken_from_two (2 ^ 64 - 2)

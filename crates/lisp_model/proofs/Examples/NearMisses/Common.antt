@@ -1,8 +1,8 @@
 -- What the near misses have in common.
-use Rattle.std.proofs.Common.{List, None, Ok, Option, Some, [], false, subst, true, ℕ, ◌∷◌, ◌≡◌}
+use Rattle.std.proofs.Common.{List, None, Ok, Option, Some, [], false, refl, subst, true, ℕ, ◌∷◌, ◌≡◌}
 use Rattle.std.specs.FinMap.{insert}
 use Rattle.std.specs.List.{Contains}
-use Rattle.std.specs.Prelude.{Err, Result, ◌-◌, ◌^◌}
+use Rattle.std.specs.Prelude.{Err, Result}
 use Rattle.lisp_records.specs.Database.{database_of, repeats as repeats_in}
 use Rattle.lisp_records.specs.Record.{Mapping}
 use Rattle.lisp_records.specs.declared.database.DatabaseFault.{DatabaseFault}
@@ -10,12 +10,12 @@ use Rattle.lisp_records.specs.declared.database.DatabaseFault.TheVariants.{Repea
 use Rattle.lisp_nonces.specs.Kept.{Kept, kept_at}
 use Rattle.lisp_nonces.specs.declared.pair.Pair.{Pair}
 use Rattle.lisp_messages.specs.Message.{Registration}
-use Rattle.lisp_admission.specs.Pairs.{notice_pair}
+use Rattle.lisp_messages.specs.Reading.{kind_at, message_at, records_at, register_at}
+use Rattle.lisp_messages.specs.declared.fault.ReadFault.TheVariants as reads
 use Rattle.lisp_admission.specs.declared.refused.Refused.{Refused}
 use Rattle.lisp_model.specs.Bag.{Item, register_item}
-use Rattle.lisp_model.specs.Trace.{Opening}
 use Rattle.lisp_model.proofs.Examples.Arrivals.{fits}
-use Rattle.lisp_model.proofs.Examples.Samples.{blank, keeps, mapping, network, one, opening, registers, sent_by, wide}
+use Rattle.lisp_model.proofs.Examples.Samples.{mapping, opening, registers, wide}
 use Rattle.lisp_model.proofs.KeptLemmas.{only_value, set_here}
 
 -- the one value that was set, and none before
@@ -39,10 +39,6 @@ first = registers (mapping wide 1440 ∷ []) 1
 abbrev pub first_item : Item
 first_item = register_item opening [] 2 0 1
 
--- stores of which two keep the last nonce that there is
-abbrev pub spent : Opening
-spent = record { config = network; stores = keeps blank notice_pair (2 ^ 64 - 1) ∷ blank ∷ keeps blank (sent_by one) (2 ^ 63 - 1) ∷ blank ∷ [] }
-
 -- records that are no database: two of one EID-Prefix
 abbrev pub repeated : List Mapping
 repeated = mapping wide 60 ∷ mapping wide 30 ∷ []
@@ -50,3 +46,15 @@ repeated = mapping wide 60 ∷ mapping wide 30 ∷ []
 pub no_database : database_of repeated ≡ Ok repeated → ⊥
 unfolding repeats_in
 no_database fits = let clash : ◌≡◌ {A = Result (List Mapping) DatabaseFault} (Err RepeatedPrefix) (Ok repeated) = fits in absurd cc
+
+-- 32 bytes of a Map-Register without records, with bit I clear
+abbrev pub bare : List ℕ
+bare = 48 ∷ 0 ∷ 0 ∷ 0 ∷ 0 ∷ 0 ∷ 0 ∷ 0 ∷ 0 ∷ 0 ∷ 0 ∷ 1 ∷ 1 ∷ 2 ∷ 0 ∷ 16 ∷ 0 ∷ 0 ∷ 0 ∷ 0 ∷ 0 ∷ 0 ∷ 0 ∷ 0 ∷ 0 ∷ 0 ∷ 0 ∷ 0 ∷ 0 ∷ 0 ∷ 0 ∷ 0 ∷ []
+
+pub bare_read : message_at bare ≡ Err reads.NoIds
+unfolding message_at kind_at records_at register_at
+bare_read = refl
+
+-- a Map-Register that tells of a record, and is cut in its head
+abbrev pub cut : List ℕ
+cut = 48 ∷ 0 ∷ 0 ∷ 1 ∷ []

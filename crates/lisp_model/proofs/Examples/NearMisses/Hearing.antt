@@ -1,9 +1,10 @@
 -- Illegal steps of a router at which a message arrives.
-use Rattle.std.proofs.Common.{Ok, [], ap, arith, inl, inr, refl, subst, ℕ, ◌∙◌, ◌∷◌, ◌≡◌}
-use Rattle.std.specs.Prelude.{◌^◌, ◌⊎◌}
-use Rattle.lisp_messages.specs.Reading.{HasHead, HasRecords}
+use Rattle.std.proofs.Common.{Err, Ok, [], ap, arith, inl, inr, refl, subst, sym, ℕ, ◌∙◌, ◌∷◌, ◌≡◌}
+use Rattle.std.specs.Prelude.{Result, ◌^◌, ◌⊎◌}
+use Rattle.lisp_messages.specs.Reading.{HasHead, HasRecords, kind_at, message_at}
 use Rattle.lisp_messages.specs.declared.fault.ReadFault.TheVariants as reads
-use Rattle.lisp_etr.specs.Hearing.{checked}
+use Rattle.lisp_etr.specs.Hearing.{Heard, checked}
+use Rattle.lisp_etr.specs.declared.notify_fault.NotifyFault.{NotifyFault}
 use Rattle.lisp_etr.specs.declared.notify_fault.NotifyFault.TheVariants as notify_faults
 use Rattle.lisp_model.specs.Bag.{Item, arrival_of, thrown}
 use Rattle.lisp_model.specs.Counted.{heard}
@@ -14,6 +15,7 @@ use Rattle.lisp_model.specs.declared.line.Line.{Line}
 use Rattle.lisp_model.specs.declared.line.Line.TheVariants as lines
 use Rattle.lisp_model.specs.declared.refusal.Refusal.TheVariants as refusals
 use Rattle.lisp_model.proofs.Examples.Arrivals.{hears, short_heard}
+use Rattle.lisp_model.proofs.Examples.NearMisses.Common.{bare, bare_read, cut}
 use Rattle.lisp_model.proofs.Examples.Samples.{counts, heard_of, local_at, mapping, notices, opening, refuses, told, wide}
 use Rattle.lisp_model.proofs.Examples.Traces.{one_taken, sent_twice, told_again}
 use Rattle.lisp_model.proofs.HeardLines.{comes_to}
@@ -60,3 +62,31 @@ refused_otherwise l = by l.row.arrives.comes
         ⊎ (HasHead [] × (HasRecords [] ⊎ IsToAnswer (turn_of opening [] (refuses [] (events.Junk 2 (local_at 11) []) 2 (refusals.Notify notify_faults.BadAuth))) (thrown (local_at 11) [])) × (lines.Refused 2 (refusals.Notify notify_faults.BadAuth) ≡ lines.Refused 2 (refusals.Notify notify_faults.OutOfMemory))) → ⊥
     by (inl is) = let clash : lines.Refused 2 (refusals.Notify notify_faults.BadAuth) ≡ lines.Refused 2 (refusals.Notify (notify_faults.Read reads.Short)) = is ∙ ap (line_of (turn_of opening [] (refuses [] (events.Junk 2 (local_at 11) []) 2 (refusals.Notify notify_faults.BadAuth)))) short_heard in absurd cc
     by (inr memory) = let clash : lines.Refused 2 (refusals.Notify notify_faults.BadAuth) ≡ lines.Refused 2 (refusals.Notify notify_faults.OutOfMemory) = memory.2 in absurd cc
+
+-- memory runs out at a router for bytes whose head can't be read: 4 bytes with a Record Count of 1
+cut_heard : heard opening [] 2 (thrown (local_at 11) cut) ≡ Err (notify_faults.Read reads.Short)
+unfolding checked message_at kind_at
+cut_heard = refl
+
+no_memory_for_no_head_at_router : Legal opening [] (refuses [] (events.Junk 2 (local_at 11) cut) 2 (refusals.Notify notify_faults.OutOfMemory)) → ⊥
+unfolding kind_at
+no_memory_for_no_head_at_router l = by l.row.arrives.comes
+  where
+    by : (lines.Refused 2 (refusals.Notify notify_faults.OutOfMemory) ≡ line_of (turn_of opening [] (refuses [] (events.Junk 2 (local_at 11) cut) 2 (refusals.Notify notify_faults.OutOfMemory))) (heard opening [] 2 (thrown (local_at 11) cut)))
+        ⊎ (HasHead cut × (HasRecords cut ⊎ IsToAnswer (turn_of opening [] (refuses [] (events.Junk 2 (local_at 11) cut) 2 (refusals.Notify notify_faults.OutOfMemory))) (thrown (local_at 11) cut)) × (lines.Refused 2 (refusals.Notify notify_faults.OutOfMemory) ≡ lines.Refused 2 (refusals.Notify notify_faults.OutOfMemory))) → ⊥
+    by (inl is) = let clash : lines.Refused 2 (refusals.Notify notify_faults.OutOfMemory) ≡ lines.Refused 2 (refusals.Notify (notify_faults.Read reads.Short)) = is ∙ ap (line_of (turn_of opening [] (refuses [] (events.Junk 2 (local_at 11) cut) 2 (refusals.Notify notify_faults.OutOfMemory)))) cut_heard in absurd cc
+    by (inr memory) = memory.0 reads.Short refl
+
+-- memory runs out at a router for a message without records that isn't a notice
+bare_heard : heard opening [] 2 (thrown (local_at 11) bare) ≡ Err (notify_faults.Read reads.NoIds)
+unfolding checked
+bare_heard = rw bare_read refl
+
+no_memory_for_no_records_at_router : Legal opening [] (refuses [] (events.Junk 2 (local_at 11) bare) 2 (refusals.Notify notify_faults.OutOfMemory)) → ⊥
+no_memory_for_no_records_at_router l = by l.row.arrives.comes
+  where
+    by : (lines.Refused 2 (refusals.Notify notify_faults.OutOfMemory) ≡ line_of (turn_of opening [] (refuses [] (events.Junk 2 (local_at 11) bare) 2 (refusals.Notify notify_faults.OutOfMemory))) (heard opening [] 2 (thrown (local_at 11) bare)))
+        ⊎ (HasHead bare × (HasRecords bare ⊎ IsToAnswer (turn_of opening [] (refuses [] (events.Junk 2 (local_at 11) bare) 2 (refusals.Notify notify_faults.OutOfMemory))) (thrown (local_at 11) bare)) × (lines.Refused 2 (refusals.Notify notify_faults.OutOfMemory) ≡ lines.Refused 2 (refusals.Notify notify_faults.OutOfMemory))) → ⊥
+    by (inl is) = let clash : lines.Refused 2 (refusals.Notify notify_faults.OutOfMemory) ≡ lines.Refused 2 (refusals.Notify (notify_faults.Read reads.NoIds)) = is ∙ ap (line_of (turn_of opening [] (refuses [] (events.Junk 2 (local_at 11) bare) 2 (refusals.Notify notify_faults.OutOfMemory)))) bare_heard in absurd cc
+    by (inr (head, inl records, line)) = absurd (omega (arith, records))
+    by (inr (head, inr answers, line)) = absurd (let clash : ◌≡◌ {A = Result Heard NotifyFault} (Err (notify_faults.Read reads.NoIds)) (Ok answers.what) = sym bare_heard ∙ answers.hears in cc)

@@ -16,14 +16,13 @@ use Rattle.lisp_admission.specs.Pairs.{notice_pair}
 use Rattle.lisp_admission.specs.declared.notice_fault.NoticeFault.TheVariants as notice_faults
 use Rattle.lisp_model.specs.Held.{Acceptance}
 use Rattle.lisp_model.specs.Legal.{Legal}
-use Rattle.lisp_model.specs.Trace.{Step}
 use Rattle.lisp_model.specs.declared.event.Event.TheVariants as events
 use Rattle.lisp_model.specs.declared.line.Line.TheVariants as lines
 use Rattle.lisp_model.specs.declared.refusal.Refusal.TheVariants as refusals
 use Rattle.lisp_model.proofs.Examples.Arrivals.{kinds_differ}
-use Rattle.lisp_model.proofs.Examples.NearMisses.Common.{never, spent}
-use Rattle.lisp_model.proofs.Examples.Samples.{at, blank, failed, got_from, keeps, local_at, mapping, one, opening, refuses, registers, repeats, sent_by, step, tells, two, wide}
-use Rattle.lisp_model.proofs.Examples.Traces.{first_told, one_taken, registered_again, told_and_gone, waited}
+use Rattle.lisp_model.proofs.Examples.NearMisses.Common.{never}
+use Rattle.lisp_model.proofs.Examples.Samples.{at, blank, failed, got_from, keeps, local_at, mapping, one, opening, refuses, registers, repeats, spent, step, tells, two, wide}
+use Rattle.lisp_model.proofs.Examples.Traces.{first_told, one_taken, registered_again, spent_taken, told_and_gone, waited}
 use Rattle.lisp_model.proofs.KeptLemmas.{kept_at-empty, only_value, set_here, set_others}
 
 -- a record is told after a restart
@@ -85,8 +84,9 @@ load_for_a_notice_failed_though_known l = let clash : ◌≡◌ {A = Option ℕ}
 memory_for_no_notice : Legal opening [] (refuses [] (events.Notice 0 2 fates.Done) 0 (refusals.Notice notice_faults.OutOfMemory)) → ⊥
 memory_for_no_notice l = l.row.3.1.tells.some refl
 
-abbrev spent_taken : List Step
-spent_taken = step (events.Deliver 0 fates.Done) (lines.Accepted 0 two 1 1 (Some 1)) 0 (keeps (keeps blank notice_pair (2 ^ 64 - 1)) (got_from two) 1) ∷ step (events.Send 3 0 fates.Done) (lines.Sent 3 0 1 1 0) 3 (keeps blank (sent_by two) 1) ∷ []
+-- neither are nonces spent there
+spent_for_no_notice : Legal spent [] (step (events.Notice 0 2 fates.Done) (lines.Refused 0 (refusals.Notice notice_faults.NonceSpent)) 0 (keeps blank notice_pair (2 ^ 64 - 1))) → ⊥
+spent_for_no_notice l = l.row.3.0.some refl
 
 -- memory is refused where the nonces of notices are spent
 memory_before_spent_notices : Legal spent spent_taken (step (events.Notice 0 3 fates.Done) (lines.Refused 0 (refusals.Notice notice_faults.OutOfMemory)) 0 (keeps (keeps blank notice_pair (2 ^ 64 - 1)) (got_from two) 1)) → ⊥

@@ -1,23 +1,23 @@
 -- Illegal steps of a Map-Server at which a message arrives.
-use Rattle.std.proofs.Common.{List, None, Ok, Option, Some, [], ap, arith, false, inl, inr, refl, slice_index_or, subst, sym, true, true≢false, ℕ, ◌∙◌, ◌∷◌, ◌≡◌, ◌≢◌}
+use Rattle.std.proofs.Common.{List, None, Ok, Option, Some, [], ap, arith, false, inl, inr, refl, slice_index_or, subst, sym, true, true≢false, ℕ, ◌∙◌, ◌∷◌, ◌≡◌}
 use Rattle.std.specs.FinMap.{empty}
-use Rattle.std.specs.Prelude.{Err, Result, if◌then◌else◌, ◌<◌, ◌^◌, ◌≤◌, ◌⊎◌}
+use Rattle.std.specs.Prelude.{Err, Result, if◌then◌else◌, ◌+◌, ◌<◌, ◌^◌, ◌≤◌, ◌⊎◌}
 use Rattle.lisp_records.specs.declared.router.RouterId.{RouterId}
-use Rattle.lisp_nonces.specs.Kept.{kept_at, number}
+use Rattle.lisp_nonces.specs.Kept.{kept_at}
 use Rattle.lisp_nonces.specs.declared.fate.Fate.TheVariants as fates
 use Rattle.lisp_messages.specs.Authentic.{is_authentic}
 use Rattle.lisp_messages.specs.Message.{Notification, Notifies, Registers, Registration, Said}
-use Rattle.lisp_messages.specs.Reading.{HasRecords, kind_at, message_at, records_at, register_at}
+use Rattle.lisp_messages.specs.Reading.{HasRecords, kind_at, message_at}
 use Rattle.lisp_messages.specs.declared.fault.ReadFault.{ReadFault}
 use Rattle.lisp_messages.specs.declared.fault.ReadFault.TheVariants as reads
 use Rattle.lisp_admission.specs.Checks.{secret_under}
 use Rattle.lisp_admission.specs.Nonces.{IsBelow}
 use Rattle.lisp_admission.specs.Pairs.{pair_of, router_of}
 use Rattle.lisp_admission.specs.declared.refused.Refused.TheVariants as refuseds
-use Rattle.lisp_model.specs.Bag.{Item, bytes_of, register_item, since, thrown}
+use Rattle.lisp_model.specs.Bag.{Item, arrival_of, bytes_of, register_item, since, thrown}
 use Rattle.lisp_model.specs.Held.{last_of}
 use Rattle.lisp_model.specs.Legal.{Legal, turn_of}
-use Rattle.lisp_model.specs.Receiving.{IsFresh, IsToAccept, awaiting, has_tag_for}
+use Rattle.lisp_model.specs.Receiving.{FailsCheck, IsFresh, IsToAccept, awaiting, has_tag_for}
 use Rattle.lisp_model.specs.Timers.{Notice}
 use Rattle.lisp_model.specs.Trace.{node_at}
 use Rattle.lisp_model.specs.Turn.{IsBase}
@@ -25,8 +25,8 @@ use Rattle.lisp_model.specs.declared.event.Event.TheVariants as events
 use Rattle.lisp_model.specs.declared.line.Line.TheVariants as lines
 use Rattle.lisp_model.specs.declared.refusal.Refusal.TheVariants as refusals
 use Rattle.lisp_model.proofs.Examples.Arrivals.{strange_refused, told_reads}
-use Rattle.lisp_model.proofs.Examples.NearMisses.Common.{first, first_item, never, nothing_is_no_number, ok_is_no_refusal, only_set_of}
-use Rattle.lisp_model.proofs.Examples.Samples.{at, blank, fails_load, got_from, keeps, local_at, mapping, network, one, opening, refuses, registers, replays, secret, site, step, takes, told, told_to, two, wide}
+use Rattle.lisp_model.proofs.Examples.NearMisses.Common.{bare, bare_read, cut, first, first_item, never, nothing_is_no_number, ok_is_no_refusal, only_set_of}
+use Rattle.lisp_model.proofs.Examples.Samples.{answered, at, blank, fails_load, got_from, keeps, local_at, mapping, network, one, opening, refuses, registers, replays, secret, site, step, takes, told, told_to, two, wide}
 use Rattle.lisp_model.proofs.Examples.Traces.{first_told, foreign, foreign_sent, one_sent, one_taken, restarted, sent_twice, was_noticed}
 use Rattle.lisp_model.proofs.ItemLemmas.{bad_tag, is_not_allowed, item_authentic}
 use Rattle.lisp_model.proofs.KeptLemmas.{kept_at-empty}
@@ -154,18 +154,11 @@ load_failed_though_known l =
     absurd cc
 
 -- memory runs out for bytes whose head can't be read
-no_memory_for_no_head : Legal opening [] (refuses [] (events.Junk 0 (local_at 21) []) 0 (refusals.Receive refuseds.OutOfMemory)) → ⊥
+no_memory_for_no_head : Legal opening [] (refuses [] (events.Junk 0 (local_at 21) cut) 0 (refusals.Receive refuseds.OutOfMemory)) → ⊥
 unfolding kind_at
 no_memory_for_no_head l = l.row.arrives.1.0 reads.Short refl
 
--- memory runs out for a message without records that isn't accepted: 32 bytes with bit I clear
-abbrev bare : List ℕ
-bare = 48 ∷ 0 ∷ 0 ∷ 0 ∷ 0 ∷ 0 ∷ 0 ∷ 0 ∷ 0 ∷ 0 ∷ 0 ∷ 1 ∷ 1 ∷ 2 ∷ 0 ∷ 16 ∷ 0 ∷ 0 ∷ 0 ∷ 0 ∷ 0 ∷ 0 ∷ 0 ∷ 0 ∷ 0 ∷ 0 ∷ 0 ∷ 0 ∷ 0 ∷ 0 ∷ 0 ∷ 0 ∷ []
-
-bare_read : message_at bare ≡ Err reads.NoIds
-unfolding message_at kind_at records_at register_at
-bare_read = refl
-
+-- memory runs out for a message without records that isn't accepted
 no_memory_for_no_records : Legal opening [] (refuses [] (events.Junk 0 (local_at 21) bare) 0 (refusals.Receive refuseds.OutOfMemory)) → ⊥
 no_memory_for_no_records l = by l.row.arrives.1.1
   where
@@ -217,4 +210,58 @@ done_from_elsewhere bytes read l =
     let message : acknowledgement ≡ a.message = cc in
     let t = turn_of opening was_noticed (step (events.Junk 0 (local_at 22) bytes) (lines.Done 0 one (2 ^ 63)) 0 (at was_noticed 0)) in
     let stands : ◌≡◌ {A = Option Notice} None (Some a.notice) = ap (awaiting t (local_at 22)) message ∙ a.stands in
+    absurd cc
+
+-- an acknowledgement under another key ends it
+abbrev another_keys : Notification
+another_keys = record { ack = true; nonce = 2 ^ 63; key_id = 2; records = mapping wide 1440 ∷ [] }
+
+done_under_another_key : (bytes : List ℕ) → message_at bytes ≡ Ok (Notifies another_keys)
+    → Legal opening was_noticed (step (events.Junk 0 (local_at 21) bytes) (lines.Done 0 one (2 ^ 63)) 0 (at was_noticed 0)) → ⊥
+done_under_another_key bytes read l =
+    let a = l.row.arrives in
+    let both : ◌≡◌ {A = Result Said ReadFault} (Ok (Notifies another_keys)) (Ok (Notifies a.message)) = sym read ∙ a.read in
+    let message : another_keys ≡ a.message = cc in
+    let t = turn_of opening was_noticed (step (events.Junk 0 (local_at 21) bytes) (lines.Done 0 one (2 ^ 63)) 0 (at was_noticed 0)) in
+    let stands : ◌≡◌ {A = Option Notice} None (Some a.notice) = ap (awaiting t (local_at 21)) message ∙ a.stands in
+    absurd cc
+
+-- the line names another router or nonce than the notice
+done_of_another_router : Legal opening was_noticed (step (events.Deliver 4 fates.Done) (lines.Done 0 two (2 ^ 63)) 0 (at was_noticed 0)) → ⊥
+done_of_another_router l =
+    let a = l.row.arrives in
+    let t = turn_of opening was_noticed (step (events.Deliver 4 fates.Done) (lines.Done 0 two (2 ^ 63)) 0 (at was_noticed 0)) in
+    let item : answered (2 ^ 63) (mapping wide 1440 ∷ []) ≡ l.row.item = cc in
+    let both : ◌≡◌ {A = Result Said ReadFault} (Ok (Notifies acknowledgement)) (Ok (Notifies a.message)) = ap (λ (i : Item). Ok i.message) item ∙ a.read in
+    let message : acknowledgement ≡ a.message = cc in
+    let stands : awaiting t (local_at 21) acknowledgement ≡ Some a.notice = ap (λ (i : Item). awaiting t i.from acknowledgement) item ∙ ap (awaiting t l.row.item.from) message ∙ a.stands in
+    let notice : told_to one (2 ^ 63) 2 (3000 ∷ 0 ∷ []) ≡ a.notice = cc in
+    let last : ◌≡◌ {A = ℕ} 11 10 = ap (λ (r : RouterId). slice_index_or r.xtr 15 0) (a.who ∙ sym (ap (λ (n : Notice). n.router) notice)) in
+    absurd (omega (arith, last))
+
+done_with_another_nonce : Legal opening was_noticed (step (events.Deliver 4 fates.Done) (lines.Done 0 one (2 ^ 63 + 1)) 0 (at was_noticed 0)) → ⊥
+done_with_another_nonce l =
+    let a = l.row.arrives in
+    let t = turn_of opening was_noticed (step (events.Deliver 4 fates.Done) (lines.Done 0 one (2 ^ 63 + 1)) 0 (at was_noticed 0)) in
+    let item : answered (2 ^ 63) (mapping wide 1440 ∷ []) ≡ l.row.item = cc in
+    let both : ◌≡◌ {A = Result Said ReadFault} (Ok (Notifies acknowledgement)) (Ok (Notifies a.message)) = ap (λ (i : Item). Ok i.message) item ∙ a.read in
+    let message : acknowledgement ≡ a.message = cc in
+    let stands : awaiting t (local_at 21) acknowledgement ≡ Some a.notice = ap (λ (i : Item). awaiting t i.from acknowledgement) item ∙ ap (awaiting t l.row.item.from) message ∙ a.stands in
+    let notice : told_to one (2 ^ 63) 2 (3000 ∷ 0 ∷ []) ≡ a.notice = cc in
+    let number : 2 ^ 63 + 1 ≡ 2 ^ 63 = a.number ∙ sym (ap (λ (n : Notice). n.nonce) notice) in
+    absurd (omega (arith, number))
+
+-- an acknowledgement is refused for its tag, which is right
+right_tag_refused : Legal opening was_noticed (refuses was_noticed (events.Deliver 4 fates.Done) 0 (refusals.Receive refuseds.BadAuth)) → ⊥
+right_tag_refused l =
+    let t = turn_of opening was_noticed (refuses was_noticed (events.Deliver 4 fates.Done) 0 (refusals.Receive refuseds.BadAuth)) in
+    let item : answered (2 ^ 63) (mapping wide 1440 ∷ []) ≡ l.row.item = cc in
+    let fails : FailsCheck t (arrival_of (answered (2 ^ 63) (mapping wide 1440 ∷ []))) (Ok (Notifies acknowledgement)) refuseds.BadAuth = subst (λ (i : Item). FailsCheck t (arrival_of i) (Ok i.message) refuseds.BadAuth) (sym item) l.row.arrives.1.0 in
+    true≢false (sym (item_authentic (answered (2 ^ 63) (mapping wide 1440 ∷ []))) ∙ fails.0)
+
+-- a Map-Notify is refused as an acknowledgement that no notice waits for
+notify_refused_as_acknowledgement : Legal opening [] (refuses [] (events.Junk 0 (local_at 21) (bytes_of notice_back)) 0 (refusals.Receive refuseds.NoNotice)) → ⊥
+notify_refused_as_acknowledgement l =
+    let t = turn_of opening [] (refuses [] (events.Junk 0 (local_at 21) (bytes_of notice_back)) 0 (refusals.Receive refuseds.NoNotice)) in
+    let clash : refuseds.NoNotice ≡ refuseds.NotMine = subst (λ (r : Result Said ReadFault). FailsCheck t (thrown (local_at 21) (bytes_of notice_back)) r refuseds.NoNotice) (told_reads (local_at 21) (local_at 11) (2 ^ 63) 1440 (omega arith) (omega arith)) l.row.arrives.1.0 in
     absurd cc

@@ -11,8 +11,8 @@ use Rattle.lisp_model.specs.Legal.{Legal}
 use Rattle.lisp_model.specs.declared.event.Event.TheVariants as events
 use Rattle.lisp_model.specs.declared.line.Line.TheVariants as lines
 use Rattle.lisp_model.specs.declared.refusal.Refusal.TheVariants as refusals
-use Rattle.lisp_model.proofs.Examples.NearMisses.Common.{never, no_database, only_set_of, repeated, spent}
-use Rattle.lisp_model.proofs.Examples.Samples.{blank, changes, keeps, one, opening, refuses, sends, sent_by, step, two}
+use Rattle.lisp_model.proofs.Examples.NearMisses.Common.{never, no_database, only_set_of, repeated}
+use Rattle.lisp_model.proofs.Examples.Samples.{blank, changes, keeps, one, opening, refuses, sends, sent_by, spent, step, two}
 use Rattle.lisp_model.proofs.Examples.Traces.{not_started, short}
 use Rattle.lisp_model.proofs.KeptLemmas.{kept_at-empty, only_value}
 
@@ -31,6 +31,18 @@ sent_to_unlisted l = never l.row.2.listed
 sent_elsewhere : Legal opening [] (sends [] 0 1 5) → ⊥
 sent_elsewhere l = let place : ◌≡◌ {A = ℕ} 5 0 = l.row.2.place in absurd (omega (arith, place))
 
+-- a Map-Server that is in the list is called unlisted
+listed_called_unlisted : Legal opening [] (refuses [] (events.Send 2 0 fates.Done) 2 (refusals.Send send_faults.NoServer)) → ⊥
+listed_called_unlisted l = let clash : true ≡ false = l.row.3.0 in absurd cc
+
+-- the line names another key than the router's
+sent_under_another_key : Legal opening [] (step (events.Send 2 0 fates.Done) (lines.Sent 2 0 2 1 0) 2 (keeps blank (sent_by one) 1)) → ⊥
+sent_under_another_key l = let under : ◌≡◌ {A = ℕ} 2 1 = l.row.2.under in absurd (omega (arith, under))
+
+-- the line names another router than the event
+changed_of_another : Legal opening [] (step (events.Change 2 short) (lines.Changed 3 1) 2 blank) → ⊥
+changed_of_another l = let named : ◌≡◌ {A = ℕ} 3 2 = l.row.names in absurd (omega (arith, named))
+
 -- the line counts other records than the event gives
 changed_by_another_count : Legal opening [] (step (events.Change 2 short) (lines.Changed 2 0) 2 blank) → ⊥
 changed_by_another_count l = let count : ◌≡◌ {A = ℕ} 0 1 = l.row.count in absurd (omega (arith, count))
@@ -46,6 +58,10 @@ changed_while_down l = let clash : false ≡ true = l.row.acts.state in absurd c
 -- the first reason isn't told: the Map-Server is looked for before the nonces are
 wrong_order_of_send : Legal opening [] (refuses [] (events.Send 3 1 fates.Done) 3 (refusals.Send send_faults.NonceSpent)) → ⊥
 wrong_order_of_send l = let clash : false ≡ true = l.row.3.0 in absurd cc
+
+-- memory is refused where the Map-Server isn't in the list
+memory_for_unlisted : Legal opening [] (refuses [] (events.Send 3 1 fates.Done) 3 (refusals.Send send_faults.OutOfMemory)) → ⊥
+memory_for_unlisted l = let clash : false ≡ true = l.row.3.0 in absurd cc
 
 -- a router's nonces are spent before the last one
 sends_not_spent : Legal opening [] (refuses [] (events.Send 2 0 fates.Done) 2 (refusals.Send send_faults.NonceSpent)) → ⊥
