@@ -21,7 +21,7 @@ demo: lispd
 # No crate may use lisp_memory's own proof that the machine's memory may be refused: grep prints the files that do.
 test:
 	@! grep -rlE 'Rattle\.lisp_memory|lisp_memory::(specs|proofs)' crates --include=*.antt --include=*.rt | grep -v '^crates/lisp_memory/'
-	@tools/slips --compare docs/PROMISES.md
+	@tools/slips --compare docs/SLIPS.md
 	rt ci
 	@examples/check.sh crates/lispd_main/out/lispd_main
 
