@@ -407,6 +407,9 @@ not_down must = not_done (must.send 2 0 fates.Done refl refl refl none_spent)
 not_counted_of_each : Must IsExcused opening both_taken (refuses both_taken (events.Deliver 2 fates.Done) 2 (refusals.Notify (notify_faults.Stale 2))) → ⊥
 not_counted_of_each must = not_done (must.counted _ (heard_of 0 1 (mapping wide 1440 ∷ [])) refl refl refl (hears (local_at 11) (local_at 21) 1 (mapping wide 1440 ∷ []) 0 refl both_taken) (omega arith) refl)
 
+not_counted_of_the_other : Must IsExcused opening both_taken (refuses both_taken (events.Deliver 3 fates.Done) 2 (refusals.Notify (notify_faults.Stale 1))) → ⊥
+not_counted_of_the_other must = not_done (must.counted _ (heard_of 1 2 (mapping wide 1440 ∷ [])) refl refl refl (hears (local_at 12) (local_at 21) 2 (mapping wide 1440 ∷ []) 1 refl both_taken) (omega arith) refl)
+
 -- no excuse: a store's fault though no device failed; memory, where it can't be refused
 unfailed : (0 < 0) ⊎ (◌≡◌ {A = ℕ} 0 (2 ^ 64 - 1)) → ⊥
 unfailed (inl less) = absurd (omega (arith, less))

@@ -38,6 +38,10 @@ notices_begin_again l =
     let next : 2 ^ 63 ≡ nonce_after (Some (2 ^ 63)) = n.next ∙ ap nonce_after base in
     absurd (omega (arith, next))
 
+-- one goes out again though none stands
+resent_without_a_notice : Legal opening one_taken (repeats one_taken 2) → ⊥
+resent_without_a_notice l = never l.row.2.due
+
 -- a notice goes out under another key than that of the router's last Map-Register
 told_under_another_key : Legal opening one_taken (step (events.Notice 0 2 fates.Done) (lines.Notice 0 2 2 (2 ^ 63) 2) 0 (keeps (at one_taken 0) notice_pair (2 ^ 63))) → ⊥
 told_under_another_key l =
