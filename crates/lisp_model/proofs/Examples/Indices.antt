@@ -6,18 +6,18 @@ use Rattle.lisp_nonces.specs.declared.fate.Fate.TheVariants as fates
 use Rattle.lisp_etr.specs.Timers.{due_after}
 use Rattle.lisp_etr.specs.declared.start_fault.StartFault.TheVariants as start_faults
 use Rattle.lisp_model.specs.Accepted.{accepted}
-use Rattle.lisp_model.specs.Bag.{bag, register_item, since}
+use Rattle.lisp_model.specs.Bag.{bag, register_item, reply_item, since}
 use Rattle.lisp_model.specs.Counted.{acked, acknowledged, latest}
 use Rattle.lisp_model.specs.Faults.{world_fault_number}
 use Rattle.lisp_model.specs.Held.{Acceptance, heard_last, held, last_of, rows}
 use Rattle.lisp_model.specs.History.{record_for}
-use Rattle.lisp_model.specs.Sending.{last_sent}
+use Rattle.lisp_model.specs.Sending.{last_sent, start_values}
 use Rattle.lisp_model.specs.Timers.{due, last_notice, notice_to, notices as standing}
 use Rattle.lisp_model.specs.Trace.{Step, database, fate_of, is_up, settings}
 use Rattle.lisp_model.specs.declared.event.Event.TheVariants as events
 use Rattle.lisp_model.specs.declared.line.Line.TheVariants as lines
 use Rattle.lisp_model.specs.declared.world_fault.WorldFault.TheVariants as world_faults
-use Rattle.lisp_model.proofs.Examples.Samples.{answered, arrived, at, blank, blocks, changes, counts, got_from, local_at, mapping, narrow, one, opening, registers, repeats, restarts, row_of, secret, sends, step, takes, ticks, told, told_to, two, wide}
+use Rattle.lisp_model.proofs.Examples.Samples.{answered, arrived, at, blank, blocks, changes, counts, got_from, keeps, local_at, mapping, narrow, one, opening, registers, repeats, restarts, row_of, secret, sends, sent_by, step, takes, ticks, told, told_to, two, two_keys, wide}
 use Rattle.lisp_model.proofs.Examples.Traces.{both_sent, first_told, not_started, one_counted, one_sent, one_taken, refused_changed, restarted_changed, short}
 
 -- where a router was heard last: of two messages the later one
@@ -209,3 +209,11 @@ numbers = refl
 -- a router's settings are those of its configuration
 its_settings : settings blocks [] 2 ≡ record { me = one; key_id = 1; secret = secret; servers = local_at 11 ∷ local_at 12 ∷ []; proxy = true; use_ttl = true; nonce_block = 10 }
 its_settings = refl
+
+-- what a router's store kept at its start, another node's start doesn't change
+kept_at_its_start : start_values opening (step (events.Restart 2 0 None) (lines.Restarted 2) 2 (keeps blank (sent_by two) 7) ∷ []) 3 ≡ start_values opening [] 3
+kept_at_its_start = refl
+
+-- a reply goes out under the key of its message
+replied_under_its_key : (reply_item two_keys.config 0 (record (arrived short 1) { message = record (registers short 1) { key_id = 2 } })).secret ≡ 1 ∷ []
+replied_under_its_key = refl

@@ -15,12 +15,12 @@ use Rattle.lisp_model.specs.Bag.{Item, bag, bytes_of, register_item}
 use Rattle.lisp_model.specs.Change.{Keeps, NoChange, gives}
 use Rattle.lisp_model.specs.Clean.{Clean, IsEcho, IsForged, IsHarmless, IsNoise, secrets_of}
 use Rattle.lisp_model.specs.History.{Entry}
-use Rattle.lisp_model.specs.Trace.{Opening, Step, address_at}
+use Rattle.lisp_model.specs.Trace.{Step, address_at}
 use Rattle.lisp_model.specs.declared.event.Event.TheVariants as events
 use Rattle.lisp_model.specs.declared.line.Line.TheVariants as lines
 use Rattle.lisp_model.specs.declared.refusal.Refusal.TheVariants as refusals
 use Rattle.lisp_model.proofs.Examples.Arrivals.{fits, item_reads, short_message, wide_record}
-use Rattle.lisp_model.proofs.Examples.Samples.{at, blank, changes, local_at, mapping, network, opening, refuses, registers, restarts, secret, sends, site, step, ticks, wide}
+use Rattle.lisp_model.proofs.Examples.Samples.{at, blank, changes, local_at, mapping, network, opening, refuses, registers, restarts, secret, sends, step, ticks, two_keys, wide}
 use Rattle.lisp_model.proofs.Examples.Traces.{both_sent, first_entry, one_sent, restarted_changed, short, two_sent}
 use Rattle.lisp_model.proofs.ItemLemmas.{item_authentic}
 use Rattle.lisp_model.proofs.ListLemmas.{at_head, head_or_tail, in_none}
@@ -42,10 +42,6 @@ only_secret x has = at (head_or_tail secret [] x has)
 
 forged_at_server : (bytes : List ℕ) → is_authentic bytes secret ≡ false → Clean opening (refuses [] (events.Junk 0 (local_at 21) bytes) 0 (refusals.Receive refuseds.BadAuth) ∷ [])
 forged_at_server bytes forged = (inr (inr (λ x has. subst (λ (s : List ℕ). is_authentic bytes s ≡ false) (sym (only_secret x has)) forged)), tt)
-
--- a site with a second key, which no router of the network has
-abbrev two_keys : Opening
-two_keys = record opening { config = record network { sites = record site { keys = record { id = 2; secret = 1 ∷ [] } ∷ site.keys } ∷ [] } }
 
 forged_at_router : (bytes : List ℕ) → is_authentic bytes secret ≡ false → Clean two_keys (refuses [] (events.Junk 2 (local_at 11) bytes) 2 (refusals.Notify notify_faults.BadAuth) ∷ [])
 forged_at_router bytes forged = (inr (inr (λ x has. subst (λ (s : List ℕ). is_authentic bytes s ≡ false) (sym (only_secret x has)) forged)), tt)

@@ -205,3 +205,7 @@ one_left = record { config = network; stores = keeps blank notice_pair (2 ^ 64 -
 -- a router that saves ten nonces at once, and asks that its records live as long as they say
 abbrev pub blocks : Opening
 blocks = record opening { config = record network { routers = record (router_at network 2) { nonce_block = 10; use_ttl = true } ∷ [] } }
+
+-- a site with a second key, which no router of the network has
+abbrev pub two_keys : Opening
+two_keys = record opening { config = record network { sites = record site { keys = record { id = 2; secret = 1 ∷ [] } ∷ site.keys } ∷ [] } }

@@ -112,3 +112,7 @@ second_not_started = step (events.Restart 3 0 None) (lines.Refused 3 (refusals.S
 
 refused_while_down : Legal opening second_not_started (refuses second_not_started (events.Send 3 1 fates.Done) 3 (refusals.Send send_faults.NoServer)) → ⊥
 refused_while_down l = let clash : false ≡ true = l.row.2.state in absurd cc
+
+-- a number that no node has acts as a router
+none_changed : Legal opening [] (step (events.Change 7 []) (lines.Changed 7 0) 7 (at [] 7)) → ⊥
+none_changed l = never l.row.acts.kind

@@ -265,3 +265,7 @@ notify_refused_as_acknowledgement l =
     let t = turn_of opening [] (refuses [] (events.Junk 0 (local_at 21) (bytes_of notice_back)) 0 (refusals.Receive refuseds.NoNotice)) in
     let clash : refuseds.NoNotice ≡ refuseds.NotMine = subst (λ (r : Result Said ReadFault). FailsCheck t (thrown (local_at 21) (bytes_of notice_back)) r refuseds.NoNotice) (told_reads (local_at 21) (local_at 11) (2 ^ 63) 1440 (omega arith) (omega arith)) l.row.arrives.1.0 in
     absurd cc
+
+-- the line names another Map-Server than the one that accepts
+accepted_for_another : Legal opening one_sent (step (events.Deliver 0 fates.Done) (lines.Accepted 1 one 1 1 (Some 1)) 0 (keeps blank (got_from one) 1)) → ⊥
+accepted_for_another l = let acts : ◌≡◌ {A = ℕ} 0 1 = l.row.arrives.acts.acts in absurd (omega (arith, acts))
