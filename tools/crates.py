@@ -40,17 +40,17 @@ def link(file, to):
 
 
 @contextmanager
-def room(crate):
-    """A checkout of the crate and all that it stands on alone, since two runs of the kit in one checkout wait for each
-    other."""
-    with tempfile.TemporaryDirectory(prefix=f"{crate}-") as top:
+def room(crates, without=()):
+    """A checkout of these crates and all that they stand on alone, since two runs of the kit in one checkout wait for each
+    other. It has no wrong bodies, and nothing that the names in `without` name."""
+    with tempfile.TemporaryDirectory(prefix=f"{crates[0]}-") as top:
         os.mkdir(f"{top}/.git")
         shutil.copy(f"{TOP}/HANDLES", top)
-        crates = with_libraries([crate])
+        found = with_libraries(crates)
         with open(f"{top}/crates.txt", "w", encoding="utf-8") as file:
-            file.writelines(LINES[it] for it in crates)
-        for it in crates:
-            unneeded = ["must-fail"] if it == crate else ["must-fail", "incremental"]
+            file.writelines(LINES[it] for it in found)
+        for it in found:
+            unneeded = ["must-fail", *without, *([] if it in crates else ["incremental"])]
             shutil.copytree(f"{TOP}/crates/{it}", f"{top}/crates/{it}", copy_function=link,
                             ignore=shutil.ignore_patterns(*unneeded))
         yield top
@@ -65,7 +65,7 @@ def run_kit(words, folder):
 
 def prove(crate):
     """Proves and builds the crate, over libraries that are built; whether it is proved, and what the kit printed."""
-    with room(crate) as top:
+    with room([crate]) as top:
         folder, kept = f"{top}/crates/{crate}", f"{TOP}/crates/{crate}/out"
         status, printed = run_kit(["run" if crate == PROGRAM else "lib"], folder)
         if status == 0:

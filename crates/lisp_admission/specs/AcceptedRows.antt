@@ -2,9 +2,9 @@
 -- 8.2).
 use Rattle.std.specs.Prelude.{ℕ, ◌*◌, ◌==◌, Bool, List, map, if◌then◌else◌}
 use Rattle.lisp_records.specs.declared.address.Addr.{Addr}
-use Rattle.lisp_records.specs.Record.{Mapping}
-use Rattle.lisp_records.specs.Row.{Holding}
-use Rattle.lisp_messages.specs.Message.{Registration}
+use Rattle.lisp_records.specs.Record.{MapRecordValue}
+use Rattle.lisp_records.specs.Row.{RowValue}
+use Rattle.lisp_messages.specs.Message.{MapRegisterValue}
 use Rattle.lisp_admission.specs.Pairs.{router_of}
 
 -- three minutes, in ms
@@ -17,8 +17,8 @@ abbrev pub life_of : Bool → ℕ → ℕ
 life_of use_ttl ttl = if ttl == 0 then 0 else (if ttl == 0xffffffff then three_minutes else (if use_ttl then ttl * 60000 else three_minutes))
 
 -- what is held of one record of a Map-Register from an address that is accepted at a time
-abbrev pub holding : Registration → Addr → ℕ → Mapping → Holding
-holding m from now r = record {
+abbrev pub row_value : MapRegisterValue → Addr → ℕ → MapRecordValue → RowValue
+row_value m from now r = record {
   router = router_of m;
   key = m.key_id;
   nonce = m.nonce;
@@ -30,5 +30,5 @@ holding m from now r = record {
 }
 
 -- what is held of all of them
-abbrev pub holdings : Registration → Addr → ℕ → List Holding
-holdings m from now = map (holding m from now) m.records
+abbrev pub row_values : MapRegisterValue → Addr → ℕ → List RowValue
+row_values m from now = map (row_value m from now) m.records

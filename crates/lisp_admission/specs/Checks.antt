@@ -2,20 +2,20 @@
 -- that answers it.
 use Rattle.std.specs.Prelude.{ℕ, Bool, false, not, List, Option, Some, None, Result, Ok, Err, position, ok_or, if◌then◌else◌}
 use Rattle.std.specs.Option.{option_and_then}
-use Rattle.lisp_records.specs.Record.{Mapping}
+use Rattle.lisp_records.specs.Record.{MapRecordValue}
 use Rattle.lisp_records.specs.Result.{◌>>=◌}
-use Rattle.lisp_messages.specs.Message.{Registration, Notification}
+use Rattle.lisp_messages.specs.Message.{MapRegisterValue, MapNotifyValue}
 use Rattle.lisp_messages.specs.Authentic.{is_authentic}
-use Rattle.lisp_policy.specs.Site.{SiteEntry, is_allowed, site_of, secret_of}
+use Rattle.lisp_policy.specs.Site.{SiteValue, is_allowed, site_of, secret_of}
 use Rattle.lisp_admission.specs.declared.refused.Refused.{Refused}
 use Rattle.lisp_admission.specs.declared.refused.Refused.TheVariants.{UnknownSite, UnknownKey, BadAuth, MergeAsked, NotAllowed}
 
 -- the secret of a key of a site
-abbrev pub secret_at : List SiteEntry → ℕ → ℕ → Option (List ℕ)
+abbrev pub secret_at : List SiteValue → ℕ → ℕ → Option (List ℕ)
 secret_at sites site key = option_and_then (λ s. secret_of s key) (site_of sites site)
 
 -- the place of the first record that the site doesn't allow
-abbrev pub first_not_allowed : SiteEntry → List Mapping → Option ℕ
+abbrev pub first_not_allowed : SiteValue → List MapRecordValue → Option ℕ
 first_not_allowed site records = position (λ r. not (is_allowed site r.eid)) records
 
 -- a check: the refusal, unless the test holds
@@ -27,7 +27,7 @@ refused_at None secret = Ok secret
 refused_at (Some place) secret = Err (NotAllowed place)
 
 -- the secret that a Map-Register stands under, or the first check that it fails
-unfoldable pub secret_under : List SiteEntry → List ℕ → Registration → Result (List ℕ) Refused
+unfoldable pub secret_under : List SiteValue → List ℕ → MapRegisterValue → Result (List ℕ) Refused
 secret_under sites bytes m = do
   site ← ok_or (site_of sites m.site) UnknownSite
   secret ← ok_or (secret_of site m.key_id) UnknownKey
@@ -41,5 +41,5 @@ signed_by None bytes = false
 signed_by (Some secret) bytes = is_authentic bytes secret
 
 -- the Map-Notify of a Map-Register has its nonce, Key ID and records (RFC 9301 section 5.7)
-abbrev pub notification_of : Registration → Notification
-notification_of m = record { ack = false; nonce = m.nonce; key_id = m.key_id; records = m.records }
+abbrev pub reply_to : MapRegisterValue → MapNotifyValue
+reply_to m = record { ack = false; nonce = m.nonce; key_id = m.key_id; records = m.records }

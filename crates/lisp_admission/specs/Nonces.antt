@@ -1,11 +1,12 @@
 -- Nonces that are checked against a store, and saved in it (RFC 9301 sections 5.6 and 5.7).
-use Rattle.std.specs.Prelude.{◌≡◌, ◌≢◌, ◌+◌, ◌-◌, ◌^◌, ◌<◌, ◌≤◌, max, ℕ, Option, Some, None, IfSome, IsTrue}
+use Rattle.std.specs.Prelude.{◌≡◌, ◌≢◌, ◌+◌, ◌-◌, ◌^◌, ◌<◌, ◌≤◌, max, ℕ, Option, Some, None, Result, IfSome, IfErr, IsTrue}
 use Rattle.std.specs.List.{Contains}
 use Rattle.lisp_nonces.specs.declared.pair.Pair.{Pair}
 use Rattle.lisp_nonces.specs.declared.fault.StoreFault.{StoreFault}
 use Rattle.lisp_nonces.specs.declared.fault.StoreFault.TheVariants as faults
 use Rattle.lisp_nonces.specs.Kept.{kept_at, number, with_value, InDoubt}
-use Rattle.lisp_nonces.specs.Store.{StoreState, Rose, MayLoad, MayFailLoad, MayFailSave}
+use Rattle.lisp_nonces.specs.Store.{StoreState, MayLoad, MayFailSave}
+use Rattle.lisp_nonces.specs.Promises.{KeepsListsIfHonest, IsOfDevice, LoadFailsAsArmed}
 use Rattle.lisp_admission.specs.declared.refused.Refused.{Refused}
 use Rattle.lisp_admission.specs.declared.refused.Refused.TheVariants.{StoreLoad, Replay, StoreSave}
 use Rattle.lisp_admission.specs.declared.notice_fault.NoticeFault.{NoticeFault}
@@ -35,9 +36,9 @@ IsFresh last store pair nonce = (base : Option ℕ) × IsBase last store pair ba
 abbrev pub IsReplay : Option ℕ → ℕ → Refused → Type 0
 IsReplay base nonce refused = (saved : ℕ) × (base ≡ Some saved) × (nonce ≤ saved) × (refused ≡ Replay saved)
 
--- no list of the store changed
+-- no list of an honest store changed
 abbrev pub KeepsLists : StoreState → StoreState → Type 0
-KeepsLists before after = IsTrue before.is_honest → after.kept ≡ before.kept
+KeepsLists before after = KeepsListsIfHonest before after
 
 -- where the last nonce is known the store is untouched
 abbrev pub Unasked : Option ℕ → StoreState → StoreState → Type 0
@@ -45,11 +46,11 @@ Unasked last before after = IfSome last (λ _. after ≡ before)
 
 -- a fault other than out of memory comes only where a device failed in between
 abbrev pub HasCause : StoreFault → StoreState → StoreState → Type 0
-HasCause fault before after = fault ≢ faults.OutOfMemory → Rose before after
+HasCause fault before after = IsOfDevice before after fault
 
 -- but for memory, an obedient store fails to load only where it is armed to
 abbrev pub FailsToLoad : StoreFault → StoreState → Type 0
-FailsToLoad fault before = fault ≢ faults.OutOfMemory → MayFailLoad before
+FailsToLoad fault before = LoadFailsAsArmed before fault
 
 -- what an obedient store makes of a save that fails: it is armed to fail, and keeps the nonce too
 pub record Doubts (before after : StoreState) (pair : Pair) (nonce : ℕ) : Type 0 where
@@ -70,6 +71,10 @@ Stops last before after pair nonce (StoreLoad fault) = Unknown last before after
 Stops last before after pair nonce (Replay saved) = IsBase last before pair (Some saved) × (nonce ≤ saved)
 Stops last before after pair nonce _ = ⊥
 
+-- an answer that is a refusal is one of these
+abbrev pub StopsNonce : {X : Type 0} → Option ℕ → StoreState → StoreState → Pair → ℕ → Result X Refused → Type 0
+StopsNonce last before after pair nonce answer = IfErr answer (Stops last before after pair nonce)
+
 -- a nonce isn't saved, and what may be kept of it
 abbrev pub Unsaved : StoreState → StoreState → Pair → ℕ → StoreFault → Type 0
 Unsaved before after pair nonce fault = HasCause fault before after × (fault ≢ faults.Damaged) × (IsTrue before.is_honest → InDoubt (kept_at before.kept pair) (kept_at after.kept pair) nonce) × (fault ≡ faults.OutOfMemory → after ≡ before) × FailsToSave fault before after pair nonce
@@ -85,6 +90,10 @@ nonce_after last = max (2 ^ 63) (number last + 1)
 -- there is a nonce after it
 abbrev pub IsUnspent : Option ℕ → Type 0
 IsUnspent last = number last < 2 ^ 64 - 1
+
+-- there is none: the last one is the greatest, and that is the fault
+abbrev pub IsSpent : Option ℕ → NoticeFault → Type 0
+IsSpent last fault = (last ≡ Some (2 ^ 64 - 1)) × (fault ≡ notices.NonceSpent)
 
 -- the nonce is that of the next notice, by the last one in memory
 abbrev pub Follows : Option ℕ → StoreState → ℕ → Type 0

@@ -1,5 +1,6 @@
--- Why a Map-Server refuses a message: the numbers.
-use Rattle.std.specs.Prelude.{ℕ}
+-- Why a Map-Server refuses a message: the numbers, and the refusals for want of a store's memory.
+use Rattle.std.specs.Prelude.{ℕ, Result, IsErrOf}
+use Rattle.lisp_nonces.specs.declared.fault.StoreFault.TheVariants as stores
 use Rattle.lisp_messages.specs.declared.fault.ReadFault.{ReadFault}
 use Rattle.lisp_messages.specs.declared.fault.ReadFault.TheVariants as reads
 use Rattle.lisp_admission.specs.declared.refused.Refused.{Refused}
@@ -23,3 +24,15 @@ refused_number NotMine = 61
 abbrev pub refused_of_read : ReadFault → Refused
 refused_of_read reads.OutOfMemory = OutOfMemory
 refused_of_read fault = Read fault
+
+-- the store had no memory for the load of the last nonce
+abbrev pub load_out_of_memory : Refused
+load_out_of_memory = StoreLoad stores.OutOfMemory
+
+-- or for the save of the new one
+abbrev pub save_out_of_memory : Refused
+save_out_of_memory = StoreSave stores.OutOfMemory
+
+-- neither is answered: no store is asked
+abbrev pub IsStoreless : {X : Type 0} → Result X Refused → Type 0
+IsStoreless answer = (¬ (IsErrOf answer load_out_of_memory)) × (¬ (IsErrOf answer save_out_of_memory))

@@ -3,9 +3,9 @@
 ghost use Rattle.std.specs.Prelude.{◌≡◌, IsErrOf};
 ghost use Rattle.std.specs.Option.{option_map};
 ghost use Rattle.lisp_records.specs.Result.{Reads};
-ghost use Rattle.lisp_nonces.specs.declared.fault.StoreFault.{StoreFault};
 ghost use Rattle.lisp_admission.specs.Checks.{first_not_allowed, refused_at, secret_under, secret_at};
 ghost use Rattle.lisp_admission.specs.declared.refused.Refused.{Refused};
+ghost use Rattle.lisp_admission.specs.Refused.{IsStoreless};
 
 use crate::refused::Refused;
 use lisp_hmac::Key;
@@ -24,7 +24,7 @@ pub fn key_under<'s, A: Allocator, B: Allocator>(
 ) -> Result<&'s Key, Refused>
     ensures secret { Reads (λ k. k.now) result (secret_under sites.now bytes.now register.now) }
     ensures plain { ¬ (IsErrOf result Refused.OutOfMemory) }
-    ensures storeless { (¬ (IsErrOf result (Refused.StoreLoad StoreFault.OutOfMemory))) × (¬ (IsErrOf result (Refused.StoreSave StoreFault.OutOfMemory))) }
+    ensures storeless { IsStoreless result }
 {
     let Some(site) = sites.site(register.site) else {
         return Err(Refused::UnknownSite);
@@ -45,7 +45,7 @@ pub fn key_under<'s, A: Allocator, B: Allocator>(
 fn unless_not_allowed(place: Option<usize>, key: &Key) -> Result<&Key, Refused>
     ensures secret { Reads (λ k. k.now) result (refused_at place key.now) }
     ensures plain { ¬ (IsErrOf result Refused.OutOfMemory) }
-    ensures storeless { (¬ (IsErrOf result (Refused.StoreLoad StoreFault.OutOfMemory))) × (¬ (IsErrOf result (Refused.StoreSave StoreFault.OutOfMemory))) }
+    ensures storeless { IsStoreless result }
 {
     match place {
         Some(place) => Err(Refused::NotAllowed(place)),

@@ -1,13 +1,15 @@
 //! Nonces that are checked against the store, and saved in it.
 
-ghost use Rattle.std.specs.Prelude.{◌≡◌, ◌-◌, ◌^◌, [], ◌∷◌, Some, IsTrue, IfOk, IfErr, IsErrOf, OnOk};
+ghost use Rattle.std.specs.Prelude.{◌≡◌, IfOk, IfErr, IsErrOf, OnOk};
 ghost use Rattle.lisp_nonces.specs.declared.fault.StoreFault.{StoreFault};
-ghost use Rattle.lisp_nonces.specs.Kept.{kept_at, SameElsewhere};
-ghost use Rattle.lisp_nonces.specs.Store.{Proceeds, MaySave, MayFailSave, MayLoad, MayFailLoad};
-ghost use Rattle.lisp_admission.specs.Nonces.{Follows, FollowsNone, NoticeNotKept, IsBase, IsBelow, IsFresh, IsReplay, IsUnspent, KeepsLists, nonce_after, Unasked, Unknown, Stops, NotKept};
+ghost use Rattle.lisp_nonces.specs.Store.{Proceeds, MaySave};
+ghost use Rattle.lisp_admission.specs.Nonces.{Follows, FollowsNone, NoticeNotKept, IsBase, IsBelow, IsFresh, IsReplay, IsUnspent, KeepsLists, nonce_after, Unasked, Unknown, NotKept, StopsNonce, IsSpent};
 ghost use Rattle.lisp_admission.specs.Pairs.{notice_pair};
 ghost use Rattle.lisp_admission.specs.declared.refused.Refused.{Refused};
 ghost use Rattle.lisp_admission.specs.declared.notice_fault.NoticeFault.{NoticeFault};
+ghost use Rattle.lisp_admission.specs.Refused.{load_out_of_memory, save_out_of_memory};
+ghost use Rattle.lisp_admission.specs.NoticeFault.{notice_load_out_of_memory, notice_save_out_of_memory};
+ghost use Rattle.lisp_nonces.specs.Promises.{SavesIfHonest, KeepsOthersIfHonest};
 
 use crate::notice_fault::NoticeFault;
 use crate::pairs::NOTICES;
@@ -21,7 +23,7 @@ fn last_nonce<S: NonceStore>(
     last: Option<u64>,
 ) -> Result<Option<u64>, StoreFault>
     ensures base { IfOk result (λ base. IsBase last (S.seen store.old) pair.now base) }
-    ensures refused { IfErr result (λ fault. Unknown last (S.seen store.old) (S.seen store.new) fault) }
+    ensures refused { IfErr result (Unknown last (S.seen store.old) (S.seen store.new)) }
     ensures unasked { Unasked last (S.seen store.old) (S.seen store.new) }
     ensures same { KeepsLists (S.seen store.old) (S.seen store.new) }
     ensures memory { IsErrOf result StoreFault.OutOfMemory → S.may_refuse }
@@ -42,11 +44,11 @@ pub fn check_nonce<S: NonceStore>(
     nonce: u64,
 ) -> Result<(), Refused>
     ensures fresh { OnOk result (IsFresh last (S.seen store.old) pair.now nonce) }
-    ensures refused { IfErr result (Stops last (S.seen store.old) (S.seen store.new) pair.now nonce) }
+    ensures refused { StopsNonce last (S.seen store.old) (S.seen store.new) pair.now nonce result }
     ensures unasked { Unasked last (S.seen store.old) (S.seen store.new) }
     ensures same { KeepsLists (S.seen store.old) (S.seen store.new) }
     ensures plain { ¬ (IsErrOf result Refused.OutOfMemory) }
-    ensures store_memory { IsErrOf result (Refused.StoreLoad StoreFault.OutOfMemory) → S.may_refuse }
+    ensures store_memory { IsErrOf result load_out_of_memory → S.may_refuse }
     ensures proceeds { Proceeds (S.seen store.old) (S.seen store.new) }
 {
     let base = last_nonce(store, pair, last).map_err(Refused::StoreLoad)?;
@@ -66,12 +68,12 @@ fn above(base: Option<u64>, nonce: u64) -> Result<(), Refused>
 
 /// Saves a nonce for its pair. `StoreSave`.
 pub fn save_nonce<S: NonceStore>(store: &mut S, pair: &Pair, nonce: u64) -> Result<(), Refused>
-    ensures done { IsTrue (S.seen store.old).is_honest → OnOk result (kept_at (S.seen store.new).kept pair.now ≡ Some nonce ∷ []) }
-    ensures others { IsTrue (S.seen store.old).is_honest → SameElsewhere (S.seen store.old).kept (S.seen store.new).kept pair.now }
+    ensures done { SavesIfHonest (S.seen store.old) (S.seen store.new) pair.now nonce result }
+    ensures others { KeepsOthersIfHonest (S.seen store.old) (S.seen store.new) pair.now }
     ensures saves { OnOk result (MaySave (S.seen store.old)) }
     ensures refused { IfErr result (NotKept (S.seen store.old) (S.seen store.new) pair.now nonce) }
     ensures plain { ¬ (IsErrOf result Refused.OutOfMemory) }
-    ensures store_memory { IsErrOf result (Refused.StoreSave StoreFault.OutOfMemory) → S.may_refuse }
+    ensures store_memory { IsErrOf result save_out_of_memory → S.may_refuse }
     ensures proceeds { Proceeds (S.seen store.old) (S.seen store.new) }
 {
     store.save(pair, nonce).map_err(Refused::StoreSave)
@@ -81,11 +83,11 @@ pub fn save_nonce<S: NonceStore>(store: &mut S, pair: &Pair, nonce: u64) -> Resu
 /// the store. `StoreLoad`, `NonceSpent`.
 pub fn next_nonce<S: NonceStore>(store: &mut S, last: Option<u64>) -> Result<u64, NoticeFault>
     ensures next { IfOk result (λ nonce. Follows last (S.seen store.old) nonce) }
-    ensures refused { IfErr result (λ fault. FollowsNone last (S.seen store.old) (S.seen store.new) fault) }
+    ensures refused { IfErr result (FollowsNone last (S.seen store.old) (S.seen store.new)) }
     ensures unasked { Unasked last (S.seen store.old) (S.seen store.new) }
     ensures same { KeepsLists (S.seen store.old) (S.seen store.new) }
     ensures plain { ¬ (IsErrOf result NoticeFault.OutOfMemory) }
-    ensures store_memory { IsErrOf result (NoticeFault.StoreLoad StoreFault.OutOfMemory) → S.may_refuse }
+    ensures store_memory { IsErrOf result notice_load_out_of_memory → S.may_refuse }
     ensures proceeds { Proceeds (S.seen store.old) (S.seen store.new) }
 {
     let last = last_nonce(store, &NOTICES, last).map_err(NoticeFault::StoreLoad)?;
@@ -95,7 +97,7 @@ pub fn next_nonce<S: NonceStore>(store: &mut S, last: Option<u64>) -> Result<u64
 // The nonce of a notice after the last one; `NonceSpent`.
 fn following(last: Option<u64>) -> Result<u64, NoticeFault>
     ensures next { IfOk result (λ nonce. IsUnspent last × (nonce ≡ nonce_after last)) }
-    ensures spent { IfErr result (λ fault. (last ≡ Some (2 ^ 64 - 1)) × (fault ≡ NoticeFault.NonceSpent)) }
+    ensures spent { IfErr result (IsSpent last) }
 {
     match last.unwrap_or(0).checked_add(1) {
         Some(nonce) => Ok(nonce.max(FIRST_NOTICE_NONCE)),
@@ -105,12 +107,12 @@ fn following(last: Option<u64>) -> Result<u64, NoticeFault>
 
 /// Saves the nonce of a notice. `StoreSave`.
 pub fn save_notice<S: NonceStore>(store: &mut S, nonce: u64) -> Result<(), NoticeFault>
-    ensures done { IsTrue (S.seen store.old).is_honest → OnOk result (kept_at (S.seen store.new).kept notice_pair ≡ Some nonce ∷ []) }
-    ensures others { IsTrue (S.seen store.old).is_honest → SameElsewhere (S.seen store.old).kept (S.seen store.new).kept notice_pair }
+    ensures done { SavesIfHonest (S.seen store.old) (S.seen store.new) notice_pair nonce result }
+    ensures others { KeepsOthersIfHonest (S.seen store.old) (S.seen store.new) notice_pair }
     ensures saves { OnOk result (MaySave (S.seen store.old)) }
     ensures refused { IfErr result (NoticeNotKept (S.seen store.old) (S.seen store.new) nonce) }
     ensures plain { ¬ (IsErrOf result NoticeFault.OutOfMemory) }
-    ensures store_memory { IsErrOf result (NoticeFault.StoreSave StoreFault.OutOfMemory) → S.may_refuse }
+    ensures store_memory { IsErrOf result notice_save_out_of_memory → S.may_refuse }
     ensures proceeds { Proceeds (S.seen store.old) (S.seen store.new) }
 {
     store.save(&NOTICES, nonce).map_err(NoticeFault::StoreSave)

@@ -4,13 +4,13 @@ use Rattle.std.specs.Prelude.{IfSome}
 use Rattle.std.specs.Io.BufRead.{take_through}
 use Rattle.std.specs.Io.KnownBytes.{Appends, Consumes}
 use Rattle.hex.specs.Hex.{decode_of}
-use Rattle.lisp_answer.specs.Setup.{Setup, sites_of}
+use Rattle.lisp_answer.specs.Setup.{AnswerSetupValue, sites_of}
 use Rattle.lisp_answer.specs.Input.{content}
 use Rattle.lisp_answer.specs.Line.{AreWords, IsLine, Adds, AddsFront}
 use Rattle.lisp_output.specs.Output.{WroteFront}
 
 -- the words for what the line says, and a line feed, are the line that answers the input
-pub answered : (may_refuse : Type 0) (s : Setup) (old : Option (List ℕ)) (line words text : List ℕ) → IfSome old (λ input. line ≡ take_through 10 input) → AreWords may_refuse (sites_of s) (decode_of (content line)) words → text ≡ words ++ 10 ∷ [] → IfSome old (λ input. IsLine may_refuse s input text)
+pub answered : (may_refuse : Type 0) (s : AnswerSetupValue) (old : Option (List ℕ)) (line words text : List ℕ) → IfSome old (λ input. line ≡ take_through 10 input) → AreWords may_refuse (sites_of s) (decode_of (content line)) words → text ≡ words ++ 10 ∷ [] → IfSome old (λ input. IsLine may_refuse s input text)
 answered may_refuse s None line words text first are ends = tt
 answered may_refuse s (Some input) line words text first are ends =
     (words, subst (λ (l : List ℕ). AreWords may_refuse (sites_of s) (decode_of (content l)) words) first are, ends)
@@ -26,11 +26,11 @@ fits n None line first short = tt
 fits n (Some input) line first short = subst (λ (l : List ℕ). length l ≤ n) first short
 
 -- that line was written
-pub adds : (may_refuse : Type 0) (s : Setup) (input before after : Option (List ℕ)) (line : List ℕ) → IfSome input (λ i. IsLine may_refuse s i line) → Appends before after line → IfSome input (λ i. Adds may_refuse before after s i)
+pub adds : (may_refuse : Type 0) (s : AnswerSetupValue) (input before after : Option (List ℕ)) (line : List ℕ) → IfSome input (λ i. IsLine may_refuse s i line) → Appends before after line → IfSome input (λ i. Adds may_refuse before after s i)
 adds may_refuse s None before after line is wrote = tt
 adds may_refuse s (Some input) before after line is wrote = (is.0, is.1, subst (λ (l : List ℕ). Appends before after l) is.2 wrote)
 
 -- a front of it was
-pub adds_front : (may_refuse : Type 0) (s : Setup) (input before after : Option (List ℕ)) (line : List ℕ) → IfSome input (λ i. IsLine may_refuse s i line) → WroteFront before after line → IfSome input (λ i. AddsFront may_refuse before after s i)
+pub adds_front : (may_refuse : Type 0) (s : AnswerSetupValue) (input before after : Option (List ℕ)) (line : List ℕ) → IfSome input (λ i. IsLine may_refuse s i line) → WroteFront before after line → IfSome input (λ i. AddsFront may_refuse before after s i)
 adds_front may_refuse s None before after line is wrote = tt
 adds_front may_refuse s (Some input) before after line is wrote = (line, is, wrote)

@@ -5,7 +5,7 @@ use Rattle.std.specs.Option.{unwrap_or}
 use Rattle.std.specs.List.{Contains}
 use Rattle.lisp_records.specs.declared.address.Addr.{Addr}
 use Rattle.lisp_records.specs.declared.router.RouterId.{RouterId}
-use Rattle.lisp_policy.specs.Site.{SiteEntry}
+use Rattle.lisp_policy.specs.Site.{SiteValue}
 use Rattle.lisp_nonces.specs.declared.fault.StoreFault.{StoreFault}
 use Rattle.lisp_nonces.specs.declared.fault.StoreFault.TheVariants as faults
 use Rattle.lisp_nonces.specs.declared.pair.Pair.{Pair}
@@ -14,14 +14,14 @@ use Rattle.lisp_nonces.specs.Kept.{kept_at}
 use Rattle.lisp_nonces.specs.Memory.{memory_state}
 use Rattle.lisp_nonces.specs.Store.{StoreState, Rose, Proceeds}
 use Rattle.std.specs.Result.{IsErrOf}
-use Rattle.lisp_messages.specs.Message.{Registration, Said, Registers, Notifies, Notification}
+use Rattle.lisp_messages.specs.Message.{MapRegisterValue, MessageValue, Registers, Notifies, MapNotifyValue}
 use Rattle.lisp_messages.specs.Reading.{HasHead, message_at}
 use Rattle.lisp_messages.specs.declared.fault.ReadFault.{ReadFault}
 use Rattle.lisp_server.specs.Checks.{register_checked, RefusesAck}
-use Rattle.lisp_server.specs.Notices.{Standing, notice_at}
+use Rattle.lisp_server.specs.Notices.{StandingNoticeValue, notice_at}
 use Rattle.lisp_server.specs.LastNonces.{nonce_at}
 use Rattle.lisp_admission.specs.Nonces.{IsBase, HasCause}
-use Rattle.lisp_server.specs.Receiving.{Takes, RefusesRegister, RefusesRead, Refuses}
+use Rattle.lisp_server.specs.Receiving.{ServerTakes, RefusesRegister, RefusesRead, ServerRefuses}
 use Rattle.lisp_admission.specs.Pairs.{pair_of}
 use Rattle.lisp_server.specs.Took.{reply_in}
 use Rattle.lisp_server.specs.declared.took.Took.{Took}
@@ -64,11 +64,11 @@ no_base pair saved base =
     only_none saved (suc k, lt, at) = omega (arith, lt)
 
 -- no notice stands that an acknowledgement could end
-none_stands : (router : RouterId) (n : Standing) → notice_at [] router ≡ Some n → ⊥
+none_stands : (router : RouterId) (n : StandingNoticeValue) → notice_at [] router ≡ Some n → ⊥
 unfolding notice_at
-none_stands router n at = (let clash : ◌≡◌ {A = Option Standing} None (Some n) = at in absurd cc)
+none_stands router n at = (let clash : ◌≡◌ {A = Option StandingNoticeValue} None (Some n) = at in absurd cc)
 
-ack_refused : (sites : List SiteEntry) (from : Addr) (bytes : List ℕ) (m : Notification) (why : Refused) → RefusesAck sites [] from bytes m why → cond m.ack refusals.NoNotice refusals.NotMine ≡ why
+ack_refused : (sites : List SiteValue) (from : Addr) (bytes : List ℕ) (m : MapNotifyValue) (why : Refused) → RefusesAck sites [] from bytes m why → cond m.ack refusals.NoNotice refusals.NotMine ≡ why
 ack_refused sites from bytes m refusals.NotMine notify = ap (λ (ack : Bool). cond ack refusals.NoNotice refusals.NotMine) notify
 ack_refused sites from bytes m refusals.NoNotice r = ap (λ (ack : Bool). cond ack refusals.NoNotice refusals.NotMine) r.0
 ack_refused sites from bytes m refusals.BadAuth r = absurd (none_stands r.1.router r.1 r.2.stands)
@@ -82,7 +82,7 @@ ack_refused sites from bytes m (refusals.Replay _) never = absurd never
 ack_refused sites from bytes m refusals.OutOfMemory never = absurd never
 ack_refused sites from bytes m (refusals.StoreSave _) never = absurd never
 
-pub taken : {A : Type 0} (sites : List SiteEntry) (said : Result Said ReadFault) (from : Addr) (bytes : List ℕ) (new : ServerState) (after : StoreState) (took : Took A) → Takes said from bytes (fresh_server sites) new fresh_store after 0 took → read_answer sites bytes said ≡ Ok (reply_in took)
+pub taken : {A : Type 0} (sites : List SiteValue) (said : Result MessageValue ReadFault) (from : Addr) (bytes : List ℕ) (new : ServerState) (after : StoreState) (took : Took A) → ServerTakes said from bytes (fresh_server sites) new fresh_store after 0 took → read_answer sites bytes said ≡ Ok (reply_in took)
 taken sites (Ok (Registers m)) from bytes new after (Accepted router key nonce reply) a = ap answer_to a.checks ∙ ap (λ t. Ok (reply_in t)) (sym a.answer)
 taken sites (Ok (Registers m)) from bytes new after (NoticeDone router nonce) never = absurd never
 taken sites (Ok (Notifies m)) from bytes new after (Accepted router key nonce reply) never = absurd never
@@ -95,7 +95,7 @@ pub record Excuse (T : Type 0) (may : Type 0) (bytes : List ℕ) (why : Refused)
   pub load : IsErrOf {T = T} (Err why) (refusals.StoreLoad faults.OutOfMemory) → may
   pub save : IsErrOf {T = T} (Err why) (refusals.StoreSave faults.OutOfMemory) → may
 
-register_refused : {T : Type 0} (may : Type 0) (sites : List SiteEntry) (bytes : List ℕ) (m : Registration) (after : StoreState) (why : Refused) → message_at bytes ≡ Ok (Registers m) → Excuse T may bytes why → Proceeds fresh_store after → RefusesRegister (register_checked sites bytes m) (fresh_server sites) fresh_store after why → (may × RanOut sites bytes why) ⊎ (answer_to (register_checked sites bytes m) ≡ Err why)
+register_refused : {T : Type 0} (may : Type 0) (sites : List SiteValue) (bytes : List ℕ) (m : MapRegisterValue) (after : StoreState) (why : Refused) → message_at bytes ≡ Ok (Registers m) → Excuse T may bytes why → Proceeds fresh_store after → RefusesRegister (register_checked sites bytes m) (fresh_server sites) fresh_store after why → (may × RanOut sites bytes why) ⊎ (answer_to (register_checked sites bytes m) ≡ Err why)
 register_refused may sites bytes m after (refusals.StoreLoad fault) read out went r =
     let ran = only_memory after fault went r.cause in
     inl (out.load (ap (λ (f : StoreFault). Err (refusals.StoreLoad f)) ran), (ran, (m, r.passed, read, r.checks)))
@@ -113,12 +113,12 @@ register_refused may sites bytes m after refusals.MergeAsked read out went r = i
 register_refused may sites bytes m after (refusals.NotAllowed _) read out went r = inr (ap answer_to r.0)
 register_refused may sites bytes m after refusals.NoNotice read out went r = inr (ap answer_to r.0)
 
-read_refused : {T : Type 0} (may : Type 0) (sites : List SiteEntry) (said : Result Said ReadFault) (from : Addr) (bytes : List ℕ) (after : StoreState) (why : Refused) → message_at bytes ≡ said → Excuse T may bytes why → Proceeds fresh_store after → RefusesRead said from bytes (fresh_server sites) fresh_store after why → (may × RanOut sites bytes why) ⊎ (read_answer sites bytes said ≡ Err why)
+read_refused : {T : Type 0} (may : Type 0) (sites : List SiteValue) (said : Result MessageValue ReadFault) (from : Addr) (bytes : List ℕ) (after : StoreState) (why : Refused) → message_at bytes ≡ said → Excuse T may bytes why → Proceeds fresh_store after → RefusesRead said from bytes (fresh_server sites) fresh_store after why → (may × RanOut sites bytes why) ⊎ (read_answer sites bytes said ≡ Err why)
 read_refused may sites (Ok (Registers m)) from bytes after why read out went r = register_refused may sites bytes m after why read out went r
 read_refused may sites (Ok (Notifies m)) from bytes after why read out went r = inr (ap Err (ack_refused sites from bytes m why r.0))
 read_refused may sites (Err fault) from bytes after why read out went r = inr (ap Err (sym r.0))
 
-pub refused : {T : Type 0} (may : Type 0) (sites : List SiteEntry) (from : Addr) (bytes : List ℕ) (after : StoreState) (why : Refused) → Excuse T may bytes why → Proceeds fresh_store after → Refuses (message_at bytes) from bytes (fresh_server sites) fresh_store after why → (may × RanOut sites bytes why) ⊎ (answer_of sites bytes ≡ Err why)
+pub refused : {T : Type 0} (may : Type 0) (sites : List SiteValue) (from : Addr) (bytes : List ℕ) (after : StoreState) (why : Refused) → Excuse T may bytes why → Proceeds fresh_store after → ServerRefuses (message_at bytes) from bytes (fresh_server sites) fresh_store after why → (may × RanOut sites bytes why) ⊎ (answer_of sites bytes ≡ Err why)
 refused may sites from bytes after refusals.OutOfMemory out went r = inl (out.own refl)
 refused may sites from bytes after (refusals.StoreLoad x) out went r = read_refused may sites (message_at bytes) from bytes after (refusals.StoreLoad x) refl out went r
 refused may sites from bytes after (refusals.StoreSave x) out went r = read_refused may sites (message_at bytes) from bytes after (refusals.StoreSave x) refl out went r

@@ -1,13 +1,13 @@
 -- A Map-Server that was just started, and a store in memory that keeps nothing.
 use Rattle.std.specs.Prelude.{List, []}
 use Rattle.std.specs.FinMap.{empty}
-use Rattle.lisp_policy.specs.Site.{SiteEntry}
+use Rattle.lisp_policy.specs.Site.{SiteValue}
 use Rattle.lisp_nonces.specs.declared.fate.Fate.TheVariants.{Done}
-use Rattle.lisp_nonces.specs.Memory.{Memory}
+use Rattle.lisp_nonces.specs.Memory.{MemoryStoreState}
 use Rattle.lisp_server.specs.Server.{ServerState}
 
-abbrev pub fresh_server : List SiteEntry → ServerState
+abbrev pub fresh_server : List SiteValue → ServerState
 fresh_server sites = record { sites = sites; rows = []; nonces = empty; contacts = []; notices = [] }
 
-abbrev pub fresh_memory : Memory
+abbrev pub fresh_memory : MemoryStoreState
 fresh_memory = record { kept = empty; faults = 0; fate = Done }

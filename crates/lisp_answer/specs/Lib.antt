@@ -1,4 +1,4 @@
-pub mod Block
+pub mod DefaultPrefix
 pub mod Setup
 pub mod Fresh
 pub mod Words

@@ -1,11 +1,8 @@
 //! The subcommand `answer`.
 
-ghost use Rattle.std.specs.Prelude.{◌≢◌, ◌<◌, ◌≤◌, length, Err, IfOk, IfSome, OnOk, IfErr, IsErrOf};
-ghost use Rattle.std.specs.String.{string_bytes};
-ghost use Rattle.std.specs.Io.BufRead.{take_through};
-ghost use Rattle.std.specs.Io.KnownBytes.{Consumes, Keeps};
-ghost use Rattle.lisp_answer.specs.Line.{Adds, AddsFront, IsLine};
-ghost use Rattle.lisp_answer.specs.Input.{most_bytes};
+ghost use Rattle.std.specs.Prelude.{◌≢◌, Err, OnOk, IsErrOf};
+ghost use Rattle.lisp_answer.specs.Line.{GivesAnswer, WritesAnswer, CutsAnswer, KeepsUnlessWrite};
+ghost use Rattle.lisp_answer.specs.Input.{TakesLine, HasShortLine, HasLongLine};
 ghost use Rattle.lisp_answer.specs.declared.fault.AnswerFault.{AnswerFault};
 
 use crate::fault::AnswerFault;
@@ -20,9 +17,10 @@ use std::io::{Read, Write};
 /// Reads one line of hexadecimal digits, the bytes of a message, and writes one line: what a fresh
 /// Map-Server with this setup answers. To a Map-Register that is the Map-Notify in lower case digits,
 /// `accepted` where bit M is clear, or `refused` with the number of the refusal and what it carries. A
-/// Map-Notify is `refused 61`. A Map-Notify-Ack is `refused 60`, since no unsolicited Map-Notify (notice)
-/// waits for it. A line that isn't hexadecimal is `refused 94`. Out of memory in the server is
-/// `refused 58`, in its store `refused 59 store 32`.
+/// Map-Notify is `refused 61` (`Refused::NotMine`). A Map-Notify-Ack is `refused 60` (`Refused::NoNotice`),
+/// since no unsolicited Map-Notify (notice) waits for it. A line that isn't hexadecimal is `refused 94`.
+/// Out of memory in the server is `refused 58` (`Refused::OutOfMemory`), in its store `refused 59 store 32`
+/// (`Refused::StoreSave` of `StoreFault::OutOfMemory`).
 ///
 /// The line ends with a line feed, before which a carriage return is dropped, or with the input; it
 /// has at most 1,048,576 bytes, its line feed among them, and nothing after it is read. Faults:
@@ -35,12 +33,14 @@ pub fn answer<A: Memory + Copy, B: Allocator, R: Read, W: Write>(
     reader: &mut R,
     writer: &mut W,
 ) -> Result<(), AnswerFault>
-    ensures ok { OnOk result (IfSome (R.remaining reader.old) (λ input. Adds A.may_refuse (W.contents writer.old) (W.contents writer.new) setup.now input)) }
-    ensures consumed { OnOk result (IfSome (R.remaining reader.old) (λ input. Consumes (R.remaining reader.old) (R.remaining reader.new) (take_through 10 input))) }
-    ensures fits { OnOk result (IfSome (R.remaining reader.old) (λ input. length (take_through 10 input) ≤ most_bytes)) }
-    ensures too_long { IsErrOf result AnswerFault.TooLong → IfSome (R.remaining reader.old) (λ input. most_bytes < length (take_through 10 input)) }
-    ensures err { IfErr result (λ e. e ≢ AnswerFault.Write → Keeps (W.contents writer.old) (W.contents writer.new)) }
-    ensures front { IsErrOf result AnswerFault.Write → IfSome (R.remaining reader.old) (λ input. AddsFront A.may_refuse (W.contents writer.old) (W.contents writer.new) setup.now input) }
+    ensures ok { WritesAnswer result W.contents writer.old writer.new
+        A.may_refuse setup.now R.remaining reader.old }
+    ensures consumed { OnOk result (TakesLine (R.remaining reader.old) (R.remaining reader.new)) }
+    ensures fits { OnOk result (HasShortLine (R.remaining reader.old)) }
+    ensures too_long { IsErrOf result AnswerFault.TooLong → HasLongLine (R.remaining reader.old) }
+    ensures err { KeepsUnlessWrite result (W.contents writer.old) (W.contents writer.new) }
+    ensures front { CutsAnswer result W.contents writer.old writer.new
+        A.may_refuse setup.now R.remaining reader.old }
 {
     let line = answer_line(alloc, setup, reader)?;
     match write_bytes(line.as_bytes(), writer) {
@@ -55,10 +55,10 @@ fn answer_line<A: Memory + Copy, B: Allocator, R: Read>(
     setup: &AnswerSetup<B>,
     reader: &mut R,
 ) -> Result<String<A>, AnswerFault>
-    ensures line { IfOk result (λ line. IfSome (R.remaining reader.old) (λ input. IsLine A.may_refuse setup.now input (string_bytes line))) }
-    ensures consumed { OnOk result (IfSome (R.remaining reader.old) (λ input. Consumes (R.remaining reader.old) (R.remaining reader.new) (take_through 10 input))) }
-    ensures fits { OnOk result (IfSome (R.remaining reader.old) (λ input. length (take_through 10 input) ≤ most_bytes)) }
-    ensures too_long { IsErrOf result AnswerFault.TooLong → IfSome (R.remaining reader.old) (λ input. most_bytes < length (take_through 10 input)) }
+    ensures line { GivesAnswer A.may_refuse setup.now (R.remaining reader.old) result }
+    ensures consumed { OnOk result (TakesLine (R.remaining reader.old) (R.remaining reader.new)) }
+    ensures fits { OnOk result (HasShortLine (R.remaining reader.old)) }
+    ensures too_long { IsErrOf result AnswerFault.TooLong → HasLongLine (R.remaining reader.old) }
     ensures unwritten { result ≢ Err AnswerFault.Write }
 {
     let sites = setup.sites(alloc)?;

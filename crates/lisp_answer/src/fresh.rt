@@ -1,9 +1,6 @@
 //! The answer of a fresh Map-Server to one datagram.
 
-ghost use Rattle.std.specs.Prelude.{◌≡◌, List};
-ghost use Rattle.lisp_policy.specs.Site.{SiteEntry};
-ghost use Rattle.lisp_answer.specs.Answer.{Answers};
-ghost use Rattle.lisp_answer.specs.Fresh.{fresh_server, fresh_memory};
+ghost use Rattle.lisp_answer.specs.Answer.{Answers, AnswersIfFresh};
 
 use lisp_memory::Memory;
 use lisp_nonces::MemoryStore;
@@ -34,7 +31,7 @@ fn answered<A: Memory + Copy>(
     store: &mut MemoryStore<A>,
     bytes: &[u8],
 ) -> Result<Option<Bytes<A>>, Refused>
-    ensures { (sites : List SiteEntry) → server.old ≡ fresh_server sites → store.old ≡ fresh_memory → Answers A.may_refuse sites bytes.now result }
+    ensures { AnswersIfFresh A.may_refuse server.old store.old bytes.now result }
 {
     match server.receive(store, SOURCE, bytes, 0) {
         Ok(took) => Ok(took.into_reply()),

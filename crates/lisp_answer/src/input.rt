@@ -1,9 +1,7 @@
 //! Reading the one line that is answered.
 
-ghost use Rattle.std.specs.Prelude.{◌≡◌, ◌≢◌, ◌<◌, ◌≤◌, length, vec_len, Err, IfOk, IfSome, IsErrOf};
-ghost use Rattle.std.specs.Io.BufRead.{take_through};
-ghost use Rattle.std.specs.Io.KnownBytes.{Consumes};
-ghost use Rattle.lisp_answer.specs.Input.{content};
+ghost use Rattle.std.specs.Prelude.{◌≡◌, ◌≢◌, ◌≤◌, vec_len, Err, IfOk, IsErrOf};
+ghost use Rattle.lisp_answer.specs.Input.{IsFirstLine, TakesResult, HasLongLine, content};
 ghost use Rattle.lisp_answer.specs.declared.fault.AnswerFault.{AnswerFault};
 
 use crate::fault::AnswerFault;
@@ -22,11 +20,11 @@ pub(crate) fn read_line<A: Memory, R: Read>(
     alloc: A,
     reader: &mut R,
 ) -> Result<Vec<u8, A>, AnswerFault>
-    ensures line { IfOk result (λ line. IfSome (R.remaining reader.old) (λ input. line.items ≡ take_through 10 input)) }
-    ensures rest { IfOk result (λ line. Consumes (R.remaining reader.old) (R.remaining reader.new) line.items) }
+    ensures line { IfOk result (λ line. IsFirstLine (R.remaining reader.old) line.items) }
+    ensures rest { TakesResult result (R.remaining reader.old) (R.remaining reader.new) }
     ensures short { IfOk result (λ line. vec_len line ≤ MOST_BYTES) }
     ensures memory { IsErrOf result AnswerFault.OutOfMemory → A.may_refuse }
-    ensures too_long { IsErrOf result AnswerFault.TooLong → IfSome (R.remaining reader.old) (λ input. MOST_BYTES < length (take_through 10 input)) }
+    ensures too_long { IsErrOf result AnswerFault.TooLong → HasLongLine (R.remaining reader.old) }
     ensures unwritten { result ≢ Err AnswerFault.Write }
 {
     let mut line = Vec::new(alloc);

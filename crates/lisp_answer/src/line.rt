@@ -2,8 +2,7 @@
 
 ghost use Rattle.std.specs.Prelude.{◌≡◌, IfOk};
 ghost use Rattle.std.specs.String.{string_bytes};
-ghost use Rattle.hex.specs.Hex.{decode_of};
-ghost use Rattle.lisp_answer.specs.Line.{answer_words, AreWords};
+ghost use Rattle.lisp_answer.specs.Line.{answer_words, GivesWords};
 
 use crate::fresh::respond;
 use crate::words::words_of_refused;
@@ -24,7 +23,7 @@ pub(crate) fn words_for<A: Memory + Copy>(
     sites: Sites<A>,
     digits: &[u8],
 ) -> Result<String<A>, AllocError>
-    ensures { IfOk result (λ words. AreWords A.may_refuse sites (decode_of digits.now) (string_bytes words)) }
+    ensures { GivesWords A.may_refuse sites digits.now result }
 {
     match hex::decode(alloc, digits) {
         Ok(bytes) => words_of(alloc, respond(alloc, sites, &bytes)),

@@ -1,7 +1,7 @@
 //! The one site of the server that `answer` starts afresh.
 
 ghost use Rattle.std.specs.Prelude.{◌≡◌, IfOk, OnErr};
-ghost use Rattle.lisp_answer.specs.Block.{default_block};
+ghost use Rattle.lisp_answer.specs.DefaultPrefix.{default_prefix};
 
 use lisp_memory::{FallibleCopies, Memory};
 use lisp_policy::Sites;
@@ -34,9 +34,9 @@ pub struct AnswerSetup<A: Allocator = Global> {
 }
 
 impl<A: Allocator> Model for AnswerSetup<A> {
-    ghost use Rattle.lisp_answer.specs.Setup.{Setup};
+    ghost use Rattle.lisp_answer.specs.Setup.{AnswerSetupValue};
 
-    ghost Value = { Setup };
+    ghost Value = { AnswerSetupValue };
 
     ghost view = { λ s. record { site = s.site; key = s.key; secret = s.secret; prefix = s.prefix; more_specifics = s.more_specifics } };
 }
@@ -83,7 +83,7 @@ impl<A: Allocator> AnswerSetup<A> {
 /// 10.1.0.0/16, the prefix where none is asked for.
 #[tactic(auto, unfolding(lisp_records::specs::Address::masked))]
 pub fn default_prefix() -> Prefix
-    ensures { result ≡ default_block }
+    ensures { result ≡ default_prefix }
 {
     Prefix::new(Addr::V4([10, 1, 0, 0]), 16).unwrap()
 }

@@ -10,18 +10,17 @@ use Rattle.lisp_model.specs.declared.line.Line.{Line}
 use Rattle.lisp_model.specs.declared.line.Line.TheVariants as lines
 use Rattle.lisp_model.specs.Trace.{Step, Opening}
 use Rattle.lisp_model.specs.Held.{Acceptance}
-use Rattle.lisp_model.specs.Bag.{since, since_after}
-use Rattle.lisp_model.specs.Accepted.{accepted, accepted_after, arriving}
+use Rattle.lisp_model.specs.Bag.{since_start, since_start_after}
+use Rattle.lisp_model.specs.Accepted.{acceptances, acceptances_after, acceptances_in_step}
 use Rattle.lisp_model.specs.Legal.{Legal, LegalTrace}
+use Rattle.lisp_model.proofs.Locality.{same_number}
+use Rattle.lisp_model.proofs.ListLemmas.{at_head, head_or_tail, in_none}
 use Rattle.lisp_client.specs.Steps.{IsIn, Arrives}
-use Rattle.lisp_client.proofs.Steps.{at_head, head_or_tail, in_none, here, later, goes_up}
+use Rattle.lisp_client.proofs.Steps.{here, later, goes_up}
 use Rattle.lisp_client.proofs.Arrivals.{IsTaken, taken_of, taken_alone, was_taken, accepting}
 
-pub same_number : (a : ℕ) → (a == a) ≡ true
-same_number a = (Decides-eqb a a).1 refl
-
 -- nothing that was accepted is forgotten
-stays : (line : Line) (new old : List Acceptance) (server : ℕ) (x : Acceptance) → Contains old x → Contains (accepted_after line new server old) x
+stays : (line : Line) (new old : List Acceptance) (server : ℕ) (x : Acceptance) → Contains old x → Contains (acceptances_after line new server old) x
 stays (lines.Accepted node _ _ _ _) new old server x has = by (node == server)
   where
     by : (b : Bool) → Contains (if b then new ++ old else old) x
@@ -31,19 +30,19 @@ stays _ new old server x has = has
 
 -- a step with a line of acceptance adds what arrives
 pub adds : (o : Opening) (s : Step) (before : List Step) (server : ℕ) (router : RouterId) (key nonce : ℕ) (reply : Option ℕ) → s.line ≡ lines.Accepted server router key nonce reply
-    → (a : Arrives o s before router key nonce) → accepted o (s ∷ before) server ≡ taken_of o s before router key nonce a ∷ accepted o before server
+    → (a : Arrives o s before router key nonce) → acceptances o (s ∷ before) server ≡ taken_of o s before router key nonce a ∷ acceptances o before server
 adds o s before server router key nonce reply is a =
-    ap (λ (line : Line). accepted_after line (arriving o before s) server (accepted o before server)) is
-    ∙ ap (λ (b : Bool). if b then arriving o before s ++ accepted o before server else accepted o before server) (same_number server)
-    ∙ ap (λ (new : List Acceptance). new ++ accepted o before server) (taken_alone o s before router key nonce a)
+    ap (λ (line : Line). acceptances_after line (acceptances_in_step o before s) server (acceptances o before server)) is
+    ∙ ap (λ (b : Bool). if b then acceptances_in_step o before s ++ acceptances o before server else acceptances o before server) (same_number server)
+    ∙ ap (λ (new : List Acceptance). new ++ acceptances o before server) (taken_alone o s before router key nonce a)
 
 -- and that stays
 pub stays_accepted : (o : Opening) (T : List Step) (s : Step) (before : List Step) → IsIn T s before → (server : ℕ) (router : RouterId) (key nonce : ℕ) (reply : Option ℕ)
-    → s.line ≡ lines.Accepted server router key nonce reply → (a : Arrives o s before router key nonce) → Contains (accepted o T server) (taken_of o s before router key nonce a)
+    → s.line ≡ lines.Accepted server router key nonce reply → (a : Arrives o s before router key nonce) → Contains (acceptances o T server) (taken_of o s before router key nonce a)
 stays_accepted o T s before there server router key nonce reply is a =
     let x = taken_of o s before router key nonce a in
-    goes_up (λ (U : List Step). Contains (accepted o U server) x) (λ y U has. stays y.line (arriving o U y) (accepted o U server) server x has) T s before there
-    (subst (λ (xs : List Acceptance). Contains xs x) (sym (adds o s before server router key nonce reply is a)) (at_head x (accepted o before server)))
+    goes_up (λ (U : List Step). Contains (acceptances o U server) x) (λ y U has. stays y.line (acceptances_in_step o U y) (acceptances o U server) server x has) T s before there
+    (subst (λ (xs : List Acceptance). Contains xs x) (sym (adds o s before server router key nonce reply is a)) (at_head x (acceptances o before server)))
 
 -- a line of acceptance, and what is new by it
 record IsNew (line : Line) (new : List Acceptance) (server : ℕ) (x : Acceptance) : Type 0 where
@@ -54,7 +53,7 @@ record IsNew (line : Line) (new : List Acceptance) (server : ℕ) (x : Acceptanc
   line_is : line ≡ lines.Accepted server router key nonce reply
   among : Contains new x
 
-accepted_case : (line : Line) (new old : List Acceptance) (server : ℕ) (x : Acceptance) → Contains (accepted_after line new server old) x → IsNew line new server x ⊎ Contains old x
+accepted_case : (line : Line) (new old : List Acceptance) (server : ℕ) (x : Acceptance) → Contains (acceptances_after line new server old) x → IsNew line new server x ⊎ Contains old x
 accepted_case (lines.Accepted node router key nonce reply) new old server x has = by (node == server) refl has
   where
     by : (b : Bool) → (node == server) ≡ b → Contains (if b then new ++ old else old) x → IsNew (lines.Accepted node router key nonce reply) new server x ⊎ Contains old x
@@ -74,7 +73,7 @@ restarts _ = false
 not_restarted : (line : Line) (server : ℕ) → restarts line ≡ false → line ≢ lines.Restarted server
 not_restarted line server other is = true≢false (sym (ap restarts is) ∙ other)
 
-since_case : (line : Line) (new old : List Acceptance) (server : ℕ) (x : Acceptance) → Contains (since_after line new server old) x → IsNew line new server x ⊎ ((line ≢ lines.Restarted server) × Contains old x)
+since_case : (line : Line) (new old : List Acceptance) (server : ℕ) (x : Acceptance) → Contains (since_start_after line new server old) x → IsNew line new server x ⊎ ((line ≢ lines.Restarted server) × Contains old x)
 since_case (lines.Accepted node router key nonce reply) new old server x has = by (accepted_case (lines.Accepted node router key nonce reply) new old server x has)
   where
     by : IsNew (lines.Accepted node router key nonce reply) new server x ⊎ Contains old x → IsNew (lines.Accepted node router key nonce reply) new server x ⊎ ((lines.Accepted node router key nonce reply ≢ lines.Restarted server) × Contains old x)
@@ -99,7 +98,7 @@ pub record IsAcceptedAs (o : Opening) (server : ℕ) (x : Acceptance) (t : Step)
 
 module _ (o : Opening) (server : ℕ) (x : Acceptance) where
   -- its line is that of the message
-  accepted_as : (s : Step) (before : List Step) → Legal o before s → IsNew s.line (arriving o before s) server x → IsAcceptedAs o server x s before
+  accepted_as : (s : Step) (before : List Step) → Legal o before s → IsNew s.line (acceptances_in_step o before s) server x → IsAcceptedAs o server x s before
   accepted_as s before legal new =
       let a = accepting o s before legal server new.router new.key new.nonce new.reply new.line_is in
       let only = alone (head_or_tail (taken_of o s before new.router new.key new.nonce a) [] x (subst (λ (xs : List Acceptance). Contains xs x) (taken_alone o s before new.router new.key new.nonce a) new.among)) in
@@ -123,11 +122,11 @@ module _ (o : Opening) (server : ℕ) (x : Acceptance) where
     pub there : IsIn T step before
     pub how : IsAcceptedAs o server x step before
 
-  pub was_accepted : (T : List Step) → LegalTrace o T → Contains (accepted o T server) x → WasAccepted T
+  pub was_accepted : (T : List Step) → LegalTrace o T → Contains (acceptances o T server) x → WasAccepted T
   was_accepted [] legal has = absurd (in_none x has)
-  was_accepted (s ∷ T) legal has = by (accepted_case s.line (arriving o T s) (accepted o T server) server x has) (was_accepted T legal.1)
+  was_accepted (s ∷ T) legal has = by (accepted_case s.line (acceptances_in_step o T s) (acceptances o T server) server x has) (was_accepted T legal.1)
     where
-      by : IsNew s.line (arriving o T s) server x ⊎ Contains (accepted o T server) x → (Contains (accepted o T server) x → WasAccepted T) → WasAccepted (s ∷ T)
+      by : IsNew s.line (acceptances_in_step o T s) server x ⊎ Contains (acceptances o T server) x → (Contains (acceptances o T server) x → WasAccepted T) → WasAccepted (s ∷ T)
       by (inl new) go = record { step = s; before = T; there = here s T; how = accepted_as s T legal.0 new }
       by (inr old) go = let w = go old in record { step = w.step; before = w.before; there = later s T w.step w.before w.there; how = w.how }
 
@@ -139,11 +138,11 @@ module _ (o : Opening) (server : ℕ) (x : Acceptance) where
     pub how : IsAcceptedAs o server x step before
     pub no_restart : (r : Step) → Contains there.after r → r.line ≢ lines.Restarted server
 
-  pub was_accepted_since : (T : List Step) → LegalTrace o T → Contains (since o T server) x → WasAcceptedSince T
+  pub was_accepted_since : (T : List Step) → LegalTrace o T → Contains (since_start o T server) x → WasAcceptedSince T
   was_accepted_since [] legal has = absurd (in_none x has)
-  was_accepted_since (s ∷ T) legal has = by (since_case s.line (arriving o T s) (since o T server) server x has) (was_accepted_since T legal.1)
+  was_accepted_since (s ∷ T) legal has = by (since_case s.line (acceptances_in_step o T s) (since_start o T server) server x has) (was_accepted_since T legal.1)
     where
-      by : IsNew s.line (arriving o T s) server x ⊎ ((s.line ≢ lines.Restarted server) × Contains (since o T server) x) → (Contains (since o T server) x → WasAcceptedSince T) → WasAcceptedSince (s ∷ T)
+      by : IsNew s.line (acceptances_in_step o T s) server x ⊎ ((s.line ≢ lines.Restarted server) × Contains (since_start o T server) x) → (Contains (since_start o T server) x → WasAcceptedSince T) → WasAcceptedSince (s ∷ T)
       by (inl new) go = record { step = s; before = T; there = here s T; how = accepted_as s T legal.0 new; no_restart = λ r has. absurd (in_none r has) }
       by (inr old) go =
           let w = go old.1 in

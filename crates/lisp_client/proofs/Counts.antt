@@ -2,23 +2,25 @@
 use Rattle.std.proofs.Common.{◌≡◌, ℕ, ◌==◌, ◌&&◌, Bool, true, false, List, ◌∷◌, sym, ap, subst, ◌∙◌}
 use Rattle.std.specs.Prelude.{if◌then◌else◌}
 use Rattle.std.specs.List.{Contains}
-use Rattle.lisp_messages.specs.Message.{Registration}
+use Rattle.lisp_messages.specs.Message.{MapRegisterValue}
 use Rattle.lisp_admission.specs.Pairs.{router_of}
 use Rattle.lisp_model.specs.declared.line.Line.TheVariants as lines
 use Rattle.lisp_model.specs.Trace.{Step, Opening, router_at}
 use Rattle.lisp_model.specs.Held.{Acceptance}
-use Rattle.lisp_model.specs.Counted.{acknowledged, acknowledged_after}
+use Rattle.lisp_model.specs.Counted.{counted_nonces, counted_nonces_after}
 use Rattle.lisp_model.specs.declared.line.Line.{Line}
 use Rattle.lisp_model.specs.Legal.{LegalTrace}
 use Rattle.lisp_model.specs.Network.{IsNetwork}
 use Rattle.lisp_model.specs.Promises.{AcceptedWasSent, WasAccepted}
 use Rattle.lisp_model.specs.Promises as schedules
 use Rattle.lisp_refinement.specs.Headline.{OfEachStep}
+use Rattle.lisp_model.proofs.Locality.{same_number}
+use Rattle.lisp_model.proofs.ListLemmas.{at_head, in_tail}
 use Rattle.lisp_client.specs.Steps.{IsIn, WasSent}
 use Rattle.lisp_client.specs.Promised.{AcceptedWereSent, CountedWasAccepted, CountedWereAccepted, DoneWasNoticed}
-use Rattle.lisp_client.proofs.Steps.{at_head, in_tail, goes_up, each_at}
+use Rattle.lisp_client.proofs.Steps.{goes_up, each_at}
 use Rattle.lisp_client.proofs.Arrivals.{taken_of}
-use Rattle.lisp_client.proofs.AcceptedSteps.{same_number, stays_accepted, was_accepted}
+use Rattle.lisp_client.proofs.AcceptedSteps.{stays_accepted, was_accepted}
 use Rattle.lisp_client.proofs.Entries.{was_entered, was_sent, router_sends, one_router}
 
 -- each Map-Register that was accepted was sent
@@ -42,8 +44,8 @@ module _ (o : Opening) (T : List Step) (legal : LegalTrace o T) (network : IsNet
       let w = was_entered o T e found.1.sent in
       let v = was_entered o T was.entry was.sent in
       let me : (router_at o.config node).me ≡ router_of x.message = ap (λ (k : ℕ). (router_at o.config k).me) (sym was.who) ∙ sym (ap router_of was.message) in
-      let under : key ≡ x.message.key_id = sym was.under ∙ sym (ap (λ (m : Registration). m.key_id) was.message) in
-      let number : nonce ≡ x.message.nonce = sym was.number ∙ sym (ap (λ (m : Registration). m.nonce) was.message) in
+      let under : key ≡ x.message.key_id = sym was.under ∙ sym (ap (λ (m : MapRegisterValue). m.key_id) was.message) in
+      let number : nonce ≡ x.message.nonce = sym was.number ∙ sym (ap (λ (m : MapRegisterValue). m.nonce) was.message) in
       let its : e.router ≡ node = one_router o.config network.routers e.router was.entry.router
       (router_sends o T legal w.step w.before w.there e.router e.server e.key e.nonce w.datagram w.line)
       (router_sends o T legal v.step v.before v.there was.entry.router was.entry.server was.entry.key was.entry.nonce v.datagram v.line)
@@ -70,7 +72,7 @@ module _ (o : Opening) (T : List Step) (legal : LegalTrace o T) (network : IsNet
       }
 
 -- a count stays counted
-stays_counted : (line : Line) (node server : ℕ) (old : List (ℕ × ℕ)) (x : ℕ × ℕ) → Contains old x → Contains (acknowledged_after line node server old) x
+stays_counted : (line : Line) (node server : ℕ) (old : List (ℕ × ℕ)) (x : ℕ × ℕ) → Contains old x → Contains (counted_nonces_after line node server old) x
 stays_counted (lines.Counted router other key nonce) node server old x has = by (router == node && other == server)
   where
     by : (b : Bool) → Contains (if b then (key, nonce) ∷ old else old) x
@@ -79,16 +81,16 @@ stays_counted (lines.Counted router other key nonce) node server old x has = by 
 stays_counted _ node server old x has = has
 
 -- and each line of a count adds what it counts
-counts_in : (T : List Step) (s : Step) (before : List Step) → IsIn T s before → (node server key nonce : ℕ) → s.line ≡ lines.Counted node server key nonce → Contains (acknowledged T node server) (key, nonce)
+counts_in : (T : List Step) (s : Step) (before : List Step) → IsIn T s before → (node server key nonce : ℕ) → s.line ≡ lines.Counted node server key nonce → Contains (counted_nonces T node server) (key, nonce)
 counts_in T s before there node server key nonce is =
-    goes_up (λ (U : List Step). Contains (acknowledged U node server) (key, nonce)) (λ y U has. stays_counted y.line node server (acknowledged U node server) (key, nonce) has) T s before there
-    (subst (λ (xs : List (ℕ × ℕ)). Contains xs (key, nonce)) (sym adds) (at_head (key, nonce) (acknowledged before node server)))
+    goes_up (λ (U : List Step). Contains (counted_nonces U node server) (key, nonce)) (λ y U has. stays_counted y.line node server (counted_nonces U node server) (key, nonce) has) T s before there
+    (subst (λ (xs : List (ℕ × ℕ)). Contains xs (key, nonce)) (sym adds) (at_head (key, nonce) (counted_nonces before node server)))
   where
-    adds : acknowledged (s ∷ before) node server ≡ (key, nonce) ∷ acknowledged before node server
+    adds : counted_nonces (s ∷ before) node server ≡ (key, nonce) ∷ counted_nonces before node server
     adds =
-        ap (λ (line : Line). acknowledged_after line node server (acknowledged before node server)) is
-        ∙ ap (λ (b : Bool). if b && server == server then (key, nonce) ∷ acknowledged before node server else acknowledged before node server) (same_number node)
-        ∙ ap (λ (b : Bool). if b then (key, nonce) ∷ acknowledged before node server else acknowledged before node server) (same_number server)
+        ap (λ (line : Line). counted_nonces_after line node server (counted_nonces before node server)) is
+        ∙ ap (λ (b : Bool). if b && server == server then (key, nonce) ∷ counted_nonces before node server else counted_nonces before node server) (same_number node)
+        ∙ ap (λ (b : Bool). if b then (key, nonce) ∷ counted_nonces before node server else counted_nonces before node server) (same_number server)
 
 -- so each that a router counted was accepted
 pub counted_were_accepted : (o : Opening) (T : List Step) → LegalTrace o T → IsNetwork o.config → AcceptedWasSent o T → schedules.CountedWasAccepted o T → CountedWereAccepted o T

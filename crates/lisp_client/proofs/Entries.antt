@@ -5,25 +5,26 @@ use Rattle.std.specs.List.{AllPairs, Contains}
 use Rattle.std.proofs.lemmas.Bool.{and_parts, ltb-true, leb-true, cases_lt}
 use Rattle.std.proofs.lemmas.List.Elements.{Contains-append_right}
 use Rattle.lisp_records.specs.declared.address.Addr.{Addr}
-use Rattle.lisp_policy.specs.Configuration.{Configuration}
-use Rattle.lisp_messages.specs.Message.{Registration}
-use Rattle.lisp_etr.specs.Sending.{registration_of}
+use Rattle.lisp_policy.specs.Configuration.{ConfigValue}
+use Rattle.lisp_messages.specs.Message.{MapRegisterValue}
+use Rattle.lisp_etr.specs.Sending.{map_register_of}
 use Rattle.lisp_model.specs.declared.event.Event.TheVariants as events
 use Rattle.lisp_model.specs.declared.line.Line.{Line}
 use Rattle.lisp_model.specs.declared.line.Line.TheVariants as lines
-use Rattle.lisp_model.specs.Trace.{Happening, Step, Opening, address_at, database, is_router, router_at, settings_of}
-use Rattle.lisp_model.specs.History.{Entry, entry_in, history, message_of}
-use Rattle.lisp_model.specs.Turn.{Turn}
-use Rattle.lisp_model.specs.Legal.{MayCome, LegalTrace, turn_of}
+use Rattle.lisp_model.specs.Trace.{EventValue, Step, Opening, address_at, database, is_router, router_at, etr_config_of}
+use Rattle.lisp_model.specs.History.{SentRegister, sent_registers_in, history, message_of}
+use Rattle.lisp_model.specs.Context.{Context}
+use Rattle.lisp_model.specs.Legal.{MayCome, LegalTrace, context_of}
+use Rattle.lisp_model.proofs.ListLemmas.{at_head, head_or_tail, in_none}
 use Rattle.lisp_client.specs.Steps.{IsIn, WasSent}
-use Rattle.lisp_client.proofs.Steps.{at_head, head_or_tail, in_none, here, later, goes_up, legal_at}
+use Rattle.lisp_client.proofs.Steps.{here, later, goes_up, legal_at}
 
 -- the entry of a step
-abbrev pub entry_of : Opening → List Step → ℕ → ℕ → ℕ → ℕ → Entry
+abbrev pub entry_of : Opening → List Step → ℕ → ℕ → ℕ → ℕ → SentRegister
 entry_of o before node server key nonce = record { router = node; key = key; nonce = nonce; server = server; database = database o before node; position = length before }
 
 -- an entry was made by a step that sent
-pub record WasEntered (o : Opening) (T : List Step) (e : Entry) : Type 0 where
+pub record WasEntered (o : Opening) (T : List Step) (e : SentRegister) : Type 0 where
   pub step : Step
   pub before : List Step
   pub there : IsIn T step before
@@ -33,15 +34,15 @@ pub record WasEntered (o : Opening) (T : List Step) (e : Entry) : Type 0 where
   pub place : e.position ≡ length before
 
 module _ (o : Opening) where
-  now_entered : (s : Step) (T : List Step) (line : Line) → s.line ≡ line → (e : Entry) → Contains (entry_in o T line ++ history o T) e → (Contains (history o T) e → WasEntered o T e) → WasEntered o (s ∷ T) e
+  now_entered : (s : Step) (T : List Step) (line : Line) → s.line ≡ line → (e : SentRegister) → Contains (sent_registers_in o T line ++ history o T) e → (Contains (history o T) e → WasEntered o T e) → WasEntered o (s ∷ T) e
   now_entered s T (lines.Sent node server key nonce datagram) is e has go = by (head_or_tail (entry_of o T node server key nonce) (history o T) e has)
     where
       by : (e ≡ entry_of o T node server key nonce) ⊎ Contains (history o T) e → WasEntered o (s ∷ T) e
-      by (inl same) = subst (λ (f : Entry). WasEntered o (s ∷ T) f) (sym same) (record { step = s; before = T; there = here s T; datagram = datagram; line = is; had = refl; place = refl })
+      by (inl same) = subst (λ (f : SentRegister). WasEntered o (s ∷ T) f) (sym same) (record { step = s; before = T; there = here s T; datagram = datagram; line = is; had = refl; place = refl })
       by (inr old) = let w = go old in record { step = w.step; before = w.before; there = later s T w.step w.before w.there; datagram = w.datagram; line = w.line; had = w.had; place = w.place }
   now_entered s T _ is e has go = let w = go has in record { step = w.step; before = w.before; there = later s T w.step w.before w.there; datagram = w.datagram; line = w.line; had = w.had; place = w.place }
 
-  pub was_entered : (T : List Step) (e : Entry) → Contains (history o T) e → WasEntered o T e
+  pub was_entered : (T : List Step) (e : SentRegister) → Contains (history o T) e → WasEntered o T e
   was_entered [] e has = absurd (in_none e has)
   was_entered (s ∷ T) e has = now_entered s T s.line refl e has (was_entered T e)
 
@@ -49,28 +50,28 @@ module _ (o : Opening) where
   pub enters : (T : List Step) (s : Step) (before : List Step) → IsIn T s before → (node server key nonce datagram : ℕ) → s.line ≡ lines.Sent node server key nonce datagram → Contains (history o T) (entry_of o before node server key nonce)
   enters T s before there node server key nonce datagram is =
       let e = entry_of o before node server key nonce in
-      goes_up (λ (U : List Step). Contains (history o U) e) (λ x U. Contains-append_right (entry_in o U x.line) (history o U) e) T s before there
-      (subst (λ (line : Line). Contains (entry_in o before line ++ history o before) e) (sym is) (at_head e (history o before)))
+      goes_up (λ (U : List Step). Contains (history o U) e) (λ x U. Contains-append_right (sent_registers_in o U x.line) (history o U) e) T s before there
+      (subst (λ (line : Line). Contains (sent_registers_in o before line ++ history o before) e) (sym is) (at_head e (history o before)))
 
   -- the message of an entry was sent
-  pub was_sent : (T : List Step) (server : ℕ) (message : Registration) (from : Addr) (e : Entry) → e.server ≡ server → message ≡ message_of o.config e → from ≡ address_at o.config e.router
+  pub was_sent : (T : List Step) (server : ℕ) (message : MapRegisterValue) (from : Addr) (e : SentRegister) → e.server ≡ server → message ≡ message_of o.config e → from ≡ address_at o.config e.router
       → (w : WasEntered o T e) → WasSent o T server message from e.router w.step w.before
   was_sent T server message from e whom is source w = record {
     there = w.there;
     datagram = w.datagram;
     line = w.line ∙ (λ i. lines.Sent e.router (whom i) (under i) (number i) w.datagram);
     source = source;
-    message_is = is ∙ (λ i. registration_of (record (settings_of o.config (router_at o.config e.router)) { key_id = under i }) (w.had i) (number i));
+    message_is = is ∙ (λ i. map_register_of (record (etr_config_of o.config (router_at o.config e.router)) { key_id = under i }) (w.had i) (number i));
   }
     where
       under : e.key ≡ message.key_id
-      under = ap (λ (m : Registration). m.key_id) (sym is)
+      under = ap (λ (m : MapRegisterValue). m.key_id) (sym is)
 
       number : e.nonce ≡ message.nonce
-      number = ap (λ (m : Registration). m.nonce) (sym is)
+      number = ap (λ (m : MapRegisterValue). m.nonce) (sym is)
 
   -- who sends is a router
-  sends : (t : Turn) (e : Happening) (node server key nonce datagram : ℕ) → MayCome t e (lines.Sent node server key nonce datagram) → is_router t.opening.config node ≡ true
+  sends : (t : Context) (e : EventValue) (node server key nonce datagram : ℕ) → MayCome t e (lines.Sent node server key nonce datagram) → is_router t.opening.config node ≡ true
   sends t (events.Send router server fate) node s key nonce datagram row = ap (is_router t.opening.config) row.0 ∙ row.2.acts.kind
   sends t (events.Deliver _ _) node s key nonce datagram row = absurd row.arrives
   sends t (events.Junk _ _ _) node s key nonce datagram row = absurd row.arrives
@@ -78,10 +79,10 @@ module _ (o : Opening) where
 
   pub router_sends : (T : List Step) → LegalTrace o T → (s : Step) (before : List Step) → IsIn T s before → (node server key nonce datagram : ℕ) → s.line ≡ lines.Sent node server key nonce datagram → is_router o.config node ≡ true
   router_sends T legal s before there node server key nonce datagram is =
-      sends (turn_of o before s) s.event node server key nonce datagram (subst (λ (line : Line). MayCome (turn_of o before s) s.event line) is (legal_at o T legal s before there).0.row)
+      sends (context_of o before s) s.event node server key nonce datagram (subst (λ (line : Line). MayCome (context_of o before s) s.event line) is (legal_at o T legal s before there).0.row)
 
 -- one identity is one router's
-pub one_router : (c : Configuration) → AllPairs (λ a b. a.me ≢ b.me) c.routers → (i j : ℕ) → is_router c i ≡ true → is_router c j ≡ true → (router_at c i).me ≡ (router_at c j).me → i ≡ j
+pub one_router : (c : ConfigValue) → AllPairs (λ a b. a.me ≢ b.me) c.routers → (i j : ℕ) → is_router c i ≡ true → is_router c j ≡ true → (router_at c i).me ≡ (router_at c j).me → i ≡ j
 one_router c distinct i j is_i is_j same =
     let parts_i = and_parts (nat_le (length c.servers) i) (nat_lt i (length c.servers + length c.routers)) is_i in
     let parts_j = and_parts (nat_le (length c.servers) j) (nat_lt j (length c.servers + length c.routers)) is_j in

@@ -6,22 +6,22 @@ use Rattle.std.proofs.lemmas.Option.{slice_get_within}
 use Rattle.std.specs.Prelude.{Result, IfOk, IfSome, IfNone, OnErr, slice_get, IsTrue, if◌then◌else◌}
 use Rattle.std.specs.Option.{option_map, option_and_then}
 use Rattle.std.specs.Result.{result_ok}
-use Rattle.lisp_nonces.specs.Memory.{Memory, memory_state}
+use Rattle.lisp_nonces.specs.Memory.{MemoryStoreState, memory_state}
 use Rattle.lisp_nonces.specs.declared.fault.StoreFault.TheVariants as faults
-use Rattle.lisp_policy.specs.Configuration.{Configuration}
-use Rattle.lisp_records.specs.Row.{Holding}
+use Rattle.lisp_policy.specs.Configuration.{ConfigValue}
+use Rattle.lisp_records.specs.Row.{RowValue}
 use Rattle.lisp_lookup.specs.Table.{IsHeld}
 use Rattle.lisp_etr.specs.Etr.{EtrState}
 use Rattle.lisp_etr.specs.declared.round.Round.{Round}
 use Rattle.lisp_etr.specs.declared.start_fault.StartFault.TheVariants as starts
 use Rattle.lisp_server.specs.Server.{ServerState}
-use Rattle.lisp_model.specs.History.{Entry}
-use Rattle.lisp_model.specs.Trace.{Happening, Step, Opening, router_at, is_server, is_router, is_up}
+use Rattle.lisp_model.specs.History.{SentRegister}
+use Rattle.lisp_model.specs.Trace.{EventValue, Step, Opening, router_at, is_server, is_router, is_up}
 use Rattle.lisp_model.specs.Counted.{acked}
 use Rattle.lisp_model.specs.declared.line.Line.{Line}
 use Rattle.lisp_model.specs.declared.world_fault.WorldFault.{WorldFault}
 use Rattle.lisp_model.specs.declared.world_fault.WorldFault.TheVariants.{NoNode, WrongKind, NoDatagram, Clock, Repeated, OutOfMemory, Start}
-use Rattle.lisp_refinement.specs.World.{WorldState, ServerNode, RouterNode, RouterCore, Up, Down}
+use Rattle.lisp_refinement.specs.World.{WorldState, ServerNodeState, RouterNodeState, RouterCoreState, Up, Down}
 use Rattle.lisp_refinement.specs.Nodes.{server_at, up_in, etr_at}
 use Rattle.lisp_refinement.specs.Stands.{Stands, StandsForCore, StandsForEtr}
 use Rattle.lisp_refinement.specs.Headline.{Lists, IsSentRow, OverClean, Promises}
@@ -33,20 +33,21 @@ use Rattle.lisp_world.specs.Runs.{RunsOn, StopsAt}
 use Rattle.lisp_refinement.proofs.Gets.{none_is_some, same_some, get_within}
 use Rattle.lisp_client.specs.declared.question.Question.{Question}
 use Rattle.lisp_client.specs.Promised.{WasRegistered}
-use Rattle.lisp_client.specs.Told.{HasRun, IsPromised, IsPromisedOverClean, IsNotThere, HasNotRun, IsUntold, counted_at}
-use Rattle.lisp_client.proofs.Stores.{fresh, each_fresh, nothing_kept}
+use Rattle.lisp_client.specs.Answers.{HasRun, IsPromised, IsPromisedOverClean, IsNotThere, HasNotRun, IsUntold, counted_at}
+use Rattle.lisp_client.specs.Stores.{fresh}
+use Rattle.lisp_client.proofs.Stores.{each_fresh, nothing_kept}
 use Rattle.lisp_client.proofs.Rises.{nonces_rise, notice_nonces_rise}
 use Rattle.lisp_client.proofs.Tries.{replays_are_tried}
 use Rattle.lisp_client.proofs.Rows.{registered, agree}
 use Rattle.lisp_client.proofs.Counts.{counted_were_accepted, accepted_were_sent, counted as was_counted, done_was_noticed}
 
-module _ (n : ℕ) (stores : List Memory) (made : stores ≡ replicate n fresh) where
+module _ (n : ℕ) (stores : List MemoryStoreState) (made : stores ≡ replicate n fresh) where
   -- they are honest
   pub are_honest : AllHonest (map memory_state stores)
   are_honest k s at = each_fresh (λ x. IsTrue x.is_honest) refl n k s (rw made at at)
 
   -- over them a network isn't made where two nodes are alike, or for want of memory
-  pub not_made : (memory : Type 0) (c : Configuration) (events : List Happening) (why : WorldFault)
+  pub not_made : (memory : Type 0) (c : ConfigValue) (events : List EventValue) (why : WorldFault)
       → (AllCalm (map memory_state stores) → AllBelowEnd (map memory_state stores) → IsCalmFault memory memory why)
       → (why ≡ Repeated → repeats c ≡ true) → HasNotRun memory c events
   not_made memory c events why calm_fault twice = by why (calm_fault calm below) twice
@@ -70,7 +71,7 @@ module _ (n : ℕ) (stores : List Memory) (made : stores ≡ replicate n fresh) 
       by Clock may twice = absurd may
 
   -- over them it keeps nothing at its opening: one that took the events has run
-  pub has_run : (N S : Type 0) (c : Configuration) (events : List Happening) (old new : WorldState) (before after : List Line)
+  pub has_run : (N S : Type 0) (c : ConfigValue) (events : List EventValue) (old new : WorldState) (before after : List Line)
       → lists_of (stores_of old) ≡ lists_of (map memory_state stores) → Stands old (opening c old) [] → Promises new → RunsOn N S old new before after events → HasRun c events new
   has_run N S c events old new before after same stands promises runs =
       let follows = runs.follows (opening c old) [] stands in
@@ -85,7 +86,7 @@ module _ (n : ℕ) (stores : List Memory) (made : stores ≡ replicate n fresh) 
       }
 
   -- and one that was made, but took only those before one, has a fault of that one, or memory was refused
-  pub not_taken : (memory S : Type 0) (c : Configuration) (events : List Happening) (old new : WorldState) (before after : List Line) (place : ℕ) (fault : WorldFault)
+  pub not_taken : (memory S : Type 0) (c : ConfigValue) (events : List EventValue) (old new : WorldState) (before after : List Line) (place : ℕ) (fault : WorldFault)
       → lists_of (stores_of old) ≡ lists_of (map memory_state stores) → Stands old (opening c old) [] → Promises new
       → StopsAt memory S old new before after events place fault → (fault ≡ OutOfMemory → memory) → HasNotRun memory c events
   not_taken memory S c events old new before after place fault same stands promises stops may = by stops.why
@@ -103,7 +104,7 @@ module _ (n : ℕ) (stores : List Memory) (made : stores ≡ replicate n fresh) 
       by (inr out) = inr (inr (may out))
 
 -- a router's number is behind the Map-Servers'
-router_bounds : (c : Configuration) (router : ℕ) → is_router c router ≡ true → (length c.servers ≤ router) × (router < length c.servers + length c.routers)
+router_bounds : (c : ConfigValue) (router : ℕ) → is_router c router ≡ true → (length c.servers ≤ router) × (router < length c.servers + length c.routers)
 router_bounds c router is = by (nat_le (length c.servers) router) (nat_lt router (length c.servers + length c.routers)) refl refl is
   where
     by : (a b : Bool) → nat_le (length c.servers) router ≡ a → nat_lt router (length c.servers + length c.routers) ≡ b → (a && b) ≡ true
@@ -134,17 +135,17 @@ module _ (w : WorldState) (o : Opening) (T : List Step) (stand : Stands w o T) w
   up_part : (router : ℕ) (etr : EtrState) → etr_at w router ≡ Some etr → StandsForEtr o T router etr
   up_part router etr is_up = by (nat_lt router (length w.servers)) refl is_up
     where
-      of_core : (r : ℕ) (core : RouterCore) → StandsForCore o T r core → up_in core ≡ Some etr → StandsForEtr o T r etr
+      of_core : (r : ℕ) (core : RouterCoreState) → StandsForCore o T r core → up_in core ≡ Some etr → StandsForEtr o T r etr
       of_core r (Up e) part is = subst (λ (e : EtrState). StandsForEtr o T r e) (same_some e etr is) part
       of_core r (Down config database) part is = absurd (none_is_some is)
 
-      of_node : (found : Option RouterNode) → slice_get w.routers (place router) ≡ found → option_and_then (λ (n : RouterNode). up_in n.core) found ≡ Some etr
+      of_node : (found : Option RouterNodeState) → slice_get w.routers (place router) ≡ found → option_and_then (λ (n : RouterNodeState). up_in n.core) found ≡ Some etr
           → StandsForEtr o T (length o.config.servers + place router) etr
       of_node (Some n) at is = of_core (length o.config.servers + place router) n.core (stand.routers (place router) n at).core is
       of_node None at is = absurd (none_is_some is)
 
       by : (b : Bool) → nat_lt router (length w.servers) ≡ b
-          → option_and_then (λ (n : RouterNode). up_in n.core) (if b then None else slice_get w.routers (place router)) ≡ Some etr → StandsForEtr o T router etr
+          → option_and_then (λ (n : RouterNodeState). up_in n.core) (if b then None else slice_get w.routers (place router)) ≡ Some etr → StandsForEtr o T router etr
       by true before is = absurd (none_is_some is)
       by false past is = subst (λ (r : ℕ). StandsForEtr o T r etr) (numbered router past) (of_node (slice_get w.routers (place router)) refl is)
 
@@ -168,17 +169,17 @@ module _ (w : WorldState) (o : Opening) (T : List Step) (stand : Stands w o T) w
   pub router_missing : (router : ℕ) → etr_at w router ≡ None → (is_router o.config router ≡ false) ⊎ (is_up T router ≡ false)
   router_missing router none = by (is_router o.config router) refl
     where
-      of_core : (r : ℕ) (core : RouterCore) → StandsForCore o T r core → up_in core ≡ None → is_up T r ≡ false
+      of_core : (r : ℕ) (core : RouterCoreState) → StandsForCore o T r core → up_in core ≡ None → is_up T r ≡ false
       of_core r (Up e) part is = absurd (none_is_some (sym is))
       of_core r (Down config database) part is = part.0
 
-      of_node : (found : Option RouterNode) → slice_get w.routers (place router) ≡ found → place router < length w.routers → option_and_then (λ (n : RouterNode). up_in n.core) found ≡ None
+      of_node : (found : Option RouterNodeState) → slice_get w.routers (place router) ≡ found → place router < length w.routers → option_and_then (λ (n : RouterNodeState). up_in n.core) found ≡ None
           → is_up T (length o.config.servers + place router) ≡ false
       of_node (Some n) at within is = of_core (length o.config.servers + place router) n.core (stand.routers (place router) n at).core is
       of_node None at within is = absurd (none_is_some (sym at ∙ (get_within w.routers (place router) within).1))
 
       behind : (b : Bool) → nat_lt router (length w.servers) ≡ b → length o.config.servers ≤ router → router < length o.config.servers + length o.config.routers
-          → option_and_then (λ (n : RouterNode). up_in n.core) (if b then None else slice_get w.routers (place router)) ≡ None → is_up T router ≡ false
+          → option_and_then (λ (n : RouterNodeState). up_in n.core) (if b then None else slice_get w.routers (place router)) ≡ None → is_up T router ≡ false
       behind true before least most is =
           let low = ltb-true router (length w.servers) before in
           let count = stand.steps.servers in
@@ -203,15 +204,15 @@ module _ (w : WorldState) (o : Opening) (T : List Step) (stand : Stands w o T) w
       by true below =
           let count = stand.steps.servers in
           let its = get_within w.servers server (omega (arith, count, ltb-true server (length o.config.servers) below)) in
-          absurd (none_is_some (sym none ∙ ap (option_map (λ (n : ServerNode). n.core)) its.1))
+          absurd (none_is_some (sym none ∙ ap (option_map (λ (n : ServerNodeState). n.core)) its.1))
 
 -- what a Map-Server lists
-pub lists : (w : WorldState) (server : ℕ) (listed : List Holding) (core : ServerState) (now : ℕ) → server_at w server ≡ Some core → now ≡ w.clock → IsHeld core.rows now listed → Lists w server listed
+pub lists : (w : WorldState) (server : ℕ) (listed : List RowValue) (core : ServerState) (now : ℕ) → server_at w server ≡ Some core → now ≡ w.clock → IsHeld core.rows now listed → Lists w server listed
 lists w server listed core now serves clock holds = record { core = core; running = serves; held = subst (λ (moment : ℕ). IsHeld core.rows moment listed) clock holds }
 
 -- what its nodes told is as promised
-module _ (c : Configuration) (events : List Happening) (w : WorldState) (ran : HasRun c events w) (question : Question) where
-  module _ (listed listed_by_other : List Holding) (one : Lists w question.server listed) (other : Lists w question.other listed_by_other)
+module _ (c : ConfigValue) (events : List EventValue) (w : WorldState) (ran : HasRun c events w) (question : Question) where
+  module _ (listed listed_by_other : List RowValue) (one : Lists w question.server listed) (other : Lists w question.other listed_by_other)
       (etr : EtrState) (is_up : etr_at w question.router ≡ Some etr) (counted : Option (ℕ × ℕ)) (told : counted ≡ option_and_then (λ round. round.acked) (slice_get etr.rounds question.place)) where
     over_clean : OverClean w ran.opening ran.trace → IsPromisedOverClean ran.opening ran.trace question listed listed_by_other counted
     over_clean promised =
@@ -229,7 +230,7 @@ module _ (c : Configuration) (events : List Happening) (w : WorldState) (ran : H
           done = done_was_noticed ran.opening ran.trace promised.done_was_noticed;
         }
       where
-        row_registered : (server : ℕ) (row : Holding) → (e : Entry) × IsSentRow ran.opening ran.trace server row e → WasRegistered ran.opening ran.trace server row
+        row_registered : (server : ℕ) (row : RowValue) → (e : SentRegister) × IsSentRow ran.opening ran.trace server row e → WasRegistered ran.opening ran.trace server row
         row_registered server row sent = registered ran.opening ran.trace ran.stands.steps.legal server row sent.0 sent.1
 
     pub promised : IsPromised c events question listed listed_by_other counted
@@ -244,7 +245,7 @@ module _ (c : Configuration) (events : List Happening) (w : WorldState) (ran : H
           events_are = ran.events_are;
           held = headline.listed_is_held question.server listed one;
           held_by_other = headline.listed_is_held question.other listed_by_other other;
-          counts = subst (λ (d : Configuration). counted ≡ counted_at d ran.trace question.router question.place) ran.config
+          counts = subst (λ (d : ConfigValue). counted ≡ counted_at d ran.trace question.router question.place) ran.config
               (told ∙ counts_so w ran.opening ran.trace ran.stands question.router etr is_up question.place);
           nonces_rise = nonces_rise ran.opening ran.trace ran.stands.steps.legal headline.nonces_rise;
           replays_are_tried = replays_are_tried ran.opening ran.nothing_kept ran.trace headline.replays_are_tried;
@@ -253,11 +254,11 @@ module _ (c : Configuration) (events : List Happening) (w : WorldState) (ran : H
         }
 
 -- or a node isn't there
-pub not_there : (c : Configuration) (events : List Happening) (w : WorldState) → (ran : HasRun c events w) → (question : Question)
+pub not_there : (c : ConfigValue) (events : List EventValue) (w : WorldState) → (ran : HasRun c events w) → (question : Question)
     → (server_at w question.server ≡ None) ⊎ (server_at w question.other ≡ None) ⊎ (etr_at w question.router ≡ None) → IsNotThere c events question
 not_there c events w ran question none = record { network = w; ran = ran; missing = subst Missing ran.config (by none) }
   where
-    Missing : Configuration → Type 0
+    Missing : ConfigValue → Type 0
     Missing d = (is_server d question.server ≡ false) ⊎ (is_server d question.other ≡ false) ⊎ (is_router d question.router ≡ false) ⊎ (is_up ran.trace question.router ≡ false)
 
     by : (server_at w question.server ≡ None) ⊎ (server_at w question.other ≡ None) ⊎ (etr_at w question.router ≡ None) → Missing ran.opening.config
@@ -289,7 +290,7 @@ if_some (Some x) P Q follows is = follows x is
 if_some None P Q follows is = tt
 
 -- why a client is told nothing by a network that took the events
-pub unheard : (memory : Type 0) (c : Configuration) (events : List Happening) (w : WorldState) → HasRun c events w → (question : Question)
-    → memory ⊎ ((c : Configuration) (events : List Happening) → HasRun c events w → IsNotThere c events question) → IsUntold memory c events question
+pub unheard : (memory : Type 0) (c : ConfigValue) (events : List EventValue) (w : WorldState) → HasRun c events w → (question : Question)
+    → memory ⊎ ((c : ConfigValue) (events : List EventValue) → HasRun c events w → IsNotThere c events question) → IsUntold memory c events question
 unheard memory c events w ran question (inl out) = inl (inr (inr out))
 unheard memory c events w ran question (inr none) = inr (none c events ran)

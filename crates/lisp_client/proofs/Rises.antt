@@ -7,28 +7,30 @@ use Rattle.lisp_records.specs.declared.router.RouterId.{RouterId}
 use Rattle.lisp_nonces.specs.declared.pair.Pair.{Pair}
 use Rattle.lisp_nonces.specs.declared.pair.PairKind.TheVariants as kinds
 use Rattle.lisp_nonces.specs.Pair.{pair_cmp}
-use Rattle.lisp_messages.specs.Message.{Registration}
+use Rattle.lisp_messages.specs.Message.{MapRegisterValue}
 use Rattle.lisp_admission.specs.Pairs.{router_of, pair_of}
 use Rattle.lisp_model.specs.declared.line.Line.{Line}
 use Rattle.lisp_model.specs.declared.line.Line.TheVariants as lines
 use Rattle.lisp_model.specs.Trace.{Step, Opening}
 use Rattle.lisp_model.specs.Held.{Acceptance, is_of_pair}
-use Rattle.lisp_model.specs.Accepted.{accepted, accepted_after, arriving, nonces_of}
+use Rattle.lisp_model.specs.Accepted.{acceptances, acceptances_after, acceptances_in_step, nonces_of}
 use Rattle.lisp_model.specs.Legal.{LegalTrace}
 use Rattle.lisp_model.specs.Promises.{Falls, notice_nonces, notice_nonces_after}
 use Rattle.lisp_model.specs.Promises as schedules
 use Rattle.lisp_model.proofs.KeptLemmas.{pair_itself}
+use Rattle.lisp_model.proofs.Locality.{same_number}
+use Rattle.lisp_model.proofs.ListLemmas.{at_head, in_tail, head_or_tail, in_none}
 use Rattle.lisp_client.specs.Promised.{NoncesRise, NoticeNoncesRise}
-use Rattle.lisp_client.proofs.Steps.{at_head, in_tail, head_or_tail, in_none, goes_down, goes_up, legal_at}
+use Rattle.lisp_client.proofs.Steps.{goes_down, goes_up, legal_at}
 use Rattle.lisp_client.proofs.Arrivals.{taken_of, accepting}
-use Rattle.lisp_client.proofs.AcceptedSteps.{same_number, adds, stays_accepted}
+use Rattle.lisp_client.proofs.AcceptedSteps.{adds, stays_accepted}
 
 -- what the nonces of a router under a key are kept for
 abbrev pub pair_at : RouterId → ℕ → Pair
 pair_at router key = record { kind = kinds.Received; router = router; key = key }
 
 -- a Map-Register has its pair's
-its_pair : (m : Registration) (router : RouterId) (key : ℕ) → router_of m ≡ router → m.key_id ≡ key → pair_at router key ≡ pair_of m
+its_pair : (m : MapRegisterValue) (router : RouterId) (key : ℕ) → router_of m ≡ router → m.key_id ≡ key → pair_at router key ≡ pair_of m
 its_pair m router key who under = λ i. pair_at (sym who i) (sym under i)
 
 -- its nonce comes first
@@ -67,7 +69,7 @@ nonces_of-append pair (a ∷ new) old = by (is_of_pair pair a) (nonces_of-append
     by false rest = rest
 
 -- nonces that fall did so before the last step
-falls_before : (pair : Pair) (line : Line) (new old : List Acceptance) (server : ℕ) → Falls (nonces_of pair (accepted_after line new server old)) → Falls (nonces_of pair old)
+falls_before : (pair : Pair) (line : Line) (new old : List Acceptance) (server : ℕ) → Falls (nonces_of pair (acceptances_after line new server old)) → Falls (nonces_of pair old)
 falls_before pair (lines.Accepted node _ _ _ _) new old server falls = by (node == server) falls
   where
     by : (b : Bool) → Falls (nonces_of pair (if b then new ++ old else old)) → Falls (nonces_of pair old)
@@ -84,9 +86,9 @@ nonces_rise o T legal rise s t earlier between later_is earlier_is server router
     let b = accepting o s earlier (legal_at o between legal_t.1 s earlier earlier_is).0 server router key m c first in
     let x = taken_of o t between router key n a in
     let y = taken_of o s earlier router key m b in
-    let falls = goes_down (λ (U : List Step). Falls (nonces_of pair (accepted o U server))) (λ z U. falls_before pair z.line (arriving o U z) (accepted o U server) server) T t between later_is (rise server pair) in
-    let list = ap (nonces_of pair) (adds o t between server router key n d second a) ∙ nonces_of-own pair x (accepted o between server) (its_pair a.message router key a.who a.under) in
-    let has = among_nonces pair (accepted o between server) y (stays_accepted o between s earlier earlier_is server router key m c first b) (its_pair b.message router key b.who b.under) in
+    let falls = goes_down (λ (U : List Step). Falls (nonces_of pair (acceptances o U server))) (λ z U. falls_before pair z.line (acceptances_in_step o U z) (acceptances o U server) server) T t between later_is (rise server pair) in
+    let list = ap (nonces_of pair) (adds o t between server router key n d second a) ∙ nonces_of-own pair x (acceptances o between server) (its_pair a.message router key a.who a.under) in
+    let has = among_nonces pair (acceptances o between server) y (stays_accepted o between s earlier earlier_is server router key m c first b) (its_pair b.message router key b.who b.under) in
     let less : b.message.nonce < a.message.nonce = (subst Falls list falls).0 b.message.nonce has in
     subst (λ (k : ℕ). k < n) b.number (subst (λ (k : ℕ). b.message.nonce < k) a.number less)
 

@@ -2,37 +2,37 @@
 use Rattle.std.proofs.Common.{◌≡◌, ℕ, ◌<◌, Bool, true, false, List, length, Some, refl, sym, ap, subst, inl, inr, ◌∙◌}
 use Rattle.std.specs.Prelude.{◌==◌}
 use Rattle.std.proofs.lemmas.Bool.Decides.{Decides-eqb}
-use Rattle.lisp_records.specs.Record.{Mapping}
-use Rattle.lisp_records.specs.Row.{Holding}
+use Rattle.lisp_records.specs.Record.{MapRecordValue}
+use Rattle.lisp_records.specs.Row.{RowValue}
 use Rattle.lisp_admission.specs.Pairs.{router_of}
-use Rattle.lisp_admission.specs.AcceptedRows.{holding}
+use Rattle.lisp_admission.specs.AcceptedRows.{row_value}
 use Rattle.lisp_model.specs.declared.event.Event.TheVariants as events
 use Rattle.lisp_model.specs.declared.line.Line.TheVariants as lines
-use Rattle.lisp_model.specs.Trace.{Happening, Step, Opening}
+use Rattle.lisp_model.specs.Trace.{EventValue, Step, Opening}
 use Rattle.lisp_model.specs.Held.{Acceptance}
-use Rattle.lisp_model.specs.History.{Entry, record_for}
-use Rattle.lisp_model.specs.Change.{gives, Keeps, NoChange}
+use Rattle.lisp_model.specs.History.{SentRegister, record_for}
+use Rattle.lisp_model.specs.Change.{gives_database, Keeps, NoChange}
 use Rattle.lisp_model.specs.Legal.{LegalTrace}
 use Rattle.lisp_model.specs.Network.{IsNetwork}
 use Rattle.lisp_refinement.specs.World.{WorldState}
 use Rattle.lisp_refinement.specs.Headline.{Lists, IsSentRow, ListedWasSent, ListedAgree}
-use Rattle.lisp_client.specs.Steps.{IsSentIn, IsAcceptedIn, GivesNone, UnchangedBetween}
+use Rattle.lisp_client.specs.Steps.{IsSentIn, IsAcceptedIn, GivesNoDatabase, UnchangedBetween}
 use Rattle.lisp_client.specs.Promised.{WasRegistered, RowsAgree}
 use Rattle.lisp_client.proofs.Steps.{IsPlaced, placed}
 use Rattle.lisp_client.proofs.AcceptedSteps.{WasAcceptedSince, was_accepted_since}
 use Rattle.lisp_client.proofs.Entries.{entry_of, was_entered, enters, was_sent, router_sends, one_router}
 
 -- a row was made of what was accepted, and that was sent
-module _ (o : Opening) (T : List Step) (legal : LegalTrace o T) (server : ℕ) (row : Holding) where
-  module _ (x : Acceptance) (made : row ≡ holding x.message x.from x.moment row.mapping) where
+module _ (o : Opening) (T : List Step) (legal : LegalTrace o T) (server : ℕ) (row : RowValue) where
+  module _ (x : Acceptance) (made : row ≡ row_value x.message x.from x.moment row.mapping) where
     its_router : row.router ≡ router_of x.message
-    its_router = ap (λ (h : Holding). h.router) made
+    its_router = ap (λ (h : RowValue). h.router) made
 
     its_key : row.key ≡ x.message.key_id
-    its_key = ap (λ (h : Holding). h.key) made
+    its_key = ap (λ (h : RowValue). h.key) made
 
     its_nonce : row.nonce ≡ x.message.nonce
-    its_nonce = ap (λ (h : Holding). h.nonce) made
+    its_nonce = ap (λ (h : RowValue). h.nonce) made
 
     abbrev row_accepted : (w : WasAcceptedSince o server x T) → IsAcceptedIn o T server row w.step w.before
     row_accepted w = record {
@@ -48,11 +48,11 @@ module _ (o : Opening) (T : List Step) (legal : LegalTrace o T) (server : ℕ) (
       };
       reply = w.how.reply;
       line = w.how.line ∙ (λ i. lines.Accepted server (sym its_router i) (sym its_key i) (sym its_nonce i) w.how.reply);
-      made = made ∙ ap (λ (y : Acceptance). holding y.message y.from y.moment row.mapping) w.how.taken.is;
+      made = made ∙ ap (λ (y : Acceptance). row_value y.message y.from y.moment row.mapping) w.how.taken.is;
       no_restart = w.no_restart;
     }
 
-  pub registered : (e : Entry) → IsSentRow o T server row e → WasRegistered o T server row
+  pub registered : (e : SentRegister) → IsSentRow o T server row e → WasRegistered o T server row
   registered e sent =
       let x = sent.made.acceptance in
       let w = was_accepted_since o server x T legal sent.made.taken in
@@ -67,11 +67,11 @@ module _ (o : Opening) (T : List Step) (legal : LegalTrace o T) (server : ℕ) (
         before_sending = v.before;
         sent = was_sent o T server w.how.taken.arrived.message w.how.taken.arrived.arrival.from e is.whom
             (ap (λ (y : Acceptance). y.message) (sym w.how.taken.is) ∙ is.message) (ap (λ (y : Acceptance). y.from) (sym w.how.taken.is) ∙ is.from) v;
-        record_of = ap (λ (db : List Mapping). record_for db row.mapping.eid) (sym v.had) ∙ sent.record_of;
+        record_of = ap (λ (db : List MapRecordValue). record_for db row.mapping.eid) (sym v.had) ∙ sent.record_of;
       }
 
 -- an event that gives no database
-gives_none : (e : Happening) (node : ℕ) → GivesNone e node → gives e node ≡ false
+gives_none : (e : EventValue) (node : ℕ) → GivesNoDatabase e node → gives_database e node ≡ false
 gives_none (events.Change router db) node none = by (router == node) refl
   where
     by : (b : Bool) → (router == node) ≡ b → b ≡ false
@@ -88,17 +88,17 @@ gives_none _ node none = refl
 keeps : (T : List Step) (node : ℕ) (one other : List Step) → UnchangedBetween T node one other → Keeps T node (length one) (length other) × Keeps T node (length other) (length one)
 keeps T node one other none = (λ place s low high is. forth place s low high (placed T place s is), λ place s low high is. back place s low high (placed T place s is))
   where
-    forth : (place : ℕ) (s : Step) → length one < place → place < length other → IsPlaced T place s → gives s.event node ≡ false
+    forth : (place : ℕ) (s : Step) → length one < place → place < length other → IsPlaced T place s → gives_database s.event node ≡ false
     forth place s low high p = gives_none s.event node (none s p.before p.there
         (inl (subst (λ (k : ℕ). length one < k) (sym p.place_is) low, subst (λ (k : ℕ). k < length other) (sym p.place_is) high)))
 
-    back : (place : ℕ) (s : Step) → length other < place → place < length one → IsPlaced T place s → gives s.event node ≡ false
+    back : (place : ℕ) (s : Step) → length other < place → place < length one → IsPlaced T place s → gives_database s.event node ≡ false
     back place s low high p = gives_none s.event node (none s p.before p.there
         (inr (subst (λ (k : ℕ). length other < k) (sym p.place_is) low, subst (λ (k : ℕ). k < length one) (sym p.place_is) high)))
 
 module _ (o : Opening) (T : List Step) (legal : LegalTrace o T) (network : IsNetwork o.config) where
   -- the entry of a row is that of each step in which its router sent it
-  pub same_entry : (server : ℕ) (row : Holding) (e : Entry) → IsSentRow o T server row e → (node : ℕ) (s : Step) (before : List Step) (at : IsSentIn o T server row node s before)
+  pub same_entry : (server : ℕ) (row : RowValue) (e : SentRegister) → IsSentRow o T server row e → (node : ℕ) (s : Step) (before : List Step) (at : IsSentIn o T server row node s before)
       → entry_of o before node server row.key row.nonce ≡ e
   same_entry server row e sent node s before at =
       let w = was_entered o T e sent.sent in
@@ -109,7 +109,7 @@ module _ (o : Opening) (T : List Step) (legal : LegalTrace o T) (network : IsNet
 
 -- rows that were sent with no change between agree
 pub agree : (w : WorldState) (o : Opening) (T : List Step) → LegalTrace o T → IsNetwork o.config → ListedWasSent w o T → ListedAgree w o T
-    → (one other : ℕ) (listed listed_by_other : List Holding) → Lists w one listed → Lists w other listed_by_other → RowsAgree o T one other listed listed_by_other
+    → (one other : ℕ) (listed listed_by_other : List RowValue) → Lists w one listed → Lists w other listed_by_other → RowsAgree o T one other listed listed_by_other
 agree w o T legal network were_sent equal one other listed listed_by_other lists lists_other g h has_g has_h router eid node s t before_s before_t sent_g sent_h none =
     let row_g = were_sent one listed lists g has_g in
     let row_h = were_sent other listed_by_other lists_other h has_h in
@@ -118,4 +118,4 @@ agree w o T legal network were_sent equal one other listed listed_by_other lists
     let both = keeps T node before_s before_t none in
     let no_change : NoChange T (entry_of o before_s node one g.key g.nonce) (entry_of o before_t node other h.key h.nonce) = record { router = refl; later = both.0; earlier = both.1 } in
     equal one other listed listed_by_other lists lists_other g h has_g has_h router eid row_g.0 row_h.0 row_g.1 row_h.1
-    (subst (λ (e : Entry). NoChange T row_g.0 e) same_h (subst (λ (d : Entry). NoChange T d (entry_of o before_t node other h.key h.nonce)) same_g no_change))
+    (subst (λ (e : SentRegister). NoChange T row_g.0 e) same_h (subst (λ (d : SentRegister). NoChange T d (entry_of o before_t node other h.key h.nonce)) same_g no_change))

@@ -1,28 +1,13 @@
 -- What stands in a list of steps.
 use Rattle.std.proofs.Common.{◌≡◌, ℕ, zero, suc, List, [], ◌∷◌, ◌++◌, length, Option, Some, None, refl, sym, ap, subst, inl, inr, ◌∙◌, arith}
 use Rattle.std.specs.Prelude.{◌⊎◌, reverse, slice_get}
-use Rattle.std.specs.List.{Contains}
 use Rattle.std.proofs.lemmas.List.{length-reverse, reverse-append}
 use Rattle.lisp_model.specs.Trace.{Step, Opening}
 use Rattle.lisp_model.specs.Legal.{LegalTrace}
 use Rattle.lisp_refinement.specs.Headline.{OfEachStep}
 use Rattle.lisp_client.specs.Steps.{IsIn}
 
--- what a list has
 module _ {X : Type 0} where
-  pub at_head : (x : X) (xs : List X) → Contains (x ∷ xs) x
-  at_head x xs = (0, omega arith, refl)
-
-  pub in_tail : (x : X) (xs : List X) (v : X) → Contains xs v → Contains (x ∷ xs) v
-  in_tail x xs v (k, lt, is) = (suc k, omega arith, is)
-
-  pub head_or_tail : (x : X) (xs : List X) (v : X) → Contains (x ∷ xs) v → (v ≡ x) ⊎ Contains xs v
-  head_or_tail x xs v (zero, lt, is) = inl (sym is)
-  head_or_tail x xs v (suc k, lt, is) = inr (k, omega arith, is)
-
-  pub in_none : (v : X) → Contains [] v → ⊥
-  in_none v (k, lt, is) = absurd (omega arith)
-
   pub none_is_some : {x : X} → ◌≡◌ {A = Option X} None (Some x) → ⊥
   none_is_some e = absurd cc
 

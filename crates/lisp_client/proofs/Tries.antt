@@ -14,14 +14,15 @@ use Rattle.lisp_admission.specs.Pairs.{pair_of}
 use Rattle.lisp_model.specs.declared.line.Line.{Line}
 use Rattle.lisp_model.specs.declared.line.Line.TheVariants as lines
 use Rattle.lisp_model.specs.declared.refusal.Refusal.TheVariants.{Receive}
-use Rattle.lisp_model.specs.Trace.{Step, Opening, shown}
+use Rattle.lisp_model.specs.Trace.{Step, Opening, shown_store}
 use Rattle.lisp_model.specs.Held.{Acceptance, is_of_pair}
-use Rattle.lisp_model.specs.Accepted.{arriving, nonces_of, tried, tried_after}
+use Rattle.lisp_model.specs.Accepted.{acceptances_in_step, nonces_of, tried_nonces, tried_nonces_after}
 use Rattle.lisp_model.specs.Promises as schedules
 use Rattle.lisp_model.proofs.KeptLemmas.{kept_at-empty, pair_same}
 use Rattle.lisp_refinement.specs.Headline.{OfEachStep}
+use Rattle.lisp_model.proofs.ListLemmas.{at_head, in_tail, head_or_tail, in_none}
 use Rattle.lisp_client.specs.Promised.{Tries, WasTried, ReplaysAreTried}
-use Rattle.lisp_client.proofs.Steps.{at_head, in_tail, head_or_tail, in_none, here, later, each_at}
+use Rattle.lisp_client.proofs.Steps.{here, later, each_at}
 use Rattle.lisp_client.proofs.Arrivals.{taken_of, taken_alone, was_taken}
 use Rattle.lisp_client.proofs.Rises.{pair_at}
 
@@ -49,7 +50,7 @@ of_one pair (a ∷ all) nonce has = by (is_of_pair pair a) refl has (of_one pair
     by false other has go = more (go has)
 
 -- a line tries what arrives, or what was tried was tried before
-tried_case : (line : Line) (new old : List ℕ) (server nonce : ℕ) → Contains (tried_after line new server old) nonce → (Tries server line × Contains new nonce) ⊎ Contains old nonce
+tried_case : (line : Line) (new old : List ℕ) (server nonce : ℕ) → Contains (tried_nonces_after line new server old) nonce → (Tries server line × Contains new nonce) ⊎ Contains old nonce
 tried_case (lines.Accepted node router key n reply) new old server nonce has = by (node == server) refl has
   where
     by : (b : Bool) → (node == server) ≡ b → Contains (if b then new ++ old else old) nonce → ((node ≡ server) × Contains new nonce) ⊎ Contains old nonce
@@ -70,9 +71,9 @@ tried_case (lines.Refused node (Receive (StoreSave fault))) new old server nonce
     by false other has = inr has
 tried_case _ new old server nonce has = inr has
 
-module _ (o : Opening) (server : ℕ) (nothing : (shown o [] server).kept ≡ empty) (router : RouterId) (key nonce : ℕ) where
+module _ (o : Opening) (server : ℕ) (nothing : (shown_store o [] server).kept ≡ empty) (router : RouterId) (key nonce : ℕ) where
   -- in the step
-  tried_now : (s : Step) (T : List Step) → Tries server s.line → IsOfOne (pair_at router key) (arriving o T s) nonce → WasTried o (s ∷ T) server router key nonce
+  tried_now : (s : Step) (T : List Step) → Tries server s.line → IsOfOne (pair_at router key) (acceptances_in_step o T s) nonce → WasTried o (s ∷ T) server router key nonce
   tried_now s T tries its =
       let t = was_taken o s T its.one its.among in
       let a = t.arrived in
@@ -93,22 +94,22 @@ module _ (o : Opening) (server : ℕ) (nothing : (shown o [] server).kept ≡ em
       }
 
   -- what was tried over a store that began with nothing arrived
-  pub was_tried : (T : List Step) → Contains (tried o T server (pair_at router key)) nonce → WasTried o T server router key nonce
+  pub was_tried : (T : List Step) → Contains (tried_nonces o T server (pair_at router key)) nonce → WasTried o T server router key nonce
   was_tried [] has =
       let none = ap (λ (kept : Kept). kept_at kept (pair_at router key)) nothing ∙ kept_at-empty (pair_at router key) in
       absurd (in_none nonce (subst (λ (vs : List (Option ℕ)). Contains (flat_map option_to_list vs) nonce) none has))
-  was_tried (s ∷ T) has = by (tried_case s.line (nonces_of (pair_at router key) (arriving o T s)) (tried o T server (pair_at router key)) server nonce has) (was_tried T)
+  was_tried (s ∷ T) has = by (tried_case s.line (nonces_of (pair_at router key) (acceptances_in_step o T s)) (tried_nonces o T server (pair_at router key)) server nonce has) (was_tried T)
     where
-      by : (Tries server s.line × Contains (nonces_of (pair_at router key) (arriving o T s)) nonce) ⊎ Contains (tried o T server (pair_at router key)) nonce
-          → (Contains (tried o T server (pair_at router key)) nonce → WasTried o T server router key nonce) → WasTried o (s ∷ T) server router key nonce
-      by (inl new) go = tried_now s T new.0 (of_one (pair_at router key) (arriving o T s) nonce new.1)
+      by : (Tries server s.line × Contains (nonces_of (pair_at router key) (acceptances_in_step o T s)) nonce) ⊎ Contains (tried_nonces o T server (pair_at router key)) nonce
+          → (Contains (tried_nonces o T server (pair_at router key)) nonce → WasTried o T server router key nonce) → WasTried o (s ∷ T) server router key nonce
+      by (inl new) go = tried_now s T new.0 (of_one (pair_at router key) (acceptances_in_step o T s) nonce new.1)
       by (inr old) go = let w = go old in record { step = w.step; before = w.before; there = later s T w.step w.before w.there; arrived = w.arrived; tried = w.tried }
 
 -- a replay is told with such a number
-pub replays_are_tried : (o : Opening) → ((node : ℕ) → (shown o [] node).kept ≡ empty) → (T : List Step) → OfEachStep (schedules.ReplaysAreTried o) T → ReplaysAreTried o T
+pub replays_are_tried : (o : Opening) → ((node : ℕ) → (shown_store o [] node).kept ≡ empty) → (T : List Step) → OfEachStep (schedules.ReplaysAreTried o) T → ReplaysAreTried o T
 replays_are_tried o nothing T each s before there server saved is router key nonce a =
     let x = taken_of o s before router key nonce a in
     let has = subst (λ (xs : List Acceptance). Contains xs x) (sym (taken_alone o s before router key nonce a)) (at_head x []) in
     let told = each_at (schedules.ReplaysAreTried o) T each s before there server saved is x has in
     was_tried o server (nothing server) router key saved before
-    (subst (λ (p : Pair). Contains (tried o before server p) saved) (λ i. pair_at (a.who i) (a.under i)) told)
+    (subst (λ (p : Pair). Contains (tried_nonces o before server p) saved) (λ i. pair_at (a.who i) (a.under i)) told)

@@ -1,3 +1,4 @@
 pub mod Steps
 pub mod Promised
-pub mod Told
+pub mod Answers
+pub mod Stores

@@ -1,18 +1,18 @@
--- Steps of a trace: where they stand, and what arrived, was sent and was accepted in them. Lists of steps have the last one
--- first.
+-- Steps of a trace: where they stand, and what arrived, was sent and was accepted in them. Lists of steps have the last
+-- one first.
 use Rattle.std.specs.Prelude.{◌≡◌, ◌≢◌, ◌⊎◌, ℕ, ◌<◌, List, ◌∷◌, ◌++◌, length, Option, Some, Ok}
 use Rattle.std.specs.List.{Contains}
 use Rattle.lisp_records.specs.declared.address.Addr.{Addr}
 use Rattle.lisp_records.specs.declared.router.RouterId.{RouterId}
-use Rattle.lisp_records.specs.Record.{Mapping}
-use Rattle.lisp_records.specs.Row.{Holding}
-use Rattle.lisp_messages.specs.Message.{Registration, Registers}
-use Rattle.lisp_etr.specs.Sending.{registration_of}
-use Rattle.lisp_admission.specs.AcceptedRows.{holding}
+use Rattle.lisp_records.specs.Record.{MapRecordValue}
+use Rattle.lisp_records.specs.Row.{RowValue}
+use Rattle.lisp_messages.specs.Message.{MapRegisterValue, Registers}
+use Rattle.lisp_etr.specs.Sending.{map_register_of}
+use Rattle.lisp_admission.specs.AcceptedRows.{row_value}
 use Rattle.lisp_admission.specs.Pairs.{router_of}
 use Rattle.lisp_model.specs.declared.event.Event.TheVariants as events
 use Rattle.lisp_model.specs.declared.line.Line.TheVariants as lines
-use Rattle.lisp_model.specs.Trace.{Happening, Step, Opening, database, address_at, router_at, settings_of, clock}
+use Rattle.lisp_model.specs.Trace.{EventValue, Step, Opening, database, address_at, router_at, etr_config_of, clock}
 use Rattle.lisp_model.specs.Bag.{Arrival, arrival_in, bag}
 
 -- a step of a trace, and those before it
@@ -24,49 +24,51 @@ pub record IsIn (T : List Step) (s : Step) (before : List Step) : Type 0 where
 pub record Arrives (o : Opening) (s : Step) (before : List Step) (router : RouterId) (key nonce : ℕ) : Type 0 where
   pub arrival : Arrival
   pub comes : arrival_in (bag o before) s.event ≡ Some arrival
-  pub message : Registration
+  pub message : MapRegisterValue
   pub read : arrival.read ≡ Ok (Registers message)
   pub who : router_of message ≡ router
   pub under : message.key_id ≡ key
   pub number : message.nonce ≡ nonce
 
--- a Map-Register was sent in the step: by that router, from its address, to that Map-Server; its records are the database that
--- the router had then
-pub record WasSent (o : Opening) (T : List Step) (server : ℕ) (message : Registration) (from : Addr) (node : ℕ) (s : Step)
-    (before : List Step) : Type 0 where
+-- a Map-Register was sent in the step: by that router, from its address, to that Map-Server; its records are the
+-- database that the router had then
+pub record WasSent (o : Opening) (T : List Step) (server : ℕ) (message : MapRegisterValue) (from : Addr) (node : ℕ)
+    (s : Step) (before : List Step) : Type 0 where
   pub there : IsIn T s before
   pub datagram : ℕ
   pub line : s.line ≡ lines.Sent node server message.key_id message.nonce datagram
   pub source : from ≡ address_at o.config node
-  pub message_is : message ≡ registration_of (record (settings_of o.config (router_at o.config node)) { key_id = message.key_id })
+  pub message_is : message
+      ≡ map_register_of (record (etr_config_of o.config (router_at o.config node)) { key_id = message.key_id })
       (database o before node) message.nonce
 
--- what a row was accepted in: a step since the Map-Server's last restart in which a Map-Register arrived, and the row was made
--- of it
-pub record IsAcceptedIn (o : Opening) (T : List Step) (server : ℕ) (row : Holding) (t : Step) (before : List Step) : Type 0 where
+-- what a row was accepted in: a step since the Map-Server's last restart in which a Map-Register arrived, and the row
+-- was made of it
+pub record IsAcceptedIn (o : Opening) (T : List Step) (server : ℕ) (row : RowValue) (t : Step) (before : List Step)
+    : Type 0 where
   pub there : IsIn T t before
   pub arrived : Arrives o t before row.router row.key row.nonce
   pub reply : Option ℕ
   pub line : t.line ≡ lines.Accepted server row.router row.key row.nonce reply
-  pub made : row ≡ holding arrived.message arrived.arrival.from (clock before) row.mapping
+  pub made : row ≡ row_value arrived.message arrived.arrival.from (clock before) row.mapping
   pub no_restart : (r : Step) → Contains there.after r → r.line ≢ lines.Restarted server
 
 -- a row's router sent in the step to that Map-Server, under the row's key and nonce
-pub record IsSentIn (o : Opening) (T : List Step) (server : ℕ) (row : Holding) (node : ℕ) (s : Step) (before : List Step)
-    : Type 0 where
+pub record IsSentIn (o : Opening) (T : List Step) (server : ℕ) (row : RowValue) (node : ℕ) (s : Step)
+    (before : List Step) : Type 0 where
   pub there : IsIn T s before
   pub who : (router_at o.config node).me ≡ row.router
   pub datagram : ℕ
   pub line : s.line ≡ lines.Sent node server row.key row.nonce datagram
 
 -- the event gives the router no database
-abbrev pub GivesNone : Happening → ℕ → Type 0
-GivesNone event node = ((db : List Mapping) → event ≢ events.Change node db)
-    × ((pick : ℕ) (db : List Mapping) → event ≢ events.Restart node pick (Some db))
+abbrev pub GivesNoDatabase : EventValue → ℕ → Type 0
+GivesNoDatabase event node = ((db : List MapRecordValue) → event ≢ events.Change node db)
+    × ((pick : ℕ) (db : List MapRecordValue) → event ≢ events.Restart node pick (Some db))
 
 -- no event of a step between the two gives the router a database; each step is named by those before it
 abbrev pub UnchangedBetween : List Step → ℕ → List Step → List Step → Type 0
 UnchangedBetween T node one other = (r : Step) (before : List Step) → IsIn T r before
     → ((length one < length before) × (length before < length other))
     ⊎ ((length other < length before) × (length before < length one))
-    → GivesNone r.event node
+    → GivesNoDatabase r.event node

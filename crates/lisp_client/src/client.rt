@@ -1,14 +1,12 @@
 //! What a client asks of a network, and what it is promised of the answers.
 
-ghost use Rattle.std.specs.Prelude.{◌≡◌, ◌⊎◌, List, IfOk, IfSome, IfNone, OnErr, map, replicate};
-ghost use Rattle.std.specs.FinMap.{empty};
-ghost use Rattle.lisp_nonces.specs.declared.fate.Fate.TheVariants.{Done};
-ghost use Rattle.lisp_policy.specs.Configuration.{Configuration};
-ghost use Rattle.lisp_model.specs.Trace.{Happening, happening};
-ghost use Rattle.lisp_client.specs.Told.{HasRun, IsPromised, IsNotThere, HasNotRun, IsUntold};
+ghost use Rattle.std.specs.Prelude.{◌≡◌, IfOk, IfSome, IfNone, OnErr, map, replicate};
+ghost use Rattle.lisp_model.specs.Trace.{event_value};
+ghost use Rattle.lisp_client.specs.Answers.{HasRun, TellsPromised, TellsNothing, HearsPromised, HearsNothing, NoneTakes};
+ghost use Rattle.lisp_client.specs.Stores.{fresh};
 
+use crate::answers::Answers;
 use crate::question::Question;
-use crate::told::Told;
 use lisp_memory::{FallibleVec, Memory};
 use lisp_model::Event;
 use lisp_nonces::MemoryStore;
@@ -25,23 +23,26 @@ pub fn ask<A: Memory + Copy, E: Allocator, F: Allocator>(
     config: &Config<E>,
     events: &[Event<F>],
     question: Question,
-) -> Option<Told<A>>
-    ensures told { IfSome result (λ told. IsPromised config.now (map happening events.now) question told.rows.items told.other_rows.items told.counted) }
-    ensures untold { IfNone result (IsUntold A.may_refuse config.now (map happening events.now) question) }
+) -> Option<Answers<A>>
+    ensures told { IfSome result (TellsPromised config.now events.now question) }
+    ensures untold { IfNone result (TellsNothing A.may_refuse config.now events.now question) }
 {
     let world = run(alloc, config, events)?;
     heard(&world, question)
 }
 
 // What the client hears from the Map-Servers and the router of a network.
-fn heard<A: Memory + Copy>(world: &World<MemoryStore<A>, A>, question: Question) -> Option<Told<A>>
-    ensures told { IfSome result (λ told. (c : Configuration) (events : List Happening) → HasRun c events world.now → IsPromised c events question told.rows.items told.other_rows.items told.counted) }
-    ensures untold { IfNone result (A.may_refuse ⊎ ((c : Configuration) (events : List Happening) → HasRun c events world.now → IsNotThere c events question)) }
+fn heard<A: Memory + Copy>(
+    world: &World<MemoryStore<A>, A>,
+    question: Question,
+) -> Option<Answers<A>>
+    ensures told { IfSome result (HearsPromised world.now question) }
+    ensures untold { IfNone result (HearsNothing A.may_refuse world.now question) }
 {
     let counted = world.router(question.router)?.acked(question.place);
     let rows = world.server(question.server)?.held(world.clock()).ok()?;
     let other_rows = world.server(question.other)?.held(world.clock()).ok()?;
-    Some(Told {
+    Some(Answers {
         rows,
         other_rows,
         counted,
@@ -54,8 +55,8 @@ fn run<A: Memory + Copy, E: Allocator, F: Allocator>(
     config: &Config<E>,
     events: &[Event<F>],
 ) -> Option<World<MemoryStore<A>, A>>
-    ensures ran { IfSome result (λ w. HasRun config.now (map happening events.now) w) }
-    ensures not_run { IfNone result (HasNotRun A.may_refuse config.now (map happening events.now)) }
+    ensures ran { IfSome result (λ w. HasRun config.now (map event_value events.now) w) }
+    ensures not_run { IfNone result (NoneTakes A.may_refuse config.now events.now) }
 {
     let Ok(stores) = stores(alloc, config.node_count()) else {
         return None;
@@ -71,7 +72,7 @@ fn run<A: Memory + Copy, E: Allocator, F: Allocator>(
 
 // So many stores that keep nothing.
 fn stores<A: Memory + Copy>(alloc: A, count: usize) -> Result<Vec<MemoryStore<A>, A>, AllocError>
-    ensures empty { IfOk result (λ stores. stores.items ≡ replicate count (record { kept = empty; faults = 0; fate = Done })) }
+    ensures empty { IfOk result (λ stores. stores.items ≡ replicate count fresh) }
     ensures memory { OnErr result A.may_refuse }
 {
     let mut stores = Vec::new(alloc);

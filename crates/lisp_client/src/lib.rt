@@ -1,10 +1,10 @@
 //! A client of the network's promise, which believes nothing but public contracts: how to use the theorem.
 #![tactic(auto)]
 
+mod answers;
 mod client;
 mod question;
-mod told;
 
+pub use answers::Answers;
 pub use client::ask;
 pub use question::Question;
-pub use told::Told;

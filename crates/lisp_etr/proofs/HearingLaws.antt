@@ -3,13 +3,13 @@ use Rattle.std.proofs.Common.{◌≡◌, ◌≢◌, ◌<◌, ◌≤◌, ℕ, ◌
 use Rattle.std.proofs.lemmas.Bool.{le-leb, leb-true}
 use Rattle.std.proofs.lemmas.Bool.Decides.{Decides-eqb}
 use Rattle.lisp_records.specs.declared.address.Addr.{Addr}
-use Rattle.lisp_messages.specs.Message.{Notification, Said, Registers, Notifies}
+use Rattle.lisp_messages.specs.Message.{MapNotifyValue, MessageValue, Registers, Notifies}
 use Rattle.lisp_messages.specs.Authentic.{is_authentic}
 use Rattle.lisp_messages.specs.declared.fault.ReadFault.{ReadFault}
-use Rattle.lisp_etr.specs.Config.{Settings}
+use Rattle.lisp_etr.specs.Config.{EtrConfigValue}
 use Rattle.lisp_records.specs.Result.{◌>>=◌}
 use Rattle.lisp_etr.specs.Etr.{EtrState}
-use Rattle.lisp_etr.specs.Hearing.{Gives, Heard, notify_in, notify_read, server_at, checked, first_notice, notice_in, counted_in, seen_in, AnswerFits, is_latest, round_at}
+use Rattle.lisp_etr.specs.Hearing.{Gives, ServerNotify, notify_in, notify_read, server_at, checked_notify, first_notice, notice_in, counted_in, seen_in, AnswerFits, is_latest, round_at}
 use Rattle.lisp_etr.specs.declared.round.Round.{Round}
 use Rattle.lisp_etr.specs.declared.seen.Seen.{Seen}
 use Rattle.lisp_etr.specs.declared.seen.Seen.TheVariants.{Counted}
@@ -55,22 +55,22 @@ either_fits : (A : Type 0) (server nonce key latest : ℕ) (same : Bool) → IfO
 either_fits A server nonce key latest true = tt
 either_fits A server nonce key latest false = tt
 
-no_memory : {P : Type 0} (m : Notification) (ack : Bool) → cond ack (Err faults.NotMine) (Ok m) ≡ Err faults.OutOfMemory → P
+no_memory : {P : Type 0} (m : MapNotifyValue) (ack : Bool) → cond ack (Err faults.NotMine) (Ok m) ≡ Err faults.OutOfMemory → P
 no_memory m true out = not_out (Err faults.NotMine) refl out
 no_memory m false out = not_out (Ok m) refl out
 
 -- whether a message is for routers takes no memory
-pub never_out : {P : Type 0} (x : Said) → notify_in x ≡ Err faults.OutOfMemory → P
-never_out (Registers m) out = not_out {X = Notification} (Err faults.NotMine) refl out
+pub never_out : {P : Type 0} (x : MessageValue) → notify_in x ≡ Err faults.OutOfMemory → P
+never_out (Registers m) out = not_out {X = MapNotifyValue} (Err faults.NotMine) refl out
 never_out (Notifies m) out = no_memory m m.ack out
 
 -- an acknowledgement has no answer
 pub counted_fits : {A : Type 0} (seen : Result (Seen A) NotifyFault) (rounds : List Round) (server nonce key : ℕ) → seen ≡ counted_in rounds server nonce → IfOk seen (λ s. AnswerFits key s)
 counted_fits {A} seen rounds server nonce key is = subst (λ (r : Result (Seen A) NotifyFault). IfOk r (λ s. AnswerFits key s)) (sym is) (either_fits A server nonce key (round_at rounds server).latest (is_latest nonce (round_at rounds server).latest))
 
-module _ (c : Settings) (bytes : List ℕ) (read : Result Said ReadFault) (from : Option ℕ) where
-  pub unread : {X : Type 0} (view : X → Heard) (fault : NotifyFault) → Gives {X = Notification} (λ m. m) (Err fault) (notify_read read) → Gives view (Err fault) (checked c bytes read from)
-  unfolding checked
+module _ (c : EtrConfigValue) (bytes : List ℕ) (read : Result MessageValue ReadFault) (from : Option ℕ) where
+  pub unread : {X : Type 0} (view : X → ServerNotify) (fault : NotifyFault) → Gives {X = MapNotifyValue} (λ m. m) (Err fault) (notify_read read) → Gives view (Err fault) (checked_notify c bytes read from)
+  unfolding checked_notify
   unread view faults.OutOfMemory at = tt
   unread view (faults.Read _) at = rw at refl
   unread view faults.NotMine at = rw at refl
@@ -78,23 +78,23 @@ module _ (c : Settings) (bytes : List ℕ) (read : Result Said ReadFault) (from 
   unread view faults.BadAuth at = rw at refl
   unread view (faults.Stale _) at = rw at refl
 
-  module _ (m : Notification) (reads : notify_read read ≡ Ok m) where
-    pub not_mine : ok_or from faults.NotMine ≡ Err faults.NotMine → checked c bytes read from ≡ Err faults.NotMine
-    unfolding checked
+  module _ (m : MapNotifyValue) (reads : notify_read read ≡ Ok m) where
+    pub not_mine : ok_or from faults.NotMine ≡ Err faults.NotMine → checked_notify c bytes read from ≡ Err faults.NotMine
+    unfolding checked_notify
     not_mine none = rw (reads, none) refl
 
     module _ (server : ℕ) (its : ok_or from faults.NotMine ≡ Ok server) where
-      pub wrong_key : m.key_id ≢ c.key_id → checked c bytes read from ≡ Err faults.WrongKey
-      unfolding checked
+      pub wrong_key : m.key_id ≢ c.key_id → checked_notify c bytes read from ≡ Err faults.WrongKey
+      unfolding checked_notify
       wrong_key differ = rw (reads, its, number_differs m.key_id c.key_id differ) refl
 
       module _ (key : m.key_id ≡ c.key_id) where
-        pub bad_auth : is_authentic bytes c.secret ≡ false → checked c bytes read from ≡ Err faults.BadAuth
-        unfolding checked
+        pub bad_auth : is_authentic bytes c.secret ≡ false → checked_notify c bytes read from ≡ Err faults.BadAuth
+        unfolding checked_notify
         bad_auth forged = rw (reads, its, number_same m.key_id c.key_id key, forged) refl
 
-        pub passes : is_authentic bytes c.secret ≡ true → checked c bytes read from ≡ Ok (record { server = server; message = m })
-        unfolding checked
+        pub passes : is_authentic bytes c.secret ≡ true → checked_notify c bytes read from ≡ Ok (record { server = server; message = m })
+        unfolding checked_notify
         passes authentic = rw (reads, its, number_same m.key_id c.key_id key, authentic) refl
 
 late_nonce : (nonce : ℕ) → first_notice ≤ nonce → nat_le first_notice nonce ≡ true
@@ -117,7 +117,7 @@ gives_same (Err faults.BadAuth) expected is = is
 gives_same (Err (faults.Stale _)) expected is = is
 
 -- what a router makes of a Map-Notify that passed all checks: a notice is answered, or memory ran out
-module _ {A : Type 0} (e : EtrState) (h : Heard) {hears : Result Heard NotifyFault} (is : hears ≡ Ok h) {nonce : ℕ} (own : nonce ≡ h.message.nonce) where
+module _ {A : Type 0} (e : EtrState) (h : ServerNotify) {hears : Result ServerNotify NotifyFault} (is : hears ≡ Ok h) {nonce : ℕ} (own : nonce ≡ h.message.nonce) where
   pub noticed : first_notice ≤ nonce → (r : Result (Seen A) NotifyFault) → IfOk r (λ seen. seen ≡ notice_in e.config h) → IfErr r (λ fault. fault ≡ faults.OutOfMemory) → Gives (λ seen. seen) r (hears >>= seen_in e)
   unfolding seen_in
   noticed late (Ok seen) gives none = rw (is, late_nonce h.message.nonce (subst (λ (n : ℕ). first_notice ≤ n) own late)) (ap Ok (sym gives))

@@ -6,7 +6,7 @@ use Rattle.std.proofs.lemmas.Bool.{cases_lt, ne_eqb}
 use Rattle.lisp_etr.specs.declared.round.Round.{Round}
 use Rattle.lisp_records.specs.Moment.{second, minute}
 use Rattle.lisp_etr.specs.Timers.{gap, due_after, IsPrompt, IsAfter, PromptSends}
-use Rattle.lisp_etr.specs.Round.{counted, Keeps, KeepsTime}
+use Rattle.lisp_etr.specs.Round.{round_after_count, KeepsRoundTime, KeepsTime}
 
 -- from the seventh send on a minute
 pub gap_late : (k : ℕ) → 6 ≤ k → gap k ≡ minute
@@ -70,11 +70,11 @@ sends_min n = here (cases_lt n 6)
 sends_some : (n k : ℕ) → k ≡ min (suc n) 6 → (k == 0) ≡ false
 sends_some n k is = ne_eqb k 0 (λ none. let some : 1 ≤ min (suc n) 6 = le-min (omega arith) (omega arith) in absurd (omega (arith, is, none, some)))
 
-renewed : (r : Round) (begin : ℕ) (key : ℕ) → (r.sends == 0) ≡ false → r.renewal ≡ begin → Keeps (counted key r) begin []
+renewed : (r : Round) (begin : ℕ) (key : ℕ) → (r.sends == 0) ≡ false → r.renewal ≡ begin → KeepsRoundTime (round_after_count key r) begin []
 unfolding due_after
 renewed r begin key some is = rw some (record { due = is; sends = refl; renewal = tt })
 
-idle : (r : Round) (begin : ℕ) (key : ℕ) → (r.sends == 0) ≡ true → Keeps r begin [] → Keeps (counted key r) begin []
+idle : (r : Round) (begin : ℕ) (key : ℕ) → (r.sends == 0) ≡ true → KeepsRoundTime r begin [] → KeepsRoundTime (round_after_count key r) begin []
 unfolding due_after
 idle r begin key none keeps = rw none (record { due = keeps.due; sends = keeps.sends; renewal = tt })
 

@@ -6,7 +6,7 @@ use Rattle.lisp_nonces.specs.declared.pair.Pair.{Pair}
 use Rattle.lisp_nonces.specs.declared.pair.PairKind.TheVariants.{Sent}
 
 -- its site and xTR-ID; its key and the secret of it; its Map-Servers; P and T; how many nonces one save serves
-pub record Settings : Type 0 where
+pub record EtrConfigValue : Type 0 where
   pub me : RouterId
   pub key_id : ℕ
   pub secret : List ℕ
@@ -16,5 +16,5 @@ pub record Settings : Type 0 where
   pub nonce_block : ℕ
 
 -- what its nonces are kept for
-abbrev pub sent_pair : Settings → Pair
+abbrev pub sent_pair : EtrConfigValue → Pair
 sent_pair c = record { kind = Sent; router = c.me; key = c.key_id }

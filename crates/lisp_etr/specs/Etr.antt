@@ -1,19 +1,23 @@
 -- What a router is (RFC 9301 section 8.2).
-use Rattle.std.specs.Prelude.{ℕ, List, length, replicate}
-use Rattle.lisp_records.specs.Record.{Mapping}
-use Rattle.lisp_etr.specs.Config.{Settings}
+use Rattle.std.specs.Prelude.{ℕ, List, length, map, replicate}
+use Rattle.lisp_records.specs.Record.{MapRecordValue}
+use Rattle.lisp_etr.specs.Config.{EtrConfigValue}
 use Rattle.lisp_etr.specs.declared.round.Round.{Round}
-use Rattle.lisp_etr.specs.Round.{started}
+use Rattle.lisp_etr.specs.Round.{first_round, new_round}
 
 -- its configuration; what it registers; its last nonce; what the last save that was done has saved, 0
 -- before; and how it stands with each of its Map-Servers
 pub record EtrState : Type 0 where
-  pub config : Settings
-  pub database : List Mapping
+  pub config : EtrConfigValue
+  pub database : List MapRecordValue
   pub last : ℕ
   pub safe : ℕ
   pub rounds : List Round
 
 -- a router that starts at a time, with its last nonce
-abbrev pub etr_started : Settings → List Mapping → ℕ → ℕ → EtrState
-etr_started config database last now = record { config = config; database = database; last = last; safe = 0; rounds = replicate (length config.servers) (started now) }
+abbrev pub etr_started : EtrConfigValue → List MapRecordValue → ℕ → ℕ → EtrState
+etr_started config database last now = record { config = config; database = database; last = last; safe = 0; rounds = replicate (length config.servers) (first_round now) }
+
+-- a router that registers another database from a time on
+abbrev pub etr_changed : EtrState → List MapRecordValue → ℕ → EtrState
+etr_changed e database now = record e { database = database; rounds = map (new_round now) e.rounds }

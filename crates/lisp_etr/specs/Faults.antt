@@ -1,5 +1,7 @@
--- The numbers of a router's faults.
-use Rattle.std.specs.Prelude.{ℕ}
+-- A router's faults: their numbers, and those of its store.
+use Rattle.std.specs.Prelude.{◌≡◌, ◌≢◌, ◌⊎◌, ℕ}
+use Rattle.lisp_nonces.specs.declared.fault.StoreFault.{StoreFault}
+use Rattle.lisp_nonces.specs.declared.fault.StoreFault.TheVariants as stores
 use Rattle.lisp_messages.specs.declared.fault.ReadFault.{ReadFault}
 use Rattle.lisp_messages.specs.declared.fault.ReadFault.TheVariants as reads
 use Rattle.lisp_etr.specs.declared.start_fault.StartFault.{StartFault}
@@ -31,3 +33,19 @@ notify_fault_number notifies.OutOfMemory = 48
 abbrev pub fault_of_read : ReadFault → NotifyFault
 fault_of_read reads.OutOfMemory = notifies.OutOfMemory
 fault_of_read fault = notifies.Read fault
+
+-- a save for which the store had no memory
+abbrev pub store_out_of_memory : SendFault
+store_out_of_memory = sends.Store stores.OutOfMemory
+
+-- a save at which the store's device failed
+abbrev pub device_failed : SendFault
+device_failed = sends.Store stores.Device
+
+-- the fault of a save, which is never Damaged
+abbrev pub IsOfSave : SendFault → Type 0
+IsOfSave fault = (f : StoreFault) × (fault ≡ sends.Store f) × (f ≢ stores.Damaged)
+
+-- why a send is refused, where memory isn't: no such Map-Server, no nonce left, or a device that failed
+abbrev pub IsSendReason : SendFault → Type 0
+IsSendReason fault = (fault ≡ sends.NoServer) ⊎ (fault ≡ sends.NonceSpent) ⊎ (fault ≡ device_failed)

@@ -3,5 +3,7 @@ pub mod Timers
 pub mod Round
 pub mod Faults
 pub mod Etr
+pub mod Starting
 pub mod Sending
+pub mod Saving
 pub mod Hearing

@@ -1,24 +1,25 @@
 -- How a router stands with one of its Map-Servers, and what changes that (RFC 9301 section 8.2).
-use Rattle.std.specs.Prelude.{◌≡◌, ℕ, ◌+◌, ◌==◌, min, List, [], ◌∷◌, length, Some, None, if◌then◌else◌}
+use Rattle.std.specs.Prelude.{◌≡◌, ℕ, ◌+◌, ◌==◌, min, List, [], ◌∷◌, length, slice_get, Option, Some, None, if◌then◌else◌}
+use Rattle.std.specs.Option.{option_and_then}
 use Rattle.lisp_etr.specs.declared.round.Round.{Round}
 use Rattle.lisp_records.specs.Moment.{minute}
 use Rattle.lisp_etr.specs.Timers.{gap, due_after}
 
 -- the router starts
-abbrev pub started : ℕ → Round
-started now = record { due = now; sends = 0; renewal = 0; latest = 0; acked = None }
+abbrev pub first_round : ℕ → Round
+first_round now = record { due = now; sends = 0; renewal = 0; latest = 0; acked = None }
 
 -- a new round is due now
-abbrev pub begun : ℕ → Round → Round
-begun now r = record r { due = now; sends = 0 }
+abbrev pub new_round : ℕ → Round → Round
+new_round now r = record r { due = now; sends = 0 }
 
 -- a Map-Register went out; from six on, sends stays six
-abbrev pub sent : ℕ → ℕ → Round → Round
-sent nonce now r = record r { due = now + gap r.sends; sends = min (r.sends + 1) 6; renewal = now + minute; latest = nonce }
+abbrev pub round_after_send : ℕ → ℕ → Round → Round
+round_after_send nonce now r = record r { due = now + gap r.sends; sends = min (r.sends + 1) 6; renewal = now + minute; latest = nonce }
 
 -- the last send was acknowledged: where it is of this round, a new round is due a minute after it
-abbrev pub counted : ℕ → Round → Round
-counted key r = if r.sends == 0
+abbrev pub round_after_count : ℕ → Round → Round
+round_after_count key r = if r.sends == 0
     then record r { acked = Some (key, r.latest) }
     else record r { due = r.renewal; sends = 0; acked = Some (key, r.latest) }
 
@@ -28,7 +29,7 @@ IsRenewal renewal [] = Unit {0}
 IsRenewal renewal (last ∷ before) = renewal ≡ last + minute
 
 -- the timer is that of a round with this beginning and the sends at these times, the last one first
-pub record Keeps (r : Round) (begin : ℕ) (moments : List ℕ) : Type 0 where
+pub record KeepsRoundTime (r : Round) (begin : ℕ) (moments : List ℕ) : Type 0 where
   pub due : r.due ≡ due_after begin moments
   pub sends : r.sends ≡ min (length moments) 6
   pub renewal : IsRenewal r.renewal moments
@@ -36,10 +37,14 @@ pub record Keeps (r : Round) (begin : ℕ) (moments : List ℕ) : Type 0 where
 -- a round begins at the start, at each change of the database, and a minute after a send of a round
 -- that is acknowledged; a send goes on with it
 pub record KeepsTime : Type 0 where
-  pub start : (now : ℕ) → Keeps (started now) now []
-  pub begin : (now : ℕ) (r : Round) → Keeps (begun now r) now []
-  pub send : (r : Round) (begin : ℕ) (moments : List ℕ) (nonce now : ℕ) → Keeps r begin moments
-      → Keeps (sent nonce now r) begin (now ∷ moments)
-  pub renew : (r : Round) (begin last : ℕ) (before : List ℕ) (key : ℕ) → Keeps r begin (last ∷ before)
-      → Keeps (counted key r) (last + minute) []
-  pub idle : (r : Round) (begin key : ℕ) → Keeps r begin [] → Keeps (counted key r) begin []
+  pub start : (now : ℕ) → KeepsRoundTime (first_round now) now []
+  pub begin : (now : ℕ) (r : Round) → KeepsRoundTime (new_round now r) now []
+  pub send : (r : Round) (begin : ℕ) (moments : List ℕ) (nonce now : ℕ) → KeepsRoundTime r begin moments
+      → KeepsRoundTime (round_after_send nonce now r) begin (now ∷ moments)
+  pub renew : (r : Round) (begin last : ℕ) (before : List ℕ) (key : ℕ) → KeepsRoundTime r begin (last ∷ before)
+      → KeepsRoundTime (round_after_count key r) (last + minute) []
+  pub idle : (r : Round) (begin key : ℕ) → KeepsRoundTime r begin [] → KeepsRoundTime (round_after_count key r) begin []
+
+-- the Key ID and the nonce of the last Map-Register to a Map-Server that was acknowledged
+abbrev pub acked_at : List Round → ℕ → Option (ℕ × ℕ)
+acked_at rounds server = option_and_then (λ round. round.acked) (slice_get rounds server)

@@ -30,9 +30,9 @@ pub struct EtrConfig<A: Allocator = Global> {
 }
 
 impl<A: Allocator> Model for EtrConfig<A> {
-    ghost use Rattle.lisp_etr.specs.Config.{Settings};
+    ghost use Rattle.lisp_etr.specs.Config.{EtrConfigValue};
 
-    ghost Value = { Settings };
+    ghost Value = { EtrConfigValue };
 
     ghost view = { λ c. record { me = c.me; key_id = c.key_id; secret = c.key; servers = c.servers; proxy = c.proxy; use_ttl = c.use_ttl; nonce_block = c.nonce_block } };
 }

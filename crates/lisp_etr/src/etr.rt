@@ -1,23 +1,22 @@
 //! The site router.
 
-ghost use Rattle.std.specs.Prelude.{◌≡◌, ◌≢◌, ◌↔◌, ◌≤◌, ◌<◌, ◌+◌, ℕ, List, [], ◌∷◌, Some, Ok, Err, IsTrue, IfOk, IfErr, IfSome, OnOk, OnErr, IsErrOf, length, map, nat_le, position, slice_get};
-ghost use Rattle.std.specs.Option.{option_and_then};
-ghost use Rattle.lisp_nonces.specs.Kept.{kept_at, with_value, IsKept, NoneBelow, SameElsewhere};
-ghost use Rattle.lisp_nonces.specs.Store.{Rose, Proceeds, MayLoad, MayFailLoad, MaySave, MayFailSave};
+ghost use Rattle.std.specs.Prelude.{◌≡◌, ◌≢◌, ◌↔◌, ◌≤◌, ◌<◌, ◌+◌, ℕ, List, Ok, Err, IfOk, IfErr, IfSome, OnOk, OnErr, IsErrOf, length, nat_le, position};
+ghost use Rattle.lisp_nonces.specs.Store.{Rose, Proceeds, MayLoad, MaySave, MayFailSave};
 ghost use Rattle.lisp_nonces.specs.declared.fault.StoreFault.{StoreFault};
-ghost use Rattle.lisp_messages.specs.Message.{IsRegistration};
-ghost use Rattle.lisp_messages.specs.Reading.{kind_at};
-ghost use Rattle.lisp_messages.specs.declared.fault.ReadFault.{ReadFault};
-ghost use Rattle.lisp_etr.specs.Config.{Settings, sent_pair};
+ghost use Rattle.lisp_messages.specs.Message.{IsMapRegister};
+ghost use Rattle.lisp_etr.specs.Config.{EtrConfigValue};
 ghost use Rattle.lisp_records.specs.Moment.{max_moment};
-ghost use Rattle.lisp_etr.specs.Round.{begun};
-ghost use Rattle.lisp_etr.specs.Faults.{fault_of_read};
-ghost use Rattle.lisp_etr.specs.Etr.{etr_started};
-ghost use Rattle.lisp_etr.specs.Sending.{last_nonce, registration_of, datagram_of, block_end, Sends, Settles, LeavesPair};
-ghost use Rattle.lisp_etr.specs.Hearing.{Gives, AnswerFits, TakesMemory, notice_in, counted_in, seen_at, after};
+ghost use Rattle.lisp_etr.specs.Round.{acked_at};
+ghost use Rattle.lisp_etr.specs.Faults.{store_out_of_memory, device_failed};
+ghost use Rattle.lisp_etr.specs.Etr.{etr_started, etr_changed};
+ghost use Rattle.lisp_etr.specs.Sending.{EtrSends, next_datagram, next_register, NoServerAt, NoNonceFor};
+ghost use Rattle.lisp_etr.specs.Hearing.{Gives, AnswerFits, counted_in, seen_at, etr_after, TakesMemoryIfOut, RefusesBadHead, notice_from};
 ghost use Rattle.lisp_etr.specs.declared.start_fault.StartFault.{StartFault};
 ghost use Rattle.lisp_etr.specs.declared.send_fault.SendFault.{SendFault};
 ghost use Rattle.lisp_etr.specs.declared.notify_fault.NotifyFault.{NotifyFault};
+ghost use Rattle.lisp_nonces.specs.Promises.{KeepsListsIfHonest};
+ghost use Rattle.lisp_etr.specs.Starting.{StartsIfHonest, UnaskedIfNoMemory, IsOfFullStore, SameIfFull, FailsAsArmed, FailsByDevice};
+ghost use Rattle.lisp_etr.specs.Saving.{SafeIfHonest, SettlesIfHonest, LeavesIfHonest, KeepsOtherPairs, SavesBlockIfHonest, NeedsSave, KeepsEndIfObedient, SameUnlessDevice};
 
 use crate::config::EtrConfig;
 use crate::hearing::hear;
@@ -69,16 +68,16 @@ impl<A: Memory + Copy> Etr<A> {
         now: u64,
     ) -> Result<Etr<A>, StartRefused<A>>
         ensures started { IfOk result (λ e. e ≡ etr_started config database e.last now) }
-        ensures last { IsTrue (S.seen store.old).is_honest → IfOk result (λ e. IsKept (kept_at (S.seen store.old).kept (sent_pair config)) e.last) }
+        ensures last { StartsIfHonest config (S.seen store.old) result }
         ensures back { IfErr result (λ r. (r.config ≡ config) × (r.database ≡ database)) }
-        ensures same { IsTrue (S.seen store.old).is_honest → (S.seen store.new).kept ≡ (S.seen store.old).kept }
+        ensures same { KeepsListsIfHonest (S.seen store.old) (S.seen store.new) }
         ensures memory { IfErr result (λ r. r.fault ≡ StartFault.OutOfMemory → A.may_refuse) }
-        ensures unasked { IfErr result (λ r. r.fault ≡ StartFault.OutOfMemory → S.seen store.new ≡ S.seen store.old) }
-        ensures store_memory { IfErr result (λ r. r.fault ≡ StartFault.Store StoreFault.OutOfMemory → S.may_refuse) }
-        ensures refused { IfErr result (λ r. r.fault ≡ StartFault.Store StoreFault.OutOfMemory → S.seen store.new ≡ S.seen store.old) }
+        ensures unasked { IfErr result (UnaskedIfNoMemory (S.seen store.old) (S.seen store.new)) }
+        ensures store_memory { IfErr result (λ r. IsOfFullStore r.fault → S.may_refuse) }
+        ensures refused { IfErr result (SameIfFull (S.seen store.old) (S.seen store.new)) }
         ensures loads { OnOk result (MayLoad (S.seen store.old)) }
-        ensures load_fails { IfErr result (λ r. (f : StoreFault) → r.fault ≡ StartFault.Store f → f ≢ StoreFault.OutOfMemory → MayFailLoad (S.seen store.old)) }
-        ensures cause { IfErr result (λ r. (f : StoreFault) → r.fault ≡ StartFault.Store f → f ≢ StoreFault.OutOfMemory → Rose (S.seen store.old) (S.seen store.new)) }
+        ensures load_fails { IfErr result (FailsAsArmed (S.seen store.old)) }
+        ensures cause { IfErr result (FailsByDevice (S.seen store.old) (S.seen store.new)) }
         ensures proceeds { Proceeds (S.seen store.old) (S.seen store.new) }
     {
         let round = Round::start(now);
@@ -116,7 +115,7 @@ impl<A: Memory + Copy> Etr<A> {
 
     /// Registers this database from a time on, in ms: all its Map-Servers are due. Takes no memory.
     pub fn change(&mut self, database: Database<A>, now: u64)
-        ensures { self.new ≡ record self.old { database = database; rounds = map (begun now) self.old.rounds } }
+        ensures { self.new ≡ etr_changed self.old database now }
     {
         self.database = database;
         begin_all(&mut self.rounds, now);
@@ -145,38 +144,38 @@ impl<A: Memory + Copy> Etr<A> {
         now: u64,
     ) -> Result<Vec<u8, A>, SendFault>
         requires { now ≤ max_moment }
-        ensures datagram { IfOk result (λ bytes. bytes.items ≡ datagram_of self.old.config self.old.database (self.old.last + 1)) }
-        ensures known { OnOk result (IsRegistration (registration_of self.old.config self.old.database (self.old.last + 1))) }
-        ensures sends { OnOk result (Sends self.old self.new server now) }
+        ensures datagram { IfOk result (λ bytes. bytes.items ≡ next_datagram self.old) }
+        ensures known { OnOk result (IsMapRegister (next_register self.old)) }
+        ensures sends { OnOk result (EtrSends self.old self.new server now) }
 
         // The refusals, in their order.
-        ensures no_server { (result ≡ Err SendFault.NoServer) ↔ (length self.old.config.servers ≤ server) }
-        ensures spent { (result ≡ Err SendFault.NonceSpent) ↔ ((server < length self.old.config.servers) × (last_nonce ≤ self.old.last)) }
+        ensures no_server { (result ≡ Err SendFault.NoServer) ↔ NoServerAt self.old server }
+        ensures spent { (result ≡ Err SendFault.NonceSpent) ↔ NoNonceFor self.old server }
         ensures memory { IsErrOf result SendFault.OutOfMemory → A.may_refuse }
-        ensures store_memory { IsErrOf result (SendFault.Store StoreFault.OutOfMemory) → S.may_refuse }
+        ensures store_memory { IsErrOf result store_out_of_memory → S.may_refuse }
         ensures err { OnErr result (self.new ≡ self.old) }
 
         // No lower nonce comes back from the store: not after a send, nor after one that failed.
         ensures safe { OnOk result (self.old.last + 1 ≤ self.new.safe) }
-        ensures keeps_safe { IsTrue (S.seen store.old).is_honest → NoneBelow self.old.safe (kept_at (S.seen store.old).kept (sent_pair self.old.config)) → NoneBelow self.new.safe (kept_at (S.seen store.new).kept (sent_pair self.old.config)) }
-        ensures settles { IsTrue (S.seen store.old).is_honest → OnOk result (Settles (kept_at (S.seen store.old).kept (sent_pair self.old.config)) (kept_at (S.seen store.new).kept (sent_pair self.old.config)) (self.old.last + 1) self.old.config.nonce_block) }
-        ensures leaves { IsTrue (S.seen store.old).is_honest → OnErr result (LeavesPair (kept_at (S.seen store.old).kept (sent_pair self.old.config)) (kept_at (S.seen store.new).kept (sent_pair self.old.config)) (self.old.last + 1) self.old.config.nonce_block) }
-        ensures others { IsTrue (S.seen store.old).is_honest → SameElsewhere (S.seen store.old).kept (S.seen store.new).kept (sent_pair self.old.config) }
+        ensures keeps_safe { SafeIfHonest self.old self.new (S.seen store.old) (S.seen store.new) }
+        ensures settles { SettlesIfHonest self.old (S.seen store.old) (S.seen store.new) result }
+        ensures leaves { LeavesIfHonest self.old (S.seen store.old) (S.seen store.new) result }
+        ensures others { KeepsOtherPairs self.old.config (S.seen store.old) (S.seen store.new) }
 
         // A nonce that is safe is sent without a save.
         ensures unasked { self.old.last + 1 ≤ self.old.safe → S.seen store.new ≡ S.seen store.old }
 
         // For any other the end of its block is kept, and nothing else.
-        ensures saved { IsTrue (S.seen store.old).is_honest → self.old.safe < self.old.last + 1 → OnOk result (kept_at (S.seen store.new).kept (sent_pair self.old.config) ≡ Some (block_end (self.old.last + 1) self.old.config.nonce_block) ∷ []) }
+        ensures saved { SavesBlockIfHonest self.old (S.seen store.old) (S.seen store.new) result }
 
         // An obedient store fails where it is armed to, and keeps the end of the block too then.
-        ensures saves { self.old.safe < self.old.last + 1 → OnOk result (MaySave (S.seen store.old)) }
-        ensures save_fails { IsErrOf result (SendFault.Store StoreFault.Device) → MayFailSave (S.seen store.old) }
-        ensures doubted { IsErrOf result (SendFault.Store StoreFault.Device) → IsTrue (S.seen store.old).is_obedient → kept_at (S.seen store.new).kept (sent_pair self.old.config) ≡ with_value (kept_at (S.seen store.old).kept (sent_pair self.old.config)) (block_end (self.old.last + 1) self.old.config.nonce_block) }
+        ensures saves { NeedsSave self.old → OnOk result (MaySave (S.seen store.old)) }
+        ensures save_fails { IsErrOf result device_failed → MayFailSave (S.seen store.old) }
+        ensures doubted { KeepsEndIfObedient self.old (S.seen store.old) (S.seen store.new) result }
 
         // Only a device that failed leaves the store in doubt.
-        ensures refused { IfErr result (λ f. f ≢ SendFault.Store StoreFault.Device → S.seen store.new ≡ S.seen store.old) }
-        ensures cause { IsErrOf result (SendFault.Store StoreFault.Device) → Rose (S.seen store.old) (S.seen store.new) }
+        ensures refused { IfErr result (SameUnlessDevice (S.seen store.old) (S.seen store.new)) }
+        ensures cause { IsErrOf result device_failed → Rose (S.seen store.old) (S.seen store.new) }
         ensures sound { result ≢ Err (SendFault.Store StoreFault.Damaged) }
         ensures proceeds { Proceeds (S.seen store.old) (S.seen store.new) }
     {
@@ -205,14 +204,14 @@ impl<A: Memory + Copy> Etr<A> {
     #[tactic(auto, unfolding(crate::specs::Hearing::seen_in))]
     pub fn receive(&mut self, from: Addr, bytes: &[u8], _now: u64) -> Result<Seen<A>, NotifyFault>
         ensures answer { Gives (λ seen. seen) result (seen_at self.old from bytes.now) }
-        ensures after { self.new ≡ after self.old result }
+        ensures after { self.new ≡ etr_after self.old result }
         ensures fits { IfOk result (λ seen. AnswerFits self.old.config.key_id seen) }
 
         // Only records that are read and a notice that is answered take memory.
-        ensures grows { IsErrOf result NotifyFault.OutOfMemory → TakesMemory self.old.config from bytes.now }
+        ensures grows { TakesMemoryIfOut self.old.config from bytes.now result }
 
         // Before the first record nothing takes memory.
-        ensures early { (fault : ReadFault) → kind_at bytes.now ≡ Err fault → result ≡ Err (fault_of_read fault) }
+        ensures early { RefusesBadHead bytes.now result }
         ensures memory { IsErrOf result NotifyFault.OutOfMemory → A.may_refuse }
     {
         let (server, notify) = hear(self.alloc, &self.config, from, bytes)?;
@@ -224,7 +223,7 @@ impl<A: Memory + Copy> Etr<A> {
 
     // A Map-Server's notice, and its answer.
     fn notice(&self, server: usize, notify: MapNotify<A>) -> Result<Seen<A>, NotifyFault>
-        ensures notice { IfOk result (λ seen. seen ≡ notice_in self.now.config (record { server = server; message = notify })) }
+        ensures notice { IfOk result (λ seen. seen ≡ notice_from self.now.config server notify) }
         ensures fits { IfOk result (λ seen. AnswerFits notify.key_id seen) }
         ensures err { IfErr result (λ fault. fault ≡ NotifyFault.OutOfMemory) }
         ensures memory { OnErr result A.may_refuse }
@@ -247,7 +246,7 @@ impl<A: Memory + Copy> Etr<A> {
         requires { server < length self.old.config.servers }
         ensures answer { result ≡ counted_in self.old.rounds server nonce }
         ensures plain { ¬ (IsErrOf result NotifyFault.OutOfMemory) }
-        ensures after { self.new ≡ after self.old result }
+        ensures after { self.new ≡ etr_after self.old result }
     {
         let round = &mut self.rounds[server];
         if nonce == 0 || nonce != round.latest {
@@ -263,7 +262,7 @@ impl<A: Memory + Copy> Etr<A> {
     /// acknowledged since the start; `None` where none was, or where there is no such Map-Server. Takes no
     /// memory.
     pub fn acked(&self, server: usize) -> Option<(u8, u64)>
-        ensures { result ≡ option_and_then (λ round. round.acked) (slice_get self.now.rounds server) }
+        ensures { result ≡ acked_at self.now.rounds server }
     {
         match self.rounds.get(server) {
             Some(round) => round.acked,

@@ -1,16 +1,16 @@
 //! What holds of a router: each function's contract is a law. Those of its timers and nonces have empty bodies; those of
 //! its answers hold over memory and a store that never run out, and make the call that they speak of.
 
-ghost use Rattle.std.specs.Prelude.{ℕ, ◌≡◌, ◌<◌, ◌≤◌, ◌⊎◌, IfErr, IsOk, length};
+ghost use Rattle.std.specs.Prelude.{◌≤◌, IfErr};
 ghost use Rattle.lisp_records.specs.Moment.{max_moment};
 ghost use Rattle.lisp_records.specs.Result.{Reads};
-ghost use Rattle.lisp_nonces.specs.Store.{Rose};
-ghost use Rattle.lisp_nonces.specs.declared.fault.StoreFault.{StoreFault};
 ghost use Rattle.lisp_etr.specs.Timers.{PromptSends};
 ghost use Rattle.lisp_etr.specs.Round.{KeepsTime};
-ghost use Rattle.lisp_etr.specs.Sending.{last_nonce, block_end, IsBound};
+ghost use Rattle.lisp_etr.specs.Sending.{BlocksAreBounds};
 ghost use Rattle.lisp_etr.specs.Hearing.{seen_at};
-ghost use Rattle.lisp_etr.specs.declared.send_fault.SendFault.{SendFault};
+ghost use Rattle.lisp_nonces.specs.Promises.{Unrefused};
+ghost use Rattle.lisp_etr.specs.Faults.{IsSendReason};
+ghost use Rattle.lisp_etr.specs.Saving.{SendsUnlessFailed};
 
 use crate::etr::Etr;
 use crate::notify_fault::NotifyFault;
@@ -34,7 +34,7 @@ pub fn rounds_keep_time()
 /// What is saved for a nonce is no lower, less than 1,024 above it, and no later than a router's last nonce.
 #[tactic(auto, using(crate::proofs::SafeLaws::block_bound))]
 pub fn blocks_are_bounds()
-    ensures { (nonce block : ℕ) → nonce ≤ last_nonce → IsBound nonce last_nonce (block_end nonce block) }
+    ensures { BlocksAreBounds }
 {}
 
 /// Over memory and a store that are never refused memory, a send is refused only where there is no such
@@ -46,8 +46,9 @@ pub fn sends_exactly<S: NonceStore, A: Memory + Copy>(
     now: u64,
 ) -> Result<Vec<u8, A>, SendFault>
     requires { now ≤ max_moment }
-    ensures refusals { (A.may_refuse → ⊥) → (S.may_refuse → ⊥) → IfErr result (λ fault. (fault ≡ SendFault.NoServer) ⊎ (fault ≡ SendFault.NonceSpent) ⊎ (fault ≡ SendFault.Store StoreFault.Device)) }
-    ensures sent { (A.may_refuse → ⊥) → (S.may_refuse → ⊥) → server < length router.old.config.servers → router.old.last < last_nonce → ¬ (Rose (S.seen store.old) (S.seen store.new)) → IsOk result }
+    ensures refusals { Unrefused A.may_refuse S.may_refuse (IfErr result IsSendReason) }
+    ensures sent { Unrefused A.may_refuse S.may_refuse
+        (SendsUnlessFailed router.old server (S.seen store.old) (S.seen store.new) result) }
 {
     router.send(store, server, now)
 }

@@ -3,7 +3,7 @@
 ghost use Rattle.std.specs.Prelude.{◌≡◌, ◌≤◌, ℕ, map};
 ghost use Rattle.lisp_records.specs.Moment.{max_moment};
 ghost use Rattle.lisp_etr.specs.Timers.{gap};
-ghost use Rattle.lisp_etr.specs.Round.{started, begun, sent, counted};
+ghost use Rattle.lisp_etr.specs.Round.{first_round, new_round, round_after_send, round_after_count};
 
 /// A minute, in ms.
 const MINUTE: u64 = 60_000;
@@ -29,7 +29,7 @@ pub(crate) struct Round {
 impl Round {
     /// A router that starts at this time, and hasn't sent.
     pub(crate) const fn start(now: u64) -> Round
-        ensures { result ≡ started now }
+        ensures { result ≡ first_round now }
     {
         Round {
             due: now,
@@ -42,7 +42,7 @@ impl Round {
 
     /// A new round, due now.
     pub(crate) fn begin(&mut self, now: u64)
-        ensures { self.new ≡ begun now self.old }
+        ensures { self.new ≡ new_round now self.old }
     {
         self.due = now;
         self.sends = 0;
@@ -51,7 +51,7 @@ impl Round {
     /// A Map-Register goes out under a nonce, at a time, in ms, of at most 2^62.
     pub(crate) fn send(&mut self, nonce: u64, now: u64)
         requires { now ≤ max_moment }
-        ensures { self.new ≡ sent nonce now self.old }
+        ensures { self.new ≡ round_after_send nonce now self.old }
     {
         self.due = now + gap(self.sends);
         self.sends = self.sends.saturating_add(1).min(MOST_SENDS);
@@ -61,7 +61,7 @@ impl Round {
 
     /// The last send is acknowledged.
     pub(crate) fn count(&mut self, key: u8)
-        ensures { self.new ≡ counted key self.old }
+        ensures { self.new ≡ round_after_count key self.old }
     {
         if self.sends > 0 {
             self.due = self.renewal;
@@ -73,7 +73,7 @@ impl Round {
 
 /// A new round with each Map-Server, due now.
 pub(crate) fn begin_all(rounds: &mut [Round], now: u64)
-    ensures { rounds.new ≡ map (begun now) rounds.old }
+    ensures { rounds.new ≡ map (new_round now) rounds.old }
 {
     for round in rounds.iter_mut() {
         round.begin(now);

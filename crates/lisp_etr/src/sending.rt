@@ -1,13 +1,11 @@
 //! The Map-Registers of a router.
 
-ghost use Rattle.std.specs.Prelude.{◌≡◌, ◌≢◌, ◌<◌, ◌≤◌, ◌∷◌, [], Some, IsTrue, IfOk, IfErr, IsErrOf, OnErr, OnOk};
-ghost use Rattle.lisp_nonces.specs.Kept.{kept_at, with_value, NoneBelow, SameElsewhere};
+ghost use Rattle.std.specs.Prelude.{◌≡◌, ◌<◌, ◌≤◌, IfOk, IfErr, IsErrOf, OnErr, OnOk};
 ghost use Rattle.lisp_nonces.specs.Store.{Rose, Proceeds, MaySave, MayFailSave};
-ghost use Rattle.lisp_nonces.specs.declared.fault.StoreFault.{StoreFault};
-ghost use Rattle.lisp_messages.specs.Message.{IsRegistration};
-ghost use Rattle.lisp_etr.specs.Config.{sent_pair};
-ghost use Rattle.lisp_etr.specs.Sending.{last_nonce, datagram_of, registration_of, block_end, safe_after, Settles, LeavesPair};
-ghost use Rattle.lisp_etr.specs.declared.send_fault.SendFault.{SendFault};
+ghost use Rattle.lisp_messages.specs.Message.{IsMapRegister};
+ghost use Rattle.lisp_etr.specs.Sending.{last_nonce, map_register_of, block_end, safe_after, IsDatagram};
+ghost use Rattle.lisp_etr.specs.Faults.{store_out_of_memory, device_failed, IsOfSave};
+ghost use Rattle.lisp_etr.specs.Saving.{BlockSaves, BlockIsSafe, SafeStays, BlockSettles, BlockLeaves, KeepsOtherPairs, BlockKeepsToo, SameUnlessDevice};
 
 use crate::config::EtrConfig;
 use crate::send_fault::SendFault;
@@ -24,8 +22,8 @@ pub(crate) fn datagram<A: Memory + Copy>(
     database: &Database<A>,
     nonce: u64,
 ) -> Result<Vec<u8, A>, AllocError>
-    ensures written { IfOk result (λ bytes. bytes.items ≡ datagram_of config.now database.now nonce) }
-    ensures known { OnOk result (IsRegistration (registration_of config.now database.now nonce)) }
+    ensures written { IfOk result (λ bytes. IsDatagram config.now database.now nonce bytes.items) }
+    ensures known { OnOk result (IsMapRegister (map_register_of config.now database.now nonce)) }
     ensures memory { OnErr result A.may_refuse }
 {
     let register = MapRegister {
@@ -55,20 +53,20 @@ pub(crate) fn keep_block<S: NonceStore, A: Allocator>(
     requires { nonce ≤ last_nonce }
     ensures exact { IfOk result (λ saved. saved ≡ safe_after safe nonce config.now.nonce_block) }
     ensures safe { IfOk result (λ saved. nonce ≤ saved) }
-    ensures saved { IsTrue (S.seen store.old).is_honest → safe < nonce → OnOk result (kept_at (S.seen store.new).kept (sent_pair config.now) ≡ Some (block_end nonce config.now.nonce_block) ∷ []) }
+    ensures saved { BlockSaves config.now safe nonce (S.seen store.old) (S.seen store.new) result }
     ensures unasked { nonce ≤ safe → S.seen store.new ≡ S.seen store.old }
-    ensures keeps_safe { IsTrue (S.seen store.old).is_honest → NoneBelow safe (kept_at (S.seen store.old).kept (sent_pair config.now)) → IfOk result (λ saved. NoneBelow saved (kept_at (S.seen store.new).kept (sent_pair config.now))) }
-    ensures still_safe { IsTrue (S.seen store.old).is_honest → NoneBelow safe (kept_at (S.seen store.old).kept (sent_pair config.now)) → OnErr result (NoneBelow safe (kept_at (S.seen store.new).kept (sent_pair config.now))) }
-    ensures settles { IsTrue (S.seen store.old).is_honest → OnOk result (Settles (kept_at (S.seen store.old).kept (sent_pair config.now)) (kept_at (S.seen store.new).kept (sent_pair config.now)) nonce config.now.nonce_block) }
-    ensures leaves { IsTrue (S.seen store.old).is_honest → OnErr result (LeavesPair (kept_at (S.seen store.old).kept (sent_pair config.now)) (kept_at (S.seen store.new).kept (sent_pair config.now)) nonce config.now.nonce_block) }
-    ensures others { IsTrue (S.seen store.old).is_honest → SameElsewhere (S.seen store.old).kept (S.seen store.new).kept (sent_pair config.now) }
+    ensures keeps_safe { BlockIsSafe config.now safe (S.seen store.old) (S.seen store.new) result }
+    ensures still_safe { SafeStays config.now safe (S.seen store.old) (S.seen store.new) result }
+    ensures settles { BlockSettles config.now nonce (S.seen store.old) (S.seen store.new) result }
+    ensures leaves { BlockLeaves config.now nonce (S.seen store.old) (S.seen store.new) result }
+    ensures others { KeepsOtherPairs config.now (S.seen store.old) (S.seen store.new) }
     ensures saves { safe < nonce → OnOk result (MaySave (S.seen store.old)) }
-    ensures save_fails { IsErrOf result (SendFault.Store StoreFault.Device) → MayFailSave (S.seen store.old) }
-    ensures doubted { IsErrOf result (SendFault.Store StoreFault.Device) → IsTrue (S.seen store.old).is_obedient → kept_at (S.seen store.new).kept (sent_pair config.now) ≡ with_value (kept_at (S.seen store.old).kept (sent_pair config.now)) (block_end nonce config.now.nonce_block) }
-    ensures store { IfErr result (λ fault. (f : StoreFault) × (fault ≡ SendFault.Store f) × (f ≢ StoreFault.Damaged)) }
-    ensures memory { IsErrOf result (SendFault.Store StoreFault.OutOfMemory) → S.may_refuse }
-    ensures refused { IfErr result (λ fault. fault ≢ SendFault.Store StoreFault.Device → S.seen store.new ≡ S.seen store.old) }
-    ensures cause { IsErrOf result (SendFault.Store StoreFault.Device) → Rose (S.seen store.old) (S.seen store.new) }
+    ensures save_fails { IsErrOf result device_failed → MayFailSave (S.seen store.old) }
+    ensures doubted { BlockKeepsToo config.now nonce (S.seen store.old) (S.seen store.new) result }
+    ensures store { IfErr result IsOfSave }
+    ensures memory { IsErrOf result store_out_of_memory → S.may_refuse }
+    ensures refused { IfErr result (SameUnlessDevice (S.seen store.old) (S.seen store.new)) }
+    ensures cause { IsErrOf result device_failed → Rose (S.seen store.old) (S.seen store.new) }
     ensures proceeds { Proceeds (S.seen store.old) (S.seen store.new) }
 {
     if nonce <= safe {

@@ -1,6 +1,6 @@
 -- HMAC-SHA-256 (RFC 2104), and the tag of 128 bits that a LISP control message carries
 -- (RFC 9301 sections 5.6 and 12.5, RFC 4868 section 2.3).
-use Rattle.std.specs.Prelude.{ℕ, ◌+◌, ◌-◌, List, ◌++◌, length, take, drop, map, replicate, bit_xor, nat_lt, if◌then◌else◌}
+use Rattle.std.specs.Prelude.{◌≡◌, ℕ, ◌+◌, ◌-◌, List, ◌++◌, length, take, drop, map, replicate, bit_xor, nat_lt, if◌then◌else◌, slice_range}
 use Rattle.sha2.specs.Sha256.{sha256}
 
 -- bytes with zeros behind them, up to a block of 64
@@ -26,3 +26,7 @@ without_tag message at = take at message ++ replicate 16 0 ++ drop (at + 16) mes
 -- the first 128 bits of the HMAC over the message without its tag (RFC 4868 section 2.3)
 unfoldable pub tag : List ℕ → List ℕ → ℕ → List ℕ
 tag key message at = take 16 (hmac key (without_tag message at))
+
+-- the 16 bytes of a message from a place on are its tag under the key
+abbrev pub HasTag : List ℕ → List ℕ → ℕ → Type 0
+HasTag key message at = slice_range message at (at + 16) ≡ tag key message at

@@ -1,7 +1,7 @@
 //! The tag of a message: 128 bits of its HMAC, with the tag's own place taken as zeros.
 
-ghost use Rattle.std.specs.Prelude.{◌≡◌, ◌+◌, ◌≤◌, ◌↔◌, length, slice_range, IsTrue};
-ghost use Rattle.lisp_hmac.specs.Tag.{tag};
+ghost use Rattle.std.specs.Prelude.{◌≡◌, ◌+◌, ◌≤◌, ◌↔◌, length, IsTrue};
+ghost use Rattle.lisp_hmac.specs.Tag.{tag, HasTag};
 
 use crate::key::Key;
 
@@ -25,7 +25,7 @@ impl Key {
     /// Whether the 16 bytes of `message` from `field_at` on are its tag under the key.
     pub fn checks(&self, message: &[u8], field_at: usize) -> bool
         requires { field_at + TAG_LEN ≤ length message.now }
-        ensures { IsTrue result ↔ (slice_range message.now field_at (field_at + TAG_LEN) ≡ tag self.now message.now field_at) }
+        ensures { IsTrue result ↔ HasTag self.now message.now field_at }
     {
         &message[field_at..field_at + TAG_LEN] == self.tag128(message, field_at).as_slice()
     }
@@ -43,7 +43,7 @@ pub fn tag128(secret: &[u8], message: &[u8], field_at: usize) -> [u8; 16]
 /// [`Key::checks`]; for one message alone.
 pub fn checks(secret: &[u8], message: &[u8], field_at: usize) -> bool
     requires { field_at + TAG_LEN ≤ length message.now }
-    ensures { IsTrue result ↔ (slice_range message.now field_at (field_at + TAG_LEN) ≡ tag secret.now message.now field_at) }
+    ensures { IsTrue result ↔ HasTag secret.now message.now field_at }
 {
     Key::new(secret).checks(message, field_at)
 }

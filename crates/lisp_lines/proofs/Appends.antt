@@ -5,11 +5,11 @@ use Rattle.std.specs.Fmt.{decimal}
 use Rattle.std.specs.Char.{encode_utf8}
 use Rattle.std.specs.List.{flat_map}
 use Rattle.std.proofs.lemmas.List.{append-nil, flat_map_more, take_all, take_more}
-use Rattle.lisp_policy.specs.Configuration.{Configuration}
-use Rattle.lisp_records.specs.Row.{Holding}
+use Rattle.lisp_policy.specs.Configuration.{ConfigValue}
+use Rattle.lisp_records.specs.Row.{RowValue}
 use Rattle.lisp_texts.specs.Written.{record_text}
 use Rattle.lisp_lines.specs.Name.{node_name, router_name}
-use Rattle.lisp_lines.specs.Query.{hold_text, row_text}
+use Rattle.lisp_lines.specs.Query.{hold_head, hold_text, row_text}
 
 pub ruleset steps = (append_assoc, flat_map_more)
 
@@ -31,27 +31,27 @@ one_more {X = X} shown head xs i x before after inside here so_far more =
     more ∙ ap (λ (t : List ℕ). t ++ shown x) so_far ∙ flat_map_more shown head (take i xs) x ∙ ap (λ (ys : List X). head ++ flat_map shown ys) next
 
 -- the line before the rows of a Map-Server
-abbrev pub head_text : Configuration → ℕ → ℕ → List ℕ
-head_text c server rows = codes "hold " ++ node_name c server ++ codes " " ++ decimal rows ++ 10 ∷ []
+abbrev pub head_text : ConfigValue → ℕ → ℕ → List ℕ
+head_text c server rows = hold_head (node_name c server) rows
 
 -- that line before any row
-pub head_alone : (c : Configuration) (server rows n : ℕ) (name text : List ℕ) → name ≡ node_name c server → n ≡ rows → text ≡ codes "hold " ++ name ++ codes " " ++ decimal n ++ 10 ∷ []
+pub head_alone : (c : ConfigValue) (server rows n : ℕ) (name text : List ℕ) → name ≡ node_name c server → n ≡ rows → text ≡ hold_head name n
     → text ≡ head_text c server rows ++ []
 head_alone c server rows n name text named counted is = is ∙ rw (named, counted) (sym (append-nil (head_text c server rows)))
 
 -- and behind it the lines of all rows
-pub all_rows : (c : Configuration) (server now : ℕ) (rows : List Holding) (i : ℕ) (text : List ℕ) → length rows ≤ i → text ≡ head_text c server (length rows) ++ flat_map (row_text c now) (take i rows)
+pub all_rows : (c : ConfigValue) (server now : ℕ) (rows : List RowValue) (i : ℕ) (text : List ℕ) → length rows ≤ i → text ≡ head_text c server (length rows) ++ flat_map (row_text c now) (take i rows)
     → text ≡ hold_text c server now rows
 all_rows c server now rows i text le is =
-    is ∙ ap (λ (hs : List Holding). head_text c server (length rows) ++ flat_map (row_text c now) hs) (take_all i rows le) ∙ simp append_assoc refl
+    is ∙ ap (λ (hs : List RowValue). head_text c server (length rows) ++ flat_map (row_text c now) hs) (take_all i rows le)
 
 -- the twelve pieces of a row's line
 pieces : (a b c d e f g h i j k l : List ℕ) → a ++ (b ++ (c ++ (d ++ (e ++ (f ++ (g ++ (h ++ (i ++ (j ++ (k ++ l)))))))))) ≡ a ++ (b ++ c ++ d ++ e ++ (f ++ g ++ h ++ i) ++ j ++ k ++ l)
 pieces a b c d e f g h i j k l = simp append_assoc refl
 
 -- the line of a row, appended
-pub row_line : (c : Configuration) (now : ℕ) (inside row : Holding) (text router mapping : List ℕ) (age : ℕ) → inside ≡ row → router ≡ router_name c inside.router → mapping ≡ record_text inside.mapping → age ≡ now - inside.accepted
+pub row_line : (c : ConfigValue) (now : ℕ) (inside row : RowValue) (text router mapping : List ℕ) (age : ℕ) → inside ≡ row → router ≡ router_name c inside.router → mapping ≡ record_text inside.mapping → age ≡ now - inside.accepted
     → text ++ (codes "row " ++ (router ++ (codes " " ++ (mapping ++ (codes " key " ++ (decimal inside.key ++ (codes " nonce " ++ (decimal inside.nonce ++ (codes " age " ++ (decimal age ++ 10 ∷ [])))))))))) ≡ text ++ row_text c now row
 row_line c now inside row text router mapping age seen named mapped aged =
     rw (named, mapped, aged) (pieces text (codes "row ") (router_name c inside.router) (codes " ") (record_text inside.mapping) (codes " key ") (decimal inside.key) (codes " nonce ") (decimal inside.nonce) (codes " age ") (decimal (now - inside.accepted)) (10 ∷ []))
-    ∙ ap (λ (h : Holding). text ++ row_text c now h) seen
+    ∙ ap (λ (h : RowValue). text ++ row_text c now h) seen

@@ -1,23 +1,25 @@
 -- A line is its parts.
-use Rattle.std.proofs.Common.{◌≡◌, ℕ, Bool, true, false, List, [], ◌++◌, None, refl, ap, ◌∙◌, codes, append_assoc}
+use Rattle.std.proofs.Common.{◌≡◌, ℕ, List, [], ◌++◌, None, refl, ap, ◌∙◌, codes, append_assoc}
 use Rattle.std.proofs.lemmas.List.{append-nil}
 use Rattle.std.specs.Fmt.{decimal}
-use Rattle.lisp_policy.specs.Configuration.{Configuration}
+use Rattle.lisp_policy.specs.Configuration.{ConfigValue}
 use Rattle.lisp_model.specs.Faults.{refusal_number}
 use Rattle.lisp_model.specs.declared.line.Line.{Line}
 use Rattle.lisp_model.specs.declared.line.Line.TheVariants as lines
+use Rattle.lisp_lines.specs.declared.datagram_place.DatagramPlace.{DatagramPlace}
+use Rattle.lisp_lines.specs.declared.datagram_place.DatagramPlace.TheVariants.{Shown, Hidden}
 use Rattle.lisp_lines.specs.Name.{node_name, router_name}
 use Rattle.lisp_lines.specs.Carried.{carried_words}
 use Rattle.lisp_lines.specs.Line.{datagram_text, line_words}
 use Rattle.lisp_lines.specs.Parts.{verb, nodes_text, details_text, datagram_of}
 
 -- where there is no datagram, nothing is added
-alone : (place : Bool) (text : List ℕ) → text ++ datagram_text place None ≡ text
-alone true text = append-nil text
-alone false text = append-nil text
+alone : (place : DatagramPlace) (text : List ℕ) → text ++ datagram_text place None ≡ text
+alone Shown text = append-nil text
+alone Hidden text = append-nil text
 
 -- the words of a line, part by part
-pub line_parts : (c : Configuration) (place : Bool) (line : Line) → verb line ++ nodes_text c line ++ details_text line ++ datagram_text place (datagram_of line) ≡ line_words c place line
+pub line_parts : (c : ConfigValue) (place : DatagramPlace) (line : Line) → verb line ++ nodes_text c line ++ details_text line ++ datagram_text place (datagram_of line) ≡ line_words c place line
 line_parts c place (lines.Changed router records) = simp append_assoc (ap (λ (t : List ℕ). codes "change " ++ (node_name c router ++ t)) (alone place (codes " records " ++ decimal records)))
 line_parts c place (lines.Sent router server key nonce datagram) = simp append_assoc refl
 line_parts c place (lines.Accepted server router key nonce datagram) = simp append_assoc refl

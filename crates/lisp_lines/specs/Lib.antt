@@ -4,3 +4,4 @@ pub mod Front
 pub mod Line
 pub mod Parts
 pub mod Query
+pub mod Writing

@@ -1,10 +1,12 @@
 -- The text of the line of each event.
-use Rattle.std.specs.Prelude.{ℕ, Bool, true, List, [], ◌∷◌, ◌++◌, codes, Option, Some}
+use Rattle.std.specs.Prelude.{ℕ, List, [], ◌∷◌, ◌++◌, codes, Option, Some}
 use Rattle.std.specs.Fmt.{decimal}
-use Rattle.lisp_policy.specs.Configuration.{Configuration}
+use Rattle.lisp_policy.specs.Configuration.{ConfigValue}
 use Rattle.lisp_model.specs.Faults.{refusal_number}
 use Rattle.lisp_model.specs.declared.line.Line.{Line}
 use Rattle.lisp_model.specs.declared.line.Line.TheVariants as lines
+use Rattle.lisp_lines.specs.declared.datagram_place.DatagramPlace.{DatagramPlace}
+use Rattle.lisp_lines.specs.declared.datagram_place.DatagramPlace.TheVariants.{Shown}
 use Rattle.lisp_lines.specs.Name.{node_name, router_name}
 use Rattle.lisp_lines.specs.Carried.{carried_words}
 
@@ -17,11 +19,11 @@ abbrev pub keyed_text : ℕ → ℕ → List ℕ
 keyed_text key nonce = codes " key " ++ decimal key ++ codes " nonce " ++ decimal nonce
 
 -- a datagram, where its place is shown
-abbrev pub datagram_text : Bool → Option ℕ → List ℕ
-datagram_text true (Some datagram) = codes " datagram " ++ decimal datagram
+abbrev pub datagram_text : DatagramPlace → Option ℕ → List ℕ
+datagram_text Shown (Some datagram) = codes " datagram " ++ decimal datagram
 datagram_text _ _ = []
 
-abbrev pub line_words : Configuration → Bool → Line → List ℕ
+abbrev pub line_words : ConfigValue → DatagramPlace → Line → List ℕ
 line_words c place (lines.Changed router records) = codes "change " ++ node_name c router ++ codes " records " ++ decimal records
 line_words c place (lines.Sent router server key nonce datagram) = codes "sent " ++ pair_text (node_name c router) (node_name c server) ++ keyed_text key nonce ++ datagram_text place (Some datagram)
 line_words c place (lines.Accepted server router key nonce datagram) = codes "accepted " ++ pair_text (node_name c server) (router_name c router) ++ keyed_text key nonce ++ datagram_text place datagram
@@ -37,5 +39,5 @@ line_words c place (lines.Down router) = codes "down " ++ node_name c router
 line_words c place (lines.Refused node what) = codes "refused " ++ node_name c node ++ codes " " ++ decimal (refusal_number what) ++ carried_words what
 
 -- with its line feed
-abbrev pub line_text : Configuration → Bool → Line → List ℕ
+abbrev pub line_text : ConfigValue → DatagramPlace → Line → List ℕ
 line_text c place line = line_words c place line ++ 10 ∷ []

@@ -1,7 +1,7 @@
 -- The parts of a line: its verb, its nodes, what else it tells, and its datagram.
 use Rattle.std.specs.Prelude.{ℕ, List, [], ◌++◌, codes, Option, Some, None}
 use Rattle.std.specs.Fmt.{decimal}
-use Rattle.lisp_policy.specs.Configuration.{Configuration}
+use Rattle.lisp_policy.specs.Configuration.{ConfigValue}
 use Rattle.lisp_model.specs.Faults.{refusal_number}
 use Rattle.lisp_model.specs.declared.refusal.Refusal.{Refusal}
 use Rattle.lisp_model.specs.declared.line.Line.{Line}
@@ -27,7 +27,7 @@ verb (lines.Down _) = codes "down"
 verb (lines.Refused _ _) = codes "refused"
 
 -- the nodes, each after a space
-abbrev pub nodes_text : Configuration → Line → List ℕ
+abbrev pub nodes_text : ConfigValue → Line → List ℕ
 nodes_text c (lines.Changed router _) = codes " " ++ node_name c router
 nodes_text c (lines.Sent router server _ _ _) = codes " " ++ pair_text (node_name c router) (node_name c server)
 nodes_text c (lines.Accepted server router _ _ _) = codes " " ++ pair_text (node_name c server) (router_name c router)

@@ -4,27 +4,30 @@ use Rattle.std.specs.Fmt.{decimal}
 use Rattle.std.specs.List.{flat_map}
 use Rattle.lisp_records.specs.declared.address.Addr.{Addr}
 use Rattle.lisp_records.specs.declared.router.RouterId.{RouterId}
-use Rattle.lisp_records.specs.Row.{Holding}
+use Rattle.lisp_records.specs.Row.{RowValue}
 use Rattle.lisp_lookup.specs.declared.answer.Answer.{Answer}
 use Rattle.lisp_lookup.specs.declared.answer.Answer.TheVariants.{NoSite, NotRegistered, Reply, Forward}
-use Rattle.lisp_policy.specs.Configuration.{Configuration}
+use Rattle.lisp_policy.specs.Configuration.{ConfigValue}
 use Rattle.lisp_texts.specs.Written.{addr_text, record_text}
 use Rattle.lisp_lines.specs.Name.{node_name, router_name}
 use Rattle.lisp_lines.specs.Line.{pair_text, keyed_text}
 
 -- the rows that a Map-Server holds at a moment: how many, then each with its age in ms
-abbrev pub row_text : Configuration → ℕ → Holding → List ℕ
+abbrev pub row_text : ConfigValue → ℕ → RowValue → List ℕ
 row_text c now h = codes "row " ++ router_name c h.router ++ codes " " ++ record_text h.mapping ++ keyed_text h.key h.nonce ++ codes " age " ++ decimal (now - h.accepted) ++ 10 ∷ []
 
-abbrev pub hold_text : Configuration → ℕ → ℕ → List Holding → List ℕ
-hold_text c server now rows = codes "hold " ++ node_name c server ++ codes " " ++ decimal (length rows) ++ 10 ∷ flat_map (row_text c now) rows
+abbrev pub hold_head : List ℕ → ℕ → List ℕ
+hold_head server rows = codes "hold " ++ server ++ codes " " ++ decimal rows ++ 10 ∷ []
+
+abbrev pub hold_text : ConfigValue → ℕ → ℕ → List RowValue → List ℕ
+hold_text c server now rows = hold_head (node_name c server) (length rows) ++ flat_map (row_text c now) rows
 
 -- what a router counted last from a Map-Server
 abbrev pub counted_words : Option (ℕ × ℕ) → List ℕ
 counted_words None = codes " none"
 counted_words (Some pair) = keyed_text pair.0 pair.1
 
-abbrev pub ack_text : Configuration → ℕ → ℕ → Option (ℕ × ℕ) → List ℕ
+abbrev pub ack_text : ConfigValue → ℕ → ℕ → Option (ℕ × ℕ) → List ℕ
 ack_text c router server counted = codes "acks " ++ pair_text (node_name c router) (node_name c server) ++ counted_words counted ++ 10 ∷ []
 
 -- who answers for an address: the negative answers with their minutes
@@ -34,17 +37,17 @@ answer_words NotRegistered = codes "unregistered 1"
 answer_words (Reply entry) = codes "reply " ++ record_text entry.now
 answer_words (Forward addr) = codes "forward " ++ addr_text addr
 
-abbrev pub ask_text : {A : Type 0} → Configuration → ℕ → Addr → Answer A → List ℕ
+abbrev pub ask_text : {A : Type 0} → ConfigValue → ℕ → Addr → Answer A → List ℕ
 ask_text c server addr answer = codes "ask " ++ node_name c server ++ codes " " ++ addr_text addr ++ codes " " ++ answer_words answer ++ 10 ∷ []
 
 -- which Map-Server is due to a router, which router a notice of a Map-Server
-abbrev pub due_text : Configuration → ℕ → List ℕ → List ℕ
+abbrev pub due_text : ConfigValue → ℕ → List ℕ → List ℕ
 due_text c node whom = codes "due " ++ pair_text (node_name c node) whom ++ 10 ∷ []
 
-abbrev pub due_server : Configuration → Option ℕ → List ℕ
+abbrev pub due_server : ConfigValue → Option ℕ → List ℕ
 due_server c None = codes "none"
 due_server c (Some server) = node_name c server
 
-abbrev pub due_router : Configuration → Option RouterId → List ℕ
+abbrev pub due_router : ConfigValue → Option RouterId → List ℕ
 due_router c None = codes "none"
 due_router c (Some router) = router_name c router

@@ -1,17 +1,17 @@
 //! Appending to a text, a character at a time: where memory runs out, a front of what was to be appended is left.
 
-ghost use Rattle.std.specs.Prelude.{◌≡◌, ◌<◌, ◌+◌, ◌++◌, ◌∷◌, [], OnOk, OnErr};
+ghost use Rattle.std.specs.Prelude.{◌≡◌, ◌<◌, ◌+◌, ◌++◌, ◌∷◌, [], OnErr};
 ghost use Rattle.std.specs.Fmt.{decimal};
 ghost use Rattle.std.specs.String.{string_bytes};
-ghost use Rattle.lisp_lines.specs.Front.{LeavesFront};
+ghost use Rattle.lisp_lines.specs.Front.{Adds, AddsFront};
 
 use lisp_memory::{FallibleString, Memory};
 use std::alloc::AllocError;
 
 /// Appends words.
 pub(crate) fn put_words<A: Memory>(text: &mut String<A>, words: &str) -> Result<(), AllocError>
-    ensures text { OnOk result (string_bytes text.new ≡ string_bytes text.old ++ words.now) }
-    ensures front { OnErr result (LeavesFront (string_bytes text.old) (string_bytes text.new) words.now) }
+    ensures text { Adds result text.old text.new words.now }
+    ensures front { AddsFront result text.old text.new words.now }
     ensures memory { OnErr result A.may_refuse }
 {
     for character in words.chars() {
@@ -27,8 +27,8 @@ pub(crate) fn put_number<A: Memory>(
     what: &str,
     number: u64,
 ) -> Result<(), AllocError>
-    ensures text { OnOk result (string_bytes text.new ≡ string_bytes text.old ++ (what.now ++ decimal number)) }
-    ensures front { OnErr result (LeavesFront (string_bytes text.old) (string_bytes text.new) (what.now ++ decimal number)) }
+    ensures text { Adds result text.old text.new (what.now ++ decimal number) }
+    ensures front { AddsFront result text.old text.new (what.now ++ decimal number) }
     ensures memory { OnErr result A.may_refuse }
 {
     put_words(text, what)?;
@@ -37,8 +37,8 @@ pub(crate) fn put_number<A: Memory>(
 
 // Appends a number in decimal digits.
 fn put_decimal<A: Memory>(text: &mut String<A>, number: u64) -> Result<(), AllocError>
-    ensures text { OnOk result (string_bytes text.new ≡ string_bytes text.old ++ decimal number) }
-    ensures front { OnErr result (LeavesFront (string_bytes text.old) (string_bytes text.new) (decimal number)) }
+    ensures text { Adds result text.old text.new (decimal number) }
+    ensures front { AddsFront result text.old text.new (decimal number) }
     ensures memory { OnErr result A.may_refuse }
 {
     if number < 10 {
@@ -51,7 +51,7 @@ fn put_decimal<A: Memory>(text: &mut String<A>, number: u64) -> Result<(), Alloc
 // Appends one digit.
 fn put_digit<A: Memory>(text: &mut String<A>, digit: u8) -> Result<(), AllocError>
     requires { digit < 10 }
-    ensures text { OnOk result (string_bytes text.new ≡ string_bytes text.old ++ (48 + digit) ∷ []) }
+    ensures text { Adds result text.old text.new ((48 + digit) ∷ []) }
     ensures same { OnErr result (string_bytes text.new ≡ string_bytes text.old) }
     ensures memory { OnErr result A.may_refuse }
 {

@@ -1,9 +1,8 @@
 //! What a refusal carries, in words behind its number.
 
-ghost use Rattle.std.specs.Prelude.{◌≡◌, ◌++◌, OnOk, OnErr};
-ghost use Rattle.std.specs.String.{string_bytes};
+ghost use Rattle.std.specs.Prelude.{OnErr};
 ghost use Rattle.lisp_lines.specs.Carried.{record_words, read_words, carried_words};
-ghost use Rattle.lisp_lines.specs.Front.{LeavesFront};
+ghost use Rattle.lisp_lines.specs.Front.{Adds, AddsFront};
 
 use crate::append::put_number;
 use lisp_etr::{NotifyFault, SendFault, StartFault};
@@ -17,8 +16,8 @@ use std::alloc::AllocError;
 /// `NotAllowed`; ` store F`; ` saved N` for `Replay`; ` latest N` for `Stale`; nothing for any other. Out of memory, it
 /// leaves a front of it.
 pub fn put_carried<A: Memory>(text: &mut String<A>, refusal: &Refusal) -> Result<(), AllocError>
-    ensures text { OnOk result (string_bytes text.new ≡ string_bytes text.old ++ carried_words refusal.now) }
-    ensures front { OnErr result (LeavesFront (string_bytes text.old) (string_bytes text.new) (carried_words refusal.now)) }
+    ensures text { Adds result text.old text.new (carried_words refusal.now) }
+    ensures front { AddsFront result text.old text.new (carried_words refusal.now) }
     ensures memory { OnErr result A.may_refuse }
 {
     match refusal {
@@ -40,8 +39,8 @@ pub fn put_carried<A: Memory>(text: &mut String<A>, refusal: &Refusal) -> Result
 
 // Appends the fault of a message, with the place and the fault of its record where it has one.
 fn put_read<A: Memory>(text: &mut String<A>, fault: &ReadFault) -> Result<(), AllocError>
-    ensures text { OnOk result (string_bytes text.new ≡ string_bytes text.old ++ read_words fault.now) }
-    ensures front { OnErr result (LeavesFront (string_bytes text.old) (string_bytes text.new) (read_words fault.now)) }
+    ensures text { Adds result text.old text.new (read_words fault.now) }
+    ensures front { AddsFront result text.old text.new (read_words fault.now) }
     ensures memory { OnErr result A.may_refuse }
 {
     let read = u64::from(fault.number());
@@ -61,8 +60,8 @@ fn put_record<A: Memory>(
     place: u64,
     fault: u64,
 ) -> Result<(), AllocError>
-    ensures text { OnOk result (string_bytes text.new ≡ string_bytes text.old ++ record_words read place fault) }
-    ensures front { OnErr result (LeavesFront (string_bytes text.old) (string_bytes text.new) (record_words read place fault)) }
+    ensures text { Adds result text.old text.new (record_words read place fault) }
+    ensures front { AddsFront result text.old text.new (record_words read place fault) }
     ensures memory { OnErr result A.may_refuse }
 {
     put_number(text, " read ", read)?;

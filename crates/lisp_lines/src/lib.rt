@@ -1,12 +1,16 @@
-//! The text of each line that an event or a query of a schedule prints.
+//! The text of each line that an event or a query of a schedule prints, and writing it.
 #![tactic(auto)]
 
 mod append;
 mod carried;
+mod datagram_place;
 mod line;
 mod name;
 mod query;
+mod writing;
 
 pub use carried::put_carried;
+pub use datagram_place::DatagramPlace;
 pub use line::line_text;
 pub use query::{ask_text, due_router_text, due_server_text, hold_text, put_ack};
+pub use writing::{write_line, write_text};

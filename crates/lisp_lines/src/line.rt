@@ -1,28 +1,28 @@
 //! The text of the line of each event.
 
-ghost use Rattle.std.specs.Prelude.{◌≡◌, ◌++◌, codes, IfOk, OnOk, OnErr};
-ghost use Rattle.std.specs.String.{string_bytes};
-ghost use Rattle.lisp_lines.specs.Front.{LeavesFront};
+ghost use Rattle.std.specs.Prelude.{◌≡◌, ◌++◌, codes, OnErr};
+ghost use Rattle.lisp_lines.specs.Front.{Adds, AddsFront, GivesText};
 ghost use Rattle.lisp_lines.specs.Line.{pair_text, keyed_text, datagram_text, line_words, line_text};
 ghost use Rattle.lisp_lines.specs.Parts.{verb, nodes_text, refusal_text, details_text, datagram_of};
 
 use crate::append::put_number;
 use crate::carried::put_carried;
+use crate::datagram_place::DatagramPlace;
 use crate::name::{node_name, router_name};
 use lisp_memory::{FallibleString, Memory};
 use lisp_model::{Line, Refusal};
 use lisp_sites::Config;
 use std::alloc::{AllocError, Allocator};
 
-/// The line of an event, with its line feed, by the names of the configuration; without the place of its datagram
-/// unless `place`. A node or a router that the configuration doesn't have is `other`.
+/// The line of an event, with its line feed, by the names of the configuration; with the place of its datagram
+/// where that is `Shown`. A node or a router that the configuration doesn't have is `other`.
 pub fn line_text<A: Memory, E: Allocator>(
     alloc: A,
     config: &Config<E>,
     line: &Line,
-    place: bool,
+    place: DatagramPlace,
 ) -> Result<String<A>, AllocError>
-    ensures text { IfOk result (λ text. string_bytes text ≡ line_text config.now place line.now) }
+    ensures text { GivesText result (line_text config.now place line.now) }
     ensures memory { OnErr result A.may_refuse }
 {
     let mut text = String::new(alloc);
@@ -38,18 +38,15 @@ fn put_line<A: Memory, E: Allocator>(
     text: &mut String<A>,
     config: &Config<E>,
     line: &Line,
-    place: bool,
+    place: DatagramPlace,
 ) -> Result<(), AllocError>
-    ensures text { OnOk result (string_bytes text.new ≡ string_bytes text.old ++ line_words config.now place line.now) }
+    ensures text { Adds result text.old text.new (line_words config.now place line.now) }
     ensures memory { OnErr result A.may_refuse }
 {
     text.try_write(verb(line))?;
     put_nodes(text, config, line)?;
     put_details(text, line)?;
-    match datagram(line) {
-        Some(datagram) if place => put_number(text, " datagram ", datagram as u64),
-        _ => Ok(()),
-    }
+    put_datagram(text, place, datagram(line))
 }
 
 // The first word of a line.
@@ -79,7 +76,7 @@ fn put_nodes<A: Memory, E: Allocator>(
     config: &Config<E>,
     line: &Line,
 ) -> Result<(), AllocError>
-    ensures text { OnOk result (string_bytes text.new ≡ string_bytes text.old ++ nodes_text config.now line.now) }
+    ensures text { Adds result text.old text.new (nodes_text config.now line.now) }
     ensures memory { OnErr result A.may_refuse }
 {
     match *line {
@@ -111,7 +108,7 @@ fn put_nodes<A: Memory, E: Allocator>(
 
 // Appends what a line tells besides its nodes and its datagram. Out of memory, it may leave a part of it.
 fn put_details<A: Memory>(text: &mut String<A>, line: &Line) -> Result<(), AllocError>
-    ensures text { OnOk result (string_bytes text.new ≡ string_bytes text.old ++ details_text line.now) }
+    ensures text { Adds result text.old text.new (details_text line.now) }
     ensures memory { OnErr result A.may_refuse }
 {
     match line {
@@ -144,10 +141,25 @@ fn datagram(line: &Line) -> Option<usize>
     }
 }
 
+// Appends the place of a datagram, where there is one and it is shown. Out of memory, it may leave a part of it.
+fn put_datagram<A: Memory>(
+    text: &mut String<A>,
+    place: DatagramPlace,
+    datagram: Option<usize>,
+) -> Result<(), AllocError>
+    ensures text { Adds result text.old text.new (datagram_text place datagram) }
+    ensures memory { OnErr result A.may_refuse }
+{
+    match (place, datagram) {
+        (DatagramPlace::Shown, Some(datagram)) => put_number(text, " datagram ", datagram as u64),
+        (DatagramPlace::Shown, None) | (DatagramPlace::Hidden, _) => Ok(()),
+    }
+}
+
 // Appends a refusal: its number, and what it carries. Out of memory, it may leave a part of it.
 #[tactic(auto, using(crate::proofs::Appends::steps))]
 fn put_refusal<A: Memory>(text: &mut String<A>, refusal: &Refusal) -> Result<(), AllocError>
-    ensures text { OnOk result (string_bytes text.new ≡ string_bytes text.old ++ refusal_text refusal.now) }
+    ensures text { Adds result text.old text.new (refusal_text refusal.now) }
     ensures memory { OnErr result A.may_refuse }
 {
     let number = refusal.number();
@@ -157,7 +169,7 @@ fn put_refusal<A: Memory>(text: &mut String<A>, refusal: &Refusal) -> Result<(),
 
 // Appends the name of a node after a space. Out of memory, it may leave a part of it.
 fn put_node<A: Memory>(text: &mut String<A>, name: &str) -> Result<(), AllocError>
-    ensures text { OnOk result (string_bytes text.new ≡ string_bytes text.old ++ codes " " ++ name.now) }
+    ensures text { Adds result text.old text.new (codes " " ++ name.now) }
     ensures memory { OnErr result A.may_refuse }
 {
     text.try_write(format_args!(" {name}"))
@@ -165,7 +177,7 @@ fn put_node<A: Memory>(text: &mut String<A>, name: &str) -> Result<(), AllocErro
 
 // Appends the names of two nodes, each after a space. Out of memory, it may leave a part of them.
 fn put_pair<A: Memory>(text: &mut String<A>, one: &str, other: &str) -> Result<(), AllocError>
-    ensures text { OnOk result (string_bytes text.new ≡ string_bytes text.old ++ codes " " ++ pair_text one.now other.now) }
+    ensures text { Adds result text.old text.new (codes " " ++ pair_text one.now other.now) }
     ensures memory { OnErr result A.may_refuse }
 {
     text.try_write(format_args!(" {one} {other}"))
@@ -178,8 +190,8 @@ pub(crate) fn put_keyed<A: Memory>(
     key: u8,
     nonce: u64,
 ) -> Result<(), AllocError>
-    ensures text { OnOk result (string_bytes text.new ≡ string_bytes text.old ++ keyed_text key nonce) }
-    ensures front { OnErr result (LeavesFront (string_bytes text.old) (string_bytes text.new) (keyed_text key nonce)) }
+    ensures text { Adds result text.old text.new (keyed_text key nonce) }
+    ensures front { AddsFront result text.old text.new (keyed_text key nonce) }
     ensures memory { OnErr result A.may_refuse }
 {
     put_number(text, " key ", u64::from(key))?;

@@ -1,8 +1,8 @@
 //! What nodes are called in lines.
 
-ghost use Rattle.std.specs.Prelude.{◌≡◌, codes, map, slice_index_or};
+ghost use Rattle.std.specs.Prelude.{◌≡◌};
 ghost use Rattle.std.specs.Option.{option_map};
-ghost use Rattle.lisp_lines.specs.Name.{node_name, router_of, router_name};
+ghost use Rattle.lisp_lines.specs.Name.{node_name, name_at, router_of, router_name};
 
 use lisp_records::RouterId;
 use lisp_sites::{Config, RouterEntry};
@@ -24,7 +24,7 @@ pub(crate) fn node_name<E: Allocator>(config: &Config<E>, node: usize) -> &str
 
 // The name of the router with a place among the routers.
 fn name_at<E: Allocator>(config: &Config<E>, place: usize) -> &str
-    ensures { result.now ≡ slice_index_or (map (λ r. r.name) config.now.routers) place (codes "other") }
+    ensures { result.now ≡ name_at config.now place }
 {
     match config.routers().get(place) {
         Some(router) => router.name.as_str(),

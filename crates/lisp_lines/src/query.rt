@@ -1,10 +1,8 @@
 //! The text of what is asked of a node.
 
-ghost use Rattle.std.specs.Prelude.{◌≡◌, ◌++◌, ◌∷◌, [], codes, IfOk, OnOk, OnErr};
-ghost use Rattle.std.specs.Fmt.{decimal};
-ghost use Rattle.std.specs.String.{string_bytes};
-ghost use Rattle.lisp_lines.specs.Front.{LeavesFront};
-ghost use Rattle.lisp_lines.specs.Query.{row_text, hold_text, counted_words, ack_text, answer_words, ask_text, due_text, due_server, due_router};
+ghost use Rattle.std.specs.Prelude.{◌++◌, ◌∷◌, [], codes, OnErr};
+ghost use Rattle.lisp_lines.specs.Front.{Adds, AddsFront, GivesText};
+ghost use Rattle.lisp_lines.specs.Query.{row_text, hold_head, hold_text, counted_words, ack_text, answer_words, ask_text, due_text, due_server, due_router};
 ghost use Rattle.lisp_lines.specs.Line.{pair_text};
 ghost use Rattle.lisp_texts.specs.Written.{addr_text};
 
@@ -29,7 +27,7 @@ pub fn hold_text<A: Memory + Copy, E: Allocator, F: Allocator>(
     now: u64,
     rows: &[Row<F>],
 ) -> Result<String<A>, AllocError>
-    ensures text { IfOk result (λ text. string_bytes text ≡ hold_text config.now server now rows.now) }
+    ensures text { GivesText result (hold_text config.now server now rows.now) }
     ensures memory { OnErr result A.may_refuse }
 {
     let mut text = hold_head(alloc, node_name(config, server), rows.len())?;
@@ -41,7 +39,7 @@ pub fn hold_text<A: Memory + Copy, E: Allocator, F: Allocator>(
 
 // The line before the rows of a Map-Server: how many they are.
 fn hold_head<A: Memory>(alloc: A, server: &str, rows: usize) -> Result<String<A>, AllocError>
-    ensures text { IfOk result (λ text. string_bytes text ≡ codes "hold " ++ server.now ++ codes " " ++ decimal rows ++ 10 ∷ []) }
+    ensures text { GivesText result (hold_head server.now rows) }
     ensures memory { OnErr result A.may_refuse }
 {
     String::try_format(alloc, format_args!("hold {server} {rows}\n"))
@@ -55,7 +53,7 @@ fn put_row<A: Memory + Copy, E: Allocator, F: Allocator>(
     now: u64,
     row: &Row<F>,
 ) -> Result<(), AllocError>
-    ensures text { OnOk result (string_bytes text.new ≡ string_bytes text.old ++ row_text config.now now row.now) }
+    ensures text { Adds result text.old text.new (row_text config.now now row.now) }
     ensures memory { OnErr result A.may_refuse }
 {
     let router = router_name(config, &row.router);
@@ -74,8 +72,8 @@ pub fn put_ack<A: Memory, E: Allocator>(
     server: usize,
     counted: Option<(u8, u64)>,
 ) -> Result<(), AllocError>
-    ensures text { OnOk result (string_bytes text.new ≡ string_bytes text.old ++ ack_text config.now router server counted) }
-    ensures front { OnErr result (LeavesFront (string_bytes text.old) (string_bytes text.new) (ack_text config.now router server counted)) }
+    ensures text { Adds result text.old text.new (ack_text config.now router server counted) }
+    ensures front { AddsFront result text.old text.new (ack_text config.now router server counted) }
     ensures memory { OnErr result A.may_refuse }
 {
     let (router, server) = (node_name(config, router), node_name(config, server));
@@ -88,8 +86,8 @@ pub fn put_ack<A: Memory, E: Allocator>(
 // Appends the names of two nodes.
 #[tactic(auto, using(crate::proofs::Appends::steps))]
 fn put_pair<A: Memory>(text: &mut String<A>, one: &str, other: &str) -> Result<(), AllocError>
-    ensures text { OnOk result (string_bytes text.new ≡ string_bytes text.old ++ pair_text one.now other.now) }
-    ensures front { OnErr result (LeavesFront (string_bytes text.old) (string_bytes text.new) (pair_text one.now other.now)) }
+    ensures text { Adds result text.old text.new (pair_text one.now other.now) }
+    ensures front { AddsFront result text.old text.new (pair_text one.now other.now) }
     ensures memory { OnErr result A.may_refuse }
 {
     put_words(text, one)?;
@@ -102,8 +100,8 @@ fn put_counted<A: Memory>(
     text: &mut String<A>,
     counted: Option<(u8, u64)>,
 ) -> Result<(), AllocError>
-    ensures text { OnOk result (string_bytes text.new ≡ string_bytes text.old ++ counted_words counted) }
-    ensures front { OnErr result (LeavesFront (string_bytes text.old) (string_bytes text.new) (counted_words counted)) }
+    ensures text { Adds result text.old text.new (counted_words counted) }
+    ensures front { AddsFront result text.old text.new (counted_words counted) }
     ensures memory { OnErr result A.may_refuse }
 {
     match counted {
@@ -120,7 +118,7 @@ pub fn ask_text<A: Memory + Copy, E: Allocator, F: Allocator>(
     addr: &Addr,
     answer: &Answer<'_, F>,
 ) -> Result<String<A>, AllocError>
-    ensures text { IfOk result (λ text. string_bytes text ≡ ask_text config.now server addr.now answer.now) }
+    ensures text { GivesText result (ask_text config.now server addr.now answer.now) }
     ensures memory { OnErr result A.may_refuse }
 {
     let server = node_name(config, server);
@@ -134,7 +132,7 @@ fn answer_text<A: Memory + Copy, F: Allocator>(
     alloc: A,
     answer: &Answer<'_, F>,
 ) -> Result<String<A>, AllocError>
-    ensures text { IfOk result (λ text. string_bytes text ≡ answer_words answer.now) }
+    ensures text { GivesText result (answer_words answer.now) }
     ensures memory { OnErr result A.may_refuse }
 {
     match answer {
@@ -158,7 +156,7 @@ pub fn due_server_text<A: Memory, E: Allocator>(
     router: usize,
     server: Option<usize>,
 ) -> Result<String<A>, AllocError>
-    ensures text { IfOk result (λ text. string_bytes text ≡ due_text config.now router (due_server config.now server)) }
+    ensures text { GivesText result (due_text config.now router (due_server config.now server)) }
     ensures memory { OnErr result A.may_refuse }
 {
     let router = node_name(config, router);
@@ -175,7 +173,7 @@ pub fn due_router_text<A: Memory, E: Allocator>(
     server: usize,
     router: Option<RouterId>,
 ) -> Result<String<A>, AllocError>
-    ensures text { IfOk result (λ text. string_bytes text ≡ due_text config.now server (due_router config.now router)) }
+    ensures text { GivesText result (due_text config.now server (due_router config.now router)) }
     ensures memory { OnErr result A.may_refuse }
 {
     let server = node_name(config, server);
@@ -187,7 +185,7 @@ pub fn due_router_text<A: Memory, E: Allocator>(
 
 // Who is due to a node.
 fn due_text<A: Memory>(alloc: A, node: &str, whom: &str) -> Result<String<A>, AllocError>
-    ensures text { IfOk result (λ text. string_bytes text ≡ codes "due " ++ pair_text node.now whom.now ++ 10 ∷ []) }
+    ensures text { GivesText result (codes "due " ++ pair_text node.now whom.now ++ 10 ∷ []) }
     ensures memory { OnErr result A.may_refuse }
 {
     String::try_format(alloc, format_args!("due {node} {whom}\n"))

@@ -6,13 +6,13 @@ use Rattle.std.specs.Cmp.{IsTotalOrder, on_total, then_total, nat_cmp_total, boo
 use Rattle.std.specs.declared.cmp.Ordering.{Ordering}
 use Rattle.std.specs.declared.cmp.Ordering.TheVariants.{Less, Equal, Greater}
 use Rattle.lisp_records.specs.declared.address.Addr.{Addr}
-use Rattle.lisp_records.specs.Row.{Holding}
+use Rattle.lisp_records.specs.Row.{RowValue}
 use Rattle.std.specs.Option.{option_map}
 use Rattle.lisp_lookup.specs.Answer.{may_answer, rank_cmp, greater, IsBest, NoneAnswers, IsBestOf}
 use Rattle.lisp_lookup.proofs.Orders.{router_total}
 
 rank_total : IsTotalOrder rank_cmp
-rank_total = then_total (then_total (then_total (on_total (λ (h : Holding). h.mapping.eid.mask_len) nat_cmp_total) (on_total (λ (h : Holding). h.proxy) bool_cmp_total)) (on_total (λ (h : Holding). h.accepted) nat_cmp_total)) (on_total (λ (h : Holding). h.router) router_total)
+rank_total = then_total (then_total (then_total (on_total (λ (h : RowValue). h.mapping.eid.mask_len) nat_cmp_total) (on_total (λ (h : RowValue). h.proxy) bool_cmp_total)) (on_total (λ (h : RowValue). h.accepted) nat_cmp_total)) (on_total (λ (h : RowValue). h.router) router_total)
 
 module _ {K : Type 0} {R : K → K → Ordering} (total : IsTotalOrder R) where
   tied : (x : K) → (o : Ordering) → R x x ≡ o → o ≡ ordering_reverse o → o ≢ Greater
@@ -48,73 +48,73 @@ less Equal is = absurd cc
 less Greater is = absurd cc
 
 -- the row is the greatest of those that were seen and may answer
-pub record IsBestIn (Seen : Holding → Type 0) (addr : Addr) (now : ℕ) (h : Holding) : Type 0 where
+pub record IsBestIn (Seen : RowValue → Type 0) (addr : Addr) (now : ℕ) (h : RowValue) : Type 0 where
   pub held : Seen h
   pub may : may_answer addr now h ≡ true
-  pub most : (other : Holding) → Seen other → may_answer addr now other ≡ true → rank_cmp other h ≢ Greater
+  pub most : (other : RowValue) → Seen other → may_answer addr now other ≡ true → rank_cmp other h ≢ Greater
 
-abbrev pub BestIn : (Holding → Type 0) → Addr → ℕ → Option Holding → Type 0
+abbrev pub BestIn : (RowValue → Type 0) → Addr → ℕ → Option RowValue → Type 0
 BestIn Seen addr now (Some h) = IsBestIn Seen addr now h
-BestIn Seen addr now None = (h : Holding) → Seen h → may_answer addr now h ≡ false
+BestIn Seen addr now None = (h : RowValue) → Seen h → may_answer addr now h ≡ false
 
 -- one row more was seen
-module _ (Seen More : Holding → Type 0) (x : Holding) (addr : Addr) (now : ℕ) (keeps : (h : Holding) → Seen h → More h) (has : More x) (splits : (h : Holding) → More h → Seen h ⊎ (x ≡ h)) where
+module _ (Seen More : RowValue → Type 0) (x : RowValue) (addr : Addr) (now : ℕ) (keeps : (h : RowValue) → Seen h → More h) (has : More x) (splits : (h : RowValue) → More h → Seen h ⊎ (x ≡ h)) where
   -- a row that may not answer changes nothing
-  best_passes : (best : Option Holding) → may_answer addr now x ≡ false → BestIn Seen addr now best → BestIn More addr now best
+  best_passes : (best : Option RowValue) → may_answer addr now x ≡ false → BestIn Seen addr now best → BestIn More addr now best
   best_passes None never none = λ h seen. either h (splits h seen)
     where
-      either : (h : Holding) → Seen h ⊎ (x ≡ h) → may_answer addr now h ≡ false
+      either : (h : RowValue) → Seen h ⊎ (x ≡ h) → may_answer addr now h ≡ false
       either h (inl was) = none h was
-      either h (inr is) = subst (λ (y : Holding). may_answer addr now y ≡ false) is never
+      either h (inr is) = subst (λ (y : RowValue). may_answer addr now y ≡ false) is never
   best_passes (Some b) never is = record {
     held = keeps b is.held;
     may = is.may;
     most = λ other seen may. either other may (splits other seen);
   }
     where
-      either : (other : Holding) → may_answer addr now other ≡ true → Seen other ⊎ (x ≡ other) → rank_cmp other b ≢ Greater
+      either : (other : RowValue) → may_answer addr now other ≡ true → Seen other ⊎ (x ≡ other) → rank_cmp other b ≢ Greater
       either other may (inl was) = is.most other was may
       either other may (inr same) = absurd (true≢false (sym may ∙ ap (may_answer addr now) (sym same) ∙ never))
 
-  chosen : (b : Holding) (above : Bool) → is_lt (rank_cmp b x) ≡ above → may_answer addr now x ≡ true → IsBestIn Seen addr now b → IsBestIn More addr now (cond above x b)
+  chosen : (b : RowValue) (above : Bool) → is_lt (rank_cmp b x) ≡ above → may_answer addr now x ≡ true → IsBestIn Seen addr now b → IsBestIn More addr now (cond above x b)
   chosen b true above can is = record {
     held = has;
     may = can;
     most = λ other seen may. either other may (splits other seen);
   }
     where
-      either : (other : Holding) → may_answer addr now other ≡ true → Seen other ⊎ (x ≡ other) → rank_cmp other x ≢ Greater
+      either : (other : RowValue) → may_answer addr now other ≡ true → Seen other ⊎ (x ≡ other) → rank_cmp other x ≢ Greater
       either other may (inl was) = not_above rank_total other b x (is.most other was may) (less (rank_cmp b x) above)
-      either other may (inr same) = subst (λ (y : Holding). rank_cmp y x ≢ Greater) same (not_above_itself rank_total x)
+      either other may (inr same) = subst (λ (y : RowValue). rank_cmp y x ≢ Greater) same (not_above_itself rank_total x)
   chosen b false above can is = record {
     held = keeps b is.held;
     may = is.may;
     most = λ other seen may. either other may (splits other seen);
   }
     where
-      either : (other : Holding) → may_answer addr now other ≡ true → Seen other ⊎ (x ≡ other) → rank_cmp other b ≢ Greater
+      either : (other : RowValue) → may_answer addr now other ≡ true → Seen other ⊎ (x ≡ other) → rank_cmp other b ≢ Greater
       either other may (inl was) = is.most other was may
-      either other may (inr same) = subst (λ (y : Holding). rank_cmp y b ≢ Greater) same (turned rank_total x b above)
+      either other may (inr same) = subst (λ (y : RowValue). rank_cmp y b ≢ Greater) same (turned rank_total x b above)
 
   -- a row that may answer is the best now, or less than the best
-  best_grows : (best : Option Holding) → may_answer addr now x ≡ true → BestIn Seen addr now best → IsBestIn More addr now (greater best x)
+  best_grows : (best : Option RowValue) → may_answer addr now x ≡ true → BestIn Seen addr now best → IsBestIn More addr now (greater best x)
   best_grows None can none = record {
     held = has;
     may = can;
     most = λ other seen may. either other may (splits other seen);
   }
     where
-      either : (other : Holding) → may_answer addr now other ≡ true → Seen other ⊎ (x ≡ other) → rank_cmp other x ≢ Greater
+      either : (other : RowValue) → may_answer addr now other ≡ true → Seen other ⊎ (x ≡ other) → rank_cmp other x ≢ Greater
       either other may (inl was) = absurd (true≢false (sym may ∙ none other was))
-      either other may (inr same) = subst (λ (y : Holding). rank_cmp y x ≢ Greater) same (not_above_itself rank_total x)
+      either other may (inr same) = subst (λ (y : RowValue). rank_cmp y x ≢ Greater) same (not_above_itself rank_total x)
   best_grows (Some b) can is = chosen b (is_lt (rank_cmp b x)) refl can is
 
-  pub best_next : (old new : Option Holding) → BestIn Seen addr now old → ((may_answer addr now x ≡ true) × (new ≡ Some (greater old x))) ⊎ ((may_answer addr now x ≡ false) × (new ≡ old)) → BestIn More addr now new
-  best_next old new is (inl grows) = subst (λ (o : Option Holding). BestIn More addr now o) (sym grows.1) (best_grows old grows.0 is)
-  best_next old new is (inr stays) = subst (λ (o : Option Holding). BestIn More addr now o) (sym stays.1) (best_passes old stays.0 is)
+  pub best_next : (old new : Option RowValue) → BestIn Seen addr now old → ((may_answer addr now x ≡ true) × (new ≡ Some (greater old x))) ⊎ ((may_answer addr now x ≡ false) × (new ≡ old)) → BestIn More addr now new
+  best_next old new is (inl grows) = subst (λ (o : Option RowValue). BestIn More addr now o) (sym grows.1) (best_grows old grows.0 is)
+  best_next old new is (inr stays) = subst (λ (o : Option RowValue). BestIn More addr now o) (sym stays.1) (best_passes old stays.0 is)
 
 -- what was seen are the rows
-pub best_of_all : (Seen : Holding → Type 0) (rows : List Holding) (addr : Addr) (now : ℕ) (best : Option Holding) → ((h : Holding) → Seen h → Contains rows h) → ((h : Holding) → Contains rows h → Seen h) → BestIn Seen addr now best → IsBestOf rows addr now best
+pub best_of_all : (Seen : RowValue → Type 0) (rows : List RowValue) (addr : Addr) (now : ℕ) (best : Option RowValue) → ((h : RowValue) → Seen h → Contains rows h) → ((h : RowValue) → Contains rows h → Seen h) → BestIn Seen addr now best → IsBestOf rows addr now best
 best_of_all Seen rows addr now None there back none = λ h held. none h (back h held)
 best_of_all Seen rows addr now (Some b) there back is = record {
   held = there b is.held;
@@ -122,9 +122,9 @@ best_of_all Seen rows addr now (Some b) there back is = record {
   most = λ other held may. is.most other (back other held) may;
 }
 
-module _ {R : Type 0} (view : R → Holding) (rows seen : List Holding) (addr : Addr) (now : ℕ) (result : Option R) (same : seen ≡ rows) (best : IsBestOf seen addr now (option_map view result)) where
+module _ {R : Type 0} (view : R → RowValue) (rows seen : List RowValue) (addr : Addr) (now : ℕ) (result : Option R) (same : seen ≡ rows) (best : IsBestOf seen addr now (option_map view result)) where
   of_rows : (found : Option R) → result ≡ found → IsBestOf rows addr now (option_map view found)
-  of_rows found is = subst (λ (o : Option R). IsBestOf rows addr now (option_map view o)) is (subst (λ (l : List Holding). IsBestOf l addr now (option_map view result)) same best)
+  of_rows found is = subst (λ (o : Option R). IsBestOf rows addr now (option_map view o)) is (subst (λ (l : List RowValue). IsBestOf l addr now (option_map view result)) same best)
 
   -- the row that was found among equal rows is the best
   pub best_found : (row : R) → result ≡ Some row → IsBest rows addr now (view row)
@@ -135,10 +135,10 @@ module _ {R : Type 0} (view : R → Holding) (rows seen : List Holding) (addr : 
   none_found is = of_rows None is
 
 -- rows neither of which is above the other tie
-tie_case : (a b : Holding) (o : Ordering) → rank_cmp a b ≡ o → o ≢ Greater → rank_cmp b a ≢ Greater → o ≡ Equal
+tie_case : (a b : RowValue) (o : Ordering) → rank_cmp a b ≡ o → o ≢ Greater → rank_cmp b a ≢ Greater → o ≡ Equal
 tie_case a b Less is not_above not_below = absurd (not_below (rank_total.antisymm b a ∙ ap ordering_reverse is))
 tie_case a b Equal is not_above not_below = refl
 tie_case a b Greater is not_above not_below = absurd (not_above refl)
 
-pub ranks_tie : (a b : Holding) → rank_cmp a b ≢ Greater → rank_cmp b a ≢ Greater → rank_cmp a b ≡ Equal
+pub ranks_tie : (a b : RowValue) → rank_cmp a b ≢ Greater → rank_cmp b a ≢ Greater → rank_cmp a b ≡ Equal
 ranks_tie a b not_above not_below = tie_case a b (rank_cmp a b) refl not_above not_below

@@ -12,24 +12,24 @@ use Rattle.std.proofs.lemmas.List.Elements.{All-contains}
 use Rattle.lisp_records.proofs.DatabaseLaws.{block_eq-Decides}
 use Rattle.lisp_records.specs.declared.address.Addr.{Addr}
 use Rattle.lisp_records.specs.declared.address.Addr.TheVariants.{V4, V6}
-use Rattle.lisp_records.specs.Address.{Block, IsBlock, addr_eq, block_eq, block_cmp, holds, cleared, max_len}
+use Rattle.lisp_records.specs.Address.{PrefixValue, IsPrefix, addr_eq, prefix_eq, prefix_cmp, holds, cleared, max_len}
 use Rattle.lisp_records.specs.Router.{router_cmp}
-use Rattle.lisp_records.specs.Row.{Holding, is_alive}
+use Rattle.lisp_records.specs.Row.{RowValue, is_alive}
 use Rattle.lisp_lookup.specs.declared.probe.Probe.TheVariants.{Prefix}
 use Rattle.lisp_lookup.specs.Answer.{may_answer, rank_cmp, IsBest, NoneAnswers, IsBestOf}
-use Rattle.lisp_lookup.specs.Index.{prefix_cmp, row_at_place, IsBound, IsIndex}
+use Rattle.lisp_lookup.specs.Index.{row_prefix_cmp, row_at_place, IsBound, IsIndex}
 use Rattle.lisp_lookup.proofs.AnswerLaws.{less, BestIn, best_of_all}
 use Rattle.lisp_lookup.proofs.IndexLaws.{number_at, itself}
 use Rattle.lisp_lookup.proofs.Orders.{block_total, same_block}
 use Rattle.lisp_lookup.proofs.TableLaws.{filtered_holds, filter_holds}
 
 -- a row that was looked at
-abbrev pub Seen : List Holding → List ℕ → ℕ → ℕ → Holding → Type 0
+abbrev pub Seen : List RowValue → List ℕ → ℕ → ℕ → RowValue → Type 0
 Seen rows numbers first upto h = (k : ℕ) × (first ≤ k) × (k < upto) × (row_at_place rows numbers k h ≡ h)
 
 -- the rows of a prefix
-abbrev pub of_prefix : List Holding → Block → List Holding
-of_prefix rows eid = filter (λ h. block_eq h.mapping.eid eid) rows
+abbrev pub of_prefix : List RowValue → PrefixValue → List RowValue
+of_prefix rows eid = filter (λ h. prefix_eq h.mapping.eid eid) rows
 
 -- the places up to an end are within a list that ends there, and none is behind them
 pub within_end : (first place end long : ℕ) → end ≡ long → first ≤ long → (first ≤ end → place ≤ end) → place ≤ long
@@ -38,47 +38,47 @@ within_end first place end long is low upto = omega (arith, is, upto (omega (ari
 pub past_end : {P : Type 0} (k place end long : ℕ) → end ≡ long → end ≤ place → place ≤ k → k < long → P
 past_end k place end long is done low lt = absurd (omega (arith, is, done, low, lt))
 
-module _ {A : Type 0} (rows : List Holding) (numbers : List ℕ) (eid : Block) (first : ℕ) (index : IsIndex prefix_cmp rows numbers) (bound : IsBound {A = A} (Prefix eid) rows numbers first) where
+module _ {A : Type 0} (rows : List RowValue) (numbers : List ℕ) (eid : PrefixValue) (first : ℕ) (index : IsIndex row_prefix_cmp rows numbers) (bound : IsBound {A = A} (Prefix eid) rows numbers first) where
   -- no row before the first has the prefix
-  before_first : (k : ℕ) (d : Holding) → k < first → (row_at_place rows numbers k d).mapping.eid ≢ eid
-  before_first k d lt same = absurd (let clash : ◌≡◌ {A = Ordering} Less Equal = sym (less (block_cmp (row_at_place rows numbers k d).mapping.eid eid) (bound.before k d lt)) ∙ ap (λ (b : Block). block_cmp b eid) same ∙ itself block_cmp block_total eid in cc)
+  before_first : (k : ℕ) (d : RowValue) → k < first → (row_at_place rows numbers k d).mapping.eid ≢ eid
+  before_first k d lt same = absurd (let clash : ◌≡◌ {A = Ordering} Less Equal = sym (less (prefix_cmp (row_at_place rows numbers k d).mapping.eid eid) (bound.before k d lt)) ∙ ap (λ (b : PrefixValue). prefix_cmp b eid) same ∙ itself prefix_cmp block_total eid in cc)
 
-  later_case : (a b : Block) (one two : Ordering) → block_cmp a b ≡ one → ordering_then one two ≡ Less → block_cmp a b ≢ Greater
+  later_case : (a b : PrefixValue) (one two : Ordering) → prefix_cmp a b ≡ one → ordering_then one two ≡ Less → prefix_cmp a b ≢ Greater
   later_case a b Less two is up above = absurd cc
   later_case a b Equal two is up above = absurd cc
   later_case a b Greater two is up above = absurd cc
 
-  turned_case : (a : Block) (o : Ordering) → block_cmp a eid ≡ o → is_lt o ≡ false → a ≢ eid → o ≢ Equal → block_cmp a eid ≡ Greater
+  turned_case : (a : PrefixValue) (o : Ordering) → prefix_cmp a eid ≡ o → is_lt o ≡ false → a ≢ eid → o ≢ Equal → prefix_cmp a eid ≡ Greater
   turned_case a Less is low differ no_tie = absurd cc
   turned_case a Equal is low differ no_tie = absurd (no_tie refl)
   turned_case a Greater is low differ no_tie = is
 
   -- nor has one behind a row of another prefix
-  pub behind : (p : ℕ) (x : Holding) → first ≤ p → p < length numbers → x ≡ row_at_place rows numbers p x → x.mapping.eid ≢ eid → (k : ℕ) (d : Holding) → p ≤ k → k < length numbers → (row_at_place rows numbers k d).mapping.eid ≢ eid
+  pub behind : (p : ℕ) (x : RowValue) → first ≤ p → p < length numbers → x ≡ row_at_place rows numbers p x → x.mapping.eid ≢ eid → (k : ℕ) (d : RowValue) → p ≤ k → k < length numbers → (row_at_place rows numbers k d).mapping.eid ≢ eid
   behind p x le lt read differ k d low within same = either (cases_eq k p)
     where
-      known : (e : Holding) → x ≡ row_at_place rows numbers p e
+      known : (e : RowValue) → x ≡ row_at_place rows numbers p e
       known = get_or_read rows (slice_index numbers p) x (index.rises.below p lt) read
 
-      above : block_cmp x.mapping.eid eid ≡ Greater
-      above = turned_case x.mapping.eid (block_cmp x.mapping.eid eid) refl (ap (λ (h : Holding). is_lt (block_cmp h.mapping.eid eid)) read ∙ bound.after p x le lt) differ (λ tie. differ (same_block x.mapping.eid eid tie))
+      above : prefix_cmp x.mapping.eid eid ≡ Greater
+      above = turned_case x.mapping.eid (prefix_cmp x.mapping.eid eid) refl (ap (λ (h : RowValue). is_lt (prefix_cmp h.mapping.eid eid)) read ∙ bound.after p x le lt) differ (λ tie. differ (same_block x.mapping.eid eid tie))
 
       either : (k ≡ p) ⊎ (k ≢ p) → ⊥
-      either (inl at) = differ (ap (λ (h : Holding). h.mapping.eid) (known d) ∙ ap (λ (j : ℕ). (row_at_place rows numbers j d).mapping.eid) (sym at) ∙ same)
+      either (inl at) = differ (ap (λ (h : RowValue). h.mapping.eid) (known d) ∙ ap (λ (j : ℕ). (row_at_place rows numbers j d).mapping.eid) (sym at) ∙ same)
       either (inr off) =
           let rising = index.rises.rising p k d (omega (arith, low, off)) within in
           let at_k = row_at_place rows numbers k d in
           let at_p = row_at_place rows numbers p d in
-          later_case at_p.mapping.eid at_k.mapping.eid (block_cmp at_p.mapping.eid at_k.mapping.eid) (router_cmp at_p.router at_k.router) refl rising (ap (λ (h : Holding). block_cmp h.mapping.eid at_k.mapping.eid) (sym (known d)) ∙ ap (block_cmp x.mapping.eid) same ∙ above)
+          later_case at_p.mapping.eid at_k.mapping.eid (prefix_cmp at_p.mapping.eid at_k.mapping.eid) (router_cmp at_p.router at_k.router) refl rising (ap (λ (h : RowValue). prefix_cmp h.mapping.eid at_k.mapping.eid) (sym (known d)) ∙ ap (prefix_cmp x.mapping.eid) same ∙ above)
 
   -- the rows that were looked at are those of the prefix
-  module _ (upto : ℕ) (within : upto ≤ length numbers) (same : (k : ℕ) (d : Holding) → first ≤ k → k < upto → (row_at_place rows numbers k d).mapping.eid ≡ eid) (others : (k : ℕ) (d : Holding) → upto ≤ k → k < length numbers → (row_at_place rows numbers k d).mapping.eid ≢ eid) where
-    seen_held : (h : Holding) → Seen rows numbers first upto h → Contains (of_prefix rows eid) h
-    seen_held h (k, low, lt, is) = filter_holds (λ x. block_eq x.mapping.eid eid) rows h (slice_index numbers k, index.rises.below k (omega (arith, lt, within)), is) ((block_eq-Decides h.mapping.eid eid).1 (ap (λ (x : Holding). x.mapping.eid) (sym is) ∙ same k h low lt))
+  module _ (upto : ℕ) (within : upto ≤ length numbers) (same : (k : ℕ) (d : RowValue) → first ≤ k → k < upto → (row_at_place rows numbers k d).mapping.eid ≡ eid) (others : (k : ℕ) (d : RowValue) → upto ≤ k → k < length numbers → (row_at_place rows numbers k d).mapping.eid ≢ eid) where
+    seen_held : (h : RowValue) → Seen rows numbers first upto h → Contains (of_prefix rows eid) h
+    seen_held h (k, low, lt, is) = filter_holds (λ x. prefix_eq x.mapping.eid eid) rows h (slice_index numbers k, index.rises.below k (omega (arith, lt, within)), is) ((block_eq-Decides h.mapping.eid eid).1 (ap (λ (x : RowValue). x.mapping.eid) (sym is) ∙ same k h low lt))
 
-    held_seen : (h : Holding) → Contains (of_prefix rows eid) h → Seen rows numbers first upto h
+    held_seen : (h : RowValue) → Contains (of_prefix rows eid) h → Seen rows numbers first upto h
     held_seen h held =
-        let was = filtered_holds (λ x. block_eq x.mapping.eid eid) rows h held in
+        let was = filtered_holds (λ x. prefix_eq x.mapping.eid eid) rows h held in
         let own : h.mapping.eid ≡ eid = (block_eq-Decides h.mapping.eid eid).0 was.1 in
         place was.0 own
       where
@@ -87,21 +87,21 @@ module _ {A : Type 0} (rows : List Holding) (numbers : List ℕ) (eid : Block) (
             let (k, lt_k, at) = index.each n lt in
             let named = number_at numbers k n lt_k at in
             let here : row_at_place rows numbers k h ≡ h = ap (λ (m : ℕ). slice_index_or rows m h) named ∙ is in
-            let its : (row_at_place rows numbers k h).mapping.eid ≡ eid = ap (λ (x : Holding). x.mapping.eid) here ∙ own in
+            let its : (row_at_place rows numbers k h).mapping.eid ≡ eid = ap (λ (x : RowValue). x.mapping.eid) here ∙ own in
             let not_before : k < first → ⊥ = λ sooner. before_first k h sooner its in
             let not_behind : upto ≤ k → ⊥ = λ later. others k h later lt_k its in
             (k, omega (arith, not_before), omega (arith, not_behind), here)
 
     -- so the best of them is the best of the prefix
-    pub best_seen : (addr : Addr) (now : ℕ) (best : Option Holding) → BestIn (Seen rows numbers first upto) addr now best → IsBestOf (of_prefix rows eid) addr now best
+    pub best_seen : (addr : Addr) (now : ℕ) (best : Option RowValue) → BestIn (Seen rows numbers first upto) addr now best → IsBestOf (of_prefix rows eid) addr now best
     best_seen addr now best is = best_of_all (Seen rows numbers first upto) (of_prefix rows eid) addr now best seen_held held_seen is
 
 -- the prefix that an address has with a mask length
-abbrev pub block_of : Addr → ℕ → Block
+abbrev pub block_of : Addr → ℕ → PrefixValue
 block_of addr mask_len = record { addr = cleared addr mask_len; mask_len = mask_len }
 
 -- a row that may answer for an address has the prefix that the address has with its mask length
-pub its_block : (h : Holding) (addr : Addr) (now : ℕ) → may_answer addr now h ≡ true → block_of addr h.mapping.eid.mask_len ≡ h.mapping.eid
+pub its_block : (h : RowValue) (addr : Addr) (now : ℕ) → may_answer addr now h ≡ true → block_of addr h.mapping.eid.mask_len ≡ h.mapping.eid
 its_block h addr now may =
     let both = and_parts (is_alive h now) (holds h.mapping.eid addr) may in
     let length = h.mapping.eid.mask_len in
@@ -112,85 +112,85 @@ same_family (V4 bytes) mask_len = refl
 same_family (V6 bytes) mask_len = refl
 
 -- and its mask fits the address
-pub its_length : (h : Holding) (addr : Addr) (now : ℕ) → may_answer addr now h ≡ true → IsBlock h.mapping.eid → h.mapping.eid.mask_len ≤ max_len addr
-its_length h addr now may block = omega (arith, block.0, same_family addr h.mapping.eid.mask_len, ap (λ (b : Block). max_len b.addr) (its_block h addr now may))
+pub its_length : (h : RowValue) (addr : Addr) (now : ℕ) → may_answer addr now h ≡ true → IsPrefix h.mapping.eid → h.mapping.eid.mask_len ≤ max_len addr
+its_length h addr now may block = omega (arith, block.0, same_family addr h.mapping.eid.mask_len, ap (λ (b : PrefixValue). max_len b.addr) (its_block h addr now may))
 
 rank_case : (less : Bool) (one two three : Ordering) (rest : Ordering) → less ≡ true → ordering_then (ordering_then (ordering_then (cond less Less rest) one) two) three ≢ Greater
 rank_case true one two three rest is above = absurd cc
 rank_case false one two three rest is above = absurd (true≢false (sym is))
 
 -- a row of a shorter prefix is the less
-shorter_below : (a b : Holding) → a.mapping.eid.mask_len < b.mapping.eid.mask_len → rank_cmp a b ≢ Greater
+shorter_below : (a b : RowValue) → a.mapping.eid.mask_len < b.mapping.eid.mask_len → rank_cmp a b ≢ Greater
 shorter_below a b lt = rank_case (nat_lt a.mapping.eid.mask_len b.mapping.eid.mask_len) (bool_cmp a.proxy b.proxy) (nat_cmp a.accepted b.accepted) (router_cmp a.router b.router) (cond (a.mapping.eid.mask_len == b.mapping.eid.mask_len) Equal Greater) ((Decides-ltb a.mapping.eid.mask_len b.mapping.eid.mask_len).1 lt)
 
 -- no row with a longer mask may answer
-abbrev pub NoneLonger : List Holding → Addr → ℕ → ℕ → Type 0
-NoneLonger rows addr now longest = (h : Holding) → Contains rows h → may_answer addr now h ≡ true → h.mapping.eid.mask_len ≤ longest
+abbrev pub NoneLonger : List RowValue → Addr → ℕ → ℕ → Type 0
+NoneLonger rows addr now longest = (h : RowValue) → Contains rows h → may_answer addr now h ≡ true → h.mapping.eid.mask_len ≤ longest
 
-pub none_longer : (rows : List Holding) (addr : Addr) (now : ℕ) → All (λ h. IsBlock h.mapping.eid) rows → NoneLonger rows addr now (max_len addr)
-none_longer rows addr now blocks h held may = its_length h addr now may (All-contains (λ h. IsBlock h.mapping.eid) rows h blocks held)
+pub none_longer : (rows : List RowValue) (addr : Addr) (now : ℕ) → All (λ h. IsPrefix h.mapping.eid) rows → NoneLonger rows addr now (max_len addr)
+none_longer rows addr now blocks h held may = its_length h addr now may (All-contains (λ h. IsPrefix h.mapping.eid) rows h blocks held)
 
-module _ (rows : List Holding) (addr : Addr) (now mask_len : ℕ) (longest : NoneLonger rows addr now mask_len) where
-  in_prefix : (h : Holding) → Contains rows h → may_answer addr now h ≡ true → h.mapping.eid.mask_len ≡ mask_len → Contains (of_prefix rows (block_of addr mask_len)) h
-  in_prefix h held may long = filter_holds (λ x. block_eq x.mapping.eid (block_of addr mask_len)) rows h held ((block_eq-Decides h.mapping.eid (block_of addr mask_len)).1 (sym (its_block h addr now may) ∙ ap (block_of addr) long))
+module _ (rows : List RowValue) (addr : Addr) (now mask_len : ℕ) (longest : NoneLonger rows addr now mask_len) where
+  in_prefix : (h : RowValue) → Contains rows h → may_answer addr now h ≡ true → h.mapping.eid.mask_len ≡ mask_len → Contains (of_prefix rows (block_of addr mask_len)) h
+  in_prefix h held may long = filter_holds (λ x. prefix_eq x.mapping.eid (block_of addr mask_len)) rows h held ((block_eq-Decides h.mapping.eid (block_of addr mask_len)).1 (sym (its_block h addr now may) ∙ ap (block_of addr) long))
 
   -- the best of the rows of the longest prefix that may answer is the best
-  pub best_longest : (h : Holding) → IsBest (of_prefix rows (block_of addr mask_len)) addr now h → IsBest rows addr now h
+  pub best_longest : (h : RowValue) → IsBest (of_prefix rows (block_of addr mask_len)) addr now h → IsBest rows addr now h
   best_longest h is = record {
     held = was.0;
     may = is.may;
     most = λ other held may. either other held may (cases_eq other.mapping.eid.mask_len mask_len);
   }
     where
-      was : Contains rows h × (block_eq h.mapping.eid (block_of addr mask_len) ≡ true)
-      was = filtered_holds (λ x. block_eq x.mapping.eid (block_of addr mask_len)) rows h is.held
+      was : Contains rows h × (prefix_eq h.mapping.eid (block_of addr mask_len) ≡ true)
+      was = filtered_holds (λ x. prefix_eq x.mapping.eid (block_of addr mask_len)) rows h is.held
 
       long : h.mapping.eid.mask_len ≡ mask_len
-      long = ap (λ (b : Block). b.mask_len) ((block_eq-Decides h.mapping.eid (block_of addr mask_len)).0 was.1)
+      long = ap (λ (b : PrefixValue). b.mask_len) ((block_eq-Decides h.mapping.eid (block_of addr mask_len)).0 was.1)
 
-      either : (other : Holding) → Contains rows other → may_answer addr now other ≡ true → (other.mapping.eid.mask_len ≡ mask_len) ⊎ (other.mapping.eid.mask_len ≢ mask_len) → rank_cmp other h ≢ Greater
+      either : (other : RowValue) → Contains rows other → may_answer addr now other ≡ true → (other.mapping.eid.mask_len ≡ mask_len) ⊎ (other.mapping.eid.mask_len ≢ mask_len) → rank_cmp other h ≢ Greater
       either other held may (inl same) = is.most other (in_prefix other held may same) may
       either other held may (inr off) = shorter_below other h (omega (arith, long, off, longest other held may))
 
   -- where none of them may answer, no row with a mask of their length may
-  pub none_longest : NoneAnswers (of_prefix rows (block_of addr mask_len)) addr now → (h : Holding) → Contains rows h → may_answer addr now h ≡ true → h.mapping.eid.mask_len < mask_len
+  pub none_longest : NoneAnswers (of_prefix rows (block_of addr mask_len)) addr now → (h : RowValue) → Contains rows h → may_answer addr now h ≡ true → h.mapping.eid.mask_len < mask_len
   none_longest none h held may =
       let other : h.mapping.eid.mask_len ≢ mask_len = λ same. true≢false (sym may ∙ none h (in_prefix h held may same)) in
       omega (arith, other, longest h held may)
 
 -- one place more was looked at
-pub seen_more : (rows : List Holding) (numbers : List ℕ) (first place : ℕ) (h : Holding) → Seen rows numbers first place h → Seen rows numbers first (place + 1) h
+pub seen_more : (rows : List RowValue) (numbers : List ℕ) (first place : ℕ) (h : RowValue) → Seen rows numbers first place h → Seen rows numbers first (place + 1) h
 seen_more rows numbers first place h (k, low, lt, is) = (k, low, omega (arith, lt), is)
 
-pub seen_last : (rows : List Holding) (numbers : List ℕ) (first place : ℕ) (x : Holding) → first ≤ place → x ≡ row_at_place rows numbers place x → Seen rows numbers first (place + 1) x
+pub seen_last : (rows : List RowValue) (numbers : List ℕ) (first place : ℕ) (x : RowValue) → first ≤ place → x ≡ row_at_place rows numbers place x → Seen rows numbers first (place + 1) x
 seen_last rows numbers first place x low read = (place, low, omega arith, sym read)
 
-pub seen_splits : (rows : List Holding) (numbers : List ℕ) (first place : ℕ) (x : Holding) → ((d : Holding) → x ≡ row_at_place rows numbers place d) → (h : Holding) → Seen rows numbers first (place + 1) h → Seen rows numbers first place h ⊎ (x ≡ h)
+pub seen_splits : (rows : List RowValue) (numbers : List ℕ) (first place : ℕ) (x : RowValue) → ((d : RowValue) → x ≡ row_at_place rows numbers place d) → (h : RowValue) → Seen rows numbers first (place + 1) h → Seen rows numbers first place h ⊎ (x ≡ h)
 seen_splits rows numbers first place x read h (k, low, lt, is) = either (cases_eq k place)
   where
     either : (k ≡ place) ⊎ (k ≢ place) → Seen rows numbers first place h ⊎ (x ≡ h)
     either (inl at) = inr (read h ∙ ap (λ (j : ℕ). row_at_place rows numbers j h) (sym at) ∙ is)
     either (inr off) = inl (k, low, omega (arith, lt, off), is)
 
-module _ {R : Type 0} (view : R → Holding) (rows : List Holding) (addr : Addr) (now mask_len : ℕ) (longest : NoneLonger rows addr now mask_len) (eid : Block) (named : eid ≡ block_of addr mask_len) where
+module _ {R : Type 0} (view : R → RowValue) (rows : List RowValue) (addr : Addr) (now mask_len : ℕ) (longest : NoneLonger rows addr now mask_len) (eid : PrefixValue) (named : eid ≡ block_of addr mask_len) where
   -- what was found of the longest prefix is the best
   pub found_longest : (found : Option R) → IsBestOf (of_prefix rows eid) addr now (option_map view found) → is_some found ≡ true → IsBestOf rows addr now (option_map view found)
   found_longest None is some = absurd cc
-  found_longest (Some x) is some = best_longest rows addr now mask_len longest (view x) (subst (λ (b : Block). IsBest (of_prefix rows b) addr now (view x)) named is)
+  found_longest (Some x) is some = best_longest rows addr now mask_len longest (view x) (subst (λ (b : PrefixValue). IsBest (of_prefix rows b) addr now (view x)) named is)
 
   -- where nothing was found, the masks of those that may answer are shorter
-  pub missed_longest : (found : Option R) → IsBestOf (of_prefix rows eid) addr now (option_map view found) → is_some found ≡ false → (h : Holding) → Contains rows h → may_answer addr now h ≡ true → h.mapping.eid.mask_len < mask_len
-  missed_longest None is none = none_longest rows addr now mask_len longest (subst (λ (b : Block). NoneAnswers (of_prefix rows b) addr now) named is)
+  pub missed_longest : (found : Option R) → IsBestOf (of_prefix rows eid) addr now (option_map view found) → is_some found ≡ false → (h : RowValue) → Contains rows h → may_answer addr now h ≡ true → h.mapping.eid.mask_len < mask_len
+  missed_longest None is none = none_longest rows addr now mask_len longest (subst (λ (b : PrefixValue). NoneAnswers (of_prefix rows b) addr now) named is)
   missed_longest (Some x) is none = absurd cc
 
 -- each row that was looked at is of the prefix, and so is the next one
-pub same_more : (rows : List Holding) (numbers : List ℕ) (eid : Block) (first place : ℕ) (x : Holding) → ((d : Holding) → x ≡ row_at_place rows numbers place d) → block_eq x.mapping.eid eid ≡ true → ((k : ℕ) (d : Holding) → first ≤ k → k < place → (row_at_place rows numbers k d).mapping.eid ≡ eid) → (k : ℕ) (d : Holding) → first ≤ k → k < place + 1 → (row_at_place rows numbers k d).mapping.eid ≡ eid
+pub same_more : (rows : List RowValue) (numbers : List ℕ) (eid : PrefixValue) (first place : ℕ) (x : RowValue) → ((d : RowValue) → x ≡ row_at_place rows numbers place d) → prefix_eq x.mapping.eid eid ≡ true → ((k : ℕ) (d : RowValue) → first ≤ k → k < place → (row_at_place rows numbers k d).mapping.eid ≡ eid) → (k : ℕ) (d : RowValue) → first ≤ k → k < place + 1 → (row_at_place rows numbers k d).mapping.eid ≡ eid
 same_more rows numbers eid first place x read own same k d low lt = either (cases_eq k place)
   where
     either : (k ≡ place) ⊎ (k ≢ place) → (row_at_place rows numbers k d).mapping.eid ≡ eid
-    either (inl at) = ap (λ (j : ℕ). (row_at_place rows numbers j d).mapping.eid) at ∙ ap (λ (h : Holding). h.mapping.eid) (sym (read d)) ∙ (block_eq-Decides x.mapping.eid eid).0 own
+    either (inl at) = ap (λ (j : ℕ). (row_at_place rows numbers j d).mapping.eid) at ∙ ap (λ (h : RowValue). h.mapping.eid) (sym (read d)) ∙ (block_eq-Decides x.mapping.eid eid).0 own
     either (inr off) = same k d low (omega (arith, lt, off))
 
 -- a row is of another prefix
-pub other_block : (a b : Block) → block_eq a b ≡ false → a ≢ b
+pub other_block : (a b : PrefixValue) → prefix_eq a b ≡ false → a ≢ b
 other_block a b other same = true≢false (sym ((block_eq-Decides a b).1 same) ∙ other)

@@ -7,26 +7,26 @@ use Rattle.std.specs.declared.cmp.Ordering.{Ordering}
 use Rattle.std.specs.declared.cmp.Ordering.TheVariants.{Less, Equal, Greater}
 use Rattle.std.proofs.lemmas.Bool.{cases_eq, cases_order}
 use Rattle.std.proofs.lemmas.Bool.Decides.{Decides-eqb, Decides-ltb}
-use Rattle.std.proofs.lemmas.List.{get_or_default}
+use Rattle.std.proofs.lemmas.List.{get_or_default, get_or-append-add, length-append}
 use Rattle.std.proofs.lemmas.List.Elements.{All-nil, All-push, All-contains, Contains-append_cases, Contains-append_right}
 use Rattle.std.proofs.lemmas.List.Sorted.{IsPermutation-refl, IsPermutation-sym, IsPermutation-pop_more, Contains-permutation}
 use Rattle.lisp_records.specs.declared.router.RouterId.{RouterId}
-use Rattle.lisp_records.specs.Address.{Block, block_cmp}
+use Rattle.lisp_records.specs.Address.{PrefixValue, prefix_cmp}
 use Rattle.lisp_records.specs.Router.{router_cmp}
 use Rattle.lisp_records.specs.Moment.{max_moment}
-use Rattle.lisp_records.specs.Row.{Holding, is_alive}
+use Rattle.lisp_records.specs.Row.{RowValue, is_alive}
 use Rattle.lisp_lookup.specs.Table.{is_row_of, row_key, row_at, OneEach, Expires}
-use Rattle.lisp_lookup.specs.Index.{deadline, prefix_cmp, deadline_cmp, row_at_place, IsIndex}
+use Rattle.lisp_lookup.specs.Index.{deadline, row_prefix_cmp, row_deadline_cmp, row_at_place, IsIndex}
 use Rattle.lisp_lookup.proofs.IndexLaws.{number_at, prefix_total, itself}
 use Rattle.lisp_policy.proofs.Found.{not_true}
-use Rattle.lisp_lookup.proofs.TableLaws.{has_key, found_own, found_holds, filtered_holds, filter_holds, alive_of, one_each_alive, expires}
+use Rattle.lisp_lookup.proofs.TableLaws.{has_key, differ_moved, found_own, found_holds, filtered_holds, filter_holds, alive_of, one_each_alive, expires}
 
 by_life : (accepted life now : ℕ) (none : Bool) → (life == 0) ≡ none → cond none 0 (min (accepted + life) (2 ^ 64 - 1)) ≤ now → now ≤ max_moment → nat_lt (now - accepted) life ≡ false
 by_life accepted life now true is le early = not_true (nat_lt (now - accepted) life) (λ less. (let nothing = (Decides-eqb life 0).0 is in omega (arith, nothing, (Decides-ltb (now - accepted) life).0 less)))
 by_life accepted life now false is le early = not_true (nat_lt (now - accepted) life) (λ less. omega (arith, le, early, (Decides-ltb (now - accepted) life).0 less))
 
 -- a row whose deadline has come is dead
-pub dead : (h : Holding) (now : ℕ) → deadline h ≤ now → now ≤ max_moment → is_alive h now ≡ false
+pub dead : (h : RowValue) (now : ℕ) → deadline h ≤ now → now ≤ max_moment → is_alive h now ≡ false
 dead h now le early = by_life h.accepted h.life now (h.life == 0) refl le early
 
 until : (accepted life now : ℕ) (none : Bool) → (life == 0) ≡ none → now < cond none 0 (min (accepted + life) (2 ^ 64 - 1)) → nat_lt (now - accepted) life ≡ true
@@ -34,7 +34,7 @@ until accepted life now true is lt = absurd (omega (arith, lt))
 until accepted life now false is lt = (Decides-ltb (now - accepted) life).1 (let some : life ≢ 0 = λ nothing. true≢false (sym ((Decides-eqb life 0).1 nothing) ∙ is) in omega (arith, lt, some))
 
 -- a row whose deadline hasn't come is alive
-pub alive : (h : Holding) (now : ℕ) → now < deadline h → is_alive h now ≡ true
+pub alive : (h : RowValue) (now : ℕ) → now < deadline h → is_alive h now ≡ true
 alive h now lt = until h.accepted h.life now (h.life == 0) refl lt
 
 number_case : (a b : ℕ) (less same : Bool) (second : Ordering) → nat_lt a b ≡ less → (a == b) ≡ same → ordering_then (cond less Less (cond same Equal Greater)) second ≡ Less → a ≤ b
@@ -45,12 +45,12 @@ number_case a b false false second is tie below = absurd cc
 number_le : (a b : ℕ) (second : Ordering) → ordering_then (nat_cmp a b) second ≡ Less → a ≤ b
 number_le a b second = number_case a b (nat_lt a b) (a == b) second refl refl
 
-module _ (rows : List Holding) (numbers : List ℕ) (index : IsIndex deadline_cmp rows numbers) (number : ℕ) (some : 0 < length numbers) (first : number ≡ slice_index_or numbers 0 number) where
+module _ (rows : List RowValue) (numbers : List ℕ) (index : IsIndex row_deadline_cmp rows numbers) (number : ℕ) (some : 0 < length numbers) (first : number ≡ slice_index_or numbers 0 number) where
   named : slice_index numbers 0 ≡ number
   named = number_at numbers 0 number some (sym first)
 
   -- no deadline is sooner than the first
-  sooner : (n : ℕ) (d : Holding) → n < length rows → deadline (slice_index_or rows number d) ≤ deadline (slice_index_or rows n d)
+  sooner : (n : ℕ) (d : RowValue) → n < length rows → deadline (slice_index_or rows number d) ≤ deadline (slice_index_or rows n d)
   sooner n d lt =
       let (k, lt_k, at) = index.each n lt in
       let is : slice_index numbers k ≡ n = number_at numbers k n lt_k at in
@@ -60,21 +60,21 @@ module _ (rows : List Holding) (numbers : List ℕ) (index : IsIndex deadline_cm
       either k lt_k is (inl at) = (let same : number ≡ n = sym named ∙ ap (λ (j : ℕ). slice_index numbers j) (sym at) ∙ is in omega (arith, ap (λ (m : ℕ). deadline (slice_index_or rows m d)) same))
       either k lt_k is (inr off) =
           let rising = index.rises.rising 0 k d (omega (arith, off)) lt_k in
-          let le = number_le (deadline (row_at_place rows numbers 0 d)) (deadline (row_at_place rows numbers k d)) (prefix_cmp (row_at_place rows numbers 0 d) (row_at_place rows numbers k d)) rising in
+          let le = number_le (deadline (row_at_place rows numbers 0 d)) (deadline (row_at_place rows numbers k d)) (row_prefix_cmp (row_at_place rows numbers 0 d) (row_at_place rows numbers k d)) rising in
           omega (arith, le, ap (λ (m : ℕ). deadline (slice_index_or rows m d)) named, ap (λ (m : ℕ). deadline (slice_index_or rows m d)) is)
 
   -- where the first by deadline is alive, each row is
-  pub all_alive : (now : ℕ) (x : Holding) → x ≡ slice_index_or rows number x → now < deadline x → All (λ h. is_alive h now ≡ true) rows
+  pub all_alive : (now : ℕ) (x : RowValue) → x ≡ slice_index_or rows number x → now < deadline x → All (λ h. is_alive h now ≡ true) rows
   all_alive now x read lt = λ n d within. alive (slice_index_or rows n d) now (omega (arith, lt, sooner n x within, ap deadline read, ap deadline (get_or_default rows n x d within)))
 
-abbrev pub key_prefix_cmp : RouterId × Block → RouterId × Block → Ordering
-key_prefix_cmp a b = ordering_then (block_cmp a.1 b.1) (router_cmp a.0 b.0)
+abbrev pub key_prefix_cmp : RouterId × PrefixValue → RouterId × PrefixValue → Ordering
+key_prefix_cmp a b = ordering_then (prefix_cmp a.1 b.1) (router_cmp a.0 b.0)
 
-pub same_tie : (a b : Holding) → row_key a ≡ row_key b → prefix_cmp a b ≡ Equal
-same_tie a b alike = subst (λ (k : RouterId × Block). key_prefix_cmp (row_key a) k ≡ Equal) alike (itself prefix_cmp prefix_total a)
+pub same_tie : (a b : RowValue) → row_key a ≡ row_key b → row_prefix_cmp a b ≡ Equal
+same_tie a b alike = subst (λ (k : RouterId × PrefixValue). key_prefix_cmp (row_key a) k ≡ Equal) alike (itself row_prefix_cmp prefix_total a)
 
 -- each row has its number, so no two rows are of one router and prefix
-pub one_each : (rows : List Holding) (numbers : List ℕ) → IsIndex prefix_cmp rows numbers → OneEach rows
+pub one_each : (rows : List RowValue) (numbers : List ℕ) → IsIndex row_prefix_cmp rows numbers → OneEach rows
 one_each rows numbers index i j d lt within same = apart (index.each i (omega (arith, lt, within))) (index.each j within)
   where
     below : (p q : ℕ) → p < q → q < length numbers → row_key (row_at_place rows numbers p d) ≡ row_key (row_at_place rows numbers q d) → ⊥
@@ -92,16 +92,16 @@ one_each rows numbers index i j d lt within same = apart (index.each i (omega (a
         either p q lt_p lt_q i_is j_is alike (inr (inl less)) = below p q less lt_q alike
         either p q lt_p lt_q i_is j_is alike (inr (inr more)) = below q p more lt_p (sym alike)
 
-row_found : (rows : List Holding) (router : RouterId) (eid : Block) (h : Holding) → row_at rows router eid ≡ Some h → Contains rows h × (is_row_of router eid h ≡ true)
+row_found : (rows : List RowValue) (router : RouterId) (eid : PrefixValue) (h : RowValue) → row_at rows router eid ≡ Some h → Contains rows h × (is_row_of router eid h ≡ true)
 unfolding row_at
 row_found rows router eid h e = found_holds (is_row_of router eid) rows h e
 
-own_row : (rows : List Holding) (router : RouterId) (eid : Block) (h : Holding) → OneEach rows → Contains rows h → is_row_of router eid h ≡ true → row_at rows router eid ≡ Some h
-own_row rows router eid h one held own = subst (λ (k : RouterId × Block). row_at rows k.0 k.1 ≡ Some h) ((has_key (router, eid) h).0 own) (found_own rows h one held)
+own_row : (rows : List RowValue) (router : RouterId) (eid : PrefixValue) (h : RowValue) → OneEach rows → Contains rows h → is_row_of router eid h ≡ true → row_at rows router eid ≡ Some h
+own_row rows router eid h one held own = subst (λ (k : RouterId × PrefixValue). row_at rows k.0 k.1 ≡ Some h) ((has_key (router, eid) h).0 own) (found_own rows h one held)
 
 -- equal rows in another order are found alike
-module _ (xs ys : List Holding) (one_x : OneEach xs) (one_y : OneEach ys) (there : (h : Holding) → Contains xs h → Contains ys h) (back : (h : Holding) → Contains ys h → Contains xs h) (router : RouterId) (eid : Block) where
-  by_case : (x y : Option Holding) → row_at xs router eid ≡ x → row_at ys router eid ≡ y → row_at xs router eid ≡ row_at ys router eid
+module _ (xs ys : List RowValue) (one_x : OneEach xs) (one_y : OneEach ys) (there : (h : RowValue) → Contains xs h → Contains ys h) (back : (h : RowValue) → Contains ys h → Contains xs h) (router : RouterId) (eid : PrefixValue) where
+  by_case : (x y : Option RowValue) → row_at xs router eid ≡ x → row_at ys router eid ≡ y → row_at xs router eid ≡ row_at ys router eid
   by_case (Some h) y e f = (let at = row_found xs router eid h e in e ∙ sym (own_row ys router eid h one_y (there h at.0) at.1))
   by_case None (Some h) e f = (let at = row_found ys router eid h f in own_row xs router eid h one_x (back h at.0) at.1 ∙ sym f)
   by_case None None e f = e ∙ sym f
@@ -110,13 +110,13 @@ module _ (xs ys : List Holding) (one_x : OneEach xs) (one_y : OneEach ys) (there
   found_alike = by_case (row_at xs router eid) (row_at ys router eid) refl refl
 
 -- dead rows were taken out, and the rest is alive
-pub expired : (old gone new : List Holding) (now : ℕ) → OneEach old → OneEach new → IsPermutation old (gone ++ new) → All (λ h. is_alive h now ≡ false) gone → All (λ h. is_alive h now ≡ true) new → Expires old new now
+pub expired : (old gone new : List RowValue) (now : ℕ) → OneEach old → OneEach new → IsPermutation old (gone ++ new) → All (λ h. is_alive h now ≡ false) gone → All (λ h. is_alive h now ≡ true) new → Expires old new now
 expired old gone new now one_old one_new moved dead_gone alive_new router eid = found_alike new (alive_of old now) one_new (one_each_alive old now one_old) there back router eid ∙ expires old now one_old router eid
   where
-    there : (h : Holding) → Contains new h → Contains (alive_of old now) h
+    there : (h : RowValue) → Contains new h → Contains (alive_of old now) h
     there h held = filter_holds (λ h. is_alive h now) old h (Contains-permutation (gone ++ new) old h (IsPermutation-sym old (gone ++ new) moved) (Contains-append_right gone new h held)) (All-contains (λ h. is_alive h now ≡ true) new h alive_new held)
 
-    back : (h : Holding) → Contains (alive_of old now) h → Contains new h
+    back : (h : RowValue) → Contains (alive_of old now) h → Contains new h
     back h held = either (Contains-append_cases gone new h (Contains-permutation old (gone ++ new) h moved was.0))
       where
         was : Contains old h × (is_alive h now ≡ true)
@@ -127,20 +127,27 @@ expired old gone new now one_old one_new moved dead_gone alive_new router eid = 
         either (inr stays) = stays
 
 -- rows that were taken out so far, each of them dead
-pub record Dropped (old new : List Holding) (now : ℕ) : Type 0 where
-  pub gone : List Holding
+pub record Dropped (old new : List RowValue) (now : ℕ) : Type 0 where
+  pub gone : List RowValue
   pub moved : IsPermutation old (gone ++ new)
   pub all_dead : All (λ h. is_alive h now ≡ false) gone
 
-pub dropped_none : (rows : List Holding) (now : ℕ) → Dropped rows rows now
+pub dropped_none : (rows : List RowValue) (now : ℕ) → Dropped rows rows now
 dropped_none rows now = record { gone = []; moved = IsPermutation-refl rows; all_dead = All-nil (λ h. is_alive h now ≡ false) }
 
-pub dropped_more : (old mid new : List Holding) (now : ℕ) (h : Holding) → Dropped old mid now → IsPermutation mid (h ∷ new) → is_alive h now ≡ false → Dropped old new now
+pub dropped_more : (old mid new : List RowValue) (now : ℕ) (h : RowValue) → Dropped old mid now → IsPermutation mid (h ∷ new) → is_alive h now ≡ false → Dropped old new now
 dropped_more old mid new now h so_far step is = record {
   gone = so_far.gone ++ h ∷ [];
   moved = IsPermutation-pop_more old so_far.gone mid new h so_far.moved step;
   all_dead = All-push (λ h. is_alive h now ≡ false) so_far.gone h so_far.all_dead is;
 }
 
-pub dropped_all : (old new : List Holding) (now : ℕ) → OneEach old → OneEach new → Dropped old new now → All (λ h. is_alive h now ≡ true) new → Expires old new now
-dropped_all old new now one_old one_new so_far rest = expired old so_far.gone new now one_old one_new so_far.moved so_far.all_dead rest
+-- so what is left has no two rows of one router and prefix, where the rows had none
+pub one_left : (old new : List RowValue) (now : ℕ) → OneEach old → Dropped old new now → OneEach new
+one_left old new now one so_far i j d lt within same =
+    let apart = differ_moved row_key old (so_far.gone ++ new) so_far.moved one in
+    let at = λ (k : ℕ). get_or-append-add so_far.gone new k d in
+    apart (length so_far.gone + i) (length so_far.gone + j) d (omega (arith, lt)) (omega (arith, within, length-append so_far.gone new)) (ap row_key (at i) ∙ same ∙ ap row_key (sym (at j)))
+
+pub dropped_all : (old new : List RowValue) (now : ℕ) → OneEach old → Dropped old new now → All (λ h. is_alive h now ≡ true) new → Expires old new now
+dropped_all old new now one so_far rest = expired old so_far.gone new now one (one_left old new now one so_far) so_far.moved so_far.all_dead rest

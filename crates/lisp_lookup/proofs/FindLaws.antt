@@ -4,13 +4,13 @@ use Rattle.std.proofs.lemmas.Bool.{cases_eq}
 use Rattle.std.proofs.lemmas.List.{get_or_read}
 use Rattle.std.proofs.lemmas.Nat.{pow-add}
 use Rattle.std.proofs.Math.Nat.{mul-le-mul_left}
-use Rattle.lisp_records.specs.Row.{Holding}
+use Rattle.lisp_records.specs.Row.{RowValue}
 use Rattle.lisp_lookup.specs.declared.probe.Probe.{Probe}
 use Rattle.lisp_policy.proofs.Found.{not_true}
 use Rattle.lisp_lookup.specs.Index.{is_before, row_at_place, Falls}
 
 -- a number that is read at a place is that of a row
-pub read_below : (rows : List Holding) (numbers : List ℕ) (p number : ℕ) → ((k : ℕ) → k < length numbers → slice_index numbers k < length rows) → p < length numbers → number ≡ slice_index_or numbers p number → number < length rows
+pub read_below : (rows : List RowValue) (numbers : List ℕ) (p number : ℕ) → ((k : ℕ) → k < length numbers → slice_index numbers k < length rows) → p < length numbers → number ≡ slice_index_or numbers p number → number < length rows
 read_below rows numbers p number below within read = subst (λ (n : ℕ). n < length rows) (sym (get_or_read numbers p number within read 0)) (below p within)
 
 -- looks made, rows left, rows in all
@@ -39,14 +39,14 @@ cost_look start steps ticked left next all is grown cost some halves =
     subst (λ (n : ℕ). Cost n next all) (sym looks) (cost_more (steps - start) left next all cost some halves)
 
 -- the row that is read at a place of an order
-pub row_looked : (rows : List Holding) (numbers : List ℕ) (p number : ℕ) (x : Holding) → ((k : ℕ) → k < length numbers → slice_index numbers k < length rows) → p < length numbers → number ≡ slice_index_or numbers p number → x ≡ slice_index_or rows number x → (d : Holding) → x ≡ row_at_place rows numbers p d
+pub row_looked : (rows : List RowValue) (numbers : List ℕ) (p number : ℕ) (x : RowValue) → ((k : ℕ) → k < length numbers → slice_index numbers k < length rows) → p < length numbers → number ≡ slice_index_or numbers p number → x ≡ slice_index_or rows number x → (d : RowValue) → x ≡ row_at_place rows numbers p d
 row_looked rows numbers p number x below within read at =
     let number_at = get_or_read numbers p number within read 0 in
     get_or_read rows (slice_index numbers p) x (below p within) (at ∙ ap (λ (n : ℕ). slice_index_or rows n x) number_at)
 
-module _ {A : Type 0} (probe : Probe A) (rows : List Holding) (numbers : List ℕ) (p : ℕ) (x : Holding) (within : p < length numbers) (falls : Falls probe rows numbers) (at_any : (d : Holding) → x ≡ row_at_place rows numbers p d) where
+module _ {A : Type 0} (probe : Probe A) (rows : List RowValue) (numbers : List ℕ) (p : ℕ) (x : RowValue) (within : p < length numbers) (falls : Falls probe rows numbers) (at_any : (d : RowValue) → x ≡ row_at_place rows numbers p d) where
   -- no row up to one that stands before what is sought does otherwise
-  pub before_too : is_before probe x ≡ true → (i : ℕ) (d : Holding) → i < p + 1 → is_before probe (row_at_place rows numbers i d) ≡ true
+  pub before_too : is_before probe x ≡ true → (i : ℕ) (d : RowValue) → i < p + 1 → is_before probe (row_at_place rows numbers i d) ≡ true
   before_too holds i d le = either (cases_eq i p)
     where
       either : (i ≡ p) ⊎ (i ≢ p) → is_before probe (row_at_place rows numbers i d) ≡ true
@@ -54,7 +54,7 @@ module _ {A : Type 0} (probe : Probe A) (rows : List Holding) (numbers : List �
       either (inr other) = falls i p d (omega (arith, le, other)) within (ap (is_before probe) (sym (at_any d)) ∙ holds)
 
   -- no row from one on that doesn't stand before what is sought does so
-  pub after_too : is_before probe x ≡ false → (i : ℕ) (d : Holding) → p ≤ i → i < length numbers → is_before probe (row_at_place rows numbers i d) ≡ false
+  pub after_too : is_before probe x ≡ false → (i : ℕ) (d : RowValue) → p ≤ i → i < length numbers → is_before probe (row_at_place rows numbers i d) ≡ false
   after_too fails i d le lt = either (cases_eq i p)
     where
       here : is_before probe (row_at_place rows numbers p d) ≡ false

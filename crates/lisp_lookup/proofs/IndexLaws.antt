@@ -12,15 +12,15 @@ use Rattle.std.proofs.lemmas.List.{get_or_read, get_or_default}
 use Rattle.std.proofs.lemmas.List.Edits.{insert_end, length-insert, length-remove, get_or-insert_below, get_or-insert_at, get_or-insert_above, get_or-remove_below, get_or-remove_above}
 use Rattle.std.proofs.lemmas.List.Sorted.{IsPermutation-insert, IsPermutation-remove, Contains-permutation}
 use Rattle.std.proofs.lemmas.Map.Lookups.{exact_pairs}
-use Rattle.lisp_records.specs.Address.{Block, block_cmp}
+use Rattle.lisp_records.specs.Address.{PrefixValue, prefix_cmp}
 use Rattle.lisp_records.specs.Router.{router_cmp}
-use Rattle.lisp_records.specs.Row.{Holding}
+use Rattle.lisp_records.specs.Row.{RowValue}
 use Rattle.lisp_lookup.specs.declared.order.Order.{Order}
 use Rattle.lisp_lookup.specs.declared.order.Order.TheVariants.{ByPrefix, ByDeadline}
 use Rattle.lisp_lookup.specs.declared.probe.Probe.{Probe}
 use Rattle.lisp_lookup.specs.declared.probe.Probe.TheVariants.{Prefix}
 use Rattle.lisp_lookup.specs.Table.{row_key}
-use Rattle.lisp_lookup.specs.Index.{deadline, prefix_cmp, deadline_cmp, order_cmp, is_before, row_at_place, Falls, IsBound, Rises, IsIndex, Indexed, Left, Entered, IsFresh}
+use Rattle.lisp_lookup.specs.Index.{deadline, row_prefix_cmp, row_deadline_cmp, order_cmp, is_before, row_at_place, Falls, IsBound, Rises, IsIndex, Indexed, IsTakenOut, IsPutIn, IsFresh}
 use Rattle.lisp_lookup.proofs.AnswerLaws.{less}
 use Rattle.lisp_lookup.proofs.Orders.{block_total, router_total, same_block, same_router}
 use Rattle.lisp_lookup.proofs.TableLaws.{less_from}
@@ -40,7 +40,7 @@ pub number_at : (numbers : List ℕ) (k n : ℕ) → k < length numbers → slic
 number_at numbers k n lt at = get_or_default numbers k 0 n lt ∙ at
 
 -- no rows
-none_index : (cmp : Holding → Holding → Ordering) (rows : List Holding) (numbers : List ℕ) → rows ≡ [] → numbers ≡ [] → IsIndex cmp rows numbers
+none_index : (cmp : RowValue → RowValue → Ordering) (rows : List RowValue) (numbers : List ℕ) → rows ≡ [] → numbers ≡ [] → IsIndex cmp rows numbers
 none_index cmp rows numbers no_rows none = record {
   rises = record {
     below = λ k lt. absurd (omega (arith, lt, ap length none));
@@ -49,27 +49,27 @@ none_index cmp rows numbers no_rows none = record {
   each = λ n lt. absurd (omega (arith, lt, ap length no_rows));
 }
 
-pub none_indexed : (rows : List Holding) (prefixes deadlines : List ℕ) → rows ≡ [] → prefixes ≡ [] → deadlines ≡ [] → Indexed rows prefixes deadlines
+pub none_indexed : (rows : List RowValue) (prefixes deadlines : List ℕ) → rows ≡ [] → prefixes ≡ [] → deadlines ≡ [] → Indexed rows prefixes deadlines
 none_indexed rows prefixes deadlines no_rows none_by_prefix none_by_deadline = record {
   eids = λ k d lt. absurd (omega (arith, lt, ap length no_rows));
-  by_prefix = none_index prefix_cmp rows prefixes no_rows none_by_prefix;
-  by_deadline = none_index deadline_cmp rows deadlines no_rows none_by_deadline;
+  by_prefix = none_index row_prefix_cmp rows prefixes no_rows none_by_prefix;
+  by_deadline = none_index row_deadline_cmp rows deadlines no_rows none_by_deadline;
 }
 
 -- equal lists
-pub indexed_same : {rows new_rows : List Holding} {prefixes new_prefixes deadlines new_deadlines : List ℕ} → new_rows ≡ rows → new_prefixes ≡ prefixes → new_deadlines ≡ deadlines → Indexed rows prefixes deadlines → Indexed new_rows new_prefixes new_deadlines
-indexed_same {rows} {new_rows} {prefixes} {new_prefixes} {deadlines} {new_deadlines} same_rows same_prefixes same_deadlines is = subst (λ (r : List Holding). Indexed r new_prefixes new_deadlines) (sym same_rows) (subst (λ (p : List ℕ). Indexed rows p new_deadlines) (sym same_prefixes) (subst (λ (d : List ℕ). Indexed rows prefixes d) (sym same_deadlines) is))
+pub indexed_same : {rows new_rows : List RowValue} {prefixes new_prefixes deadlines new_deadlines : List ℕ} → new_rows ≡ rows → new_prefixes ≡ prefixes → new_deadlines ≡ deadlines → Indexed rows prefixes deadlines → Indexed new_rows new_prefixes new_deadlines
+indexed_same {rows} {new_rows} {prefixes} {new_prefixes} {deadlines} {new_deadlines} same_rows same_prefixes same_deadlines is = subst (λ (r : List RowValue). Indexed r new_prefixes new_deadlines) (sym same_rows) (subst (λ (p : List ℕ). Indexed rows p new_deadlines) (sym same_prefixes) (subst (λ (d : List ℕ). Indexed rows prefixes d) (sym same_deadlines) is))
 
 -- a number that was read is that of a row
-pub number_within : (cmp : Holding → Holding → Ordering) (rows : List Holding) (numbers : List ℕ) (k number : ℕ) → Rises cmp rows numbers → k < length numbers → number ≡ slice_index_or numbers k number → number < length rows
+pub number_within : (cmp : RowValue → RowValue → Ordering) (rows : List RowValue) (numbers : List ℕ) (k number : ℕ) → Rises cmp rows numbers → k < length numbers → number ≡ slice_index_or numbers k number → number < length rows
 number_within cmp rows numbers k number rises lt read = omega (arith, number_at numbers k number lt (sym read), rises.below k lt)
 
 -- a row that was read by such a number
-pub row_read : (cmp : Holding → Holding → Ordering) (rows : List Holding) (numbers : List ℕ) (k number : ℕ) (x : Holding) → Rises cmp rows numbers → k < length numbers → number ≡ slice_index_or numbers k number → x ≡ slice_index_or rows number x → (d : Holding) → x ≡ row_at_place rows numbers k d
+pub row_read : (cmp : RowValue → RowValue → Ordering) (rows : List RowValue) (numbers : List ℕ) (k number : ℕ) (x : RowValue) → Rises cmp rows numbers → k < length numbers → number ≡ slice_index_or numbers k number → x ≡ slice_index_or rows number x → (d : RowValue) → x ≡ row_at_place rows numbers k d
 row_read cmp rows numbers k number x rises lt read at = get_or_read rows (slice_index numbers k) x (rises.below k lt) (at ∙ ap (λ (n : ℕ). slice_index_or rows n x) (sym (number_at numbers k number lt (sym read))))
 
 -- the first number is that of a row
-pub first_within : (cmp : Holding → Holding → Ordering) (rows : List Holding) (numbers : List ℕ) (number : ℕ) → Rises cmp rows numbers → 0 < length numbers → number ≡ slice_index_or numbers 0 number → number < length rows
+pub first_within : (cmp : RowValue → RowValue → Ordering) (rows : List RowValue) (numbers : List ℕ) (number : ℕ) → Rises cmp rows numbers → 0 < length numbers → number ≡ slice_index_or numbers 0 number → number < length rows
 first_within cmp rows numbers number = number_within cmp rows numbers 0 number
 
 -- what an edit took each place from
@@ -96,17 +96,17 @@ inserted_from xs place n k le = either (cases_order k place)
         let again : k ≡ (k - 1) + 1 = omega (arith, above) in
         inr (inr (above, ap (λ (j : ℕ). slice_index (insert xs place n) j) again ∙ get_or-insert_above xs place n 0 (k - 1) (omega (arith, above)) le))
 
-pub prefix_total : IsTotalOrder prefix_cmp
-prefix_total = then_total (on_total (λ (h : Holding). h.mapping.eid) block_total) (on_total (λ (h : Holding). h.router) router_total)
+pub prefix_total : IsTotalOrder row_prefix_cmp
+prefix_total = then_total (on_total (λ (h : RowValue). h.mapping.eid) block_total) (on_total (λ (h : RowValue). h.router) router_total)
 
 pub order_total : (order : Order) → IsTotalOrder (order_cmp order)
 order_total ByPrefix = prefix_total
 order_total ByDeadline = then_total (on_total deadline nat_cmp_total) prefix_total
 
 -- rows that tie are of one router and prefix
-prefix_tie : (a b : Holding) → prefix_cmp a b ≡ Equal → row_key a ≡ row_key b
+prefix_tie : (a b : RowValue) → row_prefix_cmp a b ≡ Equal → row_key a ≡ row_key b
 prefix_tie a b tie =
-    let parts = exact_pairs block_cmp router_cmp same_block same_router (a.mapping.eid, a.router) (b.mapping.eid, b.router) tie in
+    let parts = exact_pairs prefix_cmp router_cmp same_block same_router (a.mapping.eid, a.router) (b.mapping.eid, b.router) tie in
     λ i. ((parts i).1, (parts i).0)
 
 then_tie : (first second : Ordering) → ordering_then first second ≡ Equal → second ≡ Equal
@@ -114,9 +114,9 @@ then_tie Less second tie = absurd cc
 then_tie Equal second tie = tie
 then_tie Greater second tie = absurd cc
 
-pub order_tie : (order : Order) (a b : Holding) → order_cmp order a b ≡ Equal → row_key a ≡ row_key b
+pub order_tie : (order : Order) (a b : RowValue) → order_cmp order a b ≡ Equal → row_key a ≡ row_key b
 order_tie ByPrefix a b tie = prefix_tie a b tie
-order_tie ByDeadline a b tie = prefix_tie a b (then_tie (nat_cmp (deadline a) (deadline b)) (prefix_cmp a b) tie)
+order_tie ByDeadline a b tie = prefix_tie a b (then_tie (nat_cmp (deadline a) (deadline b)) (row_prefix_cmp a b) tie)
 
 not_ge : (o : Ordering) → is_ge o ≡ false → o ≡ Less
 not_ge Less before = refl
@@ -132,28 +132,28 @@ reverse_case Greater turned = absurd cc
 pub itself : {K : Type 0} (cmp : K → K → Ordering) (total : IsTotalOrder cmp) (x : K) → cmp x x ≡ Equal
 itself cmp total x = reverse_case (cmp x x) (total.antisymm x x)
 
-module _ (cmp : Holding → Holding → Ordering) (total : IsTotalOrder cmp) where
-  never : (x : Holding) → cmp x x ≢ Less
+module _ (cmp : RowValue → RowValue → Ordering) (total : IsTotalOrder cmp) where
+  never : (x : RowValue) → cmp x x ≢ Less
   never x below = absurd (let clash : ◌≡◌ {A = Ordering} Less Equal = sym below ∙ itself cmp total x in cc)
 
-  apart : (rows : List Holding) (numbers : List ℕ) (i j : ℕ) (d : Holding) → Rises cmp rows numbers → i < j → j < length numbers → slice_index numbers i ≢ slice_index numbers j
+  apart : (rows : List RowValue) (numbers : List ℕ) (i j : ℕ) (d : RowValue) → Rises cmp rows numbers → i < j → j < length numbers → slice_index numbers i ≢ slice_index numbers j
   apart rows numbers i j d rises lt within same = never (row_at_place rows numbers j d) (subst (λ (n : ℕ). cmp (slice_index_or rows n d) (row_at_place rows numbers j d) ≡ Less) same (rises.rising i j d lt within))
 
   -- a number stands at one place
-  pub one_place : (rows : List Holding) (numbers : List ℕ) (i j : ℕ) (d : Holding) → Rises cmp rows numbers → i < length numbers → j < length numbers → slice_index numbers i ≡ slice_index numbers j → i ≡ j
+  pub one_place : (rows : List RowValue) (numbers : List ℕ) (i j : ℕ) (d : RowValue) → Rises cmp rows numbers → i < length numbers → j < length numbers → slice_index numbers i ≡ slice_index numbers j → i ≡ j
   one_place rows numbers i j d rises lt_i lt_j same =
       let not_below : i < j → ⊥ = λ below. apart rows numbers i j d rises below lt_j same in
       let not_above : j < i → ⊥ = λ above. apart rows numbers j i d rises above lt_i (sym same) in
       omega arith
 
   -- numbers of the same rows
-  pub rises_same : (rows : List Holding) (numbers : List ℕ) (moved : List Holding) (renamed : List ℕ) → length renamed ≡ length numbers → ((k : ℕ) → k < length renamed → slice_index renamed k < length moved) → ((k : ℕ) (d : Holding) → k < length renamed → row_at_place moved renamed k d ≡ row_at_place rows numbers k d) → Rises cmp rows numbers → Rises cmp moved renamed
+  pub rises_same : (rows : List RowValue) (numbers : List ℕ) (moved : List RowValue) (renamed : List ℕ) → length renamed ≡ length numbers → ((k : ℕ) → k < length renamed → slice_index renamed k < length moved) → ((k : ℕ) (d : RowValue) → k < length renamed → row_at_place moved renamed k d ≡ row_at_place rows numbers k d) → Rises cmp rows numbers → Rises cmp moved renamed
   rises_same rows numbers moved renamed long below same rises = record {
     below = below;
-    rising = λ i j d lt within. (let is = rises.rising i j d lt (omega (arith, within, long)) in ap (λ (h : Holding). cmp h (row_at_place moved renamed j d)) (same i d (omega (arith, lt, within))) ∙ ap (λ (h : Holding). cmp (row_at_place rows numbers i d) h) (same j d within) ∙ is);
+    rising = λ i j d lt within. (let is = rises.rising i j d lt (omega (arith, within, long)) in ap (λ (h : RowValue). cmp h (row_at_place moved renamed j d)) (same i d (omega (arith, lt, within))) ∙ ap (λ (h : RowValue). cmp (row_at_place rows numbers i d) h) (same j d within) ∙ is);
   }
 
-  pub rises_remove : (rows : List Holding) (numbers : List ℕ) (place : ℕ) → place < length numbers → Rises cmp rows numbers → Rises cmp rows (remove numbers place)
+  pub rises_remove : (rows : List RowValue) (numbers : List ℕ) (place : ℕ) → place < length numbers → Rises cmp rows numbers → Rises cmp rows (remove numbers place)
   rises_remove rows numbers place lt rises = record {
     below = λ k within. (let from = removed_from numbers place k lt in subst (λ (n : ℕ). n < length rows) (sym from.2) (rises.below from.0 (omega (arith, from.1, within, length-remove numbers place lt))));
     rising = λ i j d before within.
@@ -162,13 +162,13 @@ module _ (cmp : Holding → Holding → Ordering) (total : IsTotalOrder cmp) whe
         ap (λ (n : ℕ). cmp (slice_index_or rows n d) (row_at_place rows (remove numbers place) j d)) a.2 ∙ ap (λ (n : ℕ). cmp (row_at_place rows numbers a.0 d) (slice_index_or rows n d)) b.2 ∙ rises.rising a.0 b.0 d (omega (arith, a.1, b.1, before)) (omega (arith, b.1, within, length-remove numbers place lt)));
   }
 
-  module _ (rows : List Holding) (numbers : List ℕ) (place n : ℕ) (le : place ≤ length numbers) (row : n < length rows) (below : (i : ℕ) (d : Holding) → i < place → cmp (row_at_place rows numbers i d) (slice_index_or rows n d) ≡ Less) (above : (i : ℕ) (d : Holding) → place ≤ i → i < length numbers → cmp (slice_index_or rows n d) (row_at_place rows numbers i d) ≡ Less) (rises : Rises cmp rows numbers) where
+  module _ (rows : List RowValue) (numbers : List ℕ) (place n : ℕ) (le : place ≤ length numbers) (row : n < length rows) (below : (i : ℕ) (d : RowValue) → i < place → cmp (row_at_place rows numbers i d) (slice_index_or rows n d) ≡ Less) (above : (i : ℕ) (d : RowValue) → place ≤ i → i < length numbers → cmp (slice_index_or rows n d) (row_at_place rows numbers i d) ≡ Less) (rises : Rises cmp rows numbers) where
     within_case : (k : ℕ) (got : ℕ) → k < length numbers + 1 → Makes numbers place n k got → got < length rows
     within_case k got lt (inl before) = subst (λ (m : ℕ). m < length rows) (sym before.1) (rises.below k (omega (arith, before.0, le)))
     within_case k got lt (inr (inl at)) = subst (λ (m : ℕ). m < length rows) (sym at.1) row
     within_case k got lt (inr (inr after)) = subst (λ (m : ℕ). m < length rows) (sym after.1) (rises.below (k - 1) (omega (arith, after.0, lt)))
 
-    pair_case : (i j a b : ℕ) (d : Holding) → i < j → j < length numbers + 1 → Makes numbers place n i a → Makes numbers place n j b → cmp (slice_index_or rows a d) (slice_index_or rows b d) ≡ Less
+    pair_case : (i j a b : ℕ) (d : RowValue) → i < j → j < length numbers + 1 → Makes numbers place n i a → Makes numbers place n j b → cmp (slice_index_or rows a d) (slice_index_or rows b d) ≡ Less
     pair_case i j a b d lt within first second = ap (λ (m : ℕ). cmp (slice_index_or rows m d) (slice_index_or rows b d)) (got first) ∙ ap (λ (m : ℕ). cmp (slice_index_or rows (number first) d) (slice_index_or rows m d)) (got second) ∙ pair first second
       where
         number : {k m : ℕ} → Makes numbers place n k m → ℕ
@@ -199,19 +199,19 @@ module _ (cmp : Holding → Holding → Ordering) (total : IsTotalOrder cmp) whe
     }
 
   -- a row is sought by its order
-  pub falls : (x : Holding) (rows : List Holding) (numbers : List ℕ) → Rises cmp rows numbers → (i j : ℕ) (d : Holding) → i < j → j < length numbers → is_lt (cmp (row_at_place rows numbers j d) x) ≡ true → is_lt (cmp (row_at_place rows numbers i d) x) ≡ true
+  pub falls : (x : RowValue) (rows : List RowValue) (numbers : List ℕ) → Rises cmp rows numbers → (i j : ℕ) (d : RowValue) → i < j → j < length numbers → is_lt (cmp (row_at_place rows numbers j d) x) ≡ true → is_lt (cmp (row_at_place rows numbers i d) x) ≡ true
   falls x rows numbers rises i j d lt within before = ap is_lt (total.trans (row_at_place rows numbers i d) (row_at_place rows numbers j d) x (rises.rising i j d lt within) (less (cmp (row_at_place rows numbers j d) x) before))
 
-  module _ (x : Holding) {A : Type 0} (probe : Probe A) (seeks : (h : Holding) → is_before probe h ≡ is_lt (cmp h x)) where
-    module _ (rows : List Holding) (numbers : List ℕ) (place : ℕ) (rises : Rises cmp rows numbers) (bound : IsBound probe rows numbers place) where
+  module _ (x : RowValue) {A : Type 0} (probe : Probe A) (seeks : (h : RowValue) → is_before probe h ≡ is_lt (cmp h x)) where
+    module _ (rows : List RowValue) (numbers : List ℕ) (place : ℕ) (rises : Rises cmp rows numbers) (bound : IsBound probe rows numbers place) where
       -- a row that ties with what is sought is found
       pub exact : (p : ℕ) → p < length numbers → cmp (row_at_place rows numbers p x) x ≡ Equal → place ≡ p
       exact p lt tie = decide (cases_order place p)
         where
-          at_p : Holding
+          at_p : RowValue
           at_p = row_at_place rows numbers p x
 
-          here : Holding
+          here : RowValue
           here = row_at_place rows numbers place x
 
           turned : cmp at_p here ≡ Greater → cmp here x ≡ Less
@@ -225,23 +225,23 @@ module _ (cmp : Holding → Holding → Ordering) (total : IsTotalOrder cmp) whe
               absurd (true≢false (sym before ∙ bound.after place x (omega arith) (omega (arith, sooner, lt))))
           decide (inr (inr later)) = absurd (true≢false (sym (bound.before p x later) ∙ seeks at_p ∙ ap is_lt tie))
 
-      pub gap_below : (i : ℕ) (d : Holding) → i < place → cmp (row_at_place rows numbers i d) x ≡ Less
+      pub gap_below : (i : ℕ) (d : RowValue) → i < place → cmp (row_at_place rows numbers i d) x ≡ Less
       gap_below i d lt = less (cmp (row_at_place rows numbers i d) x) (sym (seeks (row_at_place rows numbers i d)) ∙ bound.before i d lt)
 
-      pub gap_above : ((i : ℕ) (d : Holding) → i < length numbers → cmp x (row_at_place rows numbers i d) ≢ Equal) → (i : ℕ) (d : Holding) → place ≤ i → i < length numbers → cmp x (row_at_place rows numbers i d) ≡ Less
+      pub gap_above : ((i : ℕ) (d : RowValue) → i < length numbers → cmp x (row_at_place rows numbers i d) ≢ Equal) → (i : ℕ) (d : RowValue) → place ≤ i → i < length numbers → cmp x (row_at_place rows numbers i d) ≡ Less
       gap_above differ i d le lt = less_from (cmp x (row_at_place rows numbers i d)) (ap is_lt (sym (total.antisymm (row_at_place rows numbers i d) x)) ∙ sym (seeks (row_at_place rows numbers i d)) ∙ bound.after i d le lt) (differ i d lt)
 
-module _ (order : Order) (rows : List Holding) (numbers : List ℕ) (number : ℕ) (x : Holding) (rises : Rises (order_cmp order) rows numbers) where
+module _ (order : Order) (rows : List RowValue) (numbers : List ℕ) (number : ℕ) (x : RowValue) (rises : Rises (order_cmp order) rows numbers) where
   -- a number that is held is found
-  pub found_place : {A : Type 0} (probe : Probe A) (place : ℕ) → ((h : Holding) → is_before probe h ≡ is_lt (order_cmp order h x)) → IsBound probe rows numbers place → Contains numbers number → x ≡ slice_index_or rows number x → (place < length numbers) × (slice_index numbers place ≡ number)
+  pub found_place : {A : Type 0} (probe : Probe A) (place : ℕ) → ((h : RowValue) → is_before probe h ≡ is_lt (order_cmp order h x)) → IsBound probe rows numbers place → Contains numbers number → x ≡ slice_index_or rows number x → (place < length numbers) × (slice_index numbers place ≡ number)
   found_place probe place seeks bound (p, lt, at) read =
       let named = number_at numbers p number lt at in
-      let tie : order_cmp order (row_at_place rows numbers p x) x ≡ Equal = ap (λ (n : ℕ). order_cmp order (slice_index_or rows n x) x) named ∙ ap (λ (h : Holding). order_cmp order h x) (sym read) ∙ itself (order_cmp order) (order_total order) x in
+      let tie : order_cmp order (row_at_place rows numbers p x) x ≡ Equal = ap (λ (n : ℕ). order_cmp order (slice_index_or rows n x) x) named ∙ ap (λ (h : RowValue). order_cmp order h x) (sym read) ∙ itself (order_cmp order) (order_total order) x in
       let same = exact (order_cmp order) (order_total order) x probe seeks rows numbers place rises bound p lt tie in
       (omega (arith, same, lt), ap (λ (k : ℕ). slice_index numbers k) same ∙ named)
 
   -- no row ties with one that is of another router or prefix
-  no_tie : IsFresh rows numbers number → x ≡ slice_index_or rows number x → (i : ℕ) (d : Holding) → i < length numbers → order_cmp order x (row_at_place rows numbers i d) ≢ Equal
+  no_tie : IsFresh rows numbers number → x ≡ slice_index_or rows number x → (i : ℕ) (d : RowValue) → i < length numbers → order_cmp order x (row_at_place rows numbers i d) ≢ Equal
   no_tie fresh read i d lt tie =
       let same : row_at_place rows numbers i d ≡ row_at_place rows numbers i x = get_or_default rows (slice_index numbers i) d x (rises.below i lt) in
       fresh i x lt (ap row_key (sym same) ∙ sym (order_tie order x (row_at_place rows numbers i d) tie) ∙ ap row_key read)
@@ -250,7 +250,7 @@ module _ (order : Order) (rows : List Holding) (numbers : List ℕ) (number : �
   remaining place n (zero, lt, at) other = absurd (other (sym at))
   remaining place n (suc k, lt, at) other = (k, omega (arith, lt), at)
 
-  pub left_of : (place : ℕ) → place < length numbers → slice_index numbers place ≡ number → Left order rows numbers (remove numbers place) number
+  pub left_of : (place : ℕ) → place < length numbers → slice_index numbers place ≡ number → IsTakenOut order rows numbers (remove numbers place) number
   left_of place lt was = record {
     rises = rises_remove (order_cmp order) (order_total order) rows numbers place lt rises;
     others = λ n held other. remaining place n (Contains-permutation numbers (number ∷ remove numbers place) n (IsPermutation-remove numbers place number lt (sym was ∙ get_or_default numbers place 0 number lt)) held) other;
@@ -261,52 +261,52 @@ module _ (order : Order) (rows : List Holding) (numbers : List ℕ) (number : �
   }
 
   -- a number that is put between the lesser and the greater rows
-  module _ (place : ℕ) (within : place ≤ length numbers) (below : (i : ℕ) (d : Holding) → i < place → order_cmp order (row_at_place rows numbers i d) x ≡ Less) (above : (i : ℕ) (d : Holding) → place ≤ i → i < length numbers → order_cmp order x (row_at_place rows numbers i d) ≡ Less) (row : number < length rows) (read : x ≡ slice_index_or rows number x) where
-    known : (d : Holding) → x ≡ slice_index_or rows number d
+  module _ (place : ℕ) (within : place ≤ length numbers) (below : (i : ℕ) (d : RowValue) → i < place → order_cmp order (row_at_place rows numbers i d) x ≡ Less) (above : (i : ℕ) (d : RowValue) → place ≤ i → i < length numbers → order_cmp order x (row_at_place rows numbers i d) ≡ Less) (row : number < length rows) (read : x ≡ slice_index_or rows number x) where
+    known : (d : RowValue) → x ≡ slice_index_or rows number d
     known = get_or_read rows number x row read
 
     moved : (n : ℕ) → Contains (number ∷ numbers) n → Contains (insert numbers place number) n
     moved n held = Contains-permutation (number ∷ numbers) (insert numbers place number) n (IsPermutation-insert numbers place number) held
 
-    entered : Entered order rows numbers (insert numbers place number) number
+    entered : IsPutIn order rows numbers (insert numbers place number) number
     entered = record {
-      rises = rises_insert (order_cmp order) (order_total order) rows numbers place number within row (λ i d lt. ap (order_cmp order (row_at_place rows numbers i d)) (sym (known d)) ∙ below i d lt) (λ i d le lt. ap (λ (h : Holding). order_cmp order h (row_at_place rows numbers i d)) (sym (known d)) ∙ above i d le lt) rises;
+      rises = rises_insert (order_cmp order) (order_total order) rows numbers place number within row (λ i d lt. ap (order_cmp order (row_at_place rows numbers i d)) (sym (known d)) ∙ below i d lt) (λ i d le lt. ap (λ (h : RowValue). order_cmp order h (row_at_place rows numbers i d)) (sym (known d)) ∙ above i d le lt) rises;
       others = λ n held. moved n (suc held.0, omega (arith, held.1), held.2);
       here = moved number (0, omega arith, refl);
     }
 
-  pub entered_at : {A : Type 0} (probe : Probe A) (place : ℕ) → ((h : Holding) → is_before probe h ≡ is_lt (order_cmp order h x)) → IsBound probe rows numbers place → number < length rows → IsFresh rows numbers number → x ≡ slice_index_or rows number x → Entered order rows numbers (insert numbers place number) number
+  pub entered_at : {A : Type 0} (probe : Probe A) (place : ℕ) → ((h : RowValue) → is_before probe h ≡ is_lt (order_cmp order h x)) → IsBound probe rows numbers place → number < length rows → IsFresh rows numbers number → x ≡ slice_index_or rows number x → IsPutIn order rows numbers (insert numbers place number) number
   entered_at probe place seeks bound row fresh read = entered place bound.within (gap_below (order_cmp order) (order_total order) x probe seeks rows numbers place rises bound) (gap_above (order_cmp order) (order_total order) x probe seeks rows numbers place rises bound (no_tie fresh read)) row read
 
   -- a row that stands behind all others
-  pub entered_last : ((i : ℕ) (d : Holding) → i < length numbers → order_cmp order (row_at_place rows numbers i d) x ≡ Less) → number < length rows → x ≡ slice_index_or rows number x → Entered order rows numbers (numbers ++ number ∷ []) number
-  entered_last below row read = subst (λ (new : List ℕ). Entered order rows numbers new number) (insert_end numbers number) (entered (length numbers) (omega arith) below (λ i d le lt. absurd (omega (arith, le, lt))) row read)
+  pub entered_last : ((i : ℕ) (d : RowValue) → i < length numbers → order_cmp order (row_at_place rows numbers i d) x ≡ Less) → number < length rows → x ≡ slice_index_or rows number x → IsPutIn order rows numbers (numbers ++ number ∷ []) number
+  entered_last below row read = subst (λ (new : List ℕ). IsPutIn order rows numbers new number) (insert_end numbers number) (entered (length numbers) (omega arith) below (λ i d le lt. absurd (omega (arith, le, lt))) row read)
 
   -- it does so where it stands behind the last one
-  pub behind_last : (k last : ℕ) (h : Holding) → k + 1 ≡ length numbers → last ≡ slice_index_or numbers k last → h ≡ slice_index_or rows last h → is_ge (order_cmp order h x) ≡ false → (i : ℕ) (d : Holding) → i < length numbers → order_cmp order (row_at_place rows numbers i d) x ≡ Less
+  pub behind_last : (k last : ℕ) (h : RowValue) → k + 1 ≡ length numbers → last ≡ slice_index_or numbers k last → h ≡ slice_index_or rows last h → is_ge (order_cmp order h x) ≡ false → (i : ℕ) (d : RowValue) → i < length numbers → order_cmp order (row_at_place rows numbers i d) x ≡ Less
   behind_last k last h end last_read h_read before i d lt = either (cases_eq i k)
     where
       here : order_cmp order (row_at_place rows numbers k d) x ≡ Less
-      here = ap (λ (a : Holding). order_cmp order a x) (sym (row_read (order_cmp order) rows numbers k last h rises (omega (arith, end)) last_read h_read d)) ∙ not_ge (order_cmp order h x) before
+      here = ap (λ (a : RowValue). order_cmp order a x) (sym (row_read (order_cmp order) rows numbers k last h rises (omega (arith, end)) last_read h_read d)) ∙ not_ge (order_cmp order h x) before
 
       either : (i ≡ k) ⊎ (i ≢ k) → order_cmp order (row_at_place rows numbers i d) x ≡ Less
       either (inl same) = subst (λ (j : ℕ). order_cmp order (row_at_place rows numbers j d) x ≡ Less) (sym same) here
       either (inr other) = (order_total order).trans (row_at_place rows numbers i d) (row_at_place rows numbers k d) x (rises.rising i k d (omega (arith, lt, other, end)) (omega (arith, end))) here
 
-prefix_case : (a b eid : Block) (first second : Ordering) → block_cmp a b ≡ first → ordering_then first second ≡ Less → is_lt (block_cmp b eid) ≡ true → is_lt (block_cmp a eid) ≡ true
-prefix_case a b eid Less second is up before = ap is_lt (block_total.trans a b eid is (less (block_cmp b eid) before))
+prefix_case : (a b eid : PrefixValue) (first second : Ordering) → prefix_cmp a b ≡ first → ordering_then first second ≡ Less → is_lt (prefix_cmp b eid) ≡ true → is_lt (prefix_cmp a eid) ≡ true
+prefix_case a b eid Less second is up before = ap is_lt (block_total.trans a b eid is (less (prefix_cmp b eid) before))
 prefix_case a b eid Equal second is up before = ap is_lt (block_total.congr a b eid is) ∙ before
 prefix_case a b eid Greater second is up before = absurd cc
 
 -- a prefix is sought in the order by prefix
-pub falls_prefix : (eid : Block) (rows : List Holding) (numbers : List ℕ) → Rises prefix_cmp rows numbers → Falls {A = Unit {0}} (Prefix eid) rows numbers
+pub falls_prefix : (eid : PrefixValue) (rows : List RowValue) (numbers : List ℕ) → Rises row_prefix_cmp rows numbers → Falls {A = Unit {0}} (Prefix eid) rows numbers
 falls_prefix eid rows numbers rises i j d lt within before =
     let a = row_at_place rows numbers i d in
     let b = row_at_place rows numbers j d in
-    prefix_case a.mapping.eid b.mapping.eid eid (block_cmp a.mapping.eid b.mapping.eid) (router_cmp a.router b.router) refl (rises.rising i j d lt within) before
+    prefix_case a.mapping.eid b.mapping.eid eid (prefix_cmp a.mapping.eid b.mapping.eid) (router_cmp a.router b.router) refl (rises.rising i j d lt within) before
 
 -- the number at a place was taken out
-pub left_at : (order : Order) (rows : List Holding) (numbers : List ℕ) (number place : ℕ) → Rises (order_cmp order) rows numbers → number < length rows → place < length numbers → slice_index numbers place ≡ number → Left order rows numbers (remove numbers place) number
+pub left_at : (order : Order) (rows : List RowValue) (numbers : List ℕ) (number place : ℕ) → Rises (order_cmp order) rows numbers → number < length rows → place < length numbers → slice_index numbers place ≡ number → IsTakenOut order rows numbers (remove numbers place) number
 left_at order [] numbers number place rises row lt was = absurd (omega (arith, row))
 left_at order (x ∷ xs) numbers number place rises row lt was = left_of order (x ∷ xs) numbers number x rises place lt was
 

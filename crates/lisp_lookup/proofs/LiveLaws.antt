@@ -14,9 +14,9 @@ use Rattle.lisp_records.proofs.DatabaseLaws.{distinct_prefixes}
 use Rattle.lisp_records.proofs.RouterLaws.{router_eq-Decides}
 use Rattle.lisp_records.specs.declared.database.DatabaseFault.TheVariants.{TooLarge}
 use Rattle.lisp_records.specs.declared.router.RouterId.{RouterId}
-use Rattle.lisp_records.specs.Address.{Block, block_cmp}
-use Rattle.lisp_records.specs.Record.{Mapping}
-use Rattle.lisp_records.specs.Row.{Holding}
+use Rattle.lisp_records.specs.Address.{PrefixValue, prefix_cmp}
+use Rattle.lisp_records.specs.Record.{MapRecordValue}
+use Rattle.lisp_records.specs.Row.{RowValue}
 use Rattle.lisp_records.specs.Written.{written}
 use Rattle.lisp_records.specs.Database.{size, database_of, repeats}
 use Rattle.lisp_lookup.specs.Table.{is_row_of, row_key, row_at, OneEach}
@@ -27,42 +27,42 @@ use Rattle.lisp_lookup.proofs.Apart.{found}
 use Rattle.lisp_lookup.proofs.TableLaws.{has_key, filtered_holds, filter_holds, less_from, differ_moved}
 
 -- the row at a place is the last of the first so many
-taken : (rows : List Holding) (i : ℕ) (h : Holding) → i < length rows → h ≡ slice_index_or rows i h → take (i + 1) rows ≡ take i rows ++ h ∷ []
+taken : (rows : List RowValue) (i : ℕ) (h : RowValue) → i < length rows → h ≡ slice_index_or rows i h → take (i + 1) rows ≡ take i rows ++ h ∷ []
 taken rows i h within at =
     let next : i + 1 ≡ suc i = omega arith in
-    ap (λ (n : ℕ). take n rows) next ∙ take-suc rows i h within ∙ ap (λ (y : Holding). take i rows ++ y ∷ []) (sym at)
+    ap (λ (n : ℕ). take n rows) next ∙ take-suc rows i h within ∙ ap (λ (y : RowValue). take i rows ++ y ∷ []) (sym at)
 
 -- the records of rows and of rows that follow
-live_both : (rows more : List Holding) (router : RouterId) (now : ℕ) → live_of (rows ++ more) router now ≡ live_of rows router now ++ live_of more router now
-live_both rows more router now = ap (map (λ (h : Holding). h.mapping)) (filter-append (is_live_of router now) rows more) ∙ map-append (λ (h : Holding). h.mapping) (filter (is_live_of router now) rows) (filter (is_live_of router now) more)
+live_both : (rows more : List RowValue) (router : RouterId) (now : ℕ) → live_of (rows ++ more) router now ≡ live_of rows router now ++ live_of more router now
+live_both rows more router now = ap (map (λ (h : RowValue). h.mapping)) (filter-append (is_live_of router now) rows more) ∙ map-append (λ (h : RowValue). h.mapping) (filter (is_live_of router now) rows) (filter (is_live_of router now) more)
 
 -- how many records there are, and how many bytes they have
-pub record Counts (rows : List Holding) (router : RouterId) (now : ℕ) (count bytes : ℕ) : Type 0 where
+pub record Counts (rows : List RowValue) (router : RouterId) (now : ℕ) (count bytes : ℕ) : Type 0 where
   pub records : count ≡ length (live_of rows router now)
   pub written : bytes ≡ size (live_of rows router now)
 
 -- one row more
-module _ (rows : List Holding) (i : ℕ) (h : Holding) (router : RouterId) (now count bytes : ℕ) (within : i < length rows) (at : h ≡ slice_index_or rows i h) (so_far : Counts (take i rows) router now count bytes) where
+module _ (rows : List RowValue) (i : ℕ) (h : RowValue) (router : RouterId) (now count bytes : ℕ) (within : i < length rows) (at : h ≡ slice_index_or rows i h) (so_far : Counts (take i rows) router now count bytes) where
   grown : live_of (take (i + 1) rows) router now ≡ live_of (take i rows) router now ++ live_of (h ∷ []) router now
-  grown = ap (λ (l : List Holding). live_of l router now) (taken rows i h within at) ∙ live_both (take i rows) (h ∷ []) router now
+  grown = ap (λ (l : List RowValue). live_of l router now) (taken rows i h within at) ∙ live_both (take i rows) (h ∷ []) router now
 
   alone : (b : Bool) → is_live_of router now h ≡ b → live_of (h ∷ []) router now ≡ cond b (h.mapping ∷ []) []
-  alone b is = ap (λ (b : Bool). map (λ (h : Holding). h.mapping) (cond b (h ∷ []) [])) is ∙ by b
+  alone b is = ap (λ (b : Bool). map (λ (h : RowValue). h.mapping) (cond b (h ∷ []) [])) is ∙ by b
     where
-      by : (b : Bool) → map (λ (h : Holding). h.mapping) (cond b (h ∷ []) []) ≡ cond b (h.mapping ∷ []) []
+      by : (b : Bool) → map (λ (h : RowValue). h.mapping) (cond b (h ∷ []) []) ≡ cond b (h.mapping ∷ []) []
       by true = refl
       by false = refl
 
   counts_one : is_live_of router now h ≡ true → Counts (take (i + 1) rows) router now (count + 1) (bytes + length (written h.mapping))
   counts_one is =
-      let now_is : live_of (take (i + 1) rows) router now ≡ live_of (take i rows) router now ++ h.mapping ∷ [] = grown ∙ ap (λ (l : List Mapping). live_of (take i rows) router now ++ l) (alone true is) in
+      let now_is : live_of (take (i + 1) rows) router now ≡ live_of (take i rows) router now ++ h.mapping ∷ [] = grown ∙ ap (λ (l : List MapRecordValue). live_of (take i rows) router now ++ l) (alone true is) in
       let longer = ap length now_is ∙ length-append (live_of (take i rows) router now) (h.mapping ∷ []) in
       let larger = ap size now_is ∙ sum_by-append (λ m. length (written m)) (live_of (take i rows) router now) (h.mapping ∷ []) in
       record { records = omega (arith, longer, so_far.records); written = omega (arith, larger, so_far.written) }
 
   counts_none : is_live_of router now h ≡ false → Counts (take (i + 1) rows) router now count bytes
   counts_none is =
-      let now_is : live_of (take (i + 1) rows) router now ≡ live_of (take i rows) router now ++ [] = grown ∙ ap (λ (l : List Mapping). live_of (take i rows) router now ++ l) (alone false is) in
+      let now_is : live_of (take (i + 1) rows) router now ≡ live_of (take i rows) router now ++ [] = grown ∙ ap (λ (l : List MapRecordValue). live_of (take i rows) router now ++ l) (alone false is) in
       let longer = ap length now_is ∙ length-append (live_of (take i rows) router now) [] in
       let larger = ap size now_is ∙ sum_by-append (λ m. length (written m)) (live_of (take i rows) router now) [] in
       record { records = omega (arith, longer, so_far.records); written = omega (arith, larger, so_far.written) }
@@ -72,23 +72,23 @@ module _ (rows : List Holding) (i : ℕ) (h : Holding) (router : RouterId) (now 
   counts_next more bigger (inr (is, more_is, bigger_is)) = rw (more_is, bigger_is) (counts_none is)
 
 -- rows of one router are of different prefixes
-apart : (rows : List Holding) (router : RouterId) → OneEach rows → All (λ h. h.router ≡ router) rows → AllPairs (λ a b. a.eid ≢ b.eid) (map (λ h. h.mapping) rows)
+apart : (rows : List RowValue) (router : RouterId) → OneEach rows → All (λ h. h.router ≡ router) rows → AllPairs (λ a b. a.eid ≢ b.eid) (map (λ h. h.mapping) rows)
 apart [] router one its = λ i j d before lt same. absurd (omega (arith, lt))
 apart (x ∷ xs) router one its = λ i j d before lt same. (
-    let rows : List Holding = x ∷ xs in
-    let within : j < length rows = omega (arith, lt, length-map rows (λ (h : Holding). h.mapping)) in
+    let rows : List RowValue = x ∷ xs in
+    let within : j < length rows = omega (arith, lt, length-map rows (λ (h : RowValue). h.mapping)) in
     let earlier : i < length rows = omega (arith, before, within) in
-    let own = λ (k : ℕ) (lt : k < length rows). ap (λ (m : Mapping). m.eid) (get_or-map (λ h. h.mapping) rows k x d lt) in
+    let own = λ (k : ℕ) (lt : k < length rows). ap (λ (m : MapRecordValue). m.eid) (get_or-map (λ h. h.mapping) rows k x d lt) in
     let eid = sym (own i earlier) ∙ same ∙ own j within in
     let router = its i x earlier ∙ sym (its j x within) in
     one i j x before within (λ k. (router k, eid k)))
 
 -- their prefixes by themselves
-prefixes : (ms : List Mapping) → AllPairs (λ a b. a.eid ≢ b.eid) ms → AllPairs (λ a b. a ≢ b) (map (λ m. m.eid) ms)
+prefixes : (ms : List MapRecordValue) → AllPairs (λ a b. a.eid ≢ b.eid) ms → AllPairs (λ a b. a ≢ b) (map (λ m. m.eid) ms)
 prefixes [] one = λ i j d before lt same. absurd (omega (arith, lt))
 prefixes (m ∷ ms) one = λ i j d before lt same. (
-    let records : List Mapping = m ∷ ms in
-    let within : j < length records = omega (arith, lt, length-map records (λ (m : Mapping). m.eid)) in
+    let records : List MapRecordValue = m ∷ ms in
+    let within : j < length records = omega (arith, lt, length-map records (λ (m : MapRecordValue). m.eid)) in
     let own = λ (k : ℕ) (lt : k < length records). get_or-map (λ m. m.eid) records k m d lt in
     one i j m before within (sym (own i (omega (arith, before, within))) ∙ same ∙ own j within))
 
@@ -96,16 +96,16 @@ first_of : (a b : Bool) → (a && b) ≡ true → a ≡ true
 first_of true b t = refl
 first_of false b t = absurd (true≢false (sym t))
 
-its_router : (rows : List Holding) (router : RouterId) (now : ℕ) → All (λ h. h.router ≡ router) (filter (is_live_of router now) rows)
+its_router : (rows : List RowValue) (router : RouterId) (now : ℕ) → All (λ h. h.router ≡ router) (filter (is_live_of router now) rows)
 its_router rows router now i d lt = (router_eq-Decides (slice_index_or (filter (is_live_of router now) rows) i d).router router).0 (first_of _ _ (filter_passes (is_live_of router now) rows i d lt))
 
-differ : (rows : List Holding) (router : RouterId) (now : ℕ) → OneEach rows → AllPairs (λ a b. a.eid ≢ b.eid) (live_of rows router now)
+differ : (rows : List RowValue) (router : RouterId) (now : ℕ) → OneEach rows → AllPairs (λ a b. a.eid ≢ b.eid) (live_of rows router now)
 differ rows router now one = apart (filter (is_live_of router now) rows) router (AllPairs-filter (λ a b. row_key a ≢ row_key b) (is_live_of router now) rows one) (its_router rows router now)
 
-no_repeats : (rows : List Holding) (router : RouterId) (now : ℕ) → OneEach rows → repeats (live_of rows router now) ≡ false
+no_repeats : (rows : List RowValue) (router : RouterId) (now : ℕ) → OneEach rows → repeats (live_of rows router now) ≡ false
 no_repeats rows router now one = (distinct_prefixes (live_of rows router now)).1 (prefixes (live_of rows router now) (differ rows router now one))
 
-large : (ms : List Mapping) → repeats ms ≡ false → (255 < length ms) ⊎ (16384 < size ms) → database_of ms ≡ Err TooLarge
+large : (ms : List MapRecordValue) → repeats ms ≡ false → (255 < length ms) ⊎ (16384 < size ms) → database_of ms ≡ Err TooLarge
 large ms distinct over = many (nat_lt 255 (length ms)) refl over
   where
     many : (b : Bool) → nat_lt 255 (length ms) ≡ b → (255 < length ms) ⊎ (16384 < size ms) → database_of ms ≡ Err TooLarge
@@ -113,93 +113,93 @@ large ms distinct over = many (nat_lt 255 (length ms)) refl over
     many false is (inl long) = absurd (true≢false (sym (lt-ltb 255 (length ms) long) ∙ is))
     many false is (inr over) = rw (is, distinct, lt-ltb 16384 (size ms) over) refl
 
-fitting : (ms : List Mapping) → repeats ms ≡ false → length ms ≤ 255 → size ms ≤ 16384 → database_of ms ≡ Ok ms
+fitting : (ms : List MapRecordValue) → repeats ms ≡ false → length ms ≤ 255 → size ms ≤ 16384 → database_of ms ≡ Ok ms
 fitting ms distinct few small = rw (not_ltb 255 (length ms) few, distinct, not_ltb 16384 (size ms) small) refl
   where
     not_ltb : (a b : ℕ) → b ≤ a → nat_lt a b ≡ false
     not_ltb a b le = not_true (nat_lt a b) (λ t. absurd (let lt = ltb-true a b t in omega (arith, lt, le)))
 
 -- the first so many rows are all
-pub counts_all : (rows : List Holding) (i : ℕ) (router : RouterId) (now count bytes : ℕ) → length rows ≤ i → Counts (take i rows) router now count bytes → Counts rows router now count bytes
-counts_all rows i router now count bytes past counts = subst (λ (l : List Holding). Counts l router now count bytes) (take_all i rows past) counts
+pub counts_all : (rows : List RowValue) (i : ℕ) (router : RouterId) (now count bytes : ℕ) → length rows ≤ i → Counts (take i rows) router now count bytes → Counts rows router now count bytes
+counts_all rows i router now count bytes past counts = subst (λ (l : List RowValue). Counts l router now count bytes) (take_all i rows past) counts
 
 -- too many of the first rows are too many of all
-pub too_large : (rows : List Holding) (k : ℕ) (router : RouterId) (now count bytes : ℕ) → OneEach rows → Counts (take k rows) router now count bytes → (255 < count) ⊎ (16384 < bytes) → database_of (live_of rows router now) ≡ Err TooLarge
+pub too_large : (rows : List RowValue) (k : ℕ) (router : RouterId) (now count bytes : ℕ) → OneEach rows → Counts (take k rows) router now count bytes → (255 < count) ⊎ (16384 < bytes) → database_of (live_of rows router now) ≡ Err TooLarge
 too_large rows k router now count bytes one counts over = large (live_of rows router now) (no_repeats rows router now one) (all over)
   where
     split : live_of rows router now ≡ live_of (take k rows) router now ++ live_of (drop k rows) router now
-    split = ap (λ (l : List Holding). live_of l router now) (sym (take-append-drop k rows)) ∙ live_both (take k rows) (drop k rows) router now
+    split = ap (λ (l : List RowValue). live_of l router now) (sym (take-append-drop k rows)) ∙ live_both (take k rows) (drop k rows) router now
 
     all : (255 < count) ⊎ (16384 < bytes) → (255 < length (live_of rows router now)) ⊎ (16384 < size (live_of rows router now))
     all (inl many) = inl (let longer = ap length split ∙ length-append (live_of (take k rows) router now) (live_of (drop k rows) router now) in omega (arith, many, counts.records, longer))
     all (inr long) = inr (let larger = ap size split ∙ sum_by-append (λ m. length (written m)) (live_of (take k rows) router now) (live_of (drop k rows) router now) in omega (arith, long, counts.written, larger))
 
 -- few and short records are a database
-pub fits : (rows : List Holding) (router : RouterId) (now count bytes : ℕ) → OneEach rows → Counts rows router now count bytes → count ≤ 255 → bytes ≤ 16384 → database_of (live_of rows router now) ≡ Ok (live_of rows router now)
+pub fits : (rows : List RowValue) (router : RouterId) (now count bytes : ℕ) → OneEach rows → Counts rows router now count bytes → count ≤ 255 → bytes ≤ 16384 → database_of (live_of rows router now) ≡ Ok (live_of rows router now)
 fits rows router now count bytes one counts few small = fitting (live_of rows router now) (no_repeats rows router now one) (omega (arith, few, counts.records)) (omega (arith, small, counts.written))
 
 -- the records in their order by prefix
-pub by_prefix : (rows : List Holding) (router : RouterId) (now : ℕ) (records : List Mapping) → OneEach rows → IsPermutation (live_of rows router now) records → IsSortedByKey (λ m. m.eid) block_cmp records → ByPrefix (live_of rows router now) records
+pub by_prefix : (rows : List RowValue) (router : RouterId) (now : ℕ) (records : List MapRecordValue) → OneEach rows → IsPermutation (live_of rows router now) records → IsSortedByKey (λ m. m.eid) prefix_cmp records → ByPrefix (live_of rows router now) records
 by_prefix rows router now records one moved sorted = record {
   same = moved;
   rising = λ i j d before lt. (
-      let later = sorted_far (λ a b. is_lt (block_cmp a.eid b.eid)) (ranks_by block_total (λ m. m.eid)) records sorted i j d (omega (arith, before)) lt in
+      let later = sorted_far (λ a b. is_lt (prefix_cmp a.eid b.eid)) (ranks_by block_total (λ m. m.eid)) records sorted i j d (omega (arith, before)) lt in
       let turned = block_total.antisymm (slice_index_or records j d).eid (slice_index_or records i d).eid in
-      less_from (block_cmp (slice_index_or records i d).eid (slice_index_or records j d).eid) (ap is_lt (sym turned) ∙ later) (λ tie. differ_moved (λ (m : Mapping). m.eid) (live_of rows router now) records moved (differ rows router now one) i j d before lt (same_block (slice_index_or records i d).eid (slice_index_or records j d).eid tie)));
+      less_from (prefix_cmp (slice_index_or records i d).eid (slice_index_or records j d).eid) (ap is_lt (sym turned) ∙ later) (λ tie. differ_moved (λ (m : MapRecordValue). m.eid) (live_of rows router now) records moved (differ rows router now one) i j d before lt (same_block (slice_index_or records i d).eid (slice_index_or records j d).eid tie)));
 }
 
 -- a router with live records has a row
-pub some_row : (rows : List Holding) (router : RouterId) (now : ℕ) → live_of rows router now ≢ [] → (eid : Block) × (h : Holding) × (row_at rows router eid ≡ Some h)
+pub some_row : (rows : List RowValue) (router : RouterId) (now : ℕ) → live_of rows router now ≢ [] → (eid : PrefixValue) × (h : RowValue) × (row_at rows router eid ≡ Some h)
 unfolding row_at
 some_row rows router now some = first (filter (is_live_of router now) rows) refl
   where
-    its : (x : Holding) → is_live_of router now x ≡ true → x.router ≡ router
+    its : (x : RowValue) → is_live_of router now x ≡ true → x.router ≡ router
     its x live = (router_eq-Decides x.router router).0 (first_of _ _ live)
 
-    there : (x : Holding) → Contains rows x → x.router ≡ router → row_at rows router x.mapping.eid ≢ None
+    there : (x : RowValue) → Contains rows x → x.router ≡ router → row_at rows router x.mapping.eid ≢ None
     there x c own = found (is_row_of router x.mapping.eid) rows c.0 x c.1 ((has_key (router, x.mapping.eid) (slice_index_or rows c.0 x)).1 (ap row_key c.2 ∙ ap (λ (r : RouterId). (r, x.mapping.eid)) own))
 
-    row_of : (x : Holding) → row_at rows router x.mapping.eid ≢ None → (o : Option Holding) → row_at rows router x.mapping.eid ≡ o → (eid : Block) × (h : Holding) × (row_at rows router eid ≡ Some h)
+    row_of : (x : RowValue) → row_at rows router x.mapping.eid ≢ None → (o : Option RowValue) → row_at rows router x.mapping.eid ≡ o → (eid : PrefixValue) × (h : RowValue) × (row_at rows router eid ≡ Some h)
     row_of x there None e = absurd (there e)
     row_of x there (Some h) e = (x.mapping.eid, h, e)
 
-    first : (fl : List Holding) → filter (is_live_of router now) rows ≡ fl → (eid : Block) × (h : Holding) × (row_at rows router eid ≡ Some h)
-    first [] e = absurd (some (ap (map (λ (h : Holding). h.mapping)) e))
+    first : (fl : List RowValue) → filter (is_live_of router now) rows ≡ fl → (eid : PrefixValue) × (h : RowValue) × (row_at rows router eid ≡ Some h)
+    first [] e = absurd (some (ap (map (λ (h : RowValue). h.mapping)) e))
     first (x ∷ xs) e =
-        let held = filtered_holds (is_live_of router now) rows x (subst (λ (fl : List Holding). Contains fl x) (sym e) (0, omega arith, refl)) in
+        let held = filtered_holds (is_live_of router now) rows x (subst (λ (fl : List RowValue). Contains fl x) (sym e) (0, omega arith, refl)) in
         row_of x (there x held.0 (its x held.1)) (row_at rows router x.mapping.eid) refl
 
 -- copies of the records so far, and of one more where the next row is one of the router, and alive
-pub copies_next : (rows : List Holding) (i : ℕ) (h : Holding) (router : RouterId) (now : ℕ) (old new : List Mapping) → i < length rows → h ≡ slice_index_or rows i h
+pub copies_next : (rows : List RowValue) (i : ℕ) (h : RowValue) (router : RouterId) (now : ℕ) (old new : List MapRecordValue) → i < length rows → h ≡ slice_index_or rows i h
     → old ≡ live_of (take i rows) router now
     → ((is_live_of router now h ≡ true) × (new ≡ old ++ h.mapping ∷ [])) ⊎ ((is_live_of router now h ≡ false) × (new ≡ old ++ []))
     → new ≡ live_of (take (i + 1) rows) router now
-copies_next rows i h router now old new within at so_far moved = either moved ∙ sym (ap (λ (l : List Holding). live_of l router now) (taken rows i h within at) ∙ live_both (take i rows) (h ∷ []) router now)
+copies_next rows i h router now old new within at so_far moved = either moved ∙ sym (ap (λ (l : List RowValue). live_of l router now) (taken rows i h within at) ∙ live_both (take i rows) (h ∷ []) router now)
   where
-    alone : (b : Bool) → is_live_of router now h ≡ b → live_of (h ∷ []) router now ≡ map (λ (h : Holding). h.mapping) (cond b (h ∷ []) [])
-    alone b is = ap (λ (b : Bool). map (λ (h : Holding). h.mapping) (cond b (h ∷ []) [])) is
+    alone : (b : Bool) → is_live_of router now h ≡ b → live_of (h ∷ []) router now ≡ map (λ (h : RowValue). h.mapping) (cond b (h ∷ []) [])
+    alone b is = ap (λ (b : Bool). map (λ (h : RowValue). h.mapping) (cond b (h ∷ []) [])) is
 
     either : ((is_live_of router now h ≡ true) × (new ≡ old ++ h.mapping ∷ [])) ⊎ ((is_live_of router now h ≡ false) × (new ≡ old ++ [])) → new ≡ live_of (take i rows) router now ++ live_of (h ∷ []) router now
     either (inl (is, grew)) = rw (alone true is, ← so_far) grew
     either (inr (is, stayed)) = rw (alone false is, ← so_far) stayed
 
 -- one row more of those that pass a test
-pub rows_next : (test : Holding → Bool) (rows : List Holding) (i : ℕ) (h : Holding) (old new : List Holding) → i < length rows → h ≡ slice_index_or rows i h → old ≡ filter test (take i rows) → ((test h ≡ true) × (new ≡ old ++ h ∷ [])) ⊎ ((test h ≡ false) × (new ≡ old)) → new ≡ filter test (take (i + 1) rows)
+pub rows_next : (test : RowValue → Bool) (rows : List RowValue) (i : ℕ) (h : RowValue) (old new : List RowValue) → i < length rows → h ≡ slice_index_or rows i h → old ≡ filter test (take i rows) → ((test h ≡ true) × (new ≡ old ++ h ∷ [])) ⊎ ((test h ≡ false) × (new ≡ old)) → new ≡ filter test (take (i + 1) rows)
 rows_next test rows i h old new within at so_far either = by either
   where
     grown : (b : Bool) → test h ≡ b → filter test (take (i + 1) rows) ≡ filter test (take i rows) ++ cond b (h ∷ []) []
-    grown b is = filter_more test rows i h within ∙ ap (λ (x : Holding). filter test (take i rows) ++ cond (test x) (x ∷ []) []) (sym at) ∙ ap (λ (b : Bool). filter test (take i rows) ++ cond b (h ∷ []) []) is
+    grown b is = filter_more test rows i h within ∙ ap (λ (x : RowValue). filter test (take i rows) ++ cond (test x) (x ∷ []) []) (sym at) ∙ ap (λ (b : Bool). filter test (take i rows) ++ cond b (h ∷ []) []) is
 
     by : ((test h ≡ true) × (new ≡ old ++ h ∷ [])) ⊎ ((test h ≡ false) × (new ≡ old)) → new ≡ filter test (take (i + 1) rows)
-    by (inl (is, new_is)) = new_is ∙ ap (λ (l : List Holding). l ++ h ∷ []) so_far ∙ sym (grown true is)
+    by (inl (is, new_is)) = new_is ∙ ap (λ (l : List RowValue). l ++ h ∷ []) so_far ∙ sym (grown true is)
     by (inr (is, new_is)) = new_is ∙ so_far ∙ sym (grown false is ∙ append-nil (filter test (take i rows)))
 
 -- where no row passes, none that is read does
-pub none_passes : (test : Holding → Bool) (rows : List Holding) (i : ℕ) (h : Holding) → i < length rows → h ≡ slice_index_or rows i h → test h ≡ true → length (filter test rows) ≡ 0 → ⊥
+pub none_passes : (test : RowValue → Bool) (rows : List RowValue) (i : ℕ) (h : RowValue) → i < length rows → h ≡ slice_index_or rows i h → test h ≡ true → length (filter test rows) ≡ 0 → ⊥
 none_passes test rows i h within at is none =
     let held = filter_holds test rows h (i, within, sym at) is in
     omega (arith, none, held.1)
 
 -- the same of the records
-pub none_recorded : (rows : List Holding) (i : ℕ) (h : Holding) (router : RouterId) (now : ℕ) → i < length rows → h ≡ slice_index_or rows i h → is_live_of router now h ≡ true → live_of rows router now ≡ [] → ⊥
-none_recorded rows i h router now within at is none = none_passes (is_live_of router now) rows i h within at is (sym (length-map (filter (is_live_of router now) rows) (λ (h : Holding). h.mapping)) ∙ ap length none)
+pub none_recorded : (rows : List RowValue) (i : ℕ) (h : RowValue) (router : RouterId) (now : ℕ) → i < length rows → h ≡ slice_index_or rows i h → is_live_of router now h ≡ true → live_of rows router now ≡ [] → ⊥
+none_recorded rows i h router now within at is none = none_passes (is_live_of router now) rows i h within at is (sym (length-map (filter (is_live_of router now) rows) (λ (h : RowValue). h.mapping)) ∙ ap length none)

@@ -9,7 +9,7 @@ use Rattle.std.proofs.lemmas.Map.Lookups.{exact_pairs, exact_unsigned, exact_byt
 use Rattle.lisp_records.specs.declared.address.Addr.{Addr}
 use Rattle.lisp_records.specs.declared.address.Addr.TheVariants.{V4, V6}
 use Rattle.lisp_records.specs.declared.router.RouterId.{RouterId}
-use Rattle.lisp_records.specs.Address.{Block, octets, addr_cmp, block_cmp}
+use Rattle.lisp_records.specs.Address.{PrefixValue, octets, addr_cmp, prefix_cmp}
 use Rattle.lisp_records.specs.Router.{router_cmp}
 
 -- IPv4 before IPv6
@@ -35,10 +35,10 @@ same_addr (V4 a) (V6 b) tie = absurd cc
 same_addr (V6 a) (V4 b) tie = absurd cc
 same_addr (V6 a) (V6 b) tie = ap V6 (exact_bytes a b tie)
 
-pub block_total : IsTotalOrder block_cmp
-block_total = then_total (on_total (λ (b : Block). b.addr) addr_total) (on_total (λ (b : Block). b.mask_len) nat_cmp_total)
+pub block_total : IsTotalOrder prefix_cmp
+block_total = then_total (on_total (λ (b : PrefixValue). b.addr) addr_total) (on_total (λ (b : PrefixValue). b.mask_len) nat_cmp_total)
 
-pub same_block : (a b : Block) → block_cmp a b ≡ Equal → a ≡ b
+pub same_block : (a b : PrefixValue) → prefix_cmp a b ≡ Equal → a ≡ b
 same_block a b tie =
     let parts = exact_pairs addr_cmp nat_cmp same_addr exact_unsigned (a.addr, a.mask_len) (b.addr, b.mask_len) tie in
     λ i. record { addr = (parts i).0; mask_len = (parts i).1 }
@@ -52,11 +52,11 @@ same_router a b tie =
     λ i. record { site = (parts i).0; xtr = (parts i).1 }
 
 -- the order of what there is one row for
-abbrev pub key_cmp : RouterId × Block → RouterId × Block → Ordering
-key_cmp a b = ordering_then (router_cmp a.0 b.0) (block_cmp a.1 b.1)
+abbrev pub key_cmp : RouterId × PrefixValue → RouterId × PrefixValue → Ordering
+key_cmp a b = ordering_then (router_cmp a.0 b.0) (prefix_cmp a.1 b.1)
 
 pub key_total : IsTotalOrder key_cmp
-key_total = then_total (on_total (λ (k : RouterId × Block). k.0) router_total) (on_total (λ (k : RouterId × Block). k.1) block_total)
+key_total = then_total (on_total (λ (k : RouterId × PrefixValue). k.0) router_total) (on_total (λ (k : RouterId × PrefixValue). k.1) block_total)
 
-pub same_key : (a b : RouterId × Block) → key_cmp a b ≡ Equal → a ≡ b
-same_key a b tie = exact_pairs router_cmp block_cmp same_router same_block a b tie
+pub same_key : (a b : RouterId × PrefixValue) → key_cmp a b ≡ Equal → a ≡ b
+same_key a b tie = exact_pairs router_cmp prefix_cmp same_router same_block a b tie

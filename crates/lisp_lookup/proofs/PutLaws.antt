@@ -6,12 +6,12 @@ use Rattle.std.proofs.lemmas.Bool.{cases_eq}
 use Rattle.std.proofs.lemmas.List.{get_or_default, get_or_append_left, get_or_push, length_push, length-set, get_or-set_same, get_or-set_other}
 use Rattle.std.proofs.lemmas.List.Quantifiers.{position-Some}
 use Rattle.lisp_records.specs.declared.router.RouterId.{RouterId}
-use Rattle.lisp_records.specs.Address.{Block}
-use Rattle.lisp_records.specs.Row.{Holding}
+use Rattle.lisp_records.specs.Address.{PrefixValue}
+use Rattle.lisp_records.specs.Row.{RowValue}
 use Rattle.lisp_lookup.specs.declared.order.Order.{Order}
 use Rattle.lisp_lookup.specs.declared.probe.Probe.{Probe}
 use Rattle.lisp_lookup.specs.Table.{is_row_of, row_key, OneEach}
-use Rattle.lisp_lookup.specs.Index.{prefix_cmp, order_cmp, is_before, row_at_place, IsBound, Rises, IsIndex, IsFresh, Left, Entered}
+use Rattle.lisp_lookup.specs.Index.{row_prefix_cmp, order_cmp, is_before, row_at_place, IsBound, Rises, IsIndex, IsFresh, IsTakenOut, IsPutIn}
 use Rattle.lisp_policy.proofs.Found.{nowhere}
 use Rattle.lisp_lookup.proofs.Apart.{found}
 use Rattle.lisp_lookup.proofs.IndexLaws.{number_at, order_total, rises_same, exact, prefix_total}
@@ -19,8 +19,8 @@ use Rattle.lisp_lookup.proofs.DeadlineLaws.{one_each, same_tie, key_prefix_cmp}
 use Rattle.lisp_lookup.proofs.TableLaws.{has_key, either_way}
 
 -- a row was set over the one whose number was taken out
-module _ (order : Order) (rows : List Holding) (old mid : List ℕ) (number : ℕ) (row : Holding) (within : number < length rows) (left : Left order rows old mid number) where
-  abbrev over : List Holding
+module _ (order : Order) (rows : List RowValue) (old mid : List ℕ) (number : ℕ) (row : RowValue) (within : number < length rows) (left : IsTakenOut order rows old mid number) where
+  abbrev over : List RowValue
   over = slice_set rows number row
 
   pub rises_over : Rises (order_cmp order) over mid
@@ -32,7 +32,7 @@ module _ (order : Order) (rows : List Holding) (old mid : List ℕ) (number : �
       let here = get_or-set_same rows number row d within in
       left.gone k lt (either_way row_key rows one (slice_index mid k) number d (left.rises.below k lt) within (ap row_key (sym other) ∙ same ∙ ap row_key here ∙ sym own ∙ ap row_key (get_or_default rows number row d within)))
 
-  pub index_over : (new : List ℕ) → IsIndex (order_cmp order) rows old → Entered order over mid new number → IsIndex (order_cmp order) over new
+  pub index_over : (new : List ℕ) → IsIndex (order_cmp order) rows old → IsPutIn order over mid new number → IsIndex (order_cmp order) over new
   index_over new index entered = record {
     rises = entered.rises;
     each = λ n lt. each n (omega (arith, lt, length-set rows number row)) (cases_eq n number);
@@ -43,7 +43,7 @@ module _ (order : Order) (rows : List Holding) (old mid : List ℕ) (number : �
       each n lt (inr off) = entered.others n (left.others n (index.each n lt) off)
 
 -- the order by prefix doesn't change where a row of the same router and prefix is set
-pub prefixes_over : (rows : List Holding) (numbers : List ℕ) (number : ℕ) (row : Holding) → number < length rows → row_key (slice_index_or rows number row) ≡ row_key row → IsIndex prefix_cmp rows numbers → IsIndex prefix_cmp (slice_set rows number row) numbers
+pub prefixes_over : (rows : List RowValue) (numbers : List ℕ) (number : ℕ) (row : RowValue) → number < length rows → row_key (slice_index_or rows number row) ≡ row_key row → IsIndex row_prefix_cmp rows numbers → IsIndex row_prefix_cmp (slice_set rows number row) numbers
 prefixes_over rows numbers number row within own index = record {
   rises = record {
     below = λ k lt. omega (arith, index.rises.below k lt, length-set rows number row);
@@ -52,16 +52,16 @@ prefixes_over rows numbers number row within own index = record {
   each = λ n lt. index.each n (omega (arith, lt, length-set rows number row));
 }
   where
-    key_at : (n : ℕ) (d : Holding) → (n ≡ number) ⊎ (n ≢ number) → row_key (slice_index_or (slice_set rows number row) n d) ≡ row_key (slice_index_or rows n d)
+    key_at : (n : ℕ) (d : RowValue) → (n ≡ number) ⊎ (n ≢ number) → row_key (slice_index_or (slice_set rows number row) n d) ≡ row_key (slice_index_or rows n d)
     key_at n d (inl at) = subst (λ (m : ℕ). row_key (slice_index_or (slice_set rows number row) m d) ≡ row_key (slice_index_or rows m d)) (sym at) (ap row_key (get_or-set_same rows number row d within) ∙ sym own ∙ ap row_key (get_or_default rows number row d within))
     key_at n d (inr off) = ap row_key (get_or-set_other rows number n row d off)
 
-    keys : (i : ℕ) (d : Holding) → i < length numbers → (j : ℕ) → j < length numbers → prefix_cmp (row_at_place (slice_set rows number row) numbers i d) (row_at_place (slice_set rows number row) numbers j d) ≡ prefix_cmp (row_at_place rows numbers i d) (row_at_place rows numbers j d)
-    keys i d lt_i j lt_j = ap (λ (k : RouterId × Block). key_prefix_cmp k (row_key (row_at_place (slice_set rows number row) numbers j d))) (key_at (slice_index numbers i) d (cases_eq (slice_index numbers i) number)) ∙ ap (key_prefix_cmp (row_key (row_at_place rows numbers i d))) (key_at (slice_index numbers j) d (cases_eq (slice_index numbers j) number))
+    keys : (i : ℕ) (d : RowValue) → i < length numbers → (j : ℕ) → j < length numbers → row_prefix_cmp (row_at_place (slice_set rows number row) numbers i d) (row_at_place (slice_set rows number row) numbers j d) ≡ row_prefix_cmp (row_at_place rows numbers i d) (row_at_place rows numbers j d)
+    keys i d lt_i j lt_j = ap (λ (k : RouterId × PrefixValue). key_prefix_cmp k (row_key (row_at_place (slice_set rows number row) numbers j d))) (key_at (slice_index numbers i) d (cases_eq (slice_index numbers i) number)) ∙ ap (key_prefix_cmp (row_key (row_at_place rows numbers i d))) (key_at (slice_index numbers j) d (cases_eq (slice_index numbers j) number))
 
 -- a row was added
-module _ (order : Order) (rows : List Holding) (numbers : List ℕ) (row : Holding) (index : IsIndex (order_cmp order) rows numbers) where
-  abbrev more : List Holding
+module _ (order : Order) (rows : List RowValue) (numbers : List ℕ) (row : RowValue) (index : IsIndex (order_cmp order) rows numbers) where
+  abbrev more : List RowValue
   more = rows ++ row ∷ []
 
   pub rises_more : Rises (order_cmp order) more numbers
@@ -72,7 +72,7 @@ module _ (order : Order) (rows : List Holding) (numbers : List ℕ) (row : Holdi
       let own : row_key (slice_index_or rows (slice_index numbers k) d) ≡ row_key row = ap row_key (sym (get_or_append_left rows (row ∷ []) d (slice_index numbers k) (index.rises.below k lt))) ∙ same ∙ ap row_key (get_or_push rows row d (length rows) refl) in
       found (is_row_of row.router row.mapping.eid) rows (slice_index numbers k) d (index.rises.below k lt) ((has_key (row_key row) (slice_index_or rows (slice_index numbers k) d)).1 own) (nowhere (is_row_of row.router row.mapping.eid) rows none)
 
-  pub index_more : (new : List ℕ) → Entered order more numbers new (length rows) → IsIndex (order_cmp order) more new
+  pub index_more : (new : List ℕ) → IsPutIn order more numbers new (length rows) → IsIndex (order_cmp order) more new
   index_more new entered = record {
     rises = entered.rises;
     each = λ n lt. each n (omega (arith, lt, length_push rows row)) (cases_eq n (length rows));
@@ -83,7 +83,7 @@ module _ (order : Order) (rows : List Holding) (numbers : List ℕ) (row : Holdi
       each n lt (inr off) = entered.others n (index.each n (omega (arith, lt, off)))
 
 -- a number whose row is of a router and a prefix is that of their row
-module _ (rows : List Holding) (numbers : List ℕ) (row : Holding) (index : IsIndex prefix_cmp rows numbers) where
+module _ (rows : List RowValue) (numbers : List ℕ) (row : RowValue) (index : IsIndex row_prefix_cmp rows numbers) where
   by_case : (number : ℕ) (o : Option ℕ) → number < length rows → is_row_of row.router row.mapping.eid (slice_index_or rows number row) ≡ true → position (is_row_of row.router row.mapping.eid) rows ≡ o → position (is_row_of row.router row.mapping.eid) rows ≡ Some number
   by_case number None lt own at = absurd (found (is_row_of row.router row.mapping.eid) rows number row lt own (nowhere (is_row_of row.router row.mapping.eid) rows at))
   by_case number (Some i) lt own at =
@@ -95,8 +95,8 @@ module _ (rows : List Holding) (numbers : List ℕ) (row : Holding) (index : IsI
   found_here number lt own = by_case number (position (is_row_of row.router row.mapping.eid) rows) lt own refl
 
 -- the row of a router and a prefix stands where it is sought
-module _ (rows : List Holding) (numbers : List ℕ) (row : Holding) {A : Type 0} (probe : Probe A) (place : ℕ) (seeks : (h : Holding) → is_before probe h ≡ is_lt (prefix_cmp h row)) (index : IsIndex prefix_cmp rows numbers) (bound : IsBound probe rows numbers place) where
-  abbrev is_own : Holding → Bool
+module _ (rows : List RowValue) (numbers : List ℕ) (row : RowValue) {A : Type 0} (probe : Probe A) (place : ℕ) (seeks : (h : RowValue) → is_before probe h ≡ is_lt (row_prefix_cmp h row)) (index : IsIndex row_prefix_cmp rows numbers) (bound : IsBound probe rows numbers place) where
+  abbrev is_own : RowValue → Bool
   is_own = is_row_of row.router row.mapping.eid
 
   stands : (i : ℕ) → i < length rows → is_own (slice_index_or rows i row) ≡ true → (place < length numbers) × (slice_index numbers place ≡ i)
@@ -104,7 +104,7 @@ module _ (rows : List Holding) (numbers : List ℕ) (row : Holding) {A : Type 0}
       let (p, lt_p, at) = index.each i lt in
       let named : slice_index numbers p ≡ i = number_at numbers p i lt_p at in
       let key : row_key (slice_index_or rows i row) ≡ row_key row = (has_key (row_key row) (slice_index_or rows i row)).0 own in
-      let same = exact prefix_cmp prefix_total row probe seeks rows numbers place index.rises bound p lt_p (same_tie (row_at_place rows numbers p row) row (ap (λ (n : ℕ). row_key (slice_index_or rows n row)) named ∙ key)) in
+      let same = exact row_prefix_cmp prefix_total row probe seeks rows numbers place index.rises bound p lt_p (same_tie (row_at_place rows numbers p row) row (ap (λ (n : ℕ). row_key (slice_index_or rows n row)) named ∙ key)) in
       (omega (arith, same, lt_p), ap (λ (k : ℕ). slice_index numbers k) same ∙ named)
 
   absent_case : (o : Option ℕ) → position is_own rows ≡ o → ((i : ℕ) → i < length rows → is_own (slice_index_or rows i row) ≡ true → ⊥) → None ≡ o
@@ -117,7 +117,7 @@ module _ (rows : List Holding) (numbers : List ℕ) (row : Holding) {A : Type 0}
   settled None at other = absent_case (position is_own rows) refl (λ i lt own. true≢false (sym own ∙ ap (λ (n : ℕ). is_own (slice_index_or rows n row)) (sym (stands i lt own).1) ∙ other refl (stands i lt own).0))
 
 -- where a router and a prefix have a row, its number is that of a row, and it is of them
-pub own_key : (rows : List Holding) (number : ℕ) (row : Holding) → position (is_row_of row.router row.mapping.eid) rows ≡ Some number → (number < length rows) × (row_key (slice_index_or rows number row) ≡ row_key row)
+pub own_key : (rows : List RowValue) (number : ℕ) (row : RowValue) → position (is_row_of row.router row.mapping.eid) rows ≡ Some number → (number < length rows) × (row_key (slice_index_or rows number row) ≡ row_key row)
 own_key rows number row at =
     let first = position-Some (is_row_of row.router row.mapping.eid) rows number row at in
     (first.0, (has_key (row_key row) (slice_index_or rows number row)).0 first.1)

@@ -1,12 +1,20 @@
 -- Room for rows: the least of three.
 use Rattle.std.proofs.Common.{◌≡◌, ◌⊎◌, inl, inr, ℕ, ◌+◌, ◌-◌, ◌<◌, ◌≤◌, true, false, sym, ◌∙◌, arith}
 use Rattle.std.specs.Prelude.{min, nat_le}
+use Rattle.std.specs.Vec.{vec_len, vec_capacity}
+use Rattle.std.specs.VecDeque.{deque_len, deque_capacity}
+use Rattle.std.specs.declared.vec.Vec.{Vec}
+use Rattle.std.specs.declared.collections.VecDeque.{VecDeque}
 use Rattle.std.proofs.lemmas.Bool.{le-leb, lt-leb}
 use Rattle.std.proofs.lemmas.Bool.Decides.{leb_tells}
+use Rattle.lisp_lookup.specs.Room.{spare_of}
 
 -- room in all is room in each
-pub room_each : (rows rows_len prefixes prefixes_len deadlines deadlines_len spare : ℕ) → min (rows - rows_len) (min (prefixes - prefixes_len) (deadlines - deadlines_len)) ≡ spare → 0 < spare → (rows_len < rows) × (prefixes_len < prefixes) × (deadlines_len < deadlines)
-room_each rows rows_len prefixes prefixes_len deadlines deadlines_len spare is some = (omega (arith, is, some), omega (arith, is, some), omega (arith, is, some))
+each_numbers : (rows rows_len prefixes prefixes_len deadlines deadlines_len spare : ℕ) → min (rows - rows_len) (min (prefixes - prefixes_len) (deadlines - deadlines_len)) ≡ spare → 0 < spare → (rows_len < rows) × (prefixes_len < prefixes) × (deadlines_len < deadlines)
+each_numbers rows rows_len prefixes prefixes_len deadlines deadlines_len spare is some = (omega (arith, is, some), omega (arith, is, some), omega (arith, is, some))
+
+pub room_each : {X Y Z : Type 0} (rows : Vec X Z) (prefixes deadlines : VecDeque Y Z) (spare : ℕ) → spare_of rows prefixes deadlines ≡ spare → 0 < spare → (vec_len rows < vec_capacity rows) × (deque_len prefixes < deque_capacity prefixes) × (deque_len deadlines < deque_capacity deadlines)
+room_each rows prefixes deadlines spare is some = each_numbers (vec_capacity rows) (vec_len rows) (deque_capacity prefixes) (deque_len prefixes) (deque_capacity deadlines) (deque_len deadlines) spare is some
 
 -- room in each is room in all
 pub room_all : (more rows rows_len prefixes prefixes_len deadlines deadlines_len : ℕ) → rows_len + more ≤ rows → prefixes_len + more ≤ prefixes → deadlines_len + more ≤ deadlines → more ≤ min (rows - rows_len) (min (prefixes - prefixes_len) (deadlines - deadlines_len))

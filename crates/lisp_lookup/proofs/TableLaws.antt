@@ -18,46 +18,46 @@ use Rattle.std.proofs.lemmas.List.Sorted.{ranks_by, sorted_far, IsPermutation-fi
 use Rattle.lisp_records.proofs.DatabaseLaws.{block_eq-Decides}
 use Rattle.lisp_records.proofs.RouterLaws.{router_eq-Decides}
 use Rattle.lisp_records.specs.declared.router.RouterId.{RouterId}
-use Rattle.lisp_records.specs.Address.{Block}
-use Rattle.lisp_records.specs.Row.{Holding, is_alive}
+use Rattle.lisp_records.specs.Address.{PrefixValue}
+use Rattle.lisp_records.specs.Row.{RowValue, is_alive}
 use Rattle.lisp_lookup.specs.Table.{is_row_of, row_key, row_at, last_of, OneEach, Sets, Expires, if_alive, row_cmp, IsHeld}
 use Rattle.lisp_lookup.proofs.Apart.{own_found}
 use Rattle.lisp_policy.proofs.Found.{put_set, put_push}
 use Rattle.lisp_lookup.proofs.Orders.{key_cmp, key_total, same_key}
 
-abbrev has : RouterId × Block → Holding → Bool
+abbrev has : RouterId × PrefixValue → RowValue → Bool
 has k h = is_row_of k.0 k.1 h
 
-pub has_key : (k : RouterId × Block) (h : Holding) → Decides (has k h) (row_key h ≡ k)
+pub has_key : (k : RouterId × PrefixValue) (h : RowValue) → Decides (has k h) (row_key h ≡ k)
 has_key k h =
     let both = Decides-and _ _ (router_eq-Decides h.router k.0) (block_eq-Decides h.mapping.eid k.1) in
-    (λ t. (let e = both.0 t in λ i. (e.0 i, e.1 i)), λ e. both.1 (ap (λ (x : RouterId × Block). x.0) e, ap (λ (x : RouterId × Block). x.1) e))
+    (λ t. (let e = both.0 t in λ i. (e.0 i, e.1 i)), λ e. both.1 (ap (λ (x : RouterId × PrefixValue). x.0) e, ap (λ (x : RouterId × PrefixValue). x.1) e))
 
 -- the row of a router and prefix was set over another
-pub sets_set : (rows : List Holding) (i : ℕ) (y : Holding) → position (is_row_of y.router y.mapping.eid) rows ≡ Some i → Sets rows (slice_set rows i y) (y ∷ [])
+pub sets_set : (rows : List RowValue) (i : ℕ) (y : RowValue) → position (is_row_of y.router y.mapping.eid) rows ≡ Some i → Sets rows (slice_set rows i y) (y ∷ [])
 unfolding row_at
 sets_set rows i y at = λ router eid. put_set row_key has has_key rows i y at (router, eid)
 
 -- a row was added for a router and prefix that had none
-pub sets_push : (rows : List Holding) (y : Holding) → position (is_row_of y.router y.mapping.eid) rows ≡ None → Sets rows (rows ++ y ∷ []) (y ∷ [])
+pub sets_push : (rows : List RowValue) (y : RowValue) → position (is_row_of y.router y.mapping.eid) rows ≡ None → Sets rows (rows ++ y ∷ []) (y ∷ [])
 unfolding row_at
 sets_push rows y at = λ router eid. put_push row_key has has_key rows y at (router, eid)
 
 -- nothing was set
-pub sets_none : (rows : List Holding) → Sets rows rows []
+pub sets_none : (rows : List RowValue) → Sets rows rows []
 sets_none rows router eid = refl
 
-or_chain : (b : Bool) (y : Holding) (last old : Option Holding) → option_or (cond b (Some y) None) (option_or last old) ≡ option_or (cond b (Some y) last) old
+or_chain : (b : Bool) (y : RowValue) (last old : Option RowValue) → option_or (cond b (Some y) None) (option_or last old) ≡ option_or (cond b (Some y) last) old
 or_chain true y last old = refl
 or_chain false y last old = refl
 
 -- one row more was set
-pub sets_more : (old mid new given : List Holding) (y : Holding) → Sets old mid given → Sets mid new (y ∷ []) → Sets old new (given ++ y ∷ [])
+pub sets_more : (old mid new given : List RowValue) (y : RowValue) → Sets old mid given → Sets mid new (y ∷ []) → Sets old new (given ++ y ∷ [])
 sets_more old mid new given y first second router eid =
     second router eid
-    ∙ ap (λ (o : Option Holding). option_or (cond (is_row_of router eid y) (Some y) None) o) (first router eid)
+    ∙ ap (λ (o : Option RowValue). option_or (cond (is_row_of router eid y) (Some y) None) o) (first router eid)
     ∙ or_chain (is_row_of router eid y) y (last_of given router eid) (row_at old router eid)
-    ∙ ap (λ (rows : List Holding). option_or (find (is_row_of router eid) rows) (row_at old router eid)) (sym (reverse-append given (y ∷ [])))
+    ∙ ap (λ (rows : List RowValue). option_or (find (is_row_of router eid) rows) (row_at old router eid)) (sym (reverse-append given (y ∷ [])))
 
 pub some_inj : {X : Type 0} (x y : X) → ◌≡◌ {A = Option X} (Some x) (Some y) → x ≡ y
 some_inj x y e = cc
@@ -95,7 +95,7 @@ module _ {X K : Type 0} (key : X → K) where
   differ_moved xs moved permuted one = IsPermutation-keeps xs Differ one differ_swap moved permuted
 
 -- a row that is held is found by its router and prefix, and what is found is held
-pub found_own : (rows : List Holding) (h : Holding) → OneEach rows → Contains rows h → row_at rows h.router h.mapping.eid ≡ Some h
+pub found_own : (rows : List RowValue) (h : RowValue) → OneEach rows → Contains rows h → row_at rows h.router h.mapping.eid ≡ Some h
 unfolding row_at
 found_own rows h one held = own_found row_key has has_key rows h one held
 
@@ -108,14 +108,14 @@ found_holds {X = X} p [] h e = absurd (let clash : ◌≡◌ {A = Option X} None
 found_holds p (x ∷ xs) h e = holds_case p x xs h (p x) refl e (found_holds p xs h)
 
 -- a filter holds what passes
-pub filtered_holds : (p : Holding → Bool) (rows : List Holding) (h : Holding) → Contains (filter p rows) h → Contains rows h × (p h ≡ true)
+pub filtered_holds : (p : RowValue → Bool) (rows : List RowValue) (h : RowValue) → Contains (filter p rows) h → Contains rows h × (p h ≡ true)
 filtered_holds p rows h c = (All-contains (Contains rows) (filter p rows) h (All-filter p (Contains rows) rows (All-contains_itself rows)) c, All-contains (λ x. p x ≡ true) (filter p rows) h (filter_passes p rows) c)
 
 not_not : (b : Bool) → not b ≡ true → b ≡ false
 not_not true e = absurd cc
 not_not false e = refl
 
-pub filter_holds : (p : Holding → Bool) (rows : List Holding) (h : Holding) → Contains rows h → p h ≡ true → Contains (filter p rows) h
+pub filter_holds : (p : RowValue → Bool) (rows : List RowValue) (h : RowValue) → Contains rows h → p h ≡ true → Contains (filter p rows) h
 filter_holds p rows h c passes = either (Contains-append_cases (filter p rows) (filter (λ x. not (p x)) rows) h (Contains-permutation rows (filter p rows ++ filter (λ x. not (p x)) rows) h (IsPermutation-filter_both p (λ x. not (p x)) (λ x. refl) rows) c))
   where
     either : Contains (filter p rows) h ⊎ Contains (filter (λ x. not (p x)) rows) h → Contains (filter p rows) h
@@ -123,41 +123,41 @@ filter_holds p rows h c passes = either (Contains-append_cases (filter p rows) (
     either (inr fails) = absurd (true≢false (sym passes ∙ not_not (p h) (All-contains (λ x. not (p x) ≡ true) (filter (λ x. not (p x)) rows) h (filter_passes (λ x. not (p x)) rows) fails)))
 
 -- the rows that are alive
-abbrev pub alive_of : List Holding → ℕ → List Holding
+abbrev pub alive_of : List RowValue → ℕ → List RowValue
 alive_of rows now = filter (λ h. is_alive h now) rows
 
-pub one_each_alive : (rows : List Holding) (now : ℕ) → OneEach rows → OneEach (alive_of rows now)
+pub one_each_alive : (rows : List RowValue) (now : ℕ) → OneEach rows → OneEach (alive_of rows now)
 one_each_alive rows now one = AllPairs-filter (λ a b. row_key a ≢ row_key b) (λ h. is_alive h now) rows one
 
 -- a live row that is found was found before
-of_alive : (rows : List Holding) (now : ℕ) (router : RouterId) (eid : Block) (h : Holding) → OneEach rows → row_at (alive_of rows now) router eid ≡ Some h → (row_at rows router eid ≡ Some h) × (is_alive h now ≡ true)
+of_alive : (rows : List RowValue) (now : ℕ) (router : RouterId) (eid : PrefixValue) (h : RowValue) → OneEach rows → row_at (alive_of rows now) router eid ≡ Some h → (row_at rows router eid ≡ Some h) × (is_alive h now ≡ true)
 unfolding row_at
 of_alive rows now router eid h one e =
     let at = found_holds (is_row_of router eid) (alive_of rows now) h e in
     let held = filtered_holds (λ h. is_alive h now) rows h at.0 in
     let own : row_key h ≡ (router, eid) = (has_key (router, eid) h).0 at.1 in
-    (subst (λ (k : RouterId × Block). row_at rows k.0 k.1 ≡ Some h) own (found_own rows h one held.0), held.1)
+    (subst (λ (k : RouterId × PrefixValue). row_at rows k.0 k.1 ≡ Some h) own (found_own rows h one held.0), held.1)
 
 -- a row that was found and is alive is found again
-stays : (rows : List Holding) (now : ℕ) (router : RouterId) (eid : Block) (h : Holding) → OneEach rows → row_at rows router eid ≡ Some h → is_alive h now ≡ true → row_at (alive_of rows now) router eid ≡ Some h
+stays : (rows : List RowValue) (now : ℕ) (router : RouterId) (eid : PrefixValue) (h : RowValue) → OneEach rows → row_at rows router eid ≡ Some h → is_alive h now ≡ true → row_at (alive_of rows now) router eid ≡ Some h
 unfolding row_at
 stays rows now router eid h one e lives =
     let at = found_holds (is_row_of router eid) rows h e in
     let own : row_key h ≡ (router, eid) = (has_key (router, eid) h).0 at.1 in
-    subst (λ (k : RouterId × Block). row_at (alive_of rows now) k.0 k.1 ≡ Some h) own (found_own (alive_of rows now) h (one_each_alive rows now one) (filter_holds (λ h. is_alive h now) rows h at.0 lives))
+    subst (λ (k : RouterId × PrefixValue). row_at (alive_of rows now) k.0 k.1 ≡ Some h) own (found_own (alive_of rows now) h (one_each_alive rows now one) (filter_holds (λ h. is_alive h now) rows h at.0 lives))
 
 -- of the rows that are alive, those of a router and prefix
-pub expires : (rows : List Holding) (now : ℕ) → OneEach rows → Expires rows (alive_of rows now) now
+pub expires : (rows : List RowValue) (now : ℕ) → OneEach rows → Expires rows (alive_of rows now) now
 expires rows now one router eid = old_case (row_at rows router eid) refl (row_at (alive_of rows now) router eid) refl
   where
-    living : (h : Holding) (b : Bool) → is_alive h now ≡ b → row_at rows router eid ≡ Some h → (new : Option Holding) → row_at (alive_of rows now) router eid ≡ new → new ≡ cond b (Some h) None
+    living : (h : RowValue) (b : Bool) → is_alive h now ≡ b → row_at rows router eid ≡ Some h → (new : Option RowValue) → row_at (alive_of rows now) router eid ≡ new → new ≡ cond b (Some h) None
     living h true lives e new at = sym at ∙ stays rows now router eid h one e lives
     living h false dead e None at = refl
-    living h false dead e (Some g) at = absurd (let was = of_alive rows now router eid g one at in true≢false (sym was.1 ∙ ap (λ (x : Holding). is_alive x now) (sym (some_inj h g (sym e ∙ was.0))) ∙ dead))
+    living h false dead e (Some g) at = absurd (let was = of_alive rows now router eid g one at in true≢false (sym was.1 ∙ ap (λ (x : RowValue). is_alive x now) (sym (some_inj h g (sym e ∙ was.0))) ∙ dead))
 
-    old_case : (old : Option Holding) → row_at rows router eid ≡ old → (new : Option Holding) → row_at (alive_of rows now) router eid ≡ new → row_at (alive_of rows now) router eid ≡ option_and_then (if_alive now) old
+    old_case : (old : Option RowValue) → row_at rows router eid ≡ old → (new : Option RowValue) → row_at (alive_of rows now) router eid ≡ new → row_at (alive_of rows now) router eid ≡ option_and_then (if_alive now) old
     old_case None e None at = at
-    old_case None e (Some g) at = absurd (let clash : ◌≡◌ {A = Option Holding} None (Some g) = sym e ∙ (of_alive rows now router eid g one at).0 in cc)
+    old_case None e (Some g) at = absurd (let clash : ◌≡◌ {A = Option RowValue} None (Some g) = sym e ∙ (of_alive rows now router eid g one at).0 in cc)
     old_case (Some h) e new at = at ∙ living h (is_alive h now) refl e new at
 
 -- the order of keys, where the other way round it isn't less, and the keys differ
@@ -166,14 +166,14 @@ less_from Less up differ = refl
 less_from Equal up differ = absurd (differ refl)
 less_from Greater up differ = absurd cc
 
-rises : (held : List Holding) → OneEach held → IsSortedByKey row_key key_cmp held → AllPairs (λ a b. row_cmp a b ≡ Less) held
+rises : (held : List RowValue) → OneEach held → IsSortedByKey row_key key_cmp held → AllPairs (λ a b. row_cmp a b ≡ Less) held
 rises held one sorted i j d before lt =
     let later = sorted_far (λ a b. is_lt (key_cmp (row_key a) (row_key b))) (ranks_by key_total row_key) held sorted i j d (omega (arith, before)) lt in
     let turned = key_total.antisymm (row_key (slice_index_or held j d)) (row_key (slice_index_or held i d)) in
     less_from (key_cmp (row_key (slice_index_or held i d)) (row_key (slice_index_or held j d))) (ap is_lt (sym turned) ∙ later) (λ tie. one i j d before lt (same_key (row_key (slice_index_or held i d)) (row_key (slice_index_or held j d)) tie))
 
 -- the live rows, sorted by router and prefix
-pub is_held : (rows held : List Holding) (now : ℕ) → OneEach rows → IsPermutation (alive_of rows now) held → IsSortedByKey row_key key_cmp held → IsHeld rows now held
+pub is_held : (rows held : List RowValue) (now : ℕ) → OneEach rows → IsPermutation (alive_of rows now) held → IsSortedByKey row_key key_cmp held → IsHeld rows now held
 unfolding row_at
 is_held rows held now one moved sorted = record {
   rising = rises held (differ_moved row_key (alive_of rows now) held moved (one_each_alive rows now one)) sorted;
@@ -184,6 +184,6 @@ is_held rows held now one moved sorted = record {
 }
 
 -- a row that was looked up by its place
-pub row_got : {R : Type 0} (view : R → Holding) (rows : List Holding) (place : ℕ) (got : Option R) → is_some got ≡ nat_lt place (length rows) → IfSome got (λ row. view row ≡ slice_index_or rows place (view row)) → option_map view got ≡ slice_get rows place
+pub row_got : {R : Type 0} (view : R → RowValue) (rows : List RowValue) (place : ℕ) (got : Option R) → is_some got ≡ nat_lt place (length rows) → IfSome got (λ row. view row ≡ slice_index_or rows place (view row)) → option_map view got ≡ slice_get rows place
 row_got view rows place None is read = sym (slice_get_past rows place (ltb-false place (length rows) (sym is)))
 row_got view rows place (Some row) is read = sym (slice_get_read rows (length rows) place (view row) refl (ltb-true place (length rows) (sym is)) read)

@@ -1,3 +1,4 @@
+pub mod Room
 pub mod Table
 pub mod Records
 pub mod Answer

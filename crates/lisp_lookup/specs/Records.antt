@@ -1,23 +1,41 @@
 -- What a Map-Server can tell a router: the records of its live rows (RFC 9301 section 5.7).
-use Rattle.std.specs.Prelude.{◌≡◌, ℕ, Bool, ◌&&◌, List, map}
+use Rattle.std.specs.Prelude.{◌≡◌, ℕ, Bool, ◌&&◌, List, map, length, Ok, Err}
 use Rattle.std.specs.List.{AllPairs, filter}
 use Rattle.std.specs.List.Sorted.{IsPermutation}
 use Rattle.std.specs.declared.cmp.Ordering.TheVariants.{Less}
+use Rattle.lisp_records.specs.declared.database.DatabaseFault.{DatabaseFault}
 use Rattle.lisp_records.specs.declared.router.RouterId.{RouterId}
-use Rattle.lisp_records.specs.Address.{block_cmp}
-use Rattle.lisp_records.specs.Record.{Mapping}
+use Rattle.lisp_records.specs.Address.{prefix_cmp}
+use Rattle.lisp_records.specs.Database.{database_of}
+use Rattle.lisp_records.specs.Record.{MapRecordValue}
 use Rattle.lisp_records.specs.Router.{router_eq}
-use Rattle.lisp_records.specs.Row.{Holding, is_alive}
+use Rattle.lisp_records.specs.Row.{RowValue, is_alive}
 
 -- the row is one of the router, and alive
-abbrev pub is_live_of : RouterId → ℕ → Holding → Bool
+abbrev pub is_live_of : RouterId → ℕ → RowValue → Bool
 is_live_of router now h = router_eq h.router router && is_alive h now
 
 -- the records of the router's live rows, in the order of the table
-abbrev pub live_of : List Holding → RouterId → ℕ → List Mapping
+abbrev pub live_of : List RowValue → RouterId → ℕ → List MapRecordValue
 live_of rows router now = map (λ h. h.mapping) (filter (is_live_of router now) rows)
 
 -- the given records, by prefix
-pub record ByPrefix (given records : List Mapping) : Type 0 where
+pub record ByPrefix (given records : List MapRecordValue) : Type 0 where
   pub same : IsPermutation given records
-  pub rising : AllPairs (λ a b. block_cmp a.eid b.eid ≡ Less) records
+  pub rising : AllPairs (λ a b. prefix_cmp a.eid b.eid ≡ Less) records
+
+-- a list has the records of the router's live rows, by prefix
+abbrev pub ListsLive : List RowValue → RouterId → ℕ → List MapRecordValue → Type 0
+ListsLive rows router now listed = ByPrefix (live_of rows router now) listed
+
+-- how many records of the router are alive
+abbrev pub live_count : List RowValue → RouterId → ℕ → ℕ
+live_count rows router now = length (live_of rows router now)
+
+-- the router's live records are a Database
+abbrev pub LiveFit : List RowValue → RouterId → ℕ → Type 0
+LiveFit rows router now = database_of (live_of rows router now) ≡ Ok (live_of rows router now)
+
+-- the router's live records are no Database, and why not
+abbrev pub LiveRefused : List RowValue → RouterId → ℕ → DatabaseFault → Type 0
+LiveRefused rows router now fault = database_of (live_of rows router now) ≡ Err fault

@@ -1,11 +1,11 @@
 //! Which of the rows answers for an address.
 
 ghost use Rattle.std.specs.Prelude.{◌≡◌};
-ghost use Rattle.std.specs.List.{All, filter};
+ghost use Rattle.std.specs.List.{All};
 ghost use Rattle.std.specs.Option.{option_map};
-ghost use Rattle.lisp_records.specs.Address.{IsBlock, block_eq};
-ghost use Rattle.lisp_lookup.specs.Index.{prefix_cmp, IsIndex};
-ghost use Rattle.lisp_lookup.specs.Answer.{may_answer, rank_cmp, greater, IsBestOf};
+ghost use Rattle.lisp_records.specs.Address.{IsPrefix, prefix_eq};
+ghost use Rattle.lisp_lookup.specs.Index.{row_prefix_cmp, IsIndex};
+ghost use Rattle.lisp_lookup.specs.Answer.{may_answer, rank_cmp, greater, IsBestOf, IsBestOfPrefix};
 
 use crate::find::place;
 use crate::probe::Probe;
@@ -22,8 +22,8 @@ pub(crate) fn best<'a, A: Allocator>(
     addr: &Addr,
     now: u64,
 ) -> Option<&'a Row<A>>
-    requires eids { All (λ h. IsBlock h.mapping.eid) rows.now }
-    requires index { IsIndex prefix_cmp rows.now by_prefix.now.items }
+    requires eids { All (λ h. IsPrefix h.mapping.eid) rows.now }
+    requires index { IsIndex row_prefix_cmp rows.now by_prefix.now.items }
     ensures { IsBestOf rows.now addr.now now (option_map (λ row. row.now) result) }
 {
     let longest = addr.family().max_mask_len();
@@ -45,8 +45,8 @@ fn best_of<'a, A: Allocator>(
     addr: &Addr,
     now: u64,
 ) -> Option<&'a Row<A>>
-    requires index { IsIndex prefix_cmp rows.now by_prefix.now.items }
-    ensures { IsBestOf (filter (λ h. block_eq h.mapping.eid prefix.now) rows.now) addr.now now (option_map (λ row. row.now) result) }
+    requires index { IsIndex row_prefix_cmp rows.now by_prefix.now.items }
+    ensures { IsBestOfPrefix rows.now prefix.now addr.now now (option_map (λ row. row.now) result) }
 {
     let first = place(rows, by_prefix, &Probe::Prefix(*prefix));
     let mut best = None;
@@ -64,7 +64,7 @@ fn best_of<'a, A: Allocator>(
 
 // Whether a row is one of a prefix.
 fn is_of<A: Allocator>(row: &Row<A>, prefix: &Prefix) -> bool
-    ensures { result ≡ block_eq row.now.mapping.eid prefix.now }
+    ensures { result ≡ prefix_eq row.now.mapping.eid prefix.now }
 {
     *row.mapping.eid_ref() == *prefix
 }

@@ -1,8 +1,7 @@
 //! Rows that a search can look at only where each look is counted.
 
-ghost use Rattle.std.specs.Prelude.{◌≡◌, ℕ, ◌+◌, ◌<◌, length, slice_index};
-ghost use Rattle.lisp_records.specs.Row.{Holding};
-ghost use Rattle.lisp_lookup.specs.Index.{row_at_place};
+ghost use Rattle.std.specs.Prelude.{◌≡◌, ◌+◌, ◌<◌, length};
+ghost use Rattle.lisp_lookup.specs.Index.{IsRowAt, AreNumbersOf};
 
 use crate::steps::Steps;
 use lisp_records::Row;
@@ -22,21 +21,20 @@ pub(crate) struct CountedRows<'r, A: Allocator, L: Ledger> {
 }
 
 impl<'r, A: Allocator, L: Ledger> Model for CountedRows<'r, A, L> {
-    ghost use Rattle.std.specs.Prelude.{ℕ, ◌<◌, length, slice_index};
-    ghost use Rattle.lisp_lookup.specs.Index.{RowsInOrder};
+    ghost use Rattle.lisp_lookup.specs.Index.{CountedRowsValue, AreNumbersOf};
 
-    ghost Value = { RowsInOrder };
+    ghost Value = { CountedRowsValue };
 
     ghost view = { λ r. record { rows = r.rows.now; numbers = r.numbers.now.items } };
 
-    ghost invariant = { λ r. (k : ℕ) → k < length r.numbers.now.items → slice_index r.numbers.now.items k < length r.rows.now };
+    ghost invariant = { λ r. AreNumbersOf r.rows.now r.numbers.now.items };
 }
 
 impl<'r, A: Allocator, L: Ledger> CountedRows<'r, A, L> {
     /// The rows of these numbers, in the order of the numbers.
     #[inline(always)]
     pub(crate) fn new(rows: &'r [Row<A>], numbers: &'r VecDeque<usize, A>) -> CountedRows<'r, A, L>
-        requires below { (k : ℕ) → k < length numbers.now.items → slice_index numbers.now.items k < length rows.now }
+        requires below { AreNumbersOf rows.now numbers.now.items }
         ensures { result ≡ record { rows = rows.now; numbers = numbers.now.items } }
     {
         CountedRows {
@@ -58,7 +56,7 @@ impl<'r, A: Allocator, L: Ledger> CountedRows<'r, A, L> {
     #[inline(always)]
     pub(crate) fn look(&self, place: usize, steps: &mut Steps<L>) -> &'r Row<A>
         requires { place < length self.now.numbers }
-        ensures row { (d : Holding) → result.now ≡ row_at_place self.now.rows self.now.numbers place d }
+        ensures row { IsRowAt self.now place result.now }
         ensures step { steps.new ≡ steps.old + 1 }
     {
         steps.tick();

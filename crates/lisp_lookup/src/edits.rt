@@ -1,9 +1,10 @@
 //! What enters and leaves an order of rows: numbers of rows, and no rows.
 
-ghost use Rattle.std.specs.Prelude.{◌≡◌, ◌+◌, ◌-◌, ◌<◌, ◌≤◌, length, slice_index};
-ghost use Rattle.std.specs.List.{Contains, insert, remove};
+ghost use Rattle.std.specs.Prelude.{◌≡◌, ◌+◌, ◌<◌, ◌≤◌, length, slice_index};
+ghost use Rattle.std.specs.List.{Contains};
 ghost use Rattle.std.specs.VecDeque.{deque_len, deque_capacity};
-ghost use Rattle.lisp_lookup.specs.Index.{order_cmp, Rises, Left, IsFresh, Entered, Renamed};
+ghost use Rattle.lisp_lookup.specs.Index.{order_cmp, Rises, IsTakenOut, IsFresh, IsPutIn, IsRenumbered};
+ghost use Rattle.lisp_lookup.specs.Room.{deque_room};
 
 use crate::find::place;
 use crate::order::Order;
@@ -25,8 +26,8 @@ pub(crate) fn enter<A: Allocator>(
     requires row { number < length rows.now }
     requires fresh { IsFresh rows.now numbers.old.items number }
     requires room { deque_len numbers.old < deque_capacity numbers.old }
-    ensures entered { Entered order rows.now numbers.old.items numbers.new.items number }
-    ensures room { deque_capacity numbers.old - deque_len numbers.old ≤ deque_capacity numbers.new - deque_len numbers.new + 1 }
+    ensures entered { IsPutIn order rows.now numbers.old.items numbers.new.items number }
+    ensures room { deque_room numbers.old ≤ deque_room numbers.new + 1 }
 {
     let row = &rows[number];
     match numbers.back() {
@@ -51,7 +52,7 @@ pub(crate) fn leave<A: Allocator>(
     requires rises { Rises (order_cmp order) rows.now numbers.old.items }
     requires row { number < length rows.now }
     requires held { Contains numbers.old.items number }
-    ensures left { Left order rows.now numbers.old.items numbers.new.items number }
+    ensures left { IsTakenOut order rows.now numbers.old.items numbers.new.items number }
     ensures len { deque_len numbers.new + 1 ≡ deque_len numbers.old }
     ensures capacity { deque_capacity numbers.new ≡ deque_capacity numbers.old }
 {
@@ -100,7 +101,7 @@ pub(crate) fn rename<A: Allocator>(
     requires rises { Rises (order_cmp order) rows.now numbers.old.items }
     requires row { from < length rows.now }
     requires held { Contains numbers.old.items from }
-    ensures renamed { Renamed numbers.old.items numbers.new.items from to }
+    ensures renamed { IsRenumbered numbers.old.items numbers.new.items from to }
     ensures len { deque_len numbers.new ≡ deque_len numbers.old }
     ensures capacity { deque_capacity numbers.new ≡ deque_capacity numbers.old }
 {

@@ -1,7 +1,7 @@
 //! Search by halving.
 
-ghost use Rattle.std.specs.Prelude.{◌≡◌, ℕ, ◌+◌, ◌-◌, ◌*◌, ◌^◌, ◌<◌, ◌≤◌, length, slice_index};
-ghost use Rattle.lisp_lookup.specs.Index.{Falls, IsBound};
+ghost use Rattle.std.specs.Prelude.{◌≡◌, ◌+◌, ◌-◌, ◌*◌, ◌^◌, ◌<◌, ◌≤◌, length};
+ghost use Rattle.lisp_lookup.specs.Index.{AreNumbersOf, Falls, IsBound};
 
 use crate::counted_rows::CountedRows;
 use crate::probe::Probe;
@@ -44,7 +44,7 @@ pub(crate) fn place<A: Allocator>(
     numbers: &VecDeque<usize, A>,
     probe: &Probe<'_, A>,
 ) -> usize
-    requires below { (k : ℕ) → k < length numbers.now.items → slice_index numbers.now.items k < length rows.now }
+    requires below { AreNumbersOf rows.now numbers.now.items }
     requires falls { Falls probe.now rows.now numbers.now.items }
     ensures bound { IsBound probe.now rows.now numbers.now.items result }
 {
@@ -60,7 +60,7 @@ fn counted<A: Allocator, L: Ledger>(
     requires name { blank.name ≡ L.name }
     requires parts { blank.parts ≡ L.parts }
     requires some { 0 < blank.parts }
-    requires below { (k : ℕ) → k < length numbers.now.items → slice_index numbers.now.items k < length rows.now }
+    requires below { AreNumbersOf rows.now numbers.now.items }
     requires falls { Falls probe.now rows.now numbers.now.items }
     ensures bound { IsBound probe.now rows.now numbers.now.items result }
 {

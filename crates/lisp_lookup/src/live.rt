@@ -1,9 +1,8 @@
 //! The records of one router that are alive.
 
-ghost use Rattle.std.specs.Prelude.{◌≡◌, [], IsOk, IfOk, IfErr, OnErr, length};
-ghost use Rattle.lisp_records.specs.Database.{database_of};
+ghost use Rattle.std.specs.Prelude.{◌≡◌, [], IsOk, IfOk, IfErr, OnErr};
 ghost use Rattle.lisp_lookup.specs.Table.{OneEach};
-ghost use Rattle.lisp_lookup.specs.Records.{is_live_of, live_of};
+ghost use Rattle.lisp_lookup.specs.Records.{is_live_of, live_of, live_count, LiveFit, LiveRefused};
 
 use lisp_memory::{FallibleVec, Memory};
 use lisp_records::{DatabaseFault, MAX_RECORDS, MAX_SIZE, MapRecord, RouterId, Row};
@@ -16,9 +15,9 @@ pub(crate) fn count_live<A: Allocator>(
     now: u64,
 ) -> Result<usize, DatabaseFault>
     requires { OneEach rows.now }
-    ensures fits { IfOk result (λ count. database_of (live_of rows.now router.now now) ≡ Ok (live_of rows.now router.now now)) }
-    ensures count { IfOk result (λ count. count ≡ length (live_of rows.now router.now now)) }
-    ensures refused { IfErr result (λ fault. database_of (live_of rows.now router.now now) ≡ Err fault) }
+    ensures fits { IfOk result (λ count. LiveFit rows.now router.now now) }
+    ensures count { IfOk result (λ count. count ≡ live_count rows.now router.now now) }
+    ensures refused { IfErr result (λ fault. LiveRefused rows.now router.now now fault) }
 {
     let mut count = 0;
     let mut size = 0;

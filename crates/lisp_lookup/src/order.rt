@@ -1,7 +1,7 @@
 //! The orders in which rows are found.
 
 ghost use Rattle.std.specs.Prelude.{◌≡◌};
-ghost use Rattle.lisp_lookup.specs.Index.{deadline, prefix_cmp, order_cmp};
+ghost use Rattle.lisp_lookup.specs.Index.{deadline, row_prefix_cmp, order_cmp};
 
 use lisp_records::Row;
 use std::alloc::Allocator;
@@ -36,7 +36,7 @@ impl Order {
 // equal.
 #[inline(always)]
 fn prefix_cmp<A: Allocator>(one: &Row<A>, other: &Row<A>) -> Ordering
-    ensures { result ≡ prefix_cmp one.now other.now }
+    ensures { result ≡ row_prefix_cmp one.now other.now }
 {
     match one.mapping.eid_cmp(&other.mapping) {
         Ordering::Equal => one.router.cmp(&other.router),

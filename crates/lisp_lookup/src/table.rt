@@ -1,22 +1,19 @@
 //! The rows that a Map-Server holds.
 
-ghost use Rattle.std.specs.Prelude.{◌≡◌, ◌+◌, ◌-◌, ◌*◌, ◌^◌, ◌≤◌, ◌<◌, [], ◌∷◌, List, length, nat_le, slice_get, Ok, Err, IsOk, IfOk, IfErr, OnOk, OnErr};
+ghost use Rattle.std.specs.Prelude.{◌≡◌, ◌+◌, ◌-◌, ◌*◌, ◌^◌, ◌≤◌, ◌<◌, [], length, nat_le, slice_get, IsOk, IfOk, IfErr, OnOk, OnErr};
 ghost use Rattle.std.specs.Option.{option_map};
-ghost use Rattle.std.specs.List.{filter, count_by};
-ghost use Rattle.std.specs.Ordering.{is_lt};
-ghost use Rattle.lisp_records.specs.Address.{block_cmp};
+ghost use Rattle.std.specs.List.{filter};
 ghost use Rattle.lisp_records.specs.Moment.{max_moment};
 ghost use Rattle.lisp_records.specs.Row.{is_alive};
-ghost use Rattle.lisp_lookup.specs.Table.{OneEach, Sets, Expires, row_cmp, IsHeld};
+ghost use Rattle.lisp_lookup.specs.Table.{OneEach, Sets, Expires, row_cmp, IsHeld, count_lesser};
 ghost use Rattle.lisp_lookup.specs.Answer.{Answers};
-ghost use Rattle.lisp_lookup.specs.Records.{live_of, ByPrefix};
-ghost use Rattle.lisp_records.specs.Database.{database_of};
+ghost use Rattle.lisp_lookup.specs.Records.{live_of, live_count, ListsLive, LiveFit, LiveRefused};
 
 use crate::answer::Answer;
 use crate::best::best;
 use crate::counted_rows::CountedRows;
 use crate::find::find;
-use crate::index::{self, Near};
+use crate::index::Near;
 use crate::live::{copy_live, count_live};
 use crate::probe::Probe;
 use crate::steps::Steps;
@@ -32,22 +29,21 @@ use std::sync::ledger::Ledger;
 /// Rows, one for each router and prefix, and room for more.
 #[derive(Debug, Drop)]
 pub struct Table<A: Allocator = Global> {
-    items: Vec<Row<A>, A>,
+    pub(crate) items: Vec<Row<A>, A>,
     // The numbers of the rows, by prefix, then router.
-    by_prefix: VecDeque<usize, A>,
+    pub(crate) by_prefix: VecDeque<usize, A>,
     // The numbers of the rows, by deadline.
-    by_deadline: VecDeque<usize, A>,
+    pub(crate) by_deadline: VecDeque<usize, A>,
 }
 
 impl<A: Allocator> Model for Table<A> {
-    ghost use Rattle.std.specs.Prelude.{◌-◌, min, vec_len, vec_capacity};
-    ghost use Rattle.std.specs.VecDeque.{deque_len, deque_capacity};
+    ghost use Rattle.lisp_lookup.specs.Room.{spare_of};
     ghost use Rattle.lisp_lookup.specs.Table.{TableState};
     ghost use Rattle.lisp_lookup.specs.Index.{Indexed};
 
     ghost Value = { TableState };
 
-    ghost view = { λ r. record { rows = r.items.items; spare = min (vec_capacity r.items - vec_len r.items) (min (deque_capacity r.by_prefix - deque_len r.by_prefix) (deque_capacity r.by_deadline - deque_len r.by_deadline)) } };
+    ghost view = { λ r. record { rows = r.items.items; spare = spare_of r.items r.by_prefix r.by_deadline } };
 
     ghost invariant = { λ r. Indexed r.items.items r.by_prefix.items r.by_deadline.items };
 }
@@ -98,40 +94,23 @@ impl<A: Allocator + Copy> Table<A> {
         let _items = &self.items;
     }
 
-    // Sets a row.
-    #[inline(always)]
-    fn put(&mut self, row: Row<A>, near: &mut Near)
-        requires { 0 < self.old.spare }
-        ensures row { Sets self.old.rows self.new.rows (row ∷ []) }
-        ensures room { self.old.spare ≤ self.new.spare + 1 }
-    {
-        index::put(
-            &mut self.items,
-            &mut self.by_prefix,
-            &mut self.by_deadline,
-            row,
-            near,
-        );
-    }
-
     /// Takes out the rows that are dead at a moment, in ms, of at most 2^62; takes no memory.
     pub fn drop_dead(&mut self, now: u64)
         requires { now ≤ max_moment }
         ensures expires { Expires self.old.rows self.new.rows now }
         ensures one_each { OneEach self.new.rows }
     {
-        index::drop_dead(
-            &mut self.items,
-            &mut self.by_prefix,
-            &mut self.by_deadline,
-            now,
-        );
+        // Reading a field shows the type's invariant to the proof.
+        let _items = &self.items;
+        while let Some(number) = self.first_dead(now) {
+            self.remove(number);
+        }
     }
 
     /// How many rows have a lesser prefix, dead or alive. Takes no memory. The steps are the rows that it looks
     /// at: at most as many as the number of rows has binary digits (0 has none).
     pub fn find<L: Ledger>(&self, prefix: &Prefix, steps: &mut Steps<L>) -> usize
-        ensures lesser { result ≡ count_by (λ h. is_lt (block_cmp h.mapping.eid prefix.now)) self.now.rows }
+        ensures lesser { result ≡ count_lesser self.now.rows prefix.now }
         ensures grows { steps.old ≤ steps.new }
         ensures cost { 2 ^ (steps.new - steps.old) ≤ 2 * length self.now.rows + 1 }
     {
@@ -142,9 +121,9 @@ impl<A: Allocator + Copy> Table<A> {
     /// How many records of a router are alive at a moment, in ms; `TooLarge` where they are too many, or too
     /// long, for a Database. Takes no memory.
     pub fn count_live(&self, router: &RouterId, now: u64) -> Result<usize, DatabaseFault>
-        ensures fits { IfOk result (λ count. database_of (live_of self.now.rows router.now now) ≡ Ok (live_of self.now.rows router.now now)) }
-        ensures count { IfOk result (λ count. count ≡ length (live_of self.now.rows router.now now)) }
-        ensures refused { IfErr result (λ fault. database_of (live_of self.now.rows router.now now) ≡ Err fault) }
+        ensures fits { IfOk result (λ count. LiveFit self.now.rows router.now now) }
+        ensures count { IfOk result (λ count. count ≡ live_count self.now.rows router.now now) }
+        ensures refused { IfErr result (λ fault. LiveRefused self.now.rows router.now now fault) }
         ensures one_each { OneEach self.now.rows }
     {
         count_live(&self.items, router, now)
@@ -198,7 +177,7 @@ impl<A: Memory + Copy> Table<A> {
         router: &RouterId,
         now: u64,
     ) -> Result<Vec<MapRecord<A>, A>, AllocError>
-        ensures records { IfOk result (λ records. ByPrefix (live_of self.now.rows router.now now) records.items) }
+        ensures records { IfOk result (λ live. ListsLive self.now.rows router.now now live.items) }
         ensures none_alive { live_of self.now.rows router.now now ≡ [] → IsOk result }
         ensures memory { OnErr result A.may_refuse }
     {

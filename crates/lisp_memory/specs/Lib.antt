@@ -1,2 +1,4 @@
 pub mod Refusal
 pub mod Room
+pub mod Appending
+pub mod Inserting

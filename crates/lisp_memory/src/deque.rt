@@ -1,7 +1,8 @@
 //! The calls of `VecDeque` that ask for memory.
 
-ghost use Rattle.std.specs.Prelude.{◌≡◌, ◌≤◌, ◌+◌, IsOk, OnOk, OnErr, length};
-ghost use Rattle.std.specs.VecDeque.{deque_len, deque_capacity};
+ghost use Rattle.std.specs.Prelude.{◌≡◌, IsOk, OnOk, OnErr};
+ghost use Rattle.std.specs.VecDeque.{deque_len};
+ghost use Rattle.lisp_memory.specs.Room.{DequeHasRoom};
 
 use crate::memory::{Memory, asked};
 use std::alloc::AllocError;
@@ -17,8 +18,8 @@ impl<T, A: Memory> FallibleDeque for VecDeque<T, A> {
     fn make_room_for<U>(&mut self, items: &[U]) -> Result<(), AllocError>
         ensures items { self.new.items ≡ self.old.items }
         ensures len { deque_len self.new ≡ deque_len self.old }
-        ensures ok { OnOk result (deque_len self.new + length items.now ≤ deque_capacity self.new) }
-        ensures succeeds { deque_len self.old + length items.now ≤ deque_capacity self.old → IsOk result }
+        ensures ok { OnOk result (DequeHasRoom self.new items.now) }
+        ensures succeeds { DequeHasRoom self.old items.now → IsOk result }
         ensures refused { OnErr result A.may_refuse }
     {
         asked::<A, _, _>(self.reserve(items.len()))

@@ -1,8 +1,9 @@
 //! The call of `BTreeMap` that asks for memory.
 
-ghost use Rattle.std.specs.Prelude.{◌≡◌, ◌+◌, is_some, IsSome, if◌then◌else◌, IfOk, IfErr, OnOk, OnErr};
+ghost use Rattle.std.specs.Prelude.{◌≡◌, IsSome, IfOk, IfErr, OnOk, OnErr};
 ghost use Rattle.std.specs.declared.option.Option.TheVariants.{None, Some};
-ghost use Rattle.std.specs.BTreeMap.{btree_map_len, get, keys, IsOrdered, IsUnchanged, Updates};
+ghost use Rattle.std.specs.BTreeMap.{get, keys, IsOrdered, IsUnchanged, Updates};
+ghost use Rattle.lisp_memory.specs.Inserting.{MapGainsKey};
 
 use crate::memory::{Memory, asked};
 use std::alloc::AllocFailed;
@@ -19,7 +20,7 @@ impl<K: Ord + Drop, V, A: Memory + Clone> FallibleMap<K, V> for BTreeMap<K, V, A
         ensures old { IfOk result (λ old. old ≡ get K.cmp self.old key) }
         ensures updates { OnOk result (Updates K.cmp self.old self.new key (Some value)) }
         ensures keys_stay { IfOk result (λ old. IsSome old → keys self.new ≡ keys self.old) }
-        ensures len { IfOk result (λ old. btree_map_len self.new ≡ btree_map_len self.old + (if is_some old then 0 else 1)) }
+        ensures len { IfOk result (λ old. MapGainsKey self.old self.new old) }
         ensures value_returned { IfErr result (λ failed. failed.value ≡ (key, value)) }
         ensures absent { OnErr result (get K.cmp self.old key ≡ None) }
         ensures err { OnErr result (IsUnchanged self.old self.new) }

@@ -1,8 +1,9 @@
 //! The call of `BTreeSet` that asks for memory.
 
-ghost use Rattle.std.specs.Prelude.{◌≡◌, ◌+◌, true, false, not, if◌then◌else◌, IfOk, IfErr, OnOk, OnErr};
+ghost use Rattle.std.specs.Prelude.{◌≡◌, true, false, not, IfOk, IfErr, OnOk, OnErr};
 ghost use Rattle.std.specs.Bool.{OnFalse};
-ghost use Rattle.std.specs.BTreeSet.{btree_set_len, contains, insert_key, IsOrdered, IsUnchanged, Updates};
+ghost use Rattle.std.specs.BTreeSet.{contains, insert_key, IsOrdered, IsUnchanged, Updates};
+ghost use Rattle.lisp_memory.specs.Inserting.{SetGainsKey};
 
 use crate::memory::{Memory, asked};
 use std::alloc::AllocFailed;
@@ -20,7 +21,7 @@ impl<K: Ord + Drop, A: Memory + Clone> FallibleSet<K> for BTreeSet<K, A> {
         ensures updates { OnOk result (Updates K.cmp self.old self.new key true) }
         ensures keys { OnOk result (self.new.keys ≡ insert_key K.cmp self.old.keys key) }
         ensures unchanged { IfOk result (λ added. OnFalse added (IsUnchanged self.old self.new)) }
-        ensures len { IfOk result (λ added. btree_set_len self.new ≡ btree_set_len self.old + (if added then 1 else 0)) }
+        ensures len { IfOk result (λ added. SetGainsKey self.old self.new added) }
         ensures value_returned { IfErr result (λ failed. failed.value ≡ key) }
         ensures err { OnErr result (IsUnchanged self.old self.new) }
         ensures absent { OnErr result (contains K.cmp self.old key ≡ false) }

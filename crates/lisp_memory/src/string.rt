@@ -1,9 +1,10 @@
 //! The calls of `String` that ask for memory.
 
-ghost use Rattle.std.specs.Prelude.{◌≡◌, ◌≤◌, ◌+◌, ◌++◌, [], if◌then◌else◌, IfOk, IfSome, IsOk, OnOk, OnErr, is_ok, length};
-ghost use Rattle.std.specs.String.{string_bytes, string_len, string_capacity};
+ghost use Rattle.std.specs.Prelude.{◌≡◌, [], IfOk, IsOk, OnOk, OnErr};
+ghost use Rattle.std.specs.String.{string_bytes};
 ghost use Rattle.std.specs.Char.{encode_utf8};
-ghost use Rattle.std.specs.Fmt.{AppendsText};
+ghost use Rattle.lisp_memory.specs.Room.{StringHasRoom};
+ghost use Rattle.lisp_memory.specs.Appending.{StringAppends, StringGrowsByOutput, StringIsOutput};
 
 use crate::memory::{Memory, asked};
 use std::alloc::AllocError;
@@ -23,8 +24,8 @@ pub trait FallibleString<A>: Sized {
 impl<A: Memory> FallibleString<A> for String<A> {
     /// As `String::push`.
     fn try_push(&mut self, character: char) -> Result<(), AllocError>
-        ensures bytes { string_bytes self.new ≡ (if is_ok result then string_bytes self.old ++ encode_utf8 character else string_bytes self.old) }
-        ensures succeeds { string_len self.old + length (encode_utf8 character) ≤ string_capacity self.old → IsOk result }
+        ensures bytes { StringAppends result self.old self.new (encode_utf8 character) }
+        ensures succeeds { StringHasRoom self.old (encode_utf8 character) → IsOk result }
         ensures refused { OnErr result A.may_refuse }
     {
         asked::<A, _, _>(self.push(character))
@@ -32,7 +33,7 @@ impl<A: Memory> FallibleString<A> for String<A> {
 
     /// As `write!(text, "{value}")`; nothing is said of when it succeeds, since std says nothing of it.
     fn try_write<D: Display + Drop>(&mut self, value: D) -> Result<(), AllocError>
-        ensures bytes { OnOk result (AppendsText (string_bytes self.old) (string_bytes self.new) (D.output value)) }
+        ensures bytes { OnOk result (StringGrowsByOutput self.old self.new (D.output value)) }
         ensures refused { OnErr result A.may_refuse }
     {
         asked::<A, _, _>(self.write(value))
@@ -51,7 +52,7 @@ impl<A: Memory> FallibleString<A> for String<A> {
 
     /// As `format!(in alloc; "{value}")`.
     fn try_format<D: Display + Drop>(alloc: A, value: D) -> Result<String<A>, AllocError>
-        ensures ok { IfOk result (λ string. IfSome (D.output value) (λ bytes. string_bytes string ≡ bytes)) }
+        ensures ok { IfOk result (λ string. StringIsOutput string (D.output value)) }
         ensures refused { OnErr result A.may_refuse }
     {
         let mut string = String::new(alloc);

@@ -1,8 +1,9 @@
 //! The calls of `Vec` that ask for memory.
 
-ghost use Rattle.std.specs.Prelude.{◌≡◌, ◌<◌, ◌≤◌, ◌+◌, ◌++◌, ◌∷◌, [], if◌then◌else◌, IfOk, IsOk, OnOk, OnErr, is_ok, length, replicate};
-ghost use Rattle.lisp_memory.specs.Room.{most_room};
+ghost use Rattle.std.specs.Prelude.{◌≡◌, ◌<◌, ◌≤◌, ◌+◌, ◌∷◌, [], IfOk, IsOk, OnOk, OnErr, length, replicate};
 ghost use Rattle.std.specs.Vec.{vec_len, vec_capacity};
+ghost use Rattle.lisp_memory.specs.Room.{most_room, VecHasRoom};
+ghost use Rattle.lisp_memory.specs.Appending.{VecAppends};
 
 use crate::memory::{Memory, asked};
 use std::alloc::{AllocError, AllocFailed};
@@ -20,7 +21,7 @@ pub trait FallibleVec<T>: Sized {
 impl<T, A: Memory> FallibleVec<T> for Vec<T, A> {
     /// As `Vec::push`.
     fn try_push(&mut self, value: T) -> Result<(), AllocFailed<T>>
-        ensures items { self.new.items ≡ (if is_ok result then self.old.items ++ value ∷ [] else self.old.items) }
+        ensures items { VecAppends result self.old self.new (value ∷ []) }
         ensures succeeds { vec_len self.old < vec_capacity self.old → IsOk result }
         ensures refused { OnErr result A.may_refuse }
     {
@@ -43,8 +44,8 @@ impl<T, A: Memory> FallibleVec<T> for Vec<T, A> {
     fn make_room_for<U>(&mut self, items: &[U]) -> Result<(), AllocError>
         ensures items { self.new.items ≡ self.old.items }
         ensures len { vec_len self.new ≡ vec_len self.old }
-        ensures ok { OnOk result (vec_len self.new + length items.now ≤ vec_capacity self.new) }
-        ensures succeeds { vec_len self.old + length items.now ≤ vec_capacity self.old → IsOk result }
+        ensures ok { OnOk result (VecHasRoom self.new items.now) }
+        ensures succeeds { VecHasRoom self.old items.now → IsOk result }
         ensures refused { OnErr result A.may_refuse }
     {
         asked::<A, _, _>(self.reserve(items.len()))
@@ -63,8 +64,8 @@ pub trait FallibleCopies<T: Copy, A>: Sized {
 impl<T: Copy, A: Memory> FallibleCopies<T, A> for Vec<T, A> {
     /// As `Vec::extend_from_slice`.
     fn try_extend_from_slice(&mut self, other: &[T]) -> Result<(), AllocError>
-        ensures items { self.new.items ≡ (if is_ok result then self.old.items ++ other.now else self.old.items) }
-        ensures succeeds { vec_len self.old + length other.now ≤ vec_capacity self.old → IsOk result }
+        ensures items { VecAppends result self.old self.new other.now }
+        ensures succeeds { VecHasRoom self.old other.now → IsOk result }
         ensures refused { OnErr result A.may_refuse }
     {
         asked::<A, _, _>(self.extend_from_slice(other))

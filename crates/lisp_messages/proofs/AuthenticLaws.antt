@@ -4,7 +4,7 @@ use Rattle.std.specs.Prelude.{slice_range}
 use Rattle.std.proofs.lemmas.List.{take_at, drop_at, length-append}
 use Rattle.lisp_hmac.specs.Tag.{hmac, without_tag, tag}
 use Rattle.lisp_hmac.proofs.TagLemmas.{length-tag}
-use Rattle.lisp_messages.specs.Message.{Registration, Notification}
+use Rattle.lisp_messages.specs.Message.{MapRegisterValue, MapNotifyValue}
 use Rattle.lisp_messages.specs.Written.{written_notify_head, written_records, written_notify, written_register_head, written_ids, written_register}
 use Rattle.lisp_messages.specs.Authentic.{IsAuthentic, signed}
 
@@ -34,12 +34,12 @@ signed_is_authentic_of secret head rest len =
     (long, slice_range-auth head own rest len wide ∙ tag-parts secret head zeros own rest len refl wide)
 
 -- a Map-Notify with its own tag is authentic
-pub signed_is_authentic : (secret : List ℕ) (m : Notification) → IsAuthentic (signed secret (written_notify m)) secret
+pub signed_is_authentic : (secret : List ℕ) (m : MapNotifyValue) → IsAuthentic (signed secret (written_notify m)) secret
 unfolding written_notify
 signed_is_authentic secret m = signed_is_authentic_of secret (written_notify_head m []) (written_records m.records) refl
 
 -- a Map-Register with its own tag is authentic
-pub signed_register_is_authentic : (secret : List ℕ) (m : Registration) → IsAuthentic (signed secret (written_register m)) secret
+pub signed_register_is_authentic : (secret : List ℕ) (m : MapRegisterValue) → IsAuthentic (signed secret (written_register m)) secret
 unfolding written_register
 signed_register_is_authentic secret m =
     signed_is_authentic_of secret (written_register_head m []) (written_records m.records ++ written_ids m) refl

@@ -1,7 +1,7 @@
 -- Reading a message never runs out of memory: that is a fault of the program, and not of the bytes.
 use Rattle.std.proofs.Common.{◌≡◌, ℕ, ◌/◌, Bool, true, false, cond, eqb, ltb, ◌||◌, List, length, get_or, take, drop, Result, Ok, Err, ap, sym, subst, ◌∙◌}
 use Rattle.std.specs.Int.{w64, from_be_bytes}
-use Rattle.lisp_records.specs.Record.{Mapping}
+use Rattle.lisp_records.specs.Record.{MapRecordValue}
 use Rattle.lisp_records.specs.Reading.{is_set, number_at}
 use Rattle.lisp_records.specs.Result.{◌>>=◌, Reads}
 use Rattle.lisp_records.proofs.Faults.{Passes, fault_is, no_fault}
@@ -10,7 +10,7 @@ use Rattle.lisp_messages.specs.declared.kind.Kind.TheVariants as kinds
 use Rattle.lisp_messages.specs.declared.fault.ReadFault.{ReadFault}
 use Rattle.lisp_messages.specs.declared.fault.ReadFault.TheVariants as faults
 use Rattle.lisp_messages.specs.Message.{Registers, Notifies}
-use Rattle.lisp_messages.specs.Reading.{Fails, Gives, after, require, kind_of, kind_at, ids_at, registration_of, notification_of, register_at, notify_at, tail_at}
+use Rattle.lisp_messages.specs.Reading.{Fails, Gives, after, require, kind_of, kind_at, ids_at, map_register_of, map_notify_of, register_at, notify_at, tail_at}
 use Rattle.lisp_messages.proofs.Fields.{done}
 
 -- a fault that is passed on is what reading gives, where reading meets it or the memory ran out
@@ -63,20 +63,20 @@ ids_plain bytes =
     bind_plain (after 8 rest) _ (after_plain 8 rest) (λ end.
     require_plain (eqb (length end) 0) faults.Trailing (take 16 bytes, from_be_bytes w64 (take 8 rest)) (λ is. absurd cc)))
 
-notify_plain : (ack : Bool) (bytes : List ℕ) (records : List Mapping) (tail : List ℕ) → notify_at ack bytes records tail ≡ Err faults.OutOfMemory → ⊥
+notify_plain : (ack : Bool) (bytes : List ℕ) (records : List MapRecordValue) (tail : List ℕ) → notify_at ack bytes records tail ≡ Err faults.OutOfMemory → ⊥
 unfolding notify_at
 notify_plain ack bytes records tail =
     let fits : Bool = eqb (length tail) 0 || eqb (length tail) 24 in
-    bind_plain (require faults.Trailing fits) _ (require_plain fits faults.Trailing true (λ is. absurd cc)) (λ _. no_fault (Notifies (notification_of ack bytes records)) faults.OutOfMemory)
+    bind_plain (require faults.Trailing fits) _ (require_plain fits faults.Trailing true (λ is. absurd cc)) (λ _. no_fault (Notifies (map_notify_of ack bytes records)) faults.OutOfMemory)
 
-register_plain : (bytes : List ℕ) (records : List Mapping) (tail : List ℕ) → register_at bytes records tail ≡ Err faults.OutOfMemory → ⊥
+register_plain : (bytes : List ℕ) (records : List MapRecordValue) (tail : List ℕ) → register_at bytes records tail ≡ Err faults.OutOfMemory → ⊥
 unfolding register_at
 register_plain bytes records tail =
     let bit_i : Bool = is_set (get_or bytes 0 0) 2 in
     bind_plain (require faults.NoIds bit_i) _ (require_plain bit_i faults.NoIds true (λ is. absurd cc)) (λ _.
-    bind_plain (ids_at tail) _ (ids_plain tail) (λ ids. no_fault (Registers (registration_of bytes records ids.0 ids.1)) faults.OutOfMemory))
+    bind_plain (ids_at tail) _ (ids_plain tail) (λ ids. no_fault (Registers (map_register_of bytes records ids.0 ids.1)) faults.OutOfMemory))
 
-pub tail_plain : (kind : Kind) (bytes : List ℕ) (records : List Mapping) (tail : List ℕ) → tail_at kind bytes records tail ≡ Err faults.OutOfMemory → ⊥
+pub tail_plain : (kind : Kind) (bytes : List ℕ) (records : List MapRecordValue) (tail : List ℕ) → tail_at kind bytes records tail ≡ Err faults.OutOfMemory → ⊥
 tail_plain kinds.Register bytes records tail = register_plain bytes records tail
 tail_plain kinds.Notify bytes records tail = notify_plain false bytes records tail
 tail_plain kinds.NotifyAck bytes records tail = notify_plain true bytes records tail

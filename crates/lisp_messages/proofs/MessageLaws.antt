@@ -5,7 +5,7 @@ use Rattle.std.specs.Int.{w16, w64, from_be_bytes, to_be_bytes}
 use Rattle.std.proofs.lemmas.Bool.{eqb-true}
 use Rattle.std.proofs.lemmas.List.{take-append-drop, length-take-le, length-drop, drop-drop, drop_at}
 use Rattle.std.proofs.lemmas.Nat.{from_be_bytes-to_be_bytes_8}
-use Rattle.lisp_records.specs.Record.{Mapping, bit}
+use Rattle.lisp_records.specs.Record.{MapRecordValue, bit}
 use Rattle.lisp_records.specs.Reading.{is_set, number_at}
 use Rattle.lisp_records.specs.Spelling.{IsBytes}
 use Rattle.lisp_records.proofs.Fields.{IsBytes-behind, IsBytes-take, two_bytes, bit-eqb, eqb-bit}
@@ -13,10 +13,10 @@ use Rattle.lisp_messages.specs.declared.kind.Kind.{Kind}
 use Rattle.lisp_messages.specs.declared.kind.Kind.TheVariants as kinds
 use Rattle.lisp_messages.specs.declared.fault.ReadFault.{ReadFault}
 use Rattle.lisp_messages.specs.declared.fault.ReadFault.TheVariants as faults
-use Rattle.lisp_messages.specs.Message.{Registration, Notification, Said, Registers, Notifies}
+use Rattle.lisp_messages.specs.Message.{MapRegisterValue, MapNotifyValue, MessageValue, Registers, Notifies}
 use Rattle.lisp_messages.specs.Spelling.{SpellsRecords, common, SpellsRegister, notify_type, SpellsNotify, Spells}
 use Rattle.lisp_records.specs.Result.{◌>>=◌}
-use Rattle.lisp_messages.specs.Reading.{after, require, kind_of, records_at, ids_at, nonce_of, registration_of, notification_of, register_at, notify_at, tail_at, kind_at, message_at}
+use Rattle.lisp_messages.specs.Reading.{after, require, kind_of, records_at, ids_at, nonce_of, map_register_of, map_notify_of, register_at, notify_at, tail_at, kind_at, message_at}
 use Rattle.lisp_messages.proofs.Fields.{bind_ok, done, ok_is, require_takes, kind_number, kind_takes, kind_again, after_takes, after_again, eight_bytes, eight_below, IsBytes-drop, Ids, ids_take, ids_again}
 use Rattle.lisp_messages.proofs.RecordsLaws.{records_take, records_again}
 
@@ -78,7 +78,7 @@ kind_at_takes bytes kind e =
     }
 
 -- what was read before the end of a message: the fields that matter, the records, and what is left
-pub record Begins (bytes : List ℕ) (number : ℕ) (ms : List Mapping) (tail : List ℕ) : Type 0 where
+pub record Begins (bytes : List ℕ) (number : ℕ) (ms : List MapRecordValue) (tail : List ℕ) : Type 0 where
   pub kind : get_or bytes 0 0 / 16 ≡ number
   pub nonce : nonce_of bytes < 2 ^ 64
   pub auth : List ℕ
@@ -89,7 +89,7 @@ pub record Begins (bytes : List ℕ) (number : ℕ) (ms : List Mapping) (tail : 
   pub tail_fits : IsBytes tail
 
 -- 32 bytes that pass the tests, then records, begin a message
-begins_made : (bytes : List ℕ) (kind : Kind) (ms : List Mapping × List ℕ) → IsBytes bytes → Passes bytes kind → records_at 0 (get_or bytes 3 0) (drop 32 bytes) ≡ Ok ms → Begins bytes (kind_number kind) ms.0 ms.1
+begins_made : (bytes : List ℕ) (kind : Kind) (ms : List MapRecordValue × List ℕ) → IsBytes bytes → Passes bytes kind → records_at 0 (get_or bytes 3 0) (drop 32 bytes) ≡ Ok ms → Begins bytes (kind_number kind) ms.0 ms.1
 begins_made bytes kind ms fits p listed =
     let made = front_made bytes fits (omega arith) p.algorithm p.auth_length in
     let records = records_take 0 (get_or bytes 3 0) (drop 32 bytes) ms (IsBytes-drop 32 bytes fits) listed in
@@ -112,7 +112,7 @@ pub regrouped : (a b c d : List ℕ) → a ++ b ++ c ++ d ≡ a ++ (b ++ (c ++ d
 regrouped a b c d = simp append_assoc
 
 -- what begins as a Map-Register and ends with its bit I set, an xTR-ID and a Site-ID is one
-register_made : (bytes : List ℕ) (ms : List Mapping) (tail xtr : List ℕ) (site : ℕ) → Begins bytes 3 ms tail → is_set (get_or bytes 0 0) 2 ≡ true → Ids tail xtr site → SpellsRegister bytes (registration_of bytes ms xtr site)
+register_made : (bytes : List ℕ) (ms : List MapRecordValue) (tail xtr : List ℕ) (site : ℕ) → Begins bytes 3 ms tail → is_set (get_or bytes 0 0) 2 ≡ true → Ids tail xtr site → SpellsRegister bytes (map_register_of bytes ms xtr site)
 register_made bytes ms tail xtr site b bit_i ids =
     let k : ℕ = get_or bytes 0 0 in
     let f : ℕ = get_or bytes 2 0 in
@@ -141,7 +141,7 @@ register_made bytes ms tail xtr site b bit_i ids =
     }
 
 -- what begins as a Map-Notify or Map-Notify-Ack and ends with nothing or 24 bytes is one
-notify_made : (ack : Bool) (bytes : List ℕ) (ms : List Mapping) (tail : List ℕ) → Begins bytes (notify_type ack) ms tail → (length tail ≡ 0) ⊎ (length tail ≡ 24) → SpellsNotify bytes (notification_of ack bytes ms)
+notify_made : (ack : Bool) (bytes : List ℕ) (ms : List MapRecordValue) (tail : List ℕ) → Begins bytes (notify_type ack) ms tail → (length tail ≡ 0) ⊎ (length tail ≡ 24) → SpellsNotify bytes (map_notify_of ack bytes ms)
 notify_made ack bytes ms tail b ends = record {
   kind = get_or bytes 0 0;
   reserved = get_or bytes 1 0;
@@ -163,33 +163,33 @@ either_is true b e = inl refl
 either_is false b e = inr e
 
 -- a Map-Register whose end was read is spelled so
-register_takes : (bytes : List ℕ) (ms : List Mapping) (tail : List ℕ) (x : Said) → Begins bytes 3 ms tail → register_at bytes ms tail ≡ Ok x → Spells bytes x
+register_takes : (bytes : List ℕ) (ms : List MapRecordValue) (tail : List ℕ) (x : MessageValue) → Begins bytes 3 ms tail → register_at bytes ms tail ≡ Ok x → Spells bytes x
 unfolding register_at
 register_takes bytes ms tail x b e =
-    let a = bind_ok (require faults.NoIds (is_set (get_or bytes 0 0) 2)) (λ _. ids_at tail >>= λ ids. done (Registers (registration_of bytes ms ids.0 ids.1))) x e in
-    let i = bind_ok (ids_at tail) (λ ids. done (Registers (registration_of bytes ms ids.0 ids.1))) x a.2 in
-    let made : Said = Registers (registration_of bytes ms i.0.0 i.0.1) in
-    subst (λ (y : Said). Spells bytes y) {x = made} (ok_is made x i.2) (register_made bytes ms tail i.0.0 i.0.1 b (require_takes faults.NoIds (is_set (get_or bytes 0 0) 2) a.0 a.1) (ids_take tail i.0 b.tail_fits i.1))
+    let a = bind_ok (require faults.NoIds (is_set (get_or bytes 0 0) 2)) (λ _. ids_at tail >>= λ ids. done (Registers (map_register_of bytes ms ids.0 ids.1))) x e in
+    let i = bind_ok (ids_at tail) (λ ids. done (Registers (map_register_of bytes ms ids.0 ids.1))) x a.2 in
+    let made : MessageValue = Registers (map_register_of bytes ms i.0.0 i.0.1) in
+    subst (λ (y : MessageValue). Spells bytes y) {x = made} (ok_is made x i.2) (register_made bytes ms tail i.0.0 i.0.1 b (require_takes faults.NoIds (is_set (get_or bytes 0 0) 2) a.0 a.1) (ids_take tail i.0 b.tail_fits i.1))
 
 -- a Map-Notify or Map-Notify-Ack whose end was read is spelled so
-notify_takes : (ack : Bool) (bytes : List ℕ) (ms : List Mapping) (tail : List ℕ) (x : Said) → Begins bytes (notify_type ack) ms tail → notify_at ack bytes ms tail ≡ Ok x → Spells bytes x
+notify_takes : (ack : Bool) (bytes : List ℕ) (ms : List MapRecordValue) (tail : List ℕ) (x : MessageValue) → Begins bytes (notify_type ack) ms tail → notify_at ack bytes ms tail ≡ Ok x → Spells bytes x
 unfolding notify_at
 notify_takes ack bytes ms tail x b e =
     let none : Bool = eqb (length tail) 0 in
     let ids : Bool = eqb (length tail) 24 in
-    let a = bind_ok (require faults.Trailing (none || ids)) (λ _. done (Notifies (notification_of ack bytes ms))) x e in
-    let made : Said = Notifies (notification_of ack bytes ms) in
+    let a = bind_ok (require faults.Trailing (none || ids)) (λ _. done (Notifies (map_notify_of ack bytes ms))) x e in
+    let made : MessageValue = Notifies (map_notify_of ack bytes ms) in
     let ends : (length tail ≡ 0) ⊎ (length tail ≡ 24) = elim (either_is none ids (require_takes faults.Trailing (none || ids) a.0 a.1)) as (λ _. (length tail ≡ 0) ⊎ (length tail ≡ 24)) [ inl is ↦ inl (eqb-true (length tail) 0 is) | inr is ↦ inr (eqb-true (length tail) 24 is) ] in
-    subst (λ (y : Said). Spells bytes y) {x = made} (ok_is made x a.2) (notify_made ack bytes ms tail b ends)
+    subst (λ (y : MessageValue). Spells bytes y) {x = made} (ok_is made x a.2) (notify_made ack bytes ms tail b ends)
 
 -- a message whose end was read is spelled so
-tail_takes : (kind : Kind) (bytes : List ℕ) (ms : List Mapping) (tail : List ℕ) (x : Said) → Begins bytes (kind_number kind) ms tail → tail_at kind bytes ms tail ≡ Ok x → Spells bytes x
+tail_takes : (kind : Kind) (bytes : List ℕ) (ms : List MapRecordValue) (tail : List ℕ) (x : MessageValue) → Begins bytes (kind_number kind) ms tail → tail_at kind bytes ms tail ≡ Ok x → Spells bytes x
 tail_takes kinds.Register bytes ms tail x b e = register_takes bytes ms tail x b e
 tail_takes kinds.Notify bytes ms tail x b e = notify_takes false bytes ms tail x b e
 tail_takes kinds.NotifyAck bytes ms tail x b e = notify_takes true bytes ms tail x b e
 
 -- a message that was read is spelled so
-pub message_takes : (bytes : List ℕ) (x : Said) → IsBytes bytes → message_at bytes ≡ Ok x → Spells bytes x
+pub message_takes : (bytes : List ℕ) (x : MessageValue) → IsBytes bytes → message_at bytes ≡ Ok x → Spells bytes x
 unfolding message_at
 message_takes bytes x fits e =
     let k = bind_ok (kind_at bytes) (λ kind. records_at 0 (get_or bytes 3 0) (drop 32 bytes) >>= λ ms. tail_at kind bytes ms.0 ms.1) x e in
@@ -216,15 +216,15 @@ drop-whole : (kind reserved flags count nonce key_id : ℕ) (auth more : List �
 drop-whole kind reserved flags count nonce key_id auth more wide = drop_at auth more 16 wide
 
 -- a front, 16 bytes of Authentication Data and records are read
-message_read : (k : Kind) (kind reserved flags nonce key_id : ℕ) (auth text tail : List ℕ) (ms : List Mapping) → kind / 16 ≡ kind_number k → length auth ≡ 16 → SpellsRecords text ms
+message_read : (k : Kind) (kind reserved flags nonce key_id : ℕ) (auth text tail : List ℕ) (ms : List MapRecordValue) → kind / 16 ≡ kind_number k → length auth ≡ 16 → SpellsRecords text ms
     → message_at (whole (front kind reserved flags (length ms) nonce key_id) auth text tail) ≡ tail_at k (whole (front kind reserved flags (length ms) nonce key_id) auth text tail) ms tail
 unfolding message_at
 message_read k kind reserved flags nonce key_id auth text tail ms number wide each =
     rw (kind_at_again k kind reserved flags (length ms) nonce key_id auth (text ++ tail) number wide, drop-whole kind reserved flags (length ms) nonce key_id auth (text ++ tail) wide, records_again 0 text tail ms each) refl
 
 -- the end of a Map-Register is read
-register_read : (kind reserved flags nonce key_id : ℕ) (more : List ℕ) (ms : List Mapping) (xtr : List ℕ) (site : ℕ) → kind / 2 % 2 ≡ 1 → length xtr ≡ 16 → site < 2 ^ 64
-    → register_at (front kind reserved flags (length ms) nonce key_id ++ more) ms (xtr ++ to_be_bytes w64 site) ≡ Ok (Registers (registration_of (front kind reserved flags (length ms) nonce key_id) ms xtr site))
+register_read : (kind reserved flags nonce key_id : ℕ) (more : List ℕ) (ms : List MapRecordValue) (xtr : List ℕ) (site : ℕ) → kind / 2 % 2 ≡ 1 → length xtr ≡ 16 → site < 2 ^ 64
+    → register_at (front kind reserved flags (length ms) nonce key_id ++ more) ms (xtr ++ to_be_bytes w64 site) ≡ Ok (Registers (map_register_of (front kind reserved flags (length ms) nonce key_id) ms xtr site))
 unfolding register_at
 register_read kind reserved flags nonce key_id more ms xtr site bit_i wide below = rw (bit_i, ids_again xtr site wide below) refl
 
@@ -233,20 +233,20 @@ flag_is : (flags worth : ℕ) (b : Bool) → flags / worth % 2 ≡ bit b → is_
 flag_is flags worth b e = ap (λ (n : ℕ). eqb n 1) e ∙ eqb-bit b
 
 -- what is read from the fields of a Map-Register's spelling is the message
-spelled_registration : (bytes : List ℕ) (m : Registration) (s : SpellsRegister bytes m) → registration_of (front s.kind s.reserved s.flags (length m.records) m.nonce m.key_id) m.records m.xtr m.site ≡ m
+spelled_registration : (bytes : List ℕ) (m : MapRegisterValue) (s : SpellsRegister bytes m) → map_register_of (front s.kind s.reserved s.flags (length m.records) m.nonce m.key_id) m.records m.xtr m.site ≡ m
 spelled_registration bytes m s =
     let one : s.flags / 1 % 2 ≡ s.flags % 2 = omega arith in
     rw (flag_is s.kind 8 m.proxy s.proxy, flag_is s.kind 4 m.sec s.sec, flag_is s.flags 16 m.eid_notify s.eid_notify, flag_is s.flags 8 m.use_ttl s.use_ttl, flag_is s.flags 4 m.merge s.merge, flag_is s.flags 1 m.want_notify (one ∙ s.want_notify), from_be_bytes-to_be_bytes_8 m.nonce s.nonce) refl
 
 -- a Map-Register that is spelled so is read
-register_again : (bytes : List ℕ) (m : Registration) → SpellsRegister bytes m → message_at bytes ≡ Ok (Registers m)
+register_again : (bytes : List ℕ) (m : MapRegisterValue) → SpellsRegister bytes m → message_at bytes ≡ Ok (Registers m)
 register_again bytes m s =
     let first : List ℕ = front s.kind s.reserved s.flags (length m.records) m.nonce m.key_id in
     let tail : List ℕ = m.xtr ++ to_be_bytes w64 m.site in
     let parts : bytes ≡ whole first s.auth s.records tail = s.parts ∙ ap (λ (t : List ℕ). first ++ t) (regrouped s.auth s.records m.xtr (to_be_bytes w64 m.site)) in
     ap message_at parts ∙ message_read kinds.Register s.kind s.reserved s.flags m.nonce m.key_id s.auth s.records tail m.records s.register s.auth_length s.each
     ∙ register_read s.kind s.reserved s.flags m.nonce m.key_id (s.auth ++ (s.records ++ tail)) m.records m.xtr m.site s.ids s.xtr s.site
-    ∙ ap (λ (r : Registration). done (Registers r)) (spelled_registration bytes m s)
+    ∙ ap (λ (r : MapRegisterValue). done (Registers r)) (spelled_registration bytes m s)
 
 -- the kind of a Map-Notify or Map-Notify-Ack
 abbrev notify_kind : Bool → Kind
@@ -259,7 +259,7 @@ ends_again n (inl is) = rw is refl
 ends_again n (inr is) = rw is refl
 
 -- the end of a Map-Notify or Map-Notify-Ack is read
-notify_read : (ack : Bool) (bytes : List ℕ) (ms : List Mapping) (tail : List ℕ) → (length tail ≡ 0) ⊎ (length tail ≡ 24) → tail_at (notify_kind ack) bytes ms tail ≡ Ok (Notifies (notification_of ack bytes ms))
+notify_read : (ack : Bool) (bytes : List ℕ) (ms : List MapRecordValue) (tail : List ℕ) → (length tail ≡ 0) ⊎ (length tail ≡ 24) → tail_at (notify_kind ack) bytes ms tail ≡ Ok (Notifies (map_notify_of ack bytes ms))
 unfolding notify_at
 notify_read false bytes ms tail ends = rw (ends_again (length tail) ends) refl
 notify_read true bytes ms tail ends = rw (ends_again (length tail) ends) refl
@@ -270,7 +270,7 @@ kind_number-notify_kind false = refl
 kind_number-notify_kind true = refl
 
 -- a Map-Notify or Map-Notify-Ack that is spelled so is read
-notify_again : (bytes : List ℕ) (m : Notification) → SpellsNotify bytes m → message_at bytes ≡ Ok (Notifies m)
+notify_again : (bytes : List ℕ) (m : MapNotifyValue) → SpellsNotify bytes m → message_at bytes ≡ Ok (Notifies m)
 notify_again bytes m s =
     let first : List ℕ = front s.kind s.reserved s.flags (length m.records) m.nonce m.key_id in
     let parts : bytes ≡ whole first s.auth s.records s.tail = s.parts ∙ ap (λ (t : List ℕ). first ++ t) (append_assoc s.auth s.records s.tail) in
@@ -279,10 +279,10 @@ notify_again bytes m s =
     ∙ ap (λ (n : ℕ). done (Notifies (record m { nonce = n }))) (from_be_bytes-to_be_bytes_8 m.nonce s.nonce)
 
 -- a message that is spelled so is read
-pub message_again : (bytes : List ℕ) (x : Said) → Spells bytes x → message_at bytes ≡ Ok x
+pub message_again : (bytes : List ℕ) (x : MessageValue) → Spells bytes x → message_at bytes ≡ Ok x
 message_again bytes (Registers m) s = register_again bytes m s
 message_again bytes (Notifies m) s = notify_again bytes m s
 
 -- bytes spell at most one message
-pub one_message : (bytes : List ℕ) (x y : Said) → Spells bytes x → Spells bytes y → x ≡ y
+pub one_message : (bytes : List ℕ) (x y : MessageValue) → Spells bytes x → Spells bytes y → x ≡ y
 one_message bytes x y s t = ok_is x y (sym (message_again bytes x s) ∙ message_again bytes y t)

@@ -3,7 +3,7 @@ use Rattle.std.proofs.Common.{◌≡◌, ℕ, ◌+◌, ◌*◌, ◌/◌, ◌%◌
 use Rattle.std.specs.Int.{w64, to_be_bytes}
 use Rattle.lisp_records.specs.Record.{bit}
 use Rattle.lisp_records.proofs.Fields.{bit_below}
-use Rattle.lisp_messages.specs.Message.{Registration, IsRegistration, Registers, Notification, IsNotification, Notifies, Said, IsSaid}
+use Rattle.lisp_messages.specs.Message.{MapRegisterValue, IsMapRegister, Registers, MapNotifyValue, IsMapNotify, Notifies, MessageValue, IsMessage}
 use Rattle.lisp_messages.specs.Spelling.{notify_type, Spells}
 use Rattle.lisp_messages.specs.Written.{written_records, written_notify_head, written_notify, register_kind, register_flags, written_register_head, written_register, written}
 use Rattle.lisp_messages.specs.Reading.{message_at}
@@ -11,7 +11,7 @@ use Rattle.lisp_messages.proofs.MessageLaws.{regrouped, message_again}
 use Rattle.lisp_messages.proofs.RecordsLaws.{records_spelled}
 
 -- the written spelling of a Map-Notify or Map-Notify-Ack is one of its spellings
-pub written_notify_spells : (m : Notification) (auth : List ℕ) → IsNotification m → length auth ≡ 16 → Spells (written_notify m auth) (Notifies m)
+pub written_notify_spells : (m : MapNotifyValue) (auth : List ℕ) → IsMapNotify m → length auth ≡ 16 → Spells (written_notify m auth) (Notifies m)
 unfolding written_notify
 written_notify_spells m auth i wide = record {
   kind = notify_type m.ack * 16;
@@ -37,7 +37,7 @@ register_kinds : (a b : ℕ) → a < 2 → b < 2 → ((48 + a * 8 + b * 4 + 2) /
 register_kinds a b la lb = (omega arith, omega arith, omega arith, omega arith)
 
 -- the written spelling of a Map-Register is one of its spellings
-pub written_register_spells : (m : Registration) (auth : List ℕ) → IsRegistration m → length auth ≡ 16 → Spells (written_register m auth) (Registers m)
+pub written_register_spells : (m : MapRegisterValue) (auth : List ℕ) → IsMapRegister m → length auth ≡ 16 → Spells (written_register m auth) (Registers m)
 unfolding written_register
 written_register_spells m auth i wide =
     let kinds = register_kinds (bit m.proxy) (bit m.sec) (bit_below m.proxy) (bit_below m.sec) in
@@ -65,10 +65,10 @@ written_register_spells m auth i wide =
     }
 
 -- the written spelling of any message is one of its spellings
-pub written_spells : (x : Said) (auth : List ℕ) → IsSaid x → length auth ≡ 16 → Spells (written x auth) x
+pub written_spells : (x : MessageValue) (auth : List ℕ) → IsMessage x → length auth ≡ 16 → Spells (written x auth) x
 written_spells (Registers m) auth i wide = written_register_spells m auth i wide
 written_spells (Notifies m) auth i wide = written_notify_spells m auth i wide
 
 -- and is read back
-pub reads_back : (x : Said) (auth : List ℕ) → IsSaid x → length auth ≡ 16 → message_at (written x auth) ≡ Ok x
+pub reads_back : (x : MessageValue) (auth : List ℕ) → IsMessage x → length auth ≡ 16 → message_at (written x auth) ≡ Ok x
 reads_back x auth i wide = message_again (written x auth) x (written_spells x auth i wide)

@@ -3,12 +3,12 @@
 -- the Authentication Data.
 use Rattle.std.specs.Prelude.{◌≡◌, ℕ, ◌/◌, ◌%◌, ◌^◌, ◌<◌, ◌⊎◌, Bool, true, false, List, [], ◌∷◌, ◌++◌, length}
 use Rattle.std.specs.Int.{w16, w64, to_be_bytes}
-use Rattle.lisp_records.specs.Record.{Mapping, bit}
+use Rattle.lisp_records.specs.Record.{MapRecordValue, bit}
 use Rattle.lisp_records.specs.Spelling.{Spells as SpellsRecord}
-use Rattle.lisp_messages.specs.Message.{Registration, Notification, Said, Registers, Notifies}
+use Rattle.lisp_messages.specs.Message.{MapRegisterValue, MapNotifyValue, MessageValue, Registers, Notifies}
 
 -- records, one after the other
-abbrev pub SpellsRecords : List ℕ → List Mapping → Type 0
+abbrev pub SpellsRecords : List ℕ → List MapRecordValue → Type 0
 SpellsRecords bytes [] = bytes ≡ []
 SpellsRecords bytes (r ∷ rs) = (first : List ℕ) × (others : List ℕ) × (bytes ≡ first ++ others) × SpellsRecord first r × SpellsRecords others rs
 
@@ -18,7 +18,7 @@ abbrev pub common : ℕ → ℕ → ℕ → List ℕ → List ℕ
 common count nonce key_id auth = count ∷ to_be_bytes w64 nonce ++ key_id ∷ 2 ∷ to_be_bytes w16 16 ++ auth
 
 -- a Map-Register: type 3, bit I set, and after the records xTR-ID and Site-ID
-pub record SpellsRegister (bytes : List ℕ) (m : Registration) : Type 0 where
+pub record SpellsRegister (bytes : List ℕ) (m : MapRegisterValue) : Type 0 where
   pub kind : ℕ
   pub reserved : ℕ
   pub flags : ℕ
@@ -45,7 +45,7 @@ notify_type false = 4
 notify_type true = 5
 
 -- a Map-Notify or Map-Notify-Ack: after the records nothing, or any 24 bytes
-pub record SpellsNotify (bytes : List ℕ) (m : Notification) : Type 0 where
+pub record SpellsNotify (bytes : List ℕ) (m : MapNotifyValue) : Type 0 where
   pub kind : ℕ
   pub reserved : ℕ
   pub flags : ℕ
@@ -59,6 +59,6 @@ pub record SpellsNotify (bytes : List ℕ) (m : Notification) : Type 0 where
   pub each : SpellsRecords records m.records
   pub ends : (length tail ≡ 0) ⊎ (length tail ≡ 24)
 
-abbrev pub Spells : List ℕ → Said → Type 0
+abbrev pub Spells : List ℕ → MessageValue → Type 0
 Spells bytes (Registers m) = SpellsRegister bytes m
 Spells bytes (Notifies m) = SpellsNotify bytes m

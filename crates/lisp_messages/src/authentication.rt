@@ -1,8 +1,7 @@
 //! Authentication of a message: the tag in its Authentication Data.
 
-ghost use Rattle.std.specs.Prelude.{◌≡◌, ◌+◌, ◌++◌, ◌≤◌, ◌↔◌, take, drop, vec_len, IsTrue};
-ghost use Rattle.lisp_hmac.specs.Tag.{tag};
-ghost use Rattle.lisp_messages.specs.Authentic.{IsAuthentic, is_authentic};
+ghost use Rattle.std.specs.Prelude.{◌≡◌, ◌≤◌, ◌↔◌, vec_len, IsTrue};
+ghost use Rattle.lisp_messages.specs.Authentic.{IsAuthentic, is_authentic, with_tag};
 
 use crate::reading::HEAD_LEN;
 use lisp_hmac::{Key, TAG_LEN};
@@ -31,7 +30,7 @@ pub fn authentic_under(bytes: &[u8], key: &Key) -> bool
 /// Puts the tag of a message under the key into its Authentication Data.
 pub(crate) fn sign<A: Allocator>(message: &mut Vec<u8, A>, key: &Key)
     requires { 32 ≤ vec_len message.old }
-    ensures { message.new.items ≡ take 16 message.old.items ++ tag key.now message.old.items 16 ++ drop 32 message.old.items }
+    ensures { message.new.items ≡ with_tag key.now message.old.items }
 {
     let tag = key.tag128(message, AUTH_AT);
     message[AUTH_AT..AUTH_AT + TAG_LEN].copy_from_slice(&tag);

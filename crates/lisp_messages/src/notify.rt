@@ -1,10 +1,10 @@
 //! The Map-Notify and the Map-Notify-Ack.
 
-ghost use Rattle.std.specs.Prelude.{◌≡◌, ◌^◌, ◌<◌, ◌≤◌, [], length, replicate, IfOk, OnOk, OnErr};
-ghost use Rattle.lisp_messages.specs.Message.{Notifies, IsNotification};
-ghost use Rattle.lisp_messages.specs.Meaning.{said};
+ghost use Rattle.std.specs.Prelude.{◌≡◌, ◌<◌, ◌≤◌, [], length, replicate, IfOk, OnOk, OnErr};
+ghost use Rattle.lisp_messages.specs.Message.{Notifies, IsMapNotify, FitMessage};
+ghost use Rattle.lisp_messages.specs.Meaning.{message_value};
 ghost use Rattle.lisp_messages.specs.Spelling.{Spells};
-ghost use Rattle.lisp_messages.specs.Authentic.{IsAuthentic, signed};
+ghost use Rattle.lisp_messages.specs.Authentic.{IsAuthentic, signed_notify};
 ghost use Rattle.lisp_messages.specs.Written.{written_notify, written_notify_head};
 ghost use Rattle.lisp_records.specs.Result.{Reads};
 ghost use Rattle.lisp_messages.specs.Reading.{notify_at};
@@ -38,9 +38,9 @@ pub struct MapNotify<A: Allocator = Global> {
 
 impl<A: Allocator> Model for MapNotify<A> {
     ghost use Rattle.std.specs.Prelude.{◌<◌, length};
-    ghost use Rattle.lisp_messages.specs.Message.{Notification};
+    ghost use Rattle.lisp_messages.specs.Message.{MapNotifyValue};
 
-    ghost Value = { Notification };
+    ghost Value = { MapNotifyValue };
 
     ghost view = { λ m. record { ack = m.ack; nonce = m.nonce; key_id = m.key_id; records = m.records } };
 
@@ -57,7 +57,7 @@ pub(crate) fn read_notify<A: Allocator>(
 ) -> Result<Message<A>, ReadFault>
     requires head { 32 ≤ length bytes.now }
     requires few { length records.items < 256 }
-    ensures { Reads said result (notify_at ack bytes.now records.items tail.now) }
+    ensures { Reads message_value result (notify_at ack bytes.now records.items tail.now) }
 {
     if !(tail.is_empty() || tail.len() == 24) {
         return Err(ReadFault::Trailing);
@@ -78,10 +78,10 @@ pub fn write_notify<A: Memory, B: Allocator>(
     message: &MapNotify<B>,
     secret: &[u8],
 ) -> Result<Vec<u8, A>, AllocError>
-    ensures written { IfOk result (λ v. v.items ≡ signed secret.now (written_notify message.now)) }
+    ensures written { IfOk result (λ v. v.items ≡ signed_notify secret.now message.now) }
     ensures authentic { IfOk result (λ v. IsAuthentic v.items secret.now) }
     ensures spells { IfOk result (λ v. Spells v.items (Notifies message.now)) }
-    ensures known { OnOk result (IsNotification message.now) }
+    ensures known { OnOk result (IsMapNotify message.now) }
     ensures memory { OnErr result A.may_refuse }
 {
     write_notify_under(alloc, message, &Key::new(secret))
@@ -93,10 +93,10 @@ pub fn write_notify_under<A: Memory, B: Allocator>(
     message: &MapNotify<B>,
     key: &Key,
 ) -> Result<Vec<u8, A>, AllocError>
-    ensures written { IfOk result (λ v. v.items ≡ signed key.now (written_notify message.now)) }
+    ensures written { IfOk result (λ v. v.items ≡ signed_notify key.now message.now) }
     ensures authentic { IfOk result (λ v. IsAuthentic v.items key.now) }
     ensures spells { IfOk result (λ v. Spells v.items (Notifies message.now)) }
-    ensures known { OnOk result (IsNotification message.now) }
+    ensures known { OnOk result (IsMapNotify message.now) }
     ensures memory { OnErr result A.may_refuse }
 {
     let mut out = Vec::new(alloc);
@@ -112,7 +112,7 @@ fn put_notify<A: Memory, B: Allocator>(
 ) -> Result<(), AllocError>
     requires { out.old.items ≡ [] }
     ensures written { OnOk result (out.new.items ≡ written_notify message.now (replicate 16 0)) }
-    ensures known { OnOk result (IsNotification message.now) }
+    ensures known { OnOk result (IsMapNotify message.now) }
     ensures memory { OnErr result A.may_refuse }
 {
     let records = message.records.as_slice();
@@ -124,7 +124,7 @@ fn put_notify<A: Memory, B: Allocator>(
 // The bytes before the records.
 fn head_of<A: Allocator>(message: &MapNotify<A>) -> [u8; HEAD_LEN]
     ensures head { result ≡ written_notify_head message.now (replicate 16 0) }
-    ensures fits { (message.now.nonce < 2 ^ 64) × (message.now.key_id < 256) × (length message.now.records < 256) }
+    ensures fits { FitMessage message.now.nonce message.now.key_id message.now.records }
 {
     let kind = if message.ack {
         Kind::NotifyAck

@@ -1,12 +1,11 @@
 //! Reading a message.
 
-ghost use Rattle.std.specs.Prelude.{◌≡◌, ◌<◌, ◌≤◌, length, drop, slice_index, IfOk, IsErrOf, OnOk, Ok, Err};
-ghost use Rattle.lisp_messages.specs.declared.fault.ReadFault.{ReadFault};
-ghost use Rattle.lisp_messages.specs.Message.{Said};
-ghost use Rattle.lisp_messages.specs.Meaning.{said};
+ghost use Rattle.std.specs.Prelude.{◌≡◌, ◌<◌, ◌≤◌, length, IfOk, OnOk, Ok};
+ghost use Rattle.lisp_messages.specs.Message.{MessageValue};
+ghost use Rattle.lisp_messages.specs.Meaning.{message_value};
 ghost use Rattle.lisp_messages.specs.Spelling.{Spells};
-ghost use Rattle.lisp_records.specs.Result.{Reads};
-ghost use Rattle.lisp_messages.specs.Reading.{Gives, HasHead, HasRecords, kind_at, records_at, nonce_of, tail_at, message_at};
+ghost use Rattle.lisp_records.specs.Result.{Reads, PassesFault};
+ghost use Rattle.lisp_messages.specs.Reading.{Gives, IfOutOfMemory, HasRecords, TakesMemory, kind_at, records_of, nonce_of, tail_at, message_at};
 
 use crate::fault::ReadFault;
 use crate::kind::Kind;
@@ -32,26 +31,26 @@ pub(crate) const HEAD_LEN: usize = 32;
 /// of any answer past the bytes before the records, where there are records.
 pub fn read_message<A: Memory + Copy>(alloc: A, bytes: &[u8]) -> Result<Message<A>, ReadFault>
     // What is read is spelled so.
-    ensures found { IfOk result (λ m. Spells bytes.now (said m)) }
+    ensures found { IfOk result (λ m. Spells bytes.now (message_value m)) }
 
     // What is spelled so is read, unless memory runs out.
-    ensures only { (x : Said) → Spells bytes.now x → Gives said result (Ok x) }
+    ensures only { (x : MessageValue) → Spells bytes.now x → Gives message_value result (Ok x) }
 
     // Which answer it is.
-    ensures exact { Gives said result (message_at bytes.now) }
+    ensures exact { Gives message_value result (message_at bytes.now) }
 
     // Before the first record nothing takes memory.
-    ensures early { (fault : ReadFault) → kind_at bytes.now ≡ Err fault → result ≡ Err fault }
-    ensures memory { IsErrOf result ReadFault.OutOfMemory → A.may_refuse }
-    ensures grows { IsErrOf result ReadFault.OutOfMemory → HasHead bytes.now × HasRecords bytes.now }
+    ensures early { PassesFault (kind_at bytes.now) result }
+    ensures memory { IfOutOfMemory result A.may_refuse }
+    ensures grows { IfOutOfMemory result (TakesMemory bytes.now) }
 {
     read_whole(alloc, bytes)
 }
 
 fn read_whole<A: Memory + Copy>(alloc: A, bytes: &[u8]) -> Result<Message<A>, ReadFault>
-    ensures exact { Gives said result (message_at bytes.now) }
-    ensures early { (fault : ReadFault) → kind_at bytes.now ≡ Err fault → result ≡ Err fault }
-    ensures memory { IsErrOf result ReadFault.OutOfMemory → A.may_refuse × HasHead bytes.now × HasRecords bytes.now }
+    ensures exact { Gives message_value result (message_at bytes.now) }
+    ensures early { PassesFault (kind_at bytes.now) result }
+    ensures memory { IfOutOfMemory result (A.may_refuse × TakesMemory bytes.now) }
 {
     let kind = read_kind(bytes)?;
     let (records, tail) = read_records(alloc, bytes)?;
@@ -67,7 +66,7 @@ fn read_tail<A: Allocator>(
 ) -> Result<Message<A>, ReadFault>
     requires head { 32 ≤ length bytes.now }
     requires few { length records.items < 256 }
-    ensures { Reads said result (tail_at kind bytes.now records.items tail.now) }
+    ensures { Reads message_value result (tail_at kind bytes.now records.items tail.now) }
 {
     match kind {
         Kind::Register => read_register(bytes, records, tail),
@@ -106,8 +105,8 @@ fn read_records<A: Memory + Copy>(
     bytes: &[u8],
 ) -> Result<(Vec<MapRecord<A>, A>, &[u8]), ReadFault>
     requires { 32 ≤ length bytes.now }
-    ensures records { Gives (λ x. (x.0.items, x.1.now)) result (records_at 0 (slice_index bytes.now 3) (drop 32 bytes.now)) }
-    ensures memory { IsErrOf result ReadFault.OutOfMemory → A.may_refuse × HasRecords bytes.now }
+    ensures records { Gives (λ x. (x.0.items, x.1.now)) result (records_of bytes.now) }
+    ensures memory { IfOutOfMemory result (A.may_refuse × HasRecords bytes.now) }
 {
     let mut records = Vec::new(alloc);
     records.make_room(usize::from(bytes[3]))?;

@@ -3,12 +3,12 @@
 ghost use Rattle.std.specs.Prelude.{◌≡◌, ◌^◌, ◌<◌, ◌≤◌, [], ◌++◌, length, replicate, IfOk, OnOk, OnErr};
 ghost use Rattle.std.specs.Int.{w64, to_be_bytes};
 ghost use Rattle.std.specs.List.{AllByRecursion};
-ghost use Rattle.lisp_messages.specs.Message.{Registers, IsRegistration};
+ghost use Rattle.lisp_messages.specs.Message.{Registers, IsMapRegister, FitMessage};
 ghost use Rattle.lisp_messages.specs.Spelling.{Spells};
-ghost use Rattle.lisp_messages.specs.Authentic.{IsAuthentic, signed};
+ghost use Rattle.lisp_messages.specs.Authentic.{IsAuthentic, signed_register};
 ghost use Rattle.lisp_messages.specs.Written.{register_kind, register_flags, written_register, written_register_head};
 ghost use Rattle.lisp_records.specs.Result.{Reads};
-ghost use Rattle.lisp_messages.specs.Meaning.{said};
+ghost use Rattle.lisp_messages.specs.Meaning.{message_value};
 ghost use Rattle.lisp_messages.specs.Reading.{ids_at, register_at};
 
 use crate::authentication::sign;
@@ -80,9 +80,9 @@ pub struct MapRegister<A: Allocator = Global> {
 
 impl<A: Allocator> Model for MapRegister<A> {
     ghost use Rattle.std.specs.Prelude.{◌<◌, length};
-    ghost use Rattle.lisp_messages.specs.Message.{Registration};
+    ghost use Rattle.lisp_messages.specs.Message.{MapRegisterValue};
 
-    ghost Value = { Registration };
+    ghost Value = { MapRegisterValue };
 
     ghost view = { λ m. record { proxy = m.proxy; sec = m.sec; eid_notify = m.eid_notify; use_ttl = m.use_ttl; merge = m.merge; want_notify = m.want_notify; nonce = m.nonce; key_id = m.key_id; records = m.records; xtr = m.xtr; site = m.site } };
 
@@ -96,10 +96,10 @@ pub fn write_register<A: Memory, B: Allocator>(
     message: &MapRegister<B>,
     secret: &[u8],
 ) -> Result<Vec<u8, A>, AllocError>
-    ensures written { IfOk result (λ v. v.items ≡ signed secret.now (written_register message.now)) }
+    ensures written { IfOk result (λ v. v.items ≡ signed_register secret.now message.now) }
     ensures authentic { IfOk result (λ v. IsAuthentic v.items secret.now) }
     ensures spells { IfOk result (λ v. Spells v.items (Registers message.now)) }
-    ensures known { OnOk result (IsRegistration message.now) }
+    ensures known { OnOk result (IsMapRegister message.now) }
     ensures memory { OnErr result A.may_refuse }
 {
     write_register_under(alloc, message, &Key::new(secret))
@@ -111,10 +111,10 @@ pub fn write_register_under<A: Memory, B: Allocator>(
     message: &MapRegister<B>,
     key: &Key,
 ) -> Result<Vec<u8, A>, AllocError>
-    ensures written { IfOk result (λ v. v.items ≡ signed key.now (written_register message.now)) }
+    ensures written { IfOk result (λ v. v.items ≡ signed_register key.now message.now) }
     ensures authentic { IfOk result (λ v. IsAuthentic v.items key.now) }
     ensures spells { IfOk result (λ v. Spells v.items (Registers message.now)) }
-    ensures known { OnOk result (IsRegistration message.now) }
+    ensures known { OnOk result (IsMapRegister message.now) }
     ensures memory { OnErr result A.may_refuse }
 {
     let mut out = Vec::new(alloc);
@@ -130,7 +130,7 @@ fn put_register<A: Memory, B: Allocator>(
 ) -> Result<(), AllocError>
     requires { out.old.items ≡ [] }
     ensures written { OnOk result (out.new.items ≡ written_register message.now (replicate 16 0)) }
-    ensures known { OnOk result (IsRegistration message.now) }
+    ensures known { OnOk result (IsMapRegister message.now) }
     ensures memory { OnErr result A.may_refuse }
 {
     let records = message.records.as_slice();
@@ -142,7 +142,7 @@ fn put_register<A: Memory, B: Allocator>(
 // The bytes before the records.
 fn head_of<A: Allocator>(message: &MapRegister<A>) -> [u8; HEAD_LEN]
     ensures head { result ≡ written_register_head message.now (replicate 16 0) }
-    ensures fits { (message.now.nonce < 2 ^ 64) × (message.now.key_id < 256) × (length message.now.records < 256) }
+    ensures fits { FitMessage message.now.nonce message.now.key_id message.now.records }
 {
     let count = message.records.as_slice().len() as u8;
     head(
@@ -194,7 +194,7 @@ pub(crate) fn read_register<A: Allocator>(
 ) -> Result<Message<A>, ReadFault>
     requires head { 32 ≤ length bytes.now }
     requires few { length records.items < 256 }
-    ensures { Reads said result (register_at bytes.now records.items tail.now) }
+    ensures { Reads message_value result (register_at bytes.now records.items tail.now) }
 {
     if !is_set(bytes[0], IDS) {
         return Err(ReadFault::NoIds);

@@ -1,7 +1,7 @@
 //! What is written in each message alike.
 
 ghost use Rattle.std.specs.Prelude.{◌≡◌, ◌∷◌, ◌++◌, ◌<◌, ◌^◌, replicate, All, OnErr, OnOk};
-ghost use Rattle.lisp_records.specs.Record.{IsMapping};
+ghost use Rattle.lisp_records.specs.Record.{IsMapRecord};
 ghost use Rattle.lisp_messages.specs.Spelling.{common};
 ghost use Rattle.lisp_messages.specs.Written.{written_records};
 
@@ -53,7 +53,7 @@ pub(crate) fn put_records<A: Memory, B: Allocator>(
     records: &[MapRecord<B>],
 ) -> Result<(), AllocError>
     ensures records { OnOk result (out.new.items ≡ out.old.items ++ written_records records.now) }
-    ensures known { OnOk result (All IsMapping records.now) }
+    ensures known { OnOk result (All IsMapRecord records.now) }
     ensures memory { OnErr result A.may_refuse }
 {
     for record in records {

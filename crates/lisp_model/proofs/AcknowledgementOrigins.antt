@@ -5,19 +5,19 @@ use Rattle.std.specs.List.{AllPairs, Contains}
 use Rattle.std.specs.Option.{option_and_then}
 use Rattle.std.proofs.lemmas.List.Elements.{Contains-append_cases}
 use Rattle.lisp_messages.specs.declared.fault.ReadFault.{ReadFault}
-use Rattle.lisp_messages.specs.Message.{Said, Registration, Notification, Registers, Notifies}
+use Rattle.lisp_messages.specs.Message.{MessageValue, MapRegisterValue, MapNotifyValue, Registers, Notifies}
 use Rattle.lisp_etr.specs.Hearing.{ack_of}
-use Rattle.lisp_admission.specs.Checks.{notification_of}
+use Rattle.lisp_admission.specs.Checks.{reply_to}
 use Rattle.lisp_model.specs.declared.line.Line.{Line}
 use Rattle.lisp_model.specs.declared.line.Line.TheVariants as lines
-use Rattle.lisp_model.specs.Trace.{Happening, Step, Opening, Shown, addresses, address_at, is_router, router_at, clock}
+use Rattle.lisp_model.specs.Trace.{EventValue, Step, Opening, ShownStore, addresses, address_at, is_router, router_at, clock}
 use Rattle.lisp_model.specs.History.{history}
 use Rattle.lisp_model.specs.Held.{heard_last}
 use Rattle.lisp_model.specs.Timers.{Notice, notice_to}
-use Rattle.lisp_model.specs.Bag.{Item, Arrival, arrival_in, as_notify, taken, register_item, reply_item, notice_item, ack_item, posted, past, bag, since}
-use Rattle.lisp_model.specs.Accepted.{accepted}
+use Rattle.lisp_model.specs.Bag.{Item, Arrival, arrival_in, as_notify, acceptances_in, register_item, reply_item, notice_item, ack_item, items_added, past, bag, since_start}
+use Rattle.lisp_model.specs.Accepted.{acceptances}
 use Rattle.lisp_model.specs.Clean.{IsHarmless, Clean}
-use Rattle.lisp_model.specs.Legal.{MayCome, LegalTrace, turn_of}
+use Rattle.lisp_model.specs.Legal.{MayCome, LegalTrace, context_of}
 use Rattle.lisp_model.proofs.ArrivalLemmas.{AllBelow, comes}
 use Rattle.lisp_model.proofs.CleanLemmas.{in_get, in_option, from_map}
 use Rattle.lisp_model.proofs.HeardLines.{noticed_of}
@@ -27,7 +27,7 @@ use Rattle.lisp_model.proofs.Origins.{ReadsBack, AllFrom, all_from}
 use Rattle.lisp_model.proofs.ReplyOrigins.{AllKnown, from_some, notified, all_known}
 
 -- the answer of a router to a notice
-pub record IsAnswer (o : Opening) (T : List Step) (i : Item) (n : Notification) : Type 0 where
+pub record IsAnswer (o : Opening) (T : List Step) (i : Item) (n : MapNotifyValue) : Type 0 where
   pub before : Step
   pub earlier : Contains T before
   pub node : ℕ
@@ -40,40 +40,40 @@ pub record IsAnswer (o : Opening) (T : List Step) (i : Item) (n : Notification) 
   pub to : i.to ≡ address_at o.config server
 
 abbrev pub AllAnswers : Opening → List Step → List Item → Type 0
-AllAnswers o T items = (i : Item) → Contains items i → (n : Notification) → i.message ≡ Notifies n → n.ack ≡ true → IsAnswer o T i n
+AllAnswers o T items = (i : Item) → Contains items i → (n : MapNotifyValue) → i.message ≡ Notifies n → n.ack ≡ true → IsAnswer o T i n
 
-later_answer : (o : Opening) (T : List Step) (s : Step) (i : Item) (n : Notification) → IsAnswer o T i n → IsAnswer o (s ∷ T) i n
+later_answer : (o : Opening) (T : List Step) (s : Step) (i : Item) (n : MapNotifyValue) → IsAnswer o T i n → IsAnswer o (s ∷ T) i n
 later_answer o T s i n f = record { before = f.before; earlier = in_tail s T f.before f.earlier; node = f.node; server = f.server; datagram = f.datagram; line = f.line; kind = f.kind; listed = f.listed; from = f.from; to = f.to }
 
-said_clash : {m : Registration} {n : Notification} → ◌≡◌ {A = Said} (Registers m) (Notifies n) → ⊥
+said_clash : {m : MapRegisterValue} {n : MapNotifyValue} → ◌≡◌ {A = MessageValue} (Registers m) (Notifies n) → ⊥
 said_clash e = absurd cc
 
-said_same : (m n : Notification) → ◌≡◌ {A = Said} (Notifies m) (Notifies n) → m ≡ n
+said_same : (m n : MapNotifyValue) → ◌≡◌ {A = MessageValue} (Notifies m) (Notifies n) → m ≡ n
 said_same m n e = cc
 
-read_same : (m n : Notification) (r : Result Said ReadFault) → r ≡ Ok (Notifies m) → r ≡ Ok (Notifies n) → m ≡ n
+read_same : (m n : MapNotifyValue) (r : Result MessageValue ReadFault) → r ≡ Ok (Notifies m) → r ≡ Ok (Notifies n) → m ≡ n
 read_same m n r one other = said_same m n (ok_same (Notifies m) (Notifies n) (sym one ∙ other))
   where
-    ok_same : (x y : Said) → ◌≡◌ {A = Result Said ReadFault} (Ok x) (Ok y) → x ≡ y
+    ok_same : (x y : MessageValue) → ◌≡◌ {A = Result MessageValue ReadFault} (Ok x) (Ok y) → x ≡ y
     ok_same x y e = cc
 
 -- it is no Map-Notify
-not_plain : (m n : Notification) → m ≡ n → m.ack ≡ false → n.ack ≡ true → ⊥
-not_plain m n same plain ack = true≢false (sym ack ∙ sym (ap (λ (x : Notification). x.ack) same) ∙ plain)
+not_plain : (m n : MapNotifyValue) → m ≡ n → m.ack ≡ false → n.ack ≡ true → ⊥
+not_plain m n same plain ack = true≢false (sym ack ∙ sym (ap (λ (x : MapNotifyValue). x.ack) same) ∙ plain)
 
 module _ (o : Opening) (T : List Step) (reads : ReadsBack) (all : AllFrom o (history o T) (bag o T)) (below : AllBelow (bag o T)) (old : AllAnswers o T (bag o T)) where
   -- the answer that is posted
-  answered : (node : ℕ) (after : Shown) (e : Happening) (router server nonce datagram : ℕ) → IsHarmless o T e
-      → MayCome (turn_of o T (record { event = e; line = lines.Noticed router server nonce datagram; actor = node; shown = after })) e (lines.Noticed router server nonce datagram)
-      → (i : Item) → Contains (posted o T (past o T) (arrival_in (bag o T) e) (lines.Noticed router server nonce datagram)) i → (n : Notification) → i.message ≡ Notifies n → (s : Step) → s.line ≡ lines.Noticed router server nonce datagram → IsAnswer o (s ∷ T) i n
+  answered : (node : ℕ) (after : ShownStore) (e : EventValue) (router server nonce datagram : ℕ) → IsHarmless o T e
+      → MayCome (context_of o T (record { event = e; line = lines.Noticed router server nonce datagram; actor = node; shown = after })) e (lines.Noticed router server nonce datagram)
+      → (i : Item) → Contains (items_added o T (past o T) (arrival_in (bag o T) e) (lines.Noticed router server nonce datagram)) i → (n : MapNotifyValue) → i.message ≡ Notifies n → (s : Step) → s.line ≡ lines.Noticed router server nonce datagram → IsAnswer o (s ∷ T) i n
   answered node after e router server nonce datagram harmless row i has n is s line =
       let c = comes o T reads all below node e (lines.Noticed router server nonce datagram) after tt harmless row in
-      let f = from_some (ack_item o T router c.arrival) (as_notify c.arrival.read) i (subst (λ (a : Option Arrival). Contains (posted o T (past o T) a (lines.Noticed router server nonce datagram)) i) c.is has) in
+      let f = from_some (ack_item o T router c.arrival) (as_notify c.arrival.read) i (subst (λ (a : Option Arrival). Contains (items_added o T (past o T) a (lines.Noticed router server nonce datagram)) i) c.is has) in
       let what = noticed_of _ c.arrival router server nonce datagram c.row in
       let h = is_heard o T node c.arrival what.what what.hears in
       let read : f.value ≡ what.what.message = read_same f.value what.what.message c.arrival.read (notified c.arrival.read f.value f.some) h.read.is in
       let said : ack_of f.value ≡ n = said_same (ack_of f.value) n (ap (λ (x : Item). x.message) f.is ∙ is) in
-      let number : n.nonce ≡ nonce = sym (ap (λ (x : Notification). x.nonce) said) ∙ ap (λ (x : Notification). x.nonce) read ∙ sym what.number in
+      let number : n.nonce ≡ nonce = sym (ap (λ (x : MapNotifyValue). x.nonce) said) ∙ ap (λ (x : MapNotifyValue). x.nonce) read ∙ sym what.number in
       record {
         before = s;
         earlier = at_head s T;
@@ -87,7 +87,7 @@ module _ (o : Opening) (T : List Step) (reads : ReadsBack) (all : AllFrom o (his
         to = sym (ap (λ (x : Item). x.to) f.is) ∙ sym h.source ∙ ap (address_at o.config) (sym what.whose);
       }
 
-  posts : (s : Step) (line : Line) → s.line ≡ line → IsHarmless o T s.event → MayCome (turn_of o T s) s.event line → AllAnswers o (s ∷ T) (posted o T (past o T) (arrival_in (bag o T) s.event) line)
+  posts : (s : Step) (line : Line) → s.line ≡ line → IsHarmless o T s.event → MayCome (context_of o T s) s.event line → AllAnswers o (s ∷ T) (items_added o T (past o T) (arrival_in (bag o T) s.event) line)
   posts s (lines.Sent r k key nonce datagram) line harmless row i has n is ack = at (head_or_tail (register_item o T r k nonce) [] i has)
     where
       at : (i ≡ register_item o T r k nonce) ⊎ Contains [] i → IsAnswer o (s ∷ T) i n
@@ -95,11 +95,11 @@ module _ (o : Opening) (T : List Step) (reads : ReadsBack) (all : AllFrom o (his
       at (inr no_more) = absurd (in_none i no_more)
   posts s (lines.Accepted server router key nonce None) line harmless row i has n is ack = absurd (in_none i has)
   posts s (lines.Accepted server router key nonce (Some datagram)) line harmless row i has n is ack =
-      let found = from_map (reply_item o.config server) (taken (arrival_in (bag o T) s.event) (clock T)) i has in
-      absurd (not_plain (notification_of found.0.message) n (said_same (notification_of found.0.message) n (sym (ap (λ (x : Item). x.message) found.2) ∙ is)) refl ack)
+      let found = from_map (reply_item o.config server) (acceptances_in (arrival_in (bag o T) s.event) (clock T)) i has in
+      absurd (not_plain (reply_to found.0.message) n (said_same (reply_to found.0.message) n (sym (ap (λ (x : Item). x.message) found.2) ∙ is)) refl ack)
   posts s (lines.Noticed router server nonce datagram) line harmless row i has n is ack = answered s.actor s.shown s.event router server nonce datagram harmless row i has n is s line
   posts s (lines.Notice server router key nonce datagram) line harmless row i has n is ack =
-      let f = from_some (notice_item o T (since o T server) server router key nonce) (heard_last (router_at o.config router).me (since o T server)) i has in
+      let f = from_some (notice_item o T (since_start o T server) server router key nonce) (heard_last (router_at o.config router).me (since_start o T server)) i has in
       absurd (not_plain _ n (said_same _ n (ap (λ (x : Item). x.message) f.is ∙ is)) refl ack)
   posts s (lines.Resent server router datagram) line harmless row i has n is ack = at (notice_to o T server (router_at o.config router).me) (in_option (option_and_then (λ n. slice_get (bag o T) n.datagram) (notice_to o T server (router_at o.config router).me)) i has)
     where
@@ -116,9 +116,9 @@ module _ (o : Opening) (distinct : AllPairs (λ a b. a ≢ b) (addresses o.confi
   all_answers [] legal clean = λ i has. absurd (in_none i has)
   all_answers (s ∷ T) legal clean = grown (all_answers T legal.1 clean.1) (all_known o distinct reads T legal.1 clean.1)
     where
-      grown : AllAnswers o T (bag o T) → AllKnown o (accepted o T) (bag o T) → AllAnswers o (s ∷ T) (bag o (s ∷ T))
-      grown before known i has n is ack = at (Contains-append_cases (bag o T) (posted o T (past o T) (arrival_in (bag o T) s.event) s.line) i has)
+      grown : AllAnswers o T (bag o T) → AllKnown o (acceptances o T) (bag o T) → AllAnswers o (s ∷ T) (bag o (s ∷ T))
+      grown before known i has n is ack = at (Contains-append_cases (bag o T) (items_added o T (past o T) (arrival_in (bag o T) s.event) s.line) i has)
         where
-          at : Contains (bag o T) i ⊎ Contains (posted o T (past o T) (arrival_in (bag o T) s.event) s.line) i → IsAnswer o (s ∷ T) i n
+          at : Contains (bag o T) i ⊎ Contains (items_added o T (past o T) (arrival_in (bag o T) s.event) s.line) i → IsAnswer o (s ∷ T) i n
           at (inl old) = later_answer o T s i n (before i old n is ack)
           at (inr new) = posts o T reads (all_from o T legal.1) (λ j in_it m says. (known j in_it m says).below) before s s.line refl clean.0 legal.0.row i new n is ack

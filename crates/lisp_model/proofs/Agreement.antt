@@ -4,15 +4,15 @@ use Rattle.std.specs.Prelude.{◌⊎◌, ◌&&◌, if◌then◌else◌, reverse}
 use Rattle.std.specs.List.{Contains, find}
 use Rattle.std.specs.Option.{option_and_then}
 use Rattle.lisp_records.specs.declared.router.RouterId.{RouterId}
-use Rattle.lisp_records.specs.Address.{Block, block_eq}
-use Rattle.lisp_records.specs.Record.{Mapping}
+use Rattle.lisp_records.specs.Address.{PrefixValue, prefix_eq}
+use Rattle.lisp_records.specs.Record.{MapRecordValue}
 use Rattle.lisp_records.specs.Router.{router_eq}
-use Rattle.lisp_records.specs.Row.{Holding, is_alive}
+use Rattle.lisp_records.specs.Row.{RowValue, is_alive}
 use Rattle.lisp_lookup.specs.Table.{is_row_of, if_alive}
 use Rattle.lisp_admission.specs.Pairs.{router_of}
-use Rattle.lisp_admission.specs.AcceptedRows.{holding, holdings}
+use Rattle.lisp_admission.specs.AcceptedRows.{row_value, row_values}
 use Rattle.lisp_admission.proofs.Turned.{turned}
-use Rattle.lisp_model.specs.Held.{Acceptance, named, held}
+use Rattle.lisp_model.specs.Held.{Acceptance, accepted_rows, held_row}
 use Rattle.lisp_model.proofs.ListLemmas.{at_head, in_tail}
 
 module _ {X : Type 0} (p : X → Bool) where
@@ -42,46 +42,46 @@ module _ {X Y : Type 0} (f : X → Y) where
   find_map p (x ∷ xs) g e = case_of p x xs g (p (f x)) refl e (find_map p xs g)
 
 -- a row that is held is that of a message
-pub record Found (since : List Acceptance) (router : RouterId) (eid : Block) (g : Holding) : Type 0 where
+pub record Found (since : List Acceptance) (router : RouterId) (eid : PrefixValue) (g : RowValue) : Type 0 where
   pub acceptance : Acceptance
   pub taken : Contains since acceptance
-  pub mapping : Mapping
-  pub last : find (λ r. router_eq (router_of acceptance.message) router && block_eq r.eid eid) (reverse acceptance.message.records) ≡ Some mapping
-  pub is : g ≡ holding acceptance.message acceptance.from acceptance.moment mapping
+  pub mapping : MapRecordValue
+  pub last : find (λ r. router_eq (router_of acceptance.message) router && prefix_eq r.eid eid) (reverse acceptance.message.records) ≡ Some mapping
+  pub is : g ≡ row_value acceptance.message acceptance.from acceptance.moment mapping
 
-found_in : (since : List Acceptance) (router : RouterId) (eid : Block) (g : Holding) → find (is_row_of router eid) (named since) ≡ Some g → Found since router eid g
+found_in : (since : List Acceptance) (router : RouterId) (eid : PrefixValue) (g : RowValue) → find (is_row_of router eid) (accepted_rows since) ≡ Some g → Found since router eid g
 found_in [] router eid g e = absurd (clash e)
   where
-    clash : ◌≡◌ {A = Option Holding} None (Some g) → ⊥
+    clash : ◌≡◌ {A = Option RowValue} None (Some g) → ⊥
     clash e = absurd cc
-found_in (a ∷ since) router eid g e = at (find_either (is_row_of router eid) (reverse (holdings a.message a.from a.moment)) (named since) g e) (found_in since router eid g)
+found_in (a ∷ since) router eid g e = at (find_either (is_row_of router eid) (reverse (row_values a.message a.from a.moment)) (accepted_rows since) g e) (found_in since router eid g)
   where
-    at : (find (is_row_of router eid) (reverse (holdings a.message a.from a.moment)) ≡ Some g) ⊎ (find (is_row_of router eid) (named since) ≡ Some g) → (find (is_row_of router eid) (named since) ≡ Some g → Found since router eid g) → Found (a ∷ since) router eid g
+    at : (find (is_row_of router eid) (reverse (row_values a.message a.from a.moment)) ≡ Some g) ⊎ (find (is_row_of router eid) (accepted_rows since) ≡ Some g) → (find (is_row_of router eid) (accepted_rows since) ≡ Some g → Found since router eid g) → Found (a ∷ since) router eid g
     at (inl here) later =
-        let one = find_map (holding a.message a.from a.moment) (is_row_of router eid) (reverse a.message.records) g (ap (find (is_row_of router eid)) (turned (holding a.message a.from a.moment) a.message.records) ∙ here) in
+        let one = find_map (row_value a.message a.from a.moment) (is_row_of router eid) (reverse a.message.records) g (ap (find (is_row_of router eid)) (turned (row_value a.message a.from a.moment) a.message.records) ∙ here) in
         record { acceptance = a; taken = at_head a since; mapping = one.value; last = one.found; is = one.is }
     at (inr there) later = let f = later there in record { acceptance = f.acceptance; taken = in_tail a since f.acceptance f.taken; mapping = f.mapping; last = f.last; is = f.is }
 
-pub held_found : (since : List Acceptance) (router : RouterId) (eid : Block) (now : ℕ) (g : Holding) → held since router eid now ≡ Some g → Found since router eid g
-held_found since router eid now g e = at (find (is_row_of router eid) (named since)) refl e
+pub held_found : (since : List Acceptance) (router : RouterId) (eid : PrefixValue) (now : ℕ) (g : RowValue) → held_row since router eid now ≡ Some g → Found since router eid g
+held_found since router eid now g e = at (find (is_row_of router eid) (accepted_rows since)) refl e
   where
-    alive : (h : Holding) (b : Bool) → (if b then Some h else None) ≡ Some g → h ≡ g
+    alive : (h : RowValue) (b : Bool) → (if b then Some h else None) ≡ Some g → h ≡ g
     alive h true e = cc
     alive h false e = absurd (clash e)
       where
-        clash : ◌≡◌ {A = Option Holding} None (Some g) → ⊥
+        clash : ◌≡◌ {A = Option RowValue} None (Some g) → ⊥
         clash e = absurd cc
 
-    at : (o : Option Holding) → find (is_row_of router eid) (named since) ≡ o → option_and_then (if_alive now) o ≡ Some g → Found since router eid g
+    at : (o : Option RowValue) → find (is_row_of router eid) (accepted_rows since) ≡ o → option_and_then (if_alive now) o ≡ Some g → Found since router eid g
     at None is e = absurd (clash e)
       where
-        clash : ◌≡◌ {A = Option Holding} None (Some g) → ⊥
+        clash : ◌≡◌ {A = Option RowValue} None (Some g) → ⊥
         clash e = absurd cc
     at (Some h) is e = found_in since router eid g (is ∙ ap Some (alive h (is_alive h now) e))
 
 -- messages of one router with equal records give equal rows
-pub same_mapping : (router : RouterId) (eid : Block) (one other : List Acceptance) (g h : Holding) (x : Found one router eid g) (y : Found other router eid h) → router_of x.acceptance.message ≡ router_of y.acceptance.message → x.acceptance.message.records ≡ y.acceptance.message.records → g.mapping ≡ h.mapping
+pub same_mapping : (router : RouterId) (eid : PrefixValue) (one other : List Acceptance) (g h : RowValue) (x : Found one router eid g) (y : Found other router eid h) → router_of x.acceptance.message ≡ router_of y.acceptance.message → x.acceptance.message.records ≡ y.acceptance.message.records → g.mapping ≡ h.mapping
 same_mapping router eid one other g h x y who records =
-    let both : Some x.mapping ≡ Some y.mapping = sym x.last ∙ (λ i. find (λ r. router_eq (who i) router && block_eq r.eid eid) (reverse (records i))) ∙ y.last in
+    let both : Some x.mapping ≡ Some y.mapping = sym x.last ∙ (λ i. find (λ r. router_eq (who i) router && prefix_eq r.eid eid) (reverse (records i))) ∙ y.last in
     let same : x.mapping ≡ y.mapping = cc in
-    ap (λ (z : Holding). z.mapping) x.is ∙ same ∙ sym (ap (λ (z : Holding). z.mapping) y.is)
+    ap (λ (z : RowValue). z.mapping) x.is ∙ same ∙ sym (ap (λ (z : RowValue). z.mapping) y.is)

@@ -3,24 +3,24 @@ use Rattle.std.proofs.Common.{◌≡◌, ℕ, zero, suc, ◌<◌, false, List, [
 use Rattle.std.specs.Prelude.{◌⊎◌, if◌then◌else◌, reverse, slice_get}
 use Rattle.std.specs.List.{Contains}
 use Rattle.std.proofs.lemmas.List.{length-reverse, reverse-append}
-use Rattle.lisp_records.specs.Record.{Mapping}
+use Rattle.lisp_records.specs.Record.{MapRecordValue}
 use Rattle.lisp_model.specs.declared.event.Event.TheVariants as events
 use Rattle.lisp_model.specs.declared.line.Line.{Line}
 use Rattle.lisp_model.specs.declared.line.Line.TheVariants as lines
-use Rattle.lisp_model.specs.Trace.{Happening, Step, Opening, Shown, database, database_after}
-use Rattle.lisp_model.specs.History.{Entry, entry_in, history}
-use Rattle.lisp_model.specs.Change.{gives, Keeps}
-use Rattle.lisp_model.specs.Legal.{MayCome, Legal, LegalTrace, turn_of}
+use Rattle.lisp_model.specs.Trace.{EventValue, Step, Opening, ShownStore, database, database_after}
+use Rattle.lisp_model.specs.History.{SentRegister, sent_registers_in, history}
+use Rattle.lisp_model.specs.Change.{gives_database, Keeps}
+use Rattle.lisp_model.specs.Legal.{MayCome, Legal, LegalTrace, context_of}
 use Rattle.lisp_model.proofs.ListLemmas.{head_or_tail, in_none}
 
 -- an event that gives nothing
-given_none : (e : Happening) (line : Line) (r : ℕ) (old : List Mapping) → gives e r ≡ false → database_after e line r old ≡ old
+given_none : (e : EventValue) (line : Line) (r : ℕ) (old : List MapRecordValue) → gives_database e r ≡ false → database_after e line r old ≡ old
 given_none (events.Change router db) (lines.Changed _ _) r old none = ap (λ b. if b then db else old) none
 given_none (events.Restart node pick (Some db)) line r old none = ap (λ b. if b then db else old) none
 given_none e line r old none = refl
 
 -- a Map-Register that goes out gives nothing
-sent_none : (o : Opening) (T : List Step) (actor : ℕ) (after : Shown) (e : Happening) (router server key nonce datagram r : ℕ) → MayCome (turn_of o T (record { event = e; line = lines.Sent router server key nonce datagram; actor = actor; shown = after })) e (lines.Sent router server key nonce datagram) → gives e r ≡ false
+sent_none : (o : Opening) (T : List Step) (actor : ℕ) (after : ShownStore) (e : EventValue) (router server key nonce datagram r : ℕ) → MayCome (context_of o T (record { event = e; line = lines.Sent router server key nonce datagram; actor = actor; shown = after })) e (lines.Sent router server key nonce datagram) → gives_database e r ≡ false
 sent_none o T actor after (events.Send _ _ _) router server key nonce datagram r row = refl
 sent_none o T actor after (events.Change _ _) router server key nonce datagram r row = absurd row
 sent_none o T actor after (events.Deliver _ _) router server key nonce datagram r row = absurd row.arrives
@@ -52,7 +52,7 @@ module _ (s : Step) (T : List Step) where
   last_place = ap (λ (xs : List Step). slice_get xs (length T)) reversed ∙ ap (λ (k : ℕ). slice_get (reverse T ++ s ∷ []) k) (sym (length-reverse T)) ∙ get_last (reverse T) s
 
 -- an entry is that of the last step, or an old one
-pub record IsNew (o : Opening) (T : List Step) (line : Line) (d : Entry) : Type 0 where
+pub record IsNew (o : Opening) (T : List Step) (line : Line) (d : SentRegister) : Type 0 where
   pub router : ℕ
   pub server : ℕ
   pub key : ℕ
@@ -61,7 +61,7 @@ pub record IsNew (o : Opening) (T : List Step) (line : Line) (d : Entry) : Type 
   pub sent : line ≡ lines.Sent router server key nonce datagram
   pub is : d ≡ record { router = router; key = key; nonce = nonce; server = server; database = database o T router; position = length T }
 
-pub new_or_old : (o : Opening) (T : List Step) (line : Line) (d : Entry) → Contains (entry_in o T line ++ history o T) d → IsNew o T line d ⊎ Contains (history o T) d
+pub new_or_old : (o : Opening) (T : List Step) (line : Line) (d : SentRegister) → Contains (sent_registers_in o T line ++ history o T) d → IsNew o T line d ⊎ Contains (history o T) d
 new_or_old o T (lines.Sent router server key nonce datagram) d has = at (head_or_tail _ (history o T) d has)
   where
     at : (d ≡ record { router = router; key = key; nonce = nonce; server = server; database = database o T router; position = length T }) ⊎ Contains (history o T) d → IsNew o T (lines.Sent router server key nonce datagram) d ⊎ Contains (history o T) d
@@ -70,50 +70,50 @@ new_or_old o T (lines.Sent router server key nonce datagram) d has = at (head_or
 new_or_old o T _ d has = inr has
 
 module _ (o : Opening) where
-  below_length : (T : List Step) (d : Entry) → Contains (history o T) d → d.position < length T
+  below_length : (T : List Step) (d : SentRegister) → Contains (history o T) d → d.position < length T
   below_length [] d has = absurd (in_none d has)
   below_length (s ∷ T) d has = at (new_or_old o T s.line d has) (below_length T d)
     where
       at : IsNew o T s.line d ⊎ Contains (history o T) d → (Contains (history o T) d → d.position < length T) → d.position < length (s ∷ T)
-      at (inl new) later = let e = ap (λ (x : Entry). x.position) new.is in omega (arith, e)
+      at (inl new) later = let e = ap (λ (x : SentRegister). x.position) new.is in omega (arith, e)
       at (inr old) later = let low = later old in omega (arith, low)
 
   -- nothing was given to a router after a place
   abbrev NothingAfter : List Step → ℕ → ℕ → Type 0
-  NothingAfter T r p = (place : ℕ) (s : Step) → p < place → place < length T → slice_get (reverse T) place ≡ Some s → gives s.event r ≡ false
+  NothingAfter T r p = (place : ℕ) (s : Step) → p < place → place < length T → slice_get (reverse T) place ≡ Some s → gives_database s.event r ≡ false
 
   nothing_before : (s : Step) (T : List Step) (r p : ℕ) → NothingAfter (s ∷ T) r p → NothingAfter T r p
   nothing_before s T r p none place x low high is = none place x low (omega (arith, high)) (earlier_place s T place high ∙ is)
 
-  new_sent : (T : List Step) (s : Step) → Legal o T s → (d : Entry) → (new : IsNew o T s.line d) → gives s.event d.router ≡ false
-  new_sent T s l d new = sent_none o T s.actor s.shown s.event new.router new.server new.key new.nonce new.datagram d.router (subst (λ (line : Line). MayCome (turn_of o T s) s.event line) new.sent l.row)
+  new_sent : (T : List Step) (s : Step) → Legal o T s → (d : SentRegister) → (new : IsNew o T s.line d) → gives_database s.event d.router ≡ false
+  new_sent T s l d new = sent_none o T s.actor s.shown s.event new.router new.server new.key new.nonce new.datagram d.router (subst (λ (line : Line). MayCome (context_of o T s) s.event line) new.sent l.row)
 
-  kept_since : (T : List Step) → LegalTrace o T → (d : Entry) → Contains (history o T) d → NothingAfter T d.router d.position → d.database ≡ database o T d.router
+  kept_since : (T : List Step) → LegalTrace o T → (d : SentRegister) → Contains (history o T) d → NothingAfter T d.router d.position → d.database ≡ database o T d.router
   kept_since [] legal d has none = absurd (in_none d has)
   kept_since (s ∷ T) legal d has none = at (new_or_old o T s.line d has) (λ old. kept_since T legal.1 d old (nothing_before s T d.router d.position none))
     where
       at : IsNew o T s.line d ⊎ Contains (history o T) d → (Contains (history o T) d → d.database ≡ database o T d.router) → d.database ≡ database o (s ∷ T) d.router
-      at (inl new) later = ap (λ (x : Entry). x.database) new.is ∙ ap (database o T) (sym (ap (λ (x : Entry). x.router) new.is)) ∙ sym (given_none s.event s.line d.router (database o T d.router) (new_sent T s legal.0 d new))
+      at (inl new) later = ap (λ (x : SentRegister). x.database) new.is ∙ ap (database o T) (sym (ap (λ (x : SentRegister). x.router) new.is)) ∙ sym (given_none s.event s.line d.router (database o T d.router) (new_sent T s legal.0 d new))
       at (inr old) later = later old ∙ sym (given_none s.event s.line d.router (database o T d.router) (none (length T) s (below_length T d old) (omega arith) (last_place s T)))
 
   -- the later of two entries of a router has the database of the earlier
-  pub same_database : (T : List Step) → LegalTrace o T → (d e : Entry) → Contains (history o T) d → Contains (history o T) e → d.router ≡ e.router → d.position < e.position → Keeps T d.router d.position e.position → d.database ≡ e.database
+  pub same_database : (T : List Step) → LegalTrace o T → (d e : SentRegister) → Contains (history o T) d → Contains (history o T) e → d.router ≡ e.router → d.position < e.position → Keeps T d.router d.position e.position → d.database ≡ e.database
   same_database [] legal d e has_d has_e = absurd (in_none d has_d)
   same_database (s ∷ T) legal d e has_d has_e = at (new_or_old o T s.line d has_d) (new_or_old o T s.line e has_e) (same_database T legal.1 d e)
     where
       at : IsNew o T s.line d ⊎ Contains (history o T) d → IsNew o T s.line e ⊎ Contains (history o T) e
           → (Contains (history o T) d → Contains (history o T) e → d.router ≡ e.router → d.position < e.position → Keeps T d.router d.position e.position → d.database ≡ e.database)
           → d.router ≡ e.router → d.position < e.position → Keeps (s ∷ T) d.router d.position e.position → d.database ≡ e.database
-      at (inl new) (inl other) later router before keeps = let p = ap (λ (x : Entry). x.position) new.is in let q = ap (λ (x : Entry). x.position) other.is in absurd (omega (arith, p, q, before))
-      at (inl new) (inr old) later router before keeps = let p = ap (λ (x : Entry). x.position) new.is in let q = below_length T e old in absurd (omega (arith, p, q, before))
+      at (inl new) (inl other) later router before keeps = let p = ap (λ (x : SentRegister). x.position) new.is in let q = ap (λ (x : SentRegister). x.position) other.is in absurd (omega (arith, p, q, before))
+      at (inl new) (inr old) later router before keeps = let p = ap (λ (x : SentRegister). x.position) new.is in let q = below_length T e old in absurd (omega (arith, p, q, before))
       at (inr old) (inl new) later router before keeps =
-          let q = ap (λ (x : Entry). x.position) new.is in
+          let q = ap (λ (x : SentRegister). x.position) new.is in
           kept_since T legal.1 d old (λ place x low high is. keeps place x low (omega (arith, high, q)) (earlier_place s T place high ∙ is))
-          ∙ ap (database o T) (router ∙ ap (λ (x : Entry). x.router) new.is) ∙ sym (ap (λ (x : Entry). x.database) new.is)
+          ∙ ap (database o T) (router ∙ ap (λ (x : SentRegister). x.router) new.is) ∙ sym (ap (λ (x : SentRegister). x.database) new.is)
       at (inr old_d) (inr old_e) later router before keeps = later old_d old_e router before (λ place x low high is. let top = below_length T e old_e in keeps place x low high (earlier_place s T place (omega (arith, high, top)) ∙ is))
 
   -- entries at one place are one
-  pub one_place : (T : List Step) (d e : Entry) → Contains (history o T) d → Contains (history o T) e → d.position ≡ e.position → d ≡ e
+  pub one_place : (T : List Step) (d e : SentRegister) → Contains (history o T) d → Contains (history o T) e → d.position ≡ e.position → d ≡ e
   one_place [] d e has_d has_e = absurd (in_none d has_d)
   one_place (s ∷ T) d e has_d has_e = at (new_or_old o T s.line d has_d) (new_or_old o T s.line e has_e) (one_place T d e)
     where
@@ -128,6 +128,6 @@ module _ (o : Opening) where
 
       at : IsNew o T s.line d ⊎ Contains (history o T) d → IsNew o T s.line e ⊎ Contains (history o T) e → (Contains (history o T) d → Contains (history o T) e → d.position ≡ e.position → d ≡ e) → d.position ≡ e.position → d ≡ e
       at (inl new) (inl other) later same = both new other
-      at (inl new) (inr old) later same = let p = ap (λ (x : Entry). x.position) new.is in let q = below_length T e old in absurd (omega (arith, p, q, same))
-      at (inr old) (inl new) later same = let p = ap (λ (x : Entry). x.position) new.is in let q = below_length T d old in absurd (omega (arith, p, q, same))
+      at (inl new) (inr old) later same = let p = ap (λ (x : SentRegister). x.position) new.is in let q = below_length T e old in absurd (omega (arith, p, q, same))
+      at (inr old) (inl new) later same = let p = ap (λ (x : SentRegister). x.position) new.is in let q = below_length T d old in absurd (omega (arith, p, q, same))
       at (inr old_d) (inr old_e) later same = later old_d old_e same

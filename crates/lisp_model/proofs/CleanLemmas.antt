@@ -11,9 +11,9 @@ use Rattle.std.proofs.lemmas.Slice.Eq.{bytes_eq-Decides}
 use Rattle.lisp_records.specs.declared.address.Addr.{Addr}
 use Rattle.lisp_records.specs.declared.address.Addr.TheVariants.{V4, V6}
 use Rattle.lisp_records.specs.Address.{addr_eq}
-use Rattle.lisp_policy.specs.Configuration.{Configuration}
-use Rattle.lisp_policy.specs.Site.{SiteEntry, KeyEntry, site_of, secret_of, key_of}
-use Rattle.lisp_messages.specs.Message.{Registration}
+use Rattle.lisp_policy.specs.Configuration.{ConfigValue}
+use Rattle.lisp_policy.specs.Site.{SiteValue, SiteKeyValue, site_of, secret_of, key_of}
+use Rattle.lisp_messages.specs.Message.{MapRegisterValue}
 use Rattle.lisp_messages.specs.Authentic.{is_authentic}
 use Rattle.lisp_admission.specs.declared.refused.Refused.{Refused}
 use Rattle.std.specs.Prelude.{ok_or, not}
@@ -29,7 +29,7 @@ addr_same (V4 a) (V6 b) t = absurd (true≢false (sym t))
 addr_same (V6 a) (V4 b) t = absurd (true≢false (sym t))
 addr_same (V6 a) (V6 b) t = ap V6 ((bytes_eq-Decides a b).0 t)
 
-pub server_in : (c : Configuration) (k : ℕ) → is_server c k ≡ true → k < length (addresses c)
+pub server_in : (c : ConfigValue) (k : ℕ) → is_server c k ≡ true → k < length (addresses c)
 server_in c k is =
     let low = ltb-true k (length c.servers) is in
     let both = length-append (map (λ s. s.address) c.servers) (map (λ r. r.address) c.routers) in
@@ -37,7 +37,7 @@ server_in c k is =
     omega (arith, low, both, first)
 
 -- one address is one node's
-pub one_node : (c : Configuration) → AllPairs (λ a b. a ≢ b) (addresses c) → (i j : ℕ) → i < length (addresses c) → j < length (addresses c) → address_at c i ≡ address_at c j → i ≡ j
+pub one_node : (c : ConfigValue) → AllPairs (λ a b. a ≢ b) (addresses c) → (i j : ℕ) → i < length (addresses c) → j < length (addresses c) → address_at c i ≡ address_at c j → i ≡ j
 one_node c distinct i j in_i in_j same = at (cases_lt i j) (cases_lt j i)
   where
     at : (i < j) ⊎ (j ≤ i) → (j < i) ⊎ (i ≤ j) → i ≡ j
@@ -45,12 +45,12 @@ one_node c distinct i j in_i in_j same = at (cases_lt i j) (cases_lt j i)
     at (inr high) (inl low) = absurd (distinct j i (V4 []) low in_i (sym same))
     at (inr high) (inr low) = omega (arith, high, low)
 
-pub node_of : (c : Configuration) → AllPairs (λ a b. a ≢ b) (addresses c) → (x : Addr) (k server : ℕ) → node_at c x ≡ Some k → x ≡ address_at c server → is_server c server ≡ true → server ≡ k
+pub node_of : (c : ConfigValue) → AllPairs (λ a b. a ≢ b) (addresses c) → (x : Addr) (k server : ℕ) → node_at c x ≡ Some k → x ≡ address_at c server → is_server c server ≡ true → server ≡ k
 node_of c distinct x k server there is kind =
     let found = position-Some (λ a. addr_eq a x) (addresses c) k (V4 []) there in
     one_node c distinct server k (server_in c server kind) found.0 (sym (addr_same _ _ found.1 ∙ is))
 
-pub server_of : (c : Configuration) → AllPairs (λ a b. a ≢ b) (addresses c) → (k server : ℕ) → address_at c server ≡ address_at c k → is_server c k ≡ true → is_server c server ≡ true → server ≡ k
+pub server_of : (c : ConfigValue) → AllPairs (λ a b. a ≢ b) (addresses c) → (k server : ℕ) → address_at c server ≡ address_at c k → is_server c k ≡ true → is_server c server ≡ true → server ≡ k
 server_of c distinct k server same is kind = one_node c distinct server k (server_in c server kind) (server_in c k is) same
 
 -- what a look-up finds is there
@@ -105,36 +105,36 @@ in_flat_map f (z ∷ zs) x y has its = at (head_or_tail z zs x has) (λ later. i
     at (inr has) later = Contains-append_right (f z) (flat_map f zs) y (later has)
 
 -- a checked message is authentic under a secret of the sites
-pub secret_in : (site : SiteEntry) (key : ℕ) (secret : List ℕ) → secret_of site key ≡ Some secret → Contains (map (λ k. k.secret) site.keys) secret
+pub secret_in : (site : SiteValue) (key : ℕ) (secret : List ℕ) → secret_of site key ≡ Some secret → Contains (map (λ k. k.secret) site.keys) secret
 secret_in site key secret e = at (key_of site.keys key) refl e
   where
-    at : (found : Option KeyEntry) → key_of site.keys key ≡ found → option_map (λ k. k.secret) found ≡ Some secret → Contains (map (λ k. k.secret) site.keys) secret
+    at : (found : Option SiteKeyValue) → key_of site.keys key ≡ found → option_map (λ k. k.secret) found ≡ Some secret → Contains (map (λ k. k.secret) site.keys) secret
     at None is e = absurd (none_clash secret e)
     at (Some k) is e = let same : k.secret ≡ secret = cc in subst (Contains (map (λ k. k.secret) site.keys)) same (in_map (λ k. k.secret) site.keys k (in_find (λ k. k.id == key) site.keys k is))
 
-pub record Checked (sites : List SiteEntry) (bytes : List ℕ) : Type 0 where
+pub record Checked (sites : List SiteValue) (bytes : List ℕ) : Type 0 where
   pub secret : List ℕ
   pub known : Contains (flat_map (λ s. map (λ k. k.secret) s.keys) sites) secret
   pub authentic : is_authentic bytes secret ≡ true
 
-pub checked : (sites : List SiteEntry) (bytes : List ℕ) (m : Registration) (key : List ℕ) → secret_under sites bytes m ≡ Ok key → Checked sites bytes
+pub checked : (sites : List SiteValue) (bytes : List ℕ) (m : MapRegisterValue) (key : List ℕ) → secret_under sites bytes m ≡ Ok key → Checked sites bytes
 unfolding secret_under
 checked sites bytes m key e = at_site (site_of sites m.site) refl e
   where
     err_clash : {why : Refused} → ◌≡◌ {A = Result (List ℕ) Refused} (Err why) (Ok key) → ⊥
     err_clash e = absurd cc
 
-    at_tag : (site : SiteEntry) (secret : List ℕ) → Contains (flat_map (λ s. map (λ k. k.secret) s.keys) sites) secret → (b : Bool) → is_authentic bytes secret ≡ b
+    at_tag : (site : SiteValue) (secret : List ℕ) → Contains (flat_map (λ s. map (λ k. k.secret) s.keys) sites) secret → (b : Bool) → is_authentic bytes secret ≡ b
         → (check b BadAuth >>= λ _. check (not m.merge) MergeAsked >>= λ _. refused_at (first_not_allowed site m.records) secret) ≡ Ok key → Checked sites bytes
     at_tag site secret known true is e = record { secret = secret; known = known; authentic = is }
     at_tag site secret known false is e = absurd (err_clash e)
 
-    at_key : (site : SiteEntry) → Contains sites site → (found : Option (List ℕ)) → secret_of site m.key_id ≡ found
+    at_key : (site : SiteValue) → Contains sites site → (found : Option (List ℕ)) → secret_of site m.key_id ≡ found
         → (ok_or found UnknownKey >>= λ secret. check (is_authentic bytes secret) BadAuth >>= λ _. check (not m.merge) MergeAsked >>= λ _. refused_at (first_not_allowed site m.records) secret) ≡ Ok key → Checked sites bytes
     at_key site has None is e = absurd (err_clash e)
     at_key site has (Some secret) is e = at_tag site secret (in_flat_map (λ s. map (λ k. k.secret) s.keys) sites site secret has (secret_in site m.key_id secret is)) (is_authentic bytes secret) refl e
 
-    at_site : (found : Option SiteEntry) → site_of sites m.site ≡ found
+    at_site : (found : Option SiteValue) → site_of sites m.site ≡ found
         → (ok_or found UnknownSite >>= λ site. ok_or (secret_of site m.key_id) UnknownKey >>= λ secret. check (is_authentic bytes secret) BadAuth >>= λ _. check (not m.merge) MergeAsked >>= λ _. refused_at (first_not_allowed site m.records) secret) ≡ Ok key → Checked sites bytes
     at_site None is e = absurd (err_clash e)
     at_site (Some site) is e = at_key site (in_find (λ s. s.id == m.site) sites site is) (secret_of site m.key_id) refl e

@@ -7,20 +7,20 @@ use Rattle.std.proofs.lemmas.Bool.{and_parts, leb-true, ltb-true, lt-ltb}
 use Rattle.std.proofs.lemmas.Bool.Decides.{Decides-eqb}
 use Rattle.lisp_records.specs.declared.address.Addr.{Addr}
 use Rattle.lisp_records.specs.declared.router.RouterId.{RouterId}
-use Rattle.lisp_policy.specs.Configuration.{Configuration, HasServers}
-use Rattle.lisp_messages.specs.Message.{Notification}
+use Rattle.lisp_policy.specs.Configuration.{ConfigValue, HasServers}
+use Rattle.lisp_messages.specs.Message.{MapNotifyValue}
 use Rattle.lisp_messages.specs.Authentic.{is_authentic}
 use Rattle.lisp_admission.specs.Checks.{signed_by}
 use Rattle.lisp_admission.specs.Checks.{secret_at as known_secret}
 use Rattle.lisp_model.specs.declared.line.Line.{Line}
 use Rattle.lisp_model.specs.declared.line.Line.TheVariants as lines
-use Rattle.lisp_model.specs.Trace.{Happening, Step, Opening, Shown, addresses, address_at, is_server, is_router, router_at, settings}
+use Rattle.lisp_model.specs.Trace.{EventValue, Step, Opening, ShownStore, addresses, address_at, is_server, is_router, router_at, etr_config}
 use Rattle.lisp_model.specs.Bag.{Item, bag}
 use Rattle.lisp_model.specs.Timers.{Notice, notices}
 use Rattle.lisp_model.specs.Network.{NamesServers}
 use Rattle.lisp_model.specs.Clean.{Clean, IsHarmless, secrets_of}
 use Rattle.lisp_model.specs.Receiving.{went_to, awaits}
-use Rattle.lisp_model.specs.Legal.{MayCome, LegalTrace, turn_of}
+use Rattle.lisp_model.specs.Legal.{MayCome, LegalTrace, context_of}
 use Rattle.lisp_model.specs.Promises.{DoneWasNoticed}
 use Rattle.lisp_model.proofs.AcknowledgementOrigins.{IsAnswer, all_answers}
 use Rattle.lisp_model.proofs.ArrivalLemmas.{comes}
@@ -45,7 +45,7 @@ module _ {X : Type 0} (P : X → Type 0) where
   each_of : (xs : List X) (x : X) → AllByRecursion P xs → Contains xs x → P x
   each_of xs x all (i, lt, is) = subst P is (each_at xs i x all lt)
 
-lists_server : (c : Configuration) → NamesServers c → (router k : ℕ) → is_router c router ≡ true → Contains (router_at c router).servers k → is_server c k ≡ true
+lists_server : (c : ConfigValue) → NamesServers c → (router k : ℕ) → is_router c router ≡ true → Contains (router_at c router).servers k → is_server c k ≡ true
 lists_server c names router k its listed =
     let within = and_parts (nat_le (length c.servers) router) (nat_lt router (length c.servers + length c.routers)) its in
     let low = leb-true (length c.servers) router within.0 in
@@ -53,11 +53,11 @@ lists_server c names router k its listed =
     lt-ltb k (length c.servers) (each_of (λ place. place < length c.servers) (router_at c router).servers k (each_at (HasServers c.servers) c.routers (router - length c.servers) _ names (omega (arith, low, high))).there listed)
 
 -- a notice waits for what it awaits
-pub record IsAwaited (o : Opening) (T : List Step) (from : Addr) (m : Notification) (x : Notice) : Type 0 where
+pub record IsAwaited (o : Opening) (T : List Step) (from : Addr) (m : MapNotifyValue) (x : Notice) : Type 0 where
   pub to : (i : Item) → slice_get (bag o T) x.datagram ≡ Some i → i.to ≡ from
   pub nonce : x.nonce ≡ m.nonce
 
-awaited : (o : Opening) (T : List Step) (from : Addr) (m : Notification) (x : Notice) → (went_to from (slice_get (bag o T) x.datagram) && (x.key == m.key_id) && (x.nonce == m.nonce)) ≡ true → IsAwaited o T from m x
+awaited : (o : Opening) (T : List Step) (from : Addr) (m : MapNotifyValue) (x : Notice) → (went_to from (slice_get (bag o T) x.datagram) && (x.key == m.key_id) && (x.nonce == m.nonce)) ≡ true → IsAwaited o T from m x
 awaited o T from m x e =
     let one = and_parts (went_to from (slice_get (bag o T) x.datagram) && (x.key == m.key_id)) (x.nonce == m.nonce) e in
     let two = and_parts (went_to from (slice_get (bag o T) x.datagram)) (x.key == m.key_id) one.0 in
@@ -65,7 +65,7 @@ awaited o T from m x e =
 
 module _ (o : Opening) (distinct : AllPairs (λ a b. a ≢ b) (addresses o.config)) (names : NamesServers o.config) (reads : ReadsBack) (T : List Step) (legal : LegalTrace o T) (clean : Clean o T) where
   holds_secret : (node : ℕ) → is_server o.config node ≡ true → (secret : List ℕ) → Contains (site_secrets o.config) secret → Contains (secrets_of o T node) secret
-  holds_secret node kind secret known = subst (λ b. Contains (if b then flat_map (λ s. map (λ k. k.secret) s.keys) o.config.sites else (settings o T node).secret ∷ []) secret) (sym kind) known
+  holds_secret node kind secret known = subst (λ b. Contains (if b then flat_map (λ s. map (λ k. k.secret) s.keys) o.config.sites else (etr_config o T node).secret ∷ []) secret) (sym kind) known
 
   -- a notice that was noticed before
   pub record WasNoticed (server nonce : ℕ) (router : RouterId) : Type 0 where
@@ -76,7 +76,7 @@ module _ (o : Opening) (distinct : AllPairs (λ a b. a ≢ b) (addresses o.confi
     pub line : before.line ≡ lines.Noticed node server nonce datagram
     pub me : (router_at o.config node).me ≡ router
 
-  ended : (from : Addr) (m what : Notification) (x : Notice) (item : Item) (server nonce : ℕ) (router : RouterId) → IsAnswer o T item what → WentOut o (bag o T) x → IsAwaited o T from m x
+  ended : (from : Addr) (m what : MapNotifyValue) (x : Notice) (item : Item) (server nonce : ℕ) (router : RouterId) → IsAnswer o T item what → WentOut o (bag o T) x → IsAwaited o T from m x
       → item.from ≡ from → item.to ≡ address_at o.config server → is_server o.config server ≡ true → m.nonce ≡ what.nonce → nonce ≡ x.nonce → router ≡ x.router → WasNoticed server nonce router
   ended from m what x item server nonce router ans w a source target kind read number its =
       let went : w.item.to ≡ from = a.to w.item w.place in
@@ -94,12 +94,12 @@ module _ (o : Opening) (distinct : AllPairs (λ a b. a ≢ b) (addresses o.confi
         me = ap (λ (k : ℕ). (router_at o.config k).me) who ∙ w.same ∙ sym its;
       }
 
-  done : (actor : ℕ) (after : Shown) (e : Happening) (server nonce : ℕ) (router : RouterId) → IsHarmless o T e
-      → MayCome (turn_of o T (record { event = e; line = lines.Done server router nonce; actor = actor; shown = after })) e (lines.Done server router nonce) → WasNoticed server nonce router
+  done : (actor : ℕ) (after : ShownStore) (e : EventValue) (server nonce : ℕ) (router : RouterId) → IsHarmless o T e
+      → MayCome (context_of o T (record { event = e; line = lines.Done server router nonce; actor = actor; shown = after })) e (lines.Done server router nonce) → WasNoticed server nonce router
   done actor after e server nonce router harmless row =
       let all = all_known o distinct reads T legal clean in
       let c = comes o T reads (all_from o T legal) (λ i has n is. (all i has n is).below) actor e (lines.Done server router nonce) after tt harmless row in
-      let t = turn_of o T (record { event = e; line = lines.Done server router nonce; actor = actor; shown = after }) in
+      let t = context_of o T (record { event = e; line = lines.Done server router nonce; actor = actor; shown = after }) in
       let x : Notice = c.row.notice in
       let w = all_went_out o distinct reads T legal clean actor x (in_find (awaits t c.arrival.from c.row.message) (notices o T actor) x c.row.stands) in
       let a = awaited o T c.arrival.from c.row.message x (find_true (awaits t c.arrival.from c.row.message) (notices o T actor) x c.row.stands) in
@@ -111,5 +111,5 @@ module _ (o : Opening) (distinct : AllPairs (λ a b. a ≢ b) (addresses o.confi
 -- what is done was noticed
 pub done_was_noticed : (o : Opening) (T : List Step) → AllPairs (λ a b. a ≢ b) (addresses o.config) → NamesServers o.config → ReadsBack → (s : Step) → LegalTrace o (s ∷ T) → Clean o (s ∷ T) → DoneWasNoticed o T s
 done_was_noticed o T distinct names reads s legal clean server nonce router is =
-    let w = done o distinct names reads T legal.1 clean.1 s.actor s.shown s.event server nonce router clean.0 (subst (λ (line : Line). MayCome (turn_of o T s) s.event line) is legal.0.row) in
+    let w = done o distinct names reads T legal.1 clean.1 s.actor s.shown s.event server nonce router clean.0 (subst (λ (line : Line). MayCome (context_of o T s) s.event line) is legal.0.row) in
     (w.before, w.node, w.datagram, w.earlier, w.line, w.me)

@@ -4,6 +4,7 @@ pub mod Traces
 pub mod Arrivals
 pub mod Steps
 pub mod LegalRows
+pub mod Story
 pub mod NearMisses
 pub mod BrokenPromises
 pub mod Premises

@@ -4,35 +4,35 @@ use Rattle.std.specs.Prelude.{◌⊎◌, nat_le, Result, if◌then◌else◌}
 use Rattle.std.proofs.lemmas.Bool.{leb-true, le-leb}
 use Rattle.lisp_etr.specs.declared.notify_fault.NotifyFault.{NotifyFault}
 use Rattle.lisp_etr.specs.declared.notify_fault.NotifyFault.TheVariants.{Stale, OutOfMemory}
-use Rattle.lisp_etr.specs.Hearing.{Heard, first_notice, is_latest}
+use Rattle.lisp_etr.specs.Hearing.{ServerNotify, first_notice, is_latest}
 use Rattle.lisp_messages.specs.Reading.{HasHead, HasRecords}
 use Rattle.lisp_model.specs.declared.line.Line.{Line}
 use Rattle.lisp_model.specs.declared.line.Line.TheVariants as lines
-use Rattle.lisp_model.specs.Trace.{settings}
+use Rattle.lisp_model.specs.Trace.{etr_config}
 use Rattle.lisp_model.specs.Bag.{Arrival, bag}
-use Rattle.lisp_model.specs.Counted.{heard, latest}
+use Rattle.lisp_model.specs.Counted.{notify_at, latest_nonce}
 use Rattle.lisp_model.specs.Hearing.{Hears, IsToAnswer, refused_with, heard_line, line_of}
-use Rattle.lisp_model.specs.Turn.{Turn}
+use Rattle.lisp_model.specs.Context.{Context}
 
 -- a Map-Notify that passes all checks
-abbrev pub Passes : Turn → Arrival → Heard → Type 0
-Passes t a h = heard t.opening t.past t.node a ≡ Ok h
+abbrev pub Passes : Context → Arrival → ServerNotify → Type 0
+Passes t a h = notify_at t.opening t.past t.node a ≡ Ok h
 
 -- it counted
-pub record IsCounted (t : Turn) (a : Arrival) (router server key nonce : ℕ) : Type 0 where
+pub record IsCounted (t : Context) (a : Arrival) (router server key nonce : ℕ) : Type 0 where
   pub acts : t.node ≡ router
-  pub what : Heard
+  pub what : ServerNotify
   pub hears : Passes t a what
   pub whose : server ≡ what.server
-  pub under : key ≡ (settings t.opening t.past t.node).key_id
+  pub under : key ≡ (etr_config t.opening t.past t.node).key_id
   pub number : nonce ≡ what.message.nonce
   pub low : nonce < first_notice
-  pub latest : is_latest nonce (latest t.past router server) ≡ true
+  pub latest : is_latest nonce (latest_nonce t.past router server) ≡ true
 
 -- it was a notice
-pub record IsNoticed (t : Turn) (a : Arrival) (router server nonce datagram : ℕ) : Type 0 where
+pub record IsNoticed (t : Context) (a : Arrival) (router server nonce datagram : ℕ) : Type 0 where
   pub acts : t.node ≡ router
-  pub what : Heard
+  pub what : ServerNotify
   pub hears : Passes t a what
   pub whose : server ≡ what.server
   pub number : nonce ≡ what.message.nonce
@@ -58,16 +58,16 @@ IsBy (lines.Resent server _ _) node = server ≡ node
 IsBy (lines.Down router) node = router ≡ node
 IsBy (lines.Refused named _) node = named ≡ node
 
-module _ (t : Turn) (a : Arrival) where
+module _ (t : Context) (a : Arrival) where
   module _ (router server key nonce : ℕ) where
-    counted_by : (h : Heard) → Passes t a h → (b c : Bool) → nat_le first_notice h.message.nonce ≡ b → is_latest h.message.nonce (latest t.past t.node h.server) ≡ c
-        → lines.Counted router server key nonce ≡ (if b then lines.Noticed t.node h.server h.message.nonce (length (bag t.opening t.past)) else (if c then lines.Counted t.node h.server (settings t.opening t.past t.node).key_id h.message.nonce else refused_with t (Stale (latest t.past t.node h.server)))) → IsCounted t a router server key nonce
+    counted_by : (h : ServerNotify) → Passes t a h → (b c : Bool) → nat_le first_notice h.message.nonce ≡ b → is_latest h.message.nonce (latest_nonce t.past t.node h.server) ≡ c
+        → lines.Counted router server key nonce ≡ (if b then lines.Noticed t.node h.server h.message.nonce (length (bag t.opening t.past)) else (if c then lines.Counted t.node h.server (etr_config t.opening t.past t.node).key_id h.message.nonce else refused_with t (Stale (latest_nonce t.past t.node h.server)))) → IsCounted t a router server key nonce
     counted_by h hears true c high last is = absurd cc
     counted_by h hears false false low last is = absurd cc
     counted_by h hears false true low last is =
         let who : router ≡ t.node = cc in
         let whose : server ≡ h.server = cc in
-        let under : key ≡ (settings t.opening t.past t.node).key_id = cc in
+        let under : key ≡ (etr_config t.opening t.past t.node).key_id = cc in
         let number : nonce ≡ h.message.nonce = cc in
         record {
           acts = sym who;
@@ -77,23 +77,23 @@ module _ (t : Turn) (a : Arrival) where
           under = under;
           number = number;
           low = (let under_it = below h.message.nonce low in omega (arith, number, under_it));
-          latest = (λ i. is_latest (number i) (latest t.past (who i) (whose i))) ∙ last;
+          latest = (λ i. is_latest (number i) (latest_nonce t.past (who i) (whose i))) ∙ last;
         }
 
     pub counted_of : Hears t a (lines.Counted router server key nonce) → IsCounted t a router server key nonce
     counted_of hears = at hears.comes
       where
-        by : (r : Result Heard NotifyFault) → heard t.opening t.past t.node a ≡ r → lines.Counted router server key nonce ≡ line_of t r → IsCounted t a router server key nonce
+        by : (r : Result ServerNotify NotifyFault) → notify_at t.opening t.past t.node a ≡ r → lines.Counted router server key nonce ≡ line_of t r → IsCounted t a router server key nonce
         by (Err fault) e is = absurd cc
-        by (Ok h) e is = counted_by h e (nat_le first_notice h.message.nonce) (is_latest h.message.nonce (latest t.past t.node h.server)) refl refl is
+        by (Ok h) e is = counted_by h e (nat_le first_notice h.message.nonce) (is_latest h.message.nonce (latest_nonce t.past t.node h.server)) refl refl is
 
-        at : (lines.Counted router server key nonce ≡ line_of t (heard t.opening t.past t.node a)) ⊎ (HasHead a.bytes × (HasRecords a.bytes ⊎ IsToAnswer t a) × (lines.Counted router server key nonce ≡ refused_with t OutOfMemory)) → IsCounted t a router server key nonce
-        at (inl is) = by (heard t.opening t.past t.node a) refl is
+        at : (lines.Counted router server key nonce ≡ line_of t (notify_at t.opening t.past t.node a)) ⊎ (HasHead a.bytes × (HasRecords a.bytes ⊎ IsToAnswer t a) × (lines.Counted router server key nonce ≡ refused_with t OutOfMemory)) → IsCounted t a router server key nonce
+        at (inl is) = by (notify_at t.opening t.past t.node a) refl is
         at (inr out) = absurd (let is : lines.Counted router server key nonce ≡ refused_with t OutOfMemory = out.2 in cc)
 
   module _ (router server nonce datagram : ℕ) where
-    noticed_by : (h : Heard) → Passes t a h → (b c : Bool) → nat_le first_notice h.message.nonce ≡ b
-        → lines.Noticed router server nonce datagram ≡ (if b then lines.Noticed t.node h.server h.message.nonce (length (bag t.opening t.past)) else (if c then lines.Counted t.node h.server (settings t.opening t.past t.node).key_id h.message.nonce else refused_with t (Stale (latest t.past t.node h.server)))) → IsNoticed t a router server nonce datagram
+    noticed_by : (h : ServerNotify) → Passes t a h → (b c : Bool) → nat_le first_notice h.message.nonce ≡ b
+        → lines.Noticed router server nonce datagram ≡ (if b then lines.Noticed t.node h.server h.message.nonce (length (bag t.opening t.past)) else (if c then lines.Counted t.node h.server (etr_config t.opening t.past t.node).key_id h.message.nonce else refused_with t (Stale (latest_nonce t.past t.node h.server)))) → IsNoticed t a router server nonce datagram
     noticed_by h hears false false low is = absurd cc
     noticed_by h hears false true low is = absurd cc
     noticed_by h hears true c high is =
@@ -114,19 +114,19 @@ module _ (t : Turn) (a : Arrival) where
     pub noticed_of : Hears t a (lines.Noticed router server nonce datagram) → IsNoticed t a router server nonce datagram
     noticed_of hears = at hears.comes
       where
-        by : (r : Result Heard NotifyFault) → heard t.opening t.past t.node a ≡ r → lines.Noticed router server nonce datagram ≡ line_of t r → IsNoticed t a router server nonce datagram
+        by : (r : Result ServerNotify NotifyFault) → notify_at t.opening t.past t.node a ≡ r → lines.Noticed router server nonce datagram ≡ line_of t r → IsNoticed t a router server nonce datagram
         by (Err fault) e is = absurd cc
-        by (Ok h) e is = noticed_by h e (nat_le first_notice h.message.nonce) (is_latest h.message.nonce (latest t.past t.node h.server)) refl is
+        by (Ok h) e is = noticed_by h e (nat_le first_notice h.message.nonce) (is_latest h.message.nonce (latest_nonce t.past t.node h.server)) refl is
 
-        at : (lines.Noticed router server nonce datagram ≡ line_of t (heard t.opening t.past t.node a)) ⊎ (HasHead a.bytes × (HasRecords a.bytes ⊎ IsToAnswer t a) × (lines.Noticed router server nonce datagram ≡ refused_with t OutOfMemory)) → IsNoticed t a router server nonce datagram
-        at (inl is) = by (heard t.opening t.past t.node a) refl is
+        at : (lines.Noticed router server nonce datagram ≡ line_of t (notify_at t.opening t.past t.node a)) ⊎ (HasHead a.bytes × (HasRecords a.bytes ⊎ IsToAnswer t a) × (lines.Noticed router server nonce datagram ≡ refused_with t OutOfMemory)) → IsNoticed t a router server nonce datagram
+        at (inl is) = by (notify_at t.opening t.past t.node a) refl is
         at (inr out) = absurd (let is : lines.Noticed router server nonce datagram ≡ refused_with t OutOfMemory = out.2 in cc)
 
   -- what passes all checks comes to its line, or to out of memory
-  pub comes_to : (h : Heard) → Passes t a h → (line : Line) → Hears t a line → (line ≡ heard_line t h) ⊎ (line ≡ refused_with t OutOfMemory)
+  pub comes_to : (h : ServerNotify) → Passes t a h → (line : Line) → Hears t a line → (line ≡ heard_line t h) ⊎ (line ≡ refused_with t OutOfMemory)
   comes_to h passes line hears = at hears.comes
     where
-      at : (line ≡ line_of t (heard t.opening t.past t.node a)) ⊎ (HasHead a.bytes × (HasRecords a.bytes ⊎ IsToAnswer t a) × (line ≡ refused_with t OutOfMemory)) → (line ≡ heard_line t h) ⊎ (line ≡ refused_with t OutOfMemory)
+      at : (line ≡ line_of t (notify_at t.opening t.past t.node a)) ⊎ (HasHead a.bytes × (HasRecords a.bytes ⊎ IsToAnswer t a) × (line ≡ refused_with t OutOfMemory)) → (line ≡ heard_line t h) ⊎ (line ≡ refused_with t OutOfMemory)
       at (inl is) = inl (is ∙ ap (line_of t) passes)
       at (inr out) = inr out.2
 
@@ -134,15 +134,15 @@ module _ (t : Turn) (a : Arrival) where
   pub heard_by : (line : Line) → Hears t a line → IsBy line t.node
   heard_by line hears = at hears.comes
     where
-      by : (h : Heard) (b c : Bool) → IsBy (if b then lines.Noticed t.node h.server h.message.nonce (length (bag t.opening t.past)) else (if c then lines.Counted t.node h.server (settings t.opening t.past t.node).key_id h.message.nonce else refused_with t (Stale (latest t.past t.node h.server)))) t.node
+      by : (h : ServerNotify) (b c : Bool) → IsBy (if b then lines.Noticed t.node h.server h.message.nonce (length (bag t.opening t.past)) else (if c then lines.Counted t.node h.server (etr_config t.opening t.past t.node).key_id h.message.nonce else refused_with t (Stale (latest_nonce t.past t.node h.server)))) t.node
       by h true c = refl
       by h false true = refl
       by h false false = refl
 
-      by_itself : (r : Result Heard NotifyFault) → IsBy (line_of t r) t.node
+      by_itself : (r : Result ServerNotify NotifyFault) → IsBy (line_of t r) t.node
       by_itself (Err fault) = refl
-      by_itself (Ok h) = by h (nat_le first_notice h.message.nonce) (is_latest h.message.nonce (latest t.past t.node h.server))
+      by_itself (Ok h) = by h (nat_le first_notice h.message.nonce) (is_latest h.message.nonce (latest_nonce t.past t.node h.server))
 
-      at : (line ≡ line_of t (heard t.opening t.past t.node a)) ⊎ (HasHead a.bytes × (HasRecords a.bytes ⊎ IsToAnswer t a) × (line ≡ refused_with t OutOfMemory)) → IsBy line t.node
-      at (inl is) = subst (λ (l : Line). IsBy l t.node) (sym is) (by_itself (heard t.opening t.past t.node a))
+      at : (line ≡ line_of t (notify_at t.opening t.past t.node a)) ⊎ (HasHead a.bytes × (HasRecords a.bytes ⊎ IsToAnswer t a) × (line ≡ refused_with t OutOfMemory)) → IsBy line t.node
+      at (inl is) = subst (λ (l : Line). IsBy l t.node) (sym is) (by_itself (notify_at t.opening t.past t.node a))
       at (inr out) = subst (λ (l : Line). IsBy l t.node) (sym out.2) refl

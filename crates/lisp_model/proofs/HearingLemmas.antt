@@ -5,19 +5,19 @@ use Rattle.std.specs.List.{AllPairs, Contains, find, flat_map}
 use Rattle.std.proofs.lemmas.Bool.{and_parts, ltb-true, leb-true}
 use Rattle.std.proofs.lemmas.List.{length-append, length-map}
 use Rattle.lisp_records.specs.Address.{addr_eq}
-use Rattle.lisp_policy.specs.Configuration.{Configuration}
+use Rattle.lisp_policy.specs.Configuration.{ConfigValue}
 use Rattle.lisp_messages.specs.declared.fault.ReadFault.{ReadFault}
 use Rattle.lisp_messages.specs.Authentic.{is_authentic}
-use Rattle.lisp_messages.specs.Message.{Said, Notification, Registers, Notifies}
+use Rattle.lisp_messages.specs.Message.{MessageValue, MapNotifyValue, Registers, Notifies}
 use Rattle.lisp_etr.specs.declared.notify_fault.NotifyFault.{NotifyFault}
 use Rattle.lisp_etr.specs.declared.notify_fault.NotifyFault.TheVariants.{NotMine, WrongKey, BadAuth}
 use Rattle.lisp_records.specs.Result.{◌>>=◌}
-use Rattle.lisp_etr.specs.Hearing.{Heard, check, checked, notify_read}
-use Rattle.lisp_etr.specs.Config.{Settings}
-use Rattle.lisp_model.specs.Trace.{Step, Opening, addresses, address_at, router_at, settings, is_server, is_router}
+use Rattle.lisp_etr.specs.Hearing.{ServerNotify, check, checked_notify, notify_read}
+use Rattle.lisp_etr.specs.Config.{EtrConfigValue}
+use Rattle.lisp_model.specs.Trace.{Step, Opening, addresses, address_at, router_at, etr_config, is_server, is_router}
 use Rattle.lisp_model.specs.Bag.{Arrival}
 use Rattle.lisp_model.specs.Clean.{secrets_of}
-use Rattle.lisp_model.specs.Counted.{server_from, heard}
+use Rattle.lisp_model.specs.Counted.{server_from, notify_at}
 use Rattle.lisp_model.proofs.CleanLemmas.{addr_same, one_node, in_find}
 use Rattle.lisp_model.proofs.ListLemmas.{at_head}
 
@@ -50,34 +50,34 @@ passed true t fault e = refl
 passed false t fault e = absurd (err_clash e)
 
 -- a Map-Notify that is read
-pub record IsRead (read : Result Said ReadFault) (m : Notification) : Type 0 where
+pub record IsRead (read : Result MessageValue ReadFault) (m : MapNotifyValue) : Type 0 where
   pub is : read ≡ Ok (Notifies m)
   pub plain : m.ack ≡ false
 
-read_of : (read : Result Said ReadFault) (m : Notification) → notify_read read ≡ Ok m → IsRead read m
+read_of : (read : Result MessageValue ReadFault) (m : MapNotifyValue) → notify_read read ≡ Ok m → IsRead read m
 read_of (Err fault) m e = absurd (err_clash e)
 read_of (Ok (Registers x)) m e = absurd (err_clash e)
 read_of (Ok (Notifies n)) m e = at n.ack refl e
   where
     at : (b : Bool) → n.ack ≡ b → (if b then Err NotMine else Ok n) ≡ Ok m → IsRead (Ok (Notifies n)) m
     at true is e = absurd (err_clash e)
-    at false is e = let same : n ≡ m = cc in record { is = ap (λ (x : Notification). Ok (Notifies x)) same; plain = ap (λ (x : Notification). x.ack) (sym same) ∙ is }
+    at false is e = let same : n ≡ m = cc in record { is = ap (λ (x : MapNotifyValue). Ok (Notifies x)) same; plain = ap (λ (x : MapNotifyValue). x.ack) (sym same) ∙ is }
 
 -- what a router hears
-pub record IsHeard (o : Opening) (T : List Step) (router : ℕ) (a : Arrival) (h : Heard) : Type 0 where
+pub record IsHeard (o : Opening) (T : List Step) (router : ℕ) (a : Arrival) (h : ServerNotify) : Type 0 where
   pub read : IsRead a.read h.message
   pub listed : Contains (router_at o.config router).servers h.server
   pub source : address_at o.config h.server ≡ a.from
-  pub authentic : is_authentic a.bytes (settings o T router).secret ≡ true
+  pub authentic : is_authentic a.bytes (etr_config o T router).secret ≡ true
 
 -- what each check lets through
-pub record HasPassed (c : Settings) (bytes : List ℕ) (read : Result Said ReadFault) (from : Option ℕ) (h : Heard) : Type 0 where
+pub record HasPassed (c : EtrConfigValue) (bytes : List ℕ) (read : Result MessageValue ReadFault) (from : Option ℕ) (h : ServerNotify) : Type 0 where
   pub reads : notify_read read ≡ Ok h.message
   pub found : from ≡ Some h.server
   pub authentic : is_authentic bytes c.secret ≡ true
 
-has_passed : (c : Settings) (bytes : List ℕ) (read : Result Said ReadFault) (from : Option ℕ) (h : Heard) → checked c bytes read from ≡ Ok h → HasPassed c bytes read from h
-unfolding checked
+has_passed : (c : EtrConfigValue) (bytes : List ℕ) (read : Result MessageValue ReadFault) (from : Option ℕ) (h : ServerNotify) → checked_notify c bytes read from ≡ Ok h → HasPassed c bytes read from h
+unfolding checked_notify
 has_passed c bytes read from h e =
     let m = bind_ok (notify_read read) (λ m. ok_or from NotMine >>= λ server. check (m.key_id == c.key_id) WrongKey >>= λ _. check (is_authentic bytes c.secret) BadAuth >>= λ _. Ok (record { server = server; message = m })) h e in
     let s = bind_ok (ok_or from NotMine) (λ server. check (m.0.key_id == c.key_id) WrongKey >>= λ _. check (is_authentic bytes c.secret) BadAuth >>= λ _. Ok (record { server = server; message = m.0 })) h m.2 in
@@ -85,15 +85,15 @@ has_passed c bytes read from h e =
     let t = bind_ok (check (is_authentic bytes c.secret) BadAuth) (λ _. Ok (record { server = s.0; message = m.0 })) h k.2 in
     made m.0 s.0 m.1 s.1 (passed _ t.0 BadAuth t.1) t.2
   where
-    made : (m : Notification) (server : ℕ) → notify_read read ≡ Ok m → ok_or from NotMine ≡ Ok server → is_authentic bytes c.secret ≡ true
-        → ◌≡◌ {A = Result Heard NotifyFault} (Ok (record { server = server; message = m })) (Ok h) → HasPassed c bytes read from h
+    made : (m : MapNotifyValue) (server : ℕ) → notify_read read ≡ Ok m → ok_or from NotMine ≡ Ok server → is_authentic bytes c.secret ≡ true
+        → ◌≡◌ {A = Result ServerNotify NotifyFault} (Ok (record { server = server; message = m })) (Ok h) → HasPassed c bytes read from h
     made m server reads found authentic is =
-        let same : ◌≡◌ {A = Heard} (record { server = server; message = m }) h = cc in
+        let same : ◌≡◌ {A = ServerNotify} (record { server = server; message = m }) h = cc in
         subst (HasPassed c bytes read from) same (record { reads = reads; found = some_of from server found; authentic = authentic })
 
-pub is_heard : (o : Opening) (T : List Step) (router : ℕ) (a : Arrival) (h : Heard) → heard o T router a ≡ Ok h → IsHeard o T router a h
+pub is_heard : (o : Opening) (T : List Step) (router : ℕ) (a : Arrival) (h : ServerNotify) → notify_at o T router a ≡ Ok h → IsHeard o T router a h
 is_heard o T router a h e =
-    let p = has_passed (settings o T router) a.bytes a.read (server_from o.config router a.from) h e in
+    let p = has_passed (etr_config o T router) a.bytes a.read (server_from o.config router a.from) h e in
     record {
       read = read_of a.read h.message p.reads;
       listed = in_find (λ s. addr_eq (address_at o.config s) a.from) (router_at o.config router).servers h.server p.found;
@@ -102,10 +102,10 @@ is_heard o T router a h e =
     }
 
 -- a router is no server, has an address, and knows its secret
-router_above : (c : Configuration) (k : ℕ) → is_router c k ≡ true → length c.servers ≤ k
+router_above : (c : ConfigValue) (k : ℕ) → is_router c k ≡ true → length c.servers ≤ k
 router_above c k is = leb-true (length c.servers) k (and_parts (nat_le (length c.servers) k) (nat_lt k (length c.servers + length c.routers)) is).0
 
-pub router_in : (c : Configuration) (k : ℕ) → is_router c k ≡ true → k < length (addresses c)
+pub router_in : (c : ConfigValue) (k : ℕ) → is_router c k ≡ true → k < length (addresses c)
 router_in c k is =
     let low = ltb-true k (length c.servers + length c.routers) (and_parts (nat_le (length c.servers) k) (nat_lt k (length c.servers + length c.routers)) is).1 in
     let both = length-append (map (λ s. s.address) c.servers) (map (λ r. r.address) c.routers) in
@@ -113,12 +113,12 @@ router_in c k is =
     let second = length-map c.routers (λ r. r.address) in
     omega (arith, low, both, first, second)
 
-no_server : (c : Configuration) (k : ℕ) → length c.servers ≤ k → (b : Bool) → is_server c k ≡ b → b ≡ false
+no_server : (c : ConfigValue) (k : ℕ) → length c.servers ≤ k → (b : Bool) → is_server c k ≡ b → b ≡ false
 no_server c k above true is = let low = ltb-true k (length c.servers) is in absurd (omega (arith, low, above))
 no_server c k above false is = refl
 
-pub knows_own : (o : Opening) (T : List Step) (k : ℕ) → is_router o.config k ≡ true → Contains (secrets_of o T k) (settings o T k).secret
-knows_own o T k is = subst (λ b. Contains (if b then flat_map (λ s. map (λ key. key.secret) s.keys) o.config.sites else (settings o T k).secret ∷ []) (settings o T k).secret) (sym (no_server o.config k (router_above o.config k is) (is_server o.config k) refl)) (at_head _ [])
+pub knows_own : (o : Opening) (T : List Step) (k : ℕ) → is_router o.config k ≡ true → Contains (secrets_of o T k) (etr_config o T k).secret
+knows_own o T k is = subst (λ b. Contains (if b then flat_map (λ s. map (λ key. key.secret) s.keys) o.config.sites else (etr_config o T k).secret ∷ []) (etr_config o T k).secret) (sym (no_server o.config k (router_above o.config k is) (is_server o.config k) refl)) (at_head _ [])
 
-pub router_of : (c : Configuration) → AllPairs (λ a b. a ≢ b) (addresses c) → (i j : ℕ) → is_router c i ≡ true → is_router c j ≡ true → address_at c i ≡ address_at c j → i ≡ j
+pub router_of : (c : ConfigValue) → AllPairs (λ a b. a ≢ b) (addresses c) → (i j : ℕ) → is_router c i ≡ true → is_router c j ≡ true → address_at c i ≡ address_at c j → i ≡ j
 router_of c distinct i j is_i is_j same = one_node c distinct i j (router_in c i is_i) (router_in c j is_j) same

@@ -1,5 +1,5 @@
 pub mod KeptLemmas
-pub mod TurnLemmas
+pub mod ContextLemmas
 pub mod ItemLemmas
 pub mod Locality
 pub mod ListLemmas

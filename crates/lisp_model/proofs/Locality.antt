@@ -2,22 +2,22 @@
 use Rattle.std.proofs.Common.{◌≡◌, ℕ, ◌+◌, Bool, true, false, List, [], ◌++◌, Option, Some, None, refl, sym, ap, ◌∙◌, true≢false, arith}
 use Rattle.std.specs.Prelude.{◌≢◌, ◌==◌, ◌&&◌, if◌then◌else◌}
 use Rattle.std.proofs.lemmas.Bool.Decides.{Decides-eqb}
-use Rattle.lisp_records.specs.Record.{Mapping}
-use Rattle.lisp_policy.specs.Configuration.{Configuration}
+use Rattle.lisp_records.specs.Record.{MapRecordValue}
+use Rattle.lisp_policy.specs.Configuration.{ConfigValue}
 use Rattle.lisp_model.specs.declared.event.Event.TheVariants as events
 use Rattle.lisp_model.specs.declared.line.Line.{Line}
 use Rattle.lisp_model.specs.declared.line.Line.TheVariants as lines
 use Rattle.lisp_model.specs.declared.refusal.Refusal.TheVariants as refusals
 use Rattle.lisp_admission.specs.declared.refused.Refused.TheVariants as refuseds
-use Rattle.lisp_model.specs.Trace.{Happening, Step, Opening, shown, clock, time_of, up_after, database_after}
+use Rattle.lisp_model.specs.Trace.{EventValue, Step, Opening, shown_store, clock, time_of, up_after, database_after}
 use Rattle.lisp_model.specs.Held.{Acceptance}
-use Rattle.lisp_model.specs.Timers.{Sends, Notice, round_after, notices_after, last_notice_after}
-use Rattle.lisp_model.specs.Bag.{Arrival, arrival_of, thrown, since_after}
-use Rattle.lisp_model.specs.Accepted.{accepted_after, tried_after}
-use Rattle.lisp_model.specs.Counted.{latest_after, acked_after}
-use Rattle.lisp_model.specs.Turn.{Turn}
+use Rattle.lisp_model.specs.Timers.{RoundTimes, Notice, round_after, notices_after, last_notice_after}
+use Rattle.lisp_model.specs.Bag.{Arrival, arrival_of, junk_arrival, since_start_after}
+use Rattle.lisp_model.specs.Accepted.{acceptances_after, tried_nonces_after}
+use Rattle.lisp_model.specs.Counted.{latest_nonce_after, acked_after}
+use Rattle.lisp_model.specs.Context.{Context}
 use Rattle.lisp_model.specs.Sending.{last_sent_after, start_values_after}
-use Rattle.lisp_model.specs.Legal.{MayCome, Arrives, Legal, turn_of}
+use Rattle.lisp_model.specs.Legal.{MayCome, Arrives, Legal, context_of}
 use Rattle.lisp_model.specs.Promises.{is_timeless, LeavesOthers}
 use Rattle.lisp_model.proofs.HeardLines.{IsBy, heard_by}
 
@@ -38,7 +38,7 @@ unless a b x y differ = ap (λ t. if t then x else y) (other_number a b differ)
 pub unless_both : {X : Type 0} (a b c d : ℕ) (x y : X) → a ≢ b → (if a == b && c == d then x else y) ≡ y
 unless_both a b c d x y differ = ap (λ t. if t && c == d then x else y) (other_number a b differ)
 
-arrives_by : (t : Turn) (a : Arrival) (line : Line) → Arrives t a line → IsBy line t.node
+arrives_by : (t : Context) (a : Arrival) (line : Line) → Arrives t a line → IsBy line t.node
 arrives_by t a (lines.Accepted server router key nonce datagram) row = sym row.acts.acts
 arrives_by t a (lines.Done server router nonce) row = sym row.acts.acts
 arrives_by t a (lines.Counted router server key nonce) row = heard_by t a _ row
@@ -49,7 +49,7 @@ arrives_by t a (lines.Refused node (refusals.Notify why)) row = heard_by t a _ r
 arrives_by t a _ row = absurd row
 
 -- the line of a legal step tells of its actor
-pub by_actor : (t : Turn) (e : Happening) (line : Line) → MayCome t e line → IsBy line t.node
+pub by_actor : (t : Context) (e : EventValue) (line : Line) → MayCome t e line → IsBy line t.node
 by_actor t (events.Change router db) (lines.Changed named records) row = row.names ∙ sym row.acts.acts
 by_actor t (events.Change router db) (lines.Down named) row = row.names ∙ sym row.acts.acts
 by_actor t (events.Send router server fate) (lines.Sent r s key nonce datagram) row = row.0 ∙ sym row.2.acts.acts
@@ -57,7 +57,7 @@ by_actor t (events.Send router server fate) (lines.Down named) row = row.1.names
 by_actor t (events.Send router server fate) (lines.Refused named (refusals.Send why)) row = row.0 ∙ sym row.2.acts
 by_actor t (events.Deliver k fate) (lines.Nowhere datagram) row = tt
 by_actor t (events.Deliver k fate) line row = arrives_by t (arrival_of row.item) line row.arrives
-by_actor t (events.Junk to from bytes) line row = arrives_by t (thrown from bytes) line row.arrives
+by_actor t (events.Junk to from bytes) line row = arrives_by t (junk_arrival from bytes) line row.arrives
 by_actor t (events.Tick ms) (lines.Ticked passed now) row = tt
 by_actor t (events.Restart node pick db) (lines.Restarted named) row = row.names ∙ sym row.acts
 by_actor t (events.Restart node pick db) (lines.Refused named (refusals.Start fault)) row = row.names ∙ sym row.acts
@@ -68,12 +68,12 @@ by_actor t (events.Resend server router) (lines.Refused named (refusals.Notice w
 by_actor t _ _ row = absurd row
 
 -- and so does its event, where it gives a database
-abbrev pub GivenBy : Happening → Line → ℕ → Type 0
+abbrev pub GivenBy : EventValue → Line → ℕ → Type 0
 GivenBy (events.Change router _) (lines.Changed _ _) node = router ≡ node
 GivenBy (events.Restart named _ _) _ node = named ≡ node
 GivenBy _ _ node = Unit {0}
 
-pub given_by : (t : Turn) (e : Happening) (line : Line) → MayCome t e line → GivenBy e line t.node
+pub given_by : (t : Context) (e : EventValue) (line : Line) → MayCome t e line → GivenBy e line t.node
 given_by t (events.Change router db) (lines.Changed named records) row = sym row.acts.acts
 given_by t (events.Restart node pick db) (lines.Restarted named) row = sym row.acts
 given_by t (events.Restart node pick db) (lines.Refused named (refusals.Start fault)) row = sym row.acts
@@ -85,21 +85,21 @@ module _ (node k : ℕ) (other : k ≢ node) where
   pub differs : (a : ℕ) → a ≡ node → a ≢ k
   differs a e same = other (sym same ∙ e)
 
-  pub since_other : (line : Line) → IsBy line node → (new old : List Acceptance) → since_after line new k old ≡ old
+  pub since_other : (line : Line) → IsBy line node → (new old : List Acceptance) → since_start_after line new k old ≡ old
   since_other (lines.Accepted server _ _ _ _) is new old = unless server k (new ++ old) old (differs server is)
   since_other (lines.Restarted named) is new old = unless named k [] old (differs named is)
   since_other _ is new old = refl
 
-  pub accepted_other : (line : Line) → IsBy line node → (new old : List Acceptance) → accepted_after line new k old ≡ old
+  pub accepted_other : (line : Line) → IsBy line node → (new old : List Acceptance) → acceptances_after line new k old ≡ old
   accepted_other (lines.Accepted server _ _ _ _) is new old = unless server k (new ++ old) old (differs server is)
   accepted_other _ is new old = refl
 
-  pub tried_other : (line : Line) → IsBy line node → (new old : List ℕ) → tried_after line new k old ≡ old
+  pub tried_other : (line : Line) → IsBy line node → (new old : List ℕ) → tried_nonces_after line new k old ≡ old
   tried_other (lines.Accepted server _ _ _ _) is new old = unless server k (new ++ old) old (differs server is)
   tried_other (lines.Refused named (refusals.Receive (refuseds.StoreSave _))) is new old = unless named k (new ++ old) old (differs named is)
   tried_other _ is new old = refl
 
-  pub notices_other : (c : Configuration) (line : Line) → IsBy line node → (now : ℕ) (old : List Notice) → notices_after c line now k old ≡ old
+  pub notices_other : (c : ConfigValue) (line : Line) → IsBy line node → (now : ℕ) (old : List Notice) → notices_after c line now k old ≡ old
   notices_other c (lines.Notice server _ _ _ _) is now old = unless server k _ old (differs server is)
   notices_other c (lines.Resent server _ _) is now old = unless server k _ old (differs server is)
   notices_other c (lines.Done server _ _) is now old = unless server k _ old (differs server is)
@@ -111,12 +111,12 @@ module _ (node k : ℕ) (other : k ≢ node) where
   last_notice_other (lines.Restarted named) is old = unless named k None old (differs named is)
   last_notice_other _ is old = refl
 
-  pub up_other : (e : Happening) (line : Line) → IsBy line node → (old : Bool) → up_after e line k old ≡ old
+  pub up_other : (e : EventValue) (line : Line) → IsBy line node → (old : Bool) → up_after e line k old ≡ old
   up_other (events.Restart _ _ _) (lines.Refused named _) is old = unless named k false old (differs named is)
   up_other (events.Restart _ _ _) (lines.Restarted named) is old = unless named k true old (differs named is)
   up_other _ _ is old = refl
 
-  pub database_other : (e : Happening) (line : Line) → GivenBy e line node → (old : List Mapping) → database_after e line k old ≡ old
+  pub database_other : (e : EventValue) (line : Line) → GivenBy e line node → (old : List MapRecordValue) → database_after e line k old ≡ old
   database_other (events.Change router db) (lines.Changed _ _) is old = unless router k db old (differs router is)
   database_other (events.Restart named _ (Some db)) _ is old = unless named k db old (differs named is)
   database_other _ _ is old = refl
@@ -130,14 +130,14 @@ module _ (node k : ℕ) (other : k ≢ node) where
   start_values_other (lines.Restarted named) is new old = unless named k new old (differs named is)
   start_values_other _ is new old = refl
 
-  pub round_other : (line : Line) → IsBy line node → (now server : ℕ) (old : Sends) → round_after line now k server old ≡ old
+  pub round_other : (line : Line) → IsBy line node → (now server : ℕ) (old : RoundTimes) → round_after line now k server old ≡ old
   round_other (lines.Changed router _) is now server old = unless router k _ old (differs router is)
   round_other (lines.Restarted named) is now server old = unless named k _ old (differs named is)
   round_other (lines.Sent router s _ _ _) is now server old = unless_both router k s server _ old (differs router is)
   round_other (lines.Counted router s _ _) is now server old = unless_both router k s server _ old (differs router is)
   round_other _ is now server old = refl
 
-  pub latest_other : (line : Line) → IsBy line node → (server old : ℕ) → latest_after line k server old ≡ old
+  pub latest_other : (line : Line) → IsBy line node → (server old : ℕ) → latest_nonce_after line k server old ≡ old
   latest_other (lines.Sent router s _ nonce _) is server old = unless_both router k s server nonce old (differs router is)
   latest_other (lines.Restarted named) is server old = unless named k 0 old (differs named is)
   latest_other _ is server old = refl
@@ -147,25 +147,25 @@ module _ (node k : ℕ) (other : k ≢ node) where
   acked_other (lines.Restarted named) is server old = unless named k None old (differs named is)
   acked_other _ is server old = refl
 
-clock_stays : (e : Happening) → is_timeless e ≡ true → (now : ℕ) → now + time_of e ≡ now
+clock_stays : (e : EventValue) → is_timeless e ≡ true → (now : ℕ) → now + time_of e ≡ now
 clock_stays (events.Tick ms) e now = absurd (true≢false (sym e))
 clock_stays _ e now = omega arith
 
 -- a legal step leaves the parts of the other nodes
 pub leaves_others : (o : Opening) (T : List Step) (s : Step) → Legal o T s → LeavesOthers o T s
 leaves_others o T s l =
-    let by = by_actor (turn_of o T s) s.event s.line l.row in
-    let given = given_by (turn_of o T s) s.event s.line l.row in
+    let by = by_actor (context_of o T s) s.event s.line l.row in
+    let given = given_by (context_of o T s) s.event s.line l.row in
     record {
       server = λ k kind other. record {
-        shown = unless s.actor k s.shown (shown o T k) (differs s.actor k other s.actor refl);
+        shown = unless s.actor k s.shown (shown_store o T k) (differs s.actor k other s.actor refl);
         accepted = accepted_other s.actor k other s.line by _ _;
         since = since_other s.actor k other s.line by _ _;
         notices = notices_other s.actor k other o.config s.line by _ _;
         last_notice = last_notice_other s.actor k other s.line by _;
       };
       router = λ k kind other. record {
-        shown = unless s.actor k s.shown (shown o T k) (differs s.actor k other s.actor refl);
+        shown = unless s.actor k s.shown (shown_store o T k) (differs s.actor k other s.actor refl);
         is_up = up_other s.actor k other s.event s.line by _;
         database = database_other s.actor k other s.event s.line given _;
         last_sent = last_sent_other s.actor k other s.line by _;

@@ -13,14 +13,14 @@ use Rattle.lisp_model.specs.declared.line.Line.TheVariants as lines
 use Rattle.lisp_model.specs.declared.refusal.Refusal.{Refusal}
 use Rattle.lisp_model.specs.declared.refusal.Refusal.TheVariants as refusals
 use Rattle.lisp_model.specs.Trace.{Step, Opening}
-use Rattle.lisp_model.specs.Turn.{Turn, HasCause, Rose}
-use Rattle.lisp_model.specs.Legal.{Legal, LegalTrace, turn_of}
+use Rattle.lisp_model.specs.Context.{Context, HasCause, Rose}
+use Rattle.lisp_model.specs.Legal.{Legal, LegalTrace, context_of}
 use Rattle.lisp_model.specs.Must.{cause_of, Must, Excuse, IsExcused, DeviceFailed}
 use Rattle.lisp_model.specs.Memory.{is_store_memory, MayTell}
 use Rattle.lisp_model.proofs.MustLaws.{must}
 
 -- what must be done but for one excuse must be but for another that the first one gives
-excused_by : (One Other : Excuse) (o : Opening) (T : List Step) (s : Step) → (One (turn_of o T s) s.line → Other (turn_of o T s) s.line)
+excused_by : (One Other : Excuse) (o : Opening) (T : List Step) (s : Step) → (One (context_of o T s) s.line → Other (context_of o T s) s.line)
     → Must One o T s → Must Other o T s
 excused_by One Other o T s gives must = record {
   send = λ router server fate is up listed below. ⊎_map (λ e. e) gives (must.send router server fate is up listed below);
@@ -37,7 +37,7 @@ module _ (node store : Type 0) (no_node : ¬ node) (no_store : ¬ store) where
       → (fault : StoreFault) → (is_store_memory (why fault) ≡ true → store) → fault ≢ stores.OutOfMemory
   not_memory why says fault may is = no_store (may (ap (λ (f : StoreFault). is_store_memory (why f)) is ∙ says))
 
-  device_failed : (t : Turn) (line : Line) → MayTell node store line → IsExcused t line → DeviceFailed t line
+  device_failed : (t : Context) (line : Line) → MayTell node store line → IsExcused t line → DeviceFailed t line
   device_failed t (lines.Refused named (refusals.Send sends.OutOfMemory)) may excused = absurd (no_node (may.0 refl))
   device_failed t (lines.Refused named (refusals.Send (sends.Store fault))) may excused =
       (not_memory (λ f. refusals.Send (sends.Store f)) refl fault may.1, excused)
@@ -50,7 +50,7 @@ module _ (node store : Type 0) (no_node : ¬ node) (no_store : ¬ store) where
   device_failed t _ may excused = absurd excused
 
 -- a store counted the failure of its device
-failed_rose : (t : Turn) (line : Line) → DeviceFailed t line → Rose t
+failed_rose : (t : Context) (line : Line) → DeviceFailed t line → Rose t
 failed_rose t (lines.Refused named why) failed = at (cause_of why) failed
   where
     at : (cause : Option StoreFault) → IsSomeAnd cause (λ fault. (fault ≢ stores.OutOfMemory) × HasCause t fault) → Rose t
@@ -62,4 +62,4 @@ failed_rose t _ failed = absurd failed
 pub must_with_memory : (node store : Type 0) → ¬ node → ¬ store → (o : Opening) (T : List Step) (s : Step) → LegalTrace o T → Legal o T s
     → MayTell node store s.line → Must DeviceFailed o T s
 must_with_memory node store no_node no_store o T s trace legal may =
-    excused_by IsExcused DeviceFailed o T s (device_failed node store no_node no_store (turn_of o T s) s.line may) (must o T s trace legal)
+    excused_by IsExcused DeviceFailed o T s (device_failed node store no_node no_store (context_of o T s) s.line may) (must o T s trace legal)

@@ -1,8 +1,8 @@
 -- What meets its conditions is sent, accepted or done.
 use Rattle.lisp_etr.specs.declared.notify_fault.NotifyFault.TheVariants as notifies
-use Rattle.lisp_etr.specs.Hearing.{Heard, first_notice, is_latest}
+use Rattle.lisp_etr.specs.Hearing.{ServerNotify, first_notice, is_latest}
 use Rattle.lisp_etr.specs.Sending.{last_nonce}
-use Rattle.lisp_model.specs.Counted.{latest}
+use Rattle.lisp_model.specs.Counted.{latest_nonce}
 use Rattle.lisp_model.specs.Hearing.{Hears, refused_with, counted_line, heard_line}
 use Rattle.lisp_model.specs.Must.{is_counted, is_noticed}
 use Rattle.std.proofs.Common.{◌≡◌, ℕ, ◌+◌, ◌<◌, ◌≤◌, Bool, true, false, List, length, Option, Some, None, Ok, Err, refl, sym, ap, subst, inl, inr, ◌∙◌, true≢false, arith}
@@ -12,9 +12,9 @@ use Rattle.std.specs.Option.{option_map}
 use Rattle.std.proofs.lemmas.Bool.{and_parts, ltb-true, leb-true, le-leb}
 use Rattle.lisp_nonces.specs.declared.fate.Fate.{Fate}
 use Rattle.lisp_nonces.specs.Kept.{number}
-use Rattle.lisp_messages.specs.Message.{Said, Registration, Notification, Registers, Notifies}
+use Rattle.lisp_messages.specs.Message.{MessageValue, MapRegisterValue, MapNotifyValue, Registers, Notifies}
 use Rattle.lisp_messages.specs.declared.fault.ReadFault.{ReadFault}
-use Rattle.lisp_policy.specs.Configuration.{Configuration}
+use Rattle.lisp_policy.specs.Configuration.{ConfigValue}
 use Rattle.lisp_etr.specs.declared.send_fault.SendFault.{SendFault}
 use Rattle.lisp_etr.specs.declared.send_fault.SendFault.TheVariants as sends
 use Rattle.lisp_admission.specs.declared.refused.Refused.{Refused}
@@ -24,19 +24,19 @@ use Rattle.lisp_model.specs.declared.event.Event.TheVariants as events
 use Rattle.lisp_model.specs.declared.line.Line.{Line}
 use Rattle.lisp_model.specs.declared.line.Line.TheVariants as lines
 use Rattle.lisp_model.specs.declared.refusal.Refusal.TheVariants as refusals
-use Rattle.lisp_model.specs.Trace.{Happening, Step, Opening, is_up, is_server, is_router, is_listed}
+use Rattle.lisp_model.specs.Trace.{EventValue, Step, Opening, is_up, is_server, is_router, is_listed}
 use Rattle.lisp_model.specs.Timers.{Notice}
-use Rattle.lisp_model.specs.Bag.{Item, Arrival, arrival_of, arrival_in, thrown, bag}
-use Rattle.lisp_model.specs.Turn.{Turn, values, IsBase}
+use Rattle.lisp_model.specs.Bag.{Item, Arrival, arrival_of, arrival_in, junk_arrival, bag}
+use Rattle.lisp_model.specs.Context.{Context, values, IsBase}
 use Rattle.lisp_model.specs.Sending.{CountsFrom, pair_at, last_sent, start_values, RefusesToSend}
 use Rattle.lisp_model.specs.Receiving.{Admits, last_in, awaiting, has_tag_for, RefusesMessage, RefusesAck, FailsNotify, FailsCheck}
-use Rattle.lisp_model.specs.Legal.{MayCome, Arrives, Legal, LegalTrace, turn_of}
+use Rattle.lisp_model.specs.Legal.{MayCome, Arrives, Legal, LegalTrace, context_of}
 use Rattle.lisp_model.specs.Must.{Must, MustSend, IsExcused, IsAbove, is_sent, is_accepted, is_done}
 use Rattle.lisp_model.proofs.HeardLines.{Passes, comes_to}
 use Rattle.lisp_model.proofs.MustLemmas.{Reached, reached}
 
 -- no node is of both kinds
-apart : (c : Configuration) (node : ℕ) → is_server c node ≡ true → is_router c node ≡ true → ⊥
+apart : (c : ConfigValue) (node : ℕ) → is_server c node ≡ true → is_router c node ≡ true → ⊥
 apart c node server router =
     let below = ltb-true node (length c.servers) server in
     let parts = and_parts (nat_le (length c.servers) node) (nat_lt node (length c.servers + length c.routers)) router in
@@ -44,7 +44,7 @@ apart c node server router =
     absurd (omega (arith, below, above))
 
 -- a refusal to send for its nonces needs a value as great
-module _ (t : Turn) (reached_here : is_up t.past t.node ≡ true → Reached (values t (pair_at t.opening t.past t.node)) (last_sent t.past t.node) (start_values t.opening t.past t.node)) where
+module _ (t : Context) (reached_here : is_up t.past t.node ≡ true → Reached (values t (pair_at t.opening t.past t.node)) (last_sent t.past t.node) (start_values t.opening t.past t.node)) where
   module _ (router server : ℕ) (up : is_up t.past router ≡ true) (listed : is_listed t.opening.config router server ≡ true) (below : (v : Option ℕ) → Contains (values t (pair_at t.opening t.past router)) v → number v < last_nonce) where
     sends_or_excused : (named : ℕ) (why : SendFault) → t.node ≡ router → RefusesToSend t router server why → IsExcused t (lines.Refused named (refusals.Send why))
     sends_or_excused named sends.NoServer is row = absurd (true≢false (sym listed ∙ row.0))
@@ -63,21 +63,21 @@ module _ (t : Turn) (reached_here : is_up t.past t.node ≡ true → Reached (va
     sends_row fate (lines.Refused named (refusals.Send why)) row = inr (sends_or_excused named why row.2.acts row.3)
     sends_row fate _ row = absurd row
 
-  must_send : (e : Happening) (line : Line) → MayCome t e line → MustSend IsExcused t e line
-  must_send e line row router server fate is up listed below = sends_row router server up listed below fate line (subst (λ (x : Happening). MayCome t x line) is row)
+  must_send : (e : EventValue) (line : Line) → MayCome t e line → MustSend IsExcused t e line
+  must_send e line row router server fate is up listed below = sends_row router server up listed below fate line (subst (λ (x : EventValue). MayCome t x line) is row)
 
 -- a Map-Register that passes all checks with a fresh nonce
-module _ (t : Turn) (kind : is_server t.opening.config t.node ≡ true) (a : Arrival) where
-  module _ (m : Registration) (admits : Admits t a m) (above : IsAbove (last_in t (pair_of m)) (values t (pair_of m)) m.nonce) where
-    same_register : (x : Registration) → a.read ≡ Ok (Registers x) → m ≡ x
-    same_register x read = let both : ◌≡◌ {A = Result Said ReadFault} (Ok (Registers m)) (Ok (Registers x)) = sym admits.read ∙ read in cc
+module _ (t : Context) (kind : is_server t.opening.config t.node ≡ true) (a : Arrival) where
+  module _ (m : MapRegisterValue) (admits : Admits t a m) (above : IsAbove (last_in t (pair_of m)) (values t (pair_of m)) m.nonce) where
+    same_register : (x : MapRegisterValue) → a.read ≡ Ok (Registers x) → m ≡ x
+    same_register x read = let both : ◌≡◌ {A = Result MessageValue ReadFault} (Ok (Registers m)) (Ok (Registers x)) = sym admits.read ∙ read in cc
 
     not_stale : (last : Option ℕ) (kept : List (Option ℕ)) (nonce saved : ℕ) → IsAbove last kept nonce → IsBase last kept (Some saved) → nonce ≤ saved → ⊥
     not_stale (Some l) kept nonce saved over base low = let same : saved ≡ l = cc in absurd (omega (arith, over, low, same))
     not_stale None kept nonce saved over base low = let under : saved < nonce = over (Some saved) base in absurd (omega (arith, under, low))
 
-    passes_no_check : (why : Refused) (read : Result Said ReadFault) → read ≡ Ok (Registers m) → FailsCheck t a read why → ⊥
-    passes_no_check why read is fails = refused_clash (sym (subst (λ (r : Result Said ReadFault). FailsCheck t a r why) is fails) ∙ admits.checks)
+    passes_no_check : (why : Refused) (read : Result MessageValue ReadFault) → read ≡ Ok (Registers m) → FailsCheck t a read why → ⊥
+    passes_no_check why read is fails = refused_clash (sym (subst (λ (r : Result MessageValue ReadFault). FailsCheck t a r why) is fails) ∙ admits.checks)
       where
         refused_clash : {key : List ℕ} → ◌≡◌ {A = Result (List ℕ) Refused} (Err why) (Ok key) → ⊥
         refused_clash e = absurd cc
@@ -85,14 +85,14 @@ module _ (t : Turn) (kind : is_server t.opening.config t.node ≡ true) (a : Arr
     accept_or_excused : (named : ℕ) (why : Refused) → RefusesMessage t a why → IsExcused t (lines.Refused named (refusals.Receive why))
     accept_or_excused named (refuseds.StoreLoad fault) row = row.fails.cause
     accept_or_excused named (refuseds.Replay saved) row = absurd (not_stale (last_in t (pair_of m)) (values t (pair_of m)) m.nonce saved above
-        (subst (λ (x : Registration). IsBase (last_in t (pair_of x)) (values t (pair_of x)) (Some saved)) (sym (same_register row.message row.admits.read)) row.counts)
-        (subst (λ (x : Registration). x.nonce ≤ saved) (sym (same_register row.message row.admits.read)) row.stale))
+        (subst (λ (x : MapRegisterValue). IsBase (last_in t (pair_of x)) (values t (pair_of x)) (Some saved)) (sym (same_register row.message row.admits.read)) row.counts)
+        (subst (λ (x : MapRegisterValue). x.nonce ≤ saved) (sym (same_register row.message row.admits.read)) row.stale))
     accept_or_excused named refuseds.OutOfMemory row = λ other. absurd (other refl)
     accept_or_excused named (refuseds.StoreSave fault) row = row.fails.cause
     accept_or_excused named _ row = absurd (passes_no_check _ a.read admits.read row.0)
 
-    is_no_notify : (n : Notification) → a.read ≡ Ok (Notifies n) → ⊥
-    is_no_notify n read = let both : ◌≡◌ {A = Result Said ReadFault} (Ok (Registers m)) (Ok (Notifies n)) = sym admits.read ∙ read in absurd cc
+    is_no_notify : (n : MapNotifyValue) → a.read ≡ Ok (Notifies n) → ⊥
+    is_no_notify n read = let both : ◌≡◌ {A = Result MessageValue ReadFault} (Ok (Registers m)) (Ok (Notifies n)) = sym admits.read ∙ read in absurd cc
 
     pub accept_arrives : (line : Line) → Arrives t a line → (is_accepted line ≡ true) ⊎ IsExcused t line
     accept_arrives (lines.Accepted server router key nonce datagram) row = inl refl
@@ -105,9 +105,9 @@ module _ (t : Turn) (kind : is_server t.opening.config t.node ≡ true) (a : Arr
     accept_arrives _ row = absurd row
 
   -- a Map-Notify-Ack that a notice waits for
-  module _ (m : Notification) (n : Notice) (read : a.read ≡ Ok (Notifies m)) (ack : m.ack ≡ true) (waits : awaiting t a.from m ≡ Some n) (tag : has_tag_for t a n ≡ true) where
-    is_no_register : (x : Registration) → a.read ≡ Ok (Registers x) → ⊥
-    is_no_register x other = let both : ◌≡◌ {A = Result Said ReadFault} (Ok (Notifies m)) (Ok (Registers x)) = sym read ∙ other in absurd cc
+  module _ (m : MapNotifyValue) (n : Notice) (read : a.read ≡ Ok (Notifies m)) (ack : m.ack ≡ true) (waits : awaiting t a.from m ≡ Some n) (tag : has_tag_for t a n ≡ true) where
+    is_no_register : (x : MapRegisterValue) → a.read ≡ Ok (Registers x) → ⊥
+    is_no_register x other = let both : ◌≡◌ {A = Result MessageValue ReadFault} (Ok (Notifies m)) (Ok (Registers x)) = sym read ∙ other in absurd cc
 
     ack_fails : (why : Refused) (found : Option Notice) → found ≡ Some n → RefusesAck t a found why → ⊥
     ack_fails why None is fails = none_clash is
@@ -120,8 +120,8 @@ module _ (t : Turn) (kind : is_server t.opening.config t.node ≡ true) (a : Arr
     notify_fails why true is fails = ack_fails why (awaiting t a.from m) waits fails
     notify_fails why false is fails = absurd (true≢false (sym is))
 
-    ends_no_check : (why : Refused) (r : Result Said ReadFault) → r ≡ Ok (Notifies m) → FailsCheck t a r why → ⊥
-    ends_no_check why r is fails = notify_fails why m.ack ack (subst (λ (x : Result Said ReadFault). FailsCheck t a x why) is fails)
+    ends_no_check : (why : Refused) (r : Result MessageValue ReadFault) → r ≡ Ok (Notifies m) → FailsCheck t a r why → ⊥
+    ends_no_check why r is fails = notify_fails why m.ack ack (subst (λ (x : Result MessageValue ReadFault). FailsCheck t a x why) is fails)
 
     end_or_excused : (named : ℕ) (why : Refused) → RefusesMessage t a why → IsExcused t (lines.Refused named (refusals.Receive why))
     end_or_excused named (refuseds.StoreLoad fault) row = row.fails.cause
@@ -141,21 +141,21 @@ module _ (t : Turn) (kind : is_server t.opening.config t.node ≡ true) (a : Arr
     end_arrives _ row = absurd row
 
 -- what arrives at a server is seen by its row
-module _ (t : Turn) (kind : is_server t.opening.config t.node ≡ true) (a : Arrival) where
-  arrived : (e : Happening) (line : Line) → arrival_in (bag t.opening t.past) e ≡ Some a → MayCome t e line → Arrives t a line
+module _ (t : Context) (kind : is_server t.opening.config t.node ≡ true) (a : Arrival) where
+  arrived : (e : EventValue) (line : Line) → arrival_in (bag t.opening t.past) e ≡ Some a → MayCome t e line → Arrives t a line
   arrived (events.Deliver k fate) (lines.Nowhere datagram) is row = absurd (true≢false (sym kind ∙ row.idle.server))
   arrived (events.Deliver k fate) line is row = subst (λ (x : Arrival). Arrives t x line) (same row.item row.sent) row.arrives
     where
       same : (i : Item) → slice_get (bag t.opening t.past) k ≡ Some i → arrival_of i ≡ a
       same i sent = let both : Some (arrival_of i) ≡ Some a = sym (ap (option_map arrival_of) sent) ∙ is in cc
-  arrived (events.Junk to from bytes) line is row = subst (λ (x : Arrival). Arrives t x line) (let both : Some (thrown from bytes) ≡ Some a = is in cc) row.arrives
+  arrived (events.Junk to from bytes) line is row = subst (λ (x : Arrival). Arrives t x line) (let both : Some (junk_arrival from bytes) ≡ Some a = is in cc) row.arrives
   arrived _ line is row = absurd (none_clash is)
     where
       none_clash : ◌≡◌ {A = Option Arrival} None (Some a) → ⊥
       none_clash e = absurd cc
 
 -- a Map-Notify that a router hears
-module _ (t : Turn) (kind : is_router t.opening.config t.node ≡ true) (up : is_up t.past t.node ≡ true) (a : Arrival) (h : Heard) (passes : Passes t a h) where
+module _ (t : Context) (kind : is_router t.opening.config t.node ≡ true) (up : is_up t.past t.node ≡ true) (a : Arrival) (h : ServerNotify) (passes : Passes t a h) where
   no_server : (server : ℕ) → is_server t.opening.config server ≡ true → t.node ≡ server → ⊥
   no_server server is acts = apart t.opening.config t.node (ap (is_server t.opening.config) acts ∙ is) kind
 
@@ -177,10 +177,10 @@ module _ (t : Turn) (kind : is_router t.opening.config t.node ≡ true) (up : is
   heard_arrives is_kind due (lines.Refused node (refusals.Notify why)) row = by_kind is_kind due _ row
   heard_arrives is_kind due _ row = absurd row
 
-  counts : h.message.nonce < first_notice → is_latest h.message.nonce (latest t.past t.node h.server) ≡ true → is_counted (heard_line t h) ≡ true
+  counts : h.message.nonce < first_notice → is_latest h.message.nonce (latest_nonce t.past t.node h.server) ≡ true → is_counted (heard_line t h) ≡ true
   counts low last = at (nat_le first_notice h.message.nonce) refl
     where
-      at : (b : Bool) → nat_le first_notice h.message.nonce ≡ b → is_counted (if b then lines.Noticed t.node h.server h.message.nonce (length (bag t.opening t.past)) else counted_line t h (latest t.past t.node h.server)) ≡ true
+      at : (b : Bool) → nat_le first_notice h.message.nonce ≡ b → is_counted (if b then lines.Noticed t.node h.server h.message.nonce (length (bag t.opening t.past)) else counted_line t h (latest_nonce t.past t.node h.server)) ≡ true
       at true high = let above = leb-true first_notice h.message.nonce high in absurd (omega (arith, low, above))
       at false _ = rw last refl
 
@@ -188,14 +188,14 @@ module _ (t : Turn) (kind : is_router t.opening.config t.node ≡ true) (up : is
   notices high = rw (le-leb first_notice h.message.nonce high) refl
 
 -- what arrives at a router is heard by its row
-module _ (t : Turn) (kind : is_router t.opening.config t.node ≡ true) (a : Arrival) where
-  arrived_there : (e : Happening) (line : Line) → arrival_in (bag t.opening t.past) e ≡ Some a → MayCome t e line → Arrives t a line
+module _ (t : Context) (kind : is_router t.opening.config t.node ≡ true) (a : Arrival) where
+  arrived_there : (e : EventValue) (line : Line) → arrival_in (bag t.opening t.past) e ≡ Some a → MayCome t e line → Arrives t a line
   arrived_there (events.Deliver k fate) (lines.Nowhere datagram) is row = absurd (true≢false (sym kind ∙ row.idle.router))
   arrived_there (events.Deliver k fate) line is row = subst (λ (x : Arrival). Arrives t x line) (same row.item row.sent) row.arrives
     where
       same : (i : Item) → slice_get (bag t.opening t.past) k ≡ Some i → arrival_of i ≡ a
       same i sent = let both : Some (arrival_of i) ≡ Some a = sym (ap (option_map arrival_of) sent) ∙ is in cc
-  arrived_there (events.Junk to from bytes) line is row = subst (λ (x : Arrival). Arrives t x line) (let both : Some (thrown from bytes) ≡ Some a = is in cc) row.arrives
+  arrived_there (events.Junk to from bytes) line is row = subst (λ (x : Arrival). Arrives t x line) (let both : Some (junk_arrival from bytes) ≡ Some a = is in cc) row.arrives
   arrived_there _ line is row = absurd (clash is)
     where
       clash : ◌≡◌ {A = Option Arrival} None (Some a) → ⊥
@@ -204,9 +204,9 @@ module _ (t : Turn) (kind : is_router t.opening.config t.node ≡ true) (a : Arr
 -- legal steps do what they must
 pub must : (o : Opening) (T : List Step) (s : Step) → LegalTrace o T → Legal o T s → Must IsExcused o T s
 must o T s legal l = record {
-  send = must_send (turn_of o T s) (reached o T legal s.actor) s.event s.line l.row;
-  accept = λ a m is kind admits above. accept_arrives (turn_of o T s) kind a m admits above s.line (arrived (turn_of o T s) kind a s.event s.line is l.row);
-  done = λ a m n is kind read ack waits tag. end_arrives (turn_of o T s) kind a m n read ack waits tag s.line (arrived (turn_of o T s) kind a s.event s.line is l.row);
-  counted = λ a h is kind up passes low last. heard_arrives (turn_of o T s) kind up a h passes is_counted (counts (turn_of o T s) kind up a h passes low last) s.line (arrived_there (turn_of o T s) kind a s.event s.line is l.row);
-  noticed = λ a h is kind up passes high. heard_arrives (turn_of o T s) kind up a h passes is_noticed (notices (turn_of o T s) kind up a h passes high) s.line (arrived_there (turn_of o T s) kind a s.event s.line is l.row);
+  send = must_send (context_of o T s) (reached o T legal s.actor) s.event s.line l.row;
+  accept = λ a m is kind admits above. accept_arrives (context_of o T s) kind a m admits above s.line (arrived (context_of o T s) kind a s.event s.line is l.row);
+  done = λ a m n is kind read ack waits tag. end_arrives (context_of o T s) kind a m n read ack waits tag s.line (arrived (context_of o T s) kind a s.event s.line is l.row);
+  counted = λ a h is kind up passes low last. heard_arrives (context_of o T s) kind up a h passes is_counted (counts (context_of o T s) kind up a h passes low last) s.line (arrived_there (context_of o T s) kind a s.event s.line is l.row);
+  noticed = λ a h is kind up passes high. heard_arrives (context_of o T s) kind up a h passes is_noticed (notices (context_of o T s) kind up a h passes high) s.line (arrived_there (context_of o T s) kind a s.event s.line is l.row);
 }

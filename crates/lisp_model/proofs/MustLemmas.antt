@@ -9,10 +9,10 @@ use Rattle.lisp_model.specs.declared.event.Event.TheVariants as events
 use Rattle.lisp_model.specs.declared.line.Line.{Line}
 use Rattle.lisp_model.specs.declared.line.Line.TheVariants as lines
 use Rattle.lisp_model.specs.declared.refusal.Refusal.TheVariants as refusals
-use Rattle.lisp_model.specs.Trace.{Happening, Step, Opening, shown, is_up, up_after}
-use Rattle.lisp_model.specs.Turn.{Turn, values, values_after, Saves, IsBase, MaySave}
+use Rattle.lisp_model.specs.Trace.{EventValue, Step, Opening, shown_store, is_up, up_after}
+use Rattle.lisp_model.specs.Context.{Context, values, values_after, Saves, IsBase, MaySave}
 use Rattle.lisp_model.specs.Sending.{CountsFrom, pair_at, last_sent, last_sent_after, start_values, start_values_after}
-use Rattle.lisp_model.specs.Legal.{MayCome, Legal, LegalTrace, turn_of}
+use Rattle.lisp_model.specs.Legal.{MayCome, Legal, LegalTrace, context_of}
 use Rattle.lisp_model.proofs.ListLemmas.{at_head}
 use Rattle.lisp_model.proofs.Locality.{by_actor, same_number, other_number, up_other, last_sent_other, start_values_other}
 use Rattle.lisp_model.proofs.OwnValues.{own_values, own_values_after, Stays, Leaves, leaves}
@@ -21,7 +21,7 @@ use Rattle.lisp_model.proofs.OwnValues.{own_values, own_values_after, Stays, Lea
 abbrev pub Reached : List (Option ℕ) → Option ℕ → List (Option ℕ) → Type 0
 Reached kept last start = (base : Option ℕ) → IsBase last start base → (v : Option ℕ) × Contains kept v × (number base ≤ number v)
 
-module _ (t : Turn) (was : is_up t.past t.node ≡ true → Reached (own_values t) (last_sent t.past t.node) (start_values t.opening t.past t.node)) where
+module _ (t : Context) (was : is_up t.past t.node ≡ true → Reached (own_values t) (last_sent t.past t.node) (start_values t.opening t.past t.node)) where
   abbrev Later : Type 0
   Later = is_up t.past t.node ≡ true → Reached (own_values_after t) (last_sent t.past t.node) (start_values t.opening t.past t.node)
 
@@ -40,7 +40,7 @@ module _ (t : Turn) (was : is_up t.past t.node ≡ true → Reached (own_values 
       doubts (inl same) = stays same
       doubts (inr more) = grows (λ v has. subst (λ (vs : List (Option ℕ)). Contains vs v) (sym more) (Contains-append_left (own_values t) (Some saved.nonce ∷ []) v has))
 
-  abbrev After : Happening → Line → Type 0
+  abbrev After : EventValue → Line → Type 0
   After e line = up_after e line t.node (is_up t.past t.node) ≡ true
       → Reached (own_values_after t) (last_sent_after line t.node (last_sent t.past t.node)) (start_values_after line (own_values_after t) t.node (start_values t.opening t.past t.node))
 
@@ -70,7 +70,7 @@ module _ (t : Turn) (was : is_up t.past t.node ≡ true → Reached (own_values 
   down_now : (named : ℕ) → named ≡ t.node → (if named == t.node then false else is_up t.past t.node) ≡ false
   down_now named is = ap (λ b. if b then false else is_up t.past t.node) (ap (λ s. s == t.node) is ∙ same_number t.node)
 
-  after : (e : Happening) (line : Line) → MayCome t e line → Leaves t line → After e line
+  after : (e : EventValue) (line : Line) → MayCome t e line → Leaves t line → After e line
   after (events.Restart node pick db) (lines.Refused named (refusals.Start fault)) row left = λ up. absurd (true≢false (sym up ∙ down_now named left.0))
   after (events.Restart node pick db) (lines.Refused named _) row left = absurd row
   after (events.Deliver k fate) (lines.Refused named (refusals.Start fault)) row left = absurd row.arrives
@@ -81,24 +81,24 @@ module _ (t : Turn) (was : is_up t.past t.node ≡ true → Reached (own_values 
   after e line row left = later left
 
   -- any legal step of the node
-  pub row_reached : (e : Happening) (line : Line) → MayCome t e line → After e line
+  pub row_reached : (e : EventValue) (line : Line) → MayCome t e line → After e line
   row_reached e line row = after e line row (leaves t e line row)
 
 module _ (o : Opening) where
   abbrev ReachedAt : List Step → ℕ → Type 0
-  ReachedAt T r = is_up T r ≡ true → Reached (kept_at (shown o T r).kept (pair_at o T r)) (last_sent T r) (start_values o T r)
+  ReachedAt T r = is_up T r ≡ true → Reached (kept_at (shown_store o T r).kept (pair_at o T r)) (last_sent T r) (start_values o T r)
 
   reached_actor : (T : List Step) (s : Step) → Legal o T s → ReachedAt T s.actor → ReachedAt (s ∷ T) s.actor
-  reached_actor T s l old = subst (λ b. is_up (s ∷ T) s.actor ≡ true → Reached (kept_at (if b then s.shown else shown o T s.actor).kept (pair_at o T s.actor)) (last_sent (s ∷ T) s.actor) (start_values o (s ∷ T) s.actor)) (sym (same_number s.actor))
-      (row_reached (turn_of o T s) old s.event s.line l.row)
+  reached_actor T s l old = subst (λ b. is_up (s ∷ T) s.actor ≡ true → Reached (kept_at (if b then s.shown else shown_store o T s.actor).kept (pair_at o T s.actor)) (last_sent (s ∷ T) s.actor) (start_values o (s ∷ T) s.actor)) (sym (same_number s.actor))
+      (row_reached (context_of o T s) old s.event s.line l.row)
 
   reached_other : (T : List Step) (s : Step) (r : ℕ) → r ≢ s.actor → Legal o T s → ReachedAt T r → ReachedAt (s ∷ T) r
   reached_other T s r differ l old up =
-      let by = by_actor (turn_of o T s) s.event s.line l.row in
+      let by = by_actor (context_of o T s) s.event s.line l.row in
       let was = old (sym (up_other s.actor r differ s.event s.line by (is_up T r)) ∙ up) in
-      subst (λ (last : Option ℕ). Reached (kept_at (shown o (s ∷ T) r).kept (pair_at o T r)) last (start_values o (s ∷ T) r)) (sym (last_sent_other s.actor r differ s.line by (last_sent T r)))
-      (subst (λ (start : List (Option ℕ)). Reached (kept_at (shown o (s ∷ T) r).kept (pair_at o T r)) (last_sent T r) start) (sym (start_values_other s.actor r differ s.line by (kept_at s.shown.kept (pair_at o T r)) (start_values o T r)))
-      (subst (λ b. Reached (kept_at (if b then s.shown else shown o T r).kept (pair_at o T r)) (last_sent T r) (start_values o T r)) (sym (other_number s.actor r (λ e. differ (sym e)))) was))
+      subst (λ (last : Option ℕ). Reached (kept_at (shown_store o (s ∷ T) r).kept (pair_at o T r)) last (start_values o (s ∷ T) r)) (sym (last_sent_other s.actor r differ s.line by (last_sent T r)))
+      (subst (λ (start : List (Option ℕ)). Reached (kept_at (shown_store o (s ∷ T) r).kept (pair_at o T r)) (last_sent T r) start) (sym (start_values_other s.actor r differ s.line by (kept_at s.shown.kept (pair_at o T r)) (start_values o T r)))
+      (subst (λ b. Reached (kept_at (if b then s.shown else shown_store o T r).kept (pair_at o T r)) (last_sent T r) (start_values o T r)) (sym (other_number s.actor r (λ e. differ (sym e)))) was))
 
   reached_step : (T : List Step) (s : Step) (r : ℕ) (b : Bool) → (s.actor == r) ≡ b → Legal o T s → ((n : ℕ) → ReachedAt T n) → ReachedAt (s ∷ T) r
   reached_step T s r true e l old = subst (ReachedAt (s ∷ T)) ((Decides-eqb s.actor r).0 e) (reached_actor T s l (old s.actor))

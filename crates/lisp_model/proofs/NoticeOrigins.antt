@@ -7,9 +7,9 @@ use Rattle.std.proofs.lemmas.List.Elements.{Contains-append_cases}
 use Rattle.lisp_records.specs.declared.router.RouterId.{RouterId}
 use Rattle.lisp_records.specs.Router.{router_eq}
 use Rattle.lisp_records.proofs.RouterLaws.{router_eq-Decides}
-use Rattle.lisp_policy.specs.Configuration.{Configuration}
-use Rattle.lisp_policy.specs.Site.{SiteEntry, site_of, secret_of}
-use Rattle.lisp_messages.specs.Message.{Registration}
+use Rattle.lisp_policy.specs.Configuration.{ConfigValue}
+use Rattle.lisp_policy.specs.Site.{SiteValue, site_of, secret_of}
+use Rattle.lisp_messages.specs.Message.{MapRegisterValue}
 use Rattle.lisp_messages.specs.Authentic.{is_authentic}
 use Rattle.lisp_admission.specs.declared.refused.Refused.{Refused}
 use Rattle.lisp_admission.specs.declared.refused.Refused.TheVariants.{UnknownSite, UnknownKey, BadAuth, MergeAsked}
@@ -19,13 +19,13 @@ use Rattle.lisp_admission.specs.Pairs.{router_of}
 use Rattle.lisp_model.specs.declared.event.Event.TheVariants as events
 use Rattle.lisp_model.specs.declared.line.Line.{Line}
 use Rattle.lisp_model.specs.declared.line.Line.TheVariants as lines
-use Rattle.lisp_model.specs.Trace.{Happening, Step, Opening, Shown, addresses, address_at, is_router, router_at, secret_at, clock}
+use Rattle.lisp_model.specs.Trace.{EventValue, Step, Opening, ShownStore, addresses, address_at, is_router, router_at, secret_at, clock}
 use Rattle.lisp_model.specs.Held.{Acceptance, heard_last}
-use Rattle.lisp_model.specs.Timers.{Notice, notices, notices_after, without, sent_again}
-use Rattle.lisp_model.specs.Bag.{Item, Arrival, arrival_in, taken, notice_item, posted, past, bag, since}
-use Rattle.lisp_model.specs.Accepted.{accepted, accepted_after}
+use Rattle.lisp_model.specs.Timers.{Notice, notices, notices_after, notices_to_others, resent_at}
+use Rattle.lisp_model.specs.Bag.{Item, Arrival, arrival_in, acceptances_in, notice_item, items_added, past, bag, since_start}
+use Rattle.lisp_model.specs.Accepted.{acceptances, acceptances_after}
 use Rattle.lisp_model.specs.Clean.{IsHarmless, Clean}
-use Rattle.lisp_model.specs.Legal.{MayCome, LegalTrace, turn_of}
+use Rattle.lisp_model.specs.Legal.{MayCome, LegalTrace, context_of}
 use Rattle.lisp_model.proofs.AgreementLaws.{since_accepted}
 use Rattle.lisp_model.proofs.ArrivalLemmas.{comes}
 use Rattle.lisp_model.proofs.ChangeLemmas.{get_last}
@@ -59,26 +59,26 @@ module _ {X : Type 0} where
   in_filter p (y ∷ ys) x has = filter_case y x ys (filter p ys) (p y) has (in_filter p ys x)
 
 -- the secrets of all sites
-abbrev pub site_secrets : Configuration → List (List ℕ)
+abbrev pub site_secrets : ConfigValue → List (List ℕ)
 site_secrets c = flat_map (λ s. map (λ k. k.secret) s.keys) c.sites
 
 -- the secret of a checked message is one of them
-known_secret : (c : Configuration) (bytes : List ℕ) (m : Registration) (key : List ℕ) → secret_under c.sites bytes m ≡ Ok key → Contains (site_secrets c) (secret_at c.sites m.site m.key_id)
+known_secret : (c : ConfigValue) (bytes : List ℕ) (m : MapRegisterValue) (key : List ℕ) → secret_under c.sites bytes m ≡ Ok key → Contains (site_secrets c) (secret_at c.sites m.site m.key_id)
 unfolding secret_under
 known_secret c bytes m key e = at_site (site_of c.sites m.site) refl e
   where
     err_clash : {why : Refused} → ◌≡◌ {A = Result (List ℕ) Refused} (Err why) (Ok key) → ⊥
     err_clash e = absurd cc
 
-    at_key : (site : SiteEntry) → Contains c.sites site → (found : Option (List ℕ)) → secret_of site m.key_id ≡ found
+    at_key : (site : SiteValue) → Contains c.sites site → (found : Option (List ℕ)) → secret_of site m.key_id ≡ found
         → (ok_or found UnknownKey >>= λ secret. check (is_authentic bytes secret) BadAuth >>= λ _. check (not m.merge) MergeAsked >>= λ _. refused_at (first_not_allowed site m.records) secret) ≡ Ok key → Contains (site_secrets c) (unwrap_or (secret_of site m.key_id) [])
     at_key site has None is e = absurd (err_clash e)
     at_key site has (Some secret) is e = subst (λ (found : Option (List ℕ)). Contains (site_secrets c) (unwrap_or found [])) (sym is) (in_flat_map (λ s. map (λ k. k.secret) s.keys) c.sites site secret has (secret_in site m.key_id secret is))
 
-    at_site : (found : Option SiteEntry) → site_of c.sites m.site ≡ found
+    at_site : (found : Option SiteValue) → site_of c.sites m.site ≡ found
         → (ok_or found UnknownSite >>= λ site. ok_or (secret_of site m.key_id) UnknownKey >>= λ secret. check (is_authentic bytes secret) BadAuth >>= λ _. check (not m.merge) MergeAsked >>= λ _. refused_at (first_not_allowed site m.records) secret) ≡ Ok key → Contains (site_secrets c) (secret_at c.sites m.site m.key_id)
     at_site None is e = absurd (err_clash e)
-    at_site (Some site) is e = subst (λ (found : Option SiteEntry). Contains (site_secrets c) (unwrap_or (option_and_then (λ s. secret_of s m.key_id) found) [])) (sym is) (at_key site (in_find (λ s. s.id == m.site) c.sites site is) (secret_of site m.key_id) refl e)
+    at_site (Some site) is e = subst (λ (found : Option SiteValue). Contains (site_secrets c) (unwrap_or (option_and_then (λ s. secret_of s m.key_id) found) [])) (sym is) (at_key site (in_find (λ s. s.id == m.site) c.sites site is) (secret_of site m.key_id) refl e)
 
 -- a notice went to where its router was heard
 pub record WentOut (o : Opening) (items : List Item) (x : Notice) : Type 0 where
@@ -96,7 +96,7 @@ AllWentOut o items notices = (x : Notice) → Contains notices x → WentOut o i
 later_out : (o : Opening) (items more : List Item) (x : Notice) → WentOut o items x → WentOut o (items ++ more) x
 later_out o items more x w = record { item = w.item; place = get_more items more x.datagram w.item w.place; router = w.router; kind = w.kind; to = w.to; same = w.same; known = w.known }
 
-again_out : (o : Opening) (items : List Item) (router : RouterId) (now : ℕ) (x : Notice) → WentOut o items x → WentOut o items (sent_again router now x)
+again_out : (o : Opening) (items : List Item) (router : RouterId) (now : ℕ) (x : Notice) → WentOut o items x → WentOut o items (resent_at router now x)
 again_out o items router now x w = at (router_eq x.router router)
   where
     at : (b : Bool) → WentOut o items (if b then record x { moments = now ∷ x.moments } else x)
@@ -106,12 +106,12 @@ again_out o items router now x w = at (router_eq x.router router)
 -- a notice that goes out
 pub record Announces (o : Opening) (T : List Step) (server router key datagram : ℕ) : Type 0 where
   pub last : Acceptance
-  pub heard : heard_last (router_at o.config router).me (since o T server) ≡ Some last
+  pub heard : heard_last (router_at o.config router).me (since_start o T server) ≡ Some last
   pub under : key ≡ last.message.key_id
   pub place : datagram ≡ length (bag o T)
 
-announces : (o : Opening) (T : List Step) (actor : ℕ) (after : Shown) (e : Happening) (server router key nonce datagram : ℕ) → MayCome (turn_of o T (record { event = e; line = lines.Notice server router key nonce datagram; actor = actor; shown = after })) e (lines.Notice server router key nonce datagram) → Announces o T server router key datagram
-announces o T actor after (events.Notice s r fate) server router key nonce datagram row = record { last = row.2.last; heard = (λ i. heard_last (router_at o.config (row.1 i)).me (since o T (row.0 i))) ∙ row.2.heard; under = row.2.under; place = row.2.place }
+announces : (o : Opening) (T : List Step) (actor : ℕ) (after : ShownStore) (e : EventValue) (server router key nonce datagram : ℕ) → MayCome (context_of o T (record { event = e; line = lines.Notice server router key nonce datagram; actor = actor; shown = after })) e (lines.Notice server router key nonce datagram) → Announces o T server router key datagram
+announces o T actor after (events.Notice s r fate) server router key nonce datagram row = record { last = row.2.last; heard = (λ i. heard_last (router_at o.config (row.1 i)).me (since_start o T (row.0 i))) ∙ row.2.heard; under = row.2.under; place = row.2.place }
 announces o T actor after (events.Change _ _) server router key nonce datagram row = absurd row
 announces o T actor after (events.Send _ _ _) server router key nonce datagram row = absurd row
 announces o T actor after (events.Deliver _ _) server router key nonce datagram row = absurd row.arrives
@@ -122,42 +122,42 @@ announces o T actor after (events.Resend _ _) server router key nonce datagram r
 
 module _ (o : Opening) (distinct : AllPairs (λ a b. a ≢ b) (addresses o.config)) (reads : ReadsBack) where
   -- an accepted message was checked under a secret of its site
-  known_case : (T : List Step) → LegalTrace o T → Clean o T → (s : Step) → IsHarmless o T s.event → (line : Line) → MayCome (turn_of o T s) s.event line → (k : ℕ) (x : Acceptance)
-      → Contains (accepted_after line (taken (arrival_in (bag o T) s.event) (clock T)) k (accepted o T k)) x → (Contains (accepted o T k) x → Contains (site_secrets o.config) (secret_at o.config.sites x.message.site x.message.key_id)) → Contains (site_secrets o.config) (secret_at o.config.sites x.message.site x.message.key_id)
+  known_case : (T : List Step) → LegalTrace o T → Clean o T → (s : Step) → IsHarmless o T s.event → (line : Line) → MayCome (context_of o T s) s.event line → (k : ℕ) (x : Acceptance)
+      → Contains (acceptances_after line (acceptances_in (arrival_in (bag o T) s.event) (clock T)) k (acceptances o T k)) x → (Contains (acceptances o T k) x → Contains (site_secrets o.config) (secret_at o.config.sites x.message.site x.message.key_id)) → Contains (site_secrets o.config) (secret_at o.config.sites x.message.site x.message.key_id)
   known_case T legal clean s harmless (lines.Accepted server router key nonce datagram) row k x has old = at (server == k) has
     where
-      new : Contains (taken (arrival_in (bag o T) s.event) (clock T)) x → Contains (site_secrets o.config) (secret_at o.config.sites x.message.site x.message.key_id)
+      new : Contains (acceptances_in (arrival_in (bag o T) s.event) (clock T)) x → Contains (site_secrets o.config) (secret_at o.config.sites x.message.site x.message.key_id)
       new one =
           let all = all_known o distinct reads T legal clean in
           let c = comes o T reads (all_from o T legal) (λ i in_it n is. (all i in_it n is).below) s.actor s.event (lines.Accepted server router key nonce datagram) s.shown tt harmless row in
-          let is = one_taken c.arrival (clock T) c.row.message c.row.admits.read x (subst (λ (a : Option Arrival). Contains (taken a (clock T)) x) c.is one) in
-          subst (λ (m : Registration). Contains (site_secrets o.config) (secret_at o.config.sites m.site m.key_id)) (sym (ap (λ (y : Acceptance). y.message) is)) (known_secret o.config c.arrival.bytes c.row.message c.row.admits.secret c.row.admits.checks)
+          let is = one_taken c.arrival (clock T) c.row.message c.row.admits.read x (subst (λ (a : Option Arrival). Contains (acceptances_in a (clock T)) x) c.is one) in
+          subst (λ (m : MapRegisterValue). Contains (site_secrets o.config) (secret_at o.config.sites m.site m.key_id)) (sym (ap (λ (y : Acceptance). y.message) is)) (known_secret o.config c.arrival.bytes c.row.message c.row.admits.secret c.row.admits.checks)
 
-      at : (b : Bool) → Contains (if b then taken (arrival_in (bag o T) s.event) (clock T) ++ accepted o T k else accepted o T k) x → Contains (site_secrets o.config) (secret_at o.config.sites x.message.site x.message.key_id)
+      at : (b : Bool) → Contains (if b then acceptances_in (arrival_in (bag o T) s.event) (clock T) ++ acceptances o T k else acceptances o T k) x → Contains (site_secrets o.config) (secret_at o.config.sites x.message.site x.message.key_id)
       at false has = old has
-      at true has = both (Contains-append_cases (taken (arrival_in (bag o T) s.event) (clock T)) (accepted o T k) x has)
+      at true has = both (Contains-append_cases (acceptances_in (arrival_in (bag o T) s.event) (clock T)) (acceptances o T k) x has)
         where
-          both : Contains (taken (arrival_in (bag o T) s.event) (clock T)) x ⊎ Contains (accepted o T k) x → Contains (site_secrets o.config) (secret_at o.config.sites x.message.site x.message.key_id)
+          both : Contains (acceptances_in (arrival_in (bag o T) s.event) (clock T)) x ⊎ Contains (acceptances o T k) x → Contains (site_secrets o.config) (secret_at o.config.sites x.message.site x.message.key_id)
           both (inl one) = new one
           both (inr before) = old before
   known_case T legal clean s harmless _ row k x has old = old has
 
-  accepted_known : (T : List Step) → LegalTrace o T → Clean o T → (k : ℕ) (x : Acceptance) → Contains (accepted o T k) x → Contains (site_secrets o.config) (secret_at o.config.sites x.message.site x.message.key_id)
+  accepted_known : (T : List Step) → LegalTrace o T → Clean o T → (k : ℕ) (x : Acceptance) → Contains (acceptances o T k) x → Contains (site_secrets o.config) (secret_at o.config.sites x.message.site x.message.key_id)
   accepted_known [] legal clean k x has = absurd (in_none x has)
   accepted_known (s ∷ T) legal clean k x has = known_case T legal.1 clean.1 s clean.0 s.line legal.0.row k x has (accepted_known T legal.1 clean.1 k x)
 
   module _ (T : List Step) (legal : LegalTrace o T) (clean : Clean o T) where
     announced : (server router key nonce datagram now : ℕ) → Announces o T server router key datagram
-        → WentOut o (bag o T ++ option_to_list (option_map (notice_item o T (since o T server) server router key nonce) (heard_last (router_at o.config router).me (since o T server)))) (record { router = (router_at o.config router).me; key = key; nonce = nonce; datagram = datagram; moments = now ∷ [] })
+        → WentOut o (bag o T ++ option_to_list (option_map (notice_item o T (since_start o T server) server router key nonce) (heard_last (router_at o.config router).me (since_start o T server)))) (record { router = (router_at o.config router).me; key = key; nonce = nonce; datagram = datagram; moments = now ∷ [] })
     announced server router key nonce datagram now a =
         let me : RouterId = (router_at o.config router).me in
-        let its = since_accepted o T server a.last (in_find (λ x. router_eq (router_of x.message) me) (since o T server) a.last a.heard) in
+        let its = since_accepted o T server a.last (in_find (λ x. router_eq (router_of x.message) me) (since_start o T server) a.last a.heard) in
         let w = were_sent o distinct reads T legal clean server a.last its in
         let e = entry_is o T legal w.entry w.sent in
-        let named : router_of a.last.message ≡ me = (router_eq-Decides (router_of a.last.message) me).0 (find_true (λ x. router_eq (router_of x.message) me) (since o T server) a.last a.heard) in
+        let named : router_of a.last.message ≡ me = (router_eq-Decides (router_of a.last.message) me).0 (find_true (λ x. router_eq (router_of x.message) me) (since_start o T server) a.last a.heard) in
         record {
-          item = notice_item o T (since o T server) server router key nonce a.last;
-          place = (λ i. slice_get (bag o T ++ option_to_list (option_map (notice_item o T (since o T server) server router key nonce) (a.heard i))) (a.place i)) ∙ get_last (bag o T) (notice_item o T (since o T server) server router key nonce a.last);
+          item = notice_item o T (since_start o T server) server router key nonce a.last;
+          place = (λ i. slice_get (bag o T ++ option_to_list (option_map (notice_item o T (since_start o T server) server router key nonce) (a.heard i))) (a.place i)) ∙ get_last (bag o T) (notice_item o T (since_start o T server) server router key nonce a.last);
           router = w.entry.router;
           kind = e.kind;
           to = w.from;
@@ -165,38 +165,38 @@ module _ (o : Opening) (distinct : AllPairs (λ a b. a ≢ b) (addresses o.confi
           known = subst (λ (k : ℕ). Contains (site_secrets o.config) (secret_at o.config.sites me.site k)) (sym a.under) (subst (λ (r : RouterId). Contains (site_secrets o.config) (secret_at o.config.sites r.site a.last.message.key_id)) named (accepted_known T legal clean server a.last its));
         }
 
-    out_case : (s : Step) (line : Line) → MayCome (turn_of o T s) s.event line → (k : ℕ) → AllWentOut o (bag o T) (notices o T k)
-        → AllWentOut o (bag o T ++ posted o T (past o T) (arrival_in (bag o T) s.event) line) (notices_after o.config line (clock T) k (notices o T k))
+    out_case : (s : Step) (line : Line) → MayCome (context_of o T s) s.event line → (k : ℕ) → AllWentOut o (bag o T) (notices o T k)
+        → AllWentOut o (bag o T ++ items_added o T (past o T) (arrival_in (bag o T) s.event) line) (notices_after o.config line (clock T) k (notices o T k))
     out_case s (lines.Notice server router key nonce datagram) row k old x has = at (server == k) has
       where
         one : Notice
         one = record { router = (router_at o.config router).me; key = key; nonce = nonce; datagram = datagram; moments = clock T ∷ [] }
 
         items : List Item
-        items = posted o T (past o T) (arrival_in (bag o T) s.event) (lines.Notice server router key nonce datagram)
+        items = items_added o T (past o T) (arrival_in (bag o T) s.event) (lines.Notice server router key nonce datagram)
 
         new : WentOut o (bag o T ++ items) one
         new = announced server router key nonce datagram (clock T) (announces o T s.actor s.shown s.event server router key nonce datagram row)
 
-        at : (b : Bool) → Contains (if b then one ∷ without (router_at o.config router).me (notices o T k) else notices o T k) x → WentOut o (bag o T ++ items) x
+        at : (b : Bool) → Contains (if b then one ∷ notices_to_others (router_at o.config router).me (notices o T k) else notices o T k) x → WentOut o (bag o T ++ items) x
         at false has = later_out o (bag o T) items x (old x has)
-        at true has = both (head_or_tail one (without (router_at o.config router).me (notices o T k)) x has)
+        at true has = both (head_or_tail one (notices_to_others (router_at o.config router).me (notices o T k)) x has)
           where
-            both : (x ≡ one) ⊎ Contains (without (router_at o.config router).me (notices o T k)) x → WentOut o (bag o T ++ items) x
+            both : (x ≡ one) ⊎ Contains (notices_to_others (router_at o.config router).me (notices o T k)) x → WentOut o (bag o T ++ items) x
             both (inl same) = subst (WentOut o (bag o T ++ items)) (sym same) new
             both (inr more) = later_out o (bag o T) items x (old x (in_filter (λ n. not (router_eq n.router (router_at o.config router).me)) (notices o T k) x more))
     out_case s (lines.Resent server router datagram) row k old x has = at (server == k) has
       where
         items : List Item
-        items = posted o T (past o T) (arrival_in (bag o T) s.event) (lines.Resent server router datagram)
+        items = items_added o T (past o T) (arrival_in (bag o T) s.event) (lines.Resent server router datagram)
 
-        at : (b : Bool) → Contains (if b then map (sent_again (router_at o.config router).me (clock T)) (notices o T k) else notices o T k) x → WentOut o (bag o T ++ items) x
+        at : (b : Bool) → Contains (if b then map (resent_at (router_at o.config router).me (clock T)) (notices o T k) else notices o T k) x → WentOut o (bag o T ++ items) x
         at false has = later_out o (bag o T) items x (old x has)
-        at true has = let found = from_map (sent_again (router_at o.config router).me (clock T)) (notices o T k) x has in
+        at true has = let found = from_map (resent_at (router_at o.config router).me (clock T)) (notices o T k) x has in
             later_out o (bag o T) items x (subst (WentOut o (bag o T)) (sym found.2) (again_out o (bag o T) (router_at o.config router).me (clock T) found.0 (old found.0 found.1)))
     out_case s (lines.Done server router nonce) row k old x has = later_out o (bag o T) [] x (at (server == k) has)
       where
-        at : (b : Bool) → Contains (if b then without router (notices o T k) else notices o T k) x → WentOut o (bag o T) x
+        at : (b : Bool) → Contains (if b then notices_to_others router (notices o T k) else notices o T k) x → WentOut o (bag o T) x
         at false has = old x has
         at true has = old x (in_filter (λ n. not (router_eq n.router router)) (notices o T k) x has)
     out_case s (lines.Restarted node) row k old x has = later_out o (bag o T) [] x (at (node == k) has)
@@ -204,7 +204,7 @@ module _ (o : Opening) (distinct : AllPairs (λ a b. a ≢ b) (addresses o.confi
         at : (b : Bool) → Contains (if b then [] else notices o T k) x → WentOut o (bag o T) x
         at false has = old x has
         at true has = absurd (in_none x has)
-    out_case s line row k old x has = later_out o (bag o T) (posted o T (past o T) (arrival_in (bag o T) s.event) line) x (old x has)
+    out_case s line row k old x has = later_out o (bag o T) (items_added o T (past o T) (arrival_in (bag o T) s.event) line) x (old x has)
 
   pub all_went_out : (T : List Step) → LegalTrace o T → Clean o T → (k : ℕ) → AllWentOut o (bag o T) (notices o T k)
   all_went_out [] legal clean k x has = absurd (in_none x has)

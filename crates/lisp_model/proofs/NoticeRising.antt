@@ -20,14 +20,14 @@ use Rattle.lisp_model.specs.declared.event.Event.TheVariants as events
 use Rattle.lisp_model.specs.declared.line.Line.{Line}
 use Rattle.lisp_model.specs.declared.line.Line.TheVariants as lines
 use Rattle.lisp_model.specs.declared.refusal.Refusal.TheVariants as refusals
-use Rattle.lisp_model.specs.Trace.{Happening, Step, Opening, Shown, shown}
-use Rattle.lisp_model.specs.Bag.{Arrival, arrival_of, thrown}
+use Rattle.lisp_model.specs.Trace.{EventValue, Step, Opening, ShownStore, shown_store}
+use Rattle.lisp_model.specs.Bag.{Arrival, arrival_of, junk_arrival}
 use Rattle.lisp_model.specs.Timers.{last_notice, last_notice_after}
-use Rattle.lisp_model.specs.Turn.{Turn, values, values_after, Same, IsBase}
+use Rattle.lisp_model.specs.Context.{Context, values, values_after, Same, IsBase}
 use Rattle.lisp_model.specs.Sending.{RefusesToSend}
 use Rattle.lisp_model.specs.Receiving.{RefusesMessage}
 use Rattle.lisp_model.specs.Notifying.{RefusesNotice, RefusesToResend}
-use Rattle.lisp_model.specs.Legal.{MayCome, Arrives, Legal, LegalTrace, turn_of}
+use Rattle.lisp_model.specs.Legal.{MayCome, Arrives, Legal, LegalTrace, context_of}
 use Rattle.lisp_model.specs.Promises.{Falls, notice_nonces, notice_nonces_after, NoticeNoncesRise}
 use Rattle.lisp_model.proofs.ListLemmas.{head_or_tail, in_none}
 use Rattle.lisp_model.proofs.HeardLines.{IsBy}
@@ -105,7 +105,7 @@ not_sent : (p : Pair) → p.kind ≡ kinds.Sent → notice_pair ≢ p
 not_sent p is e = absurd (let clash : kinds.Notice ≡ kinds.Sent = ap (λ (x : Pair). x.kind) e ∙ is in cc)
 
 -- a step of the node
-module _ (t : Turn) (nonces : List ℕ) (safe : NoticeSafe nonces (last_notice t.past t.node) (values t notice_pair)) where
+module _ (t : Context) (nonces : List ℕ) (safe : NoticeSafe nonces (last_notice t.past t.node) (values t notice_pair)) where
   abbrev After : Line → Type 0
   After line = NoticeSafe (notice_nonces_after line t.node nonces) (last_notice_after line t.node (last_notice t.past t.node)) (values_after t notice_pair)
 
@@ -162,16 +162,16 @@ module _ (t : Turn) (nonces : List ℕ) (safe : NoticeSafe nonces (last_notice t
       → NoticeSafe (if server == t.node then nonce ∷ nonces else nonces) (if server == t.node then Some nonce else last_notice t.past t.node) (values_after t notice_pair)
   notice_line server nonce is next = subst (λ (b : Bool). NoticeSafe (if b then nonce ∷ nonces else nonces) (if b then Some nonce else last_notice t.past t.node) (values_after t notice_pair)) (sym (ap (λ s. s == t.node) is ∙ same_number t.node)) next
 
-  row_safe : (e : Happening) (line : Line) → MayCome t e line → After line
+  row_safe : (e : EventValue) (line : Line) → MayCome t e line → After line
   row_safe (events.Change router db) (lines.Changed named records) row = quiet row.same
   row_safe (events.Change router db) (lines.Down named) row = quiet row.same
   row_safe (events.Send router server fate) (lines.Sent r s key nonce datagram) row = stays (row.2.saves.others notice_pair (not_sent _ refl))
   row_safe (events.Send router server fate) (lines.Down named) row = quiet row.1.same
   row_safe (events.Send router server fate) (lines.Refused named (refusals.Send why)) row = sends_safe router server why row.3
-  row_safe (events.Deliver k fate) (lines.Nowhere datagram) row = stays (ap (λ (s : Shown). kept_at s.kept notice_pair) row.idle.same)
+  row_safe (events.Deliver k fate) (lines.Nowhere datagram) row = stays (ap (λ (s : ShownStore). kept_at s.kept notice_pair) row.idle.same)
   row_safe (events.Deliver k fate) line row = arrives_safe (arrival_of row.item) line row.arrives
-  row_safe (events.Junk to from bytes) line row = arrives_safe (thrown from bytes) line row.arrives
-  row_safe (events.Tick ms) (lines.Ticked passed now) row = stays (ap (λ (s : Shown). kept_at s.kept notice_pair) row.idle.same)
+  row_safe (events.Junk to from bytes) line row = arrives_safe (junk_arrival from bytes) line row.arrives
+  row_safe (events.Tick ms) (lines.Ticked passed now) row = stays (ap (λ (s : ShownStore). kept_at s.kept notice_pair) row.idle.same)
   row_safe (events.Restart node pick db) (lines.Restarted named) row = restart_line named (row.names ∙ sym row.acts) (forgets nonces (last_notice t.past t.node) (values t notice_pair) safe (values_after t notice_pair) (row.narrows notice_pair).each)
   row_safe (events.Restart node pick db) (lines.Refused named (refusals.Start fault)) row = narrows nonces (last_notice t.past t.node) (values t notice_pair) safe (values_after t notice_pair) (row.narrows notice_pair).each
   row_safe (events.Notice server router fate) (lines.Notice s r key nonce datagram) row =
@@ -189,21 +189,21 @@ nonces_other node k differ _ is old = refl
 
 module _ (o : Opening) where
   abbrev SafeAt : List Step → ℕ → Type 0
-  SafeAt T k = NoticeSafe (notice_nonces T k) (last_notice T k) (kept_at (shown o T k).kept notice_pair)
+  SafeAt T k = NoticeSafe (notice_nonces T k) (last_notice T k) (kept_at (shown_store o T k).kept notice_pair)
 
   safe_opening : (k : ℕ) → SafeAt [] k
   safe_opening k = record { falls = tt; floor = λ n has. absurd (in_none n has); top = λ l e. absurd (none_is_some e) }
 
   safe_actor : (T : List Step) (s : Step) → Legal o T s → SafeAt T s.actor → SafeAt (s ∷ T) s.actor
-  safe_actor T s l safe = subst (λ (b : Bool). NoticeSafe (notice_nonces (s ∷ T) s.actor) (last_notice (s ∷ T) s.actor) (kept_at (if b then s.shown else shown o T s.actor).kept notice_pair)) (sym (same_number s.actor))
-      (row_safe (turn_of o T s) (notice_nonces T s.actor) safe s.event s.line l.row)
+  safe_actor T s l safe = subst (λ (b : Bool). NoticeSafe (notice_nonces (s ∷ T) s.actor) (last_notice (s ∷ T) s.actor) (kept_at (if b then s.shown else shown_store o T s.actor).kept notice_pair)) (sym (same_number s.actor))
+      (row_safe (context_of o T s) (notice_nonces T s.actor) safe s.event s.line l.row)
 
   safe_other : (T : List Step) (s : Step) (k : ℕ) → k ≢ s.actor → Legal o T s → SafeAt T k → SafeAt (s ∷ T) k
   safe_other T s k differ l safe =
-      let by = by_actor (turn_of o T s) s.event s.line l.row in
-      subst (λ (ns : List ℕ). NoticeSafe ns (last_notice (s ∷ T) k) (kept_at (shown o (s ∷ T) k).kept notice_pair)) (sym (nonces_other s.actor k differ s.line by (notice_nonces T k)))
-      (subst (λ (last : Option ℕ). NoticeSafe (notice_nonces T k) last (kept_at (shown o (s ∷ T) k).kept notice_pair)) (sym (last_notice_other s.actor k differ s.line by (last_notice T k)))
-      (subst (λ (b : Bool). NoticeSafe (notice_nonces T k) (last_notice T k) (kept_at (if b then s.shown else shown o T k).kept notice_pair)) (sym (other_number s.actor k (λ e. differ (sym e)))) safe))
+      let by = by_actor (context_of o T s) s.event s.line l.row in
+      subst (λ (ns : List ℕ). NoticeSafe ns (last_notice (s ∷ T) k) (kept_at (shown_store o (s ∷ T) k).kept notice_pair)) (sym (nonces_other s.actor k differ s.line by (notice_nonces T k)))
+      (subst (λ (last : Option ℕ). NoticeSafe (notice_nonces T k) last (kept_at (shown_store o (s ∷ T) k).kept notice_pair)) (sym (last_notice_other s.actor k differ s.line by (last_notice T k)))
+      (subst (λ (b : Bool). NoticeSafe (notice_nonces T k) (last_notice T k) (kept_at (if b then s.shown else shown_store o T k).kept notice_pair)) (sym (other_number s.actor k (λ e. differ (sym e)))) safe))
 
   safe_step : (T : List Step) (s : Step) (k : ℕ) (b : Bool) → (s.actor == k) ≡ b → Legal o T s → ((n : ℕ) → SafeAt T n) → SafeAt (s ∷ T) k
   safe_step T s k true e l safe = subst (SafeAt (s ∷ T)) ((Decides-eqb s.actor k).0 e) (safe_actor T s l (safe s.actor))

@@ -7,58 +7,58 @@ use Rattle.std.proofs.lemmas.List.Elements.{Contains-append_cases, Contains-appe
 use Rattle.lisp_records.specs.declared.address.Addr.{Addr}
 use Rattle.lisp_records.specs.declared.router.RouterId.{RouterId}
 use Rattle.lisp_messages.specs.declared.fault.ReadFault.{ReadFault}
-use Rattle.lisp_messages.specs.Message.{Said, Registration, Notification, IsRegistration, IsSaid, Registers, Notifies}
+use Rattle.lisp_messages.specs.Message.{MessageValue, MapRegisterValue, MapNotifyValue, IsMapRegister, IsMessage, Registers, Notifies}
 use Rattle.lisp_messages.specs.Reading.{message_at}
-use Rattle.lisp_etr.specs.Sending.{registration_of}
+use Rattle.lisp_etr.specs.Sending.{map_register_of}
 use Rattle.lisp_model.specs.declared.event.Event.TheVariants as events
 use Rattle.lisp_model.specs.declared.line.Line.{Line}
 use Rattle.lisp_model.specs.declared.line.Line.TheVariants as lines
-use Rattle.lisp_model.specs.Trace.{Happening, Step, Opening, Shown, addresses, address_at, node_at, router_at, settings_of, database, is_server, clock}
-use Rattle.lisp_model.specs.History.{Entry, entry_in, history, message_of}
+use Rattle.lisp_model.specs.Trace.{EventValue, Step, Opening, ShownStore, addresses, address_at, node_at, router_at, etr_config_of, database, is_server, clock}
+use Rattle.lisp_model.specs.History.{SentRegister, sent_registers_in, history, message_of}
 use Rattle.lisp_model.specs.Held.{Acceptance, heard_last}
 use Rattle.lisp_model.specs.Timers.{Notice, notice_to}
-use Rattle.lisp_model.specs.Bag.{Item, Arrival, bytes_of, arrival_of, arrival_in, thrown, as_notify, taken, register_item, reply_item, notice_item, ack_item, posted, past, bag, since}
+use Rattle.lisp_model.specs.Bag.{Item, Arrival, bytes_of, arrival_of, arrival_in, junk_arrival, as_notify, acceptances_in, register_item, reply_item, notice_item, ack_item, items_added, past, bag, since_start}
 use Rattle.lisp_model.specs.Clean.{secrets_of, IsEcho, IsNoise, IsForged, IsHarmless}
-use Rattle.lisp_model.specs.Legal.{MayCome, LegalTrace, turn_of}
+use Rattle.lisp_model.specs.Legal.{MayCome, LegalTrace, context_of}
 use Rattle.lisp_model.proofs.CleanLemmas.{node_of, server_of, in_get, in_option, from_map, Checked, checked}
 use Rattle.lisp_model.proofs.ListLemmas.{at_head, head_or_tail, in_none}
 use Rattle.lisp_model.proofs.ReadingLemmas.{notifies_no_register}
 use Rattle.lisp_model.proofs.RisingSteps.{taken_one}
 
 -- a Map-Register in the bag is of an entry
-pub record IsFrom (o : Opening) (entries : List Entry) (i : Item) (m : Registration) : Type 0 where
-  pub entry : Entry
+pub record IsFrom (o : Opening) (entries : List SentRegister) (i : Item) (m : MapRegisterValue) : Type 0 where
+  pub entry : SentRegister
   pub sent : Contains entries entry
   pub from : i.from ≡ address_at o.config entry.router
   pub to : i.to ≡ address_at o.config entry.server
   pub kind : is_server o.config entry.server ≡ true
   pub message : m ≡ message_of o.config entry
-  pub fits : IsRegistration m
+  pub fits : IsMapRegister m
 
-abbrev pub AllFrom : Opening → List Entry → List Item → Type 0
-AllFrom o entries items = (i : Item) → Contains items i → (m : Registration) → i.message ≡ Registers m → IsFrom o entries i m
+abbrev pub AllFrom : Opening → List SentRegister → List Item → Type 0
+AllFrom o entries items = (i : Item) → Contains items i → (m : MapRegisterValue) → i.message ≡ Registers m → IsFrom o entries i m
 
-said_clash : {m : Registration} {n : Notification} → ◌≡◌ {A = Said} (Notifies n) (Registers m) → ⊥
+said_clash : {m : MapRegisterValue} {n : MapNotifyValue} → ◌≡◌ {A = MessageValue} (Notifies n) (Registers m) → ⊥
 said_clash e = absurd cc
 
 -- one more entry
-later_from : (o : Opening) (one entries : List Entry) (i : Item) (m : Registration) → IsFrom o entries i m → IsFrom o (one ++ entries) i m
+later_from : (o : Opening) (one entries : List SentRegister) (i : Item) (m : MapRegisterValue) → IsFrom o entries i m → IsFrom o (one ++ entries) i m
 later_from o one entries i m f = record { entry = f.entry; sent = Contains-append_right one entries f.entry f.sent; from = f.from; to = f.to; kind = f.kind; message = f.message; fits = f.fits }
 
 module _ (o : Opening) (T : List Step) where
   -- no other line posts a Map-Register that wasn't there
-  posts : (node : ℕ) (after : Shown) (e : Happening) (line : Line) → MayCome (turn_of o T (record { event = e; line = line; actor = node; shown = after })) e line → AllFrom o (history o T) (bag o T)
-      → (a : Option Arrival) → AllFrom o (entry_in o T line ++ history o T) (posted o T (past o T) a line)
+  posts : (node : ℕ) (after : ShownStore) (e : EventValue) (line : Line) → MayCome (context_of o T (record { event = e; line = line; actor = node; shown = after })) e line → AllFrom o (history o T) (bag o T)
+      → (a : Option Arrival) → AllFrom o (sent_registers_in o T line ++ history o T) (items_added o T (past o T) a line)
   posts node after (events.Send router server fate) (lines.Sent r s key nonce datagram) row old a i has m is = at (head_or_tail (register_item o T r s nonce) [] i has)
     where
-      new : (j : Item) → j ≡ register_item o T r s nonce → j.message ≡ Registers m → IsFrom o (entry_in o T (lines.Sent r s key nonce datagram) ++ history o T) j m
+      new : (j : Item) → j ≡ register_item o T r s nonce → j.message ≡ Registers m → IsFrom o (sent_registers_in o T (lines.Sent r s key nonce datagram) ++ history o T) j m
       new j same says =
           let item : register_item o T r s nonce ≡ j = sym same in
-          let said : Registers (registration_of (settings_of o.config (router_at o.config r)) (database o T r) nonce) ≡ Registers m = ap (λ (x : Item). x.message) item ∙ says in
-          let message : registration_of (settings_of o.config (router_at o.config r)) (database o T r) nonce ≡ m = cc in
+          let said : Registers (map_register_of (etr_config_of o.config (router_at o.config r)) (database o T r) nonce) ≡ Registers m = ap (λ (x : Item). x.message) item ∙ says in
+          let message : map_register_of (etr_config_of o.config (router_at o.config r)) (database o T r) nonce ≡ m = cc in
           let under : key ≡ (router_at o.config r).key_id = row.2.under ∙ ap (λ (n : ℕ). (router_at o.config n).key_id) (sym row.0) in
-          let keyed : registration_of (record (settings_of o.config (router_at o.config r)) { key_id = key }) (database o T r) nonce ≡ m = ap (λ (k : ℕ). registration_of (record (settings_of o.config (router_at o.config r)) { key_id = k }) (database o T r) nonce) under ∙ message in
-          let fits : IsRegistration (registration_of (settings_of o.config (router_at o.config r)) (database o T r) nonce) = subst (λ (n : ℕ). IsRegistration (registration_of (settings_of o.config (router_at o.config n)) (database o T n) nonce)) (sym row.0) row.2.message in
+          let keyed : map_register_of (record (etr_config_of o.config (router_at o.config r)) { key_id = key }) (database o T r) nonce ≡ m = ap (λ (k : ℕ). map_register_of (record (etr_config_of o.config (router_at o.config r)) { key_id = k }) (database o T r) nonce) under ∙ message in
+          let fits : IsMapRegister (map_register_of (etr_config_of o.config (router_at o.config r)) (database o T r) nonce) = subst (λ (n : ℕ). IsMapRegister (map_register_of (etr_config_of o.config (router_at o.config n)) (database o T n) nonce)) (sym row.0) row.2.message in
           record {
             entry = record { router = r; key = key; nonce = nonce; server = s; database = database o T r; position = length T };
             sent = at_head _ (history o T);
@@ -66,10 +66,10 @@ module _ (o : Opening) (T : List Step) where
             to = ap (λ (x : Item). x.to) same;
             kind = ap (is_server o.config) row.1 ∙ row.2.kind;
             message = sym keyed;
-            fits = subst IsRegistration message fits;
+            fits = subst IsMapRegister message fits;
           }
 
-      at : (i ≡ register_item o T r s nonce) ⊎ Contains [] i → IsFrom o (entry_in o T (lines.Sent r s key nonce datagram) ++ history o T) i m
+      at : (i ≡ register_item o T r s nonce) ⊎ Contains [] i → IsFrom o (sent_registers_in o T (lines.Sent r s key nonce datagram) ++ history o T) i m
       at (inl same) = new i same is
       at (inr no_more) = absurd (in_none i no_more)
   posts node after (events.Change _ _) (lines.Sent r s key nonce datagram) row old a i has m is = absurd row
@@ -80,24 +80,24 @@ module _ (o : Opening) (T : List Step) where
   posts node after (events.Notice _ _ _) (lines.Sent r s key nonce datagram) row old a i has m is = absurd row
   posts node after (events.Resend _ _) (lines.Sent r s key nonce datagram) row old a i has m is = absurd row
   posts node after e (lines.Accepted server router key nonce None) row old a i has m is = absurd (in_none i has)
-  posts node after e (lines.Accepted server router key nonce (Some datagram)) row old a i has m is = let found = from_map (reply_item o.config server) (taken a (clock T)) i has in absurd (said_clash (sym (ap (λ (x : Item). x.message) found.2) ∙ is))
+  posts node after e (lines.Accepted server router key nonce (Some datagram)) row old a i has m is = let found = from_map (reply_item o.config server) (acceptances_in a (clock T)) i has in absurd (said_clash (sym (ap (λ (x : Item). x.message) found.2) ∙ is))
   posts node after e (lines.Noticed router server nonce datagram) row old None i has m is = absurd (in_none i has)
   posts node after e (lines.Noticed router server nonce datagram) row old (Some a) i has m is = at (as_notify a.read) (in_option (option_map (ack_item o T router a) (as_notify a.read)) i has)
     where
-      at : (n : Option Notification) → option_map (ack_item o T router a) n ≡ Some i → IsFrom o (history o T) i m
+      at : (n : Option MapNotifyValue) → option_map (ack_item o T router a) n ≡ Some i → IsFrom o (history o T) i m
       at None e = absurd (none_clash e)
         where
           none_clash : ◌≡◌ {A = Option Item} None (Some i) → ⊥
           none_clash e = absurd cc
       at (Some n) e = let same : ack_item o T router a n ≡ i = cc in absurd (said_clash (ap (λ (x : Item). x.message) same ∙ is))
-  posts node after e (lines.Notice server router key nonce datagram) row old a i has m is = at (heard_last (router_at o.config router).me (since o T server)) (in_option (option_map (notice_item o T (since o T server) server router key nonce) (heard_last (router_at o.config router).me (since o T server))) i has)
+  posts node after e (lines.Notice server router key nonce datagram) row old a i has m is = at (heard_last (router_at o.config router).me (since_start o T server)) (in_option (option_map (notice_item o T (since_start o T server) server router key nonce) (heard_last (router_at o.config router).me (since_start o T server))) i has)
     where
-      at : (n : Option Acceptance) → option_map (notice_item o T (since o T server) server router key nonce) n ≡ Some i → IsFrom o (history o T) i m
+      at : (n : Option Acceptance) → option_map (notice_item o T (since_start o T server) server router key nonce) n ≡ Some i → IsFrom o (history o T) i m
       at None e = absurd (none_clash e)
         where
           none_clash : ◌≡◌ {A = Option Item} None (Some i) → ⊥
           none_clash e = absurd cc
-      at (Some n) e = let same : notice_item o T (since o T server) server router key nonce n ≡ i = cc in absurd (said_clash (ap (λ (x : Item). x.message) same ∙ is))
+      at (Some n) e = let same : notice_item o T (since_start o T server) server router key nonce n ≡ i = cc in absurd (said_clash (ap (λ (x : Item). x.message) same ∙ is))
   posts node after e (lines.Resent server router datagram) row old a i has m is = at (notice_to o T server (router_at o.config router).me) (in_option (option_and_then (λ n. slice_get (bag o T) n.datagram) (notice_to o T server (router_at o.config router).me)) i has)
     where
       at : (n : Option Notice) → option_and_then (λ n. slice_get (bag o T) n.datagram) n ≡ Some i → IsFrom o (history o T) i m
@@ -114,25 +114,25 @@ module _ (o : Opening) where
   all_from (s ∷ T) legal = grown (all_from T legal.1)
     where
       grown : AllFrom o (history o T) (bag o T) → AllFrom o (history o (s ∷ T)) (bag o (s ∷ T))
-      grown before i has m is = at (Contains-append_cases (bag o T) (posted o T (past o T) (arrival_in (bag o T) s.event) s.line) i has)
+      grown before i has m is = at (Contains-append_cases (bag o T) (items_added o T (past o T) (arrival_in (bag o T) s.event) s.line) i has)
         where
-          at : Contains (bag o T) i ⊎ Contains (posted o T (past o T) (arrival_in (bag o T) s.event) s.line) i → IsFrom o (history o (s ∷ T)) i m
-          at (inl old) = later_from o (entry_in o T s.line) (history o T) i m (before i old m is)
+          at : Contains (bag o T) i ⊎ Contains (items_added o T (past o T) (arrival_in (bag o T) s.event) s.line) i → IsFrom o (history o (s ∷ T)) i m
+          at (inl old) = later_from o (sent_registers_in o T s.line) (history o T) i m (before i old m is)
           at (inr new) = posts o T s.actor s.shown s.event s.line legal.0.row before (arrival_in (bag o T) s.event) i new m is
 
 -- what is written is read back
 abbrev pub ReadsBack : Type 0
-ReadsBack = (i : Item) → IsSaid i.message → message_at (bytes_of i) ≡ Ok i.message
+ReadsBack = (i : Item) → IsMessage i.message → message_at (bytes_of i) ≡ Ok i.message
 
 -- an accepted message is that of an entry to that server, from its router's address
-pub record IsSentTo (o : Opening) (entries : List Entry) (server : ℕ) (a : Acceptance) : Type 0 where
-  pub entry : Entry
+pub record IsSentTo (o : Opening) (entries : List SentRegister) (server : ℕ) (a : Acceptance) : Type 0 where
+  pub entry : SentRegister
   pub sent : Contains entries entry
   pub whom : entry.server ≡ server
   pub message : a.message ≡ message_of o.config entry
   pub from : a.from ≡ address_at o.config entry.router
 
-pub one_taken : (a : Arrival) (now : ℕ) (m : Registration) → a.read ≡ Ok (Registers m) → (x : Acceptance) → Contains (taken (Some a) now) x → x ≡ record { message = m; from = a.from; moment = now }
+pub one_taken : (a : Arrival) (now : ℕ) (m : MapRegisterValue) → a.read ≡ Ok (Registers m) → (x : Acceptance) → Contains (acceptances_in (Some a) now) x → x ≡ record { message = m; from = a.from; moment = now }
 one_taken a now m read x has = at (head_or_tail _ [] x (subst (λ (xs : List Acceptance). Contains xs x) (taken_one a now m read) has))
   where
     at : (x ≡ record { message = m; from = a.from; moment = now }) ⊎ Contains [] x → x ≡ record { message = m; from = a.from; moment = now }
@@ -142,42 +142,42 @@ one_taken a now m read x has = at (head_or_tail _ [] x (subst (λ (xs : List Acc
 module _ (o : Opening) (T : List Step) (distinct : AllPairs (λ a b. a ≢ b) (addresses o.config)) (reads : ReadsBack) (all : AllFrom o (history o T) (bag o T)) where
   module _ (server : ℕ) (router : RouterId) (key nonce : ℕ) (datagram : Option ℕ) where
     -- a datagram of the bag
-    delivered : (i : Item) → Contains (bag o T) i → node_at o.config i.to ≡ Some server → (m : Registration) → i.message ≡ Registers m → (now : ℕ) → IsSentTo o (history o T) server (record { message = m; from = i.from; moment = now })
+    delivered : (i : Item) → Contains (bag o T) i → node_at o.config i.to ≡ Some server → (m : MapRegisterValue) → i.message ≡ Registers m → (now : ℕ) → IsSentTo o (history o T) server (record { message = m; from = i.from; moment = now })
     delivered i has there m is now =
         let f = all i has m is in
         record { entry = f.entry; sent = f.sent; whom = node_of o.config distinct i.to server f.entry.server there f.to f.kind; message = f.message; from = f.from }
 
     -- bytes from outside that are those of a datagram of the bag
-    echoed : (i : Item) → Contains (bag o T) i → is_server o.config server ≡ true → i.to ≡ address_at o.config server → (from : Addr) → i.from ≡ from → (bytes : List ℕ) → bytes_of i ≡ bytes → (m : Registration) → message_at bytes ≡ Ok (Registers m) → (now : ℕ)
+    echoed : (i : Item) → Contains (bag o T) i → is_server o.config server ≡ true → i.to ≡ address_at o.config server → (from : Addr) → i.from ≡ from → (bytes : List ℕ) → bytes_of i ≡ bytes → (m : MapRegisterValue) → message_at bytes ≡ Ok (Registers m) → (now : ℕ)
         → IsSentTo o (history o T) server (record { message = m; from = from; moment = now })
     echoed i has kind target from source bytes same m read now = at i.message refl
       where
-        at : (said : Said) → i.message ≡ said → IsSentTo o (history o T) server (record { message = m; from = from; moment = now })
+        at : (said : MessageValue) → i.message ≡ said → IsSentTo o (history o T) server (record { message = m; from = from; moment = now })
         at (Registers x) is =
             let f = all i has x is in
-            let back : message_at (bytes_of i) ≡ Ok i.message = reads i (subst IsSaid (sym is) f.fits) in
-            let both : ◌≡◌ {A = Result Said ReadFault} (Ok (Registers x)) (Ok (Registers m)) = ap Ok (sym is) ∙ sym back ∙ ap message_at same ∙ read in
+            let back : message_at (bytes_of i) ≡ Ok i.message = reads i (subst IsMessage (sym is) f.fits) in
+            let both : ◌≡◌ {A = Result MessageValue ReadFault} (Ok (Registers x)) (Ok (Registers m)) = ap Ok (sym is) ∙ sym back ∙ ap message_at same ∙ read in
             let message : x ≡ m = cc in
             record { entry = f.entry; sent = f.sent; whom = server_of o.config distinct server f.entry.server (sym f.to ∙ target) kind f.kind; message = sym message ∙ f.message; from = sym source ∙ f.from }
         at (Notifies n) is = absurd (notifies_no_register i n m is (ap message_at same ∙ read))
 
     -- an acceptance in a step
-    pub arrived : (e : Happening) (after : Shown) → IsHarmless o T e → MayCome (turn_of o T (record { event = e; line = lines.Accepted server router key nonce datagram; actor = server; shown = after })) e (lines.Accepted server router key nonce datagram)
-        → (x : Acceptance) → Contains (taken (arrival_in (bag o T) e) (clock T)) x → IsSentTo o (history o T) server x
+    pub arrived : (e : EventValue) (after : ShownStore) → IsHarmless o T e → MayCome (context_of o T (record { event = e; line = lines.Accepted server router key nonce datagram; actor = server; shown = after })) e (lines.Accepted server router key nonce datagram)
+        → (x : Acceptance) → Contains (acceptances_in (arrival_in (bag o T) e) (clock T)) x → IsSentTo o (history o T) server x
     arrived (events.Deliver k fate) after harmless row x has = subst (IsSentTo o (history o T) server) (sym only) (delivered row.item (in_get (bag o T) k row.item row.sent) row.there row.arrives.message said (clock T))
       where
         said : row.item.message ≡ Registers row.arrives.message
-        said = let read : ◌≡◌ {A = Result Said ReadFault} (Ok row.item.message) (Ok (Registers row.arrives.message)) = row.arrives.admits.read in cc
+        said = let read : ◌≡◌ {A = Result MessageValue ReadFault} (Ok row.item.message) (Ok (Registers row.arrives.message)) = row.arrives.admits.read in cc
 
-        has_one : Contains (taken (Some (arrival_of row.item)) (clock T)) x
-        has_one = subst (λ (a : Option Arrival). Contains (taken a (clock T)) x) (ap (option_map arrival_of) row.sent) has
+        has_one : Contains (acceptances_in (Some (arrival_of row.item)) (clock T)) x
+        has_one = subst (λ (a : Option Arrival). Contains (acceptances_in a (clock T)) x) (ap (option_map arrival_of) row.sent) has
 
         only : x ≡ record { message = row.arrives.message; from = row.item.from; moment = clock T }
         only = one_taken (arrival_of row.item) (clock T) row.arrives.message row.arrives.admits.read x has_one
     arrived (events.Junk to from bytes) after harmless row x has = subst (IsSentTo o (history o T) server) (sym only) (at harmless)
       where
         only : x ≡ record { message = row.arrives.message; from = from; moment = clock T }
-        only = one_taken (thrown from bytes) (clock T) row.arrives.message row.arrives.admits.read x has
+        only = one_taken (junk_arrival from bytes) (clock T) row.arrives.message row.arrives.admits.read x has
 
         known : Checked o.config.sites bytes
         known = checked o.config.sites bytes row.arrives.message row.arrives.admits.secret row.arrives.admits.checks
@@ -189,9 +189,9 @@ module _ (o : Opening) (T : List Step) (distinct : AllPairs (λ a b. a ≢ b) (a
         at (inl echo) = echoed echo.item echo.sent row.arrives.acts.kind (echo.target ∙ ap (address_at o.config) (sym row.acts)) from echo.source bytes echo.same row.arrives.message row.arrives.admits.read (clock T)
         at (inr (inl noise)) = absurd (noise_clash (sym noise.1 ∙ row.arrives.admits.read))
           where
-            noise_clash : {f : ReadFault} {said : Said} → ◌≡◌ {A = Result Said ReadFault} (Err f) (Ok said) → ⊥
+            noise_clash : {f : ReadFault} {said : MessageValue} → ◌≡◌ {A = Result MessageValue ReadFault} (Err f) (Ok said) → ⊥
             noise_clash e = absurd cc
-        at (inr (inr forged)) = absurd (true≢false (sym known.authentic ∙ forged known.secret (subst (λ b. Contains (if b then flat_map (λ s. map (λ k. k.secret) s.keys) o.config.sites else (settings_of o.config (router_at o.config to)).secret ∷ []) known.secret) (sym at_server) known.known)))
+        at (inr (inr forged)) = absurd (true≢false (sym known.authentic ∙ forged known.secret (subst (λ b. Contains (if b then flat_map (λ s. map (λ k. k.secret) s.keys) o.config.sites else (etr_config_of o.config (router_at o.config to)).secret ∷ []) known.secret) (sym at_server) known.known)))
     arrived (events.Change _ _) after harmless row x has = absurd row
     arrived (events.Send _ _ _) after harmless row x has = absurd row
     arrived (events.Tick _) after harmless row x has = absurd row

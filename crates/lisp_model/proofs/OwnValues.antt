@@ -17,22 +17,22 @@ use Rattle.lisp_model.specs.declared.event.Event.TheVariants as events
 use Rattle.lisp_model.specs.declared.line.Line.{Line}
 use Rattle.lisp_model.specs.declared.line.Line.TheVariants as lines
 use Rattle.lisp_model.specs.declared.refusal.Refusal.TheVariants as refusals
-use Rattle.lisp_model.specs.Trace.{Happening, Shown, settings}
-use Rattle.lisp_model.specs.Bag.{Arrival, arrival_of, thrown}
-use Rattle.lisp_model.specs.Turn.{Turn, values, values_after, Same}
+use Rattle.lisp_model.specs.Trace.{EventValue, ShownStore, etr_config}
+use Rattle.lisp_model.specs.Bag.{Arrival, arrival_of, junk_arrival}
+use Rattle.lisp_model.specs.Context.{Context, values, values_after, Same}
 use Rattle.lisp_model.specs.Sending.{CountsFrom, IsSent, pair_at, RefusesToSend}
 use Rattle.lisp_model.specs.Receiving.{RefusesMessage}
 use Rattle.lisp_model.specs.Notifying.{RefusesNotice, RefusesToResend}
 use Rattle.lisp_model.specs.Legal.{MayCome, Arrives}
 
-abbrev pub own_values : Turn → List (Option ℕ)
+abbrev pub own_values : Context → List (Option ℕ)
 own_values t = values t (pair_at t.opening t.past t.node)
 
-abbrev pub own_values_after : Turn → List (Option ℕ)
+abbrev pub own_values_after : Context → List (Option ℕ)
 own_values_after t = values_after t (pair_at t.opening t.past t.node)
 
 -- a nonce above the number that the router counts from may have been saved
-pub record Doubts (t : Turn) : Type 0 where
+pub record Doubts (t : Context) : Type 0 where
   pub base : Option ℕ
   pub counts : CountsFrom t.opening t.past t.node base
   pub nonce : ℕ
@@ -40,11 +40,11 @@ pub record Doubts (t : Turn) : Type 0 where
   pub doubt : InDoubt (own_values t) (own_values_after t) nonce
 
 -- the values are as they were, or a nonce is in doubt
-abbrev pub Stays : Turn → Type 0
+abbrev pub Stays : Context → Type 0
 Stays t = (own_values_after t ≡ own_values t) ⊎ Doubts t
 
 -- what each line leaves: a Map-Register was sent; a restart, which may be refused; else the values stay
-abbrev pub Leaves : Turn → Line → Type 0
+abbrev pub Leaves : Context → Line → Type 0
 Leaves t (lines.Sent r s key nonce datagram) = (router : ℕ) × (server : ℕ) × (r ≡ router) × IsSent t router server key nonce datagram
 Leaves t (lines.Restarted named) = (named ≡ t.node) × Narrows (own_values t) (own_values_after t)
 Leaves t (lines.Refused named (refusals.Start fault)) = (named ≡ t.node) × Narrows (own_values t) (own_values_after t)
@@ -56,7 +56,7 @@ received_clash e = absurd cc
 notice_clash : kinds.Sent ≢ kinds.Notice
 notice_clash e = absurd cc
 
-module _ (t : Turn) where
+module _ (t : Context) where
   not_received : (p : Pair) → p.kind ≡ kinds.Received → pair_at t.opening t.past t.node ≢ p
   not_received p is e = received_clash (ap (λ (x : Pair). x.kind) e ∙ is)
 
@@ -67,7 +67,7 @@ module _ (t : Turn) where
   quiet same = inl (ap (λ (k : Kept). kept_at k (pair_at t.opening t.past t.node)) same)
 
   idle : t.after ≡ t.before → Stays t
-  idle same = quiet (ap (λ (s : Shown). s.kept) same)
+  idle same = quiet (ap (λ (s : ShownStore). s.kept) same)
 
   send_refused : (router server : ℕ) (why : SendFault) → t.node ≡ router → RefusesToSend t router server why → Stays t
   send_refused router server sends.NoServer is row = quiet row.1
@@ -76,9 +76,9 @@ module _ (t : Turn) where
   send_refused router server (sends.Store fault) is row = inr (record {
     base = row.1.base;
     counts = subst (λ (n : ℕ). CountsFrom t.opening t.past n row.1.base) (sym is) row.1.counts;
-    nonce = block_end (number row.1.base + 1) (settings t.opening t.past router).nonce_block;
-    above = (let bound = block_bound (number row.1.base + 1) (settings t.opening t.past router).nonce_block (let left = row.1.left in omega (arith, left)) in let least = bound.least in omega (arith, least));
-    doubt = subst (λ (n : ℕ). InDoubt (values t (pair_at t.opening t.past n)) (values_after t (pair_at t.opening t.past n)) (block_end (number row.1.base + 1) (settings t.opening t.past router).nonce_block)) (sym is) row.1.fails.here;
+    nonce = block_end (number row.1.base + 1) (etr_config t.opening t.past router).nonce_block;
+    above = (let bound = block_bound (number row.1.base + 1) (etr_config t.opening t.past router).nonce_block (let left = row.1.left in omega (arith, left)) in let least = bound.least in omega (arith, least));
+    doubt = subst (λ (n : ℕ). InDoubt (values t (pair_at t.opening t.past n)) (values_after t (pair_at t.opening t.past n)) (block_end (number row.1.base + 1) (etr_config t.opening t.past router).nonce_block)) (sym is) row.1.fails.here;
   })
 
   message_refused : (a : Arrival) (why : Refused) → RefusesMessage t a why → Stays t
@@ -113,7 +113,7 @@ module _ (t : Turn) where
   arrival_leaves a _ row = absurd row
 
   -- any legal step of the node
-  pub leaves : (e : Happening) (line : Line) → MayCome t e line → Leaves t line
+  pub leaves : (e : EventValue) (line : Line) → MayCome t e line → Leaves t line
   leaves (events.Change router db) (lines.Changed named records) row = quiet row.same
   leaves (events.Change router db) (lines.Down named) row = quiet row.same
   leaves (events.Send router server fate) (lines.Sent r s key nonce datagram) row = (router, server, row.0, row.2)
@@ -121,7 +121,7 @@ module _ (t : Turn) where
   leaves (events.Send router server fate) (lines.Refused named (refusals.Send why)) row = send_refused router server why row.2.acts row.3
   leaves (events.Deliver k fate) (lines.Nowhere datagram) row = idle row.idle.same
   leaves (events.Deliver k fate) line row = arrival_leaves (arrival_of row.item) line row.arrives
-  leaves (events.Junk to from bytes) line row = arrival_leaves (thrown from bytes) line row.arrives
+  leaves (events.Junk to from bytes) line row = arrival_leaves (junk_arrival from bytes) line row.arrives
   leaves (events.Tick ms) (lines.Ticked passed now) row = idle row.idle.same
   leaves (events.Restart node pick db) (lines.Restarted named) row = (row.names ∙ sym row.acts, row.narrows (pair_at t.opening t.past t.node))
   leaves (events.Restart node pick db) (lines.Refused named (refusals.Start fault)) row = (row.names ∙ sym row.acts, row.narrows (pair_at t.opening t.past t.node))

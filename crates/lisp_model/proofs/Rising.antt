@@ -9,7 +9,7 @@ use Rattle.lisp_nonces.specs.Kept.{InDoubt}
 use Rattle.lisp_admission.specs.Nonces.{IsBelow}
 use Rattle.lisp_model.specs.Held.{Acceptance, is_of_pair, last_of}
 use Rattle.lisp_model.specs.Accepted.{nonces_of}
-use Rattle.lisp_model.specs.Turn.{IsBase}
+use Rattle.lisp_model.specs.Context.{IsBase}
 use Rattle.lisp_model.specs.Promises.{Falls}
 use Rattle.lisp_model.proofs.KeptLemmas.{only_value}
 use Rattle.lisp_model.proofs.ListLemmas.{at_head, in_tail, head_or_tail}

@@ -15,13 +15,13 @@ use Rattle.lisp_admission.specs.Pairs.{pair_of}
 use Rattle.lisp_model.specs.declared.event.Event.TheVariants as events
 use Rattle.lisp_model.specs.declared.line.Line.TheVariants as lines
 use Rattle.lisp_model.specs.declared.refusal.Refusal.TheVariants as refusals
-use Rattle.lisp_model.specs.Trace.{Happening, Step, Opening, shown, clock}
+use Rattle.lisp_model.specs.Trace.{EventValue, Step, Opening, shown_store, clock}
 use Rattle.lisp_model.specs.Held.{Acceptance, is_of_pair, last_of}
-use Rattle.lisp_model.specs.Bag.{Arrival, arrival_of, arrival_in, thrown, taken, bag, since}
-use Rattle.lisp_model.specs.Accepted.{accepted, arriving, nonces_of, tried}
-use Rattle.lisp_model.specs.Turn.{Turn, values, IsBase}
+use Rattle.lisp_model.specs.Bag.{Arrival, arrival_of, arrival_in, junk_arrival, acceptances_in, bag, since_start}
+use Rattle.lisp_model.specs.Accepted.{acceptances, acceptances_in_step, nonces_of, tried_nonces}
+use Rattle.lisp_model.specs.Context.{Context, values, IsBase}
 use Rattle.lisp_model.specs.Receiving.{last_in}
-use Rattle.lisp_model.specs.Legal.{MayCome, Arrives, Legal, LegalTrace, turn_of}
+use Rattle.lisp_model.specs.Legal.{MayCome, Arrives, Legal, LegalTrace, context_of}
 use Rattle.lisp_model.specs.Promises.{Falls, NoncesRise, ReplaysAreTried}
 use Rattle.lisp_model.proofs.KeptLemmas.{pair_same}
 use Rattle.lisp_model.proofs.ListLemmas.{at_head, in_tail, head_or_tail, in_none}
@@ -50,14 +50,14 @@ in_numbers (v ∷ vs) m has = some_number v m (flat_map option_to_list vs) (at (
 -- at each server, for each pair of received nonces
 module _ (o : Opening) (q : Pair) (kind : q.kind ≡ kinds.Received) where
   abbrev SafeAt : List Step → ℕ → Type 0
-  SafeAt T k = Safe q (accepted o T k) (since o T k) (tried o T k q) (kept_at (shown o T k).kept q)
+  SafeAt T k = Safe q (acceptances o T k) (since_start o T k) (tried_nonces o T k q) (kept_at (shown_store o T k).kept q)
 
   safe_opening : (k : ℕ) → SafeAt [] k
   safe_opening k = record {
     falls = tt;
     floor = λ n has. absurd (in_none n has);
     last = λ l e. absurd (clash e);
-    tried_kept = in_numbers (kept_at (shown o [] k).kept q);
+    tried_kept = in_numbers (kept_at (shown_store o [] k).kept q);
     tried_last = λ l e. absurd (clash e);
   }
     where
@@ -65,16 +65,16 @@ module _ (o : Opening) (q : Pair) (kind : q.kind ≡ kinds.Received) where
       clash e = absurd cc
 
   safe_actor : (T : List Step) (s : Step) → Legal o T s → SafeAt T s.actor → SafeAt (s ∷ T) s.actor
-  safe_actor T s l safe = subst (λ b. Safe q (accepted o (s ∷ T) s.actor) (since o (s ∷ T) s.actor) (tried o (s ∷ T) s.actor q) (kept_at (if b then s.shown else shown o T s.actor).kept q)) (sym (same_number s.actor))
-      (row_safe (turn_of o T s) q kind (accepted o T s.actor) (tried o T s.actor q) safe s.event s.line l.row)
+  safe_actor T s l safe = subst (λ b. Safe q (acceptances o (s ∷ T) s.actor) (since_start o (s ∷ T) s.actor) (tried_nonces o (s ∷ T) s.actor q) (kept_at (if b then s.shown else shown_store o T s.actor).kept q)) (sym (same_number s.actor))
+      (row_safe (context_of o T s) q kind (acceptances o T s.actor) (tried_nonces o T s.actor q) safe s.event s.line l.row)
 
   safe_other : (T : List Step) (s : Step) (k : ℕ) → k ≢ s.actor → Legal o T s → SafeAt T k → SafeAt (s ∷ T) k
   safe_other T s k differ l safe =
-      let by = by_actor (turn_of o T s) s.event s.line l.row in
-      subst (λ (acc : List Acceptance). Safe q acc (since o (s ∷ T) k) (tried o (s ∷ T) k q) (kept_at (shown o (s ∷ T) k).kept q)) (sym (accepted_other s.actor k differ s.line by (arriving o T s) (accepted o T k)))
-      (subst (λ (new : List Acceptance). Safe q (accepted o T k) new (tried o (s ∷ T) k q) (kept_at (shown o (s ∷ T) k).kept q)) (sym (since_other s.actor k differ s.line by (arriving o T s) (since o T k)))
-      (subst (λ (ns : List ℕ). Safe q (accepted o T k) (since o T k) ns (kept_at (shown o (s ∷ T) k).kept q)) (sym (tried_other s.actor k differ s.line by (nonces_of q (arriving o T s)) (tried o T k q)))
-      (subst (λ b. Safe q (accepted o T k) (since o T k) (tried o T k q) (kept_at (if b then s.shown else shown o T k).kept q)) (sym (other_number s.actor k (λ e. differ (sym e)))) safe)))
+      let by = by_actor (context_of o T s) s.event s.line l.row in
+      subst (λ (acc : List Acceptance). Safe q acc (since_start o (s ∷ T) k) (tried_nonces o (s ∷ T) k q) (kept_at (shown_store o (s ∷ T) k).kept q)) (sym (accepted_other s.actor k differ s.line by (acceptances_in_step o T s) (acceptances o T k)))
+      (subst (λ (new : List Acceptance). Safe q (acceptances o T k) new (tried_nonces o (s ∷ T) k q) (kept_at (shown_store o (s ∷ T) k).kept q)) (sym (since_other s.actor k differ s.line by (acceptances_in_step o T s) (since_start o T k)))
+      (subst (λ (ns : List ℕ). Safe q (acceptances o T k) (since_start o T k) ns (kept_at (shown_store o (s ∷ T) k).kept q)) (sym (tried_other s.actor k differ s.line by (nonces_of q (acceptances_in_step o T s)) (tried_nonces o T k q)))
+      (subst (λ b. Safe q (acceptances o T k) (since_start o T k) (tried_nonces o T k q) (kept_at (if b then s.shown else shown_store o T k).kept q)) (sym (other_number s.actor k (λ e. differ (sym e)))) safe)))
 
   safe_step : (T : List Step) (s : Step) (k : ℕ) (b : Bool) → (s.actor == k) ≡ b → Legal o T s → ((n : ℕ) → SafeAt T n) → SafeAt (s ∷ T) k
   safe_step T s k true e l safe = subst (SafeAt (s ∷ T)) ((Decides-eqb s.actor k).0 e) (safe_actor T s l (safe s.actor))
@@ -99,24 +99,24 @@ no_nonces q other (a ∷ acc) = at (eq_by_cmp pair_cmp q (pair_of a.message)) re
 pub nonces_rise : (o : Opening) (T : List Step) → LegalTrace o T → NoncesRise o T
 nonces_rise o T legal server q = at q.kind refl
   where
-    at : (kind : PairKind) → q.kind ≡ kind → Falls (nonces_of q (accepted o T server))
+    at : (kind : PairKind) → q.kind ≡ kind → Falls (nonces_of q (acceptances o T server))
     at kinds.Received e = (safe_trace o q e T legal server).falls
-    at kinds.Sent e = subst Falls (sym (no_nonces q (λ is. sent_clash (sym e ∙ is)) (accepted o T server))) tt
+    at kinds.Sent e = subst Falls (sym (no_nonces q (λ is. sent_clash (sym e ∙ is)) (acceptances o T server))) tt
       where
         sent_clash : kinds.Sent ≢ kinds.Received
         sent_clash is = absurd cc
-    at kinds.Notice e = subst Falls (sym (no_nonces q (λ is. notice_clash (sym e ∙ is)) (accepted o T server))) tt
+    at kinds.Notice e = subst Falls (sym (no_nonces q (λ is. notice_clash (sym e ∙ is)) (acceptances o T server))) tt
       where
         notice_clash : kinds.Notice ≢ kinds.Received
         notice_clash is = absurd cc
 
 -- a replay has a base
-module _ (t : Turn) (server saved : ℕ) where
+module _ (t : Context) (server saved : ℕ) where
   record HasBase (x : Acceptance) : Type 0 where
     acts : t.node ≡ server
     base : IsBase (last_in t (pair_of x.message)) (values t (pair_of x.message)) (Some saved)
 
-  has_base : (a : Arrival) (now : ℕ) → Arrives t a (lines.Refused server (refusals.Receive (Replay saved))) → (x : Acceptance) → Contains (taken (Some a) now) x → HasBase x
+  has_base : (a : Arrival) (now : ℕ) → Arrives t a (lines.Refused server (refusals.Receive (Replay saved))) → (x : Acceptance) → Contains (acceptances_in (Some a) now) x → HasBase x
   has_base a now row x has = record { acts = row.0.acts; base = subst (λ (y : Acceptance). IsBase (last_in t (pair_of y.message)) (values t (pair_of y.message)) (Some saved)) (sym only) row.1.counts }
     where
       one : Acceptance
@@ -132,18 +132,18 @@ module _ (t : Turn) (server saved : ℕ) where
       only : x ≡ record { message = row.1.message; from = a.from; moment = now }
       only = at (head_or_tail _ [] x in_one)
 
-  replay_base : (e : Happening) → MayCome t e (lines.Refused server (refusals.Receive (Replay saved))) → (x : Acceptance) → Contains (taken (arrival_in (bag t.opening t.past) e) (clock t.past)) x → HasBase x
-  replay_base (events.Deliver k fate) row x has = has_base (arrival_of row.item) (clock t.past) row.arrives x (subst (λ (a : Option Arrival). Contains (taken a (clock t.past)) x) (ap (option_map arrival_of) row.sent) has)
-  replay_base (events.Junk to from bytes) row x has = has_base (thrown from bytes) (clock t.past) row.arrives x has
+  replay_base : (e : EventValue) → MayCome t e (lines.Refused server (refusals.Receive (Replay saved))) → (x : Acceptance) → Contains (acceptances_in (arrival_in (bag t.opening t.past) e) (clock t.past)) x → HasBase x
+  replay_base (events.Deliver k fate) row x has = has_base (arrival_of row.item) (clock t.past) row.arrives x (subst (λ (a : Option Arrival). Contains (acceptances_in a (clock t.past)) x) (ap (option_map arrival_of) row.sent) has)
+  replay_base (events.Junk to from bytes) row x has = has_base (junk_arrival from bytes) (clock t.past) row.arrives x has
   replay_base _ row x has = absurd row
 
-based : (q : Pair) (acc since : List Acceptance) (tried : List ℕ) (kept : List (Option ℕ)) → Safe q acc since tried kept → (saved : ℕ) (last : Option ℕ) → last_of q since ≡ last → IsBase last kept (Some saved) → Contains tried saved
-based q acc since tried kept safe saved (Some l) is base = let same : saved ≡ l = cc in subst (Contains tried) (sym same) (safe.tried_last l is)
-based q acc since tried kept safe saved None is base = safe.tried_kept saved base
+based : (q : Pair) (acc since_start : List Acceptance) (tried_nonces : List ℕ) (kept : List (Option ℕ)) → Safe q acc since_start tried_nonces kept → (saved : ℕ) (last : Option ℕ) → last_of q since_start ≡ last → IsBase last kept (Some saved) → Contains tried_nonces saved
+based q acc since_start tried_nonces kept safe saved (Some l) is base = let same : saved ≡ l = cc in subst (Contains tried_nonces) (sym same) (safe.tried_last l is)
+based q acc since_start tried_nonces kept safe saved None is base = safe.tried_kept saved base
 
 pub replays_tried : (o : Opening) (T : List Step) (s : Step) → LegalTrace o T → Legal o T s → ReplaysAreTried o T s
 replays_tried o T s legal l server saved is x has =
-    let found = replay_base (turn_of o T s) server saved s.event (subst (MayCome (turn_of o T s) s.event) is l.row) x has in
+    let found = replay_base (context_of o T s) server saved s.event (subst (MayCome (context_of o T s) s.event) is l.row) x has in
     let q = pair_of x.message in
-    subst (λ (k : ℕ). Contains (tried o T k (pair_of x.message)) saved) found.acts
-    (based q (accepted o T s.actor) (since o T s.actor) (tried o T s.actor q) (kept_at (shown o T s.actor).kept q) (safe_trace o q refl T legal s.actor) saved (last_of q (since o T s.actor)) refl found.base)
+    subst (λ (k : ℕ). Contains (tried_nonces o T k (pair_of x.message)) saved) found.acts
+    (based q (acceptances o T s.actor) (since_start o T s.actor) (tried_nonces o T s.actor q) (kept_at (shown_store o T s.actor).kept q) (safe_trace o q refl T legal s.actor) saved (last_of q (since_start o T s.actor)) refl found.base)

@@ -8,11 +8,11 @@ use Rattle.lisp_nonces.specs.Kept.{kept_at, number, InDoubt}
 use Rattle.lisp_model.specs.declared.line.Line.{Line}
 use Rattle.lisp_model.specs.declared.line.Line.TheVariants as lines
 use Rattle.lisp_model.specs.declared.refusal.Refusal.TheVariants as refusals
-use Rattle.lisp_model.specs.Trace.{Happening, Step, Opening, shown, database}
-use Rattle.lisp_model.specs.History.{Entry, entry_in, history}
-use Rattle.lisp_model.specs.Turn.{Turn, values_after, IsBase}
+use Rattle.lisp_model.specs.Trace.{EventValue, Step, Opening, shown_store, database}
+use Rattle.lisp_model.specs.History.{SentRegister, sent_registers_in, history}
+use Rattle.lisp_model.specs.Context.{Context, values_after, IsBase}
 use Rattle.lisp_model.specs.Sending.{CountsFrom, IsSent, pair_at, last_sent, last_sent_after, start_values, start_values_after}
-use Rattle.lisp_model.specs.Legal.{MayCome, Legal, LegalTrace, turn_of}
+use Rattle.lisp_model.specs.Legal.{MayCome, Legal, LegalTrace, context_of}
 use Rattle.lisp_model.proofs.KeptLemmas.{only_value}
 use Rattle.lisp_model.proofs.ListLemmas.{head_or_tail, in_none}
 use Rattle.lisp_model.proofs.HeardLines.{IsBy}
@@ -20,11 +20,11 @@ use Rattle.lisp_model.proofs.Locality.{by_actor, same_number, other_number, last
 use Rattle.lisp_model.proofs.OwnValues.{own_values, own_values_after, Stays, Leaves, leaves}
 
 -- no number that the store keeps, or that the next one counts from, is below the nonce of an entry
-pub record Sound (r : ℕ) (entries : List Entry) (last : Option ℕ) (start kept : List (Option ℕ)) : Type 0 where
-  pub floor : (e : Entry) → Contains entries e → e.router ≡ r → (v : Option ℕ) → Contains kept v → e.nonce ≤ number v
-  pub below : (base : Option ℕ) → IsBase last start base → (e : Entry) → Contains entries e → e.router ≡ r → e.nonce ≤ number base
+pub record Sound (r : ℕ) (entries : List SentRegister) (last : Option ℕ) (start kept : List (Option ℕ)) : Type 0 where
+  pub floor : (e : SentRegister) → Contains entries e → e.router ≡ r → (v : Option ℕ) → Contains kept v → e.nonce ≤ number v
+  pub below : (base : Option ℕ) → IsBase last start base → (e : SentRegister) → Contains entries e → e.router ≡ r → e.nonce ≤ number base
 
-module _ (t : Turn) (was : Sound t.node (history t.opening t.past) (last_sent t.past t.node) (start_values t.opening t.past t.node) (own_values t)) where
+module _ (t : Context) (was : Sound t.node (history t.opening t.past) (last_sent t.past t.node) (start_values t.opening t.past t.node) (own_values t)) where
   abbrev Still : Type 0
   Still = Sound t.node (history t.opening t.past) (last_sent t.past t.node) (start_values t.opening t.past t.node) (own_values_after t)
 
@@ -41,7 +41,7 @@ module _ (t : Turn) (was : Sound t.node (history t.opening t.past) (last_sent t.
     below = was.below;
   }
     where
-      at : (e : Entry) → Contains (history t.opening t.past) e → e.router ≡ t.node → (v : Option ℕ) → Contains (own_values t) v ⊎ Contains (Some nonce ∷ []) v → e.nonce ≤ number v
+      at : (e : SentRegister) → Contains (history t.opening t.past) e → e.router ≡ t.node → (v : Option ℕ) → Contains (own_values t) v ⊎ Contains (Some nonce ∷ []) v → e.nonce ≤ number v
       at e has its v (inl old) = was.floor e has its v old
       at e has its v (inr one) = let low = was.below base counts e has its in subst (λ (w : Option ℕ). e.nonce ≤ number w) (sym (only_value (Some nonce) v one)) (omega (arith, low, above))
 
@@ -50,27 +50,27 @@ module _ (t : Turn) (was : Sound t.node (history t.opening t.past) (last_sent t.
   still (inr saved) = doubts saved.base saved.counts saved.nonce saved.above saved.doubt
 
   abbrev After : Line → Type 0
-  After line = Sound t.node (entry_in t.opening t.past line ++ history t.opening t.past) (last_sent_after line t.node (last_sent t.past t.node)) (start_values_after line (own_values_after t) t.node (start_values t.opening t.past t.node)) (own_values_after t)
+  After line = Sound t.node (sent_registers_in t.opening t.past line ++ history t.opening t.past) (last_sent_after line t.node (last_sent t.past t.node)) (start_values_after line (own_values_after t) t.node (start_values t.opening t.past t.node)) (own_values_after t)
 
   -- every entry of the router has a lower nonce than the next one
-  pub sent_above : (router server key nonce datagram : ℕ) → IsSent t router server key nonce datagram → (f : Entry) → Contains (history t.opening t.past) f → f.router ≡ router → f.nonce < nonce
+  pub sent_above : (router server key nonce datagram : ℕ) → IsSent t router server key nonce datagram → (f : SentRegister) → Contains (history t.opening t.past) f → f.router ≡ router → f.nonce < nonce
   sent_above router server key nonce datagram row f has its =
       let low = was.below row.base (subst (λ (n : ℕ). CountsFrom t.opening t.past n row.base) (sym row.acts.acts) row.counts) f has (its ∙ sym row.acts.acts) in
       let next = row.next in
       omega (arith, low, next)
 
   sends_on : (r s key nonce datagram router server : ℕ) → r ≡ router → IsSent t router server key nonce datagram → After (lines.Sent r s key nonce datagram)
-  sends_on r s key nonce datagram router server names row = subst (λ b. Sound t.node (entry_in t.opening t.past (lines.Sent r s key nonce datagram) ++ history t.opening t.past) (if b then Some nonce else last_sent t.past t.node) (start_values t.opening t.past t.node) (own_values_after t))
+  sends_on r s key nonce datagram router server names row = subst (λ b. Sound t.node (sent_registers_in t.opening t.past (lines.Sent r s key nonce datagram) ++ history t.opening t.past) (if b then Some nonce else last_sent t.past t.node) (start_values t.opening t.past t.node) (own_values_after t))
       (sym (ap (λ x. x == t.node) (names ∙ sym row.acts.acts) ∙ same_number t.node)) (record {
         floor = λ e has its v in_it. let low = at_most e has its in let high = row.saves.none_below v (subst (λ (n : ℕ). Contains (values_after t (pair_at t.opening t.past n)) v) row.acts.acts in_it) in omega (arith, low, high);
         below = λ base is e has its. subst (λ (b : Option ℕ). e.nonce ≤ number b) (sym is) (at_most e has its);
       })
     where
-      at_most_of : (e one : Entry) → one.nonce ≡ nonce → e.router ≡ t.node → (e ≡ one) ⊎ Contains (history t.opening t.past) e → e.nonce ≤ nonce
-      at_most_of e one is its (inl same) = let same_nonce = ap (λ (x : Entry). x.nonce) same in omega (arith, same_nonce, is)
+      at_most_of : (e one : SentRegister) → one.nonce ≡ nonce → e.router ≡ t.node → (e ≡ one) ⊎ Contains (history t.opening t.past) e → e.nonce ≤ nonce
+      at_most_of e one is its (inl same) = let same_nonce = ap (λ (x : SentRegister). x.nonce) same in omega (arith, same_nonce, is)
       at_most_of e one is its (inr has) = let low = sent_above router server key nonce datagram row e has (its ∙ row.acts.acts) in omega (arith, low)
 
-      at_most : (e : Entry) → Contains (entry_in t.opening t.past (lines.Sent r s key nonce datagram) ++ history t.opening t.past) e → e.router ≡ t.node → e.nonce ≤ nonce
+      at_most : (e : SentRegister) → Contains (sent_registers_in t.opening t.past (lines.Sent r s key nonce datagram) ++ history t.opening t.past) e → e.router ≡ t.node → e.nonce ≤ nonce
       at_most e has its = at_most_of e _ refl its (head_or_tail _ (history t.opening t.past) e has)
 
   restarts_on : (named : ℕ) → named ≡ t.node → ((v : Option ℕ) → Contains (own_values_after t) v → Contains (own_values t) v) → After (lines.Restarted named)
@@ -84,32 +84,32 @@ module _ (t : Turn) (was : Sound t.node (history t.opening t.past) (last_sent t.
   after _ left = still left
 
   -- any legal step of the node
-  pub row_sound : (e : Happening) (line : Line) → MayCome t e line → After line
+  pub row_sound : (e : EventValue) (line : Line) → MayCome t e line → After line
   row_sound e line row = after line (leaves t e line row)
 
 module _ (o : Opening) where
   abbrev SoundAt : List Step → ℕ → Type 0
-  SoundAt T r = Sound r (history o T) (last_sent T r) (start_values o T r) (kept_at (shown o T r).kept (pair_at o T r))
+  SoundAt T r = Sound r (history o T) (last_sent T r) (start_values o T r) (kept_at (shown_store o T r).kept (pair_at o T r))
 
   sound_actor : (T : List Step) (s : Step) → Legal o T s → SoundAt T s.actor → SoundAt (s ∷ T) s.actor
-  sound_actor T s l old = subst (λ b. Sound s.actor (history o (s ∷ T)) (last_sent (s ∷ T) s.actor) (start_values o (s ∷ T) s.actor) (kept_at (if b then s.shown else shown o T s.actor).kept (pair_at o T s.actor))) (sym (same_number s.actor))
-      (row_sound (turn_of o T s) old s.event s.line l.row)
+  sound_actor T s l old = subst (λ b. Sound s.actor (history o (s ∷ T)) (last_sent (s ∷ T) s.actor) (start_values o (s ∷ T) s.actor) (kept_at (if b then s.shown else shown_store o T s.actor).kept (pair_at o T s.actor))) (sym (same_number s.actor))
+      (row_sound (context_of o T s) old s.event s.line l.row)
 
   -- an entry of another router is an old one
-  old_entry : (T : List Step) (line : Line) (node r : ℕ) → r ≢ node → IsBy line node → (e : Entry) → Contains (entry_in o T line ++ history o T) e → e.router ≡ r → Contains (history o T) e
+  old_entry : (T : List Step) (line : Line) (node r : ℕ) → r ≢ node → IsBy line node → (e : SentRegister) → Contains (sent_registers_in o T line ++ history o T) e → e.router ≡ r → Contains (history o T) e
   old_entry T (lines.Sent router server key nonce datagram) node r differ is e has its = at (head_or_tail _ (history o T) e has)
     where
       at : (e ≡ record { router = router; key = key; nonce = nonce; server = server; database = database o T router; position = length T }) ⊎ Contains (history o T) e → Contains (history o T) e
-      at (inl same) = absurd (differ (sym its ∙ ap (λ (x : Entry). x.router) same ∙ is))
+      at (inl same) = absurd (differ (sym its ∙ ap (λ (x : SentRegister). x.router) same ∙ is))
       at (inr old) = old
   old_entry T _ node r differ is e has its = has
 
   sound_other : (T : List Step) (s : Step) (r : ℕ) → r ≢ s.actor → Legal o T s → SoundAt T r → SoundAt (s ∷ T) r
   sound_other T s r differ l old =
-      let by = by_actor (turn_of o T s) s.event s.line l.row in
-      subst (λ (last : Option ℕ). Sound r (history o (s ∷ T)) last (start_values o (s ∷ T) r) (kept_at (shown o (s ∷ T) r).kept (pair_at o T r))) (sym (last_sent_other s.actor r differ s.line by (last_sent T r)))
-      (subst (λ (start : List (Option ℕ)). Sound r (history o (s ∷ T)) (last_sent T r) start (kept_at (shown o (s ∷ T) r).kept (pair_at o T r))) (sym (start_values_other s.actor r differ s.line by (kept_at s.shown.kept (pair_at o T r)) (start_values o T r)))
-      (subst (λ b. Sound r (history o (s ∷ T)) (last_sent T r) (start_values o T r) (kept_at (if b then s.shown else shown o T r).kept (pair_at o T r))) (sym (other_number s.actor r (λ e. differ (sym e))))
+      let by = by_actor (context_of o T s) s.event s.line l.row in
+      subst (λ (last : Option ℕ). Sound r (history o (s ∷ T)) last (start_values o (s ∷ T) r) (kept_at (shown_store o (s ∷ T) r).kept (pair_at o T r))) (sym (last_sent_other s.actor r differ s.line by (last_sent T r)))
+      (subst (λ (start : List (Option ℕ)). Sound r (history o (s ∷ T)) (last_sent T r) start (kept_at (shown_store o (s ∷ T) r).kept (pair_at o T r))) (sym (start_values_other s.actor r differ s.line by (kept_at s.shown.kept (pair_at o T r)) (start_values o T r)))
+      (subst (λ b. Sound r (history o (s ∷ T)) (last_sent T r) (start_values o T r) (kept_at (if b then s.shown else shown_store o T r).kept (pair_at o T r))) (sym (other_number s.actor r (λ e. differ (sym e))))
       (record { floor = λ e has its. old.floor e (old_entry T s.line s.actor r differ by e has its) its; below = λ base counts e has its. old.below base counts e (old_entry T s.line s.actor r differ by e has its) its })))
 
   sound_step : (T : List Step) (s : Step) (r : ℕ) (b : Bool) → (s.actor == r) ≡ b → Legal o T s → ((n : ℕ) → SoundAt T n) → SoundAt (s ∷ T) r
@@ -124,23 +124,23 @@ module _ (o : Opening) where
   sound (s ∷ T) legal r = sound_step T s r (s.actor == r) refl legal.0 (sound T legal.1)
 
   -- entries of one router and nonce are one
-  abbrev pub Unique : List Entry → Type 0
-  Unique entries = (e f : Entry) → Contains entries e → Contains entries f → f.router ≡ e.router → f.nonce ≡ e.nonce → f ≡ e
+  abbrev pub Unique : List SentRegister → Type 0
+  Unique entries = (e f : SentRegister) → Contains entries e → Contains entries f → f.router ≡ e.router → f.nonce ≡ e.nonce → f ≡ e
 
-  new_unique : (one : Entry) (entries : List Entry) → Unique entries → ((f : Entry) → Contains entries f → f.router ≡ one.router → f.nonce < one.nonce) → Unique (one ∷ entries)
+  new_unique : (one : SentRegister) (entries : List SentRegister) → Unique entries → ((f : SentRegister) → Contains entries f → f.router ≡ one.router → f.nonce < one.nonce) → Unique (one ∷ entries)
   new_unique one entries old below e f has_e has_f router nonce = at (head_or_tail one entries e has_e) (head_or_tail one entries f has_f)
     where
       at : (e ≡ one) ⊎ Contains entries e → (f ≡ one) ⊎ Contains entries f → f ≡ e
       at (inl is_e) (inl is_f) = is_f ∙ sym is_e
-      at (inl is_e) (inr in_f) = let low = below f in_f (router ∙ ap (λ (x : Entry). x.router) is_e) in let same = ap (λ (x : Entry). x.nonce) is_e in absurd (omega (arith, low, same, nonce))
-      at (inr in_e) (inl is_f) = let low = below e in_e (sym router ∙ ap (λ (x : Entry). x.router) is_f) in let same = ap (λ (x : Entry). x.nonce) is_f in absurd (omega (arith, low, same, nonce))
+      at (inl is_e) (inr in_f) = let low = below f in_f (router ∙ ap (λ (x : SentRegister). x.router) is_e) in let same = ap (λ (x : SentRegister). x.nonce) is_e in absurd (omega (arith, low, same, nonce))
+      at (inr in_e) (inl is_f) = let low = below e in_e (sym router ∙ ap (λ (x : SentRegister). x.router) is_f) in let same = ap (λ (x : SentRegister). x.nonce) is_f in absurd (omega (arith, low, same, nonce))
       at (inr in_e) (inr in_f) = old e f in_e in_f router nonce
 
   unique_row : (T : List Step) (s : Step) → Legal o T s → SoundAt T s.actor → Unique (history o T) → Unique (history o (s ∷ T))
-  unique_row T s l safe old = by s.line (leaves (turn_of o T s) s.event s.line l.row)
+  unique_row T s l safe old = by s.line (leaves (context_of o T s) s.event s.line l.row)
     where
-      by : (line : Line) → Leaves (turn_of o T s) line → Unique (entry_in o T line ++ history o T)
-      by (lines.Sent r server key nonce datagram) left = new_unique _ (history o T) old (λ f has its. sent_above (turn_of o T s) safe left.0 left.1 key nonce datagram left.3 f has (its ∙ left.2))
+      by : (line : Line) → Leaves (context_of o T s) line → Unique (sent_registers_in o T line ++ history o T)
+      by (lines.Sent r server key nonce datagram) left = new_unique _ (history o T) old (λ f has its. sent_above (context_of o T s) safe left.0 left.1 key nonce datagram left.3 f has (its ∙ left.2))
       by _ left = old
 
   pub unique : (T : List Step) → LegalTrace o T → Unique (history o T)

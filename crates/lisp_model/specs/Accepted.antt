@@ -9,32 +9,33 @@ use Rattle.lisp_admission.specs.declared.refused.Refused.TheVariants.{StoreSave}
 use Rattle.lisp_model.specs.declared.line.Line.{Line}
 use Rattle.lisp_model.specs.declared.line.Line.TheVariants as lines
 use Rattle.lisp_model.specs.declared.refusal.Refusal.TheVariants.{Receive}
-use Rattle.lisp_model.specs.Trace.{Step, Opening, shown, clock}
+use Rattle.lisp_model.specs.Trace.{Step, Opening, shown_store, clock}
 use Rattle.lisp_model.specs.Held.{Acceptance, is_of_pair}
-use Rattle.lisp_model.specs.Bag.{arrival_in, taken, bag}
+use Rattle.lisp_model.specs.Bag.{arrival_in, acceptances_in, bag}
 
 -- what is taken in a step
-abbrev pub arriving : Opening → List Step → Step → List Acceptance
-arriving o T s = taken (arrival_in (bag o T) s.event) (clock T)
+abbrev pub acceptances_in_step : Opening → List Step → Step → List Acceptance
+acceptances_in_step o T s = acceptances_in (arrival_in (bag o T) s.event) (clock T)
 
-abbrev pub accepted_after : Line → List Acceptance → ℕ → List Acceptance → List Acceptance
-accepted_after (lines.Accepted server _ _ _ _) new k old = if server == k then new ++ old else old
-accepted_after _ new k old = old
+abbrev pub acceptances_after : Line → List Acceptance → ℕ → List Acceptance → List Acceptance
+acceptances_after (lines.Accepted server _ _ _ _) new k old = if server == k then new ++ old else old
+acceptances_after _ new k old = old
 
-abbrev pub accepted : Opening → List Step → ℕ → List Acceptance
-accepted o [] server = []
-accepted o (s ∷ T) server = accepted_after s.line (arriving o T s) server (accepted o T server)
+abbrev pub acceptances : Opening → List Step → ℕ → List Acceptance
+acceptances o [] server = []
+acceptances o (s ∷ T) server = acceptances_after s.line (acceptances_in_step o T s) server (acceptances o T server)
 
 -- the nonces of a pair
 abbrev pub nonces_of : Pair → List Acceptance → List ℕ
 nonces_of pair messages = map (λ a. a.message.nonce) (filter (is_of_pair pair) messages)
 
 -- tried: accepted, or refused since the save failed; and the numbers that were kept at the opening
-abbrev pub tried_after : Line → List ℕ → ℕ → List ℕ → List ℕ
-tried_after (lines.Accepted server _ _ _ _) new k old = if server == k then new ++ old else old
-tried_after (lines.Refused node (Receive (StoreSave _))) new k old = if node == k then new ++ old else old
-tried_after _ new k old = old
+abbrev pub tried_nonces_after : Line → List ℕ → ℕ → List ℕ → List ℕ
+tried_nonces_after (lines.Accepted server _ _ _ _) new k old = if server == k then new ++ old else old
+tried_nonces_after (lines.Refused node (Receive (StoreSave _))) new k old = if node == k then new ++ old else old
+tried_nonces_after _ new k old = old
 
-abbrev pub tried : Opening → List Step → ℕ → Pair → List ℕ
-tried o [] server pair = flat_map option_to_list (kept_at (shown o [] server).kept pair)
-tried o (s ∷ T) server pair = tried_after s.line (nonces_of pair (arriving o T s)) server (tried o T server pair)
+abbrev pub tried_nonces : Opening → List Step → ℕ → Pair → List ℕ
+tried_nonces o [] server pair = flat_map option_to_list (kept_at (shown_store o [] server).kept pair)
+tried_nonces o (s ∷ T) server pair =
+    tried_nonces_after s.line (nonces_of pair (acceptances_in_step o T s)) server (tried_nonces o T server pair)

@@ -2,19 +2,19 @@
 use Rattle.std.specs.Prelude.{ℕ, ◌==◌, List, [], ◌∷◌, ◌++◌, slice_get, map, Option, Some, None, Result, Ok, if◌then◌else◌, false}
 use Rattle.std.specs.Option.{option_map, option_and_then, option_to_list}
 use Rattle.lisp_records.specs.declared.address.Addr.{Addr}
-use Rattle.lisp_policy.specs.Configuration.{Configuration}
+use Rattle.lisp_policy.specs.Configuration.{ConfigValue}
 use Rattle.lisp_messages.specs.declared.fault.ReadFault.{ReadFault}
-use Rattle.lisp_messages.specs.Message.{Said, Registration, Notification, Registers, Notifies}
+use Rattle.lisp_messages.specs.Message.{MessageValue, MapRegisterValue, MapNotifyValue, Registers, Notifies}
 use Rattle.lisp_messages.specs.Authentic.{signed}
 use Rattle.lisp_messages.specs.Written.{written}
 use Rattle.lisp_messages.specs.Reading.{message_at}
 use Rattle.lisp_etr.specs.Hearing.{ack_of}
-use Rattle.lisp_etr.specs.Sending.{registration_of}
-use Rattle.lisp_admission.specs.Checks.{notification_of}
+use Rattle.lisp_etr.specs.Sending.{map_register_of}
+use Rattle.lisp_admission.specs.Checks.{reply_to}
 use Rattle.lisp_model.specs.declared.event.Event.TheVariants as events
 use Rattle.lisp_model.specs.declared.line.Line.{Line}
 use Rattle.lisp_model.specs.declared.line.Line.TheVariants as lines
-use Rattle.lisp_model.specs.Trace.{Happening, Step, Opening, address_at, router_at, secret_at, settings, clock, database}
+use Rattle.lisp_model.specs.Trace.{EventValue, Step, Opening, address_at, router_at, secret_at, etr_config, clock, database}
 use Rattle.lisp_model.specs.Held.{Acceptance, heard_last, records_of}
 use Rattle.lisp_model.specs.Timers.{notice_to}
 
@@ -23,7 +23,7 @@ pub record Item : Type 0 where
   pub from : Addr
   pub to : Addr
   pub secret : List ℕ
-  pub message : Said
+  pub message : MessageValue
 
 -- its bytes: the written spelling with its tag
 unfoldable pub bytes_of : Item → List ℕ
@@ -33,67 +33,69 @@ bytes_of i = signed i.secret (written i.message)
 pub record Arrival : Type 0 where
   pub from : Addr
   pub bytes : List ℕ
-  pub read : Result Said ReadFault
+  pub read : Result MessageValue ReadFault
 
 -- an item arrives as it was sent
 abbrev pub arrival_of : Item → Arrival
 arrival_of i = record { from = i.from; bytes = bytes_of i; read = Ok i.message }
 
 -- bytes from outside: what is read in them
-abbrev pub thrown : Addr → List ℕ → Arrival
-thrown from bytes = record { from = from; bytes = bytes; read = message_at bytes }
+abbrev pub junk_arrival : Addr → List ℕ → Arrival
+junk_arrival from bytes = record { from = from; bytes = bytes; read = message_at bytes }
 
-abbrev pub arrival_in : List Item → Happening → Option Arrival
+abbrev pub arrival_in : List Item → EventValue → Option Arrival
 arrival_in bag (events.Deliver k _) = option_map arrival_of (slice_get bag k)
-arrival_in bag (events.Junk _ from bytes) = Some (thrown from bytes)
+arrival_in bag (events.Junk _ from bytes) = Some (junk_arrival from bytes)
 arrival_in bag _ = None
 
 -- the Map-Register, and the Map-Notify or Map-Notify-Ack, that was read
-abbrev pub as_register : Result Said ReadFault → Option Registration
+abbrev pub as_register : Result MessageValue ReadFault → Option MapRegisterValue
 as_register (Ok (Registers m)) = Some m
 as_register _ = None
 
-abbrev pub as_notify : Result Said ReadFault → Option Notification
+abbrev pub as_notify : Result MessageValue ReadFault → Option MapNotifyValue
 as_notify (Ok (Notifies m)) = Some m
 as_notify _ = None
 
 -- what a server accepts in an arrival at a moment
-abbrev pub taken : Option Arrival → ℕ → List Acceptance
-taken a now = option_to_list (option_and_then (λ b. option_map (λ m. record { message = m; from = b.from; moment = now }) (as_register b.read)) a)
+abbrev pub acceptances_in : Option Arrival → ℕ → List Acceptance
+acceptances_in a now =
+    option_to_list (option_and_then (λ b. option_map (λ m. record { message = m; from = b.from; moment = now })
+    (as_register b.read)) a)
 
 -- the item of a Map-Register
 abbrev pub register_item : Opening → List Step → ℕ → ℕ → ℕ → Item
 register_item o T router server nonce = record {
   from = address_at o.config router;
   to = address_at o.config server;
-  secret = (settings o T router).secret;
-  message = Registers (registration_of (settings o T router) (database o T router) nonce);
+  secret = (etr_config o T router).secret;
+  message = Registers (map_register_of (etr_config o T router) (database o T router) nonce);
 }
 
 -- the item of the Map-Notify that answers a Map-Register: with its nonce, key and records, to its source
-abbrev pub reply_item : Configuration → ℕ → Acceptance → Item
+abbrev pub reply_item : ConfigValue → ℕ → Acceptance → Item
 reply_item c server a = record {
   from = address_at c server;
   to = a.from;
   secret = secret_at c.sites a.message.site a.message.key_id;
-  message = Notifies (notification_of a.message);
+  message = Notifies (reply_to a.message);
 }
 
 -- the item of a notice: the records that are held of a router, to where it was heard last
 abbrev pub notice_item : Opening → List Step → List Acceptance → ℕ → ℕ → ℕ → ℕ → Acceptance → Item
-notice_item o T since server router key nonce last = record {
+notice_item o T since_start server router key nonce last = record {
   from = address_at o.config server;
   to = last.from;
   secret = secret_at o.config.sites (router_at o.config router).me.site key;
-  message = Notifies (record { ack = false; nonce = nonce; key_id = key; records = records_of since (router_at o.config router).me (clock T) });
+  message = Notifies (record { ack = false; nonce = nonce; key_id = key; records = records_of since_start (router_at o.config router).me (clock T) });
 }
 
 -- the item of the Map-Notify-Ack that answers a notice: with the notice's fields, to its source
-abbrev pub ack_item : Opening → List Step → ℕ → Arrival → Notification → Item
+abbrev pub ack_item : Opening → List Step → ℕ → Arrival → MapNotifyValue → Item
 ack_item o T router a m = record {
   from = address_at o.config router;
   to = a.from;
-  secret = (settings o T router).secret;
+  secret = (etr_config o T router).secret;
   message = Notifies (ack_of m);
 }
 
@@ -104,22 +106,28 @@ pub record Past : Type 0 where
   pub since : ℕ → List Acceptance
 
 -- what a line with a datagram number adds to the bag
-abbrev pub posted : Opening → List Step → Past → Option Arrival → Line → List Item
-posted o T p a (lines.Sent router server _ nonce _) = register_item o T router server nonce ∷ []
-posted o T p a (lines.Accepted server _ _ _ (Some _)) = map (reply_item o.config server) (taken a (clock T))
-posted o T p (Some a) (lines.Noticed router _ _ _) = option_to_list (option_map (ack_item o T router a) (as_notify a.read))
-posted o T p a (lines.Notice server router key nonce _) = option_to_list (option_map (notice_item o T (p.since server) server router key nonce) (heard_last (router_at o.config router).me (p.since server)))
-posted o T p a (lines.Resent server router _) = option_to_list (option_and_then (λ n. slice_get p.bag n.datagram) (notice_to o T server (router_at o.config router).me))
-posted o T p a _ = []
+abbrev pub items_added : Opening → List Step → Past → Option Arrival → Line → List Item
+items_added o T p a (lines.Sent router server _ nonce _) = register_item o T router server nonce ∷ []
+items_added o T p a (lines.Accepted server _ _ _ (Some _)) =
+    map (reply_item o.config server) (acceptances_in a (clock T))
+items_added o T p (Some a) (lines.Noticed router _ _ _) =
+    option_to_list (option_map (ack_item o T router a) (as_notify a.read))
+items_added o T p a (lines.Notice server router key nonce _) =
+    option_to_list (option_map (notice_item o T (p.since server) server router key nonce)
+    (heard_last (router_at o.config router).me (p.since server)))
+items_added o T p a (lines.Resent server router _) =
+    option_to_list (option_and_then (λ n. slice_get p.bag n.datagram)
+    (notice_to o T server (router_at o.config router).me))
+items_added o T p a _ = []
 
 -- an accepted message is added for its server; a restart forgets
-abbrev pub since_after : Line → List Acceptance → ℕ → List Acceptance → List Acceptance
-since_after (lines.Accepted server _ _ _ _) new k old = if server == k then new ++ old else old
-since_after (lines.Restarted node) new k old = if node == k then [] else old
-since_after _ new k old = old
+abbrev pub since_start_after : Line → List Acceptance → ℕ → List Acceptance → List Acceptance
+since_start_after (lines.Accepted server _ _ _ _) new k old = if server == k then new ++ old else old
+since_start_after (lines.Restarted node) new k old = if node == k then [] else old
+since_start_after _ new k old = old
 
 abbrev pub past_after : Opening → List Step → Past → Option Arrival → Line → Past
-past_after o T p a line = record { bag = p.bag ++ posted o T p a line; since = λ k. since_after line (taken a (clock T)) k (p.since k) }
+past_after o T p a line = record { bag = p.bag ++ items_added o T p a line; since = λ k. since_start_after line (acceptances_in a (clock T)) k (p.since k) }
 
 abbrev pub past : Opening → List Step → Past
 past o [] = record { bag = []; since = λ k. [] }
@@ -130,5 +138,5 @@ abbrev pub bag : Opening → List Step → List Item
 bag o T = (past o T).bag
 
 -- what a server accepted since its start, the last one first
-abbrev pub since : Opening → List Step → ℕ → List Acceptance
-since o T server = (past o T).since server
+abbrev pub since_start : Opening → List Step → ℕ → List Acceptance
+since_start o T server = (past o T).since server

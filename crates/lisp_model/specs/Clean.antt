@@ -7,12 +7,14 @@ use Rattle.lisp_messages.specs.declared.fault.ReadFault.{ReadFault}
 use Rattle.lisp_messages.specs.Authentic.{is_authentic}
 use Rattle.lisp_messages.specs.Reading.{message_at}
 use Rattle.lisp_model.specs.declared.event.Event.TheVariants as events
-use Rattle.lisp_model.specs.Trace.{Happening, Step, Opening, address_at, settings, is_server}
+use Rattle.lisp_model.specs.Trace.{EventValue, Step, Opening, address_at, etr_config, is_server}
 use Rattle.lisp_model.specs.Bag.{Item, bytes_of, bag}
 
 -- the secrets of a node: of a server those of all its sites, of a router its own
 abbrev pub secrets_of : Opening → List Step → ℕ → List (List ℕ)
-secrets_of o T node = if is_server o.config node then flat_map (λ s. map (λ k. k.secret) s.keys) o.config.sites else (settings o T node).secret ∷ []
+secrets_of o T node =
+    if is_server o.config node then flat_map (λ s. map (λ k. k.secret) s.keys) o.config.sites
+    else (etr_config o T node).secret ∷ []
 
 -- the bytes are those of a datagram from and to the same addresses
 pub record IsEcho (items : List Item) (from to : Addr) (bytes : List ℕ) : Type 0 where
@@ -30,8 +32,9 @@ IsNoise bytes = (fault : ReadFault) × (message_at bytes ≡ Err fault)
 abbrev pub IsForged : List (List ℕ) → List ℕ → Type 0
 IsForged secrets bytes = (secret : List ℕ) → Contains secrets secret → is_authentic bytes secret ≡ false
 
-abbrev pub IsHarmless : Opening → List Step → Happening → Type 0
-IsHarmless o T (events.Junk to from bytes) = IsEcho (bag o T) from (address_at o.config to) bytes ⊎ (IsNoise bytes ⊎ IsForged (secrets_of o T to) bytes)
+abbrev pub IsHarmless : Opening → List Step → EventValue → Type 0
+IsHarmless o T (events.Junk to from bytes) =
+    IsEcho (bag o T) from (address_at o.config to) bytes ⊎ (IsNoise bytes ⊎ IsForged (secrets_of o T to) bytes)
 IsHarmless o T _ = Unit {0}
 
 abbrev pub Clean : Opening → List Step → Type 0

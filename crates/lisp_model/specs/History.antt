@@ -1,46 +1,47 @@
 -- History: what the routers sent (RFC 9301 section 5.6).
 use Rattle.std.specs.Prelude.{ℕ, List, [], ◌∷◌, ◌++◌, length, reverse, Option}
 use Rattle.std.specs.List.{find}
-use Rattle.lisp_records.specs.Address.{Block, block_eq}
-use Rattle.lisp_records.specs.Record.{Mapping}
-use Rattle.lisp_policy.specs.Configuration.{Configuration}
-use Rattle.lisp_messages.specs.Message.{Registration}
-use Rattle.lisp_etr.specs.Sending.{registration_of}
+use Rattle.lisp_records.specs.Address.{PrefixValue, prefix_eq}
+use Rattle.lisp_records.specs.Record.{MapRecordValue}
+use Rattle.lisp_policy.specs.Configuration.{ConfigValue}
+use Rattle.lisp_messages.specs.Message.{MapRegisterValue}
+use Rattle.lisp_etr.specs.Sending.{map_register_of}
 use Rattle.lisp_model.specs.declared.line.Line.{Line}
 use Rattle.lisp_model.specs.declared.line.Line.TheVariants as lines
-use Rattle.lisp_model.specs.Trace.{Step, Opening, router_at, settings_of, database}
+use Rattle.lisp_model.specs.Trace.{Step, Opening, router_at, etr_config_of, database}
 
 -- the record that a database has for a prefix: of several the last one
-abbrev pub record_for : List Mapping → Block → Option Mapping
-record_for database eid = find (λ m. block_eq m.eid eid) (reverse database)
+abbrev pub record_for : List MapRecordValue → PrefixValue → Option MapRecordValue
+record_for database eid = find (λ m. prefix_eq m.eid eid) (reverse database)
 
 -- a Map-Register that was sent: by whom, under which key and nonce, to which server; the database then;
 -- and after how many steps
-pub record Entry : Type 0 where
+pub record SentRegister : Type 0 where
   pub router : ℕ
   pub key : ℕ
   pub nonce : ℕ
   pub server : ℕ
-  pub database : List Mapping
+  pub database : List MapRecordValue
   pub position : ℕ
 
 -- the records of its message
-abbrev pub sent_records : Entry → List Mapping
+abbrev pub sent_records : SentRegister → List MapRecordValue
 sent_records e = e.database
 
 -- its message: these fields and these records, P and T by the router's configuration, I and M set
-abbrev pub message_of : Configuration → Entry → Registration
-message_of c e = registration_of (record (settings_of c (router_at c e.router)) { key_id = e.key }) (sent_records e) e.nonce
+abbrev pub message_of : ConfigValue → SentRegister → MapRegisterValue
+message_of c e =
+    map_register_of (record (etr_config_of c (router_at c e.router)) { key_id = e.key }) (sent_records e) e.nonce
 
 -- the record that its message has for a prefix
-abbrev pub record_in : Entry → Block → Option Mapping
+abbrev pub record_in : SentRegister → PrefixValue → Option MapRecordValue
 record_in e eid = record_for (sent_records e) eid
 
-abbrev pub entry_in : Opening → List Step → Line → List Entry
-entry_in o T (lines.Sent router server key nonce _) = record { router = router; key = key; nonce = nonce; server = server; database = database o T router; position = length T } ∷ []
-entry_in o T _ = []
+abbrev pub sent_registers_in : Opening → List Step → Line → List SentRegister
+sent_registers_in o T (lines.Sent router server key nonce _) = record { router = router; key = key; nonce = nonce; server = server; database = database o T router; position = length T } ∷ []
+sent_registers_in o T _ = []
 
 -- the entries, the last one first
-abbrev pub history : Opening → List Step → List Entry
+abbrev pub history : Opening → List Step → List SentRegister
 history o [] = []
-history o (s ∷ T) = entry_in o T s.line ++ history o T
+history o (s ∷ T) = sent_registers_in o T s.line ++ history o T

@@ -2,72 +2,72 @@
 use Rattle.std.specs.Prelude.{◌≡◌, ◌≤◌, ◌⊎◌, ℕ, ◌+◌, true, false, List, [], ◌∷◌, slice_get, Option, Some, None, Ok}
 use Rattle.lisp_records.specs.Database.{database_of}
 use Rattle.lisp_records.specs.Moment.{max_moment}
-use Rattle.lisp_records.specs.Record.{Mapping}
+use Rattle.lisp_records.specs.Record.{MapRecordValue}
 use Rattle.lisp_etr.specs.declared.start_fault.StartFault.{StartFault}
 use Rattle.lisp_etr.specs.declared.start_fault.StartFault.TheVariants.{Store, OutOfMemory}
 use Rattle.lisp_model.specs.declared.event.Event.TheVariants as events
 use Rattle.lisp_model.specs.declared.line.Line.{Line}
 use Rattle.lisp_model.specs.declared.line.Line.TheVariants as lines
 use Rattle.lisp_model.specs.declared.refusal.Refusal.TheVariants as refusals
-use Rattle.lisp_model.specs.Trace.{Happening, Step, Opening, shown, clock, fate_of, node_at, is_server, is_router}
-use Rattle.lisp_model.specs.Bag.{Item, Arrival, arrival_of, thrown, bag}
-use Rattle.lisp_model.specs.Turn.{Turn, IsServers, IsRouters, Same, HasCause, Restarts, Picks, IsNobodys}
+use Rattle.lisp_model.specs.Trace.{EventValue, Step, Opening, shown_store, clock, fate_of, node_at, is_server, is_router}
+use Rattle.lisp_model.specs.Bag.{Item, Arrival, arrival_of, junk_arrival, bag}
+use Rattle.lisp_model.specs.Context.{Context, IsAtServer, IsAtRouter, Same, HasCause, Restarts, Picks, IsAtNoNode}
 use Rattle.lisp_model.specs.Sending.{IsChanged, IsSent, RefusesToSend}
 use Rattle.lisp_model.specs.Receiving.{IsAccepted, IsDone, RefusesMessage}
 use Rattle.lisp_model.specs.Hearing.{Hears}
 use Rattle.lisp_model.specs.Notifying.{IsNotice, IsResent, RefusesNotice, RefusesToResend}
 
 -- the router is down, and says so
-pub record IsDown (t : Turn) (router named : ℕ) : Type 0 where
-  pub acts : IsRouters t router false
+pub record IsDown (t : Context) (router named : ℕ) : Type 0 where
+  pub acts : IsAtRouter t router false
   pub names : named ≡ router
   pub same : Same t
 
 -- a message arrives at the node
-abbrev pub Arrives : Turn → Arrival → Line → Type 0
+abbrev pub Arrives : Context → Arrival → Line → Type 0
 Arrives t a (lines.Accepted server router key nonce datagram) = IsAccepted t a server router key nonce datagram
 Arrives t a (lines.Done server router nonce) = IsDone t a server router nonce
 Arrives t a (lines.Counted router server key nonce) = Hears t a (lines.Counted router server key nonce)
 Arrives t a (lines.Noticed router server nonce datagram) = Hears t a (lines.Noticed router server nonce datagram)
 Arrives t a (lines.Down router) = IsDown t router router
-Arrives t a (lines.Refused node (refusals.Receive why)) = IsServers t node × RefusesMessage t a why
+Arrives t a (lines.Refused node (refusals.Receive why)) = IsAtServer t node × RefusesMessage t a why
 Arrives t a (lines.Refused node (refusals.Notify why)) = Hears t a (lines.Refused node (refusals.Notify why))
 Arrives t a _ = ⊥
 
 -- a datagram arrives at the node that has its destination address
-pub record IsDelivered (t : Turn) (k : ℕ) (line : Line) : Type 0 where
+pub record IsDelivered (t : Context) (k : ℕ) (line : Line) : Type 0 where
   pub item : Item
   pub sent : slice_get (bag t.opening t.past) k ≡ Some item
   pub there : node_at t.opening.config item.to ≡ Some t.node
   pub arrives : Arrives t (arrival_of item) line
 
 -- no node has its destination address
-pub record IsNowhere (t : Turn) (k datagram : ℕ) : Type 0 where
+pub record IsNowhere (t : Context) (k datagram : ℕ) : Type 0 where
   pub item : Item
   pub sent : slice_get (bag t.opening t.past) k ≡ Some item
   pub nobody : node_at t.opening.config item.to ≡ None
   pub names : datagram ≡ k
-  pub idle : IsNobodys t
+  pub idle : IsAtNoNode t
 
 -- bytes from outside arrive at a node
-pub record IsThrown (t : Turn) (to : ℕ) (a : Arrival) (line : Line) : Type 0 where
+pub record IsJunk (t : Context) (to : ℕ) (a : Arrival) (line : Line) : Type 0 where
   pub acts : t.node ≡ to
   pub arrives : Arrives t a line
 
 -- time passes; the clock goes to its end at most
-pub record IsTicked (t : Turn) (ms passed now : ℕ) : Type 0 where
+pub record IsTicked (t : Context) (ms passed now : ℕ) : Type 0 where
   pub names : passed ≡ ms
   pub clock : now ≡ clock t.past + ms
   pub bound : now ≤ max_moment
-  pub idle : IsNobodys t
+  pub idle : IsAtNoNode t
 
 -- what a router is given is a database
-abbrev pub Fits : Option (List Mapping) → Type 0
+abbrev pub Fits : Option (List MapRecordValue) → Type 0
 Fits None = Unit {0}
 Fits (Some db) = database_of db ≡ Ok db
 
 -- a node starts again: a server without a database, or a router
-pub record IsRestarted (t : Turn) (node pick : ℕ) (db : Option (List Mapping)) (named : ℕ) : Type 0 where
+pub record IsRestarted (t : Context) (node pick : ℕ) (db : Option (List MapRecordValue)) (named : ℕ) : Type 0 where
   pub names : named ≡ node
   pub acts : t.node ≡ node
   pub kind : ((is_server t.opening.config node ≡ true) × (db ≡ None)) ⊎ (is_router t.opening.config node ≡ true)
@@ -76,11 +76,12 @@ pub record IsRestarted (t : Turn) (node pick : ℕ) (db : Option (List Mapping))
   pub picks : Picks t pick
 
 -- a router doesn't start
-abbrev pub StartCause : Turn → StartFault → Type 0
+abbrev pub StartCause : Context → StartFault → Type 0
 StartCause t (Store fault) = HasCause t fault
 StartCause t OutOfMemory = Unit {0}
 
-pub record IsNotStarted (t : Turn) (node pick : ℕ) (db : Option (List Mapping)) (named : ℕ) (fault : StartFault) : Type 0 where
+pub record IsNotStarted (t : Context) (node pick : ℕ) (db : Option (List MapRecordValue)) (named : ℕ)
+    (fault : StartFault) : Type 0 where
   pub names : named ≡ node
   pub acts : t.node ≡ node
   pub kind : is_router t.opening.config node ≡ true
@@ -90,32 +91,41 @@ pub record IsNotStarted (t : Turn) (node pick : ℕ) (db : Option (List Mapping)
   pub cause : StartCause t fault
 
 -- what may come of an event: one row for each line
-abbrev pub MayCome : Turn → Happening → Line → Type 0
+abbrev pub MayCome : Context → EventValue → Line → Type 0
 MayCome t (events.Change router db) (lines.Changed named records) = IsChanged t router db named records
 MayCome t (events.Change router db) (lines.Down named) = IsDown t router named
-MayCome t (events.Send router server _) (lines.Sent r s key nonce datagram) = (r ≡ router) × (s ≡ server) × IsSent t router server key nonce datagram
-MayCome t (events.Send router server _) (lines.Down named) = (is_server t.opening.config server ≡ true) × IsDown t router named
-MayCome t (events.Send router server _) (lines.Refused named (refusals.Send why)) = (named ≡ router) × (is_server t.opening.config server ≡ true) × IsRouters t router true × RefusesToSend t router server why
+MayCome t (events.Send router server _) (lines.Sent r s key nonce datagram) =
+    (r ≡ router) × (s ≡ server) × IsSent t router server key nonce datagram
+MayCome t (events.Send router server _) (lines.Down named) =
+    (is_server t.opening.config server ≡ true) × IsDown t router named
+MayCome t (events.Send router server _) (lines.Refused named (refusals.Send why)) =
+    (named ≡ router) × (is_server t.opening.config server ≡ true) × IsAtRouter t router true
+    × RefusesToSend t router server why
 MayCome t (events.Deliver k _) (lines.Nowhere datagram) = IsNowhere t k datagram
 MayCome t (events.Deliver k _) line = IsDelivered t k line
-MayCome t (events.Junk to from bytes) line = IsThrown t to (thrown from bytes) line
+MayCome t (events.Junk to from bytes) line = IsJunk t to (junk_arrival from bytes) line
 MayCome t (events.Tick ms) (lines.Ticked passed now) = IsTicked t ms passed now
 MayCome t (events.Restart node pick db) (lines.Restarted named) = IsRestarted t node pick db named
-MayCome t (events.Restart node pick db) (lines.Refused named (refusals.Start fault)) = IsNotStarted t node pick db named fault
-MayCome t (events.Notice server router _) (lines.Notice s r key nonce datagram) = (s ≡ server) × (r ≡ router) × IsNotice t server router key nonce datagram
-MayCome t (events.Notice server router _) (lines.Refused named (refusals.Notice why)) = (named ≡ server) × IsServers t server × (is_router t.opening.config router ≡ true) × RefusesNotice t router why
-MayCome t (events.Resend server router) (lines.Resent s r datagram) = (s ≡ server) × (r ≡ router) × IsResent t server router datagram
-MayCome t (events.Resend server router) (lines.Refused named (refusals.Notice why)) = (named ≡ server) × IsServers t server × (is_router t.opening.config router ≡ true) × RefusesToResend t router why
+MayCome t (events.Restart node pick db) (lines.Refused named (refusals.Start fault)) =
+    IsNotStarted t node pick db named fault
+MayCome t (events.Notice server router _) (lines.Notice s r key nonce datagram) =
+    (s ≡ server) × (r ≡ router) × IsNotice t server router key nonce datagram
+MayCome t (events.Notice server router _) (lines.Refused named (refusals.Notice why)) =
+    (named ≡ server) × IsAtServer t server × (is_router t.opening.config router ≡ true) × RefusesNotice t router why
+MayCome t (events.Resend server router) (lines.Resent s r datagram) =
+    (s ≡ server) × (r ≡ router) × IsResent t server router datagram
+MayCome t (events.Resend server router) (lines.Refused named (refusals.Notice why)) =
+    (named ≡ server) × IsAtServer t server × (is_router t.opening.config router ≡ true) × RefusesToResend t router why
 MayCome t _ _ = ⊥
 
-abbrev pub turn_of : Opening → List Step → Step → Turn
-turn_of o T s = record { opening = o; past = T; node = s.actor; fate = fate_of s.event; before = shown o T s.actor; after = s.shown }
+abbrev pub context_of : Opening → List Step → Step → Context
+context_of o T s = record { opening = o; past = T; node = s.actor; fate = fate_of s.event; before = shown_store o T s.actor; after = s.shown }
 
 -- a step is legal after a trace: a row allows it, and no call lowers the count of faults or makes a store another one
 pub record Legal (o : Opening) (T : List Step) (s : Step) : Type 0 where
-  pub faults : (shown o T s.actor).faults ≤ s.shown.faults
-  pub obedient : s.shown.is_obedient ≡ (shown o T s.actor).is_obedient
-  pub row : MayCome (turn_of o T s) s.event s.line
+  pub faults : (shown_store o T s.actor).faults ≤ s.shown.faults
+  pub obedient : s.shown.is_obedient ≡ (shown_store o T s.actor).is_obedient
+  pub row : MayCome (context_of o T s) s.event s.line
 
 -- each step is legal after those before it
 abbrev pub LegalTrace : Opening → List Step → Type 0

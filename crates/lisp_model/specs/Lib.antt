@@ -1,3 +1,4 @@
+pub mod Story
 pub mod Faults
 pub mod Trace
 pub mod History
@@ -6,7 +7,7 @@ pub mod Timers
 pub mod Bag
 pub mod Accepted
 pub mod Counted
-pub mod Turn
+pub mod Context
 pub mod Sending
 pub mod Receiving
 pub mod Hearing
@@ -19,3 +20,4 @@ pub mod Answer
 pub mod Clean
 pub mod Promises
 pub mod Network
+pub mod OverTraces

@@ -7,8 +7,8 @@ use Rattle.lisp_nonces.specs.declared.fault.StoreFault.{StoreFault}
 use Rattle.lisp_nonces.specs.declared.fault.StoreFault.TheVariants as stores
 use Rattle.lisp_nonces.specs.declared.fate.Fate.{Fate}
 use Rattle.lisp_nonces.specs.Kept.{number}
-use Rattle.lisp_messages.specs.Message.{Registration, Notification, Notifies}
-use Rattle.lisp_etr.specs.Hearing.{Heard, first_notice, is_latest}
+use Rattle.lisp_messages.specs.Message.{MapRegisterValue, MapNotifyValue, Notifies}
+use Rattle.lisp_etr.specs.Hearing.{ServerNotify, first_notice, is_latest}
 use Rattle.lisp_etr.specs.Sending.{last_nonce}
 use Rattle.lisp_etr.specs.declared.notify_fault.NotifyFault.TheVariants as notifies
 use Rattle.lisp_etr.specs.declared.send_fault.SendFault.TheVariants as sends
@@ -20,14 +20,14 @@ use Rattle.lisp_model.specs.declared.line.Line.{Line}
 use Rattle.lisp_model.specs.declared.line.Line.TheVariants as lines
 use Rattle.lisp_model.specs.declared.refusal.Refusal.{Refusal}
 use Rattle.lisp_model.specs.declared.refusal.Refusal.TheVariants as refusals
-use Rattle.lisp_model.specs.Trace.{Happening, Step, Opening, is_server, is_listed, is_up, is_router}
+use Rattle.lisp_model.specs.Trace.{EventValue, Step, Opening, is_server, is_listed, is_up, is_router}
 use Rattle.lisp_model.specs.Timers.{Notice}
 use Rattle.lisp_model.specs.Bag.{Arrival, arrival_in, bag}
-use Rattle.lisp_model.specs.Counted.{latest, heard}
-use Rattle.lisp_model.specs.Turn.{Turn, HasCause, values}
+use Rattle.lisp_model.specs.Counted.{latest_nonce, notify_at}
+use Rattle.lisp_model.specs.Context.{Context, HasCause, values}
 use Rattle.lisp_model.specs.Sending.{pair_at}
 use Rattle.lisp_model.specs.Receiving.{Admits, last_in, awaiting, has_tag_for}
-use Rattle.lisp_model.specs.Legal.{turn_of}
+use Rattle.lisp_model.specs.Legal.{context_of}
 
 -- a router's or server's refusal for out of memory, or for its store
 abbrev pub cause_of : Refusal → Option StoreFault
@@ -46,7 +46,7 @@ IsRefusedFor Such _ = ⊥
 
 -- what excuses a line
 abbrev pub Excuse : Type 1
-Excuse = Turn → Line → Type 0
+Excuse = Context → Line → Type 0
 
 -- memory was refused, or a store's device failed
 abbrev pub IsExcused : Excuse
@@ -74,22 +74,24 @@ IsAbove (Some last) kept nonce = last < nonce
 IsAbove None kept nonce = (v : Option ℕ) → Contains kept v → IsBelow v nonce
 
 -- a router that is up sends to a server of its list, where every value that is kept is below 2^63 - 1
-abbrev pub MustSend : Excuse → Turn → Happening → Line → Type 0
+abbrev pub MustSend : Excuse → Context → EventValue → Line → Type 0
 MustSend Excused t event line = (router server : ℕ) (fate : Fate) → event ≡ events.Send router server fate
     → is_up t.past router ≡ true → is_listed t.opening.config router server ≡ true
-    → ((v : Option ℕ) → Contains (values t (pair_at t.opening t.past router)) v → number v < last_nonce) → (is_sent line ≡ true) ⊎ Excused t line
+    → ((v : Option ℕ) → Contains (values t (pair_at t.opening t.past router)) v → number v < last_nonce)
+    → (is_sent line ≡ true) ⊎ Excused t line
 
 -- a server accepts a Map-Register that passes all checks, with such a nonce
-abbrev pub MustAccept : Excuse → Turn → Happening → Line → Type 0
-MustAccept Excused t event line = (a : Arrival) (m : Registration)
+abbrev pub MustAccept : Excuse → Context → EventValue → Line → Type 0
+MustAccept Excused t event line = (a : Arrival) (m : MapRegisterValue)
     → arrival_in (bag t.opening t.past) event ≡ Some a → is_server t.opening.config t.node ≡ true → Admits t a m
     → IsAbove (last_in t (pair_of m)) (values t (pair_of m)) m.nonce → (is_accepted line ≡ true) ⊎ Excused t line
 
 -- a Map-Notify-Ack ends the notice that waits for it
-abbrev pub MustEnd : Excuse → Turn → Happening → Line → Type 0
-MustEnd Excused t event line = (a : Arrival) (m : Notification) (n : Notice)
+abbrev pub MustEnd : Excuse → Context → EventValue → Line → Type 0
+MustEnd Excused t event line = (a : Arrival) (m : MapNotifyValue) (n : Notice)
     → arrival_in (bag t.opening t.past) event ≡ Some a → is_server t.opening.config t.node ≡ true
-    → a.read ≡ Ok (Notifies m) → m.ack ≡ true → awaiting t a.from m ≡ Some n → has_tag_for t a n ≡ true → (is_done line ≡ true) ⊎ Excused t line
+    → a.read ≡ Ok (Notifies m) → m.ack ≡ true → awaiting t a.from m ≡ Some n → has_tag_for t a n ≡ true
+    → (is_done line ≡ true) ⊎ Excused t line
 
 abbrev pub is_counted : Line → Bool
 is_counted (lines.Counted _ _ _ _) = true
@@ -100,20 +102,24 @@ is_noticed (lines.Noticed _ _ _ _) = true
 is_noticed _ = false
 
 -- a router that is up counts a Map-Notify for its last Map-Register to that server, and answers a notice
-abbrev pub MustCount : Excuse → Turn → Happening → Line → Type 0
-MustCount Excused t event line = (a : Arrival) (h : Heard)
-    → arrival_in (bag t.opening t.past) event ≡ Some a → is_router t.opening.config t.node ≡ true → is_up t.past t.node ≡ true
-    → heard t.opening t.past t.node a ≡ Ok h → h.message.nonce < first_notice → is_latest h.message.nonce (latest t.past t.node h.server) ≡ true
+abbrev pub MustCount : Excuse → Context → EventValue → Line → Type 0
+MustCount Excused t event line = (a : Arrival) (h : ServerNotify)
+    → arrival_in (bag t.opening t.past) event ≡ Some a → is_router t.opening.config t.node ≡ true
+    → is_up t.past t.node ≡ true
+    → notify_at t.opening t.past t.node a ≡ Ok h → h.message.nonce < first_notice
+    → is_latest h.message.nonce (latest_nonce t.past t.node h.server) ≡ true
     → (is_counted line ≡ true) ⊎ Excused t line
 
-abbrev pub MustNotice : Excuse → Turn → Happening → Line → Type 0
-MustNotice Excused t event line = (a : Arrival) (h : Heard)
-    → arrival_in (bag t.opening t.past) event ≡ Some a → is_router t.opening.config t.node ≡ true → is_up t.past t.node ≡ true
-    → heard t.opening t.past t.node a ≡ Ok h → first_notice ≤ h.message.nonce → (is_noticed line ≡ true) ⊎ Excused t line
+abbrev pub MustNotice : Excuse → Context → EventValue → Line → Type 0
+MustNotice Excused t event line = (a : Arrival) (h : ServerNotify)
+    → arrival_in (bag t.opening t.past) event ≡ Some a → is_router t.opening.config t.node ≡ true
+    → is_up t.past t.node ≡ true
+    → notify_at t.opening t.past t.node a ≡ Ok h → first_notice ≤ h.message.nonce
+    → (is_noticed line ≡ true) ⊎ Excused t line
 
 pub record Must (Excused : Excuse) (o : Opening) (T : List Step) (s : Step) : Type 0 where
-  pub send : MustSend Excused (turn_of o T s) s.event s.line
-  pub accept : MustAccept Excused (turn_of o T s) s.event s.line
-  pub done : MustEnd Excused (turn_of o T s) s.event s.line
-  pub counted : MustCount Excused (turn_of o T s) s.event s.line
-  pub noticed : MustNotice Excused (turn_of o T s) s.event s.line
+  pub send : MustSend Excused (context_of o T s) s.event s.line
+  pub accept : MustAccept Excused (context_of o T s) s.event s.line
+  pub done : MustEnd Excused (context_of o T s) s.event s.line
+  pub counted : MustCount Excused (context_of o T s) s.event s.line
+  pub noticed : MustNotice Excused (context_of o T s) s.event s.line

@@ -7,7 +7,7 @@ use Rattle.lisp_records.specs.Address.{addr_eq}
 use Rattle.lisp_nonces.specs.declared.pair.Pair.{Pair}
 use Rattle.lisp_nonces.specs.declared.fault.StoreFault.{StoreFault}
 use Rattle.lisp_messages.specs.declared.fault.ReadFault.{ReadFault}
-use Rattle.lisp_messages.specs.Message.{Said, Registration, Notification, Registers, Notifies}
+use Rattle.lisp_messages.specs.Message.{MessageValue, MapRegisterValue, MapNotifyValue, Registers, Notifies}
 use Rattle.lisp_admission.specs.declared.refused.Refused.{Refused}
 use Rattle.lisp_admission.specs.declared.refused.Refused.TheVariants.{Read, NotMine, BadAuth, StoreLoad, Replay, OutOfMemory, StoreSave, NoNotice}
 use Rattle.lisp_admission.specs.Nonces.{IsBelow}
@@ -17,30 +17,31 @@ use Rattle.lisp_admission.specs.Checks.{signed_by}
 use Rattle.lisp_messages.specs.Reading.{HasHead, HasRecords}
 use Rattle.lisp_model.specs.Held.{last_of}
 use Rattle.lisp_model.specs.Timers.{Notice, notices}
-use Rattle.lisp_model.specs.Bag.{Item, Arrival, bag, since}
-use Rattle.lisp_model.specs.Turn.{Turn, IsServers, values, values_after, Same, SameOthers, MaySave, Loads, LoadFails, SaveFails, IsBase}
+use Rattle.lisp_model.specs.Bag.{Item, Arrival, bag, since_start}
+use Rattle.lisp_model.specs.Context.{Context, IsAtServer, values, values_after, Same, SameOthers, MaySave, Loads, LoadFails, SaveFails, IsBase}
 
 -- the last nonce of a pair since the server's start
-abbrev pub last_in : Turn → Pair → Option ℕ
-last_in t pair = last_of pair (since t.opening t.past t.node)
+abbrev pub last_in : Context → Pair → Option ℕ
+last_in t pair = last_of pair (since_start t.opening t.past t.node)
 
 -- a Map-Register arrives that passes all checks up to its nonce
-pub record Admits (t : Turn) (a : Arrival) (m : Registration) : Type 0 where
+pub record Admits (t : Context) (a : Arrival) (m : MapRegisterValue) : Type 0 where
   pub read : a.read ≡ Ok (Registers m)
   pub secret : List ℕ
   pub checks : secret_under t.opening.config.sites a.bytes m ≡ Ok secret
 
 -- its nonce is above a base, which was loaded where it isn't in memory
-pub record IsFresh (t : Turn) (m : Registration) : Type 0 where
+pub record IsFresh (t : Context) (m : MapRegisterValue) : Type 0 where
   pub base : Option ℕ
   pub counts : IsBase (last_in t (pair_of m)) (values t (pair_of m)) base
   pub above : IsBelow base m.nonce
   pub loads : Loads t (last_in t (pair_of m))
 
 -- it is accepted: from now on its nonce alone is kept; a reply goes out where bit M asks for one
-pub record IsAccepted (t : Turn) (a : Arrival) (server : ℕ) (router : RouterId) (key nonce : ℕ) (datagram : Option ℕ) : Type 0 where
-  pub acts : IsServers t server
-  pub message : Registration
+pub record IsAccepted (t : Context) (a : Arrival) (server : ℕ) (router : RouterId) (key nonce : ℕ) (datagram : Option ℕ)
+    : Type 0 where
+  pub acts : IsAtServer t server
+  pub message : MapRegisterValue
   pub admits : Admits t a message
   pub who : router ≡ router_of message
   pub under : key ≡ message.key_id
@@ -56,20 +57,21 @@ abbrev pub went_to : Addr → Option Item → Bool
 went_to from None = false
 went_to from (Some i) = addr_eq i.to from
 
-abbrev pub awaits : Turn → Addr → Notification → Notice → Bool
-awaits t from m n = went_to from (slice_get (bag t.opening t.past) n.datagram) && (n.key == m.key_id) && (n.nonce == m.nonce)
+abbrev pub awaits : Context → Addr → MapNotifyValue → Notice → Bool
+awaits t from m n =
+    went_to from (slice_get (bag t.opening t.past) n.datagram) && (n.key == m.key_id) && (n.nonce == m.nonce)
 
-abbrev pub awaiting : Turn → Addr → Notification → Option Notice
+abbrev pub awaiting : Context → Addr → MapNotifyValue → Option Notice
 awaiting t from m = find (awaits t from m) (notices t.opening t.past t.node)
 
 -- the tag of what arrives is that of the notice's key
-abbrev pub has_tag_for : Turn → Arrival → Notice → Bool
+abbrev pub has_tag_for : Context → Arrival → Notice → Bool
 has_tag_for t a n = signed_by (secret_at t.opening.config.sites n.router.site n.key) a.bytes
 
 -- a Map-Notify-Ack ends a notice
-pub record IsDone (t : Turn) (a : Arrival) (server : ℕ) (router : RouterId) (nonce : ℕ) : Type 0 where
-  pub acts : IsServers t server
-  pub message : Notification
+pub record IsDone (t : Context) (a : Arrival) (server : ℕ) (router : RouterId) (nonce : ℕ) : Type 0 where
+  pub acts : IsAtServer t server
+  pub message : MapNotifyValue
   pub read : a.read ≡ Ok (Notifies message)
   pub ack : message.ack ≡ true
   pub notice : Notice
@@ -80,31 +82,31 @@ pub record IsDone (t : Turn) (a : Arrival) (server : ℕ) (router : RouterId) (n
   pub same : Same t
 
 -- a Map-Notify-Ack is refused: no notice waits for it, or its tag is wrong
-abbrev pub RefusesAck : Turn → Arrival → Option Notice → Refused → Type 0
+abbrev pub RefusesAck : Context → Arrival → Option Notice → Refused → Type 0
 RefusesAck t a None why = why ≡ NoNotice
 RefusesAck t a (Some notice) why = (has_tag_for t a notice ≡ false) × (why ≡ BadAuth)
 
 -- a Map-Notify is for routers
-abbrev pub FailsNotify : Turn → Arrival → Notification → Bool → Refused → Type 0
+abbrev pub FailsNotify : Context → Arrival → MapNotifyValue → Bool → Refused → Type 0
 FailsNotify t a m true why = RefusesAck t a (awaiting t a.from m) why
 FailsNotify t a m false why = why ≡ NotMine
 
 -- the first check that a message fails before its nonce is looked at
-abbrev pub FailsCheck : Turn → Arrival → Result Said ReadFault → Refused → Type 0
+abbrev pub FailsCheck : Context → Arrival → Result MessageValue ReadFault → Refused → Type 0
 FailsCheck t a (Err fault) why = why ≡ Read fault
 FailsCheck t a (Ok (Registers m)) why = secret_under t.opening.config.sites a.bytes m ≡ Err why
 FailsCheck t a (Ok (Notifies m)) why = FailsNotify t a m m.ack why
 
 -- the base can't be loaded
-pub record NotLoaded (t : Turn) (a : Arrival) (fault : StoreFault) : Type 0 where
-  pub message : Registration
+pub record NotLoaded (t : Context) (a : Arrival) (fault : StoreFault) : Type 0 where
+  pub message : MapRegisterValue
   pub admits : Admits t a message
   pub unknown : last_in t (pair_of message) ≡ None
   pub fails : LoadFails t fault
 
 -- the nonce isn't above its base
-pub record Replays (t : Turn) (a : Arrival) (saved : ℕ) : Type 0 where
-  pub message : Registration
+pub record Replays (t : Context) (a : Arrival) (saved : ℕ) : Type 0 where
+  pub message : MapRegisterValue
   pub admits : Admits t a message
   pub counts : IsBase (last_in t (pair_of message)) (values t (pair_of message)) (Some saved)
   pub loads : Loads t (last_in t (pair_of message))
@@ -112,21 +114,21 @@ pub record Replays (t : Turn) (a : Arrival) (saved : ℕ) : Type 0 where
   pub same : Same t
 
 -- the nonce can't be saved
-pub record NotSaved (t : Turn) (a : Arrival) (fault : StoreFault) : Type 0 where
-  pub message : Registration
+pub record NotSaved (t : Context) (a : Arrival) (fault : StoreFault) : Type 0 where
+  pub message : MapRegisterValue
   pub admits : Admits t a message
   pub fresh : IsFresh t message
   pub fails : SaveFails t (pair_of message) message.nonce fault
 
 -- a Map-Register that is otherwise accepted: its rows and its reply take memory
-pub record IsToAccept (t : Turn) (a : Arrival) : Type 0 where
-  pub message : Registration
+pub record IsToAccept (t : Context) (a : Arrival) : Type 0 where
+  pub message : MapRegisterValue
   pub admits : Admits t a message
   pub fresh : IsFresh t message
 
 -- the first reason that applies: the checks; the base; the nonce; memory, which may run out in reading
 -- records too, and then comes first; the store
-abbrev pub RefusesMessage : Turn → Arrival → Refused → Type 0
+abbrev pub RefusesMessage : Context → Arrival → Refused → Type 0
 RefusesMessage t a (StoreLoad fault) = NotLoaded t a fault
 RefusesMessage t a (Replay saved) = Replays t a saved
 RefusesMessage t a OutOfMemory = HasHead a.bytes × (HasRecords a.bytes ⊎ IsToAccept t a) × Same t

@@ -4,7 +4,7 @@ use Rattle.std.specs.List.{find, filter}
 use Rattle.lisp_records.specs.declared.router.RouterId.{RouterId}
 use Rattle.lisp_records.specs.Moment.{minute}
 use Rattle.lisp_records.specs.Router.{router_eq}
-use Rattle.lisp_policy.specs.Configuration.{Configuration}
+use Rattle.lisp_policy.specs.Configuration.{ConfigValue}
 use Rattle.lisp_etr.specs.Timers.{due_after}
 use Rattle.lisp_admission.specs.NoticeTimer.{due_after as notice_due_after, has_come}
 use Rattle.lisp_model.specs.declared.line.Line.{Line}
@@ -13,23 +13,25 @@ use Rattle.lisp_model.specs.Trace.{Step, Opening, clock, router_at}
 
 -- a round of a router's Map-Registers to one server: when the first is due, and the moments of those that
 -- were sent, the last one first
-pub record Sends : Type 0 where
+pub record RoundTimes : Type 0 where
   pub begin : ℕ
   pub moments : List ℕ
 
 -- a new round begins at the start and at a change; and a minute after the last send that is counted
-abbrev pub renewed : Sends → List ℕ → Sends
-renewed old [] = old
-renewed old (last ∷ _) = record { begin = last + minute; moments = [] }
+abbrev pub with_renewal : RoundTimes → List ℕ → RoundTimes
+with_renewal old [] = old
+with_renewal old (last ∷ _) = record { begin = last + minute; moments = [] }
 
-abbrev pub round_after : Line → ℕ → ℕ → ℕ → Sends → Sends
+abbrev pub round_after : Line → ℕ → ℕ → ℕ → RoundTimes → RoundTimes
 round_after (lines.Changed router _) now r s old = if router == r then record { begin = now; moments = [] } else old
 round_after (lines.Restarted node) now r s old = if node == r then record { begin = now; moments = [] } else old
-round_after (lines.Sent router server _ _ _) now r s old = if router == r && server == s then record old { moments = now ∷ old.moments } else old
-round_after (lines.Counted router server _ _) now r s old = if router == r && server == s then renewed old old.moments else old
+round_after (lines.Sent router server _ _ _) now r s old =
+    if router == r && server == s then record old { moments = now ∷ old.moments } else old
+round_after (lines.Counted router server _ _) now r s old =
+    if router == r && server == s then with_renewal old old.moments else old
 round_after _ now r s old = old
 
-abbrev pub round : List Step → ℕ → ℕ → Sends
+abbrev pub round : List Step → ℕ → ℕ → RoundTimes
 round [] r s = record { begin = 0; moments = [] }
 round (s ∷ T) r server = round_after s.line (clock T) r server (round T r server)
 
@@ -47,17 +49,18 @@ pub record Notice : Type 0 where
   pub moments : List ℕ
 
 -- the notices to other routers
-abbrev pub without : RouterId → List Notice → List Notice
-without router notices = filter (λ n. not (router_eq n.router router)) notices
+abbrev pub notices_to_others : RouterId → List Notice → List Notice
+notices_to_others router notices = filter (λ n. not (router_eq n.router router)) notices
 
-abbrev pub sent_again : RouterId → ℕ → Notice → Notice
-sent_again router now n = if router_eq n.router router then record n { moments = now ∷ n.moments } else n
+abbrev pub resent_at : RouterId → ℕ → Notice → Notice
+resent_at router now n = if router_eq n.router router then record n { moments = now ∷ n.moments } else n
 
 -- a notice stands from its line until it is acknowledged, another one to its router, or a restart
-abbrev pub notices_after : Configuration → Line → ℕ → ℕ → List Notice → List Notice
-notices_after c (lines.Notice server router key nonce datagram) now k old = if server == k then record { router = (router_at c router).me; key = key; nonce = nonce; datagram = datagram; moments = now ∷ [] } ∷ without (router_at c router).me old else old
-notices_after c (lines.Resent server router _) now k old = if server == k then map (sent_again (router_at c router).me now) old else old
-notices_after c (lines.Done server router _) now k old = if server == k then without router old else old
+abbrev pub notices_after : ConfigValue → Line → ℕ → ℕ → List Notice → List Notice
+notices_after c (lines.Notice server router key nonce datagram) now k old = if server == k then record { router = (router_at c router).me; key = key; nonce = nonce; datagram = datagram; moments = now ∷ [] } ∷ notices_to_others (router_at c router).me old else old
+notices_after c (lines.Resent server router _) now k old =
+    if server == k then map (resent_at (router_at c router).me now) old else old
+notices_after c (lines.Done server router _) now k old = if server == k then notices_to_others router old else old
 notices_after c (lines.Restarted node) now k old = if node == k then [] else old
 notices_after c _ now k old = old
 

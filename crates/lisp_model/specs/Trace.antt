@@ -7,13 +7,13 @@ use Rattle.std.specs.Option.{unwrap_or}
 use Rattle.lisp_records.specs.declared.address.Addr.{Addr}
 use Rattle.lisp_records.specs.declared.address.Addr.TheVariants.{V4}
 use Rattle.lisp_records.specs.Address.{addr_eq}
-use Rattle.lisp_records.specs.Record.{Mapping}
-use Rattle.lisp_policy.specs.Site.{SiteEntry}
-use Rattle.lisp_policy.specs.Configuration.{Configuration, Router}
+use Rattle.lisp_records.specs.Record.{MapRecordValue}
+use Rattle.lisp_policy.specs.Site.{SiteValue}
+use Rattle.lisp_policy.specs.Configuration.{ConfigValue, RouterEntryValue}
 use Rattle.lisp_nonces.specs.Kept.{Kept}
 use Rattle.lisp_nonces.specs.declared.fate.Fate.{Fate}
 use Rattle.lisp_nonces.specs.declared.fate.Fate.TheVariants.{Done}
-use Rattle.lisp_etr.specs.Config.{Settings}
+use Rattle.lisp_etr.specs.Config.{EtrConfigValue}
 use Rattle.lisp_admission.specs.Checks.{secret_at as known_secret}
 use Rattle.lisp_model.specs.declared.event.Event.{Event}
 use Rattle.lisp_model.specs.declared.event.Event.TheVariants as events
@@ -21,88 +21,88 @@ use Rattle.lisp_model.specs.declared.line.Line.{Line}
 use Rattle.lisp_model.specs.declared.line.Line.TheVariants as lines
 
 -- an event, wherever its parts lie in memory
-abbrev pub Happening : Type 0
-Happening = Event (Unit {0})
+abbrev pub EventValue : Type 0
+EventValue = Event (Unit {0})
 
-abbrev pub happening : {A : Type 0} → Event A → Happening
-happening (events.Change router db) = events.Change router db
-happening (events.Send router server fate) = events.Send router server fate
-happening (events.Deliver k fate) = events.Deliver k fate
-happening (events.Junk to from bytes) = events.Junk to from bytes
-happening (events.Tick ms) = events.Tick ms
-happening (events.Restart node pick db) = events.Restart node pick db
-happening (events.Notice server router fate) = events.Notice server router fate
-happening (events.Resend server router) = events.Resend server router
+abbrev pub event_value : {A : Type 0} → Event A → EventValue
+event_value (events.Change router db) = events.Change router db
+event_value (events.Send router server fate) = events.Send router server fate
+event_value (events.Deliver k fate) = events.Deliver k fate
+event_value (events.Junk to from bytes) = events.Junk to from bytes
+event_value (events.Tick ms) = events.Tick ms
+event_value (events.Restart node pick db) = events.Restart node pick db
+event_value (events.Notice server router fate) = events.Notice server router fate
+event_value (events.Resend server router) = events.Resend server router
 
 -- what a store shows: its lists; how often its device failed; and whether it does what it is armed with
-pub record Shown : Type 0 where
+pub record ShownStore : Type 0 where
   pub kept : Kept
   pub faults : ℕ
   pub is_obedient : Bool
 
 -- an event and its line; the node that acted; and what the store of that node shows afterwards
 pub record Step : Type 0 where
-  pub event : Happening
+  pub event : EventValue
   pub line : Line
   pub actor : ℕ
-  pub shown : Shown
+  pub shown : ShownStore
 
 -- how a network begins: its configuration, and what the store of each node shows. The steps after that
 -- are listed with the last one first
 pub record Opening : Type 0 where
-  pub config : Configuration
-  pub stores : List Shown
+  pub config : ConfigValue
+  pub stores : List ShownStore
 
-abbrev pub is_server : Configuration → ℕ → Bool
+abbrev pub is_server : ConfigValue → ℕ → Bool
 is_server c node = nat_lt node (length c.servers)
 
-abbrev pub is_router : Configuration → ℕ → Bool
+abbrev pub is_router : ConfigValue → ℕ → Bool
 is_router c node = nat_le (length c.servers) node && nat_lt node (length c.servers + length c.routers)
 
 -- the addresses of the nodes, and the first node with an address
-abbrev pub addresses : Configuration → List Addr
+abbrev pub addresses : ConfigValue → List Addr
 addresses c = map (λ s. s.address) c.servers ++ map (λ r. r.address) c.routers
 
-abbrev pub address_at : Configuration → ℕ → Addr
+abbrev pub address_at : ConfigValue → ℕ → Addr
 address_at c node = slice_index_or (addresses c) node (V4 [])
 
-abbrev pub node_at : Configuration → Addr → Option ℕ
+abbrev pub node_at : ConfigValue → Addr → Option ℕ
 node_at c address = position (λ a. addr_eq a address) (addresses c)
 
 -- the router with a number; where there is none, one that registers nothing with nobody
-abbrev pub router_at : Configuration → ℕ → Router
+abbrev pub router_at : ConfigValue → ℕ → RouterEntryValue
 router_at c node = slice_index_or c.routers (node - length c.servers) (record { name = []; address = V4 []; me = record { site = 0; xtr = [] }; key_id = 0; servers = []; proxy = false; use_ttl = false; nonce_block = 1; database = [] })
 
 -- the secret of a key of a site
-abbrev pub secret_at : List SiteEntry → ℕ → ℕ → List ℕ
+abbrev pub secret_at : List SiteValue → ℕ → ℕ → List ℕ
 secret_at sites site key = unwrap_or (known_secret sites site key) []
 
 -- what a router is configured with
-abbrev pub settings_of : Configuration → Router → Settings
-settings_of c r = record { me = r.me; key_id = r.key_id; secret = secret_at c.sites r.me.site r.key_id; servers = map (address_at c) r.servers; proxy = r.proxy; use_ttl = r.use_ttl; nonce_block = r.nonce_block }
+abbrev pub etr_config_of : ConfigValue → RouterEntryValue → EtrConfigValue
+etr_config_of c r = record { me = r.me; key_id = r.key_id; secret = secret_at c.sites r.me.site r.key_id; servers = map (address_at c) r.servers; proxy = r.proxy; use_ttl = r.use_ttl; nonce_block = r.nonce_block }
 
 -- a router's key, secret and the rest of its settings after a trace: those of the configuration
-abbrev pub settings : Opening → List Step → ℕ → Settings
-settings o T r = settings_of o.config (router_at o.config r)
+abbrev pub etr_config : Opening → List Step → ℕ → EtrConfigValue
+etr_config o T r = etr_config_of o.config (router_at o.config r)
 
 -- the server is one of those that the router registers with
-abbrev pub is_listed : Configuration → ℕ → ℕ → Bool
+abbrev pub is_listed : ConfigValue → ℕ → ℕ → Bool
 is_listed c router server = list_any (λ s. s == server) (router_at c router).servers
 
 -- what a node's store shows
-abbrev pub shown : Opening → List Step → ℕ → Shown
-shown o [] node = slice_index_or o.stores node (record { kept = empty; faults = 0; is_obedient = false })
-shown o (s ∷ T) node = if s.actor == node then s.shown else shown o T node
+abbrev pub shown_store : Opening → List Step → ℕ → ShownStore
+shown_store o [] node = slice_index_or o.stores node (record { kept = empty; faults = 0; is_obedient = false })
+shown_store o (s ∷ T) node = if s.actor == node then s.shown else shown_store o T node
 
 -- what becomes of the calls that an event makes of a store
-abbrev pub fate_of : Happening → Fate
+abbrev pub fate_of : EventValue → Fate
 fate_of (events.Send router server fate) = fate
 fate_of (events.Deliver k fate) = fate
 fate_of (events.Notice server router fate) = fate
 fate_of _ = Done
 
 -- the moment, in ms: the sum of the ticks
-abbrev pub time_of : Happening → ℕ
+abbrev pub time_of : EventValue → ℕ
 time_of (events.Tick ms) = ms
 time_of _ = 0
 
@@ -111,7 +111,7 @@ clock [] = 0
 clock (s ∷ T) = clock T + time_of s.event
 
 -- a router is down after a restart that was refused, until one succeeds
-abbrev pub up_after : Happening → Line → ℕ → Bool → Bool
+abbrev pub up_after : EventValue → Line → ℕ → Bool → Bool
 up_after (events.Restart _ _ _) (lines.Refused node _) r old = if node == r then false else old
 up_after (events.Restart _ _ _) (lines.Restarted node) r old = if node == r then true else old
 up_after _ _ r old = old
@@ -122,11 +122,11 @@ is_up (s ∷ T) r = up_after s.event s.line r (is_up T r)
 
 -- a router's database: the last one that it was given while it was up or by a restart, or that of the
 -- configuration
-abbrev pub database_after : Happening → Line → ℕ → List Mapping → List Mapping
+abbrev pub database_after : EventValue → Line → ℕ → List MapRecordValue → List MapRecordValue
 database_after (events.Change router db) (lines.Changed _ _) r old = if router == r then db else old
 database_after (events.Restart node _ (Some db)) _ r old = if node == r then db else old
 database_after _ _ r old = old
 
-abbrev pub database : Opening → List Step → ℕ → List Mapping
+abbrev pub database : Opening → List Step → ℕ → List MapRecordValue
 database o [] r = (router_at o.config r).database
 database o (s ∷ T) r = database_after s.event s.line r (database o T r)

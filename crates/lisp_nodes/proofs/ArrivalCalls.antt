@@ -5,9 +5,9 @@ use Rattle.lisp_records.specs.declared.address.Addr.{Addr}
 use Rattle.lisp_nonces.specs.declared.fate.Fate.{Fate}
 use Rattle.lisp_nonces.specs.declared.fault.StoreFault.{StoreFault}
 use Rattle.lisp_nonces.specs.declared.fault.StoreFault.TheVariants as stores
-use Rattle.lisp_etr.specs.Config.{Settings}
+use Rattle.lisp_etr.specs.Config.{EtrConfigValue}
 use Rattle.lisp_etr.specs.Etr.{EtrState}
-use Rattle.lisp_etr.specs.Hearing.{after}
+use Rattle.lisp_etr.specs.Hearing.{etr_after}
 use Rattle.lisp_etr.specs.declared.notify_fault.NotifyFault.{NotifyFault}
 use Rattle.lisp_etr.specs.declared.notify_fault.NotifyFault.TheVariants as notifies
 use Rattle.lisp_etr.specs.declared.seen.Seen.{Seen}
@@ -19,39 +19,42 @@ use Rattle.lisp_server.specs.declared.took.Took.TheVariants.{Accepted, NoticeDon
 use Rattle.lisp_model.specs.declared.line.Line.{Line}
 use Rattle.lisp_model.specs.declared.refusal.Refusal.TheVariants as refusals
 use Rattle.lisp_model.specs.Memory.{MayTell, is_node_memory, is_store_memory}
-use Rattle.lisp_refinement.specs.World.{Posted, RouterNode, RouterCore, WorldState}
+use Rattle.lisp_refinement.specs.World.{DatagramValue, RouterNodeState, RouterCoreState, WorldState}
 use Rattle.lisp_refinement.specs.Calls.{config_of}
-use Rattle.lisp_refinement.specs.Turns.{address_of, server_line, router_line, acknowledges, HearsWhileUp, HearsAt}
+use Rattle.lisp_refinement.specs.Events.{address_of, server_line, router_line, acknowledges, NodeHears, RouterHears}
 
 -- what a router hears leaves its configuration
 module _ {A : Type 0} where
-  same_config : (e : EtrState) (answer : Result (Seen A) NotifyFault) → (after e answer).config ≡ e.config
+  same_config : (e : EtrState) (answer : Result (Seen A) NotifyFault) → (etr_after e answer).config ≡ e.config
   same_config e (Ok (Counted place nonce)) = refl
   same_config e (Ok (Notice place nonce records bytes)) = refl
   same_config e (Err fault) = refl
 
 -- a router that is up was given bytes: its line and its answer are those of the turn
-module _ {A : Type 0} (old : WorldState) (node : ℕ) (before left : RouterNode) (fate : Fate) (from : Addr) (bytes : List ℕ) (answer : Result (Seen A) NotifyFault)
-    (call : HearsWhileUp before left fate from bytes answer) (line : Line) (more : List Posted) where
+module _ {A : Type 0} (old : WorldState) (node : ℕ) (before left : RouterNodeState) (fate : Fate) (from : Addr) (bytes : List ℕ) (answer : Result (Seen A) NotifyFault)
+    (call : NodeHears before left fate from bytes answer) (line : Line) (more : List DatagramValue) where
   same_key : (config_of left.core).key_id ≡ call.etr.config.key_id
-  same_key = ap (λ (n : RouterNode). (config_of n.core).key_id) call.is
+  same_key = ap (λ (n : RouterNodeState). (config_of n.core).key_id) call.is
       ∙ ap (λ (e : EtrState). e.config.key_id) call.call.after
-      ∙ ap (λ (c : Settings). c.key_id) (same_config call.etr answer)
+      ∙ ap (λ (c : EtrConfigValue). c.key_id) (same_config call.etr answer)
 
-  pub hears_at : ((e : EtrState) → e.config.key_id ≡ (config_of left.core).key_id → line ≡ router_line node (length old.bag) left.servers e answer)
-      → more ≡ acknowledges (address_of old node) from answer → HearsAt A old node before left fate from bytes before.core line more
-  hears_at said posts =
-      subst (λ (core : RouterCore). HearsAt A old node before left fate from bytes core line more) (sym call.was)
+  pub hears_at : (next : ℕ) (servers : List ℕ) (key : ℕ) → line ≡ router_line node next servers key answer
+      → length old.bag ≡ next → servers ≡ left.servers → key ≡ (config_of left.core).key_id
+      → more ≡ acknowledges (address_of old node) from answer → RouterHears A old node before left fate from bytes before.core line more
+  hears_at next servers key said number all its posts =
+      subst (λ (core : RouterCoreState). RouterHears A old node before left fate from bytes core line more) (sym call.was)
       (record {
-        etr = call.left;
-        is = call.is;
-        armed = call.armed;
-        uses = call.uses;
         answer = answer;
-        call = call.call;
-        said = said call.etr (sym same_key) ∙ ap (λ (n : RouterNode). router_line node (length old.bag) n.servers call.etr answer) call.is;
+        hears = call;
+        said = said ∙ (λ i. router_line node (sym number i) (same_servers i) (same_id i) answer);
         posts = posts;
       })
+    where
+      same_servers : servers ≡ before.servers
+      same_servers = all ∙ ap (λ (n : RouterNodeState). n.servers) call.is
+
+      same_id : key ≡ call.etr.config.key_id
+      same_id = its ∙ same_key
 
 -- a node's line says out of memory only where its own may be refused, or its store's
 module _ (node_may : Type 0) where
@@ -83,11 +86,11 @@ module _ (node_may store_may : Type 0) (line : Line) where
   tells said same = subst (MayTell node_may store_may) (sym same)
 
   module _ {A : Type 0} (node next : ℕ) where
-    pub router_tells : (servers : List ℕ) (e : EtrState) (answer : Result (Seen A) NotifyFault) → line ≡ router_line node next servers e answer
+    pub router_tells : (servers : List ℕ) (key : ℕ) (answer : Result (Seen A) NotifyFault) → line ≡ router_line node next servers key answer
         → (IsErrOf answer notifies.OutOfMemory → node_may) → MayTell node_may store_may line
-    router_tells servers e (Ok (Counted place nonce)) said may = tells _ said tt
-    router_tells servers e (Ok (Notice place nonce records bytes)) said may = tells _ said tt
-    router_tells servers e (Err fault) said may = tells _ said (notify_tells node_may fault (λ is. may (ap Err is)), λ out. absurd cc)
+    router_tells servers key (Ok (Counted place nonce)) said may = tells _ said tt
+    router_tells servers key (Ok (Notice place nonce records bytes)) said may = tells _ said tt
+    router_tells servers key (Err fault) said may = tells _ said (notify_tells node_may fault (λ is. may (ap Err is)), λ out. absurd cc)
 
     pub server_tells : (answer : Result (Took A) Refused) → line ≡ server_line node next answer
         → (IsErrOf answer refuseds.OutOfMemory → node_may)

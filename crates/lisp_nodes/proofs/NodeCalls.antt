@@ -17,7 +17,7 @@ use Rattle.lisp_etr.specs.declared.notify_fault.NotifyFault.{NotifyFault}
 use Rattle.lisp_etr.specs.declared.notify_fault.NotifyFault.TheVariants as notify_faults
 use Rattle.lisp_etr.specs.declared.send_fault.SendFault.{SendFault}
 use Rattle.lisp_etr.specs.declared.send_fault.SendFault.TheVariants.{NoServer, NonceSpent, OutOfMemory, Store}
-use Rattle.lisp_refinement.specs.Calls.{IsWhy}
+use Rattle.lisp_refinement.specs.Calls.{IsSendFaultOf}
 
 -- a call that isn't refused as `NoServer` is for a Map-Server that is there
 pub server_there : {X : Type 0} (r : Result X SendFault) (count place : ℕ) → r ≢ Err NoServer → ((r ≡ Err NoServer) ↔ (count ≤ place)) → place < count
@@ -41,7 +41,7 @@ module _ (X : Type 0) (e : EtrState) (place : ℕ) where
   refused_as fault = Err fault
 
   pub why_not_sent : (fault : SendFault) → ((refused_as fault ≡ Err NoServer) ↔ (length e.config.servers ≤ place))
-      → ((refused_as fault ≡ Err NonceSpent) ↔ ((place < length e.config.servers) × (last_nonce ≤ e.last))) → IsWhy e place fault
+      → ((refused_as fault ≡ Err NonceSpent) ↔ ((place < length e.config.servers) × (last_nonce ≤ e.last))) → IsSendFaultOf e place fault
   why_not_sent NoServer none spent = none.0 refl
   why_not_sent NonceSpent none spent = spent.0 refl
   why_not_sent OutOfMemory none spent =

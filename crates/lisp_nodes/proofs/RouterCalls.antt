@@ -3,27 +3,27 @@ use Rattle.std.proofs.Common.{◌≡◌, ℕ, ◌+◌, ◌<◌, true, false, tru
 use Rattle.std.specs.Prelude.{IsSome, slice_set}
 use Rattle.std.proofs.lemmas.List.{append-nil}
 use Rattle.std.proofs.lemmas.Option.{slice_get_read}
-use Rattle.lisp_records.specs.Record.{Mapping}
+use Rattle.lisp_records.specs.Record.{MapRecordValue}
 use Rattle.lisp_messages.specs.Head.{head_at}
 use Rattle.lisp_messages.specs.Message.{Registers}
 use Rattle.lisp_nonces.specs.declared.fate.Fate.{Fate}
 use Rattle.lisp_nonces.specs.Store.{StoreState}
 use Rattle.lisp_etr.specs.Etr.{EtrState}
-use Rattle.lisp_etr.specs.Sending.{registration_of}
+use Rattle.lisp_etr.specs.Sending.{map_register_of}
 use Rattle.lisp_etr.specs.declared.send_fault.SendFault.{SendFault}
 use Rattle.lisp_model.specs.declared.line.Line.{Line}
 use Rattle.lisp_model.specs.declared.line.Line.TheVariants as lines
-use Rattle.lisp_refinement.specs.World.{Posted, RouterNode, RouterCore, Up, Down, WorldState}
-use Rattle.lisp_refinement.specs.Calls.{IsSentTo}
-use Rattle.lisp_refinement.specs.Turns.{RouterActs, is_up, change_line, SendsWhileUp, SaysSend, SendsAt}
+use Rattle.lisp_refinement.specs.World.{DatagramValue, RouterNodeState, RouterCoreState, Up, Down, WorldState}
+use Rattle.lisp_refinement.specs.Calls.{CoreSends}
+use Rattle.lisp_refinement.specs.Events.{RouterActs, is_up, change_line, NodeSends, SaysSendAnswer, RouterSends}
 use Rattle.lisp_refinement.proofs.Heads.{head_written}
 
 -- a network with a bag is itself where that is its bag
-pub same_bag : (w : WorldState) (bag : List Posted) → w.bag ≡ bag → w ≡ record w { bag = bag }
-same_bag w bag same = ap (λ (b : List Posted). record w { bag = b }) same
+pub same_bag : (w : WorldState) (bag : List DatagramValue) → w.bag ≡ bag → w ≡ record w { bag = bag }
+same_bag w bag same = ap (λ (b : List DatagramValue). record w { bag = b }) same
 
 -- a router that was read by its place acted
-abbrev pub acted : (old new : WorldState) (router place : ℕ) (more : List Posted) (before after : RouterNode) → (router ≡ length old.servers + place) × (place < length old.routers)
+abbrev pub acted : (old new : WorldState) (router place : ℕ) (more : List DatagramValue) (before after : RouterNodeState) → (router ≡ length old.servers + place) × (place < length old.routers)
     → before ≡ get_or old.routers place before → new ≡ record old { bag = old.bag ++ more; routers = slice_set old.routers place after } → RouterActs old new router more
 acted old new router place more before after there read left = record {
   place = place;
@@ -35,38 +35,38 @@ acted old new router place more before after there read left = record {
 }
 
 -- the router at a place changed, and nothing was sent
-abbrev pub router_changed : (old : WorldState) (node place : ℕ) (before after : RouterNode)
+abbrev pub router_changed : (old : WorldState) (node place : ℕ) (before after : RouterNodeState)
     → node ≡ length old.servers + place → place < length old.routers → before ≡ get_or old.routers place before
     → RouterActs old (record old { routers = slice_set old.routers place after }) node []
 router_changed old node place before after number within at =
-    acted old _ node place [] before after (number, within) at (ap (λ (bag : List Posted). record old { bag = bag; routers = slice_set old.routers place after }) (sym (append-nil old.bag)))
+    acted old _ node place [] before after (number, within) at (ap (λ (bag : List DatagramValue). record old { bag = bag; routers = slice_set old.routers place after }) (sym (append-nil old.bag)))
 
 -- the line of a router that is given a database while it is up
-pub line_up : (router : ℕ) (db : List Mapping) (core : RouterCore) → is_up core ≡ true → lines.Changed router (length db) ≡ change_line router db core
+pub line_up : (router : ℕ) (db : List MapRecordValue) (core : RouterCoreState) → is_up core ≡ true → lines.Changed router (length db) ≡ change_line router db core
 line_up router db (Up e) up = refl
 line_up router db (Down config database) up = absurd (true≢false (sym up))
 
 -- and of one that is down
-pub line_down : (router : ℕ) (db : List Mapping) (core : RouterCore) → is_up core ≡ false → lines.Down router ≡ change_line router db core
+pub line_down : (router : ℕ) (db : List MapRecordValue) (core : RouterCoreState) → is_up core ≡ false → lines.Down router ≡ change_line router db core
 line_down router db (Up e) down = absurd (true≢false down)
 line_down router db (Down config database) down = refl
 
 -- a Map-Register that was sent has a head
-pub sent_head : (old new : EtrState) (armed called : StoreState) (place now : ℕ) (bytes : List ℕ) → IsSentTo old new armed called place now bytes → IsSome (head_at bytes)
+pub sent_head : (old new : EtrState) (armed called : StoreState) (place now : ℕ) (bytes : List ℕ) → CoreSends old new armed called place now bytes → IsSome (head_at bytes)
 sent_head old new armed called place now bytes sent =
-    let wrote = ap head_at sent.datagram ∙ head_written old.config.secret (Registers (registration_of old.config old.database (old.last + 1))) sent.known in
+    let wrote = ap head_at sent.datagram ∙ head_written old.config.secret (Registers (map_register_of old.config old.database (old.last + 1))) sent.known in
     subst (λ (head : Option _). IsSome head) (sym wrote) refl
 
 -- a router was asked to send
-module _ (old : WorldState) (router server : ℕ) (fate : Fate) (before after : RouterNode) where
+module _ (old : WorldState) (router server : ℕ) (fate : Fate) (before after : RouterNodeState) where
   -- it is up
-  pub sends_up : (answer : Result (List ℕ) SendFault) (line : Line) (more : List Posted) → SendsWhileUp before after server fate old.clock answer → SaysSend old router server answer line more
-      → SendsAt old router server fate before after before.core line more
-  sends_up answer line more up says = subst (λ (core : RouterCore). SendsAt old router server fate before after core line more) (sym up.was)
-      (record { etr = up.left; is = up.is; answer = answer; call = up.call; says = says })
+  pub sends_up : (answer : Result (List ℕ) SendFault) (line : Line) (more : List DatagramValue) → NodeSends before after server fate old.clock answer → SaysSendAnswer old router server answer line more
+      → RouterSends old router server fate before after before.core line more
+  sends_up answer line more up says = subst (λ (core : RouterCoreState). RouterSends old router server fate before after core line more) (sym up.was)
+      (record { answer = answer; sends = up; says = says })
 
   -- it is down
-  pub sends_down : (core : RouterCore) → is_up core ≡ false → after ≡ before → SendsAt old router server fate before after core (lines.Down router) []
+  pub sends_down : (core : RouterCoreState) → is_up core ≡ false → after ≡ before → RouterSends old router server fate before after core (lines.Down router) []
   sends_down (Up e) down same = absurd (true≢false down)
   sends_down (Down config database) down same = (same, refl, refl)
 

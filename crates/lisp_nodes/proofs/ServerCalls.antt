@@ -11,19 +11,19 @@ use Rattle.lisp_nonces.specs.Store.{StoreState}
 use Rattle.lisp_admission.specs.Nonces.{nonce_after}
 use Rattle.lisp_server.specs.SendNotice.{Announces, notice_of}
 use Rattle.lisp_server.specs.Server.{ServerState}
-use Rattle.lisp_refinement.specs.World.{Posted, ServerNode, WorldState}
-use Rattle.lisp_refinement.specs.Turns.{ServerActs}
+use Rattle.lisp_refinement.specs.World.{DatagramValue, ServerNodeState, WorldState}
+use Rattle.lisp_refinement.specs.Events.{ServerActs}
 use Rattle.lisp_refinement.proofs.Heads.{head_written}
 
 -- the Map-Server with a number changed, and these datagrams went to the end of the bag
-abbrev pub server_acted : (old : WorldState) (node : ℕ) (before after : ServerNode) (bag more : List Posted)
+abbrev pub server_acted : (old : WorldState) (node : ℕ) (before after : ServerNodeState) (bag more : List DatagramValue)
     → node < length old.servers → before ≡ get_or old.servers node before → bag ≡ old.bag ++ more
     → ServerActs old (record old { bag = bag; servers = slice_set old.servers node after }) node more
 server_acted old node before after bag more within at posts = record {
   before = before;
   after = after;
   was = slice_get_read old.servers _ node before refl within at;
-  left = ap (λ (bag : List Posted). record old { bag = bag; servers = slice_set old.servers node after }) posts;
+  left = ap (λ (bag : List DatagramValue). record old { bag = bag; servers = slice_set old.servers node after }) posts;
 }
 
 -- a notice's bytes have a Key ID and a nonce

@@ -1,15 +1,11 @@
 //! Bytes arrive at a node: the event's line, and what the node answers, if anything.
 
-ghost use Rattle.std.specs.Prelude.{◌≡◌, ◌<◌, ◌+◌, ◌++◌, Result, length};
+ghost use Rattle.std.specs.Prelude.{◌≡◌, ◌<◌, ◌+◌, ◌++◌, length};
 ghost use Rattle.std.specs.Vec.{vec_len, vec_capacity};
-ghost use Rattle.lisp_etr.specs.Etr.{EtrState};
 ghost use Rattle.lisp_records.specs.declared.address.Addr.{Addr};
 ghost use Rattle.lisp_model.specs.Memory.{MayTell};
-ghost use Rattle.lisp_admission.specs.declared.refused.Refused.{Refused};
-ghost use Rattle.lisp_server.specs.declared.took.Took.{Took};
-ghost use Rattle.lisp_refinement.specs.Calls.{Receives};
-ghost use Rattle.lisp_refinement.specs.World.{WorldState};
-ghost use Rattle.lisp_refinement.specs.Turns.{server_line, server_number, replies, router_line, acknowledges, posted, address_of, Arrives, HearsAt};
+ghost use Rattle.lisp_refinement.specs.Events.{server_line, server_number, replies, router_line, acknowledges, datagram_to};
+ghost use Rattle.lisp_nodes.specs.Hearing.{NodesHear, ServerHears, OneRouterHears};
 
 use crate::datagram::{Datagram, post};
 use crate::router_node::RouterNode;
@@ -47,7 +43,7 @@ pub fn hear<S: WorldStore, A: Memory + Copy>(
     bytes: &[u8],
 ) -> (Line, Option<Bytes<A>>)
     requires { node < length servers.old + length routers.old }
-    ensures hears { (w : WorldState) → w.servers ≡ servers.old → w.routers ≡ routers.old → w.clock ≡ how.now → length w.bag ≡ how.next → Arrives A w (record w { bag = w.bag ++ posted (address_of w node) how.from result.1; servers = servers.new; routers = routers.new }) node how.fate how.from bytes.now result.0 }
+    ensures hears { NodesHear A servers.old servers.new routers.old routers.new node how bytes.now result }
     ensures tells { MayTell A.may_refuse S.may_refuse result.0 }
 {
     if node >= servers.len() {
@@ -63,7 +59,7 @@ pub fn server_hears<S: WorldStore, A: Memory + Copy>(
     how: Arrival,
     bytes: &[u8],
 ) -> (Line, Option<Bytes<A>>)
-    ensures hears { (answer : Result (Took A) Refused) × Receives server.old server.new how.fate how.from bytes.now how.now answer × (result.0 ≡ server_line node how.next answer) × ((from to : Addr) → replies from to answer ≡ posted from to result.1) }
+    ensures hears { ServerHears A server.old server.new node how bytes.now result }
     ensures tells { MayTell A.may_refuse S.may_refuse result.0 }
 {
     let answer = server.receive(how.fate, how.from, bytes, how.now);
@@ -78,7 +74,7 @@ pub fn router_hears<S: WorldStore, A: Memory + Copy>(
     how: Arrival,
     bytes: &[u8],
 ) -> (Line, Option<Bytes<A>>)
-    ensures hears { (w : WorldState) → length w.bag ≡ how.next → HearsAt A w node router.old router.new how.fate how.from bytes.now router.old.core result.0 (posted (address_of w node) how.from result.1) }
+    ensures hears { OneRouterHears A router.old router.new node how bytes.now result }
     ensures tells { MayTell A.may_refuse S.may_refuse result.0 }
 {
     let Some(answer) = router.receive(how.fate, how.from, bytes, how.now) else {
@@ -100,7 +96,7 @@ pub fn post_reply<A: Memory>(
     reply: Option<Bytes<A>>,
 )
     requires { vec_len bag.old < vec_capacity bag.old }
-    ensures { bag.new.items ≡ bag.old.items ++ posted from to reply }
+    ensures { bag.new.items ≡ bag.old.items ++ datagram_to from to reply }
 {
     if let Some(bytes) = reply {
         post(bag, Datagram { from, to, bytes });
@@ -147,7 +143,7 @@ fn server_line<A: Allocator>(
 
 // The reply of a Map-Server.
 fn server_reply<A: Allocator>(answer: Result<Took<A>, Refused>) -> Option<Bytes<A>>
-    ensures { (from to : Addr) → replies from to answer ≡ posted from to result }
+    ensures { (from to : Addr) → replies from to answer ≡ datagram_to from to result }
 {
     match answer {
         Ok(took) => took.into_reply(),
@@ -164,7 +160,7 @@ fn router_line<A: Allocator>(
     key: u8,
     answer: &Result<Seen<A>, NotifyFault>,
 ) -> Line
-    ensures { (e : EtrState) → e.config.key_id ≡ key → result ≡ router_line router datagram servers.now e answer.now }
+    ensures { result ≡ router_line router datagram servers.now key answer.now }
 {
     match answer {
         Ok(Seen::Counted { server, nonce }) => Line::Counted {
@@ -195,7 +191,7 @@ fn number(servers: &[usize], place: usize) -> usize
 
 // The Map-Notify-Ack of a router.
 fn router_reply<A: Allocator>(answer: Result<Seen<A>, NotifyFault>) -> Option<Bytes<A>>
-    ensures { (from to : Addr) → acknowledges from to answer ≡ posted from to result }
+    ensures { (from to : Addr) → acknowledges from to answer ≡ datagram_to from to result }
 {
     match answer {
         Ok(Seen::Notice { answer, .. }) => Some(answer),

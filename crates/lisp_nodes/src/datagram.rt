@@ -22,9 +22,9 @@ pub struct Datagram<A: Allocator = Global> {
 }
 
 impl<A: Allocator> Model for Datagram<A> {
-    ghost use Rattle.lisp_refinement.specs.World.{Posted};
+    ghost use Rattle.lisp_refinement.specs.World.{DatagramValue};
 
-    ghost Value = { Posted };
+    ghost Value = { DatagramValue };
 
     ghost view = { λ d. record { from = d.from; to = d.to; bytes = d.bytes } };
 }

@@ -1,16 +1,15 @@
 //! A router of a network, with its store.
 
 ghost use Rattle.std.specs.Prelude.{◌≡◌, ◌≤◌, None, false, IfSome, IsErrOf, ◌==◌, position};
-ghost use Rattle.std.specs.Option.{unwrap_or, option_map};
+ghost use Rattle.std.specs.Option.{option_map};
 ghost use Rattle.lisp_records.specs.Moment.{max_moment};
-ghost use Rattle.lisp_nonces.specs.declared.fault.StoreFault.{StoreFault};
 ghost use Rattle.lisp_etr.specs.declared.notify_fault.NotifyFault.{NotifyFault};
 ghost use Rattle.lisp_etr.specs.declared.send_fault.SendFault.{SendFault};
 ghost use Rattle.lisp_etr.specs.declared.start_fault.StartFault.{StartFault};
-ghost use Rattle.lisp_refinement.specs.Calls.{config_of, database_of, StartsOver, RestartsRouter};
-ghost use Rattle.lisp_refinement.specs.World.{Down};
-ghost use Rattle.lisp_nodes.specs.Cores.{core_of};
-ghost use Rattle.lisp_refinement.specs.Turns.{changed_core, is_up, place_of, SendsWhileUp, HearsWhileUp};
+ghost use Rattle.lisp_refinement.specs.Calls.{config_of, database_of, NodeStarts, NodeRestarts};
+ghost use Rattle.lisp_nodes.specs.Cores.{core_of, down_over};
+ghost use Rattle.lisp_nodes.specs.Memory.{RefusesOnlyIf, no_store_memory_to_send, no_store_memory_to_start};
+ghost use Rattle.lisp_refinement.specs.Events.{changed_node, is_up, place_of, NodeSends, NodeHears};
 ghost use Rattle.lisp_refinement.specs.Nodes.{up_in};
 
 use crate::arming::arm;
@@ -52,9 +51,9 @@ impl<S: WorldStore, A: Allocator> Model for RouterNode<S, A> {
     ghost use Rattle.lisp_nonces.specs.Kept.{kept_code};
     ghost use Rattle.lisp_refinement.specs.Calls.{config_of};
     ghost use Rattle.lisp_nodes.specs.Cores.{core_of};
-    ghost use Rattle.lisp_refinement.specs.World.{RouterNode};
+    ghost use Rattle.lisp_refinement.specs.World.{RouterNodeState};
 
-    ghost Value = { RouterNode };
+    ghost Value = { RouterNodeState };
 
     ghost coded = { Prim.hlevel (codes, kept_code) };
 
@@ -72,7 +71,7 @@ impl<S: WorldStore, A: Allocator> RouterNode<S, A> {
         database: Database<A>,
         store: S,
     ) -> RouterNode<S, A>
-        ensures { result ≡ record { me = config.me; servers = servers; core = Down config database; store = S.seen store } }
+        ensures { result ≡ down_over servers config database (S.seen store) }
     {
         RouterNode {
             me: config.me,
@@ -113,7 +112,7 @@ impl<S: WorldStore, A: Memory + Copy> RouterNode<S, A> {
     /// It registers another database from a moment on, in ms, where it is up; whether it is. One that is down is left
     /// unchanged. Takes no memory.
     pub fn change(&mut self, db: Database<A>, now: u64) -> bool
-        ensures { (self.new ≡ record self.old { core = changed_core db now self.old.core }) × (result ≡ is_up self.old.core) }
+        ensures { (self.new ≡ changed_node db now self.old) × (result ≡ is_up self.old.core) }
     {
         match &mut self.core {
             RouterCore::Up(etr) => {
@@ -134,10 +133,10 @@ impl<S: WorldStore, A: Memory + Copy> RouterNode<S, A> {
         now: u64,
     ) -> Option<Result<Bytes<A>, SendFault>>
         requires { now ≤ max_moment }
-        ensures up { IfSome result (λ answer. SendsWhileUp self.old self.new server fate now answer) }
+        ensures up { IfSome result (NodeSends self.old self.new server fate now) }
         ensures down { result ≡ None → (is_up self.old.core ≡ false) × (self.new ≡ self.old) }
-        ensures memory { IfSome result (λ answer. IsErrOf answer SendFault.OutOfMemory → A.may_refuse) }
-        ensures store_memory { IfSome result (λ answer. IsErrOf answer (SendFault.Store StoreFault.OutOfMemory) → S.may_refuse) }
+        ensures memory { RefusesOnlyIf result SendFault.OutOfMemory A.may_refuse }
+        ensures store_memory { RefusesOnlyIf result no_store_memory_to_send S.may_refuse }
     {
         let place = place_of(self.servers.as_slice(), server);
         let etr = match &mut self.core {
@@ -161,9 +160,9 @@ impl<S: WorldStore, A: Memory + Copy> RouterNode<S, A> {
         bytes: &[u8],
         now: u64,
     ) -> Option<Result<Seen<A>, NotifyFault>>
-        ensures up { IfSome result (λ answer. HearsWhileUp self.old self.new fate from bytes.now answer) }
+        ensures up { IfSome result (NodeHears self.old self.new fate from bytes.now) }
         ensures down { result ≡ None → (is_up self.old.core ≡ false) × (self.new ≡ self.old) }
-        ensures memory { IfSome result (λ answer. IsErrOf answer NotifyFault.OutOfMemory → A.may_refuse) }
+        ensures memory { RefusesOnlyIf result NotifyFault.OutOfMemory A.may_refuse }
     {
         let etr = match &mut self.core {
             RouterCore::Up(etr) => etr,
@@ -177,9 +176,9 @@ impl<S: WorldStore, A: Memory + Copy> RouterNode<S, A> {
 
     /// It stops, its store crashes, and it starts again; or it is down and says why.
     pub fn restart(&mut self, pick: u64, how: Start<A>) -> Result<(), StartFault>
-        ensures restarts { RestartsRouter self.old self.new pick how.db how.now result }
+        ensures restarts { NodeRestarts self.old self.new pick how.db how.now result }
         ensures memory { IsErrOf result StartFault.OutOfMemory → A.may_refuse }
-        ensures store_memory { IsErrOf result (StartFault.Store StoreFault.OutOfMemory) → S.may_refuse }
+        ensures store_memory { IsErrOf result no_store_memory_to_start → S.may_refuse }
     {
         self.store.restart(pick);
         replace_with(self, how, RouterNode::start)
@@ -189,9 +188,9 @@ impl<S: WorldStore, A: Memory + Copy> RouterNode<S, A> {
     pub fn start(self, how: Start<A>) -> (RouterNode<S, A>, Result<(), StartFault>)
         ensures me { result.0.me ≡ self.me }
         ensures servers { result.0.servers ≡ self.servers }
-        ensures starts { StartsOver (config_of self.core) (unwrap_or how.db (database_of self.core)) how.now self.store result.0.store result.0.core result.1 }
+        ensures starts { NodeStarts self result.0 how.db how.now result.1 }
         ensures memory { IsErrOf result.1 StartFault.OutOfMemory → A.may_refuse }
-        ensures store_memory { IsErrOf result.1 (StartFault.Store StoreFault.OutOfMemory) → S.may_refuse }
+        ensures store_memory { IsErrOf result.1 no_store_memory_to_start → S.may_refuse }
     {
         let Start { alloc, now, db } = how;
         let RouterNode {

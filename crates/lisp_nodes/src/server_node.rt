@@ -1,13 +1,13 @@
 //! A Map-Server of a network, with its store.
 
-ghost use Rattle.std.specs.Prelude.{◌≡◌, ◌≤◌, [], IsErrOf};
-ghost use Rattle.std.specs.FinMap.{empty};
+ghost use Rattle.std.specs.Prelude.{◌≡◌, ◌≤◌, IsErrOf};
 ghost use Rattle.lisp_records.specs.Moment.{max_moment};
-ghost use Rattle.lisp_nonces.specs.declared.fault.StoreFault.{StoreFault};
 ghost use Rattle.lisp_admission.specs.declared.refused.Refused.{Refused};
 ghost use Rattle.lisp_admission.specs.declared.notice_fault.NoticeFault.{NoticeFault};
-ghost use Rattle.lisp_refinement.specs.Calls.{Receives, Notifies, Restarts};
-ghost use Rattle.lisp_refinement.specs.Turns.{ExpiresNode, ResendsTo};
+ghost use Rattle.lisp_refinement.specs.Calls.{NodeReceives, NodeNotifies, StoreRestarts};
+ghost use Rattle.lisp_refinement.specs.Events.{ExpiresNode, NodeResends, ChangesNoticesAlone};
+ghost use Rattle.lisp_refinement.specs.Nodes.{fresh_server};
+ghost use Rattle.lisp_nodes.specs.Memory.{no_store_memory_to_load, no_store_memory_to_save, no_store_memory_to_load_notice, no_store_memory_to_save_notice};
 
 use crate::arming::arm;
 use core::mem::replace_with;
@@ -30,9 +30,9 @@ impl<S: WorldStore, A: Allocator> Model for ServerNode<S, A> {
     ghost use Rattle.std.specs.Coded.{codes};
     ghost use Rattle.lisp_nonces.specs.Kept.{kept_code};
     ghost use Rattle.lisp_server.specs.LastNonces.{nonces_code};
-    ghost use Rattle.lisp_refinement.specs.World.{ServerNode};
+    ghost use Rattle.lisp_refinement.specs.World.{ServerNodeState};
 
-    ghost Value = { ServerNode };
+    ghost Value = { ServerNodeState };
 
     ghost coded = { Prim.hlevel (codes, nonces_code, kept_code) };
 
@@ -52,7 +52,7 @@ impl<S: WorldStore, A: Memory + Copy> ServerNode<S, A> {
     /// A Map-Server of these sites that holds nothing, over its store. Takes no memory; what it holds later lies in
     /// memory of `alloc`.
     pub fn start(alloc: A, sites: Sites<A>, store: S) -> ServerNode<S, A>
-        ensures { result ≡ record { core = record { sites = sites; rows = []; nonces = empty; contacts = []; notices = [] }; store = S.seen store } }
+        ensures { result ≡ record { core = fresh_server sites; store = S.seen store } }
     {
         ServerNode {
             core: Server::start(alloc, sites),
@@ -62,8 +62,8 @@ impl<S: WorldStore, A: Memory + Copy> ServerNode<S, A> {
 
     /// It stops, its store crashes, and it starts with its sites alone. Takes no memory.
     pub fn restart(&mut self, alloc: A, pick: u64)
-        ensures core { self.new.core ≡ record { sites = self.old.core.sites; rows = []; nonces = empty; contacts = []; notices = [] } }
-        ensures crashes { Restarts self.old.store self.new.store pick }
+        ensures core { self.new.core ≡ fresh_server self.old.core.sites }
+        ensures crashes { StoreRestarts self.old.store self.new.store pick }
     {
         self.store.restart(pick);
         replace_with(&mut self.core, alloc, started_again);
@@ -85,10 +85,10 @@ impl<S: WorldStore, A: Memory + Copy> ServerNode<S, A> {
         bytes: &[u8],
         now: u64,
     ) -> Result<Took<A>, Refused>
-        ensures receives { Receives self.old self.new fate from bytes.now now result }
+        ensures receives { NodeReceives self.old self.new fate from bytes.now now result }
         ensures memory { IsErrOf result Refused.OutOfMemory → A.may_refuse }
-        ensures load_memory { IsErrOf result (Refused.StoreLoad StoreFault.OutOfMemory) → S.may_refuse }
-        ensures save_memory { IsErrOf result (Refused.StoreSave StoreFault.OutOfMemory) → S.may_refuse }
+        ensures load_memory { IsErrOf result no_store_memory_to_load → S.may_refuse }
+        ensures save_memory { IsErrOf result no_store_memory_to_save → S.may_refuse }
     {
         arm(&mut self.store, fate);
         let answer = self.core.receive(&mut self.store, from, bytes, now);
@@ -106,10 +106,10 @@ impl<S: WorldStore, A: Memory + Copy> ServerNode<S, A> {
         now: u64,
     ) -> Result<(Addr, Bytes<A>), NoticeFault>
         requires { now ≤ max_moment }
-        ensures notifies { Notifies self.old self.new fate router.now now result }
+        ensures notifies { NodeNotifies self.old self.new fate router.now now result }
         ensures memory { IsErrOf result NoticeFault.OutOfMemory → A.may_refuse }
-        ensures load_memory { IsErrOf result (NoticeFault.StoreLoad StoreFault.OutOfMemory) → S.may_refuse }
-        ensures save_memory { IsErrOf result (NoticeFault.StoreSave StoreFault.OutOfMemory) → S.may_refuse }
+        ensures load_memory { IsErrOf result no_store_memory_to_load_notice → S.may_refuse }
+        ensures save_memory { IsErrOf result no_store_memory_to_save_notice → S.may_refuse }
     {
         arm(&mut self.store, fate);
         let answer = self.core.notify(&mut self.store, router, now);
@@ -122,8 +122,8 @@ impl<S: WorldStore, A: Memory + Copy> ServerNode<S, A> {
     /// why there is none. Its store is not used, and nothing but the count of that notice changes.
     pub fn resend(&mut self, router: &RouterId, now: u64) -> Result<(Addr, Bytes<A>), NoticeFault>
         requires { now ≤ max_moment }
-        ensures resends { ResendsTo self.old self.new now router.now result }
-        ensures rest { self.new ≡ record self.old { core = record self.old.core { notices = self.new.core.notices } } }
+        ensures resends { NodeResends self.old self.new now router.now result }
+        ensures rest { ChangesNoticesAlone self.old self.new }
         ensures memory { IsErrOf result NoticeFault.OutOfMemory → A.may_refuse }
     {
         let (to, bytes) = self.core.resend(router, now)?;
@@ -133,7 +133,7 @@ impl<S: WorldStore, A: Memory + Copy> ServerNode<S, A> {
 
 // A Map-Server that stopped and starts with its sites alone.
 fn started_again<A: Allocator + Copy>(server: Server<A>, alloc: A) -> (Server<A>, ())
-    ensures { result.0 ≡ record { sites = server.sites; rows = []; nonces = empty; contacts = []; notices = [] } }
+    ensures { result.0 ≡ fresh_server server.sites }
 {
     (Server::start(alloc, server.stop()), ())
 }

@@ -7,7 +7,7 @@ use Rattle.lisp_nonces.specs.declared.fault.StoreFault.TheVariants.{Device, Dama
 use Rattle.lisp_nonces.specs.declared.fate.Fate.{Fate}
 use Rattle.lisp_nonces.specs.declared.fate.Fate.TheVariants.{Done, Doubt, LoadFails}
 use Rattle.lisp_nonces.specs.Kept.{InDoubt, has_value}
-use Rattle.lisp_nonces.specs.Memory.{Memory, match_fate, loaded, failed_once, after_load, saved, save_answer, faults_after_save}
+use Rattle.lisp_nonces.specs.Memory.{MemoryStoreState, match_fate, loaded, failed_once, after_load, saved, save_answer, faults_after_save}
 
 -- an answer with a value is no fault
 pub no_fault : {X E P : Type 0} (x : X) (fault : E) → ◌≡◌ {A = Result X E} (Ok x) (Err fault) → P
@@ -30,16 +30,16 @@ rose old new is = here (cases_lt old (2 ^ 64 - 1))
     here (inl less) = inl (omega (arith, is, less))
     here (inr most) = inr (omega (arith, is, most))
 
-stays : (fate : Fate) (m failed : Memory) → fate ≢ LoadFails → m ≡ match_fate fate m m failed
+stays : (fate : Fate) (m failed : MemoryStoreState) → fate ≢ LoadFails → m ≡ match_fate fate m m failed
 stays Done m failed other = refl
 stays Doubt m failed other = refl
 stays LoadFails m failed other = absurd (other refl)
 
 -- a load leaves the store as it was, unless loads fail
-pub load_leaves : (m : Memory) → m.fate ≢ LoadFails → m ≡ after_load m
+pub load_leaves : (m : MemoryStoreState) → m.fate ≢ LoadFails → m ≡ after_load m
 load_leaves m other = stays m.fate m (failed_once m) other
 
-pub load_failed : (m : Memory) (faults : ℕ) → m.fate ≡ LoadFails → faults ≡ min (m.faults + 1) (2 ^ 64 - 1) → record m { faults = faults } ≡ after_load m
+pub load_failed : (m : MemoryStoreState) (faults : ℕ) → m.fate ≡ LoadFails → faults ≡ min (m.faults + 1) (2 ^ 64 - 1) → record m { faults = faults } ≡ after_load m
 load_failed m faults fails is = ap (λ (n : ℕ). record m { faults = n }) is ∙ ap (λ (fate : Fate). match_fate fate m m (failed_once m)) (sym fails)
 
 pub load_answers : (fate : Fate) (values : List (Option ℕ)) (value : Option ℕ) → fate ≢ LoadFails → value ≡ slice_index_or values 0 None → Ok value ≡ loaded fate values
@@ -68,7 +68,7 @@ was_doubt test done fails inside now old same kept is = sym (same ∙ kept) ∙ 
 pub save_doubted : (fate : Fate) → fate ≡ Doubt → Err Device ≡ save_answer fate
 save_doubted fate doubt = ap save_answer (sym doubt)
 
-pub doubt_counted : (m : Memory) (faults : ℕ) → m.fate ≡ Doubt → faults ≡ min (m.faults + 1) (2 ^ 64 - 1) → faults ≡ faults_after_save m
+pub doubt_counted : (m : MemoryStoreState) (faults : ℕ) → m.fate ≡ Doubt → faults ≡ min (m.faults + 1) (2 ^ 64 - 1) → faults ≡ faults_after_save m
 doubt_counted m faults doubt is = is ∙ ap (λ (fate : Fate). match_fate fate m.faults (failed_once m).faults m.faults) (sym doubt)
 
 settled : {X : Type 0} (test : Fate → Bool) → test Doubt ≡ true → (fate : Fate) → false ≡ test fate → (x y : X) → x ≡ match_fate fate x y x
@@ -80,7 +80,7 @@ settled test doubt LoadFails not x y = refl
 pub save_done : (test : Fate → Bool) → test Doubt ≡ true → (fate : Fate) → false ≡ test fate → Ok tt ≡ save_answer fate
 save_done test doubt fate not = settled test doubt fate not (Ok tt) (Err Device)
 
-pub none_counted : (test : Fate → Bool) → test Doubt ≡ true → (m : Memory) (faults : ℕ) → false ≡ test m.fate → faults ≡ m.faults → faults ≡ faults_after_save m
+pub none_counted : (test : Fate → Bool) → test Doubt ≡ true → (m : MemoryStoreState) (faults : ℕ) → false ≡ test m.fate → faults ≡ m.faults → faults ≡ faults_after_save m
 none_counted test doubt m faults not is = is ∙ settled test doubt m.fate not m.faults (failed_once m).faults
 
 -- a damaged text is not want of memory, nor a failed device a damaged text

@@ -37,10 +37,18 @@ SameElsewhere old new pair = (q : Pair) → q ≢ pair → kept_at new q ≡ kep
 abbrev pub InDoubt : List (Option ℕ) → List (Option ℕ) → ℕ → Type 0
 InDoubt old new nonce = (new ≡ old) ⊎ (new ≡ old ++ Some nonce ∷ [])
 
+-- after such a save: the pair's list is as it was, or has the value too
+abbrev pub PairInDoubt : Kept → Kept → Pair → ℕ → Type 0
+PairInDoubt old new pair nonce = InDoubt (kept_at old pair) (kept_at new pair) nonce
+
 -- after a restart: some value is left, and none was added
 pub record Narrows (old new : List (Option ℕ)) : Type 0 where
   pub some : (v : Option ℕ) × Contains new v
   pub each : (v : Option ℕ) → Contains new v → Contains old v
+
+-- so it is for each pair
+abbrev pub NarrowsEach : Kept → Kept → Type 0
+NarrowsEach old new = (q : Pair) → Narrows (kept_at old q) (kept_at new q)
 
 abbrev pub option_eq : Option ℕ → ℕ → Bool
 option_eq None nonce = false
@@ -57,3 +65,7 @@ with_value vs nonce = if has_value vs nonce then vs else vs ++ Some nonce ∷ []
 -- the member at a place, or the last
 abbrev pub picked : List (Option ℕ) → ℕ → Option ℕ
 picked vs pick = slice_index_or vs (min pick (length vs - 1)) None
+
+-- of each pair's values the one at a place is left, or the last
+abbrev pub PicksEach : Kept → Kept → ℕ → Type 0
+PicksEach old new pick = (q : Pair) → kept_at new q ≡ picked (kept_at old q) pick ∷ []

@@ -2,14 +2,13 @@
 
 ghost use Rattle.std.specs.Prelude.{◌≡◌, ◌≢◌, ◌↔◌, ◌<◌, ◌≤◌, [], ◌∷◌, Some, None, Ok, Err, IsTrue, IfOk, IfErr, OnOk, OnErr, IsErrOf, All, length, map, slice_index_or};
 ghost use Rattle.std.specs.List.{Contains, position};
-ghost use Rattle.std.specs.FinMap.{empty};
-ghost use Rattle.lisp_nonces.specs.Kept.{kept_at, with_value, picked, SameElsewhere, InDoubt, Narrows};
-ghost use Rattle.lisp_nonces.specs.Store.{StoreState, Rose, Proceeds, MayLoad, MayFailLoad, MaySave, MayFailSave};
-ghost use Rattle.lisp_nonces.specs.Memory.{Memory, memory_state, failed_once, saved, loaded, after_load, save_answer, faults_after_save};
-ghost use Rattle.lisp_nonces.specs.Entries.{kept_of, is_of, narrowed, HasValues};
+ghost use Rattle.lisp_nonces.specs.Kept.{kept_at, with_value, picked, SameElsewhere, PairInDoubt, NarrowsEach, PicksEach};
+ghost use Rattle.lisp_nonces.specs.Store.{StoreState, Proceeds, MayLoad, MaySave};
+ghost use Rattle.lisp_nonces.specs.Memory.{MemoryStoreState, memory_state, failed_once, saved, loaded, after_load, save_answer, faults_after_save, empty_memory, SeenAsBefore, DeviceFailed, HasMemory, SavesByFate, IsArmedToDoubt, KeepsToo};
+ghost use Rattle.lisp_nonces.specs.Entries.{kept_of, is_of, narrowed, HasValues, KeepsOtherEntries};
 ghost use Rattle.lisp_nonces.specs.declared.fault.StoreFault.{StoreFault};
 ghost use Rattle.lisp_nonces.specs.declared.fate.Fate.{Fate};
-ghost use Rattle.lisp_nonces.specs.declared.pair.Pair.{Pair};
+ghost use Rattle.lisp_nonces.specs.Promises.{IsOfDevice, LoadFailsAsArmed, SameObedience, ShowsFateIfObedient, QuietIfObedient, PicksIfObedient};
 
 use crate::fate::Fate;
 use crate::fault::StoreFault;
@@ -31,9 +30,9 @@ struct Entry<A: Allocator> {
 
 impl<A: Allocator> Model for Entry<A> {
     ghost use Rattle.std.specs.Prelude.{◌<◌, length};
-    ghost use Rattle.lisp_nonces.specs.Entries.{EntryOf};
+    ghost use Rattle.lisp_nonces.specs.Entries.{EntryValue};
 
-    ghost Value = { EntryOf };
+    ghost Value = { EntryValue };
 
     ghost view = { λ e. record { pair = e.pair; values = e.values.items } };
 
@@ -75,12 +74,12 @@ pub struct MemoryStore<A: Allocator = Global> {
 }
 
 impl<A: Allocator> Model for MemoryStore<A> {
-    ghost use Rattle.lisp_nonces.specs.Memory.{Memory};
+    ghost use Rattle.lisp_nonces.specs.Memory.{MemoryStoreState};
     ghost use Rattle.lisp_nonces.specs.Entries.{kept_of};
     ghost use Rattle.lisp_nonces.specs.Kept.{kept_code};
     ghost use Rattle.std.specs.Coded.{codes};
 
-    ghost Value = { Memory };
+    ghost Value = { MemoryStoreState };
 
     ghost coded = { Prim.hlevel (codes, kept_code) };
 
@@ -91,7 +90,7 @@ impl<A: Allocator + Copy> MemoryStore<A> {
     /// A store that keeps nothing of every pair, with no fault, armed with `Done`; takes no memory.
     #[tactic(auto, unfolding(crate::specs::Entries::kept_of))]
     pub fn new(alloc: A) -> MemoryStore<A>
-        ensures { result ≡ record { kept = empty; faults = 0; fate = Fate.Done } }
+        ensures { result ≡ empty_memory }
     {
         MemoryStore {
             alloc,
@@ -128,9 +127,9 @@ impl<A: Memory + Copy> NonceStore for MemoryStore<A> {
         ensures member { IfOk result (λ v. Contains (kept_at self.old.kept pair.now) v) }
         ensures same { self.new.kept ≡ self.old.kept }
         ensures loads { OnOk result (MayLoad (memory_state self.old)) }
-        ensures load_fails { IfErr result (λ f. f ≢ StoreFault.OutOfMemory → MayFailLoad (memory_state self.old)) }
-        ensures cause { IfErr result (λ f. f ≢ StoreFault.OutOfMemory → Rose (memory_state self.old) (memory_state self.new)) }
-        ensures refused { IsErrOf result StoreFault.OutOfMemory → memory_state self.new ≡ memory_state self.old }
+        ensures load_fails { IfErr result (LoadFailsAsArmed (memory_state self.old)) }
+        ensures cause { IfErr result (IsOfDevice (memory_state self.old) (memory_state self.new)) }
+        ensures refused { IsErrOf result StoreFault.OutOfMemory → SeenAsBefore self.old self.new }
         ensures memory { IsErrOf result StoreFault.OutOfMemory → A.may_refuse }
         ensures proceeds { Proceeds (memory_state self.old) (memory_state self.new) }
     {
@@ -145,21 +144,21 @@ impl<A: Memory + Copy> NonceStore for MemoryStore<A> {
     /// answers `Device`.
     fn save(&mut self, pair: &Pair, nonce: u64) -> Result<(), StoreFault>
         // Exactly, where there is memory for it.
-        ensures answer { result ≢ Err StoreFault.OutOfMemory → result ≡ save_answer self.old.fate }
-        ensures values { result ≢ Err StoreFault.OutOfMemory → kept_at self.new.kept pair.now ≡ saved self.old.fate (kept_at self.old.kept pair.now) nonce }
-        ensures faults { result ≢ Err StoreFault.OutOfMemory → self.new.faults ≡ faults_after_save self.old }
+        ensures answer { HasMemory result → result ≡ save_answer self.old.fate }
+        ensures values { HasMemory result → SavesByFate self.old self.new pair.now nonce }
+        ensures faults { HasMemory result → self.new.faults ≡ faults_after_save self.old }
         ensures fate { self.new.fate ≡ self.old.fate }
 
         // What every store promises.
         ensures done { OnOk result (kept_at self.new.kept pair.now ≡ Some nonce ∷ []) }
-        ensures doubt { OnErr result (InDoubt (kept_at self.old.kept pair.now) (kept_at self.new.kept pair.now) nonce) }
+        ensures doubt { OnErr result (PairInDoubt self.old.kept self.new.kept pair.now nonce) }
         ensures others { SameElsewhere self.old.kept self.new.kept pair.now }
         ensures saves { OnOk result (MaySave (memory_state self.old)) }
-        ensures save_fails { IsErrOf result StoreFault.Device → MayFailSave (memory_state self.old) }
-        ensures doubted { IsErrOf result StoreFault.Device → IsTrue (memory_state self.old).is_obedient → kept_at self.new.kept pair.now ≡ with_value (kept_at self.old.kept pair.now) nonce }
+        ensures save_fails { IsErrOf result StoreFault.Device → IsArmedToDoubt self.old }
+        ensures doubted { KeepsToo self.old self.new pair.now nonce result }
         ensures sound { result ≢ Err StoreFault.Damaged }
-        ensures cause { IsErrOf result StoreFault.Device → Rose (memory_state self.old) (memory_state self.new) }
-        ensures refused { IsErrOf result StoreFault.OutOfMemory → memory_state self.new ≡ memory_state self.old }
+        ensures cause { IsErrOf result StoreFault.Device → DeviceFailed self.old self.new }
+        ensures refused { IsErrOf result StoreFault.OutOfMemory → SeenAsBefore self.old self.new }
         ensures memory { IsErrOf result StoreFault.OutOfMemory → A.may_refuse }
         ensures proceeds { Proceeds (memory_state self.old) (memory_state self.new) }
     {
@@ -175,7 +174,7 @@ impl<A: Memory + Copy> NonceStore for MemoryStore<A> {
 impl<A: Memory + Copy> MemoryStore<A> {
     // Keeps what a save leaves of a pair.
     fn keep(&mut self, pair: &Pair, nonce: u64) -> Result<(), AllocError>
-        ensures here { OnOk result (kept_at self.new.kept pair.now ≡ saved self.old.fate (kept_at self.old.kept pair.now) nonce) }
+        ensures here { OnOk result (SavesByFate self.old self.new pair.now nonce) }
         ensures others { SameElsewhere self.old.kept self.new.kept pair.now }
         ensures faults { self.new.faults ≡ self.old.faults }
         ensures fate { self.new.fate ≡ self.old.fate }
@@ -197,9 +196,9 @@ impl<A: Memory + Copy> WorldStore for MemoryStore<A> {
         ensures kept { (memory_state self.new).kept ≡ (memory_state self.old).kept }
         ensures count { (memory_state self.new).faults ≡ (memory_state self.old).faults }
         ensures honest { (memory_state self.new).is_honest ≡ (memory_state self.old).is_honest }
-        ensures obedient { (memory_state self.new).is_obedient ≡ (memory_state self.old).is_obedient }
-        ensures fate { IsTrue (memory_state self.old).is_obedient → (memory_state self.new).fate ≡ fate }
-        ensures quiet { IsTrue (memory_state self.old).is_obedient → fate ≡ Fate.Done → IsTrue (memory_state self.new).is_quiet }
+        ensures obedient { SameObedience (memory_state self.old) (memory_state self.new) }
+        ensures fate { ShowsFateIfObedient (memory_state self.old) (memory_state self.new) fate }
+        ensures quiet { QuietIfObedient (memory_state self.old) (memory_state self.new) fate }
     {
         self.fate = fate;
     }
@@ -208,13 +207,13 @@ impl<A: Memory + Copy> WorldStore for MemoryStore<A> {
     /// memory.
     fn restart(&mut self, pick: u64)
         // Exactly.
-        ensures exactly { (q : Pair) → kept_at self.new.kept q ≡ picked (kept_at self.old.kept q) pick ∷ [] }
+        ensures exactly { PicksEach self.old.kept self.new.kept pick }
         ensures faults { self.new.faults ≡ self.old.faults }
         ensures fate { self.new.fate ≡ self.old.fate }
 
         // What every store promises.
-        ensures narrows { (q : Pair) → Narrows (kept_at self.old.kept q) (kept_at self.new.kept q) }
-        ensures picks { IsTrue (memory_state self.old).is_obedient → (q : Pair) → kept_at self.new.kept q ≡ picked (kept_at self.old.kept q) pick ∷ [] }
+        ensures narrows { NarrowsEach self.old.kept self.new.kept }
+        ensures picks { PicksIfObedient (memory_state self.old) (memory_state self.new) pick }
         ensures proceeds { Proceeds (memory_state self.old) (memory_state self.new) }
     {
         narrow(&mut self.entries, pick);
@@ -303,7 +302,7 @@ fn set<A: Memory>(
 ) -> Result<(), AllocError>
     requires { 0 < length values.items }
     ensures here { OnOk result (kept_at (kept_of entries.new.items) pair ≡ values.items) }
-    ensures others { OnOk result (SameElsewhere (kept_of entries.old.items) (kept_of entries.new.items) pair) }
+    ensures others { OnOk result (KeepsOtherEntries entries.old.items entries.new.items pair) }
     ensures err { OnErr result (entries.new.items ≡ entries.old.items) }
     ensures memory { OnErr result A.may_refuse }
 {

@@ -1,12 +1,9 @@
 //! What a store of nonces promises to routers and servers.
 
-ghost use Rattle.std.specs.Prelude.{◌≡◌, ◌≢◌, [], ◌∷◌, Some, Err, IsTrue, IfOk, IfErr, OnOk, OnErr, IsErrOf};
-ghost use Rattle.std.specs.List.{Contains};
-ghost use Rattle.lisp_nonces.specs.Kept.{kept_at, with_value, picked, SameElsewhere, InDoubt, Narrows};
-ghost use Rattle.lisp_nonces.specs.Store.{StoreState, Rose, Proceeds, MayLoad, MayFailLoad, MaySave, MayFailSave};
-ghost use Rattle.lisp_nonces.specs.declared.fate.Fate.{Fate};
-ghost use Rattle.lisp_nonces.specs.declared.pair.Pair.{Pair};
+ghost use Rattle.std.specs.Prelude.{◌≡◌, ◌≢◌, Err, IfErr, OnOk, IsErrOf};
+ghost use Rattle.lisp_nonces.specs.Store.{StoreState, Rose, Proceeds, MayLoad, MaySave, MayFailSave};
 ghost use Rattle.lisp_nonces.specs.declared.fault.StoreFault.{StoreFault};
+ghost use Rattle.lisp_nonces.specs.Promises.{LoadsIfHonest, KeepsListsIfHonest, KeepsOthersIfHonest, SavesIfHonest, DoubtsIfHonest, KeepsTooIfObedient, IsOfDevice, LoadFailsAsArmed, SameObedience, ShowsFateIfObedient, QuietIfObedient, NarrowsIfHonest, PicksIfObedient};
 
 use crate::fate::Fate;
 use crate::fault::StoreFault;
@@ -25,15 +22,15 @@ pub trait NonceStore {
     /// failed, `OutOfMemory`, which changes nothing and comes only where the store may run out of memory.
     fn load(&mut self, pair: &Pair) -> Result<Option<u64>, StoreFault>
         // The answer is a value that may be kept.
-        ensures member { IsTrue (seen self.old).is_honest → IfOk result (λ v. Contains (kept_at (seen self.old).kept pair.now) v) }
+        ensures member { LoadsIfHonest (seen self.old) pair.now result }
 
         // Loading changes no list.
-        ensures same { IsTrue (seen self.old).is_honest → (seen self.new).kept ≡ (seen self.old).kept }
+        ensures same { KeepsListsIfHonest (seen self.old) (seen self.new) }
 
         // An obedient store fails where it is armed to.
         ensures loads { OnOk result (MayLoad (seen self.old)) }
-        ensures load_fails { IfErr result (λ f. f ≢ StoreFault.OutOfMemory → MayFailLoad (seen self.old)) }
-        ensures cause { IfErr result (λ f. f ≢ StoreFault.OutOfMemory → Rose (seen self.old) (seen self.new)) }
+        ensures load_fails { IfErr result (LoadFailsAsArmed (seen self.old)) }
+        ensures cause { IfErr result (IsOfDevice (seen self.old) (seen self.new)) }
         ensures refused { IsErrOf result StoreFault.OutOfMemory → seen self.new ≡ seen self.old }
         ensures memory { IsErrOf result StoreFault.OutOfMemory → may_refuse }
         ensures proceeds { Proceeds (seen self.old) (seen self.new) };
@@ -42,16 +39,16 @@ pub trait NonceStore {
     /// kept. `OutOfMemory` changes nothing, and comes only where the store may run out of memory.
     fn save(&mut self, pair: &Pair, nonce: u64) -> Result<(), StoreFault>
         // Done: this value alone is kept.
-        ensures done { IsTrue (seen self.old).is_honest → OnOk result (kept_at (seen self.new).kept pair.now ≡ Some nonce ∷ []) }
+        ensures done { SavesIfHonest (seen self.old) (seen self.new) pair.now nonce result }
 
         // Not done: what was kept may be, and perhaps this value.
-        ensures doubt { IsTrue (seen self.old).is_honest → OnErr result (InDoubt (kept_at (seen self.old).kept pair.now) (kept_at (seen self.new).kept pair.now) nonce) }
-        ensures others { IsTrue (seen self.old).is_honest → SameElsewhere (seen self.old).kept (seen self.new).kept pair.now }
+        ensures doubt { DoubtsIfHonest (seen self.old) (seen self.new) pair.now nonce result }
+        ensures others { KeepsOthersIfHonest (seen self.old) (seen self.new) pair.now }
 
         // An obedient store fails where it is armed to, and keeps this value too then.
         ensures saves { OnOk result (MaySave (seen self.old)) }
         ensures save_fails { IsErrOf result StoreFault.Device → MayFailSave (seen self.old) }
-        ensures doubted { IsErrOf result StoreFault.Device → IsTrue (seen self.old).is_obedient → kept_at (seen self.new).kept pair.now ≡ with_value (kept_at (seen self.old).kept pair.now) nonce }
+        ensures doubted { KeepsTooIfObedient (seen self.old) (seen self.new) pair.now nonce result }
         ensures sound { result ≢ Err StoreFault.Damaged }
         ensures cause { IsErrOf result StoreFault.Device → Rose (seen self.old) (seen self.new) }
         ensures refused { IsErrOf result StoreFault.OutOfMemory → seen self.new ≡ seen self.old }
@@ -66,18 +63,18 @@ pub trait WorldStore: NonceStore {
         ensures kept { (Self.seen self.new).kept ≡ (Self.seen self.old).kept }
         ensures count { (Self.seen self.new).faults ≡ (Self.seen self.old).faults }
         ensures honest { (Self.seen self.new).is_honest ≡ (Self.seen self.old).is_honest }
-        ensures obedient { (Self.seen self.new).is_obedient ≡ (Self.seen self.old).is_obedient }
-        ensures fate { IsTrue (Self.seen self.old).is_obedient → (Self.seen self.new).fate ≡ fate }
+        ensures obedient { SameObedience (Self.seen self.old) (Self.seen self.new) }
+        ensures fate { ShowsFateIfObedient (Self.seen self.old) (Self.seen self.new) fate }
 
         // Armed with `Done`, an obedient store fails no more.
-        ensures quiet { IsTrue (Self.seen self.old).is_obedient → fate ≡ Fate.Done → IsTrue (Self.seen self.new).is_quiet };
+        ensures quiet { QuietIfObedient (Self.seen self.old) (Self.seen self.new) fate };
 
     /// The store after a crash: of the values that may be kept for a pair some are left, by `pick`, and
     /// none is added.
     fn restart(&mut self, pick: u64)
-        ensures narrows { IsTrue (Self.seen self.old).is_honest → (q : Pair) → Narrows (kept_at (Self.seen self.old).kept q) (kept_at (Self.seen self.new).kept q) }
+        ensures narrows { NarrowsIfHonest (Self.seen self.old) (Self.seen self.new) }
 
         // Of an obedient store the one at place `pick` is left, or the last.
-        ensures picks { IsTrue (Self.seen self.old).is_obedient → (q : Pair) → kept_at (Self.seen self.new).kept q ≡ picked (kept_at (Self.seen self.old).kept q) pick ∷ [] }
+        ensures picks { PicksIfObedient (Self.seen self.old) (Self.seen self.new) pick }
         ensures proceeds { Proceeds (Self.seen self.old) (Self.seen self.new) };
 }

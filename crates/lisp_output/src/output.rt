@@ -1,8 +1,6 @@
 //! Writing bytes.
 
-ghost use Rattle.std.specs.Prelude.{◌≡◌, OnOk, OnErr};
-ghost use Rattle.std.specs.Io.KnownBytes.{Appends};
-ghost use Rattle.lisp_output.specs.Output.{WroteFront};
+ghost use Rattle.lisp_output.specs.Output.{Writes, WritesFront};
 
 use std::io::{ErrorKind, Write};
 
@@ -12,8 +10,8 @@ pub struct Unwritten;
 
 /// Writes bytes, in as many writes as it takes. At `Unwritten` a front of them went out, but not the whole.
 pub fn write_bytes<W: Write>(bytes: &[u8], writer: &mut W) -> Result<(), Unwritten>
-    ensures ok { OnOk result (Appends (W.contents writer.old) (W.contents writer.new) bytes.now) }
-    ensures front { OnErr result (WroteFront (W.contents writer.old) (W.contents writer.new) bytes.now) }
+    ensures ok { Writes result W.contents writer.old writer.new bytes.now }
+    ensures front { WritesFront result W.contents writer.old writer.new bytes.now }
 {
     let mut rest = bytes;
     for _ in 0..u64::MAX {

@@ -4,13 +4,11 @@ use Rattle.std.specs.Prelude.{◌⊎◌, ◌≢◌, IsErrAnd, IsTrue, IfSome}
 use Rattle.std.proofs.Common.{inl, inr}
 use Rattle.std.proofs.lemmas.Option.{slice_get_within}
 use Rattle.std.specs.Io.KnownBytes.{Keeps}
-use Rattle.std.specs.FinMap.{empty}
 use Rattle.std.specs.List.{AllByRecursion}
 use Rattle.lisp_records.specs.Result.{◌>>=◌}
-use Rattle.lisp_nonces.specs.Memory.{Memory, memory_state}
+use Rattle.lisp_nonces.specs.Memory.{MemoryStoreState, memory_state}
 use Rattle.lisp_nonces.specs.Store.{StoreState}
-use Rattle.lisp_nonces.specs.declared.fate.Fate.TheVariants.{Done}
-use Rattle.lisp_policy.specs.Configuration.{Configuration}
+use Rattle.lisp_policy.specs.Configuration.{ConfigValue}
 use Rattle.lisp_refinement.specs.World.{WorldState}
 use Rattle.lisp_refinement.specs.Stands.{Stands, shown_by}
 use Rattle.lisp_refinement.proofs.Gets.{none_is_some, same_some}
@@ -19,27 +17,27 @@ use Rattle.lisp_world.specs.Making.{AllBelowEnd, IsCalmFault}
 use Rattle.lisp_world.specs.Quiet.{AllHonest, AllCalm, IsCalm, stores_of, failures}
 use Rattle.lisp_model.specs.declared.world_fault.WorldFault.{WorldFault}
 use Rattle.lisp_model.specs.declared.world_fault.WorldFault.TheVariants as whys
-use Rattle.lisp_script.specs.Order.{Order}
-use Rattle.lisp_streams.specs.declared.play_fault.PlayFault.{PlayFault}
-use Rattle.lisp_streams.specs.declared.play_fault.PlayFault.TheVariants as faults
-use Rattle.lisp_streams.specs.Input.{most_bytes}
-use Rattle.lisp_playing.specs.Playing.{Wrote, StopsAt, Breaks}
-use Rattle.lisp_streams.specs.Schedule.{schedule_of, IsFaulty}
-use Rattle.lisp_player.specs.Schedule.{playable, asked_for, CannotBegin, NotBegun, EndsBy, IsUnmade, Refuses, IsEmpty, Begins, IsPlay, PlayedFrom, Played, StoppedFrom, Stopped, BrokenFrom, Broken}
+use Rattle.lisp_script.specs.Command.{CommandValue}
+use Rattle.lisp_script.specs.declared.play_fault.PlayFault.{PlayFault}
+use Rattle.lisp_script.specs.declared.play_fault.PlayFault.TheVariants as faults
+use Rattle.lisp_script.specs.Input.{most_bytes}
+use Rattle.lisp_player.specs.Playing.{Wrote, StopsAt, Breaks}
+use Rattle.lisp_script.specs.Schedule.{schedule_of, IsFaulty}
+use Rattle.lisp_player.specs.Schedule.{playable, schedule_in, CannotBegin, NotBegun, EndsBy, IsUnmade, RefusesInput, IsEmpty, Begins, IsPlay, PlayedFrom, Played, StoppedFrom, Stopped, BrokenFrom, Broken, fresh}
 
 module _ (input : List ℕ) where
-  module _ (c : Configuration) (orders : List Order) (is : schedule_of input ≡ Ok (c, orders)) where
+  module _ (c : ConfigValue) (orders : List CommandValue) (is : schedule_of input ≡ Ok (c, orders)) where
     -- two of its nodes are alike, or none are
-    pub repeated : repeats c ≡ true → asked_for input ≡ Err (faults.World WorldFault.Repeated)
-    unfolding asked_for
-    repeated twice = ap (λ (r : Result (Configuration × List Order) PlayFault). r >>= playable) is ∙ rw twice refl
+    pub repeated : repeats c ≡ true → schedule_in input ≡ Err (faults.World WorldFault.Repeated)
+    unfolding schedule_in
+    repeated twice = ap (λ (r : Result (ConfigValue × List CommandValue) PlayFault). r >>= playable) is ∙ rw twice refl
 
-    pub asked : repeats c ≡ false → asked_for input ≡ Ok (c, orders)
-    unfolding asked_for
-    asked none = ap (λ (r : Result (Configuration × List Order) PlayFault). r >>= playable) is ∙ rw none refl
+    pub asked : repeats c ≡ false → schedule_in input ≡ Ok (c, orders)
+    unfolding schedule_in
+    asked none = ap (λ (r : Result (ConfigValue × List CommandValue) PlayFault). r >>= playable) is ∙ rw none refl
 
 -- what is wrong with an input is why it is refused
-pub refuses_so : (may : Type 0) (input : List ℕ) (fault : PlayFault) → IsFaulty may input fault → Refuses may input fault
+pub refuses_so : (may : Type 0) (input : List ℕ) (fault : PlayFault) → IsFaulty may input fault → RefusesInput may input fault
 refuses_so may input faults.NotUtf8 faulty = faulty
 refuses_so may input faults.NoScript faulty = faulty
 refuses_so may input (faults.Config why) faulty = faulty
@@ -49,10 +47,6 @@ refuses_so may input faults.Write faulty = absurd faulty
 refuses_so may input faults.OutOfMemory faulty = absurd faulty
 refuses_so may input faults.TooLong faulty = absurd faulty
 refuses_so may input (faults.World why) faulty = absurd faulty
-
--- a store that was made
-abbrev pub fresh : Memory
-fresh = record { kept = empty; faults = 0; fate = Done }
 
 abbrev states : ℕ → List StoreState
 states n = map memory_state (replicate n fresh)
@@ -89,22 +83,22 @@ all_empty (suc n) (s ∷ stores) calm kept faults = (
 )
 
 -- a network over them begins
-pub begins : (c : Configuration) (w : WorldState) (n : ℕ) (stores : List Memory) → stores ≡ replicate n fresh
+pub begins : (c : ConfigValue) (w : WorldState) (n : ℕ) (stores : List MemoryStoreState) → stores ≡ replicate n fresh
     → (AllHonest (map memory_state stores) → Stands w (opening c w) [])
     → (AllHonest (map memory_state stores) → lists_of (stores_of w) ≡ lists_of (map memory_state stores))
     → (AllCalm (map memory_state stores) → AllCalm (stores_of w) × (failures (stores_of w) ≡ failures (map memory_state stores)))
     → Begins c w
 begins c w n stores made stands lists calm =
-    let honest = subst (λ (all : List Memory). AllHonest (map memory_state all)) (sym made) (all_honest n) in
-    let is_calm = subst (λ (all : List Memory). AllCalm (map memory_state all)) (sym made) (all_calm n) in
+    let honest = subst (λ (all : List MemoryStoreState). AllHonest (map memory_state all)) (sym made) (all_honest n) in
+    let is_calm = subst (λ (all : List MemoryStoreState). AllCalm (map memory_state all)) (sym made) (all_calm n) in
     record {
       stands = stands honest;
-      stores = all_empty n (stores_of w) (calm is_calm).0 (lists honest ∙ ap (λ (all : List Memory). lists_of (map memory_state all)) made) ((calm is_calm).1 ∙ ap (λ (all : List Memory). failures (map memory_state all)) made);
+      stores = all_empty n (stores_of w) (calm is_calm).0 (lists honest ∙ ap (λ (all : List MemoryStoreState). lists_of (map memory_state all)) made) ((calm is_calm).1 ∙ ap (λ (all : List MemoryStoreState). failures (map memory_state all)) made);
       calm = (calm is_calm).0;
     }
 
 -- what commands wrote from there on is the text of a play
-pub is_play : (A M : Type 0) (c : Configuration) (w new : WorldState) (orders : List Order) (before after : Option (List ℕ)) → Begins c w
+pub is_play : (A M : Type 0) (c : ConfigValue) (w new : WorldState) (orders : List CommandValue) (before after : Option (List ℕ)) → Begins c w
     → (wrote : Wrote A M M w new c orders before after) → IsPlay A M c orders wrote.text
 is_play A M c w new orders before after begins wrote =
     let led = wrote.leads.comes (opening c w) [] begins.stands refl in
@@ -133,10 +127,10 @@ keeps_same (Some bytes) = refl
 
 -- the input can't be read whole
 pub not_read : (may : Type 0) (remaining : Option (List ℕ)) (fault : PlayFault) → (fault ≡ faults.OutOfMemory) ⊎ ((fault ≡ faults.TooLong) ⊎ (fault ≡ faults.Read))
-    → (fault ≡ faults.TooLong → IfSome remaining (λ input. most_bytes < length input)) → (fault ≡ faults.OutOfMemory → may) → IfSome remaining (λ input. Refuses may input fault)
-not_read may remaining fault (inl is) long memory = of_each remaining _ (λ input. subst (λ (f : PlayFault). Refuses may input f) (sym is) (memory is))
-not_read may remaining fault (inr (inl is)) long memory = subst (λ (f : PlayFault). IfSome remaining (λ input. Refuses may input f)) (sym is) (long is)
-not_read may remaining fault (inr (inr is)) long memory = of_each remaining _ (λ input. subst (λ (f : PlayFault). Refuses may input f) (sym is) tt)
+    → (fault ≡ faults.TooLong → IfSome remaining (λ input. most_bytes < length input)) → (fault ≡ faults.OutOfMemory → may) → IfSome remaining (λ input. RefusesInput may input fault)
+not_read may remaining fault (inl is) long memory = of_each remaining _ (λ input. subst (λ (f : PlayFault). RefusesInput may input f) (sym is) (memory is))
+not_read may remaining fault (inr (inl is)) long memory = subst (λ (f : PlayFault). IfSome remaining (λ input. RefusesInput may input f)) (sym is) (long is)
+not_read may remaining fault (inr (inr is)) long memory = of_each remaining _ (λ input. subst (λ (f : PlayFault). RefusesInput may input f) (sym is) tt)
 
 -- nor is that a fault of writing
 pub not_written : {P : Type 0} (fault : PlayFault) → (fault ≡ faults.OutOfMemory) ⊎ ((fault ≡ faults.TooLong) ⊎ (fault ≡ faults.Read)) → fault ≡ faults.Write → P
@@ -145,7 +139,7 @@ not_written fault (inr (inl is)) write = absurd cc
 not_written fault (inr (inr is)) write = absurd cc
 
 -- why no network begins over stores that keep nothing
-module _ (may : Type 0) (c : Configuration) where
+module _ (may : Type 0) (c : ConfigValue) where
   none_repeat : (why : WorldFault) → (repeats c ≡ true → why ≡ WorldFault.Repeated) → why ≢ WorldFault.Repeated → repeats c ≡ false
   none_repeat why twice other = by (repeats c) refl
     where
@@ -153,16 +147,16 @@ module _ (may : Type 0) (c : Configuration) where
       by true is = absurd (other (twice is))
       by false is = refl
 
-  pub cannot_begin : (n : ℕ) (stores : List Memory) → stores ≡ replicate n fresh → (why : WorldFault)
+  pub cannot_begin : (n : ℕ) (stores : List MemoryStoreState) → stores ≡ replicate n fresh → (why : WorldFault)
       → (AllCalm (map memory_state stores) → AllBelowEnd (map memory_state stores) → IsCalmFault may may why)
       → (why ≡ WorldFault.Repeated → repeats c ≡ true) → (repeats c ≡ true → why ≡ WorldFault.Repeated) → CannotBegin may c why
   cannot_begin n stores made why calm_fault repeated twice = by why (calm_fault calm below) repeated twice
     where
       calm : AllCalm (map memory_state stores)
-      calm = subst (λ (all : List Memory). AllCalm (map memory_state all)) (sym made) (all_calm n)
+      calm = subst (λ (all : List MemoryStoreState). AllCalm (map memory_state all)) (sym made) (all_calm n)
 
       below : AllBelowEnd (map memory_state stores)
-      below = subst (λ (all : List Memory). AllBelowEnd (map memory_state all)) (sym made) (all_below_end n)
+      below = subst (λ (all : List MemoryStoreState). AllBelowEnd (map memory_state all)) (sym made) (all_below_end n)
 
       by : (why : WorldFault) → IsCalmFault may may why → (why ≡ WorldFault.Repeated → repeats c ≡ true) → (repeats c ≡ true → why ≡ WorldFault.Repeated) → CannotBegin may c why
       by whys.Repeated calm repeated twice = repeated refl
@@ -174,7 +168,7 @@ module _ (may : Type 0) (c : Configuration) where
       by whys.Clock calm repeated twice = absurd calm
 
 -- so none is made of the input
-pub not_made : (may : Type 0) (input : List ℕ) (c : Configuration) (orders : List Order) → schedule_of input ≡ Ok (c, orders)
+pub not_made : (may : Type 0) (input : List ℕ) (c : ConfigValue) (orders : List CommandValue) → schedule_of input ≡ Ok (c, orders)
     → (why : WorldFault) → CannotBegin may c why → IsUnmade may input why
 not_made may input c orders is whys.Repeated twice = repeated input c orders is twice
 not_made may input c orders is whys.OutOfMemory (none, calm) = (calm, (c, orders), asked input c orders is none)
@@ -185,7 +179,7 @@ not_made may input c orders is whys.NoDatagram (none, calm) = absurd calm
 not_made may input c orders is whys.Clock (none, calm) = absurd calm
 
 -- commands were played from the beginning, or those before one
-module _ (A M : Type 0) (c : Configuration) (orders : List Order) (w new : WorldState) (before after : Option (List ℕ)) (distinct : repeats c ≡ false) (begun : Begins c w) where
+module _ (A M : Type 0) (c : ConfigValue) (orders : List CommandValue) (w new : WorldState) (before after : Option (List ℕ)) (distinct : repeats c ≡ false) (begun : Begins c w) where
   pub played_from : Wrote A M M w new c orders before after → PlayedFrom A M c orders before after
   played_from wrote = record { distinct = distinct; text = wrote.text; written = wrote.written; plays = is_play A M c w new orders before after begun wrote }
 
@@ -229,8 +223,8 @@ module _ (A M : Type 0) (c : Configuration) (orders : List Order) (w new : World
       }
 
 -- they are those of a schedule
-module _ (A M : Type 0) (input : List ℕ) (c : Configuration) (orders : List Order) (before after : Option (List ℕ)) (is : schedule_of input ≡ Ok (c, orders)) where
-  pub played : (done : List Order → List Order) → PlayedFrom A M c (done orders) before after → Played A M input done before after
+module _ (A M : Type 0) (input : List ℕ) (c : ConfigValue) (orders : List CommandValue) (before after : Option (List ℕ)) (is : schedule_of input ≡ Ok (c, orders)) where
+  pub played : (done : List CommandValue → List CommandValue) → PlayedFrom A M c (done orders) before after → Played A M input done before after
   played done from = record { config = c; orders = orders; asked = asked input c orders is from.distinct; text = from.text; written = from.written; plays = from.plays }
 
   pub stopped : StoppedFrom A M c orders before after → Stopped A M input before after
@@ -239,7 +233,7 @@ module _ (A M : Type 0) (input : List ℕ) (c : Configuration) (orders : List Or
   stopped (inr (count, from, within)) = inr (count, played (take count) from, within)
 
 -- and so is one whose text was not written whole
-pub broken : (A M : Type 0) (input : List ℕ) (c : Configuration) (orders : List Order) (before after : Option (List ℕ)) → schedule_of input ≡ Ok (c, orders)
+pub broken : (A M : Type 0) (input : List ℕ) (c : ConfigValue) (orders : List CommandValue) (before after : Option (List ℕ)) → schedule_of input ≡ Ok (c, orders)
     → BrokenFrom A M c orders before after → Broken A M input before after
 unfolding played
 broken A M input c orders before after is from = record {
@@ -254,7 +248,7 @@ pub same_fault : {X E : Type 0} {one other : E} → ◌≡◌ {A = Result X E} (
 same_fault e = cc
 
 -- which faults end the playing of commands
-module _ (may : Type 0) (c : Configuration) where
+module _ (may : Type 0) (c : ConfigValue) where
   pub begun_ends : (fault : PlayFault) → NotBegun may c fault → EndsBy may c fault
   begun_ends faults.OutOfMemory why = why
   begun_ends (faults.World fault) why = why
@@ -276,7 +270,7 @@ module _ (may : Type 0) (c : Configuration) where
   not_broken fault why is = absurd (subst (NotBegun may c) is why)
 
   -- what a fault of playing says of the input
-  pub ended_refuses : (input : List ℕ) (orders : List Order) → schedule_of input ≡ Ok (c, orders) → (fault : PlayFault) → EndsBy may c fault → Refuses may input fault
+  pub ended_refuses : (input : List ℕ) (orders : List CommandValue) → schedule_of input ≡ Ok (c, orders) → (fault : PlayFault) → EndsBy may c fault → RefusesInput may input fault
   ended_refuses input orders is faults.OutOfMemory why = why
   ended_refuses input orders is faults.Write why = tt
   ended_refuses input orders is (faults.World fault) why = not_made may input c orders is fault why
@@ -309,7 +303,7 @@ module _ {X : Type 0} where
   pub made_no_fault : {P : Type 0} (x : X) (fault : PlayFault) → ◌≡◌ {A = Result X PlayFault} (Ok x) (Err fault) → P
   made_no_fault x fault clash = absurd cc
 
-  pub memory_ends : (may : Type 0) (c : Configuration) (r : Result X PlayFault) → IsErrAnd r (λ e. e ≡ faults.OutOfMemory) → may → IfErr r (NotBegun may c)
+  pub memory_ends : (may : Type 0) (c : ConfigValue) (r : Result X PlayFault) → IsErrAnd r (λ e. e ≡ faults.OutOfMemory) → may → IfErr r (NotBegun may c)
   memory_ends may c (Ok x) is memory = tt
   memory_ends may c (Err e) is memory = subst (NotBegun may c) (sym is) memory
 
@@ -319,6 +313,6 @@ module _ {X : Type 0} where
     world_no_memory (Ok x) is clash = absurd is
     world_no_memory (Err e) is clash = absurd cc
 
-    pub world_ends : (may : Type 0) (c : Configuration) (r : Result X PlayFault) → IsErrAnd r (λ e. e ≡ faults.World why) → CannotBegin may c why → IfErr r (NotBegun may c)
+    pub world_ends : (may : Type 0) (c : ConfigValue) (r : Result X PlayFault) → IsErrAnd r (λ e. e ≡ faults.World why) → CannotBegin may c why → IfErr r (NotBegun may c)
     world_ends may c (Ok x) is begins = tt
     world_ends may c (Err e) is begins = subst (NotBegun may c) (sym is) begins

@@ -1,1 +1,5 @@
+mod Queries
+mod Failures
+mod Taking
+mod Leading
 mod Beginning

@@ -1,18 +1,16 @@
 //! A schedule: a configuration and a script, parted by a line `---`.
 
-ghost use Rattle.std.specs.Prelude.{◌≡◌, false, map, replicate, OnOk, OnErr, IfOk, IfErr, IfSome, IsErrOf};
-ghost use Rattle.std.specs.FinMap.{empty};
-ghost use Rattle.lisp_nonces.specs.declared.fate.Fate.TheVariants.{Done};
+ghost use Rattle.std.specs.Prelude.{◌≡◌, false, map, replicate, Some, OnOk, OnErr, IfOk, IfErr, IsErrOf};
 ghost use Rattle.lisp_world.specs.Openings.{repeats};
-ghost use Rattle.lisp_script.specs.Order.{order};
-ghost use Rattle.lisp_player.specs.Schedule.{NotBegun, EndsBy, Refuses, IsSilent, Begins, PlayedFrom, Played, StoppedFrom, Stopped, BrokenFrom, Broken};
-ghost use Rattle.lisp_streams.specs.declared.play_fault.PlayFault.TheVariants as faults;
+ghost use Rattle.lisp_script.specs.Command.{command_value};
+ghost use Rattle.lisp_player.specs.Schedule.{Begins, BrokenFrom, Cuts, Ends, EndsBy, IsSilentElse, NotBegun, PlayedFrom, Refuses, RefusesInput, StoppedFrom, Stops, fresh};
+ghost use Rattle.lisp_script.specs.declared.play_fault.PlayFault.TheVariants as faults;
 
+use crate::playing::play_on;
 use lisp_memory::{FallibleVec, Memory};
 use lisp_nonces::MemoryStore;
-use lisp_playing::{Command, PlayFault, play_on};
+use lisp_script::{Command, PlayFault, read_schedule, read_to_end};
 use lisp_sites::Config;
-use lisp_streams::{read_schedule, read_to_end};
 use lisp_world::World;
 use std::alloc::{AllocError, Allocator, Global};
 use std::io::{Read, Write};
@@ -30,11 +28,14 @@ pub fn play<A: Memory + Copy, R: Read, W: Write>(
     reader: &mut R,
     writer: &mut W,
 ) -> Result<(), PlayFault>
-    ensures plays { OnOk result (IfSome (R.remaining reader.old) (λ input. Played A A.may_refuse input (λ orders. orders) (W.contents writer.old) (W.contents writer.new))) }
-    ensures stops { IsErrOf result PlayFault.OutOfMemory → IfSome (R.remaining reader.old) (λ input. Stopped A A.may_refuse input (W.contents writer.old) (W.contents writer.new)) }
-    ensures breaks { IsErrOf result faults.Write → IfSome (R.remaining reader.old) (λ input. Broken A A.may_refuse input (W.contents writer.old) (W.contents writer.new)) }
-    ensures refuses { IfErr result (λ fault. IfSome (R.remaining reader.old) (λ input. Refuses A.may_refuse input fault)) }
-    ensures silent { IfErr result (λ fault. IsSilent fault (W.contents writer.old) (W.contents writer.new)) }
+    ensures plays { Ends result A A.may_refuse (R.remaining reader.old)
+        W.contents writer.old writer.new }
+    ensures stops { Stops result A A.may_refuse (R.remaining reader.old)
+        W.contents writer.old writer.new }
+    ensures breaks { Cuts result A A.may_refuse (R.remaining reader.old)
+        W.contents writer.old writer.new }
+    ensures refuses { Refuses result A.may_refuse (R.remaining reader.old) }
+    ensures silent { IsSilentElse result W.contents writer.old writer.new }
     ensures memory { IsErrOf result PlayFault.OutOfMemory → A.may_refuse }
 {
     let input = read_to_end(alloc, reader)?;
@@ -48,11 +49,11 @@ fn play_input<A: Memory + Copy, W: Write>(
     input: &[u8],
     writer: &mut W,
 ) -> Result<(), PlayFault>
-    ensures plays { OnOk result (Played A A.may_refuse input.now (λ orders. orders) (W.contents writer.old) (W.contents writer.new)) }
-    ensures stops { IsErrOf result PlayFault.OutOfMemory → Stopped A A.may_refuse input.now (W.contents writer.old) (W.contents writer.new) }
-    ensures breaks { IsErrOf result faults.Write → Broken A A.may_refuse input.now (W.contents writer.old) (W.contents writer.new) }
-    ensures refuses { IfErr result (λ fault. Refuses A.may_refuse input.now fault) }
-    ensures silent { IfErr result (λ fault. IsSilent fault (W.contents writer.old) (W.contents writer.new)) }
+    ensures plays { Ends result A A.may_refuse (Some input.now) W.contents writer.old writer.new }
+    ensures stops { Stops result A A.may_refuse (Some input.now) W.contents writer.old writer.new }
+    ensures breaks { Cuts result A A.may_refuse (Some input.now) W.contents writer.old writer.new }
+    ensures refuses { IfErr result (λ fault. RefusesInput A.may_refuse input.now fault) }
+    ensures silent { IsSilentElse result W.contents writer.old writer.new }
     ensures memory { IsErrOf result PlayFault.OutOfMemory → A.may_refuse }
 {
     let (config, commands) = read_schedule(heap, alloc, input)?;
@@ -66,10 +67,15 @@ fn play_commands<A: Memory + Copy, E: Allocator, F: Allocator, W: Write>(
     commands: &[Command<F>],
     writer: &mut W,
 ) -> Result<(), PlayFault>
-    ensures plays { OnOk result (PlayedFrom A A.may_refuse config.now (map order commands.now) (W.contents writer.old) (W.contents writer.new)) }
-    ensures stops { IsErrOf result PlayFault.OutOfMemory → StoppedFrom A A.may_refuse config.now (map order commands.now) (W.contents writer.old) (W.contents writer.new) }
-    ensures breaks { IsErrOf result faults.Write → BrokenFrom A A.may_refuse config.now (map order commands.now) (W.contents writer.old) (W.contents writer.new) }
-    ensures silent { IfErr result (λ fault. IsSilent fault (W.contents writer.old) (W.contents writer.new)) }
+    ensures plays { OnOk result (PlayedFrom A A.may_refuse config.now
+        (map command_value commands.now) (W.contents writer.old) (W.contents writer.new)) }
+    ensures stops { IsErrOf result PlayFault.OutOfMemory
+        → StoppedFrom A A.may_refuse config.now (map command_value commands.now)
+        (W.contents writer.old) (W.contents writer.new) }
+    ensures breaks { IsErrOf result faults.Write
+        → BrokenFrom A A.may_refuse config.now (map command_value commands.now)
+        (W.contents writer.old) (W.contents writer.new) }
+    ensures silent { IsSilentElse result W.contents writer.old writer.new }
     ensures memory { IsErrOf result PlayFault.OutOfMemory → A.may_refuse }
     ensures faults { IfErr result (EndsBy A.may_refuse config.now) }
 {
@@ -93,7 +99,7 @@ fn begin<A: Memory + Copy, E: Allocator>(
 
 // So many stores that keep nothing.
 fn stores<A: Memory + Copy>(alloc: A, count: usize) -> Result<Vec<MemoryStore<A>, A>, AllocError>
-    ensures empty { IfOk result (λ stores. stores.items ≡ replicate count (record { kept = empty; faults = 0; fate = Done })) }
+    ensures empty { IfOk result (λ stores. stores.items ≡ replicate count fresh) }
     ensures memory { OnErr result A.may_refuse }
 {
     let mut stores = Vec::new(alloc);

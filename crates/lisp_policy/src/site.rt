@@ -1,10 +1,9 @@
 //! A site of a Map-Server: its secrets, and the prefixes that its routers may register.
 
 ghost use Rattle.std.specs.Prelude.{◌≡◌, ◌↔◌, IsTrue, IfOk, OnErr};
-ghost use Rattle.std.specs.List.{list_any};
 ghost use Rattle.std.specs.Option.{option_map};
 ghost use Rattle.lisp_policy.specs.Index.{Indexes};
-ghost use Rattle.lisp_policy.specs.Site.{Allowed, is_allowed, has_address, lets_in, secret_of};
+ghost use Rattle.lisp_policy.specs.Site.{site_with, Allowed, is_allowed, has_address, lets_in, secret_of};
 
 use crate::index::Index;
 use lisp_hmac::Key;
@@ -23,9 +22,9 @@ pub struct SiteKey {
 }
 
 impl Model for SiteKey {
-    ghost use Rattle.lisp_policy.specs.Site.{KeyEntry};
+    ghost use Rattle.lisp_policy.specs.Site.{SiteKeyValue};
 
-    ghost Value = { KeyEntry };
+    ghost Value = { SiteKeyValue };
 
     ghost view = { λ k. record { id = k.id; secret = k.key } };
 }
@@ -82,9 +81,9 @@ pub struct Site<A: Allocator = Global> {
 
 impl<A: Allocator> Model for Site<A> {
     ghost use Rattle.lisp_policy.specs.Index.{Indexes};
-    ghost use Rattle.lisp_policy.specs.Site.{SiteEntry};
+    ghost use Rattle.lisp_policy.specs.Site.{SiteValue};
 
-    ghost Value = { SiteEntry };
+    ghost Value = { SiteValue };
 
     ghost view = { λ s. record { id = s.id; keys = s.keys.items; prefixes = s.prefixes.items } };
 
@@ -99,7 +98,7 @@ impl<A: Memory> Site<A> {
         keys: Vec<SiteKey, A>,
         prefixes: Vec<SitePrefix, A>,
     ) -> Result<Site<A>, AllocError>
-        ensures site { IfOk result (λ s. s ≡ record { id = id; keys = keys.items; prefixes = prefixes.items }) }
+        ensures site { IfOk result (λ s. s ≡ site_with id keys.items prefixes.items) }
         ensures memory { OnErr result A.may_refuse }
     {
         let by_id = index_of(alloc, &keys)?;

@@ -2,7 +2,7 @@
 
 ghost use Rattle.std.specs.Prelude.{◌≡◌, [], ◌∷◌, ◌++◌, IfOk, OnOk, OnErr};
 ghost use Rattle.std.specs.Option.{option_map};
-ghost use Rattle.lisp_policy.specs.Site.{site_of, is_configured, single};
+ghost use Rattle.lisp_policy.specs.Site.{site_with, site_of, is_configured, single};
 
 use crate::index::Index;
 use crate::site::{Site, SiteKey, SitePrefix};
@@ -22,9 +22,9 @@ pub struct Sites<A: Allocator = Global> {
 impl<A: Allocator> Model for Sites<A> {
     ghost use Rattle.std.specs.Prelude.{List};
     ghost use Rattle.lisp_policy.specs.Index.{Indexes};
-    ghost use Rattle.lisp_policy.specs.Site.{SiteEntry};
+    ghost use Rattle.lisp_policy.specs.Site.{SiteValue};
 
-    ghost Value = { List SiteEntry };
+    ghost Value = { List SiteValue };
 
     ghost view = { λ s. s.items.items };
 
@@ -126,7 +126,7 @@ fn one_site<A: Memory + Copy>(
     key: SiteKey,
     entry: SitePrefix,
 ) -> Result<Site<A>, AllocError>
-    ensures site { IfOk result (λ s. s ≡ record { id = id; keys = key ∷ []; prefixes = entry ∷ [] }) }
+    ensures site { IfOk result (λ s. s ≡ site_with id (key ∷ []) (entry ∷ [])) }
     ensures memory { OnErr result A.may_refuse }
 {
     let mut keys = Vec::new(alloc);

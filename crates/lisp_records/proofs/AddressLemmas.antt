@@ -6,7 +6,7 @@ use Rattle.std.proofs.lemmas.Nat.{shl-shr, shr_split, pow-add}
 use Rattle.lisp_records.specs.declared.address.Addr.{Addr}
 use Rattle.lisp_records.specs.declared.address.Addr.TheVariants.{V4, V6}
 use Rattle.lisp_records.specs.declared.address.Family.{Family}
-use Rattle.lisp_records.specs.Address.{width, family, IsWhole, max_len, high_bits, masked, cleared, Block, IsBlock, Covers, Holds}
+use Rattle.lisp_records.specs.Address.{width, family, IsWhole, max_len, high_bits, masked, cleared, PrefixValue, IsPrefix, Covers, Holds}
 
 -- clearing a byte's last bits twice is clearing them once
 pub high_bits-again : (byte k : ℕ) → high_bits (high_bits byte k) k ≡ high_bits byte k
@@ -54,7 +54,7 @@ IsWhole-cleared (V4 bytes) n whole = record { width = length-masked bytes n ∙ 
 IsWhole-cleared (V6 bytes) n whole = record { width = length-masked bytes n ∙ whole.width; bytes = masked-bytes bytes n whole.bytes }
 
 -- an address cleared past a mask that fits it is a block with that mask
-pub IsBlock-cleared : (a : Addr) (n : ℕ) → n ≤ max_len a → IsBlock (record { addr = cleared a n; mask_len = n })
+pub IsBlock-cleared : (a : Addr) (n : ℕ) → n ≤ max_len a → IsPrefix (record { addr = cleared a n; mask_len = n })
 IsBlock-cleared (V4 bytes) n fits = (fits, cleared-again (V4 bytes) n)
 IsBlock-cleared (V6 bytes) n fits = (fits, cleared-again (V6 bytes) n)
 
@@ -79,5 +79,5 @@ cleared-wider (V4 bytes) n m le = ap V4 (masked-wider bytes n m le)
 cleared-wider (V6 bytes) n m le = ap V6 (masked-wider bytes n m le)
 
 -- what a covered block holds, the covering one holds
-pub covers_holds : (b c : Block) (a : Addr) → Covers b c → Holds c a → Holds b a
+pub covers_holds : (b c : PrefixValue) (a : Addr) → Covers b c → Holds c a → Holds b a
 covers_holds b c a covers holds = sym (cleared-wider a c.mask_len b.mask_len covers.0) ∙ ap (λ (x : Addr). cleared x b.mask_len) holds ∙ covers.1

@@ -11,8 +11,8 @@ use Rattle.std.proofs.lemmas.Map.Keys.{IsDistinct-IsPermutation}
 use Rattle.std.proofs.lemmas.Map.Made.{AllPairs-from_IsDistinct, IsDistinct-from_AllPairs}
 use Rattle.lisp_records.specs.declared.address.Addr.{Addr}
 use Rattle.lisp_records.specs.declared.address.Addr.TheVariants.{V4, V6}
-use Rattle.lisp_records.specs.Address.{Block, addr_eq, block_eq}
-use Rattle.lisp_records.specs.Record.{Mapping}
+use Rattle.lisp_records.specs.Address.{PrefixValue, addr_eq, prefix_eq}
+use Rattle.lisp_records.specs.Record.{MapRecordValue}
 use Rattle.lisp_records.specs.Written.{written}
 use Rattle.lisp_records.specs.declared.database.DatabaseFault.{DatabaseFault}
 use Rattle.lisp_records.specs.declared.database.DatabaseFault.TheVariants.{RepeatedPrefix, TooLarge}
@@ -26,10 +26,10 @@ addr_eq-Decides (V6 a) (V4 b) = (λ t. absurd cc, λ e. absurd cc)
 addr_eq-Decides (V6 a) (V6 b) = (λ t. ap V6 ((bytes_eq-Decides a b).0 t), λ e. (bytes_eq-Decides a b).1 cc)
 
 -- the test of blocks decides whether they are equal
-pub block_eq-Decides : (a b : Block) → Decides (block_eq a b) (a ≡ b)
+pub block_eq-Decides : (a b : PrefixValue) → Decides (prefix_eq a b) (a ≡ b)
 block_eq-Decides a b =
     let both = Decides-and _ _ (addr_eq-Decides a.addr b.addr) (Decides-eqb a.mask_len b.mask_len) in
-    (λ t. (let e = both.0 t in λ i. record { addr = e.0 i; mask_len = e.1 i }), λ e. both.1 (ap (λ (x : Block). x.addr) e, ap (λ (x : Block). x.mask_len) e))
+    (λ t. (let e = both.0 t in λ i. record { addr = e.0 i; mask_len = e.1 i }), λ e. both.1 (ap (λ (x : PrefixValue). x.addr) e, ap (λ (x : PrefixValue). x.mask_len) e))
 
 -- neither of two tests is passed
 neither : (a b : Bool) → (a || b) ≡ false → (a ≡ false) × (b ≡ false)
@@ -41,41 +41,41 @@ none_of : (a b : Bool) → a ≡ false → b ≡ false → (a || b) ≡ false
 none_of a b x y = rw (x, y) refl
 
 -- no record is of a prefix that differs from all of theirs
-apart : (eid : Block) (ms : List Mapping) → has_prefix eid ms ≡ false → AllByRecursion (λ b. block_eq eid b ≡ false) (map (λ m. m.eid) ms)
+apart : (eid : PrefixValue) (ms : List MapRecordValue) → has_prefix eid ms ≡ false → AllByRecursion (λ b. prefix_eq eid b ≡ false) (map (λ m. m.eid) ms)
 apart eid [] none = tt
-apart eid (m ∷ ms) none = (let n = neither (block_eq eid m.eid) (has_prefix eid ms) none in (n.0, apart eid ms n.1))
+apart eid (m ∷ ms) none = (let n = neither (prefix_eq eid m.eid) (has_prefix eid ms) none in (n.0, apart eid ms n.1))
 
 -- the converse
-from_apart : (eid : Block) (ms : List Mapping) → AllByRecursion (λ b. block_eq eid b ≡ false) (map (λ m. m.eid) ms) → has_prefix eid ms ≡ false
+from_apart : (eid : PrefixValue) (ms : List MapRecordValue) → AllByRecursion (λ b. prefix_eq eid b ≡ false) (map (λ m. m.eid) ms) → has_prefix eid ms ≡ false
 from_apart eid [] all = refl
-from_apart eid (m ∷ ms) all = none_of (block_eq eid m.eid) (has_prefix eid ms) all.0 (from_apart eid ms all.1)
+from_apart eid (m ∷ ms) all = none_of (prefix_eq eid m.eid) (has_prefix eid ms) all.0 (from_apart eid ms all.1)
 
 -- no prefix is repeated: each differs from the later ones
-distinct : (ms : List Mapping) → repeats ms ≡ false → IsDistinct block_eq (map (λ m. m.eid) ms)
+distinct : (ms : List MapRecordValue) → repeats ms ≡ false → IsDistinct prefix_eq (map (λ m. m.eid) ms)
 unfolding repeats IsDistinct
 distinct [] none = tt
 distinct (m ∷ ms) none = (let n = neither (has_prefix m.eid ms) (repeats ms) none in (apart m.eid ms n.0, distinct ms n.1))
 
 -- the converse
-from_distinct : (ms : List Mapping) → IsDistinct block_eq (map (λ m. m.eid) ms) → repeats ms ≡ false
+from_distinct : (ms : List MapRecordValue) → IsDistinct prefix_eq (map (λ m. m.eid) ms) → repeats ms ≡ false
 unfolding repeats IsDistinct
 from_distinct [] all = refl
 from_distinct (m ∷ ms) all = none_of (has_prefix m.eid ms) (repeats ms) (from_apart m.eid ms all.0) (from_distinct ms all.1)
 
 -- no prefix is repeated exactly where each two differ
-pub distinct_prefixes : (ms : List Mapping) → (repeats ms ≡ false) ↔ AllPairs (λ a b. a ≢ b) (map (λ m. m.eid) ms)
+pub distinct_prefixes : (ms : List MapRecordValue) → (repeats ms ≡ false) ↔ AllPairs (λ a b. a ≢ b) (map (λ m. m.eid) ms)
 distinct_prefixes ms = (λ none. AllPairs-from_IsDistinct block_eq-Decides (map (λ m. m.eid) ms) (distinct ms none), λ all. from_distinct ms (IsDistinct-from_AllPairs block_eq-Decides (map (λ m. m.eid) ms) all))
 
 -- ---- another order
 
 -- the test of blocks does not mind which comes first
-block_eq-flips : (a b : Block) → block_eq a b ≡ block_eq b a
-block_eq-flips a b = same_from_decides (block_eq a b) (block_eq b a) (block_eq-Decides a b) (Decides-like (block_eq b a) sym sym (block_eq-Decides b a))
+block_eq-flips : (a b : PrefixValue) → prefix_eq a b ≡ prefix_eq b a
+block_eq-flips a b = same_from_decides (prefix_eq a b) (prefix_eq b a) (block_eq-Decides a b) (Decides-like (prefix_eq b a) sym sym (block_eq-Decides b a))
 
 -- records that do not repeat a prefix do not in another order
-still_distinct : (one other : List Mapping) → IsPermutation one other → repeats one ≡ false → repeats other ≡ false
+still_distinct : (one other : List MapRecordValue) → IsPermutation one other → repeats one ≡ false → repeats other ≡ false
 still_distinct one other moved none =
-    from_distinct other (IsDistinct-IsPermutation block_eq block_eq-flips (map (λ m. m.eid) one) (map (λ m. m.eid) other) (IsPermutation-map (λ (m : Mapping). m.eid) one other moved) (distinct one none))
+    from_distinct other (IsDistinct-IsPermutation prefix_eq block_eq-flips (map (λ m. m.eid) one) (map (λ m. m.eid) other) (IsPermutation-map (λ (m : MapRecordValue). m.eid) one other moved) (distinct one none))
 
 -- two tests that fail together are one
 fail_together : (a b : Bool) → (a ≡ false → b ≡ false) → (b ≡ false → a ≡ false) → b ≡ a
@@ -84,18 +84,18 @@ fail_together true false there back = sym (back refl)
 fail_together false b there back = there refl
 
 -- the tests of a database, and its answer
-abbrev tested : Bool → Bool → Bool → List Mapping → Result (List Mapping) DatabaseFault
+abbrev tested : Bool → Bool → Bool → List MapRecordValue → Result (List MapRecordValue) DatabaseFault
 tested many again large ms = cond many (Err TooLarge) (cond again (Err RepeatedPrefix) (cond large (Err TooLarge) (Ok ms)))
 
 -- one answer for both lists
-alike : (many again large : Bool) (one other : List Mapping) → (tested many again large one ≡ Ok one → tested many again large other ≡ Ok other) × ((fault : DatabaseFault) → tested many again large one ≡ Err fault → tested many again large other ≡ Err fault)
+alike : (many again large : Bool) (one other : List MapRecordValue) → (tested many again large one ≡ Ok one → tested many again large other ≡ Ok other) × ((fault : DatabaseFault) → tested many again large one ≡ Err fault → tested many again large other ≡ Err fault)
 alike true again large one other = (λ e. absurd cc, λ fault e. cc)
 alike false true large one other = (λ e. absurd cc, λ fault e. cc)
 alike false false true one other = (λ e. absurd cc, λ fault e. cc)
 alike false false false one other = (λ e. refl, λ fault e. absurd cc)
 
 -- the same records in another order are a database too, or fail alike
-pub any_order : (one other : List Mapping) → IsPermutation one other → (database_of one ≡ Ok one → database_of other ≡ Ok other) × ((fault : DatabaseFault) → database_of one ≡ Err fault → database_of other ≡ Err fault)
+pub any_order : (one other : List MapRecordValue) → IsPermutation one other → (database_of one ≡ Ok one → database_of other ≡ Ok other) × ((fault : DatabaseFault) → database_of one ≡ Err fault → database_of other ≡ Err fault)
 any_order one other moved =
     let many : length other ≡ length one = length_permutation one other moved in
     let again : repeats other ≡ repeats one = fail_together (repeats one) (repeats other) (still_distinct one other moved) (still_distinct other one (IsPermutation-sym one other moved)) in

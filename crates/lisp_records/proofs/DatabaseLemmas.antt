@@ -5,95 +5,95 @@ use Rattle.std.proofs.Math.ListN.{drop_of_length-le}
 use Rattle.std.proofs.lemmas.Bool.{ltb-false, le-ltb, lt-ltb}
 use Rattle.std.proofs.lemmas.List.{take_all, take_more, length-drop}
 use Rattle.std.proofs.lemmas.List.Sums.{sum_by_more}
-use Rattle.lisp_records.specs.Address.{Block, block_eq}
-use Rattle.lisp_records.specs.Record.{Mapping}
+use Rattle.lisp_records.specs.Address.{PrefixValue, prefix_eq}
+use Rattle.lisp_records.specs.Record.{MapRecordValue}
 use Rattle.lisp_records.specs.declared.database.DatabaseFault.{DatabaseFault}
 use Rattle.lisp_records.specs.declared.database.DatabaseFault.TheVariants.{RepeatedPrefix, TooLarge}
 use Rattle.lisp_records.specs.Database.{has_prefix, repeats, size, database_of}
 use Rattle.lisp_records.specs.Written.{written}
 
 -- the next record is looked at
-next_prefix : (ms : List Mapping) (i : ℕ) (m : Mapping) (eid own : Block) → i < length ms → m ≡ get_or ms i m → own ≡ m.eid → has_prefix eid (drop i ms) ≡ (block_eq eid own || has_prefix eid (drop (i + 1) ms))
+next_prefix : (ms : List MapRecordValue) (i : ℕ) (m : MapRecordValue) (eid own : PrefixValue) → i < length ms → m ≡ get_or ms i m → own ≡ m.eid → has_prefix eid (drop i ms) ≡ (prefix_eq eid own || has_prefix eid (drop (i + 1) ms))
 next_prefix ms i m eid own lt at of =
-    let here : own ≡ (get_or ms i m).eid = of ∙ ap (λ (x : Mapping). x.eid) at in
+    let here : own ≡ (get_or ms i m).eid = of ∙ ap (λ (x : MapRecordValue). x.eid) at in
     rw (here, drop-cons ms i m lt, add-one) refl
 
 -- it is of the EID-Prefix
-pub prefix_here : (ms : List Mapping) (i : ℕ) (m : Mapping) (eid own : Block) → i < length ms → m ≡ get_or ms i m → own ≡ m.eid → has_prefix eid (drop i ms) ≡ has_prefix eid ms → block_eq eid own ≡ true → true ≡ has_prefix eid ms
+pub prefix_here : (ms : List MapRecordValue) (i : ℕ) (m : MapRecordValue) (eid own : PrefixValue) → i < length ms → m ≡ get_or ms i m → own ≡ m.eid → has_prefix eid (drop i ms) ≡ has_prefix eid ms → prefix_eq eid own ≡ true → true ≡ has_prefix eid ms
 prefix_here ms i m eid own lt at of so_far met = sym (next_prefix ms i m eid own lt at of ∙ ap (λ (b : Bool). b || has_prefix eid (drop (i + 1) ms)) met) ∙ so_far
 
 -- it is of another
-pub prefix_goes_on : (ms : List Mapping) (i : ℕ) (m : Mapping) (eid own : Block) → i < length ms → m ≡ get_or ms i m → own ≡ m.eid → has_prefix eid (drop i ms) ≡ has_prefix eid ms → block_eq eid own ≡ false → has_prefix eid (drop (i + 1) ms) ≡ has_prefix eid ms
+pub prefix_goes_on : (ms : List MapRecordValue) (i : ℕ) (m : MapRecordValue) (eid own : PrefixValue) → i < length ms → m ≡ get_or ms i m → own ≡ m.eid → has_prefix eid (drop i ms) ≡ has_prefix eid ms → prefix_eq eid own ≡ false → has_prefix eid (drop (i + 1) ms) ≡ has_prefix eid ms
 prefix_goes_on ms i m eid own lt at of so_far other = sym (next_prefix ms i m eid own lt at of ∙ ap (λ (b : Bool). b || has_prefix eid (drop (i + 1) ms)) other) ∙ so_far
 
 -- no record is left
-pub prefix_ends : (ms : List Mapping) (i : ℕ) (eid : Block) → length ms ≤ i → has_prefix eid (drop i ms) ≡ has_prefix eid ms → false ≡ has_prefix eid ms
+pub prefix_ends : (ms : List MapRecordValue) (i : ℕ) (eid : PrefixValue) → length ms ≤ i → has_prefix eid (drop i ms) ≡ has_prefix eid ms → false ≡ has_prefix eid ms
 prefix_ends ms i eid le so_far =
     let none : has_prefix eid (drop i ms) ≡ false = rw (drop_of_length-le ms le) refl in
     sym none ∙ so_far
 
 -- the records behind a place
-abbrev pub behind : List Mapping → ℕ → List Mapping
+abbrev pub behind : List MapRecordValue → ℕ → List MapRecordValue
 behind ms i = take (length ms - (i + 1)) (drop (i + 1) ms)
 
-behind-is : (ms : List Mapping) (i : ℕ) → behind ms i ≡ drop (i + 1) ms
+behind-is : (ms : List MapRecordValue) (i : ℕ) → behind ms i ≡ drop (i + 1) ms
 behind-is ms i = take_all (length ms - (i + 1)) (drop (i + 1) ms) (omega (arith, length-drop (i + 1) ms))
 
 -- the next record is compared with those after it
-next_repeats : (ms : List Mapping) (i : ℕ) (m : Mapping) (eid : Block) → i < length ms → m ≡ get_or ms i m → eid ≡ m.eid → repeats (drop i ms) ≡ (has_prefix eid (behind ms i) || repeats (drop (i + 1) ms))
+next_repeats : (ms : List MapRecordValue) (i : ℕ) (m : MapRecordValue) (eid : PrefixValue) → i < length ms → m ≡ get_or ms i m → eid ≡ m.eid → repeats (drop i ms) ≡ (has_prefix eid (behind ms i) || repeats (drop (i + 1) ms))
 unfolding repeats
 next_repeats ms i m eid lt at of =
-    let here : eid ≡ (get_or ms i m).eid = of ∙ ap (λ (x : Mapping). x.eid) at in
+    let here : eid ≡ (get_or ms i m).eid = of ∙ ap (λ (x : MapRecordValue). x.eid) at in
     rw (behind-is ms i, here, drop-cons ms i m lt, add-one) refl
 
 -- a later record is of the same EID-Prefix
-pub repeats_here : (ms : List Mapping) (i : ℕ) (m : Mapping) (eid : Block) → i < length ms → m ≡ get_or ms i m → eid ≡ m.eid → repeats (drop i ms) ≡ repeats ms → has_prefix eid (behind ms i) ≡ true → true ≡ repeats ms
+pub repeats_here : (ms : List MapRecordValue) (i : ℕ) (m : MapRecordValue) (eid : PrefixValue) → i < length ms → m ≡ get_or ms i m → eid ≡ m.eid → repeats (drop i ms) ≡ repeats ms → has_prefix eid (behind ms i) ≡ true → true ≡ repeats ms
 repeats_here ms i m eid lt at of so_far met =
     sym (next_repeats ms i m eid lt at of ∙ ap (λ (b : Bool). b || repeats (drop (i + 1) ms)) met) ∙ so_far
 
 -- no later record is of the same EID-Prefix
-pub repeats_goes_on : (ms : List Mapping) (i : ℕ) (m : Mapping) (eid : Block) → i < length ms → m ≡ get_or ms i m → eid ≡ m.eid → repeats (drop i ms) ≡ repeats ms → has_prefix eid (behind ms i) ≡ false → repeats (drop (i + 1) ms) ≡ repeats ms
+pub repeats_goes_on : (ms : List MapRecordValue) (i : ℕ) (m : MapRecordValue) (eid : PrefixValue) → i < length ms → m ≡ get_or ms i m → eid ≡ m.eid → repeats (drop i ms) ≡ repeats ms → has_prefix eid (behind ms i) ≡ false → repeats (drop (i + 1) ms) ≡ repeats ms
 repeats_goes_on ms i m eid lt at of so_far none =
     sym (next_repeats ms i m eid lt at of ∙ ap (λ (b : Bool). b || repeats (drop (i + 1) ms)) none) ∙ so_far
 
 -- no record is left
-pub repeats_ends : (ms : List Mapping) (i : ℕ) → length ms ≤ i → repeats (drop i ms) ≡ repeats ms → false ≡ repeats ms
+pub repeats_ends : (ms : List MapRecordValue) (i : ℕ) → length ms ≤ i → repeats (drop i ms) ≡ repeats ms → false ≡ repeats ms
 unfolding repeats
 repeats_ends ms i le so_far =
     let none : repeats (drop i ms) ≡ false = rw (drop_of_length-le ms le) refl in
     sym none ∙ so_far
 
 -- the bytes of one more record are counted
-pub size_goes_on : (ms : List Mapping) (i sum len : ℕ) (m : Mapping) → i < length ms → m ≡ get_or ms i m → len ≡ length (written m) → sum ≡ size (take i ms) → sum + len ≡ size (take (i + 1) ms)
+pub size_goes_on : (ms : List MapRecordValue) (i sum len : ℕ) (m : MapRecordValue) → i < length ms → m ≡ get_or ms i m → len ≡ length (written m) → sum ≡ size (take i ms) → sum + len ≡ size (take (i + 1) ms)
 size_goes_on ms i sum len m lt at of so_far =
-    let here : len ≡ length (written (get_or ms i m)) = of ∙ ap (λ (x : Mapping). length (written x)) at in
-    rw (so_far, here) (sym (sum_by_more (λ (x : Mapping). length (written x)) ms i m lt))
+    let here : len ≡ length (written (get_or ms i m)) = of ∙ ap (λ (x : MapRecordValue). length (written x)) at in
+    rw (so_far, here) (sym (sum_by_more (λ (x : MapRecordValue). length (written x)) ms i m lt))
 
 -- one more record is copied
-pub copy_goes_on : (ms copies more : List Mapping) (i : ℕ) (m copy : Mapping) → i < length ms → m ≡ get_or ms i m → copy ≡ m → copies ≡ take i ms → more ≡ copies ++ copy ∷ [] → more ≡ take (i + 1) ms
+pub copy_goes_on : (ms copies more : List MapRecordValue) (i : ℕ) (m copy : MapRecordValue) → i < length ms → m ≡ get_or ms i m → copy ≡ m → copies ≡ take i ms → more ≡ copies ++ copy ∷ [] → more ≡ take (i + 1) ms
 copy_goes_on ms copies more i m copy lt at same so_far pushed =
     let here : copy ≡ get_or ms i m = same ∙ at in
     pushed ∙ rw (so_far, here, take_more ms i m lt) refl
 
 -- a test that refuses was not passed
-not_refused : (b : Bool) (d : DatabaseFault) (other : Result (List Mapping) DatabaseFault) (ms : List Mapping) → cond b (Err d) other ≡ Ok ms → b ≡ false
+not_refused : (b : Bool) (d : DatabaseFault) (other : Result (List MapRecordValue) DatabaseFault) (ms : List MapRecordValue) → cond b (Err d) other ≡ Ok ms → b ≡ false
 not_refused true d other ms e = absurd cc
 not_refused false d other ms e = refl
 
 -- a database has at most 255 records
-pub database_few : (ms : List Mapping) → database_of ms ≡ Ok ms → length ms < 256
+pub database_few : (ms : List MapRecordValue) → database_of ms ≡ Ok ms → length ms < 256
 database_few ms e = omega (arith, ltb-false _ _ (not_refused (ltb 255 (length ms)) TooLarge _ ms e))
 
 -- ---- the tests of a database, one after the other
 
-pub too_many : (ms : List Mapping) → 255 < length ms → Err TooLarge ≡ database_of ms
+pub too_many : (ms : List MapRecordValue) → 255 < length ms → Err TooLarge ≡ database_of ms
 too_many ms many = rw (lt-ltb 255 (length ms) many) refl
 
-pub repeated : (ms : List Mapping) → length ms ≤ 255 → repeats ms ≡ true → Err RepeatedPrefix ≡ database_of ms
+pub repeated : (ms : List MapRecordValue) → length ms ≤ 255 → repeats ms ≡ true → Err RepeatedPrefix ≡ database_of ms
 repeated ms few again = rw (le-ltb 255 (length ms) few, again) refl
 
-pub too_long : (ms : List Mapping) → length ms ≤ 255 → repeats ms ≡ false → 16384 < size ms → Err TooLarge ≡ database_of ms
+pub too_long : (ms : List MapRecordValue) → length ms ≤ 255 → repeats ms ≡ false → 16384 < size ms → Err TooLarge ≡ database_of ms
 too_long ms few once long = rw (le-ltb 255 (length ms) few, once, lt-ltb 16384 (size ms) long) refl
 
-pub is_database : (ms : List Mapping) → length ms ≤ 255 → repeats ms ≡ false → size ms ≤ 16384 → database_of ms ≡ Ok ms
+pub is_database : (ms : List MapRecordValue) → length ms ≤ 255 → repeats ms ≡ false → size ms ≤ 16384 → database_of ms ≡ Ok ms
 is_database ms few once short = rw (le-ltb 255 (length ms) few, once, le-ltb 16384 (size ms) short) refl

@@ -5,7 +5,7 @@ use Rattle.std.specs.List.{AllByRecursion}
 use Rattle.lisp_records.specs.declared.address.Addr.{Addr}
 use Rattle.lisp_records.specs.declared.locator.Locator.{Locator}
 use Rattle.lisp_records.specs.Address.{afi, family, octets, HasWidth, IsWhole}
-use Rattle.lisp_records.specs.Record.{Mapping, IsLocator, IsMapping}
+use Rattle.lisp_records.specs.Record.{MapRecordValue, IsLocator, IsMapRecord}
 use Rattle.lisp_records.specs.Spelling.{IsBytes, SpellsLocator, SpellsLocators, Spells}
 use Rattle.lisp_records.proofs.AddressLemmas.{IsWhole-cleared}
 use Rattle.lisp_records.proofs.Fields.{IsBytes-first, IsBytes-rest, each_byte}
@@ -35,7 +35,7 @@ eighth n k e lt = omega (arith, e, lt)
 twelve_bits : (high low n : ℕ) → high % 16 * 256 + low ≡ n → low < 256 → n < 4096
 twelve_bits high low n e lt = omega (arith, e, lt)
 
-pub record_fits : (bytes : List ℕ) (m : Mapping) → IsBytes bytes → Spells bytes m → IsMapping m
+pub record_fits : (bytes : List ℕ) (m : MapRecordValue) → IsBytes bytes → Spells bytes m → IsMapRecord m
 record_fits bytes m fits s =
     let head : List ℕ = to_be_bytes w32 m.ttl ++ length m.locators ∷ m.eid.mask_len ∷ s.flags ∷ s.reserved ∷ s.high ∷ s.low ∷ to_be_bytes w16 (afi (family m.eid.addr)) in
     let whole = subst IsBytes s.parts fits in

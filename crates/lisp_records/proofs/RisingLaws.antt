@@ -6,8 +6,8 @@ use Rattle.std.proofs.lemmas.Cmp.{nat_cmp_total, nat_list_cmp_total}
 use Rattle.std.proofs.lemmas.List.Sorted.{Contains-permutation, IsPermutation-sym}
 use Rattle.lisp_records.specs.declared.address.Addr.{Addr}
 use Rattle.lisp_records.specs.declared.address.Addr.TheVariants.{V4, V6}
-use Rattle.lisp_records.specs.Address.{addr_cmp, Block, block_cmp}
-use Rattle.lisp_records.specs.Record.{Mapping}
+use Rattle.lisp_records.specs.Address.{addr_cmp, PrefixValue, prefix_cmp}
+use Rattle.lisp_records.specs.Record.{MapRecordValue}
 
 -- ---- any strict order
 
@@ -68,14 +68,14 @@ then-turned Equal p = refl
 then-turned Greater p = refl
 
 -- the answer for two blocks, the other way round
-block_cmp-turned : (a b : Block) → block_cmp a b ≡ ordering_reverse (block_cmp b a)
+block_cmp-turned : (a b : PrefixValue) → prefix_cmp a b ≡ ordering_reverse (prefix_cmp b a)
 block_cmp-turned a b = (λ i. ordering_then (addr_cmp-turned a.addr b.addr i) (nat_cmp_total.antisymm a.mask_len b.mask_len i)) ∙ then-turned (addr_cmp b.addr a.addr) (nat_cmp b.mask_len a.mask_len)
 
 -- of two blocks one alone is below the other
-block_cmp-strict : (a b : Block) → block_cmp a b ≡ Less → block_cmp b a ≡ Less → ⊥
+block_cmp-strict : (a b : PrefixValue) → prefix_cmp a b ≡ Less → prefix_cmp b a ≡ Less → ⊥
 block_cmp-strict a b ab ba = (let clash : Less ≡ Greater = sym ab ∙ block_cmp-turned a b ∙ ap ordering_reverse ba in absurd cc)
 
 -- records in rising order of their EID-Prefixes have one order
-pub one_rising_order : (one other : List Mapping) → IsPermutation one other → AllPairs (λ a b. block_cmp a.eid b.eid ≡ Less) one → AllPairs (λ a b. block_cmp a.eid b.eid ≡ Less) other → one ≡ other
+pub one_rising_order : (one other : List MapRecordValue) → IsPermutation one other → AllPairs (λ a b. prefix_cmp a.eid b.eid ≡ Less) one → AllPairs (λ a b. prefix_cmp a.eid b.eid ≡ Less) other → one ≡ other
 one_rising_order one other moved up other_up =
-    one_order (λ a b. block_cmp a.eid b.eid ≡ Less) (λ a b. block_cmp-strict a.eid b.eid) one other up other_up (λ m. Contains-permutation one other m moved) (λ m. Contains-permutation other one m (IsPermutation-sym one other moved))
+    one_order (λ a b. prefix_cmp a.eid b.eid ≡ Less) (λ a b. block_cmp-strict a.eid b.eid) one other up other_up (λ m. Contains-permutation one other m moved) (λ m. Contains-permutation other one m (IsPermutation-sym one other moved))

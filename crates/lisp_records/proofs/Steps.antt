@@ -11,9 +11,9 @@ use Rattle.lisp_records.specs.declared.address.Family.TheVariants.{Ipv4, Ipv6}
 use Rattle.lisp_records.specs.declared.fault.RecordFault.{RecordFault}
 use Rattle.lisp_records.specs.declared.fault.RecordFault.TheVariants.{Short}
 use Rattle.lisp_records.specs.declared.locator.Locator.{Locator}
-use Rattle.lisp_records.specs.Address.{Block, cleared}
+use Rattle.lisp_records.specs.Address.{PrefixValue, cleared}
 use Rattle.lisp_records.specs.Result.{◌>>=◌}
-use Rattle.lisp_records.specs.Reading.{Fails, after, is_set, number_at, family_of, address_at, named_at, locator_of, locator_at, locators_at, mask_of, mapping_of, start_at, record_at}
+use Rattle.lisp_records.specs.Reading.{Fails, after, is_set, number_at, family_of, address_at, named_at, locator_of, locator_at, locators_at, mask_of, map_record_of, start_at, record_at}
 use Rattle.lisp_records.proofs.Fields.{done}
 use Rattle.lisp_records.proofs.Loop.{Fails-passed, Fails-met}
 
@@ -31,10 +31,10 @@ version_at : (high low n : ℕ) → n ≡ bit_and high 15 * 256 + low → n ≡ 
 version_at high low n masked = masked ∙ ap (λ (k : ℕ). k * 256 + low) (and_mask high 4)
 
 -- a record of what its first bytes say
-pub mapping_is : (head : List ℕ) (a : Addr) (ls : List Locator) (ttl version : ℕ) (authoritative : Bool) (eid : Block) → 4 ≤ length head
+pub mapping_is : (head : List ℕ) (a : Addr) (ls : List Locator) (ttl version : ℕ) (authoritative : Bool) (eid : PrefixValue) → 4 ≤ length head
     → ttl ≡ slice_index head 0 * 16777216 + slice_index head 1 * 65536 + slice_index head 2 * 256 + slice_index head 3 → authoritative ≡ is_set (slice_index head 6) 16
     → version ≡ bit_and (slice_index head 8) 15 * 256 + slice_index head 9 → eid ≡ record { addr = cleared a (slice_index head 5); mask_len = slice_index head 5 }
-    → record { ttl = ttl; act = slice_index head 6 / 32; authoritative = authoritative; version = version; eid = eid; locators = ls } ≡ mapping_of head a ls
+    → record { ttl = ttl; act = slice_index head 6 / 32; authoritative = authoritative; version = version; eid = eid; locators = ls } ≡ map_record_of head a ls
 mapping_is head a ls ttl version authoritative eid long first flag numbered block =
     rw (first ∙ sym (word_at head long), flag, version_at (slice_index head 8) (slice_index head 9) version numbered, block) refl
 
@@ -86,7 +86,7 @@ start_holds bytes x e read fails = let clash : done x ≡ Err e = sym read ∙ f
 
 -- ---- a record
 
-pub record_is : (bytes rest behind : List ℕ) (a : Addr) (ls : List Locator) → start_at bytes ≡ Ok (a, rest) → locators_at (slice_index bytes 4) rest ≡ Ok (ls, behind) → record_at bytes ≡ Ok (mapping_of bytes a ls, behind)
+pub record_is : (bytes rest behind : List ℕ) (a : Addr) (ls : List Locator) → start_at bytes ≡ Ok (a, rest) → locators_at (slice_index bytes 4) rest ≡ Ok (ls, behind) → record_at bytes ≡ Ok (map_record_of bytes a ls, behind)
 unfolding record_at
 record_is bytes rest behind a ls started taken = rw (started, taken) refl
 

@@ -6,11 +6,11 @@ use Rattle.std.proofs.lemmas.List.{append-nil, take_more}
 use Rattle.lisp_records.specs.declared.address.Addr.{Addr}
 use Rattle.lisp_records.specs.declared.locator.Locator.{Locator}
 use Rattle.lisp_records.specs.Address.{family, width, octets, IsWhole}
-use Rattle.lisp_records.specs.Record.{Mapping}
+use Rattle.lisp_records.specs.Record.{MapRecordValue}
 use Rattle.lisp_records.specs.Written.{written_head, written_afi, written_address, written_locator, written_locators, written}
 
 -- a record is its head, its EID-Prefix and its locators
-pub length-written : (m : Mapping) → IsWhole m.eid.addr → length (written m) ≡ 12 + width (family m.eid.addr) + length (written_locators m.locators)
+pub length-written : (m : MapRecordValue) → IsWhole m.eid.addr → length (written m) ≡ 12 + width (family m.eid.addr) + length (written_locators m.locators)
 unfolding written
 length-written m whole =
     omega (arith, length-append (written_head m) (written_address m.eid.addr ++ written_locators m.locators), length-append (written_address m.eid.addr) (written_locators m.locators), whole.width)
@@ -22,7 +22,7 @@ front_appended r old new part head front bytes a items joined made own =
     items ∙ ap (λ (t : List ℕ). if is_ok r then old ++ t else old) (joined ∙ ap (λ (t : List ℕ). t ++ bytes) made ∙ ap (λ (t : List ℕ). front ++ t) (sym own))
 
 -- a record that was appended part by part
-pub written_from : (m : Mapping) (a b c : List ℕ) → b ≡ a ++ ((written_head m ++ written_afi m.eid.addr) ++ octets m.eid.addr) → c ≡ b ++ written_locators m.locators → c ≡ a ++ written m
+pub written_from : (m : MapRecordValue) (a b c : List ℕ) → b ≡ a ++ ((written_head m ++ written_afi m.eid.addr) ++ octets m.eid.addr) → c ≡ b ++ written_locators m.locators → c ≡ a ++ written m
 unfolding written
 written_from m a b c to_b to_c =
     to_c ∙ rw (to_b, append_assoc, append_assoc, append_assoc, append_assoc) refl

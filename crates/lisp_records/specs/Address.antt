@@ -58,20 +58,24 @@ cleared (V4 bytes) n = V4 (masked bytes n)
 cleared (V6 bytes) n = V6 (masked bytes n)
 
 -- a block of addresses: those that share the first mask_len bits of addr
-pub record Block : Type 0 where
+pub record PrefixValue : Type 0 where
   pub addr : Addr
   pub mask_len : ℕ
 
+-- the block of the addresses that share the first n bits of an address
+abbrev pub prefix_around : Addr → ℕ → PrefixValue
+prefix_around a n = record { addr = cleared a n; mask_len = n }
+
 -- the mask fits the family, and no bit is set past it
-abbrev pub IsBlock : Block → Type 0
-IsBlock b = (b.mask_len ≤ max_len b.addr) × (cleared b.addr b.mask_len ≡ b.addr)
+abbrev pub IsPrefix : PrefixValue → Type 0
+IsPrefix b = (b.mask_len ≤ max_len b.addr) × (cleared b.addr b.mask_len ≡ b.addr)
 
 -- each address of the second block is one of the first
-abbrev pub Covers : Block → Block → Type 0
+abbrev pub Covers : PrefixValue → PrefixValue → Type 0
 Covers b other = (b.mask_len ≤ other.mask_len) × (cleared other.addr b.mask_len ≡ b.addr)
 
 -- the address is one of the block
-abbrev pub Holds : Block → Addr → Type 0
+abbrev pub Holds : PrefixValue → Addr → Type 0
 Holds b a = cleared a b.mask_len ≡ b.addr
 
 -- equality, covering and holding as tests
@@ -81,13 +85,13 @@ addr_eq (V4 _) (V6 _) = false
 addr_eq (V6 _) (V4 _) = false
 addr_eq (V6 a) (V6 b) = bytes_eq a b
 
-abbrev pub block_eq : Block → Block → Bool
-block_eq a b = addr_eq a.addr b.addr && (a.mask_len == b.mask_len)
+abbrev pub prefix_eq : PrefixValue → PrefixValue → Bool
+prefix_eq a b = addr_eq a.addr b.addr && (a.mask_len == b.mask_len)
 
-abbrev pub covers : Block → Block → Bool
+abbrev pub covers : PrefixValue → PrefixValue → Bool
 covers b other = nat_le b.mask_len other.mask_len && addr_eq (cleared other.addr b.mask_len) b.addr
 
-abbrev pub holds : Block → Addr → Bool
+abbrev pub holds : PrefixValue → Addr → Bool
 holds b a = addr_eq (cleared a b.mask_len) b.addr
 
 -- the order of addresses: IPv4 before IPv6, then by the first byte that differs
@@ -98,5 +102,5 @@ addr_cmp (V4 a) (V4 b) = slice_cmp nat_cmp a b
 addr_cmp (V6 a) (V6 b) = slice_cmp nat_cmp a b
 
 -- the order of blocks: by address, then by mask length
-abbrev pub block_cmp : Block → Block → Ordering
-block_cmp a b = ordering_then (addr_cmp a.addr b.addr) (nat_cmp a.mask_len b.mask_len)
+abbrev pub prefix_cmp : PrefixValue → PrefixValue → Ordering
+prefix_cmp a b = ordering_then (addr_cmp a.addr b.addr) (nat_cmp a.mask_len b.mask_len)

@@ -3,6 +3,7 @@ pub mod Moment
 pub mod Address
 pub mod Record
 pub mod Spelling
+pub mod Format
 pub mod Grown
 pub mod Written
 pub mod Result

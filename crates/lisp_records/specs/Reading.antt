@@ -1,5 +1,5 @@
 -- Reading a record from left to right, with the first fault that is met.
-use Rattle.std.specs.Prelude.{◌≡◌, ℕ, zero, suc, ◌+◌, ◌*◌, ◌/◌, ◌%◌, ◌<◌, List, [], ◌∷◌, length, take, drop, Result, Ok, Err, Bool, nat_lt, ◌==◌, if◌then◌else◌, slice_index}
+use Rattle.std.specs.Prelude.{◌≡◌, ℕ, zero, suc, ◌+◌, ◌*◌, ◌/◌, ◌%◌, ◌<◌, List, [], ◌∷◌, ◌++◌, length, take, drop, Result, Ok, Err, Bool, nat_lt, ◌==◌, if◌then◌else◌, slice_index, IsErrOf}
 use Rattle.std.specs.Int.{w16, w32, from_be_bytes}
 use Rattle.lisp_records.specs.declared.address.Addr.{Addr}
 use Rattle.lisp_records.specs.declared.address.Addr.TheVariants.{V4, V6}
@@ -9,8 +9,10 @@ use Rattle.lisp_records.specs.declared.locator.Locator.{Locator}
 use Rattle.lisp_records.specs.Result.{◌>>=◌}
 use Rattle.lisp_records.specs.declared.fault.RecordFault.{RecordFault}
 use Rattle.lisp_records.specs.declared.fault.RecordFault.TheVariants.{Short, Afi, Mask, OutOfMemory}
-use Rattle.lisp_records.specs.Address.{width, cleared}
-use Rattle.lisp_records.specs.Record.{Mapping}
+use Rattle.lisp_records.specs.Address.{width, prefix_around}
+use Rattle.lisp_records.specs.Record.{MapRecordValue}
+use Rattle.lisp_records.specs.Spelling.{Spells}
+use Rattle.lisp_records.specs.Written.{written}
 
 -- a fault is the one that reading meets, except that out of memory may come at any time
 abbrev pub Fails : {Y : Type 0} → RecordFault → Result Y RecordFault → Type 0
@@ -23,6 +25,10 @@ Fails Mask read = read ≡ Err Mask
 abbrev pub Gives : {X Y : Type 0} → (X → Y) → Result X RecordFault → Result Y RecordFault → Type 0
 Gives view (Ok x) read = read ≡ Ok (view x)
 Gives view (Err e) read = Fails e read
+
+-- what holds where a function answers that it is out of memory
+abbrev pub IfOutOfMemory : {X : Type 0} → Result X RecordFault → Type 0 → Type 0
+IfOutOfMemory result P = IsErrOf result OutOfMemory → P
 
 -- the bytes after a field of so many
 abbrev pub after : ℕ → List ℕ → Result (List ℕ) RecordFault
@@ -86,13 +92,13 @@ locators_at (suc n) bytes = do
   others ← locators_at n first.1
   Ok (first.0 ∷ others.0, others.1)
 
-abbrev pub mapping_of : List ℕ → Addr → List Locator → Mapping
-mapping_of bytes addr locators = record {
+abbrev pub map_record_of : List ℕ → Addr → List Locator → MapRecordValue
+map_record_of bytes addr locators = record {
   ttl = from_be_bytes w32 (take 4 bytes);
   act = slice_index bytes 6 / 32;
   authoritative = is_set (slice_index bytes 6) 16;
   version = slice_index bytes 8 % 16 * 256 + slice_index bytes 9;
-  eid = record { addr = cleared addr (slice_index bytes 5); mask_len = slice_index bytes 5 };
+  eid = prefix_around addr (slice_index bytes 5);
   locators = locators;
 }
 
@@ -105,11 +111,19 @@ start_at bytes = do
   mask_len ← mask_of f (slice_index bytes 5)
   address_at f rest
 
-unfoldable pub record_at : List ℕ → Result (Mapping × List ℕ) RecordFault
+unfoldable pub record_at : List ℕ → Result (MapRecordValue × List ℕ) RecordFault
 record_at bytes = do
   addr ← start_at bytes
   locators ← locators_at (slice_index bytes 4) addr.1
-  Ok (mapping_of bytes addr.0 locators.0, locators.1)
+  Ok (map_record_of bytes addr.0 locators.0, locators.1)
+
+-- a function gives each record that is spelled at a place, whatever follows it, with the place after it
+abbrev pub GivesSpelling : List ℕ → ℕ → Result (MapRecordValue × ℕ) RecordFault → Type 0
+GivesSpelling bytes at result = (m : MapRecordValue) (text rest : List ℕ) → Spells text m → drop at bytes ≡ text ++ rest → Gives (λ x. x) result (Ok (m, at + length text))
+
+-- what is written of a record is read again, and what follows it is left
+abbrev pub ReadsBack : MapRecordValue → List ℕ → Type 0
+ReadsBack m rest = record_at (written m ++ rest) ≡ Ok (m, rest)
 
 -- the Locator Count is not 0: only then reading a record takes memory
 abbrev pub HasLocators : List ℕ → Type 0

@@ -11,3 +11,7 @@ abbrev pub ◌>>=◌ : {A B E : Type 0} → Result A E → (A → Result B E) �
 abbrev pub Reads : {X Y E : Type 0} → (X → Y) → Result X E → Result Y E → Type 0
 Reads view (Ok x) read = read ≡ Ok (view x)
 Reads view (Err e) read = read ≡ Err e
+
+-- a fault of the first answer is the second answer
+abbrev pub PassesFault : {X Y E : Type 0} → Result X E → Result Y E → Type 0
+PassesFault {E = E} first second = (fault : E) → first ≡ Err fault → second ≡ Err fault

@@ -1,11 +1,11 @@
 -- Which bytes spell a record: an equation for the whole list, then one for each field. Bits that
 -- stand in no equation are free, as the reserved ones are, and the EID's bits past its mask.
-use Rattle.std.specs.Prelude.{◌≡◌, ℕ, ◌+◌, ◌*◌, ◌/◌, ◌%◌, ◌^◌, ◌<◌, List, [], ◌∷◌, ◌++◌, length, slice_index_or}
+use Rattle.std.specs.Prelude.{◌≡◌, ℕ, ◌+◌, ◌*◌, ◌/◌, ◌%◌, ◌^◌, ◌<◌, ◌≤◌, List, [], ◌∷◌, ◌++◌, length, slice_index_or, slice_range}
 use Rattle.std.specs.Int.{w16, w32, to_be_bytes}
 use Rattle.lisp_records.specs.declared.address.Addr.{Addr}
 use Rattle.lisp_records.specs.declared.locator.Locator.{Locator}
-use Rattle.lisp_records.specs.Address.{afi, family, octets, HasWidth, cleared, Block, IsBlock}
-use Rattle.lisp_records.specs.Record.{Mapping, bit}
+use Rattle.lisp_records.specs.Address.{afi, family, octets, HasWidth, cleared, PrefixValue, IsPrefix}
+use Rattle.lisp_records.specs.Record.{MapRecordValue, bit}
 
 -- each item is a byte
 abbrev pub IsBytes : List ℕ → Type 0
@@ -27,15 +27,15 @@ SpellsLocators bytes [] = bytes ≡ []
 SpellsLocators bytes (l ∷ ls) = (first : List ℕ) × (others : List ℕ) × (bytes ≡ first ++ others) × SpellsLocator first l × SpellsLocators others ls
 
 -- the EID-Prefix: any address of the block
-pub record SpellsEid (bytes : List ℕ) (b : Block) : Type 0 where
+pub record SpellsEid (bytes : List ℕ) (b : PrefixValue) : Type 0 where
   pub written : Addr
   pub parts : bytes ≡ octets written
   pub addr : HasWidth written
   pub masked : cleared written b.mask_len ≡ b.addr
-  pub block : IsBlock b
+  pub block : IsPrefix b
 
 -- a record (RFC 9301 section 5.4)
-pub record Spells (bytes : List ℕ) (m : Mapping) : Type 0 where
+pub record Spells (bytes : List ℕ) (m : MapRecordValue) : Type 0 where
   pub flags : ℕ
   pub reserved : ℕ
   pub high : ℕ
@@ -49,3 +49,7 @@ pub record Spells (bytes : List ℕ) (m : Mapping) : Type 0 where
   pub version : high % 16 * 256 + low ≡ m.version
   pub prefix : SpellsEid eid m.eid
   pub each : SpellsLocators locators m.locators
+
+-- the bytes from one place to another, which is not past their end, spell a record
+abbrev pub SpellsBetween : List ℕ → ℕ → ℕ → MapRecordValue → Type 0
+SpellsBetween bytes at next m = (at ≤ next) × (next ≤ length bytes) × Spells (slice_range bytes at next) m

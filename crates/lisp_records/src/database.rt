@@ -49,10 +49,10 @@ pub struct Database<A: Allocator = Global> {
 
 impl<A: Allocator> Model for Database<A> {
     ghost use Rattle.std.specs.Prelude.{◌≡◌, List, Ok};
-    ghost use Rattle.lisp_records.specs.Record.{Mapping};
+    ghost use Rattle.lisp_records.specs.Record.{MapRecordValue};
     ghost use Rattle.lisp_records.specs.Database.{database_of};
 
-    ghost Value = { List Mapping };
+    ghost Value = { List MapRecordValue };
 
     ghost view = { λ d. d.records.items };
 

@@ -1,20 +1,18 @@
 //! What holds of the format itself: each function's contract is a law, and its body is empty, or the constant that the
 //! law is about.
 
-ghost use Rattle.std.specs.Prelude.{◌≡◌, ◌≢◌, ◌↔◌, ℕ, List, [], ◌++◌, map, false, Ok, Err};
-ghost use Rattle.std.specs.declared.cmp.Ordering.TheVariants.{Less};
-ghost use Rattle.std.specs.List.{AllPairs};
+ghost use Rattle.std.specs.Prelude.{◌≡◌, ◌↔◌, ℕ, List, false};
 ghost use Rattle.std.specs.List.Sorted.{IsPermutation};
-ghost use Rattle.lisp_records.specs.Address.{Block, Covers, Holds, block_cmp};
+ghost use Rattle.lisp_records.specs.Address.{PrefixValue, Covers, Holds, prefix_cmp};
 ghost use Rattle.lisp_records.specs.Router.{router_cmp};
-ghost use Rattle.lisp_records.specs.Database.{repeats, database_of};
+ghost use Rattle.lisp_records.specs.Database.{repeats, PrefixesDiffer, SameIfRising, SameDatabase};
 ghost use Rattle.lisp_records.specs.Moment.{max_moment};
-ghost use Rattle.lisp_records.specs.Record.{Mapping, IsMapping};
-ghost use Rattle.lisp_records.specs.Spelling.{IsBytes, Spells};
+ghost use Rattle.lisp_records.specs.Record.{MapRecordValue, IsMapRecord};
+ghost use Rattle.lisp_records.specs.Spelling.{Spells};
+ghost use Rattle.lisp_records.specs.Format.{SpellsAtMostOne, NoSpellingBeginsAnother, SpellsOnly};
 ghost use Rattle.lisp_records.specs.Written.{written};
-ghost use Rattle.lisp_records.specs.Reading.{record_at};
+ghost use Rattle.lisp_records.specs.Reading.{ReadsBack};
 ghost use Rattle.lisp_records.specs.declared.address.Addr.{Addr};
-ghost use Rattle.lisp_records.specs.declared.database.DatabaseFault.{DatabaseFault};
 ghost use Rattle.lisp_records.specs.declared.router.RouterId.{RouterId};
 
 use crate::prefix::Prefix;
@@ -23,34 +21,34 @@ use crate::row::MAX_MOMENT;
 
 /// Bytes spell at most one record.
 pub fn one_record()
-    ensures { (bytes : List ℕ) (m n : Mapping) → Spells bytes m → Spells bytes n → m ≡ n }
+    ensures { SpellsAtMostOne Spells }
 {}
 
 /// No spelling of a record begins another.
 pub fn no_proper_prefix()
-    ensures { (bytes more : List ℕ) (m n : Mapping) → Spells bytes m → Spells (bytes ++ more) n → more ≡ [] }
+    ensures { NoSpellingBeginsAnother Spells }
 {}
 
 /// What bytes spell fits the format.
 pub fn spelt_records_fit()
-    ensures { (bytes : List ℕ) (m : Mapping) → IsBytes bytes → Spells bytes m → IsMapping m }
+    ensures { SpellsOnly IsMapRecord Spells }
 {}
 
 /// The written spelling of a record is one of its spellings.
 #[tactic(auto, using(crate::proofs::RecordLaws::written_spells))]
 pub fn written_spells()
-    ensures { (m : Mapping) → IsMapping m → Spells (written m) m }
+    ensures { (m : MapRecordValue) → IsMapRecord m → Spells (written m) m }
 {}
 
 /// What is written is read again, whatever follows it.
 #[tactic(auto, using(crate::proofs::RecordLaws::reads_back))]
 pub fn reads_back()
-    ensures { (m : Mapping) (rest : List ℕ) → IsMapping m → record_at (written m ++ rest) ≡ Ok (m, rest) }
+    ensures { (m : MapRecordValue) (rest : List ℕ) → IsMapRecord m → ReadsBack m rest }
 {}
 
 /// Prefixes are ordered by address, IPv4 before IPv6, and then by mask length.
 pub fn prefix_order()
-    ensures { (a b : Block) → ⟦<Prefix as Ord>⟧.cmp a b ≡ block_cmp a b }
+    ensures { (a b : PrefixValue) → ⟦<Prefix as Ord>⟧.cmp a b ≡ prefix_cmp a b }
 {}
 
 /// Routers are ordered by site, and then by xTR-ID.
@@ -61,25 +59,25 @@ pub fn router_order()
 /// What a covered block holds, the covering one holds.
 #[tactic(auto, using(crate::proofs::AddressLemmas::covers_holds))]
 pub fn covers_holds()
-    ensures { (b c : Block) (a : Addr) → Covers b c → Holds c a → Holds b a }
+    ensures { (b c : PrefixValue) (a : Addr) → Covers b c → Holds c a → Holds b a }
 {}
 
 /// No EID-Prefix is repeated exactly where those of each two records differ.
 #[tactic(auto, using(crate::proofs::DatabaseLaws::distinct_prefixes))]
 pub fn distinct_prefixes()
-    ensures { (ms : List Mapping) → (repeats ms ≡ false) ↔ AllPairs (λ a b. a ≢ b) (map (λ m. m.eid) ms) }
+    ensures { (ms : List MapRecordValue) → (repeats ms ≡ false) ↔ PrefixesDiffer ms }
 {}
 
 /// The same records in another order make a database too, or fail alike.
 #[tactic(auto, using(crate::proofs::DatabaseLaws::any_order))]
 pub fn any_order()
-    ensures { (one other : List Mapping) → IsPermutation one other → (database_of one ≡ Ok one → database_of other ≡ Ok other) × ((fault : DatabaseFault) → database_of one ≡ Err fault → database_of other ≡ Err fault) }
+    ensures { (one other : List MapRecordValue) → IsPermutation one other → SameDatabase one other }
 {}
 
 /// Records in rising order of their EID-Prefixes stand in one order alone.
 #[tactic(auto, using(crate::proofs::RisingLaws::one_rising_order))]
 pub fn one_rising_order()
-    ensures { (one other : List Mapping) → IsPermutation one other → AllPairs (λ a b. block_cmp a.eid b.eid ≡ Less) one → AllPairs (λ a b. block_cmp a.eid b.eid ≡ Less) other → one ≡ other }
+    ensures { (one other : List MapRecordValue) → IsPermutation one other → SameIfRising one other }
 {}
 
 /// `MAX_MOMENT` is 2^62 ms.

@@ -1,8 +1,8 @@
 //! Locators: where the addresses of a prefix are reached.
 
-ghost use Rattle.std.specs.Prelude.{◌≡◌, ◌+◌, ◌*◌, ◌++◌, ◌∷◌, ◌≤◌, length, OnErr, is_ok, if◌then◌else◌};
-ghost use Rattle.lisp_records.specs.Record.{bit};
-ghost use Rattle.lisp_records.specs.Written.{written_afi, written_locator};
+ghost use Rattle.std.specs.Prelude.{◌≡◌, ◌≤◌, length, OnErr};
+ghost use Rattle.lisp_memory.specs.Appending.{VecAppends};
+ghost use Rattle.lisp_records.specs.Written.{written_locator_head, written_locator};
 ghost use Rattle.lisp_records.specs.Result.{Reads};
 ghost use Rattle.lisp_records.specs.Reading.{locator_at};
 
@@ -96,7 +96,7 @@ pub(crate) fn put_locator<A: Memory>(
     out: &mut Vec<u8, A>,
     locator: &Locator,
 ) -> Result<(), AllocError>
-    ensures items { out.new.items ≡ (if is_ok result then out.old.items ++ written_locator locator.now else out.old.items) }
+    ensures items { VecAppends result out.old out.new (written_locator locator.now) }
     ensures memory { OnErr result A.may_refuse }
 {
     let head = head_of(locator);
@@ -108,7 +108,7 @@ pub(crate) fn put_locator<A: Memory>(
 
 // The bytes before the address.
 fn head_of(locator: &Locator) -> [u8; 8]
-    ensures { result ≡ locator.now.priority ∷ locator.now.weight ∷ locator.now.m_priority ∷ locator.now.m_weight ∷ 0 ∷ (bit locator.now.local * 4 + bit locator.now.probe * 2 + bit locator.now.reachable) ∷ written_afi locator.now.addr }
+    ensures { result ≡ written_locator_head locator.now }
 {
     let flags = u8::from(locator.local) * LOCAL
         + u8::from(locator.probe) * PROBE

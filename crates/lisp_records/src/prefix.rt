@@ -1,7 +1,7 @@
 //! EID-Prefixes: blocks of addresses.
 
 ghost use Rattle.std.specs.Prelude.{◌≡◌, ◌≤◌, ◌↔◌, IsTrue, IsSome, IfSome};
-ghost use Rattle.lisp_records.specs.Address.{IsWhole, IsBlock, Covers, covers, Holds, holds, max_len, cleared, block_cmp};
+ghost use Rattle.lisp_records.specs.Address.{IsWhole, IsPrefix, Covers, covers, Holds, holds, max_len, prefix_around, prefix_cmp};
 
 use crate::address::Addr;
 use std::cmp::Ordering;
@@ -17,13 +17,13 @@ pub struct Prefix {
 
 impl Model for Prefix {
     ghost use Rattle.std.specs.Prelude.{◌≡◌};
-    ghost use Rattle.lisp_records.specs.Address.{Block, IsBlock, IsWhole};
+    ghost use Rattle.lisp_records.specs.Address.{PrefixValue, IsPrefix, IsWhole};
 
-    ghost Value = { Block };
+    ghost Value = { PrefixValue };
 
     ghost view = { λ p. record { addr = p.addr; mask_len = p.mask_len } };
 
-    ghost invariant = { λ p. IsWhole p.addr × IsBlock (record { addr = p.addr; mask_len = p.mask_len }) };
+    ghost invariant = { λ p. IsWhole p.addr × IsPrefix (record { addr = p.addr; mask_len = p.mask_len }) };
 
     ghost inverse = { λ b. record { addr = b.addr; mask_len = b.mask_len } };
 }
@@ -33,7 +33,7 @@ impl Prefix {
     /// are cleared. `None` where the mask is longer than the address: 32 bits, or 128.
     pub fn new(addr: Addr, mask_len: u8) -> Option<Prefix>
         ensures valid { IsSome result ↔ (mask_len ≤ max_len addr) }
-        ensures value { IfSome result (λ p. p ≡ record { addr = cleared addr mask_len; mask_len = mask_len }) }
+        ensures value { IfSome result (λ p. p ≡ prefix_around addr mask_len) }
     {
         if mask_len > addr.family().max_mask_len() {
             return None;
@@ -44,7 +44,7 @@ impl Prefix {
     /// As `new`, for a mask that is known to fit.
     pub(crate) fn masked(addr: Addr, mask_len: u8) -> Prefix
         requires { mask_len ≤ max_len addr }
-        ensures { result ≡ record { addr = cleared addr mask_len; mask_len = mask_len } }
+        ensures { result ≡ prefix_around addr mask_len }
     {
         Prefix {
             addr: addr.cleared(mask_len),
@@ -56,7 +56,7 @@ impl Prefix {
     pub fn addr(&self) -> Addr
         ensures addr { result ≡ self.now.addr }
         ensures whole { IsWhole self.now.addr }
-        ensures block { IsBlock self.now }
+        ensures block { IsPrefix self.now }
     {
         self.addr
     }
@@ -70,7 +70,7 @@ impl Prefix {
 
     /// As `cmp`, but the bytes of the addresses are compared as numbers.
     pub(crate) fn order(&self, other: &Prefix) -> Ordering
-        ensures { result ≡ block_cmp self.now other.now }
+        ensures { result ≡ prefix_cmp self.now other.now }
     {
         match self.addr.order(&other.addr) {
             Ordering::Equal => self.mask_len.cmp(&other.mask_len),

@@ -1,15 +1,15 @@
 //! The record: an EID-Prefix and its locators, read from bytes and written as bytes.
 
-ghost use Rattle.std.specs.Prelude.{◌≡◌, ℕ, ◌+◌, ◌<◌, ◌≤◌, ◌↔◌, List, ◌++◌, length, drop, slice_range, IsSome, IfSome, IfOk, IsErrOf, OnOk, OnErr, Ok, Err, is_ok, if◌then◌else◌};
+ghost use Rattle.std.specs.Prelude.{◌≡◌, ◌+◌, ◌<◌, ◌≤◌, ◌↔◌, ◌++◌, length, drop, IsSome, IfOk, OnOk, OnErr};
 ghost use Rattle.std.specs.List.{AllByRecursion};
-ghost use Rattle.lisp_records.specs.Address.{IsWhole, IsBlock, block_cmp, family, octets};
+ghost use Rattle.lisp_memory.specs.Appending.{VecAppends};
+ghost use Rattle.lisp_records.specs.Address.{IsWhole, IsPrefix, prefix_cmp};
 ghost use Rattle.lisp_records.specs.Grown.{Grew};
-ghost use Rattle.lisp_records.specs.Record.{Mapping, IsLocator, IsMapping};
-ghost use Rattle.lisp_records.specs.Spelling.{Spells};
-ghost use Rattle.lisp_records.specs.Written.{written, written_head, written_afi, written_locators};
-ghost use Rattle.lisp_records.specs.Result.{Reads};
-ghost use Rattle.lisp_records.specs.Reading.{Gives, HasLocators, start_at, locators_at, mapping_of, record_at};
-ghost use Rattle.lisp_records.specs.declared.fault.RecordFault.{RecordFault};
+ghost use Rattle.lisp_records.specs.Record.{IsLocator, IsMapRecord, FitRecord, MakesRecord};
+ghost use Rattle.lisp_records.specs.Spelling.{SpellsBetween};
+ghost use Rattle.lisp_records.specs.Written.{written, written_head, written_afi, written_front, written_locators};
+ghost use Rattle.lisp_records.specs.Result.{Reads, PassesFault};
+ghost use Rattle.lisp_records.specs.Reading.{Gives, GivesSpelling, IfOutOfMemory, HasLocators, start_at, locators_at, map_record_of, record_at};
 
 use crate::address::{Addr, read_address};
 use crate::fault::RecordFault;
@@ -51,13 +51,13 @@ pub struct MapRecord<A: Allocator = Global> {
 }
 
 impl<A: Allocator> Model for MapRecord<A> {
-    ghost use Rattle.lisp_records.specs.Record.{Mapping, IsMapping};
+    ghost use Rattle.lisp_records.specs.Record.{MapRecordValue, IsMapRecord};
 
-    ghost Value = { Mapping };
+    ghost Value = { MapRecordValue };
 
     ghost view = { λ r. record { ttl = r.ttl; act = r.act; authoritative = r.authoritative; version = r.version; eid = r.eid; locators = r.locators.items } };
 
-    ghost invariant = { λ r. IsMapping (record { ttl = r.ttl; act = r.act; authoritative = r.authoritative; version = r.version; eid = r.eid; locators = r.locators.items }) };
+    ghost invariant = { λ r. IsMapRecord (record { ttl = r.ttl; act = r.act; authoritative = r.authoritative; version = r.version; eid = r.eid; locators = r.locators.items }) };
 }
 
 impl<A: Allocator> MapRecord<A> {
@@ -74,8 +74,8 @@ impl<A: Allocator> MapRecord<A> {
     ) -> Option<MapRecord<A>>
     where
         A: Drop,
-        ensures valid { IsSome result ↔ ((act < 8) × (version < 4096) × (length locators.items < 256)) }
-        ensures value { IfSome result (λ r. r ≡ record { ttl = ttl; act = act; authoritative = authoritative; version = version; eid = eid; locators = locators.items }) }
+        ensures valid { IsSome result ↔ FitRecord act version locators.items }
+        ensures value { MakesRecord result ttl act authoritative version eid locators.items }
     {
         if act > 7 || version > 4095 || locators.len() > MAX_LOCATORS {
             return None;
@@ -138,7 +138,7 @@ impl<A: Allocator> MapRecord<A> {
     /// How the EID-Prefix stands to that of another record: by address (IPv4 before IPv6, then by its bytes), then by
     /// mask length.
     pub fn eid_cmp<B: Allocator>(&self, other: &MapRecord<B>) -> Ordering
-        ensures { result ≡ block_cmp self.now.eid other.now.eid }
+        ensures { result ≡ prefix_cmp self.now.eid other.now.eid }
     {
         Prefix::order(&self.eid, &other.eid)
     }
@@ -149,7 +149,7 @@ impl<A: Allocator> MapRecord<A> {
         ensures few { length result.now < 256 }
 
         // What the type promises of every record.
-        ensures known { IsMapping self.now }
+        ensures known { IsMapRecord self.now }
     {
         &self.locators
     }
@@ -186,7 +186,7 @@ impl<A: Allocator> MapRecord<A> {
 // The prefix is a block, and each number of a locator is a byte: the types promise it, but a proof learns
 // it only by this walk.
 fn each_fits(eid: Prefix, locators: &[Locator])
-    ensures block { IsBlock eid }
+    ensures block { IsPrefix eid }
     ensures whole { IsWhole eid.addr }
     ensures locators { AllByRecursion IsLocator locators.now }
 {
@@ -215,18 +215,18 @@ pub fn read_record<A: Memory>(
 ) -> Result<(MapRecord<A>, usize), RecordFault>
     requires { at ≤ length bytes.now }
     // What is read is spelled there.
-    ensures found { IfOk result (λ x. (at ≤ x.1) × (x.1 ≤ length bytes.now) × Spells (slice_range bytes.now at x.1) x.0) }
+    ensures found { IfOk result (λ x. SpellsBetween bytes.now at x.1 x.0) }
 
     // What is spelled there is read, unless memory runs out.
-    ensures only { (m : Mapping) (text rest : List ℕ) → Spells text m → drop at bytes.now ≡ text ++ rest → Gives (λ x. x) result (Ok (m, at + length text)) }
+    ensures only { GivesSpelling bytes.now at result }
 
     // Which answer it is.
     ensures exact { Gives (λ x. (x.0, drop x.1 bytes.now)) result (record_at (drop at bytes.now)) }
 
     // Before the first locator nothing takes memory.
-    ensures early { (fault : RecordFault) → start_at (drop at bytes.now) ≡ Err fault → result ≡ Err fault }
-    ensures memory { IsErrOf result RecordFault.OutOfMemory → A.may_refuse }
-    ensures grows { IsErrOf result RecordFault.OutOfMemory → HasLocators (drop at bytes.now) }
+    ensures early { PassesFault (start_at (drop at bytes.now)) result }
+    ensures memory { IfOutOfMemory result A.may_refuse }
+    ensures grows { IfOutOfMemory result (HasLocators (drop at bytes.now)) }
 {
     read_at(alloc, bytes, at)
 }
@@ -240,8 +240,8 @@ fn read_at<A: Memory>(
     requires { at ≤ length bytes.now }
     ensures exact { Gives (λ x. (x.0, drop x.1 bytes.now)) result (record_at (drop at bytes.now)) }
     ensures within { IfOk result (λ x. (at ≤ x.1) × (x.1 ≤ length bytes.now)) }
-    ensures early { (fault : RecordFault) → start_at (drop at bytes.now) ≡ Err fault → result ≡ Err fault }
-    ensures memory { IsErrOf result RecordFault.OutOfMemory → A.may_refuse × HasLocators (drop at bytes.now) }
+    ensures early { PassesFault (start_at (drop at bytes.now)) result }
+    ensures memory { IfOutOfMemory result (A.may_refuse × HasLocators (drop at bytes.now)) }
 {
     let (_, record) = bytes.split_at(at);
     let (addr, rest) = read_start(record)?;
@@ -252,8 +252,8 @@ fn read_at<A: Memory>(
 // The record whose first bytes are these, of the address and the locators that were read after them.
 fn record_of<A: Allocator>(head: &[u8], addr: Addr, locators: Vec<Locator, A>) -> MapRecord<A>
     requires head { 12 ≤ length head.now }
-    requires fits { IsMapping (mapping_of head.now addr locators.items) }
-    ensures { result ≡ mapping_of head.now addr locators.items }
+    requires fits { IsMapRecord (map_record_of head.now addr locators.items) }
+    ensures { result ≡ map_record_of head.now addr locators.items }
 {
     MapRecord {
         ttl: u32::from_be_bytes([head[0], head[1], head[2], head[3]]),
@@ -284,7 +284,7 @@ fn read_locators<A: Memory>(
     bytes: &[u8],
 ) -> Result<(Vec<Locator, A>, &[u8]), RecordFault>
     ensures locators { Gives (λ x. (x.0.items, x.1.now)) result (locators_at count bytes.now) }
-    ensures memory { IsErrOf result RecordFault.OutOfMemory → A.may_refuse × (0 < count) }
+    ensures memory { IfOutOfMemory result (A.may_refuse × (0 < count)) }
 {
     let mut locators = Vec::new(alloc);
     let mut rest = bytes;
@@ -307,7 +307,7 @@ pub fn write_record<A: Allocator, B: Memory>(
     ensures memory { OnErr result B.may_refuse }
 
     // Every record of the program has a spelling, so that what is written is read again.
-    ensures known { IsMapping entry.now }
+    ensures known { IsMapRecord entry.now }
 {
     let start = out.len();
     let locators = entry.locators();
@@ -324,7 +324,7 @@ fn put_front<A: Allocator, B: Memory>(
     out: &mut Vec<u8, B>,
     entry: &MapRecord<A>,
 ) -> Result<(), AllocError>
-    ensures items { out.new.items ≡ (if is_ok result then out.old.items ++ ((written_head entry.now ++ written_afi entry.now.eid.addr) ++ octets entry.now.eid.addr) else out.old.items) }
+    ensures items { VecAppends result out.old out.new (written_front entry.now) }
     ensures memory { OnErr result B.may_refuse }
 {
     let head = head_of(entry);

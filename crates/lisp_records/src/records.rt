@@ -14,9 +14,9 @@ pub struct Records<A: Allocator = Global> {
 
 impl<A: Allocator> Model for Records<A> {
     ghost use Rattle.std.specs.Prelude.{List};
-    ghost use Rattle.lisp_records.specs.Record.{Mapping};
+    ghost use Rattle.lisp_records.specs.Record.{MapRecordValue};
 
-    ghost Value = { List Mapping };
+    ghost Value = { List MapRecordValue };
 
     ghost view = { λ r. r.items.items };
 }

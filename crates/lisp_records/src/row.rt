@@ -36,9 +36,9 @@ pub struct Row<A: Allocator = Global> {
 }
 
 impl<A: Allocator> Model for Row<A> {
-    ghost use Rattle.lisp_records.specs.Row.{Holding};
+    ghost use Rattle.lisp_records.specs.Row.{RowValue};
 
-    ghost Value = { Holding };
+    ghost Value = { RowValue };
 
     ghost view = { λ r. record { router = r.router; key = r.key; nonce = r.nonce; mapping = r.mapping; accepted = r.accepted; life = r.life; proxy = r.proxy; from = r.from } };
 }

@@ -7,28 +7,28 @@ use Rattle.std.specs.Ordering.{eq_by_cmp}
 use Rattle.std.proofs.lemmas.List.Folds.{find-append}
 use Rattle.lisp_records.specs.declared.address.Addr.{Addr}
 use Rattle.lisp_records.specs.declared.router.RouterId.{RouterId}
-use Rattle.lisp_records.specs.Address.{Block, block_eq}
-use Rattle.lisp_records.specs.Record.{Mapping}
+use Rattle.lisp_records.specs.Address.{PrefixValue, prefix_eq}
+use Rattle.lisp_records.specs.Record.{MapRecordValue}
 use Rattle.lisp_records.specs.Router.{router_eq}
-use Rattle.lisp_records.specs.Row.{Holding}
+use Rattle.lisp_records.specs.Row.{RowValue}
 use Rattle.lisp_records.proofs.RouterLaws.{router_eq-Decides}
-use Rattle.lisp_messages.specs.Message.{Registration}
+use Rattle.lisp_messages.specs.Message.{MapRegisterValue}
 use Rattle.lisp_nonces.specs.declared.pair.Pair.{Pair}
 use Rattle.lisp_nonces.specs.declared.pair.PairKind.TheVariants as kinds
 use Rattle.lisp_nonces.specs.Pair.{pair_cmp}
 use Rattle.lisp_lookup.specs.Table.{row_at, is_row_of, if_alive, last_of as last_given, Sets}
 use Rattle.lisp_admission.specs.Pairs.{router_of, pair_of, notice_pair}
 use Rattle.lisp_server.specs.declared.contacts.Contact.{Contact}
-use Rattle.lisp_admission.specs.AcceptedRows.{holding, holdings}
+use Rattle.lisp_admission.specs.AcceptedRows.{row_value, row_values}
 use Rattle.lisp_server.specs.Contacts.{contact_at, SetsContact}
 use Rattle.lisp_server.specs.LastNonces.{Nonces, nonce_at, SetsNonce}
 use Rattle.lisp_server.specs.Receiving.{contact_of}
 use Rattle.lisp_admission.proofs.Turned.{turned}
-use Rattle.lisp_model.specs.Held.{Acceptance, is_of_pair, last_of, heard_last, named, held}
+use Rattle.lisp_model.specs.Held.{Acceptance, is_of_pair, last_of, heard_last, accepted_rows, held_row}
 use Rattle.lisp_model.proofs.KeptLemmas.{pair_itself, pair_same}
 
 -- the pair of a Map-Register isn't that of notices
-pub not_notices : (m : Registration) → pair_of m ≢ notice_pair
+pub not_notices : (m : MapRegisterValue) → pair_of m ≢ notice_pair
 not_notices m e = absurd (let clash : kinds.Received ≡ kinds.Notice = ap (λ (p : Pair). p.kind) e in cc)
 
 -- what follows the first of two values only counts where there is no first one
@@ -36,7 +36,7 @@ first_or : {X Y : Type 0} (f : X → Option Y) (x y z : Option X) → option_and
 first_or f None y z same = same
 first_or f (Some x) y z same = refl
 
-module _ (m : Registration) (from : Addr) (now : ℕ) (since : List Acceptance) where
+module _ (m : MapRegisterValue) (from : Addr) (now : ℕ) (since : List Acceptance) where
   abbrev one : Acceptance
   one = record { message = m; from = from; moment = now }
 
@@ -48,34 +48,34 @@ module _ (m : Registration) (from : Addr) (now : ℕ) (since : List Acceptance) 
       at true same = ap (nonce_at new) (pair_same pair (pair_of m) same) ∙ sets.here
       at false other = sets.others pair (λ e. true≢false (sym (ap (λ (p : Pair). eq_by_cmp pair_cmp p (pair_of m)) e ∙ pair_itself (pair_of m)) ∙ other)) ∙ was
 
-  module _ (router : RouterId) (eid : Block) where
+  module _ (router : RouterId) (eid : PrefixValue) where
     -- what is held is one of its rows, or was held before
-    held_more : option_and_then (if_alive now) (option_or (last_given (holdings m from now) router eid) (find (is_row_of router eid) (named since))) ≡ held (one ∷ since) router eid now
-    held_more = ap (option_and_then (if_alive now)) (sym (find-append (is_row_of router eid) (reverse (holdings m from now)) (named since)))
+    held_more : option_and_then (if_alive now) (option_or (last_given (row_values m from now) router eid) (find (is_row_of router eid) (accepted_rows since))) ≡ held_row (one ∷ since) router eid now
+    held_more = ap (option_and_then (if_alive now)) (sym (find-append (is_row_of router eid) (reverse (row_values m from now)) (accepted_rows since)))
 
     -- what is held of a router and a prefix
-    pub rows_after : (old new : List Holding) → Sets old new (holdings m from now) → option_and_then (if_alive now) (row_at old router eid) ≡ held since router eid now
-        → option_and_then (if_alive now) (row_at new router eid) ≡ held (one ∷ since) router eid now
+    pub rows_after : (old new : List RowValue) → Sets old new (row_values m from now) → option_and_then (if_alive now) (row_at old router eid) ≡ held_row since router eid now
+        → option_and_then (if_alive now) (row_at new router eid) ≡ held_row (one ∷ since) router eid now
     rows_after old new sets was =
         ap (option_and_then (if_alive now)) (sets router eid)
-        ∙ first_or (if_alive now) (last_given (holdings m from now) router eid) (row_at old router eid) (find (is_row_of router eid) (named since)) was
+        ∙ first_or (if_alive now) (last_given (row_values m from now) router eid) (row_at old router eid) (find (is_row_of router eid) (accepted_rows since)) was
         ∙ held_more
 
     -- none of them is another router's
-    none_in : router_eq (router_of m) router ≡ false → (xs : List Mapping) → find (is_row_of router eid) (map (holding m from now) xs) ≡ None
+    none_in : router_eq (router_of m) router ≡ false → (xs : List MapRecordValue) → find (is_row_of router eid) (map (row_value m from now) xs) ≡ None
     none_in other [] = refl
-    none_in other (x ∷ xs) = ap (λ b. cond (b && block_eq x.eid eid) (Some (holding m from now x)) (find (is_row_of router eid) (map (holding m from now) xs))) other ∙ none_in other xs
+    none_in other (x ∷ xs) = ap (λ b. cond (b && prefix_eq x.eid eid) (Some (row_value m from now x)) (find (is_row_of router eid) (map (row_value m from now) xs))) other ∙ none_in other xs
 
     -- what is held of another router stays
-    held_other : router_eq (router_of m) router ≡ false → held since router eid now ≡ held (one ∷ since) router eid now
+    held_other : router_eq (router_of m) router ≡ false → held_row since router eid now ≡ held_row (one ∷ since) router eid now
     held_other other =
-        ap (λ (x : Option Holding). option_and_then (if_alive now) (option_or x (find (is_row_of router eid) (named since)))) (sym (ap (find (is_row_of router eid)) (sym (turned (holding m from now) m.records)) ∙ none_in other (reverse m.records)))
+        ap (λ (x : Option RowValue). option_and_then (if_alive now) (option_or x (find (is_row_of router eid) (accepted_rows since)))) (sym (ap (find (is_row_of router eid)) (sym (turned (row_value m from now) m.records)) ∙ none_in other (reverse m.records)))
         ∙ held_more
 
     -- where routers were heard
     pub contacts_after : (old new : List Contact) → SetsContact old new (contact_of m from)
-        → ((h : Holding) → held since router eid now ≡ Some h → contact_at old router ≡ option_map (λ a. contact_of a.message a.from) (heard_last router since))
-        → (h : Holding) → held (one ∷ since) router eid now ≡ Some h → contact_at new router ≡ option_map (λ a. contact_of a.message a.from) (heard_last router (one ∷ since))
+        → ((h : RowValue) → held_row since router eid now ≡ Some h → contact_at old router ≡ option_map (λ a. contact_of a.message a.from) (heard_last router since))
+        → (h : RowValue) → held_row (one ∷ since) router eid now ≡ Some h → contact_at new router ≡ option_map (λ a. contact_of a.message a.from) (heard_last router (one ∷ since))
     contacts_after old new sets was h is = at (router_eq (router_of m) router) refl
       where
         at : (b : Bool) → router_eq (router_of m) router ≡ b → contact_at new router ≡ option_map (λ a. contact_of a.message a.from) (cond b (Some one) (heard_last router since))

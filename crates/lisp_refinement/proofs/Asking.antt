@@ -6,22 +6,22 @@ use Rattle.std.specs.Option.{option_map, option_and_then}
 use Rattle.std.proofs.lemmas.Option.{slice_get_within}
 use Rattle.lisp_records.specs.declared.address.Addr.{Addr}
 use Rattle.lisp_records.specs.declared.router.RouterId.{RouterId}
-use Rattle.lisp_records.specs.Row.{Holding}
-use Rattle.lisp_policy.specs.Site.{SiteEntry}
+use Rattle.lisp_records.specs.Row.{RowValue}
+use Rattle.lisp_policy.specs.Site.{SiteValue}
 use Rattle.lisp_lookup.specs.declared.answer.Answer.{Answer}
 use Rattle.lisp_lookup.specs.Answer.{Answers}
 use Rattle.lisp_lookup.specs.Table.{row_at, OneEach, IsHeld}
 use Rattle.lisp_etr.specs.Etr.{EtrState}
 use Rattle.lisp_etr.specs.declared.round.Round.{Round}
 use Rattle.lisp_admission.specs.NoticeTimer.{gaps, due_after, has_come}
-use Rattle.lisp_server.specs.Notices.{Standing, notice_at, due_at, is_due_at, IsDueRouter}
+use Rattle.lisp_server.specs.Notices.{StandingNoticeValue, notice_at, due_at, is_due_at, IsDueRouter}
 use Rattle.lisp_model.specs.Trace.{Step, Opening, router_at, clock}
-use Rattle.lisp_model.specs.Held.{named, rows}
+use Rattle.lisp_model.specs.Held.{accepted_rows, rows}
 use Rattle.lisp_model.specs.Answer.{IsAnswer}
 use Rattle.lisp_model.specs.Timers.{Notice, due, notice_to, is_due}
-use Rattle.lisp_model.specs.Bag.{since}
+use Rattle.lisp_model.specs.Bag.{since_start}
 use Rattle.lisp_model.proofs.RowLaws.{rows_are_held}
-use Rattle.lisp_refinement.specs.World.{ServerNode, RouterNode, RouterCore, Up, WorldState}
+use Rattle.lisp_refinement.specs.World.{ServerNodeState, RouterNodeState, RouterCoreState, Up, WorldState}
 use Rattle.lisp_refinement.specs.Stands.{IsStanding, SameNotice, StandsForServer, StandsForCore, StandsForEtr, Stands}
 use Rattle.lisp_refinement.specs.Asked.{IsNextNotice, ServerTells, RouterTells}
 use Rattle.lisp_refinement.proofs.Gets.{get_within}
@@ -29,24 +29,24 @@ use Rattle.lisp_refinement.proofs.HeldLists.{one_held, held_alike, answers_liste
 use Rattle.lisp_refinement.proofs.Places.{position_map}
 
 -- a Map-Server that stands for a trace
-module _ (o : Opening) (T : List Step) (k : ℕ) (n : ServerNode) (part : StandsForServer o T k n) where
+module _ (o : Opening) (T : List Step) (k : ℕ) (n : ServerNodeState) (part : StandsForServer o T k n) where
   -- all that it holds, by the trace
-  abbrev all_held : List Holding
-  all_held = rows (since o T k) (clock T)
+  abbrev all_held : List RowValue
+  all_held = rows (since_start o T k) (clock T)
 
   -- that lists its live rows
   lists_held : IsHeld n.core.rows (clock T) all_held
   unfolding row_at
-  lists_held = held_alike (named (since o T k)) n.core.rows (clock T) (λ router eid. sym (part.rows router eid)) all_held (rows_are_held (since o T k) (clock T))
+  lists_held = held_alike (accepted_rows (since_start o T k)) n.core.rows (clock T) (λ router eid. sym (part.rows router eid)) all_held (rows_are_held (since_start o T k) (clock T))
 
   -- who answers by its rows answers by what it holds
   answers_held : {A : Type 0} (addr : Addr) (answer : Answer A) → OneEach n.core.rows → Answers n.core.rows n.core.sites addr (clock T) answer → IsAnswer o T k addr answer
   answers_held addr answer one answers =
-      subst (λ (sites : List SiteEntry). Answers all_held sites addr (clock T) answer) part.sites
+      subst (λ (sites : List SiteValue). Answers all_held sites addr (clock T) answer) part.sites
       (answers_listed n.core.rows all_held (clock T) one lists_held addr n.core.sites answer answers)
 
   -- a notice that it keeps is due when the trace's is
-  due_together : (m : Notice) (kept : Standing) → IsStanding o T k m kept → due_at kept ≡ due_after m.moments
+  due_together : (m : Notice) (kept : StandingNoticeValue) → IsStanding o T k m kept → due_at kept ≡ due_after m.moments
   unfolding due_after
   due_together m kept is = ap (λ (times : ℕ). option_map (λ gap. kept.last + gap) (slice_get gaps times)) is.resends ∙ ap due_after (sym is.moments)
 
@@ -54,7 +54,7 @@ module _ (o : Opening) (T : List Step) (k : ℕ) (n : ServerNode) (part : Stands
   due_in_both : (router : RouterId) → is_due_at (clock T) (notice_at n.core.notices router) ≡ is_due (notice_to o T k router) (clock T)
   due_in_both router = by (notice_to o T k router) (notice_at n.core.notices router) (part.notices router)
     where
-      by : (m : Option Notice) (kept : Option Standing) → SameNotice o T k m kept → is_due_at (clock T) kept ≡ is_due m (clock T)
+      by : (m : Option Notice) (kept : Option StandingNoticeValue) → SameNotice o T k m kept → is_due_at (clock T) kept ≡ is_due m (clock T)
       by (Some m) (Some kept) is = ap (has_come (clock T)) (due_together m kept is)
       by None None is = refl
       by (Some m) None is = absurd is
@@ -77,7 +77,7 @@ module _ (o : Opening) (T : List Step) (k : ℕ) (n : ServerNode) (part : Stands
 
 -- what a Map-Server of the network tells at its clock
 pub servers_tell : (A : Type 0) (w : WorldState) (o : Opening) (T : List Step) → Stands w o T
-    → (k : ℕ) (n : ServerNode) → slice_get w.servers k ≡ Some n → ServerTells A o T k n.core w.clock
+    → (k : ℕ) (n : ServerNodeState) → slice_get w.servers k ≡ Some n → ServerTells A o T k n.core w.clock
 servers_tell A w o T stand k n at =
     subst (λ (now : ℕ). ServerTells A o T k n.core now) (sym stand.bag.moment) (server_tells o T k n (stand.servers k n at) A)
 
@@ -128,8 +128,8 @@ module _ (o : Opening) (T : List Step) (router : ℕ) (etr : EtrState) (part : S
 
 -- what a router of the network that is up tells at its clock
 pub routers_tell : (w : WorldState) (o : Opening) (T : List Step) → Stands w o T
-    → (k : ℕ) (n : RouterNode) (etr : EtrState) → slice_get w.routers k ≡ Some n → n.core ≡ Up etr → RouterTells o T (length o.config.servers + k) etr w.clock
+    → (k : ℕ) (n : RouterNodeState) (etr : EtrState) → slice_get w.routers k ≡ Some n → n.core ≡ Up etr → RouterTells o T (length o.config.servers + k) etr w.clock
 routers_tell w o T stand k n etr at up =
     let router : ℕ = length o.config.servers + k in
-    let part : StandsForEtr o T router etr = subst (λ (core : RouterCore). StandsForCore o T router core) up (stand.routers k n at).core in
+    let part : StandsForEtr o T router etr = subst (λ (core : RouterCoreState). StandsForCore o T router core) up (stand.routers k n at).core in
     subst (λ (now : ℕ). RouterTells o T router etr now) (sym stand.bag.moment) (router_tells o T router etr part)

@@ -2,32 +2,32 @@
 use Rattle.std.proofs.Common.{◌≡◌, ℕ, true, false, List, [], ◌∷◌, ◌++◌, length, map, Some, refl, sym, ap, subst, ◌∙◌, arith}
 use Rattle.std.specs.Prelude.{slice_get}
 use Rattle.std.proofs.lemmas.List.{length-map}
-use Rattle.lisp_records.specs.Record.{Mapping}
+use Rattle.lisp_records.specs.Record.{MapRecordValue}
 use Rattle.lisp_nonces.specs.Kept.{kept_at, NoneBelow}
 use Rattle.lisp_etr.specs.Etr.{EtrState}
-use Rattle.lisp_etr.specs.Round.{Keeps, begun}
+use Rattle.lisp_etr.specs.Round.{KeepsRoundTime, new_round}
 use Rattle.lisp_etr.specs.declared.round.Round.{Round}
 use Rattle.lisp_etr.proofs.TimerLaws.{rounds_keep_time}
 use Rattle.lisp_model.specs.declared.event.Event.TheVariants as events
 use Rattle.lisp_model.specs.declared.line.Line.{Line}
 use Rattle.lisp_model.specs.declared.line.Line.TheVariants as lines
-use Rattle.lisp_model.specs.Trace.{Shown, Step, Opening, is_router, router_at, shown, is_up}
+use Rattle.lisp_model.specs.Trace.{ShownStore, Step, Opening, is_router, router_at, shown_store, is_up}
 use Rattle.lisp_model.specs.Bag.{bag}
-use Rattle.lisp_model.specs.Timers.{Sends, round}
+use Rattle.lisp_model.specs.Timers.{RoundTimes, round}
 use Rattle.lisp_model.specs.Sending.{pair_at}
 use Rattle.lisp_model.specs.Legal.{Legal}
-use Rattle.lisp_refinement.specs.World.{RouterNode, RouterCore, Up, Down, WorldState}
-use Rattle.lisp_refinement.specs.Turns.{Changes, changed_core, change_line}
+use Rattle.lisp_refinement.specs.World.{RouterNodeState, RouterCoreState, Up, Down, WorldState}
+use Rattle.lisp_refinement.specs.Events.{NetworkChanges, changed_core, change_line}
 use Rattle.lisp_refinement.specs.Stands.{Shows, StandsForRound, StandsForEtr, StandsForCore, StandsForRouter, Stands, StandsAfter}
 use Rattle.lisp_refinement.proofs.Gets.{get_mapped}
 use Rattle.lisp_refinement.proofs.Going.{here}
 use Rattle.lisp_refinement.proofs.Acting.{adds_none, router_is, router_stands, router_shows, router_acts}
 
 -- the step of a change, which leaves the store
-abbrev change : Opening → List Step → ℕ → List Mapping → Line → Step
-change o T router db line = record { event = events.Change router db; line = line; actor = router; shown = shown o T router }
+abbrev change : Opening → List Step → ℕ → List MapRecordValue → Line → Step
+change o T router db line = record { event = events.Change router db; line = line; actor = router; shown = shown_store o T router }
 
-module _ (old new : WorldState) (router : ℕ) (db : List Mapping) (line : Line) (changes : Changes old new router db line) (o : Opening) (T : List Step) (stand : Stands old o T) where
+module _ (old new : WorldState) (router : ℕ) (db : List MapRecordValue) (line : Line) (changes : NetworkChanges old new router db line) (o : Opening) (T : List Step) (stand : Stands old o T) where
   -- who is given the database is a router
   kind : is_router o.config router ≡ true
   kind = ap (λ m. is_router o.config m) changes.acts.number ∙ router_is old o T stand changes.acts.place changes.acts.before changes.acts.was
@@ -37,20 +37,20 @@ module _ (old new : WorldState) (router : ℕ) (db : List Mapping) (line : Line)
   stood = subst (λ m. StandsForRouter o T m changes.acts.before) (sym changes.acts.number) (router_stands old o T stand changes.acts.place changes.acts.before changes.acts.was)
 
   -- its store is as it was
-  shows : Shows changes.acts.after.store (shown o T router)
-  shows = subst (λ (n : RouterNode). Shows n.store (shown o T router)) (sym changes.changes)
-      (subst (λ m. Shows changes.acts.before.store (shown o T m)) (sym changes.acts.number) (router_shows old o T stand changes.acts.place changes.acts.before changes.acts.was))
+  shows : Shows changes.acts.after.store (shown_store o T router)
+  shows = subst (λ (n : RouterNodeState). Shows n.store (shown_store o T router)) (sym changes.changes)
+      (subst (λ m. Shows changes.acts.before.store (shown_store o T m)) (sym changes.acts.number) (router_shows old o T stand changes.acts.place changes.acts.before changes.acts.was))
 
   -- the trace says so too
-  shown_same : (l : Line) → shown o (change o T router db l ∷ T) router ≡ shown o T router
-  shown_same l = here router (shown o T router) (shown o T router)
+  shown_same : (l : Line) → shown_store o (change o T router db l ∷ T) router ≡ shown_store o T router
+  shown_same l = here router (shown_store o T router) (shown_store o T router)
 
   -- so the network stands, if the step is legal and the router stands after it
   stands_with : (l : Line) → change_line router db changes.acts.before.core ≡ l → Legal o T (change o T router db l) → bag o (change o T router db l ∷ T) ≡ bag o T ++ []
       → StandsForCore o (change o T router db l ∷ T) router (changed_core db old.clock changes.acts.before.core) → Stands new o (change o T router db line ∷ T)
   stands_with l says legal adds core = subst (λ (x : Line). Stands new o (change o T router db x ∷ T)) (sym (changes.said ∙ says))
       (router_acts old new router [] changes.acts o T (change o T router db l) stand refl refl legal (adds_none o T (change o T router db l) adds) shows
-      (subst (λ (n : RouterNode). StandsForRouter o (change o T router db l ∷ T) router n) (sym changes.changes) (record { me = stood.me; servers = stood.servers; core = core })))
+      (subst (λ (n : RouterNodeState). StandsForRouter o (change o T router db l ∷ T) router n) (sym changes.changes) (record { me = stood.me; servers = stood.servers; core = core })))
 
   -- a router that is up
   module _ (e : EtrState) (part : StandsForEtr o T router e) where
@@ -67,28 +67,28 @@ module _ (old new : WorldState) (router : ℕ) (db : List Mapping) (line : Line)
     }
 
     -- a new round has begun
-    begun_round : (server : ℕ) (x : Round) → StandsForRound T router server x → StandsForRound (up_step ∷ T) router server (begun old.clock x)
+    begun_round : (server : ℕ) (x : Round) → StandsForRound T router server x → StandsForRound (up_step ∷ T) router server (new_round old.clock x)
     begun_round server x was = record {
-      keeps = subst (λ (y : Sends). Keeps (begun old.clock x) y.begin y.moments) (sym (here router _ (round T router server)))
-          (subst (λ a. Keeps (begun old.clock x) a []) stand.bag.moment (rounds_keep_time.begin old.clock x));
+      keeps = subst (λ (y : RoundTimes). KeepsRoundTime (new_round old.clock x) y.begin y.moments) (sym (here router _ (round T router server)))
+          (subst (λ a. KeepsRoundTime (new_round old.clock x) a []) stand.bag.moment (rounds_keep_time.begin old.clock x));
       latest = was.latest;
       acked = was.acked;
     }
 
     -- each of its rounds is such a one
-    round_stands : (i server : ℕ) (r : Round) → slice_get (router_at o.config router).servers i ≡ Some server → slice_get (map (begun old.clock) e.rounds) i ≡ Some r → StandsForRound (up_step ∷ T) router server r
-    round_stands i server r lists has = let was = get_mapped (begun old.clock) e.rounds i r has in
+    round_stands : (i server : ℕ) (r : Round) → slice_get (router_at o.config router).servers i ≡ Some server → slice_get (map (new_round old.clock) e.rounds) i ≡ Some r → StandsForRound (up_step ∷ T) router server r
+    round_stands i server r lists has = let was = get_mapped (new_round old.clock) e.rounds i r has in
         subst (λ (x : Round). StandsForRound (up_step ∷ T) router server x) was.2 (begun_round server was.0 (part.rounds i server was.0 lists was.1))
 
     -- the router stands with its new database
-    up_part : StandsForEtr o (up_step ∷ T) router (record e { database = db; rounds = map (begun old.clock) e.rounds })
+    up_part : StandsForEtr o (up_step ∷ T) router (record e { database = db; rounds = map (new_round old.clock) e.rounds })
     up_part = record {
       up = part.up;
       config = part.config;
       database = sym (here router db _);
       last = part.last;
-      safe = subst (λ (x : Shown). NoneBelow e.safe (kept_at x.kept (pair_at o T router))) (sym (shown_same (lines.Changed router (length db)))) part.safe;
-      count = length-map e.rounds (begun old.clock) ∙ part.count;
+      safe = subst (λ (x : ShownStore). NoneBelow e.safe (kept_at x.kept (pair_at o T router))) (sym (shown_same (lines.Changed router (length db)))) part.safe;
+      count = length-map e.rounds (new_round old.clock) ∙ part.count;
       rounds = round_stands;
     }
 
@@ -97,16 +97,16 @@ module _ (old new : WorldState) (router : ℕ) (db : List Mapping) (line : Line)
   down_legal down = record { faults = omega arith; obedient = refl; row = record { acts = record { kind = kind; acts = refl; state = down }; names = refl; same = refl } }
 
   -- by whether the router is up
-  change_case : (core : RouterCore) → changes.acts.before.core ≡ core → StandsForCore o T router core → Stands new o (change o T router db line ∷ T)
-  change_case (Up e) is part = stands_with (lines.Changed router (length db)) (ap (λ (c : RouterCore). change_line router db c) is) (up_legal e part) refl
-      (subst (λ (c : RouterCore). StandsForCore o (change o T router db (lines.Changed router (length db)) ∷ T) router (changed_core db old.clock c)) (sym is) (up_part e part))
-  change_case (Down config database) is part = stands_with (lines.Down router) (ap (λ (c : RouterCore). change_line router db c) is) (down_legal part.0) refl
-      (subst (λ (c : RouterCore). StandsForCore o (change o T router db (lines.Down router) ∷ T) router (changed_core db old.clock c)) (sym is) part)
+  change_case : (core : RouterCoreState) → changes.acts.before.core ≡ core → StandsForCore o T router core → Stands new o (change o T router db line ∷ T)
+  change_case (Up e) is part = stands_with (lines.Changed router (length db)) (ap (λ (c : RouterCoreState). change_line router db c) is) (up_legal e part) refl
+      (subst (λ (c : RouterCoreState). StandsForCore o (change o T router db (lines.Changed router (length db)) ∷ T) router (changed_core db old.clock c)) (sym is) (up_part e part))
+  change_case (Down config database) is part = stands_with (lines.Down router) (ap (λ (c : RouterCoreState). change_line router db c) is) (down_legal part.0) refl
+      (subst (λ (c : RouterCoreState). StandsForCore o (change o T router db (lines.Down router) ∷ T) router (changed_core db old.clock c)) (sym is) part)
 
 -- a network stands for a trace with a change
-pub change_stands : (old new : WorldState) (router : ℕ) (db : List Mapping) (line : Line) → Changes old new router db line → StandsAfter old new (events.Change router db) line
+pub change_stands : (old new : WorldState) (router : ℕ) (db : List MapRecordValue) (line : Line) → NetworkChanges old new router db line → StandsAfter old new (events.Change router db) line
 change_stands old new router db line changes o T stand = (
   router,
-  shown o T router,
+  shown_store o T router,
   change_case old new router db line changes o T stand changes.acts.before.core refl (stood old new router db line changes o T stand).core,
 )

@@ -3,9 +3,9 @@ use Rattle.std.proofs.Common.{◌≡◌, ℕ, Bool, true, false, List, Option, S
 use Rattle.std.specs.Prelude.{not, ok_or, Result, IsTrue}
 use Rattle.std.specs.Option.{option_and_then}
 use Rattle.lisp_records.specs.Result.{◌>>=◌}
-use Rattle.lisp_messages.specs.Message.{Registration}
+use Rattle.lisp_messages.specs.Message.{MapRegisterValue}
 use Rattle.lisp_messages.specs.Authentic.{is_authentic}
-use Rattle.lisp_policy.specs.Site.{SiteEntry, site_of, secret_of}
+use Rattle.lisp_policy.specs.Site.{SiteValue, site_of, secret_of}
 use Rattle.lisp_nonces.specs.declared.pair.Pair.{Pair}
 use Rattle.lisp_nonces.specs.Kept.{Kept, kept_at}
 use Rattle.lisp_nonces.specs.Store.{StoreState}
@@ -14,7 +14,7 @@ use Rattle.lisp_admission.specs.declared.refused.Refused.TheVariants as refuseds
 use Rattle.lisp_admission.specs.Checks.{secret_at, secret_under, check, refused_at, first_not_allowed}
 use Rattle.lisp_admission.specs.Nonces.{IsBase}
 use Rattle.lisp_server.specs.Checks.{Passed, register_checked}
-use Rattle.lisp_model.specs.Turn.{IsBase as IsBaseIn}
+use Rattle.lisp_model.specs.Context.{IsBase as IsBaseIn}
 
 -- a result is a value or a refusal
 module _ {X : Type 0} where
@@ -28,11 +28,11 @@ module _ {X : Type 0} where
   err_same one other e = cc
 
 -- a Map-Register that passed the checks: what passed is its own, and it stands under its secret
-pub record IsPassed (sites : List SiteEntry) (bytes : List ℕ) (m : Registration) (passed : Passed) : Type 0 where
+pub record IsPassed (sites : List SiteValue) (bytes : List ℕ) (m : MapRegisterValue) (passed : Passed) : Type 0 where
   pub message : passed.message ≡ m
   pub checks : secret_under sites bytes m ≡ Ok passed.secret
 
-module _ (sites : List SiteEntry) (bytes : List ℕ) (m : Registration) where
+module _ (sites : List SiteValue) (bytes : List ℕ) (m : MapRegisterValue) where
   -- what passed the checks has passed each
   passed_case : (passed : Passed) (r : Result (List ℕ) Refused) → secret_under sites bytes m ≡ r → (r >>= λ secret. Ok (record { message = m; secret = secret })) ≡ Ok passed → IsPassed sites bytes m passed
   passed_case passed (Ok secret) is e =
@@ -62,11 +62,11 @@ module _ (sites : List SiteEntry) (bytes : List ℕ) (m : Registration) where
   unfolding secret_under
   its_secret key e = by_site (site_of sites m.site) e
     where
-      by_secret : (site : SiteEntry) (o : Option (List ℕ)) → (ok_or o refuseds.UnknownKey >>= λ secret. check (is_authentic bytes secret) refuseds.BadAuth >>= λ _. check (not m.merge) refuseds.MergeAsked >>= λ _. refused_at (first_not_allowed site m.records) secret) ≡ Ok key → o ≡ Some key
+      by_secret : (site : SiteValue) (o : Option (List ℕ)) → (ok_or o refuseds.UnknownKey >>= λ secret. check (is_authentic bytes secret) refuseds.BadAuth >>= λ _. check (not m.merge) refuseds.MergeAsked >>= λ _. refused_at (first_not_allowed site m.records) secret) ≡ Ok key → o ≡ Some key
       by_secret site None e = absurd (ok_clash e)
       by_secret site (Some x) e = ap Some (last (is_authentic bytes x) (not m.merge) (first_not_allowed site m.records) x key e)
 
-      by_site : (o : Option SiteEntry) → (ok_or o refuseds.UnknownSite >>= λ site. ok_or (secret_of site m.key_id) refuseds.UnknownKey >>= λ secret. check (is_authentic bytes secret) refuseds.BadAuth >>= λ _. check (not m.merge) refuseds.MergeAsked >>= λ _. refused_at (first_not_allowed site m.records) secret) ≡ Ok key → option_and_then (λ s. secret_of s m.key_id) o ≡ Some key
+      by_site : (o : Option SiteValue) → (ok_or o refuseds.UnknownSite >>= λ site. ok_or (secret_of site m.key_id) refuseds.UnknownKey >>= λ secret. check (is_authentic bytes secret) refuseds.BadAuth >>= λ _. check (not m.merge) refuseds.MergeAsked >>= λ _. refused_at (first_not_allowed site m.records) secret) ≡ Ok key → option_and_then (λ s. secret_of s m.key_id) o ≡ Some key
       by_site None e = absurd (ok_clash e)
       by_site (Some site) e = by_secret site (secret_of site m.key_id) e
 

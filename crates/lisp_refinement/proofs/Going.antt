@@ -4,28 +4,28 @@ use Rattle.std.specs.Prelude.{◌==◌, if◌then◌else◌, slice_get}
 use Rattle.std.specs.List.{find}
 use Rattle.std.specs.Option.{option_map, option_and_then}
 use Rattle.lisp_records.specs.declared.router.RouterId.{RouterId}
-use Rattle.lisp_records.specs.Address.{Block}
+use Rattle.lisp_records.specs.Address.{PrefixValue}
 use Rattle.lisp_records.specs.Router.{router_eq}
-use Rattle.lisp_records.specs.Row.{Holding}
+use Rattle.lisp_records.specs.Row.{RowValue}
 use Rattle.lisp_nonces.specs.Kept.{kept_at, NoneBelow}
 use Rattle.lisp_etr.specs.Etr.{EtrState}
-use Rattle.lisp_etr.specs.Round.{Keeps}
+use Rattle.lisp_etr.specs.Round.{KeepsRoundTime}
 use Rattle.lisp_etr.specs.declared.round.Round.{Round}
 use Rattle.lisp_lookup.specs.Table.{row_at, if_alive}
 use Rattle.lisp_server.specs.Receiving.{contact_of}
 use Rattle.lisp_admission.specs.Pairs.{notice_pair}
 use Rattle.lisp_server.specs.LastNonces.{nonce_at}
 use Rattle.lisp_server.specs.Contacts.{contact_at}
-use Rattle.lisp_server.specs.Notices.{Standing, notice_at}
-use Rattle.lisp_model.specs.Trace.{Shown, Step, Opening, clock}
-use Rattle.lisp_model.specs.Held.{Acceptance, last_of, heard_last, held}
-use Rattle.lisp_model.specs.Timers.{Sends, Notice, notice_to}
-use Rattle.lisp_model.specs.Bag.{Item, bag, since}
+use Rattle.lisp_server.specs.Notices.{StandingNoticeValue, notice_at}
+use Rattle.lisp_model.specs.Trace.{ShownStore, Step, Opening, clock}
+use Rattle.lisp_model.specs.Held.{Acceptance, last_of, heard_last, held_row}
+use Rattle.lisp_model.specs.Timers.{RoundTimes, Notice, notice_to}
+use Rattle.lisp_model.specs.Bag.{Item, bag, since_start}
 use Rattle.lisp_model.specs.Sending.{CountsFrom, pair_at}
-use Rattle.lisp_model.specs.Turn.{IsBase}
+use Rattle.lisp_model.specs.Context.{IsBase}
 use Rattle.lisp_model.specs.Promises.{SameServer, SameRouter}
 use Rattle.lisp_model.proofs.Locality.{same_number}
-use Rattle.lisp_refinement.specs.World.{ServerNode, RouterCore, Up, Down, RouterNode}
+use Rattle.lisp_refinement.specs.World.{ServerNodeState, RouterCoreState, Up, Down, RouterNodeState}
 use Rattle.lisp_refinement.specs.Stands.{StandsForRound, StandsForEtr, StandsForCore, StandsForRouter, SameNotice, StandsForServer}
 use Rattle.lisp_refinement.proofs.Gets.{get_before}
 
@@ -38,7 +38,7 @@ abbrev pub Stay : Opening → List Step → List Step → Type 0
 Stay o T U = (more : List Item) × (bag o U ≡ bag o T ++ more)
 
 -- a notice stands as long as its datagram is in the bag
-pub notice_goes : (o : Opening) (T U : List Step) (k : ℕ) → Stay o T U → (n : Option Notice) (kept : Option Standing) → SameNotice o T k n kept → SameNotice o U k n kept
+pub notice_goes : (o : Opening) (T U : List Step) (k : ℕ) → Stay o T U → (n : Option Notice) (kept : Option StandingNoticeValue) → SameNotice o T k n kept → SameNotice o U k n kept
 notice_goes o T U k stay (Some n) (Some kept) same = record {
   router = same.router;
   key = same.key;
@@ -57,25 +57,25 @@ notice_goes o T U k stay (Some n) None same = absurd same
 notice_goes o T U k stay None (Some kept) same = absurd same
 
 -- a server's rows, and who of them was heard where, at a moment
-pub record StandsForRows (n : ServerNode) (all : List Acceptance) (now : ℕ) : Type 0 where
-  pub rows : (router : RouterId) (eid : Block) → option_and_then (if_alive now) (row_at n.core.rows router eid) ≡ held all router eid now
-  pub contacts : (router : RouterId) (eid : Block) (h : Holding) → held all router eid now ≡ Some h → contact_at n.core.contacts router ≡ option_map (λ a. contact_of a.message a.from) (heard_last router all)
+pub record StandsForRows (n : ServerNodeState) (all : List Acceptance) (now : ℕ) : Type 0 where
+  pub rows : (router : RouterId) (eid : PrefixValue) → option_and_then (if_alive now) (row_at n.core.rows router eid) ≡ held_row all router eid now
+  pub contacts : (router : RouterId) (eid : PrefixValue) (h : RowValue) → held_row all router eid now ≡ Some h → contact_at n.core.contacts router ≡ option_map (λ a. contact_of a.message a.from) (heard_last router all)
 
 -- a server whose rows stand
-module _ (o : Opening) (T U : List Step) (k : ℕ) (n : ServerNode) (stand : StandsForServer o T k n) (same : SameServer o T U k) (stay : Stay o T U) where
+module _ (o : Opening) (T U : List Step) (k : ℕ) (n : ServerNodeState) (stand : StandsForServer o T k n) (same : SameServer o T U k) (stay : Stay o T U) where
   -- its rows as they stood
-  pub server_rows : StandsForRows n (since o T k) (clock T)
+  pub server_rows : StandsForRows n (since_start o T k) (clock T)
   server_rows = record { rows = stand.rows; contacts = stand.contacts }
 
   -- or changed, and nothing else
-  pub server_goes : (m : ServerNode) → m ≡ record n { core = record n.core { rows = m.core.rows } } → StandsForRows m (since o U k) (clock U) → StandsForServer o U k m
-  server_goes m rest held = record {
-    sites = ap (λ (x : ServerNode). x.core.sites) rest ∙ stand.sites;
-    rows = held.rows;
-    nonces = λ pair other. ap (λ (x : ServerNode). nonce_at x.core.nonces pair) rest ∙ stand.nonces pair other ∙ ap (λ (all : List Acceptance). last_of pair all) (sym same.since);
-    notice_nonce = ap (λ (x : ServerNode). nonce_at x.core.nonces notice_pair) rest ∙ stand.notice_nonce ∙ sym same.last_notice;
-    contacts = held.contacts;
-    notices = λ router. subst (λ (p : Option Notice × Option Standing). SameNotice o U k p.0 p.1) (λ i. (sym (found router) i, sym (stood router) i))
+  pub server_goes : (m : ServerNodeState) → m ≡ record n { core = record n.core { rows = m.core.rows } } → StandsForRows m (since_start o U k) (clock U) → StandsForServer o U k m
+  server_goes m rest held_row = record {
+    sites = ap (λ (x : ServerNodeState). x.core.sites) rest ∙ stand.sites;
+    rows = held_row.rows;
+    nonces = λ pair other. ap (λ (x : ServerNodeState). nonce_at x.core.nonces pair) rest ∙ stand.nonces pair other ∙ ap (λ (all : List Acceptance). last_of pair all) (sym same.since);
+    notice_nonce = ap (λ (x : ServerNodeState). nonce_at x.core.nonces notice_pair) rest ∙ stand.notice_nonce ∙ sym same.last_notice;
+    contacts = held_row.contacts;
+    notices = λ router. subst (λ (p : Option Notice × Option StandingNoticeValue). SameNotice o U k p.0 p.1) (λ i. (sym (found router) i, sym (stood router) i))
         (notice_goes o T U k stay (notice_to o T k router) (notice_at n.core.notices router) (stand.notices router));
   }
     where
@@ -83,7 +83,7 @@ module _ (o : Opening) (T U : List Step) (k : ℕ) (n : ServerNode) (stand : Sta
       found router = ap (λ (all : List Notice). find (λ x. router_eq x.router router) all) same.notices
 
       stood : (router : RouterId) → notice_at m.core.notices router ≡ notice_at n.core.notices router
-      stood router = ap (λ (x : ServerNode). notice_at x.core.notices router) rest
+      stood router = ap (λ (x : ServerNodeState). notice_at x.core.notices router) rest
 
   -- in no time
   pub server_stays : clock U ≡ clock T → StandsForServer o U k n
@@ -94,7 +94,7 @@ module _ (o : Opening) (T U : List Step) (k : ℕ) (same : SameRouter o T U k) w
   -- each of its rounds goes on to stand
   round_stays : (server : ℕ) (r : Round) → StandsForRound T k server r → StandsForRound U k server r
   round_stays server r stand = record {
-    keeps = subst (λ (x : Sends). Keeps r x.begin x.moments) (sym (same.round server)) stand.keeps;
+    keeps = subst (λ (x : RoundTimes). KeepsRoundTime r x.begin x.moments) (sym (same.round server)) stand.keeps;
     latest = stand.latest ∙ sym (same.latest server);
     acked = stand.acked ∙ sym (same.acked server);
   }
@@ -110,16 +110,16 @@ module _ (o : Opening) (T U : List Step) (k : ℕ) (same : SameRouter o T U k) w
     config = stand.config;
     database = stand.database ∙ sym same.database;
     last = (stand.last.0, counts_stay stand.last.0 stand.last.1, stand.last.2);
-    safe = subst (λ (x : Shown). NoneBelow e.safe (kept_at x.kept (pair_at o T k))) (sym same.shown) stand.safe;
+    safe = subst (λ (x : ShownStore). NoneBelow e.safe (kept_at x.kept (pair_at o T k))) (sym same.shown) stand.safe;
     count = stand.count;
     rounds = λ i server r lists has. round_stays server r (stand.rounds i server r lists has);
   }
 
   -- up or down
-  core_stays : (core : RouterCore) → StandsForCore o T k core → StandsForCore o U k core
+  core_stays : (core : RouterCoreState) → StandsForCore o T k core → StandsForCore o U k core
   core_stays (Up e) stand = etr_stays e stand
   core_stays (Down config db) stand = (same.is_up ∙ stand.0, stand.1, stand.2 ∙ sym same.database)
 
   -- and with its name and its list
-  pub router_stays : (n : RouterNode) → StandsForRouter o T k n → StandsForRouter o U k n
+  pub router_stays : (n : RouterNodeState) → StandsForRouter o T k n → StandsForRouter o U k n
   router_stays n stand = record { me = stand.me; servers = stand.servers; core = core_stays n.core stand.core }

@@ -5,17 +5,17 @@ use Rattle.std.specs.Prelude.{◌==◌, ◌&&◌, ◌≤◌, nat_lt, slice_get, 
 use Rattle.std.specs.List.{Contains}
 use Rattle.std.specs.Option.{option_map, option_and_then}
 use Rattle.lisp_records.specs.declared.router.RouterId.{RouterId}
-use Rattle.lisp_records.specs.Address.{Block}
-use Rattle.lisp_records.specs.Row.{Holding}
+use Rattle.lisp_records.specs.Address.{PrefixValue}
+use Rattle.lisp_records.specs.Row.{RowValue}
 use Rattle.lisp_lookup.specs.Table.{row_at, IsHeld}
 use Rattle.lisp_etr.specs.Etr.{EtrState}
 use Rattle.lisp_server.specs.Server.{ServerState}
 use Rattle.lisp_model.specs.declared.line.Line.{Line}
 use Rattle.lisp_model.specs.declared.line.Line.TheVariants as lines
 use Rattle.lisp_model.specs.Trace.{Step, Opening, clock}
-use Rattle.lisp_model.specs.Held.{named, held, rows}
-use Rattle.lisp_model.specs.Bag.{since}
-use Rattle.lisp_model.specs.Counted.{acknowledged_after, acknowledged, acked_after, acked}
+use Rattle.lisp_model.specs.Held.{accepted_rows, held_row, rows}
+use Rattle.lisp_model.specs.Bag.{since_start}
+use Rattle.lisp_model.specs.Counted.{counted_nonces_after, counted_nonces, acked_after, acked}
 use Rattle.lisp_model.specs.Clean.{Clean}
 use Rattle.lisp_model.specs.Legal.{LegalTrace}
 use Rattle.lisp_model.specs.Network.{IsNetwork}
@@ -24,7 +24,7 @@ use Rattle.lisp_model.proofs.RisingLaws.{nonces_rise, replays_tried}
 use Rattle.lisp_model.proofs.NoticeRising.{notice_nonces_rise}
 use Rattle.lisp_model.proofs.CleanLaws as clean_laws
 use Rattle.lisp_model.proofs.RowLaws.{rows_are_held}
-use Rattle.lisp_refinement.specs.World.{WorldState, ServerNode, RouterNode, RouterCore, Up, Down}
+use Rattle.lisp_refinement.specs.World.{WorldState, ServerNodeState, RouterNodeState, RouterCoreState, Up, Down}
 use Rattle.lisp_refinement.specs.Nodes.{up_in, etr_at}
 use Rattle.lisp_refinement.specs.Stands.{Stands}
 use Rattle.lisp_refinement.specs.Headline.{Lists, ListedWasSent, ListedAgree, CountsAreAccepted, OfEachStep, OverClean, Promises}
@@ -45,7 +45,7 @@ notices_in o (s ∷ T) network legal clean = (clean_laws.done_was_noticed o T s 
 -- what was counted last was counted
 counted_last : (router server key nonce : ℕ) (line : Line) (old : Option (ℕ × ℕ)) (all : List (ℕ × ℕ))
     → (old ≡ Some (key, nonce) → Contains all (key, nonce))
-    → acked_after line router server old ≡ Some (key, nonce) → Contains (acknowledged_after line router server all) (key, nonce)
+    → acked_after line router server old ≡ Some (key, nonce) → Contains (counted_nonces_after line router server all) (key, nonce)
 counted_last router server key nonce (lines.Counted r s k n) old all before last = by (router_is && server_is) last
   where
     router_is : Bool
@@ -64,23 +64,23 @@ counted_last router server key nonce (lines.Restarted node) old all before last 
     by false last = before last
 counted_last router server key nonce _ old all before last = before last
 
-was_counted : (T : List Step) (router server key nonce : ℕ) → acked T router server ≡ Some (key, nonce) → Contains (acknowledged T router server) (key, nonce)
+was_counted : (T : List Step) (router server key nonce : ℕ) → acked T router server ≡ Some (key, nonce) → Contains (counted_nonces T router server) (key, nonce)
 was_counted [] router server key nonce last = absurd (none_is_some last)
 was_counted (s ∷ T) router server key nonce last =
-    counted_last router server key nonce s.line (acked T router server) (acknowledged T router server) (was_counted T router server key nonce) last
+    counted_last router server key nonce s.line (acked T router server) (counted_nonces T router server) (was_counted T router server key nonce) last
 
 -- the node of a core that is there
-node_of : (found : Option ServerNode) (core : ServerState) → option_map (λ (n : ServerNode). n.core) found ≡ Some core
-    → (n : ServerNode) × (found ≡ Some n) × (n.core ≡ core)
+node_of : (found : Option ServerNodeState) (core : ServerState) → option_map (λ (n : ServerNodeState). n.core) found ≡ Some core
+    → (n : ServerNodeState) × (found ≡ Some n) × (n.core ≡ core)
 node_of (Some n) core is = (n, refl, same_some n.core core is)
 node_of None core is = absurd (none_is_some is)
 
-router_of : (found : Option RouterNode) (etr : EtrState) → option_and_then (λ (n : RouterNode). up_in n.core) found ≡ Some etr
-    → (n : RouterNode) × (found ≡ Some n) × (up_in n.core ≡ Some etr)
+router_of : (found : Option RouterNodeState) (etr : EtrState) → option_and_then (λ (n : RouterNodeState). up_in n.core) found ≡ Some etr
+    → (n : RouterNodeState) × (found ≡ Some n) × (up_in n.core ≡ Some etr)
 router_of (Some n) etr is = (n, refl, is)
 router_of None etr is = absurd (none_is_some is)
 
-is_up_in : (core : RouterCore) (etr : EtrState) → up_in core ≡ Some etr → core ≡ Up etr
+is_up_in : (core : RouterCoreState) (etr : EtrState) → up_in core ≡ Some etr → core ≡ Up etr
 is_up_in (Up e) etr is = ap Up (same_some e etr is)
 is_up_in (Down config database) etr is = absurd (none_is_some is)
 
@@ -93,26 +93,26 @@ module _ (w : WorldState) (o : Opening) (T : List Step) (stand : Stands w o T) w
   network = stand.steps.network
 
   -- what a Map-Server lists is what it holds by the trace
-  listed_is_held : (server : ℕ) (listed : List Holding) → Lists w server listed → listed ≡ rows (since o T server) (clock T)
+  listed_is_held : (server : ℕ) (listed : List RowValue) → Lists w server listed → listed ≡ rows (since_start o T server) (clock T)
   listed_is_held server listed lists =
       let node = node_of (slice_get w.servers server) lists.core lists.running in
       let is : IsHeld node.0.core.rows w.clock listed = subst (λ (core : ServerState). IsHeld core.rows w.clock listed) (sym node.2) lists.held in
       (servers_tell (Unit {0}) w o T stand server node.0 node.1).held listed is
 
   -- a row that is listed is the one that is held for its router and prefix
-  is_latest : (server : ℕ) (listed : List Holding) → Lists w server listed → (row : Holding) → Contains listed row
-      → held (since o T server) row.router row.mapping.eid (clock T) ≡ Some row
+  is_latest : (server : ℕ) (listed : List RowValue) → Lists w server listed → (row : RowValue) → Contains listed row
+      → held_row (since_start o T server) row.router row.mapping.eid (clock T) ≡ Some row
   unfolding row_at
   is_latest server listed lists row has =
-      let there : Contains (rows (since o T server) (clock T)) row = subst (λ (all : List Holding). Contains all row) (listed_is_held server listed lists) has in
-      kept_alive (clock T) (row_at (named (since o T server)) row.router row.mapping.eid) row (((rows_are_held (since o T server) (clock T)).each row).0 there)
+      let there : Contains (rows (since_start o T server) (clock T)) row = subst (λ (all : List RowValue). Contains all row) (listed_is_held server listed lists) has in
+      kept_alive (clock T) (row_at (accepted_rows (since_start o T server)) row.router row.mapping.eid) row (((rows_are_held (since_start o T server) (clock T)).each row).0 there)
 
   -- what a router that is up tells, by its number
   router_tells : (router : ℕ) (core : EtrState) → etr_at w router ≡ Some core → RouterTells o T router core w.clock
   router_tells router core running = by (nat_lt router (length w.servers)) refl running
     where
       at_place : (k : ℕ) → length w.servers ≤ router → k ≡ router - length w.servers
-          → option_and_then (λ (n : RouterNode). up_in n.core) (slice_get w.routers k) ≡ Some core → RouterTells o T router core w.clock
+          → option_and_then (λ (n : RouterNodeState). up_in n.core) (slice_get w.routers k) ≡ Some core → RouterTells o T router core w.clock
       at_place k past is_place is =
           let node = router_of (slice_get w.routers k) core is in
           let count = stand.steps.servers in
@@ -120,7 +120,7 @@ module _ (w : WorldState) (o : Opening) (T : List Step) (stand : Stands w o T) w
           subst (λ (r : ℕ). RouterTells o T r core w.clock) same (routers_tell w o T stand k node.0 core node.1 (is_up_in node.0.core core node.2))
 
       by : (b : Bool) → nat_lt router (length w.servers) ≡ b
-          → option_and_then (λ (n : RouterNode). up_in n.core) (if b then None else slice_get w.routers (router - length w.servers)) ≡ Some core → RouterTells o T router core w.clock
+          → option_and_then (λ (n : RouterNodeState). up_in n.core) (if b then None else slice_get w.routers (router - length w.servers)) ≡ Some core → RouterTells o T router core w.clock
       by true below is = absurd (none_is_some is)
       by false past is = at_place (router - length w.servers) (ltb-false router (length w.servers) past) refl is
 
@@ -133,8 +133,8 @@ module _ (w : WorldState) (o : Opening) (T : List Step) (stand : Stands w o T) w
 
     listed_agree : ListedAgree w o T
     listed_agree one other listed listed' lists lists' g h has has' router eid d e sent sent' none =
-        let first : held (since o T one) h.router h.mapping.eid (clock T) ≡ Some g =
-        subst (λ (k : RouterId × Block). held (since o T one) k.0 k.1 (clock T) ≡ Some g) (λ i. (router i, eid i)) sent.latest in
+        let first : held_row (since_start o T one) h.router h.mapping.eid (clock T) ≡ Some g =
+        subst (λ (k : RouterId × PrefixValue). held_row (since_start o T one) k.0 k.1 (clock T) ≡ Some g) (λ i. (router i, eid i)) sent.latest in
         clean_laws.held_agree o T network legal clean one other h.router h.mapping.eid g h d e first sent'.latest sent.sent sent'.sent sent.of sent'.of none
 
     -- what a router counted last was accepted

@@ -3,7 +3,7 @@ use Rattle.std.proofs.Common.{◌≡◌, ℕ, ◌≤◌, Bool, true, false, List
 use Rattle.std.specs.Prelude.{length, drop, slice_index, ◌==◌, ◌||◌, ◌/◌}
 use Rattle.std.proofs.lemmas.Bool.{le-ltb}
 use Rattle.lisp_hmac.proofs.TagLemmas.{length-tag}
-use Rattle.lisp_records.specs.Record.{Mapping}
+use Rattle.lisp_records.specs.Record.{MapRecordValue}
 use Rattle.lisp_records.specs.Reading.{is_set, number_at}
 use Rattle.lisp_records.specs.Result.{◌>>=◌}
 use Rattle.lisp_messages.specs.declared.fault.ReadFault.TheVariants as faults
@@ -12,14 +12,14 @@ use Rattle.lisp_messages.specs.declared.kind.Kind.{Kind}
 use Rattle.lisp_messages.specs.declared.kind.Kind.TheVariants as kinds
 use Rattle.lisp_messages.specs.Authentic.{signed}
 use Rattle.lisp_messages.specs.Head.{head_at}
-use Rattle.lisp_messages.specs.Message.{Said, IsSaid, Registers, Notifies}
-use Rattle.lisp_messages.specs.Reading.{after, require, kind_of, nonce_of, ids_at, records_at, registration_of, notification_of, register_at, notify_at, tail_at, kind_at, message_at}
+use Rattle.lisp_messages.specs.Message.{MessageValue, IsMessage, Registers, Notifies}
+use Rattle.lisp_messages.specs.Reading.{after, require, kind_of, nonce_of, ids_at, records_at, map_register_of, map_notify_of, register_at, notify_at, tail_at, kind_at, message_at}
 use Rattle.lisp_messages.specs.Written.{written}
 use Rattle.lisp_messages.proofs.Fields.{bind_ok, after_takes, ok_is}
 use Rattle.lisp_messages.proofs.WrittenLaws.{reads_back}
 
 -- the head of what a message says
-abbrev pub head_of : Said → Head
+abbrev pub head_of : MessageValue → Head
 head_of (Registers m) = record { key_id = m.key_id; nonce = m.nonce }
 head_of (Notifies m) = record { key_id = m.key_id; nonce = m.nonce }
 
@@ -44,28 +44,28 @@ long_enough bytes k e =
     (after_takes 32 bytes f.0 f.1).0
 
 -- what stands behind the records doesn't change the head
-notify_tail : (ack : Bool) (bytes : List ℕ) (records : List Mapping) (tail : List ℕ) (m : Said) → notify_at ack bytes records tail ≡ Ok m → head_of m ≡ head_in bytes
+notify_tail : (ack : Bool) (bytes : List ℕ) (records : List MapRecordValue) (tail : List ℕ) (m : MessageValue) → notify_at ack bytes records tail ≡ Ok m → head_of m ≡ head_in bytes
 unfolding notify_at
 notify_tail ack bytes records tail m e =
-    let a = bind_ok (require faults.Trailing (length tail == 0 || length tail == 24)) (λ _. Ok (Notifies (notification_of ack bytes records))) m e in
-    ap head_of (sym (ok_is (Notifies (notification_of ack bytes records)) m a.2))
+    let a = bind_ok (require faults.Trailing (length tail == 0 || length tail == 24)) (λ _. Ok (Notifies (map_notify_of ack bytes records))) m e in
+    ap head_of (sym (ok_is (Notifies (map_notify_of ack bytes records)) m a.2))
 
 -- nor what stands behind those of a Map-Register
-register_tail : (bytes : List ℕ) (records : List Mapping) (tail : List ℕ) (m : Said) → register_at bytes records tail ≡ Ok m → head_of m ≡ head_in bytes
+register_tail : (bytes : List ℕ) (records : List MapRecordValue) (tail : List ℕ) (m : MessageValue) → register_at bytes records tail ≡ Ok m → head_of m ≡ head_in bytes
 unfolding register_at
 register_tail bytes records tail m e =
-    let a = bind_ok (require faults.NoIds (is_set (slice_index bytes 0) 2)) (λ _. ids_at tail >>= λ ids. Ok (Registers (registration_of bytes records ids.0 ids.1))) m e in
-    let b = bind_ok (ids_at tail) (λ ids. Ok (Registers (registration_of bytes records ids.0 ids.1))) m a.2 in
-    ap head_of (sym (ok_is (Registers (registration_of bytes records b.0.0 b.0.1)) m b.2))
+    let a = bind_ok (require faults.NoIds (is_set (slice_index bytes 0) 2)) (λ _. ids_at tail >>= λ ids. Ok (Registers (map_register_of bytes records ids.0 ids.1))) m e in
+    let b = bind_ok (ids_at tail) (λ ids. Ok (Registers (map_register_of bytes records ids.0 ids.1))) m a.2 in
+    ap head_of (sym (ok_is (Registers (map_register_of bytes records b.0.0 b.0.1)) m b.2))
 
 -- of any kind
-tail_head : (k : Kind) (bytes : List ℕ) (records : List Mapping) (tail : List ℕ) (m : Said) → tail_at k bytes records tail ≡ Ok m → head_of m ≡ head_in bytes
+tail_head : (k : Kind) (bytes : List ℕ) (records : List MapRecordValue) (tail : List ℕ) (m : MessageValue) → tail_at k bytes records tail ≡ Ok m → head_of m ≡ head_in bytes
 tail_head kinds.Register bytes records tail m e = register_tail bytes records tail m e
 tail_head kinds.Notify bytes records tail m e = notify_tail false bytes records tail m e
 tail_head kinds.NotifyAck bytes records tail m e = notify_tail true bytes records tail m e
 
 -- what is read in bytes has the head that stands there
-pub head_read : (bytes : List ℕ) (m : Said) → message_at bytes ≡ Ok m → head_at bytes ≡ Some (head_of m)
+pub head_read : (bytes : List ℕ) (m : MessageValue) → message_at bytes ≡ Ok m → head_at bytes ≡ Some (head_of m)
 unfolding message_at
 head_read bytes m read =
     let k = bind_ok (kind_at bytes) (λ kind. records_at 0 (slice_index bytes 3) (drop 32 bytes) >>= λ rs. tail_at kind bytes rs.0 rs.1) m read in
@@ -73,9 +73,9 @@ head_read bytes m read =
     head_there bytes (long_enough bytes k.0 k.1) ∙ ap Some (sym (tail_head k.0 bytes l.0.0 l.0.1 m l.2))
 
 -- what was written is read again
-pub reads_signed : (secret : List ℕ) (m : Said) → IsSaid m → message_at (signed secret (written m)) ≡ Ok m
+pub reads_signed : (secret : List ℕ) (m : MessageValue) → IsMessage m → message_at (signed secret (written m)) ≡ Ok m
 reads_signed secret m fits = reads_back m _ fits (length-tag secret _ 16)
 
 -- and what was written has the head of what it says
-pub head_written : (secret : List ℕ) (m : Said) → IsSaid m → head_at (signed secret (written m)) ≡ Some (head_of m)
+pub head_written : (secret : List ℕ) (m : MessageValue) → IsMessage m → head_at (signed secret (written m)) ≡ Some (head_of m)
 head_written secret m fits = head_read (signed secret (written m)) m (reads_signed secret m fits)

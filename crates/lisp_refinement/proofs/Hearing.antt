@@ -9,19 +9,19 @@ use Rattle.std.proofs.lemmas.List.{length-set}
 use Rattle.std.proofs.lemmas.Option.{slice_get_within, slice_get-get_or, get_or_from_slice_get}
 use Rattle.lisp_records.specs.declared.address.Addr.{Addr}
 use Rattle.lisp_records.specs.Address.{addr_eq}
-use Rattle.lisp_records.specs.Record.{Mapping}
+use Rattle.lisp_records.specs.Record.{MapRecordValue}
 use Rattle.lisp_records.specs.Result.{◌>>=◌}
 use Rattle.lisp_messages.specs.Authentic.{signed}
-use Rattle.lisp_messages.specs.Message.{Notification, IsNotification, Notifies}
+use Rattle.lisp_messages.specs.Message.{MapNotifyValue, IsMapNotify, Notifies}
 use Rattle.lisp_messages.specs.Reading.{HasHead, HasRecords, message_at}
 use Rattle.lisp_messages.specs.Written.{written, written_notify}
 use Rattle.lisp_nonces.specs.declared.fate.Fate.{Fate}
 use Rattle.lisp_nonces.specs.Kept.{kept_at, NoneBelow}
 use Rattle.lisp_nonces.specs.Store.{StoreState}
-use Rattle.lisp_etr.specs.Config.{Settings}
+use Rattle.lisp_etr.specs.Config.{EtrConfigValue}
 use Rattle.lisp_etr.specs.Etr.{EtrState}
-use Rattle.lisp_etr.specs.Hearing.{Gives, Heard, AnswerFits, HearsNotice, TakesMemory, ack_of, checked, server_at, heard as heard_of, first_notice, round_at, is_latest, notice_in, counted_in, seen_in, seen_at, after as left_after}
-use Rattle.lisp_etr.specs.Round.{started, counted}
+use Rattle.lisp_etr.specs.Hearing.{Gives, ServerNotify, AnswerFits, HearsNotice, TakesMemory, ack_of, checked_notify, server_at, notify_from as heard_of, first_notice, round_at, is_latest, notice_in, counted_in, seen_in, seen_at, etr_after as left_after}
+use Rattle.lisp_etr.specs.Round.{first_round, round_after_count}
 use Rattle.lisp_etr.specs.declared.notify_fault.NotifyFault.{NotifyFault}
 use Rattle.lisp_etr.specs.declared.notify_fault.NotifyFault.TheVariants as faults
 use Rattle.lisp_etr.specs.declared.round.Round.{Round}
@@ -30,37 +30,37 @@ use Rattle.lisp_etr.specs.declared.seen.Seen.TheVariants.{Counted}
 use Rattle.lisp_model.specs.declared.event.Event.TheVariants as events
 use Rattle.lisp_model.specs.declared.line.Line.{Line}
 use Rattle.lisp_model.specs.declared.line.Line.TheVariants as lines
-use Rattle.lisp_model.specs.Trace.{Happening, Shown, Step, Opening, fate_of, address_at, is_router, router_at, settings, database, shown, is_up, up_after, database_after}
-use Rattle.lisp_model.specs.Bag.{Arrival, bytes_of, as_notify, ack_item, arrival_in, posted, past, bag}
-use Rattle.lisp_model.specs.Counted.{server_from, heard, latest}
+use Rattle.lisp_model.specs.Trace.{EventValue, ShownStore, Step, Opening, fate_of, address_at, is_router, router_at, etr_config, database, shown_store, is_up, up_after, database_after}
+use Rattle.lisp_model.specs.Bag.{Arrival, bytes_of, as_notify, ack_item, arrival_in, items_added, past, bag}
+use Rattle.lisp_model.specs.Counted.{server_from, notify_at, latest_nonce}
 use Rattle.lisp_model.specs.Hearing.{refused_with, counted_line, line_of, IsToAnswer, Hears}
 use Rattle.lisp_model.specs.Legal.{Arrives}
 use Rattle.lisp_model.specs.Sending.{pair_at, last_sent, start_values}
-use Rattle.lisp_model.specs.Turn.{Turn, IsBase}
-use Rattle.lisp_refinement.specs.World.{Posted, RouterNode, RouterCore, Up, Down, WorldState}
-use Rattle.lisp_refinement.specs.Calls.{Hears as HearsAs, Uses}
-use Rattle.lisp_refinement.specs.Turns.{address_of, server_number, router_line, acknowledges, HearsUp, HearsAt, ArrivesAtRouter}
+use Rattle.lisp_model.specs.Context.{Context, IsBase}
+use Rattle.lisp_refinement.specs.World.{DatagramValue, RouterNodeState, RouterCoreState, Up, Down, WorldState}
+use Rattle.lisp_refinement.specs.Calls.{CoreHears as HearsAs, UsesStore}
+use Rattle.lisp_refinement.specs.Events.{address_of, server_number, router_line, acknowledges, UpRouterHears, RouterHears, ArrivesAtRouter}
 use Rattle.lisp_refinement.specs.Stands.{Shows, Carries, StandsForRound, StandsForEtr, StandsForCore, StandsForRouter, Stands}
 use Rattle.lisp_refinement.proofs.Acting.{adds_none, adds_one, Shown-in, uses_shown, address_is}
 use Rattle.lisp_refinement.proofs.HeardAlike.{Both, SameHeard, Alike, alike}
 use Rattle.lisp_refinement.proofs.Places.{Placed, first_place, position_map}
-use Rattle.lisp_refinement.proofs.RouterTurns.{step_of, turn_at, shown_now, RouterStep, moved, acts_router, acts_part, acts_shows, acts_once}
+use Rattle.lisp_refinement.proofs.RouterEvents.{step_of, turn_at, shown_now, RouterStep, moved, acts_router, acts_part, acts_shows, acts_once}
 use Rattle.lisp_refinement.proofs.RouterRounds.{counted_here, counted_there, rounds_set}
 
 -- a datagram arrives, or bytes from outside
-abbrev pub IsArrival : Happening → Type 0
+abbrev pub IsArrival : EventValue → Type 0
 IsArrival (events.Deliver k fate) = Unit {0}
 IsArrival (events.Junk to from bytes) = Unit {0}
 IsArrival _ = ⊥
 
 -- no router goes up or down by that
-same_up : (event : Happening) → IsArrival event → (line : Line) (r : ℕ) (old : Bool) → up_after event line r old ≡ old
+same_up : (event : EventValue) → IsArrival event → (line : Line) (r : ℕ) (old : Bool) → up_after event line r old ≡ old
 same_up (events.Deliver k fate) is line r old = refl
 same_up (events.Junk to from bytes) is line r old = refl
 same_up _ is line r old = absurd is
 
 -- and none has another database
-same_database : (event : Happening) → IsArrival event → (line : Line) (r : ℕ) (old : List Mapping) → database_after event line r old ≡ old
+same_database : (event : EventValue) → IsArrival event → (line : Line) (r : ℕ) (old : List MapRecordValue) → database_after event line r old ≡ old
 same_database (events.Deliver k fate) is line r old = refl
 same_database (events.Junk to from bytes) is line r old = refl
 same_database _ is line r old = absurd is
@@ -76,7 +76,7 @@ given (Err faults.BadAuth) expected is = inl (sym is)
 given (Err (faults.Stale last)) expected is = inl (sym is)
 
 -- what is seen in a Map-Notify that passed
-module _ {A : Type 0} (e : EtrState) (h : Heard) where
+module _ {A : Type 0} (e : EtrState) (h : ServerNotify) where
   seen_notice : nat_le first_notice h.message.nonce ≡ true → seen_in {A = A} e h ≡ Ok (notice_in e.config h)
   unfolding seen_in
   seen_notice high = ap (λ b. if b then Ok (notice_in e.config h) else counted_in e.rounds h.server h.message.nonce) high
@@ -101,32 +101,32 @@ both_of xs (Some i) None is = absurd is
 both_of xs None (Some x) is = absurd is
 
 -- a router that is up hears what arrives
-module _ (A : Type 0) (old : WorldState) (o : Opening) (T : List Step) (stand : Stands old o T) (node : ℕ) (event : Happening) (arrival : IsArrival event) (a : Arrival) (arrives : arrival_in (bag o T) event ≡ Some a)
-    (before : RouterNode) (kind : is_router o.config node ≡ true) (part : StandsForRouter o T node before) (once : AllPairs (λ a b. a ≢ b) (router_at o.config node).servers)
-    (e : EtrState) (own : StandsForEtr o T node e) (store : StoreState) (shows : Shows store (shown o T node)) (from : Addr) (from_is : a.from ≡ from) where
+module _ (A : Type 0) (old : WorldState) (o : Opening) (T : List Step) (stand : Stands old o T) (node : ℕ) (event : EventValue) (arrival : IsArrival event) (a : Arrival) (arrives : arrival_in (bag o T) event ≡ Some a)
+    (before : RouterNodeState) (kind : is_router o.config node ≡ true) (part : StandsForRouter o T node before) (once : AllPairs (λ a b. a ≢ b) (router_at o.config node).servers)
+    (e : EtrState) (own : StandsForEtr o T node e) (store : StoreState) (shows : Shows store (shown_store o T node)) (from : Addr) (from_is : a.from ≡ from) where
   -- the turn; the router's list; the step of a line; the line of an answer
-  abbrev turn : Turn
-  turn = turn_at o T node (fate_of event) (shown o T node)
+  abbrev turn : Context
+  turn = turn_at o T node (fate_of event) (shown_store o T node)
 
   abbrev servers : List ℕ
   servers = (router_at o.config node).servers
 
   abbrev step : Line → Step
-  step line = step_of event node (shown o T node) line
+  step line = step_of event node (shown_store o T node) line
 
   abbrev line_by : Result (Seen A) NotifyFault → Line
-  line_by ans = router_line node (length old.bag) before.servers e ans
+  line_by ans = router_line node (length old.bag) before.servers e.config.key_id ans
 
   -- what a line, datagrams and a router come to
-  abbrev Comes : Line → List Posted → EtrState → Type 0
-  Comes line more etr = RouterStep o T event node (shown o T node) (Arrives turn a) line more (record before { core = Up etr; store = store })
+  abbrev Comes : Line → List DatagramValue → EtrState → Type 0
+  Comes line more etr = RouterStep o T event node (shown_store o T node) (Arrives turn a) line more (record before { core = Up etr; store = store })
 
   -- and what the answer itself comes to
   abbrev ComesBy : Result (Seen A) NotifyFault → Type 0
   ComesBy ans = Comes (line_by ans) (acknowledges (address_of old node) from ans) (left_after e ans)
 
   -- the row of a line of the trace's own reading
-  hears_row : (line : Line) → (line ≡ line_of turn (heard o T node a)) ⊎ (HasHead a.bytes × (HasRecords a.bytes ⊎ IsToAnswer turn a) × (line ≡ refused_with turn faults.OutOfMemory)) → Hears turn a line
+  hears_row : (line : Line) → (line ≡ line_of turn (notify_at o T node a)) ⊎ (HasHead a.bytes × (HasRecords a.bytes ⊎ IsToAnswer turn a) × (line ≡ refused_with turn faults.OutOfMemory)) → Hears turn a line
   hears_row line comes = record { acts = record { kind = kind; acts = refl; state = own.up }; same = refl; comes = comes }
 
   -- the router goes on, with other rounds at most
@@ -137,7 +137,7 @@ module _ (A : Type 0) (old : WorldState) (o : Opening) (T : List Step) (stand : 
     config = own.config;
     database = own.database ∙ sym (same_database event arrival line node (database o T node));
     last = (own.last.0, subst (λ (p : Option ℕ × List (Option ℕ)). IsBase p.0 p.1 own.last.0) {x = (last_sent T node, start_values o T node)} {y = (last_sent (step line ∷ T) node, start_values o (step line ∷ T) node)} (λ i. (sym last i, sym start i)) own.last.1, own.last.2);
-    safe = subst (λ (x : Shown). NoneBelow e.safe (kept_at x.kept (pair_at o T node))) (sym (shown_now o T event node (shown o T node) line)) own.safe;
+    safe = subst (λ (x : ShownStore). NoneBelow e.safe (kept_at x.kept (pair_at o T node))) (sym (shown_now o T event node (shown_store o T node) line)) own.safe;
     count = count ∙ own.count;
     rounds = each;
   }
@@ -147,7 +147,7 @@ module _ (A : Type 0) (old : WorldState) (o : Opening) (T : List Step) (stand : 
   router_part line etr core = record { me = part.me; servers = part.servers; core = core }
 
   -- it is refused
-  refuses : (fault : NotifyFault) → (refused_with turn fault ≡ line_of turn (heard o T node a)) ⊎ (HasHead a.bytes × (HasRecords a.bytes ⊎ IsToAnswer turn a) × (refused_with turn fault ≡ refused_with turn faults.OutOfMemory)) → ComesBy (Err fault)
+  refuses : (fault : NotifyFault) → (refused_with turn fault ≡ line_of turn (notify_at o T node a)) ⊎ (HasHead a.bytes × (HasRecords a.bytes ⊎ IsToAnswer turn a) × (refused_with turn fault ≡ refused_with turn faults.OutOfMemory)) → ComesBy (Err fault)
   refuses fault comes = record {
     row = hears_row (refused_with turn fault) comes;
     count = omega arith;
@@ -158,7 +158,7 @@ module _ (A : Type 0) (old : WorldState) (o : Opening) (T : List Step) (stand : 
   }
 
   -- a Map-Notify passed all checks
-  module _ (h g : Heard) (hears : heard o T node a ≡ Ok g) (p q : Option ℕ) (placed : Placed servers p q) (same : SameHeard (settings o T node) a.read p q h g) where
+  module _ (h g : ServerNotify) (hears : notify_at o T node a ≡ Ok g) (p q : Option ℕ) (placed : Placed servers p q) (same : SameHeard (etr_config o T node) a.read p q h g) where
     -- the server stands at its place
     there : slice_get servers h.server ≡ Some g.server
     there = subst (λ (x : Option ℕ × Option ℕ). Placed servers x.0 x.1) {x = (p, q)} {y = (Some h.server, Some g.server)} (λ i. (same.place i, same.server i)) placed
@@ -168,11 +168,11 @@ module _ (A : Type 0) (old : WorldState) (o : Opening) (T : List Step) (stand : 
     number_is = ap (λ (xs : List ℕ). slice_index_or xs h.server 0) part.servers ∙ get_or_from_slice_get servers h.server g.server 0 there
 
     nonce_is : h.message.nonce ≡ g.message.nonce
-    nonce_is = ap (λ (m : Notification). m.nonce) same.message
+    nonce_is = ap (λ (m : MapNotifyValue). m.nonce) same.message
 
     -- its round is there, and stands
     round_there : slice_get e.rounds h.server ≡ Some (round_at e.rounds h.server)
-    round_there = slice_get-get_or e.rounds h.server (started 0) (let low = slice_get_within servers h.server g.server there in let count = own.count in omega (arith, low, count))
+    round_there = slice_get-get_or e.rounds h.server (first_round 0) (let low = slice_get_within servers h.server g.server there in let count = own.count in omega (arith, low, count))
 
     round_stands : StandsForRound T node g.server (round_at e.rounds h.server)
     round_stands = own.rounds h.server g.server (round_at e.rounds h.server) there round_there
@@ -182,34 +182,34 @@ module _ (A : Type 0) (old : WorldState) (o : Opening) (T : List Step) (stand : 
     noticed = lines.Noticed node (server_number before.servers h.server) h.message.nonce (length old.bag)
 
     -- its answer
-    abbrev answered : Posted
+    abbrev answered : DatagramValue
     answered = record { from = address_of old node; to = from; bytes = signed e.config.secret (written_notify (ack_of h.message)) }
 
     -- the key is the router's
     key_is : e.config.key_id ≡ g.message.key_id
-    key_is = ap (λ (c : Settings). c.key_id) own.config ∙ sym same.under
+    key_is = ap (λ (c : EtrConfigValue). c.key_id) own.config ∙ sym same.under
 
     -- the line is the trace's
-    noticed_is : nat_le first_notice h.message.nonce ≡ true → noticed ≡ line_of turn (heard o T node a)
+    noticed_is : nat_le first_notice h.message.nonce ≡ true → noticed ≡ line_of turn (notify_at o T node a)
     noticed_is high = (λ i. lines.Noticed node (number_is i) (nonce_is i) (stand.bag.count i))
-        ∙ sym (ap (line_of turn) hears ∙ ap (λ b. if b then lines.Noticed node g.server g.message.nonce (length (bag o T)) else counted_line turn g (latest T node g.server)) (ap (nat_le first_notice) (sym nonce_is) ∙ high))
+        ∙ sym (ap (line_of turn) hears ∙ ap (λ b. if b then lines.Noticed node g.server g.message.nonce (length (bag o T)) else counted_line turn g (latest_nonce T node g.server)) (ap (nat_le first_notice) (sym nonce_is) ∙ high))
 
     -- the bag has the item of the answer
     notice_added : bag o (step noticed ∷ T) ≡ bag o T ++ ack_item o T node a g.message ∷ []
-    notice_added = ap (λ (x : Option Arrival). bag o T ++ posted o T (past o T) x noticed) arrives ∙ ap (λ (x : Option Notification). bag o T ++ option_to_list (option_map (ack_item o T node a) x)) (ap as_notify same.says)
+    notice_added = ap (λ (x : Option Arrival). bag o T ++ items_added o T (past o T) x noticed) arrives ∙ ap (λ (x : Option MapNotifyValue). bag o T ++ option_to_list (option_map (ack_item o T node a) x)) (ap as_notify same.says)
 
     -- which the answer carries
-    notice_carries : IsNotification (record { ack = true; nonce = h.message.nonce; key_id = e.config.key_id; records = h.message.records }) → Carries answered (ack_item o T node a g.message)
+    notice_carries : IsMapNotify (record { ack = true; nonce = h.message.nonce; key_id = e.config.key_id; records = h.message.records }) → Carries answered (ack_item o T node a g.message)
     unfolding bytes_of
     notice_carries fits = record {
       from = address_is old o T stand node;
       to = sym from_is;
       bytes = λ i. signed (own.config i).secret (written (Notifies (ack_of (same.message i))));
-      message = subst IsNotification {x = record { ack = true; nonce = h.message.nonce; key_id = e.config.key_id; records = h.message.records }} {y = ack_of g.message} (λ i. record { ack = true; nonce = (same.message i).nonce; key_id = key_is i; records = (same.message i).records }) fits;
+      message = subst IsMapNotify {x = record { ack = true; nonce = h.message.nonce; key_id = e.config.key_id; records = h.message.records }} {y = ack_of g.message} (λ i. record { ack = true; nonce = (same.message i).nonce; key_id = key_is i; records = (same.message i).records }) fits;
     }
 
     -- a notice and its answer
-    notices : nat_le first_notice h.message.nonce ≡ true → IsNotification (record { ack = true; nonce = h.message.nonce; key_id = e.config.key_id; records = h.message.records }) → ComesBy (Ok (notice_in e.config h))
+    notices : nat_le first_notice h.message.nonce ≡ true → IsMapNotify (record { ack = true; nonce = h.message.nonce; key_id = e.config.key_id; records = h.message.records }) → ComesBy (Ok (notice_in e.config h))
     notices high fits = record {
       row = hears_row noticed (inl (noticed_is high));
       count = omega arith;
@@ -222,11 +222,11 @@ module _ (A : Type 0) (old : WorldState) (o : Opening) (T : List Step) (stand : 
     -- an acknowledgement
     module _ (low : nat_le first_notice h.message.nonce ≡ false) where
       -- the trace's line, by the last nonce to that server
-      counted_by : line_of turn (heard o T node a) ≡ counted_line turn g (latest T node g.server)
-      counted_by = ap (line_of turn) hears ∙ ap (λ b. if b then lines.Noticed node g.server g.message.nonce (length (bag o T)) else counted_line turn g (latest T node g.server)) (ap (nat_le first_notice) (sym nonce_is) ∙ low)
+      counted_by : line_of turn (notify_at o T node a) ≡ counted_line turn g (latest_nonce T node g.server)
+      counted_by = ap (line_of turn) hears ∙ ap (λ b. if b then lines.Noticed node g.server g.message.nonce (length (bag o T)) else counted_line turn g (latest_nonce T node g.server)) (ap (nat_le first_notice) (sym nonce_is) ∙ low)
 
       -- the router's last nonce to it is the trace's
-      latest_is : is_latest g.message.nonce (latest T node g.server) ≡ is_latest h.message.nonce (round_at e.rounds h.server).latest
+      latest_is : is_latest g.message.nonce (latest_nonce T node g.server) ≡ is_latest h.message.nonce (round_at e.rounds h.server).latest
       latest_is = λ i. is_latest (sym nonce_is i) (sym round_stands.latest i)
 
       -- the line, and the rounds afterwards
@@ -234,12 +234,12 @@ module _ (A : Type 0) (old : WorldState) (o : Opening) (T : List Step) (stand : 
       said = lines.Counted node g.server e.config.key_id h.message.nonce
 
       abbrev new_rounds : List Round
-      new_rounds = slice_set e.rounds h.server (counted e.config.key_id (round_at e.rounds h.server))
+      new_rounds = slice_set e.rounds h.server (round_after_count e.config.key_id (round_at e.rounds h.server))
 
       -- the line is the trace's
-      said_is : is_latest h.message.nonce (round_at e.rounds h.server).latest ≡ true → said ≡ line_of turn (heard o T node a)
+      said_is : is_latest h.message.nonce (round_at e.rounds h.server).latest ≡ true → said ≡ line_of turn (notify_at o T node a)
       said_is last = (λ i. lines.Counted node g.server (own.config i).key_id (nonce_is i))
-          ∙ sym (counted_by ∙ ap (λ b. if b then lines.Counted node g.server (settings o T node).key_id g.message.nonce else refused_with turn (faults.Stale (latest T node g.server))) (latest_is ∙ last))
+          ∙ sym (counted_by ∙ ap (λ b. if b then lines.Counted node g.server (etr_config o T node).key_id g.message.nonce else refused_with turn (faults.Stale (latest_nonce T node g.server))) (latest_is ∙ last))
 
       -- the nonce is the last one
       last_of : is_latest h.message.nonce (round_at e.rounds h.server).latest ≡ true → h.message.nonce ≡ (round_at e.rounds h.server).latest
@@ -247,25 +247,25 @@ module _ (A : Type 0) (old : WorldState) (o : Opening) (T : List Step) (stand : 
 
       -- the rounds stand
       counts_rounds : is_latest h.message.nonce (round_at e.rounds h.server).latest ≡ true → (i k : ℕ) (r : Round) → slice_get servers i ≡ Some k → slice_get new_rounds i ≡ Some r → StandsForRound (step said ∷ T) node k r
-      counts_rounds last = rounds_set T (step said ∷ T) node servers e.rounds h.server g.server (counted e.config.key_id (round_at e.rounds h.server)) once there
-          (counted_here T event node (shown o T node) g.server e.config.key_id h.message.nonce (round_at e.rounds h.server) (last_of last) round_stands)
-          (counted_there T event node (shown o T node) g.server e.config.key_id h.message.nonce) own.rounds
+      counts_rounds last = rounds_set T (step said ∷ T) node servers e.rounds h.server g.server (round_after_count e.config.key_id (round_at e.rounds h.server)) once there
+          (counted_here T event node (shown_store o T node) g.server e.config.key_id h.message.nonce (round_at e.rounds h.server) (last_of last) round_stands)
+          (counted_there T event node (shown_store o T node) g.server e.config.key_id h.message.nonce) own.rounds
 
       -- it counts
       counts : is_latest h.message.nonce (round_at e.rounds h.server).latest ≡ true → ComesBy (Ok (Counted h.server h.message.nonce))
-      counts last = moved o T event node (shown o T node) (Arrives turn a) (line_by (Ok (Counted h.server h.message.nonce))) said [] [] _ _ (ap (λ n. lines.Counted node n e.config.key_id h.message.nonce) number_is) refl refl (record {
+      counts last = moved o T event node (shown_store o T node) (Arrives turn a) (line_by (Ok (Counted h.server h.message.nonce))) said [] [] _ _ (ap (λ n. lines.Counted node n e.config.key_id h.message.nonce) number_is) refl refl (record {
         row = hears_row said (inl (said_is last));
         count = omega arith;
         obedient = refl;
         adds = adds_none o T (step said) refl;
         shows = shows;
-        part = router_part said (record e { rounds = new_rounds }) (goes_on said new_rounds refl refl (length-set e.rounds h.server (counted e.config.key_id (round_at e.rounds h.server))) (counts_rounds last));
+        part = router_part said (record e { rounds = new_rounds }) (goes_on said new_rounds refl refl (length-set e.rounds h.server (round_after_count e.config.key_id (round_at e.rounds h.server))) (counts_rounds last));
       })
 
       -- it is stale
       stale : is_latest h.message.nonce (round_at e.rounds h.server).latest ≡ false → ComesBy (Err (faults.Stale (round_at e.rounds h.server).latest))
       stale last = refuses (faults.Stale (round_at e.rounds h.server).latest) (inl (ap (λ n. refused_with turn (faults.Stale n)) round_stands.latest
-          ∙ sym (counted_by ∙ ap (λ b. if b then lines.Counted node g.server (settings o T node).key_id g.message.nonce else refused_with turn (faults.Stale (latest T node g.server))) (latest_is ∙ last))))
+          ∙ sym (counted_by ∙ ap (λ b. if b then lines.Counted node g.server (etr_config o T node).key_id g.message.nonce else refused_with turn (faults.Stale (latest_nonce T node g.server))) (latest_is ∙ last))))
 
     -- the answer to a notice fits the format
     abbrev Fits : Result (Seen A) NotifyFault → Type 0
@@ -284,16 +284,16 @@ module _ (A : Type 0) (old : WorldState) (o : Opening) (T : List Step) (stand : 
   from_place = position (λ s. addr_eq (address_at o.config s) a.from) servers
 
   -- the router checks by the place
-  by_place : (bytes : List ℕ) → a.bytes ≡ bytes → a.read ≡ message_at bytes → heard_of e.config from bytes ≡ checked (settings o T node) a.bytes a.read from_place
-  by_place bytes bytes_are read_is = (λ i. checked (own.config i) (sym bytes_are i) (sym read_is i) (server_at (own.config i).servers (sym from_is i)))
-      ∙ ap (checked (settings o T node) a.bytes a.read) (position_map (λ x. addr_eq x a.from) (address_at o.config) servers)
+  by_place : (bytes : List ℕ) → a.bytes ≡ bytes → a.read ≡ message_at bytes → heard_of e.config from bytes ≡ checked_notify (etr_config o T node) a.bytes a.read from_place
+  by_place bytes bytes_are read_is = (λ i. checked_notify (own.config i) (sym bytes_are i) (sym read_is i) (server_at (own.config i).servers (sym from_is i)))
+      ∙ ap (checked_notify (etr_config o T node) a.bytes a.read) (position_map (λ x. addr_eq x a.from) (address_at o.config) servers)
 
   -- both checks lead to the same
-  both_heard : Alike (settings o T node) a.read from_place (server_from o.config node a.from) (checked (settings o T node) a.bytes a.read from_place) (heard o T node a)
-  both_heard = alike (settings o T node) a.bytes a.read from_place (server_from o.config node a.from) (both_of servers from_place (server_from o.config node a.from) (first_place (λ s. addr_eq (address_at o.config s) a.from) servers))
+  both_heard : Alike (etr_config o T node) a.read from_place (server_from o.config node a.from) (checked_notify (etr_config o T node) a.bytes a.read from_place) (notify_at o T node a)
+  both_heard = alike (etr_config o T node) a.bytes a.read from_place (server_from o.config node a.from) (both_of servers from_place (server_from o.config node a.from) (first_place (λ s. addr_eq (address_at o.config s) a.from) servers))
 
   -- what the router hears comes to what the trace says
-  by_both : (ans : Result (Seen A) NotifyFault) (r t : Result Heard NotifyFault) → heard o T node a ≡ t → Alike (settings o T node) a.read from_place (server_from o.config node a.from) r t → ans ≡ (r >>= seen_in e) → IfOk ans (λ seen. AnswerFits e.config.key_id seen) → ComesBy ans
+  by_both : (ans : Result (Seen A) NotifyFault) (r t : Result ServerNotify NotifyFault) → notify_at o T node a ≡ t → Alike (etr_config o T node) a.read from_place (server_from o.config node a.from) r t → ans ≡ (r >>= seen_in e) → IfOk ans (λ seen. AnswerFits e.config.key_id seen) → ComesBy ans
   by_both ans (Err f) (Err g) heard_is same is fits = subst ComesBy (sym is) (refuses f (inl (ap (refused_with turn) same ∙ sym (ap (line_of turn) heard_is))))
   by_both ans (Ok h) (Ok g) heard_is same is fits = passes h g heard_is from_place (server_from o.config node a.from) (first_place (λ s. addr_eq (address_at o.config s) a.from) servers) same ans is fits
       (nat_le first_notice h.message.nonce) (is_latest h.message.nonce (round_at e.rounds h.server).latest) refl refl
@@ -308,28 +308,28 @@ module _ (A : Type 0) (old : WorldState) (o : Opening) (T : List Step) (stand : 
       head_of is = subst HasHead (sym bytes_are) (subst (λ (x : Result (Seen A) NotifyFault). IsErrOf x faults.OutOfMemory → TakesMemory e.config from bytes) is call.grows refl).0
 
       -- what takes memory is to be read, or a notice that passed all checks on both sides
-      answer_of : (h : Heard) (t : Result Heard NotifyFault) → heard o T node a ≡ t → Alike (settings o T node) a.read from_place (server_from o.config node a.from) (Ok h) t → first_notice ≤ h.message.nonce → IsToAnswer turn a
-      answer_of h (Ok g) heard_is same high = record { what = g; hears = heard_is; own = subst (λ (m : Notification). first_notice ≤ m.nonce) same.message high }
+      answer_of : (h : ServerNotify) (t : Result ServerNotify NotifyFault) → notify_at o T node a ≡ t → Alike (etr_config o T node) a.read from_place (server_from o.config node a.from) (Ok h) t → first_notice ≤ h.message.nonce → IsToAnswer turn a
+      answer_of h (Ok g) heard_is same high = record { what = g; hears = heard_is; own = subst (λ (m : MapNotifyValue). first_notice ≤ m.nonce) same.message high }
       answer_of h (Err f) heard_is same high = absurd same
 
       takes : HasRecords bytes ⊎ HearsNotice e.config from bytes → HasRecords a.bytes ⊎ IsToAnswer turn a
       takes (inl records) = inl (subst HasRecords (sym bytes_are) records)
-      takes (inr notice) = inr (answer_of notice.0 (heard o T node a) refl
-          (subst (λ (r : Result Heard NotifyFault). Alike (settings o T node) a.read from_place (server_from o.config node a.from) r (heard o T node a)) (sym (by_place bytes bytes_are read_is) ∙ notice.1) both_heard) notice.2)
+      takes (inr notice) = inr (answer_of notice.0 (notify_at o T node a) refl
+          (subst (λ (r : Result ServerNotify NotifyFault). Alike (etr_config o T node) a.read from_place (server_from o.config node a.from) r (notify_at o T node a)) (sym (by_place bytes bytes_are read_is) ∙ notice.1) both_heard) notice.2)
 
       taken_of : ans ≡ Err faults.OutOfMemory → HasRecords a.bytes ⊎ IsToAnswer turn a
       taken_of is = takes (subst (λ (x : Result (Seen A) NotifyFault). IsErrOf x faults.OutOfMemory → TakesMemory e.config from bytes) is call.grows refl).1
 
       at : (ans ≡ seen_at e from bytes) ⊎ (ans ≡ Err faults.OutOfMemory) → ComesBy ans
-      at (inl is) = by_both ans (checked (settings o T node) a.bytes a.read from_place) (heard o T node a) refl both_heard (is ∙ ap (λ (r : Result Heard NotifyFault). r >>= seen_in e) (by_place bytes bytes_are read_is)) call.fits
+      at (inl is) = by_both ans (checked_notify (etr_config o T node) a.bytes a.read from_place) (notify_at o T node a) refl both_heard (is ∙ ap (λ (r : Result ServerNotify NotifyFault). r >>= seen_in e) (by_place bytes bytes_are read_is)) call.fits
       at (inr is) = subst ComesBy (sym is) (refuses faults.OutOfMemory (inr (head_of is, taken_of is, refl)))
 
 -- what arrives at a router
 module _ (A : Type 0) (old new : WorldState) (o : Opening) (T : List Step) (stand : Stands old o T) (node : ℕ) (fate : Fate) (from : Addr) (bytes : List ℕ) (line : Line) (arrived : ArrivesAtRouter A old new node fate from bytes line)
-    (event : Happening) (arrival : IsArrival event) (a : Arrival) (arrives : arrival_in (bag o T) event ≡ Some a) (from_is : a.from ≡ from) (bytes_are : a.bytes ≡ bytes) (read_is : a.read ≡ message_at bytes) where
+    (event : EventValue) (arrival : IsArrival event) (a : Arrival) (arrives : arrival_in (bag o T) event ≡ Some a) (from_is : a.from ≡ from) (bytes_are : a.bytes ≡ bytes) (read_is : a.read ≡ message_at bytes) where
   -- the step of the router
   abbrev Goes : Type 0
-  Goes = RouterStep o T event node (shown o T node) (Arrives (turn_at o T node (fate_of event) (shown o T node)) a) line arrived.more arrived.acts.after
+  Goes = RouterStep o T event node (shown_store o T node) (Arrives (turn_at o T node (fate_of event) (shown_store o T node)) a) line arrived.more arrived.acts.after
 
   -- the router and its store are what the trace says
   part_here : StandsForRouter o T node arrived.acts.before
@@ -338,12 +338,12 @@ module _ (A : Type 0) (old new : WorldState) (o : Opening) (T : List Step) (stan
   kind_here : is_router o.config node ≡ true
   kind_here = acts_router old new node arrived.more arrived.acts o T stand
 
-  shows_here : Shows arrived.acts.before.store (shown o T node)
+  shows_here : Shows arrived.acts.before.store (shown_store o T node)
   shows_here = acts_shows old new node arrived.more arrived.acts o T stand
 
   -- a router that is down says so
-  hears_down : (config : Settings) (db : List Mapping) → arrived.acts.before.core ≡ Down config db → StandsForCore o T node (Down config db) → HearsAt A old node arrived.acts.before arrived.acts.after fate from bytes (Down config db) line arrived.more → Goes
-  hears_down config db is core at = moved o T event node (shown o T node) _ line (lines.Down node) arrived.more [] arrived.acts.after arrived.acts.before at.1 at.2 at.0 (record {
+  hears_down : (config : EtrConfigValue) (db : List MapRecordValue) → arrived.acts.before.core ≡ Down config db → StandsForCore o T node (Down config db) → RouterHears A old node arrived.acts.before arrived.acts.after fate from bytes (Down config db) line arrived.more → Goes
+  hears_down config db is core at = moved o T event node (shown_store o T node) _ line (lines.Down node) arrived.more [] arrived.acts.after arrived.acts.before at.1 at.2 at.0 (record {
     row = record { acts = record { kind = kind_here; acts = refl; state = core.0 }; names = refl; same = refl };
     count = omega arith;
     obedient = refl;
@@ -352,26 +352,29 @@ module _ (A : Type 0) (old new : WorldState) (o : Opening) (T : List Step) (stan
     part = record {
       me = part_here.me;
       servers = part_here.servers;
-      core = subst (λ (c : RouterCore). StandsForCore o (step_of event node (shown o T node) (lines.Down node) ∷ T) node c) (sym is)
+      core = subst (λ (c : RouterCoreState). StandsForCore o (step_of event node (shown_store o T node) (lines.Down node) ∷ T) node c) (sym is)
           (same_up event arrival (lines.Down node) node (is_up T node) ∙ core.0, core.1, core.2 ∙ sym (same_database event arrival (lines.Down node) node (database o T node)));
     };
   })
 
   -- what a store shows that was armed and used for nothing
-  shows_after : (armed : StoreState) → Uses arrived.acts.before.store fate armed armed arrived.acts.after.store → Shows arrived.acts.after.store (shown o T node)
+  shows_after : (armed : StoreState) → UsesStore arrived.acts.before.store fate armed armed arrived.acts.after.store → Shows arrived.acts.after.store (shown_store o T node)
   shows_after armed uses =
-      let x : Shown-in fate armed armed arrived.acts.after.store (shown o T node) = uses_shown arrived.acts.before.store armed armed arrived.acts.after.store fate (shown o T node) shows_here uses in
+      let x : Shown-in fate armed armed arrived.acts.after.store (shown_store o T node) = uses_shown arrived.acts.before.store armed armed arrived.acts.after.store fate (shown_store o T node) shows_here uses in
       record { honest = x.after.honest; kept = x.after.kept ∙ x.armed_shows.kept; faults = x.after.faults ∙ x.armed_shows.faults; obedient = x.after.obedient ∙ x.armed_shows.obedient }
 
   -- one that is up hears it
-  hears_up : (e : EtrState) → StandsForEtr o T node e → HearsUp A old node arrived.acts.before arrived.acts.after fate from bytes e line arrived.more → Goes
-  hears_up e own up = moved o T event node (shown o T node) _ line _ arrived.more _ arrived.acts.after _ up.said up.posts (up.is ∙ ap (λ (x : EtrState). record arrived.acts.before { core = Up x; store = arrived.acts.after.store }) up.call.after)
-      (comes_by A old o T stand node event arrival a arrives arrived.acts.before kind_here part_here (acts_once old new node arrived.more arrived.acts o T stand) e own arrived.acts.after.store (shows_after up.armed up.uses) from from_is
-      bytes bytes_are read_is up.etr up.answer up.call)
+  hears_up : UpRouterHears A old node arrived.acts.before arrived.acts.after fate from bytes line arrived.more → Goes
+  hears_up up =
+      let h = up.hears in
+      moved o T event node (shown_store o T node) _ line _ arrived.more _ arrived.acts.after _ up.said up.posts (h.is ∙ ap (λ (x : EtrState). record arrived.acts.before { core = Up x; store = arrived.acts.after.store }) h.call.after)
+      (comes_by A old o T stand node event arrival a arrives arrived.acts.before kind_here part_here (acts_once old new node arrived.more arrived.acts o T stand) h.etr
+      (subst (λ (core : RouterCoreState). StandsForCore o T node core) h.was part_here.core) arrived.acts.after.store (shows_after h.armed h.uses) from from_is
+      bytes bytes_are read_is h.left up.answer h.call)
 
   -- up or down
-  hears_at : (core : RouterCore) → arrived.acts.before.core ≡ core → StandsForCore o T node core → HearsAt A old node arrived.acts.before arrived.acts.after fate from bytes core line arrived.more → Goes
-  hears_at (Up e) is own at = hears_up e own at
+  hears_at : (core : RouterCoreState) → arrived.acts.before.core ≡ core → StandsForCore o T node core → RouterHears A old node arrived.acts.before arrived.acts.after fate from bytes core line arrived.more → Goes
+  hears_at (Up e) is own at = hears_up at
   hears_at (Down config db) is core at = hears_down config db is core at
 
   -- its row, and what stands of the router afterwards

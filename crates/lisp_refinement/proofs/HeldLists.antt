@@ -12,9 +12,9 @@ use Rattle.std.proofs.lemmas.Bool.Decides.{Decides-ltb}
 use Rattle.std.proofs.lemmas.Option.{option_and_then_some}
 use Rattle.lisp_records.specs.declared.address.Addr.{Addr}
 use Rattle.lisp_records.specs.declared.router.RouterId.{RouterId}
-use Rattle.lisp_records.specs.Address.{Block, holds}
-use Rattle.lisp_records.specs.Row.{Holding, IsAlive, is_alive}
-use Rattle.lisp_policy.specs.Site.{SiteEntry}
+use Rattle.lisp_records.specs.Address.{PrefixValue, holds}
+use Rattle.lisp_records.specs.Row.{RowValue, IsAlive, is_alive}
+use Rattle.lisp_policy.specs.Site.{SiteValue}
 use Rattle.lisp_lookup.specs.declared.answer.Answer.{Answer}
 use Rattle.lisp_lookup.specs.declared.answer.Answer.TheVariants.{NoSite, NotRegistered, Reply, Forward}
 use Rattle.lisp_lookup.specs.Answer.{may_answer, IsBest, NoneAnswers, Answers}
@@ -76,36 +76,36 @@ module _ {X : Type 0} (cmp : X → X → Ordering) (total : IsTotalOrder cmp) wh
       λ i. heads i ∷ tails i
 
 -- there is one list of the rows that are held
-pub one_held : (table xs ys : List Holding) (now : ℕ) → IsHeld table now xs → IsHeld table now ys → xs ≡ ys
+pub one_held : (table xs ys : List RowValue) (now : ℕ) → IsHeld table now xs → IsHeld table now ys → xs ≡ ys
 one_held table xs ys now one other =
     one_rising_list row_cmp (on_total row_key key_total) xs ys one.rising other.rising
     (λ h has. (other.each h).1 ((one.each h).0 has))
     (λ h has. (one.each h).1 ((other.each h).0 has))
 
 -- a row that was found stays where it is alive
-pub kept_alive : (now : ℕ) (o : Option Holding) (h : Holding) → (o ≡ Some h) × IsAlive h now → option_and_then (if_alive now) o ≡ Some h
+pub kept_alive : (now : ℕ) (o : Option RowValue) (h : RowValue) → (o ≡ Some h) × IsAlive h now → option_and_then (if_alive now) o ≡ Some h
 kept_alive now o h (is, alive) =
     ap (option_and_then (if_alive now)) is ∙ ap (λ (b : Bool). cond b (Some h) None) ((Decides-ltb (now - h.accepted) h.life).1 alive)
 
 -- what stays was found, and is alive
-was_alive : (now : ℕ) (o : Option Holding) (h : Holding) → option_and_then (if_alive now) o ≡ Some h → (o ≡ Some h) × IsAlive h now
+was_alive : (now : ℕ) (o : Option RowValue) (h : RowValue) → option_and_then (if_alive now) o ≡ Some h → (o ≡ Some h) × IsAlive h now
 was_alive now o h is = option_and_then_some (if_alive now) o h is (λ g at passes. by g at (is_alive g now) refl passes)
   where
-    by : (g : Holding) → o ≡ Some g → (b : Bool) → is_alive g now ≡ b → cond b (Some g) None ≡ Some h → (o ≡ Some h) × IsAlive h now
+    by : (g : RowValue) → o ≡ Some g → (b : Bool) → is_alive g now ≡ b → cond b (Some g) None ≡ Some h → (o ≡ Some h) × IsAlive h now
     by g at true alive passes =
         let same : g ≡ h = same_some g h passes in
-        (at ∙ ap Some same, subst (λ (x : Holding). IsAlive x now) same ((Decides-ltb (now - g.accepted) g.life).0 alive))
+        (at ∙ ap Some same, subst (λ (x : RowValue). IsAlive x now) same ((Decides-ltb (now - g.accepted) g.life).0 alive))
     by g at false dead passes = absurd (none_is_some passes)
 
 -- two tables with the same live rows
-module _ (one other : List Holding) (now : ℕ)
-    (alike : (router : RouterId) (eid : Block) → option_and_then (if_alive now) (row_at one router eid) ≡ option_and_then (if_alive now) (row_at other router eid)) where
+module _ (one other : List RowValue) (now : ℕ)
+    (alike : (router : RouterId) (eid : PrefixValue) → option_and_then (if_alive now) (row_at one router eid) ≡ option_and_then (if_alive now) (row_at other router eid)) where
   -- a live row is found in both, or in neither
-  both_find : (h : Holding) → option_and_then (if_alive now) (row_at one h.router h.mapping.eid) ≡ option_and_then (if_alive now) (row_at other h.router h.mapping.eid)
+  both_find : (h : RowValue) → option_and_then (if_alive now) (row_at one h.router h.mapping.eid) ≡ option_and_then (if_alive now) (row_at other h.router h.mapping.eid)
   both_find h = alike h.router h.mapping.eid
 
   -- a list of what is held by one is a list of what is held by the other
-  pub held_alike : (xs : List Holding) → IsHeld one now xs → IsHeld other now xs
+  pub held_alike : (xs : List RowValue) → IsHeld one now xs → IsHeld other now xs
   held_alike xs is = record {
     rising = is.rising;
     each = λ h. (
@@ -117,20 +117,20 @@ module _ (one other : List Holding) (now : ℕ)
   }
 
 -- rows of a table, and the list of those that are held
-module _ (table listed : List Holding) (now : ℕ) (one : OneEach table) (is : IsHeld table now listed) (addr : Addr) where
+module _ (table listed : List RowValue) (now : ℕ) (one : OneEach table) (is : IsHeld table now listed) (addr : Addr) where
   -- a row that may answer is listed
-  in_list : (h : Holding) → Contains table h → may_answer addr now h ≡ true → Contains listed h
+  in_list : (h : RowValue) → Contains table h → may_answer addr now h ≡ true → Contains listed h
   in_list h has may =
       let alive = (and_parts (is_alive h now) (holds h.mapping.eid addr) may).0 in
       (is.each h).1 (found_own table h one has, (Decides-ltb (now - h.accepted) h.life).0 alive)
 
   -- and what is listed is a row
-  in_table : (h : Holding) → Contains listed h → Contains table h
+  in_table : (h : RowValue) → Contains listed h → Contains table h
   unfolding row_at
   in_table h has = (found_holds (is_row_of h.router h.mapping.eid) table h ((is.each h).0 has).0).0
 
   -- the best row is the best of the list
-  best_listed : (h : Holding) → IsBest table addr now h → IsBest listed addr now h
+  best_listed : (h : RowValue) → IsBest table addr now h → IsBest listed addr now h
   best_listed h best = record {
     held = in_list h best.held best.may;
     may = best.may;
@@ -142,7 +142,7 @@ module _ (table listed : List Holding) (now : ℕ) (one : OneEach table) (is : I
   none_listed none h has = none h (in_table h has)
 
   -- who answers by the rows answers by the list
-  pub answers_listed : {A : Type 0} (sites : List SiteEntry) (answer : Answer A) → Answers table sites addr now answer → Answers listed sites addr now answer
+  pub answers_listed : {A : Type 0} (sites : List SiteValue) (answer : Answer A) → Answers table sites addr now answer → Answers listed sites addr now answer
   answers_listed sites (Reply record_of) answers = (answers.0, best_listed answers.0 answers.1, answers.2, answers.3)
   answers_listed sites (Forward to) answers = (answers.0, best_listed answers.0 answers.1, answers.2, answers.3)
   answers_listed sites NotRegistered answers = (none_listed answers.0, answers.1)

@@ -3,7 +3,7 @@ pub mod Going
 pub mod Acting
 pub mod Heads
 pub mod Places
-pub mod RouterTurns
+pub mod RouterEvents
 pub mod RouterRounds
 pub mod Ticking
 pub mod Changing
@@ -23,6 +23,7 @@ pub mod NoticeParts
 pub mod Resending
 pub mod LiveRows
 pub mod Noticing
+pub mod Taking
 pub mod HeldLists
 pub mod Asking
 pub mod Headlines

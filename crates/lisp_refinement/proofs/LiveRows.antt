@@ -14,17 +14,17 @@ use Rattle.std.proofs.lemmas.List.Elements.{filter_passes}
 use Rattle.std.proofs.lemmas.List.Kept.{AllPairs-filter}
 use Rattle.std.proofs.lemmas.List.Sorted.{IsPermutation-refl, IsPermutation-sym, IsPermutation-trans, IsPermutation-cons, IsPermutation-map, IsPermutation-remove, Contains-permutation, length_permutation}
 use Rattle.lisp_records.specs.declared.router.RouterId.{RouterId}
-use Rattle.lisp_records.specs.Address.{Block, block_cmp}
-use Rattle.lisp_records.specs.Record.{Mapping}
+use Rattle.lisp_records.specs.Address.{PrefixValue, prefix_cmp}
+use Rattle.lisp_records.specs.Record.{MapRecordValue}
 use Rattle.lisp_records.specs.Router.{router_eq, router_cmp}
-use Rattle.lisp_records.specs.Row.{Holding, is_alive}
+use Rattle.lisp_records.specs.Row.{RowValue, is_alive}
 use Rattle.lisp_records.proofs.RouterLaws.{router_eq-Decides}
 use Rattle.lisp_records.proofs.RisingLaws.{one_rising_order}
 use Rattle.lisp_lookup.specs.Table.{is_row_of, row_key, row_at, row_cmp, if_alive, OneEach}
 use Rattle.lisp_lookup.specs.Records.{is_live_of, live_of, ByPrefix}
 use Rattle.lisp_lookup.proofs.Orders.{key_cmp, key_total, router_total}
 use Rattle.lisp_lookup.proofs.TableLaws.{differ_moved, found_own, found_holds, filtered_holds, filter_holds}
-use Rattle.lisp_model.specs.Held.{Acceptance, named, rows, held, records_of}
+use Rattle.lisp_model.specs.Held.{Acceptance, accepted_rows, rows, held_row, records_of}
 use Rattle.lisp_model.proofs.ListLemmas.{at_head, in_tail, head_or_tail, in_none}
 use Rattle.lisp_model.proofs.RowLaws.{rows_are_held}
 
@@ -75,16 +75,16 @@ both_of true b t = (refl, t)
 both_of false b t = absurd (true≢false (sym t))
 
 -- a row that was found and is alive, and what is found where it is alive
-alive_found : (now : ℕ) (h : Holding) (o : Option Holding) → o ≡ Some h → is_alive h now ≡ true → option_and_then (if_alive now) o ≡ Some h
+alive_found : (now : ℕ) (h : RowValue) (o : Option RowValue) → o ≡ Some h → is_alive h now ≡ true → option_and_then (if_alive now) o ≡ Some h
 alive_found now h o is alive = ap (option_and_then (if_alive now)) is ∙ ap (λ (b : Bool). cond b (Some h) None) alive
 
-found_alive : (now : ℕ) (h : Holding) (o : Option Holding) → option_and_then (if_alive now) o ≡ Some h → (o ≡ Some h) × (is_alive h now ≡ true)
-found_alive now h None is = absurd (let clash : ◌≡◌ {A = Option Holding} None (Some h) = is in cc)
+found_alive : (now : ℕ) (h : RowValue) (o : Option RowValue) → option_and_then (if_alive now) o ≡ Some h → (o ≡ Some h) × (is_alive h now ≡ true)
+found_alive now h None is = absurd (let clash : ◌≡◌ {A = Option RowValue} None (Some h) = is in cc)
 found_alive now h (Some g) is = by (is_alive g now) refl is
   where
-    by : (b : Bool) → is_alive g now ≡ b → cond b (Some g) None ≡ Some h → (◌≡◌ {A = Option Holding} (Some g) (Some h)) × (is_alive h now ≡ true)
-    by true alive at = (at, (let same : g ≡ h = cc in ap (λ (x : Holding). is_alive x now) (sym same) ∙ alive))
-    by false dead at = absurd (let clash : ◌≡◌ {A = Option Holding} None (Some h) = at in cc)
+    by : (b : Bool) → is_alive g now ≡ b → cond b (Some g) None ≡ Some h → (◌≡◌ {A = Option RowValue} (Some g) (Some h)) × (is_alive h now ≡ true)
+    by true alive at = (at, (let same : g ≡ h = cc in ap (λ (x : RowValue). is_alive x now) (sym same) ∙ alive))
+    by false dead at = absurd (let clash : ◌≡◌ {A = Option RowValue} None (Some h) = at in cc)
 
 -- an answer of an order that is the same turned round isn't 'before'
 not_before_itself : (o : Ordering) → o ≡ ordering_reverse o → o ≢ Less
@@ -99,13 +99,13 @@ tied Equal turned = refl
 tied Greater turned = absurd cc
 
 -- their records rise too
-mapped_rise : (hs : List Holding) → ((i j : ℕ) (d : Holding) → i < j → j < length hs → block_cmp (slice_index_or hs i d).mapping.eid (slice_index_or hs j d).mapping.eid ≡ Less) → AllPairs (λ a b. block_cmp a.eid b.eid ≡ Less) (map (λ h. h.mapping) hs)
+mapped_rise : (hs : List RowValue) → ((i j : ℕ) (d : RowValue) → i < j → j < length hs → prefix_cmp (slice_index_or hs i d).mapping.eid (slice_index_or hs j d).mapping.eid ≡ Less) → AllPairs (λ a b. prefix_cmp a.eid b.eid ≡ Less) (map (λ h. h.mapping) hs)
 mapped_rise [] rise = λ i j d before lt. absurd (omega (arith, lt))
 mapped_rise (x ∷ xs) rise = λ i j d before lt. (
-    let hs : List Holding = x ∷ xs in
-    let within : j < length hs = omega (arith, lt, length-map hs (λ (h : Holding). h.mapping)) in
-    let its = λ (k : ℕ) (lt : k < length hs). ap (λ (m : Mapping). m.eid) (get_or-map (λ h. h.mapping) hs k x d lt) in
-    (λ t. block_cmp (its i (omega (arith, before, within)) t) (its j within t)) ∙ rise i j x before within)
+    let hs : List RowValue = x ∷ xs in
+    let within : j < length hs = omega (arith, lt, length-map hs (λ (h : RowValue). h.mapping)) in
+    let its = λ (k : ℕ) (lt : k < length hs). ap (λ (m : MapRecordValue). m.eid) (get_or-map (λ h. h.mapping) hs k x d lt) in
+    (λ t. prefix_cmp (its i (omega (arith, before, within)) t) (its j within t)) ∙ rise i j x before within)
 
 -- a list that isn't empty has a first one
 first_of : {X : Type 0} (xs : List X) → xs ≢ [] → (x : X) × Contains xs x
@@ -117,39 +117,39 @@ no_length : {X : Type 0} (xs : List X) → length xs ≡ 0 → xs ≡ []
 no_length [] is = refl
 no_length (x ∷ xs) is = absurd (omega (arith, is))
 
-module _ (table : List Holding) (since : List Acceptance) (now : ℕ) (one : OneEach table) (stands : (router : RouterId) (eid : Block) → option_and_then (if_alive now) (row_at table router eid) ≡ held since router eid now) (router : RouterId) where
+module _ (table : List RowValue) (since : List Acceptance) (now : ℕ) (one : OneEach table) (stands : (router : RouterId) (eid : PrefixValue) → option_and_then (if_alive now) (row_at table router eid) ≡ held_row since router eid now) (router : RouterId) where
   -- the router's rows, in the table and in the trace
-  abbrev live : List Holding
+  abbrev live : List RowValue
   live = filter (is_live_of router now) table
 
-  abbrev own : Holding → Bool
+  abbrev own : RowValue → Bool
   own h = router_eq h.router router
 
-  abbrev told : List Holding
+  abbrev told : List RowValue
   told = filter own (rows since now)
 
   -- a live row of the router is held
-  pub live_held : (h : Holding) → Contains live h → (h.router ≡ router) × (held since h.router h.mapping.eid now ≡ Some h)
+  pub live_held : (h : RowValue) → Contains live h → (h.router ≡ router) × (held_row since h.router h.mapping.eid now ≡ Some h)
   live_held h has =
       let was = filtered_holds (is_live_of router now) table h has in
       let passes = both_of (own h) (is_alive h now) was.1 in
       ((router_eq-Decides h.router router).0 passes.0, sym (stands h.router h.mapping.eid) ∙ alive_found now h (row_at table h.router h.mapping.eid) (found_own table h one was.0) passes.1)
 
   -- it is listed in the trace
-  live_told : (h : Holding) → Contains live h → Contains told h
+  live_told : (h : RowValue) → Contains live h → Contains told h
   unfolding row_at
   live_told h has =
       let is = live_held h has in
-      let at = found_alive now h (row_at (named since) h.router h.mapping.eid) is.1 in
+      let at = found_alive now h (row_at (accepted_rows since) h.router h.mapping.eid) is.1 in
       filter_holds own (rows since now) h (((rows_are_held since now).each h).1 (at.0, (Decides-ltb (now - h.accepted) h.life).0 at.1)) ((router_eq-Decides h.router router).1 is.0)
 
   -- what the trace lists is a live row
-  told_live : (h : Holding) → Contains told h → Contains live h
+  told_live : (h : RowValue) → Contains told h → Contains live h
   unfolding row_at
   told_live h has =
       let was = filtered_holds own (rows since now) h has in
       let is = ((rows_are_held since now).each h).0 was.0 in
-      let is_held = alive_found now h (row_at (named since) h.router h.mapping.eid) is.0 ((Decides-ltb (now - h.accepted) h.life).1 is.1) in
+      let is_held = alive_found now h (row_at (accepted_rows since) h.router h.mapping.eid) is.0 ((Decides-ltb (now - h.accepted) h.life).1 is.1) in
       let at = found_alive now h (row_at table h.router h.mapping.eid) (stands h.router h.mapping.eid ∙ is_held) in
       filter_holds (is_live_of router now) table h (found_holds (is_row_of h.router h.mapping.eid) table h at.0).0 (and_from (own h) (is_alive h now) was.1 at.1)
 
@@ -166,22 +166,22 @@ module _ (table : List Holding) (since : List Acceptance) (now : ℕ) (one : One
 
   -- the records are the same, in some order
   pub same_records : IsPermutation (live_of table router now) (records_of since router now)
-  same_records = IsPermutation-map (λ (h : Holding). h.mapping) live told (some_order row_key live told (AllPairs-filter (λ a b. row_key a ≢ row_key b) (is_live_of router now) table one) told_differ live_told told_live)
+  same_records = IsPermutation-map (λ (h : RowValue). h.mapping) live told (some_order row_key live told (AllPairs-filter (λ a b. row_key a ≢ row_key b) (is_live_of router now) table one) told_differ live_told told_live)
 
   -- all are the router's
-  their_router : (i : ℕ) (d : Holding) → i < length told → (slice_index_or told i d).router ≡ router
+  their_router : (i : ℕ) (d : RowValue) → i < length told → (slice_index_or told i d).router ≡ router
   their_router i d lt = (router_eq-Decides (slice_index_or told i d).router router).0 (filter_passes own (rows since now) i d lt)
 
   -- so their prefixes rise
-  prefixes_rise : (i j : ℕ) (d : Holding) → i < j → j < length told → block_cmp (slice_index_or told i d).mapping.eid (slice_index_or told j d).mapping.eid ≡ Less
+  prefixes_rise : (i j : ℕ) (d : RowValue) → i < j → j < length told → prefix_cmp (slice_index_or told i d).mapping.eid (slice_index_or told j d).mapping.eid ≡ Less
   prefixes_rise i j d before lt =
       let a = slice_index_or told i d in
       let b = slice_index_or told j d in
       let routers : router_cmp a.router b.router ≡ Equal = ap (λ (r : RouterId). router_cmp r b.router) (their_router i d (omega (arith, before, lt)) ∙ sym (their_router j d lt)) ∙ tied (router_cmp b.router b.router) (router_total.antisymm b.router b.router) in
-      sym (ap (λ (o : Ordering). ordering_then o (block_cmp a.mapping.eid b.mapping.eid)) routers) ∙ told_rise i j d before lt
+      sym (ap (λ (o : Ordering). ordering_then o (prefix_cmp a.mapping.eid b.mapping.eid)) routers) ∙ told_rise i j d before lt
 
   -- the records that are told, by prefix, are those of the trace
-  pub told_is : (records : List Mapping) → ByPrefix (live_of table router now) records → records ≡ records_of since router now
+  pub told_is : (records : List MapRecordValue) → ByPrefix (live_of table router now) records → records ≡ records_of since router now
   told_is records by_prefix = one_rising_order records (records_of since router now) (IsPermutation-trans records (live_of table router now) (records_of since router now) (IsPermutation-sym (live_of table router now) records by_prefix.same) same_records) by_prefix.rising (mapped_rise told prefixes_rise)
 
   -- there are some, or none, in both
@@ -192,8 +192,8 @@ module _ (table : List Holding) (since : List Acceptance) (now : ℕ) (one : One
   some_told some none = some (no_length (live_of table router now) (sym (length_permutation (live_of table router now) (records_of since router now) same_records) ∙ ap length none))
 
   -- a router with live records has a row that is held
-  pub row_held : live_of table router now ≢ [] → (eid : Block) × (h : Holding) × (held since router eid now ≡ Some h)
+  pub row_held : live_of table router now ≢ [] → (eid : PrefixValue) × (h : RowValue) × (held_row since router eid now ≡ Some h)
   row_held some =
-      let one = first_of live (λ none. some (ap (map (λ (h : Holding). h.mapping)) none)) in
+      let one = first_of live (λ none. some (ap (map (λ (h : RowValue). h.mapping)) none)) in
       let is = live_held one.0 one.1 in
-      (one.0.mapping.eid, one.0, subst (λ (r : RouterId). held since r one.0.mapping.eid now ≡ Some one.0) is.0 is.1)
+      (one.0.mapping.eid, one.0, subst (λ (r : RouterId). held_row since r one.0.mapping.eid now ≡ Some one.0) is.0 is.1)

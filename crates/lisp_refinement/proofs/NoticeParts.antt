@@ -4,9 +4,9 @@ use Rattle.std.specs.Prelude.{◌⊎◌, slice_get}
 use Rattle.std.specs.List.{find}
 use Rattle.std.specs.Option.{option_map, option_and_then}
 use Rattle.lisp_records.specs.declared.router.RouterId.{RouterId}
-use Rattle.lisp_records.specs.Address.{Block}
+use Rattle.lisp_records.specs.Address.{PrefixValue}
 use Rattle.lisp_records.specs.Router.{router_eq}
-use Rattle.lisp_records.specs.Row.{Holding}
+use Rattle.lisp_records.specs.Row.{RowValue}
 use Rattle.lisp_records.proofs.RouterLaws.{router_eq-Decides}
 use Rattle.lisp_nonces.specs.declared.pair.Pair.{Pair}
 use Rattle.lisp_lookup.specs.Table.{row_at, if_alive}
@@ -15,12 +15,12 @@ use Rattle.lisp_server.specs.LastNonces.{nonce_at}
 use Rattle.lisp_server.specs.Contacts.{contact_at}
 use Rattle.lisp_server.specs.Receiving.{contact_of}
 use Rattle.lisp_server.specs.Server.{ServerState}
-use Rattle.lisp_server.specs.Notices.{Standing, notice_at}
+use Rattle.lisp_server.specs.Notices.{StandingNoticeValue, notice_at}
 use Rattle.lisp_model.specs.Trace.{Step, Opening, router_at, is_router, clock}
-use Rattle.lisp_model.specs.Held.{held, last_of, heard_last}
-use Rattle.lisp_model.specs.Timers.{Notice, notice_to, last_notice, sent_again, without}
-use Rattle.lisp_model.specs.Bag.{since}
-use Rattle.lisp_refinement.specs.World.{ServerNode, RouterNode, WorldState}
+use Rattle.lisp_model.specs.Held.{held_row, last_of, heard_last}
+use Rattle.lisp_model.specs.Timers.{Notice, notice_to, last_notice, resent_at, notices_to_others}
+use Rattle.lisp_model.specs.Bag.{since_start}
+use Rattle.lisp_refinement.specs.World.{ServerNodeState, RouterNodeState, WorldState}
 use Rattle.lisp_refinement.specs.Stands.{IsStanding, SameNotice, StandsForServer, Stands}
 use Rattle.lisp_refinement.proofs.Acting.{router_is, router_stands}
 
@@ -58,7 +58,7 @@ its_router router (x ∷ xs) n is = by (router_eq x.router router) refl is (its_
     by false other at later = later at
 
 -- a notice that was sent again is still its router's
-again_router : (me : RouterId) (now : ℕ) (x : Notice) → (sent_again me now x).router ≡ x.router
+again_router : (me : RouterId) (now : ℕ) (x : Notice) → (resent_at me now x).router ≡ x.router
 again_router me now x = by (router_eq x.router me)
   where
     by : (t : Bool) → (cond t (record x { moments = now ∷ x.moments }) x).router ≡ x.router
@@ -66,58 +66,58 @@ again_router me now x = by (router_eq x.router me)
     by false = refl
 
 -- what is found after a notice was sent again
-pub found_again : (me router : RouterId) (now : ℕ) (notices : List Notice) → found router (map (sent_again me now) notices) ≡ option_map (sent_again me now) (found router notices)
+pub found_again : (me router : RouterId) (now : ℕ) (notices : List Notice) → found router (map (resent_at me now) notices) ≡ option_map (resent_at me now) (found router notices)
 found_again me router now [] = refl
 found_again me router now (x ∷ xs) = by (router_eq x.router router) (ap (λ (r : RouterId). router_eq r router) (again_router me now x)) (found_again me router now xs)
   where
-    by : (t : Bool) → router_eq (sent_again me now x).router router ≡ t → found router (map (sent_again me now) xs) ≡ option_map (sent_again me now) (found router xs)
-        → cond (router_eq (sent_again me now x).router router) (Some (sent_again me now x)) (found router (map (sent_again me now) xs)) ≡ option_map (sent_again me now) (cond t (Some x) (found router xs))
-    by true is rest = ap (λ (t : Bool). cond t (Some (sent_again me now x)) (found router (map (sent_again me now) xs))) is
-    by false is rest = ap (λ (t : Bool). cond t (Some (sent_again me now x)) (found router (map (sent_again me now) xs))) is ∙ rest
+    by : (t : Bool) → router_eq (resent_at me now x).router router ≡ t → found router (map (resent_at me now) xs) ≡ option_map (resent_at me now) (found router xs)
+        → cond (router_eq (resent_at me now x).router router) (Some (resent_at me now x)) (found router (map (resent_at me now) xs)) ≡ option_map (resent_at me now) (cond t (Some x) (found router xs))
+    by true is rest = ap (λ (t : Bool). cond t (Some (resent_at me now x)) (found router (map (resent_at me now) xs))) is
+    by false is rest = ap (λ (t : Bool). cond t (Some (resent_at me now x)) (found router (map (resent_at me now) xs))) is ∙ rest
 
 -- another router's notice is found among those that aren't one router's
-pub found_without : (me router : RouterId) (notices : List Notice) → router ≢ me → found router (without me notices) ≡ found router notices
+pub found_without : (me router : RouterId) (notices : List Notice) → router ≢ me → found router (notices_to_others me notices) ≡ found router notices
 found_without me router [] differ = refl
 found_without me router (x ∷ xs) differ = by (router_eq x.router me) refl (found_without me router xs differ)
   where
-    by : (t : Bool) → router_eq x.router me ≡ t → found router (without me xs) ≡ found router xs → found router (cond (not t) (x ∷ without me xs) (without me xs)) ≡ cond (router_eq x.router router) (Some x) (found router xs)
+    by : (t : Bool) → router_eq x.router me ≡ t → found router (notices_to_others me xs) ≡ found router xs → found router (cond (not t) (x ∷ notices_to_others me xs) (notices_to_others me xs)) ≡ cond (router_eq x.router router) (Some x) (found router xs)
     by true is rest =
         let own : x.router ≡ me = (router_eq-Decides x.router me).0 is in
         rest ∙ ap (λ (t : Bool). cond t (Some x) (found router xs)) (sym (router_other x.router router (λ same. differ (sym same ∙ own))))
     by false is rest = ap (λ (o : Option Notice). cond (router_eq x.router router) (Some x) o) rest
 
 -- the notice of the trace where the server keeps one
-pub kept_stands : (o : Opening) (T : List Step) (server : ℕ) (n : Option Notice) (k : Option Standing) (kept : Standing) → SameNotice o T server n k → k ≡ Some kept → (x : Notice) × (n ≡ Some x) × IsStanding o T server x kept
-kept_stands o T server (Some n) (Some k) kept is same = (n, refl, (let own : k ≡ kept = cc in subst (λ (y : Standing). IsStanding o T server n y) own is))
-kept_stands o T server None None kept is same = absurd (let clash : ◌≡◌ {A = Option Standing} None (Some kept) = same in cc)
+pub kept_stands : (o : Opening) (T : List Step) (server : ℕ) (n : Option Notice) (k : Option StandingNoticeValue) (kept : StandingNoticeValue) → SameNotice o T server n k → k ≡ Some kept → (x : Notice) × (n ≡ Some x) × IsStanding o T server x kept
+kept_stands o T server (Some n) (Some k) kept is same = (n, refl, (let own : k ≡ kept = cc in subst (λ (y : StandingNoticeValue). IsStanding o T server n y) own is))
+kept_stands o T server None None kept is same = absurd (let clash : ◌≡◌ {A = Option StandingNoticeValue} None (Some kept) = same in cc)
 kept_stands o T server (Some n) None kept is same = absurd is
 kept_stands o T server None (Some k) kept is same = absurd is
 
 -- a notice that was sent again
-pub sent_again_own : (router : RouterId) (now : ℕ) (n : Notice) → n.router ≡ router → sent_again router now n ≡ record n { moments = now ∷ n.moments }
+pub sent_again_own : (router : RouterId) (now : ℕ) (n : Notice) → n.router ≡ router → resent_at router now n ≡ record n { moments = now ∷ n.moments }
 sent_again_own router now n own = ap (λ (t : Bool). cond t (record n { moments = now ∷ n.moments }) n) (ap (λ (r : RouterId). router_eq r router) own ∙ router_itself router)
 
 -- another router's isn't
-pub sent_again_other : (router : RouterId) (now : ℕ) (n : Notice) → n.router ≢ router → sent_again router now n ≡ n
+pub sent_again_other : (router : RouterId) (now : ℕ) (n : Notice) → n.router ≢ router → resent_at router now n ≡ n
 sent_again_other router now n differ = ap (λ (t : Bool). cond t (record n { moments = now ∷ n.moments }) n) (router_other n.router router differ)
 
 -- another router's notice isn't sent again
-pub others_again : (me router : RouterId) (now : ℕ) (notices : List Notice) → router ≢ me → found router (map (sent_again me now) notices) ≡ found router notices
+pub others_again : (me router : RouterId) (now : ℕ) (notices : List Notice) → router ≢ me → found router (map (resent_at me now) notices) ≡ found router notices
 others_again me router now notices differ = found_again me router now notices ∙ by (found router notices) (its_router router notices)
   where
-    by : (n : Option Notice) → ((x : Notice) → n ≡ Some x → x.router ≡ router) → option_map (sent_again me now) n ≡ n
+    by : (n : Option Notice) → ((x : Notice) → n ≡ Some x → x.router ≡ router) → option_map (resent_at me now) n ≡ n
     by None its = refl
     by (Some x) its = ap Some (sent_again_other me now x (λ same. differ (sym (its x refl) ∙ same)))
 
 -- a Map-Server whose sites, rows and contacts stay, in a step that accepts nothing
-module _ (o : Opening) (T : List Step) (s : Step) (server : ℕ) (n m : ServerNode) (stand : StandsForServer o T server n) (time : clock (s ∷ T) ≡ clock T) (quiet : since o (s ∷ T) server ≡ since o T server)
+module _ (o : Opening) (T : List Step) (s : Step) (server : ℕ) (n m : ServerNodeState) (stand : StandsForServer o T server n) (time : clock (s ∷ T) ≡ clock T) (quiet : since_start o (s ∷ T) server ≡ since_start o T server)
     (core : m.core ≡ record n.core { nonces = m.core.nonces; notices = m.core.notices }) where
   -- what is held stays
-  rows_stay : (router : RouterId) (eid : Block) → option_and_then (if_alive (clock (s ∷ T))) (row_at m.core.rows router eid) ≡ held (since o (s ∷ T) server) router eid (clock (s ∷ T))
+  rows_stay : (router : RouterId) (eid : PrefixValue) → option_and_then (if_alive (clock (s ∷ T))) (row_at m.core.rows router eid) ≡ held_row (since_start o (s ∷ T) server) router eid (clock (s ∷ T))
   rows_stay router eid = rw (time, quiet, ap (λ (c : ServerState). c.rows) core) (stand.rows router eid)
 
   -- and where routers were heard
-  contacts_stay : (router : RouterId) (eid : Block) (h : Holding) → held (since o (s ∷ T) server) router eid (clock (s ∷ T)) ≡ Some h → contact_at m.core.contacts router ≡ option_map (λ a. contact_of a.message a.from) (heard_last router (since o (s ∷ T) server))
+  contacts_stay : (router : RouterId) (eid : PrefixValue) (h : RowValue) → held_row (since_start o (s ∷ T) server) router eid (clock (s ∷ T)) ≡ Some h → contact_at m.core.contacts router ≡ option_map (λ a. contact_of a.message a.from) (heard_last router (since_start o (s ∷ T) server))
   contacts_stay router eid h is = rw (quiet, ap (λ (c : ServerState). c.contacts) core) (stand.contacts router eid h (rw (time, quiet) at is))
 
   -- with its nonces and notices it stands for the trace with the step
@@ -133,7 +133,7 @@ module _ (o : Opening) (T : List Step) (s : Step) (server : ℕ) (n m : ServerNo
   }
 
 -- the router that a turn names by its number among all nodes
-module _ (w : WorldState) (o : Opening) (T : List Step) (stand : Stands w o T) (router place : ℕ) (number : router ≡ length w.servers + place) (node : RouterNode) (there : slice_get w.routers place ≡ Some node) where
+module _ (w : WorldState) (o : Opening) (T : List Step) (stand : Stands w o T) (router place : ℕ) (number : router ≡ length w.servers + place) (node : RouterNodeState) (there : slice_get w.routers place ≡ Some node) where
   -- it is the one that the configuration has at that number
   pub its_me : node.me ≡ (router_at o.config router).me
   its_me = (router_stands w o T stand place node there).me ∙ ap (λ (k : ℕ). (router_at o.config k).me) (sym number)

@@ -8,12 +8,12 @@ use Rattle.lisp_records.specs.declared.address.Addr.{Addr}
 use Rattle.lisp_records.specs.declared.database.DatabaseFault.{DatabaseFault}
 use Rattle.lisp_records.specs.declared.router.RouterId.{RouterId}
 use Rattle.lisp_records.specs.Database.{database_of, repeats}
-use Rattle.lisp_records.specs.Record.{Mapping}
+use Rattle.lisp_records.specs.Record.{MapRecordValue}
 use Rattle.lisp_records.proofs.DatabaseLaws.{any_order}
 use Rattle.lisp_messages.specs.declared.head.Head.{Head}
 use Rattle.lisp_messages.specs.Authentic.{signed}
 use Rattle.lisp_messages.specs.Head.{head_at}
-use Rattle.lisp_messages.specs.Message.{IsNotification, Notifies}
+use Rattle.lisp_messages.specs.Message.{IsMapNotify, Notifies}
 use Rattle.lisp_messages.specs.Written.{written_notify}
 use Rattle.lisp_nonces.specs.declared.fault.StoreFault.{StoreFault}
 use Rattle.lisp_nonces.specs.declared.fate.Fate.{Fate}
@@ -33,25 +33,25 @@ use Rattle.lisp_server.specs.Contacts.{contact_at}
 use Rattle.lisp_server.specs.LastNonces.{nonce_at}
 use Rattle.lisp_server.specs.Receiving.{contact_of}
 use Rattle.lisp_server.specs.Server.{ServerState}
-use Rattle.lisp_server.specs.Notices.{Standing, notice_at}
+use Rattle.lisp_server.specs.Notices.{StandingNoticeValue, notice_at}
 use Rattle.lisp_server.specs.SendNotice.{IsRegistered, IsLast, notice_of, Announces}
 use Rattle.lisp_server.specs.SendNotice.{RefusesNotice as RefusesToTell}
 use Rattle.lisp_model.specs.declared.event.Event.TheVariants as events
 use Rattle.lisp_model.specs.declared.line.Line.{Line}
 use Rattle.lisp_model.specs.declared.line.Line.TheVariants as lines
 use Rattle.lisp_model.specs.declared.refusal.Refusal.TheVariants as refusals
-use Rattle.lisp_model.specs.Trace.{Step, Opening, router_at, secret_at, shown, clock}
+use Rattle.lisp_model.specs.Trace.{Step, Opening, router_at, secret_at, shown_store, clock}
 use Rattle.lisp_model.specs.Held.{Acceptance, heard_last, records_of}
-use Rattle.lisp_model.specs.Timers.{Notice, notices, notice_to, last_notice, without}
-use Rattle.lisp_model.specs.Bag.{Item, bytes_of, bag, since, notice_item}
-use Rattle.lisp_model.specs.Turn.{Turn, IsServers, values, values_after, Same, Rose, HasCause, Saves, IsBase}
-use Rattle.lisp_model.specs.Notifying.{CanTell, NoticesFrom, HasNonce, RefusesNotice}
-use Rattle.lisp_model.specs.Legal.{Legal, turn_of}
+use Rattle.lisp_model.specs.Timers.{Notice, notices, notice_to, last_notice, notices_to_others}
+use Rattle.lisp_model.specs.Bag.{Item, bytes_of, bag, since_start, notice_item}
+use Rattle.lisp_model.specs.Context.{Context, IsAtServer, values, values_after, Same, Rose, HasCause, Saves, IsBase}
+use Rattle.lisp_model.specs.Notifying.{CanNotify, NoticesFrom, HasNonce, RefusesNotice}
+use Rattle.lisp_model.specs.Legal.{Legal, context_of}
 use Rattle.lisp_model.proofs.KeptLemmas.{only_value}
 use Rattle.lisp_model.proofs.Locality.{same_number}
-use Rattle.lisp_refinement.specs.World.{Posted, WorldState}
-use Rattle.lisp_refinement.specs.Turns.{address_of, SaysNoticed, SaysNotice}
-use Rattle.lisp_refinement.specs.Turns.{NoticesFrom as NoticeTurn}
+use Rattle.lisp_refinement.specs.World.{DatagramValue, WorldState}
+use Rattle.lisp_refinement.specs.Events.{address_of, SaysMessage, SaysNoticeAnswer}
+use Rattle.lisp_refinement.specs.Events.{NetworkNotifies as NoticeTurn}
 use Rattle.lisp_refinement.specs.Stands.{shown_by, IsStanding, SameNotice, StandsForServer, Stands, StandsAfter}
 use Rattle.lisp_refinement.proofs.Heads.{head_written}
 use Rattle.lisp_refinement.proofs.Acting.{Adds, adds_none, adds_one, by_fate, Shown-in, uses_shown, server_is, address_is, server_acts}
@@ -96,7 +96,7 @@ module _ (old new : WorldState) (server router : ℕ) (fate : Fate) (line : Line
   step said = record { event = events.Notice server router fate; line = said; actor = server; shown = shown_by called }
 
   -- the turn is the Map-Server's
-  acting : (said : Line) → IsServers (turn_of o T (step said)) server
+  acting : (said : Line) → IsAtServer (context_of o T (step said)) server
   acting said = record { kind = server_is old o T stand server turn.acts.before turn.acts.was; acts = refl }
 
   -- what the Map-Server stands for before
@@ -108,15 +108,15 @@ module _ (old new : WorldState) (server router : ℕ) (fate : Fate) (line : Line
   time said = omega arith
 
   -- what its store shows in the call
-  shows : Shown-in fate armed called turn.acts.after.store (shown o T server)
-  shows = uses_shown turn.acts.before.store armed called turn.acts.after.store fate (shown o T server) (stand.steps.server_stores server turn.acts.before turn.acts.was) turn.notifies.uses
+  shows : Shown-in fate armed called turn.acts.after.store (shown_store o T server)
+  shows = uses_shown turn.acts.before.store armed called turn.acts.after.store fate (shown_store o T server) (stand.steps.server_stores server turn.acts.before turn.acts.was) turn.notifies.uses
 
   -- what is said of the fate that an obedient store was armed with
-  by : (P : Fate → Type 0) → (IsTrue armed.is_obedient → P armed.fate) → IsTrue (shown o T server).is_obedient → P fate
-  by P said = by_fate P fate armed (shown o T server) shows.armed_shows shows.fated said
+  by : (P : Fate → Type 0) → (IsTrue armed.is_obedient → P armed.fate) → IsTrue (shown_store o T server).is_obedient → P fate
+  by P said = by_fate P fate armed (shown_store o T server) shows.armed_shows shows.fated said
 
   -- the last nonce of the notices is in memory, or was loaded
-  loads_in : (last : Option ℕ) → IsLast core armed last → last_notice T server ≡ None → IsTrue (shown o T server).is_obedient → fate ≢ LoadFails
+  loads_in : (last : Option ℕ) → IsLast core armed last → last_notice T server ≡ None → IsTrue (shown_store o T server).is_obedient → fate ≢ LoadFails
   loads_in last counts none = by (λ f. f ≢ LoadFails) (subst (λ (known : Option ℕ). IsStoreBase known armed notice_pair last) (part.notice_nonce ∙ none) counts).0
 
   -- the store that is used is honest
@@ -124,31 +124,31 @@ module _ (old new : WorldState) (server router : ℕ) (fate : Fate) (line : Line
   is_honest = shows.armed_shows.honest
 
   -- the table, and what the trace says is held
-  told_records : IsPermutation (live_of core.rows me now) (records_of (since o T server) me now)
-  told_records = live_rows.same_records core.rows (since o T server) now turn.notifies.one_each part.rows me
+  told_records : IsPermutation (live_of core.rows me now) (records_of (since_start o T server) me now)
+  told_records = live_rows.same_records core.rows (since_start o T server) now turn.notifies.one_each part.rows me
 
   -- a router that is registered can be told in the trace too
-  can_tell : (said : Line) → IsRegistered core me now → CanTell (turn_of o T (step said)) router
+  can_tell : (said : Line) → IsRegistered core me now → CanNotify (context_of o T (step said)) router
   can_tell said registered = record {
-    some = live_rows.some_told core.rows (since o T server) now turn.notifies.one_each part.rows me registered.some;
-    fits = (any_order (live_of core.rows me now) (records_of (since o T server) me now) told_records).0 registered.fits;
+    some = live_rows.some_told core.rows (since_start o T server) now turn.notifies.one_each part.rows me registered.some;
+    fits = (any_order (live_of core.rows me now) (records_of (since_start o T server) me now) told_records).0 registered.fits;
   }
 
   -- where the router was heard last
-  heard : (contact : Contact) → IsRegistered core me now → contact_at core.contacts me ≡ Some contact → (last : Acceptance) × (heard_last me (since o T server) ≡ Some last) × (contact_of last.message last.from ≡ contact)
+  heard : (contact : Contact) → IsRegistered core me now → contact_at core.contacts me ≡ Some contact → (last : Acceptance) × (heard_last me (since_start o T server) ≡ Some last) × (contact_of last.message last.from ≡ contact)
   heard contact registered is =
-      let row = live_rows.row_held core.rows (since o T server) now turn.notifies.one_each part.rows me registered.some in
-      by (heard_last me (since o T server)) refl (sym (part.contacts me row.0 row.1 row.2) ∙ is)
+      let row = live_rows.row_held core.rows (since_start o T server) now turn.notifies.one_each part.rows me registered.some in
+      by (heard_last me (since_start o T server)) refl (sym (part.contacts me row.0 row.1 row.2) ∙ is)
     where
-      by : (last : Option Acceptance) → heard_last me (since o T server) ≡ last → option_map (λ a. contact_of a.message a.from) last ≡ Some contact → (last : Acceptance) × (heard_last me (since o T server) ≡ Some last) × (contact_of last.message last.from ≡ contact)
+      by : (last : Option Acceptance) → heard_last me (since_start o T server) ≡ last → option_map (λ a. contact_of a.message a.from) last ≡ Some contact → (last : Acceptance) × (heard_last me (since_start o T server) ≡ Some last) × (contact_of last.message last.from ≡ contact)
       by None at same = absurd (let clash : ◌≡◌ {A = Option Contact} None (Some contact) = same in cc)
       by (Some last) at same = (last, at, (let own : contact_of last.message last.from ≡ contact = cc in own))
 
   -- the numbers that the nonce may count from
-  counts_from : (said : Line) (last : Option ℕ) → IsLast core armed last → NoticesFrom (turn_of o T (step said)) last
+  counts_from : (said : Line) (last : Option ℕ) → IsLast core armed last → NoticesFrom (context_of o T (step said)) last
   counts_from said last counts = by (last_notice T server) (subst (λ (known : Option ℕ). IsStoreBase known armed notice_pair last) part.notice_nonce counts)
     where
-      by : (known : Option ℕ) → IsStoreBase known armed notice_pair last → IsBase known (kept_at (shown o T server).kept notice_pair) last
+      by : (known : Option ℕ) → IsStoreBase known armed notice_pair last → IsBase known (kept_at (shown_store o T server).kept notice_pair) last
       by (Some n) is = is
       by None is = subst (λ (kept : Kept). Contains (kept_at kept notice_pair) last) shows.armed_shows.kept (is.1 is_honest)
 
@@ -165,7 +165,7 @@ module _ (old new : WorldState) (server router : ℕ) (fate : Fate) (line : Line
     sent = lines.Notice server router contact.key nonce (length old.bag)
 
     -- the router's last Map-Register, by which it was heard
-    last : (last : Acceptance) × (heard_last me (since o T server) ≡ Some last) × (contact_of last.message last.from ≡ contact)
+    last : (last : Acceptance) × (heard_last me (since_start o T server) ≡ Some last) × (contact_of last.message last.from ≡ contact)
     last = heard contact announced.registered announced.registered.heard.heard
 
     -- what the store keeps then
@@ -173,7 +173,7 @@ module _ (old new : WorldState) (server router : ℕ) (fate : Fate) (line : Line
     kept_now = announced.kept is_honest
 
     -- the store keeps that nonce alone for notices
-    saves : Saves (turn_of o T (step sent)) notice_pair nonce nonce
+    saves : Saves (context_of o T (step sent)) notice_pair nonce nonce
     saves = record {
       here = inr (kept_now, by (λ f. f ≢ Doubt) announced.saves);
       none_below = λ v has. subst (λ (w : Option ℕ). nonce ≤ number w) (sym (only_value (Some nonce) v (subst (λ (vs : List (Option ℕ)). Contains vs v) kept_now has))) (omega arith);
@@ -208,15 +208,15 @@ module _ (old new : WorldState) (server router : ℕ) (fate : Fate) (line : Line
 
     -- the item that carries it
     abbrev item : Item
-    item = notice_item o T (since o T server) server router contact.key nonce last.0
+    item = notice_item o T (since_start o T server) server router contact.key nonce last.0
 
     -- the bag has that item more
     sent_bag : bag o (step sent ∷ T) ≡ bag o T ++ item ∷ []
-    sent_bag = ap (λ (a : Option Acceptance). bag o T ++ option_to_list (option_map (notice_item o T (since o T server) server router contact.key nonce) a)) last.1
+    sent_bag = ap (λ (a : Option Acceptance). bag o T ++ option_to_list (option_map (notice_item o T (since_start o T server) server router contact.key nonce) a)) last.1
 
     -- the records are those that the trace says are held
-    its_records : announced.records ≡ records_of (since o T server) me now
-    its_records = live_rows.told_is core.rows (since o T server) now turn.notifies.one_each part.rows me announced.records announced.by_prefix
+    its_records : announced.records ≡ records_of (since_start o T server) me now
+    its_records = live_rows.told_is core.rows (since_start o T server) now turn.notifies.one_each part.rows me announced.records announced.by_prefix
 
     -- the secret is that of the router's site and key
     its_secret : announced.registered.heard.secret ≡ secret_at o.config.sites me.site contact.key
@@ -237,14 +237,14 @@ module _ (old new : WorldState) (server router : ℕ) (fate : Fate) (line : Line
       from = address_is old o T stand server;
       to = its_to;
       bytes = its_bytes;
-      message = subst (λ (records : List Mapping). IsNotification (notice_of contact.key nonce records)) its_records announced.fits;
+      message = subst (λ (records : List MapRecordValue). IsMapNotify (notice_of contact.key nonce records)) its_records announced.fits;
     })
 
     -- the notice as it stands on both sides
     abbrev notice : Notice
     notice = record { router = me; key = contact.key; nonce = nonce; datagram = length old.bag; moments = now ∷ [] }
 
-    abbrev standing : Standing
+    abbrev standing : StandingNoticeValue
     standing = record { router = me; to = to; key = contact.key; nonce = nonce; bytes = bytes; resends = 0; last = now }
 
     -- they are one
@@ -264,19 +264,19 @@ module _ (old new : WorldState) (server router : ℕ) (fate : Fate) (line : Line
     }
 
     -- what the trace has for a router afterwards
-    after_is : (other : RouterId) → notice_to o (step sent ∷ T) server other ≡ found other (notice ∷ without me (notices o T server))
-    after_is other = ap (λ (b : Bool). found other (cond b (notice ∷ without me (notices o T server)) (notices o T server))) (same_number server)
+    after_is : (other : RouterId) → notice_to o (step sent ∷ T) server other ≡ found other (notice ∷ notices_to_others me (notices o T server))
+    after_is other = ap (λ (b : Bool). found other (cond b (notice ∷ notices_to_others me (notices o T server)) (notices o T server))) (same_number server)
 
     -- the router's notice stands on both sides
     own_notice : SameNotice o (step sent ∷ T) server (notice_to o (step sent ∷ T) server me) (notice_at after.notices me)
     own_notice =
-        let here = after_is me ∙ ap (λ (b : Bool). cond b (Some notice) (found me (without me (notices o T server)))) (router_itself me) in
+        let here = after_is me ∙ ap (λ (b : Bool). cond b (Some notice) (found me (notices_to_others me (notices o T server)))) (router_itself me) in
         rw (here, announced.stands.here) is_standing
 
     -- another router's notice stands as before
     other_notice : (other : RouterId) → other ≢ me → SameNotice o (step sent ∷ T) server (notice_to o (step sent ∷ T) server other) (notice_at after.notices other)
     other_notice other differ =
-        let here = after_is other ∙ ap (λ (b : Bool). cond b (Some notice) (found other (without me (notices o T server)))) (router_other me other (λ same. differ (sym same))) ∙ found_without me other (notices o T server) differ in
+        let here = after_is other ∙ ap (λ (b : Bool). cond b (Some notice) (found other (notices_to_others me (notices o T server)))) (router_other me other (λ same. differ (sym same))) ∙ found_without me other (notices o T server) differ in
         rw (here, announced.stands.others other differ) (notice_goes o T (step sent ∷ T) server ((item ∷ []), sent_bag) (notice_to o T server other) (notice_at core.notices other) (part.notices other))
 
     -- so each router's does
@@ -295,7 +295,7 @@ module _ (old new : WorldState) (server router : ℕ) (fate : Fate) (line : Line
 
     -- and so does the network, with the line that names the contact's key and the nonce
     sent_stands : turn.more ≡ record { from = address_of old server; to = to; bytes = bytes } ∷ [] → Stands new o (step sent ∷ T)
-    sent_stands posts = server_acts old new server turn.more turn.acts o T (step sent) stand refl refl sent_legal (subst (λ (more : List Posted). Adds o T (step sent) more) (sym posts) sent_adds) shows.after sent_part
+    sent_stands posts = server_acts old new server turn.more turn.acts o T (step sent) stand refl refl sent_legal (subst (λ (more : List DatagramValue). Adds o T (step sent) more) (sym posts) sent_adds) shows.after sent_part
 
     -- its line has the Key ID and the nonce that stand in the datagram
     its_head : (head : Head) → head_at bytes ≡ Some head → head ≡ record { key_id = contact.key; nonce = nonce }
@@ -305,7 +305,8 @@ module _ (old new : WorldState) (server router : ℕ) (fate : Fate) (line : Line
         cc
 
     -- the network stands for the trace with the step and the line that was said
-    noticed_stands : SaysNoticed old server router to bytes line turn.more → Stands new o (step line ∷ T)
+    noticed_stands : SaysMessage old server to bytes (λ key nonce. lines.Notice server router key nonce (length old.bag)) line turn.more
+        → Stands new o (step line ∷ T)
     noticed_stands says =
         let head = its_head says.head says.read in
         let said : line ≡ sent = says.said ∙ ap (λ (h : Head). lines.Notice server router h.key_id h.nonce (length old.bag)) head in
@@ -317,8 +318,8 @@ module _ (old new : WorldState) (server router : ℕ) (fate : Fate) (line : Line
     abbrev refused : Line
     refused = lines.Refused server (refusals.Notice fault)
 
-    abbrev its_turn : Turn
-    its_turn = turn_of o T (step refused)
+    abbrev its_turn : Context
+    its_turn = context_of o T (step refused)
 
     -- no list changed
     same_lists : KeepsLists armed called → Same its_turn
@@ -346,11 +347,11 @@ module _ (old new : WorldState) (server router : ℕ) (fate : Fate) (line : Line
 
     -- the reason in the trace's words
     why : (f : NoticeFault) → RefusesToTell core armed called me now f → RefusesNotice its_turn router f
-    why notice_faults.NotRegistered is = (live_rows.none_told core.rows (since o T server) now turn.notifies.one_each part.rows me is.0, same_store is.1)
+    why notice_faults.NotRegistered is = (live_rows.none_told core.rows (since_start o T server) now turn.notifies.one_each part.rows me is.0, same_store is.1)
     why notice_faults.TooLarge is = (
-      live_rows.some_told core.rows (since o T server) now turn.notifies.one_each part.rows me (λ none. empty_fits is.0.0 (ap database_of (sym none) ∙ is.0.1)),
+      live_rows.some_told core.rows (since_start o T server) now turn.notifies.one_each part.rows me (λ none. empty_fits is.0.0 (ap database_of (sym none) ∙ is.0.1)),
       is.0.0,
-      (any_order (live_of core.rows me now) (records_of (since o T server) me now) told_records).1 is.0.0 is.0.1,
+      (any_order (live_of core.rows me now) (records_of (since_start o T server) me now) told_records).1 is.0.0 is.0.1,
       same_store is.1,
     )
     why (notice_faults.StoreLoad f) is = (can_tell refused is.registered, sym part.notice_nonce ∙ is.unknown, record { same = same_lists is.same; cause = has_cause f is.cause; may = λ other. by (λ x. x ≡ LoadFails) (is.armed other) })
@@ -391,11 +392,11 @@ module _ (old new : WorldState) (server router : ℕ) (fate : Fate) (line : Line
 
     -- and so does the network
     refused_stands : turn.more ≡ [] → Stands new o (step refused ∷ T)
-    refused_stands posts = server_acts old new server turn.more turn.acts o T (step refused) stand refl refl refused_legal (subst (λ (more : List Posted). Adds o T (step refused) more) (sym posts) (adds_none o T (step refused) refused_bag)) shows.after refused_part
+    refused_stands posts = server_acts old new server turn.more turn.acts o T (step refused) stand refl refl refused_legal (subst (λ (more : List DatagramValue). Adds o T (step refused) more) (sym posts) (adds_none o T (step refused) refused_bag)) shows.after refused_part
 
   -- the notice was sent, or refused
   either : (answer : Result (Addr × List ℕ) NoticeFault) → IfOk answer (λ x. Announces core after armed called me now x.0 x.1) → IfErr answer (λ fault. RefusesToTell core armed called me now fault) → OnErr answer (after ≡ core)
-      → SaysNotice old server router answer line turn.more → Stands new o (step line ∷ T)
+      → SaysNoticeAnswer old server router answer line turn.more → Stands new o (step line ∷ T)
   either (Ok sending) announces refuses same says = noticed_stands sending.0 sending.1 announces says
   either (Err fault) announces refuses same says = subst (λ (said : Line). Stands new o (step said ∷ T)) (sym says.0) (refused_stands fault refuses same says.1)
 

@@ -9,7 +9,7 @@ use Rattle.lisp_records.proofs.RouterLaws.{router_eq-Decides}
 use Rattle.lisp_model.specs.declared.line.Line.{Line}
 use Rattle.lisp_model.specs.declared.line.Line.TheVariants as lines
 use Rattle.lisp_model.specs.Trace.{Step, Opening, router_at, clock}
-use Rattle.lisp_model.specs.Timers.{Notice, notices, notices_after, without, sent_again}
+use Rattle.lisp_model.specs.Timers.{Notice, notices, notices_after, notices_to_others, resent_at}
 use Rattle.lisp_model.proofs.CleanLemmas.{in_find, from_map}
 use Rattle.lisp_model.proofs.HearingLemmas.{find_true}
 use Rattle.lisp_model.proofs.ListLemmas.{in_none, head_or_tail}
@@ -71,40 +71,40 @@ OneEach ns = (m n : Notice) → Contains ns m → Contains ns n → m.router ≡
 
 module _ (router : RouterId) (old : List Notice) where
   -- a notice that is left is another router's
-  pub not_its : (x : Notice) → Contains (without router old) x → x.router ≢ router
+  pub not_its : (x : Notice) → Contains (notices_to_others router old) x → x.router ≢ router
   not_its x has same = true≢false (sym ((router_eq-Decides x.router router).1 same) ∙ not_true (router_eq x.router router) (passes_filter (λ n. not (router_eq n.router router)) old x has))
 
-  was : (x : Notice) → Contains (without router old) x → Contains old x
+  was : (x : Notice) → Contains (notices_to_others router old) x → Contains old x
   was x has = in_filter (λ n. not (router_eq n.router router)) old x has
 
   -- fewer notices are one for each router too
-  one_less : OneEach old → OneEach (without router old)
+  one_less : OneEach old → OneEach (notices_to_others router old)
   one_less one m n has_m has_n same = one m n (was m has_m) (was n has_n) same
 
   -- and so are they with one for the router whose notice was taken out
-  one_more : (x : Notice) → x.router ≡ router → OneEach old → OneEach (x ∷ without router old)
-  one_more x its one m n has_m has_n same = at (head_or_tail x (without router old) m has_m) (head_or_tail x (without router old) n has_n)
+  one_more : (x : Notice) → x.router ≡ router → OneEach old → OneEach (x ∷ notices_to_others router old)
+  one_more x its one m n has_m has_n same = at (head_or_tail x (notices_to_others router old) m has_m) (head_or_tail x (notices_to_others router old) n has_n)
     where
-      at : (m ≡ x) ⊎ Contains (without router old) m → (n ≡ x) ⊎ Contains (without router old) n → m ≡ n
+      at : (m ≡ x) ⊎ Contains (notices_to_others router old) m → (n ≡ x) ⊎ Contains (notices_to_others router old) n → m ≡ n
       at (inl is_m) (inl is_n) = is_m ∙ sym is_n
       at (inl is_m) (inr more_n) = absurd (not_its n more_n (sym same ∙ ap (λ (y : Notice). y.router) is_m ∙ its))
       at (inr more_m) (inl is_n) = absurd (not_its m more_m (same ∙ ap (λ (y : Notice). y.router) is_n ∙ its))
       at (inr more_m) (inr more_n) = one m n (was m more_m) (was n more_n) same
 
 -- a notice that was sent again is for its router
-same_router : (router : RouterId) (now : ℕ) (x : Notice) → (sent_again router now x).router ≡ x.router
+same_router : (router : RouterId) (now : ℕ) (x : Notice) → (resent_at router now x).router ≡ x.router
 same_router router now x = at (router_eq x.router router)
   where
     at : (b : Bool) → (if b then record x { moments = now ∷ x.moments } else x).router ≡ x.router
     at true = refl
     at false = refl
 
-one_again : (router : RouterId) (now : ℕ) (old : List Notice) → OneEach old → OneEach (map (sent_again router now) old)
+one_again : (router : RouterId) (now : ℕ) (old : List Notice) → OneEach old → OneEach (map (resent_at router now) old)
 one_again router now old one m n has_m has_n same =
-    let of_m = from_map (sent_again router now) old m has_m in
-    let of_n = from_map (sent_again router now) old n has_n in
+    let of_m = from_map (resent_at router now) old m has_m in
+    let of_n = from_map (resent_at router now) old n has_n in
     let both : of_m.0.router ≡ of_n.0.router = sym (ap (λ (y : Notice). y.router) of_m.2 ∙ same_router router now of_m.0) ∙ same ∙ ap (λ (y : Notice). y.router) of_n.2 ∙ same_router router now of_n.0 in
-    of_m.2 ∙ ap (sent_again router now) (one of_m.0 of_n.0 of_m.1 of_n.1 both) ∙ sym of_n.2
+    of_m.2 ∙ ap (resent_at router now) (one of_m.0 of_n.0 of_m.1 of_n.1 both) ∙ sym of_n.2
 
 module _ (o : Opening) where
   -- a line leaves one notice for each router
@@ -114,17 +114,17 @@ module _ (o : Opening) where
       me : RouterId
       me = (router_at o.config router).me
 
-      at : (b : Bool) → OneEach (if b then record { router = me; key = key; nonce = nonce; datagram = datagram; moments = now ∷ [] } ∷ without me old else old)
+      at : (b : Bool) → OneEach (if b then record { router = me; key = key; nonce = nonce; datagram = datagram; moments = now ∷ [] } ∷ notices_to_others me old else old)
       at true = one_more me old _ refl one
       at false = one
   one_case (lines.Resent server router datagram) now k old one = at (server == k)
     where
-      at : (b : Bool) → OneEach (if b then map (sent_again (router_at o.config router).me now) old else old)
+      at : (b : Bool) → OneEach (if b then map (resent_at (router_at o.config router).me now) old else old)
       at true = one_again (router_at o.config router).me now old one
       at false = one
   one_case (lines.Done server router nonce) now k old one = at (server == k)
     where
-      at : (b : Bool) → OneEach (if b then without router old else old)
+      at : (b : Bool) → OneEach (if b then notices_to_others router old else old)
       at true = one_less router old one
       at false = one
   one_case (lines.Restarted node) now k old one = at (node == k)

@@ -6,9 +6,9 @@ use Rattle.std.specs.Option.{option_map, option_and_then, option_to_list, unwrap
 use Rattle.lisp_records.specs.declared.address.Addr.{Addr}
 use Rattle.lisp_records.specs.declared.router.RouterId.{RouterId}
 use Rattle.lisp_records.specs.Router.{router_eq}
-use Rattle.lisp_policy.specs.Site.{SiteEntry}
+use Rattle.lisp_policy.specs.Site.{SiteValue}
 use Rattle.lisp_messages.specs.declared.fault.ReadFault.{ReadFault}
-use Rattle.lisp_messages.specs.Message.{Said, Registration, Notification, Registers, Notifies}
+use Rattle.lisp_messages.specs.Message.{MessageValue, MapRegisterValue, MapNotifyValue, Registers, Notifies}
 use Rattle.lisp_messages.specs.Authentic.{signed}
 use Rattle.lisp_messages.specs.Reading.{HasHead}
 use Rattle.lisp_messages.specs.Written.{written_notify}
@@ -21,29 +21,29 @@ use Rattle.lisp_admission.specs.declared.refused.Refused.TheVariants as refuseds
 use Rattle.lisp_admission.specs.Pairs.{router_of, pair_of, notice_pair}
 use Rattle.lisp_server.specs.declared.took.Took.{Took}
 use Rattle.lisp_server.specs.declared.took.Took.TheVariants.{Accepted, NoticeDone}
-use Rattle.lisp_admission.specs.Checks.{notification_of}
+use Rattle.lisp_admission.specs.Checks.{reply_to}
 use Rattle.lisp_server.specs.Checks.{register_checked, reply_of, answers_under}
 use Rattle.lisp_server.specs.Contacts.{contact_at}
 use Rattle.lisp_server.specs.LastNonces.{nonce_at}
-use Rattle.lisp_server.specs.Notices.{Standing, notice_at}
-use Rattle.lisp_server.specs.Receiving.{contact_of, Accepts, Ends, Takes, Refuses}
+use Rattle.lisp_server.specs.Notices.{StandingNoticeValue, notice_at}
+use Rattle.lisp_server.specs.Receiving.{contact_of, Accepts, Ends, ServerTakes, ServerRefuses}
 use Rattle.lisp_server.specs.Server.{ServerState}
 use Rattle.lisp_model.specs.declared.event.Event.TheVariants as events
 use Rattle.lisp_model.specs.declared.line.Line.{Line}
 use Rattle.lisp_model.specs.declared.line.Line.TheVariants as lines
 use Rattle.lisp_model.specs.declared.refusal.Refusal.TheVariants as refusals
-use Rattle.lisp_model.specs.Trace.{Happening, Step, Opening, fate_of, shown, clock, time_of, address_at, secret_at, is_server}
-use Rattle.lisp_model.specs.Held.{Acceptance, last_of, heard_last, held}
-use Rattle.lisp_model.specs.Timers.{notices, notice_to, last_notice, without}
-use Rattle.lisp_model.specs.Bag.{Arrival, bytes_of, arrival_in, taken, reply_item, bag, since}
-use Rattle.lisp_model.specs.Legal.{Arrives, LegalTrace, turn_of}
+use Rattle.lisp_model.specs.Trace.{EventValue, Step, Opening, fate_of, shown_store, clock, time_of, address_at, secret_at, is_server}
+use Rattle.lisp_model.specs.Held.{Acceptance, last_of, heard_last, held_row}
+use Rattle.lisp_model.specs.Timers.{notices, notice_to, last_notice, notices_to_others}
+use Rattle.lisp_model.specs.Bag.{Arrival, bytes_of, arrival_in, acceptances_in, reply_item, bag, since_start}
+use Rattle.lisp_model.specs.Legal.{Arrives, LegalTrace, context_of}
 use Rattle.lisp_model.specs.Promises.{is_timeless}
 use Rattle.lisp_model.specs.Receiving.{Admits, IsAccepted, IsDone, RefusesMessage}
-use Rattle.lisp_model.specs.Turn.{IsServers}
+use Rattle.lisp_model.specs.Context.{IsAtServer}
 use Rattle.lisp_model.proofs.Locality.{same_number}
 use Rattle.lisp_model.proofs.RisingSteps.{taken_one}
-use Rattle.lisp_refinement.specs.World.{Posted, ServerNode}
-use Rattle.lisp_refinement.specs.Turns.{reply_number, server_line, replies}
+use Rattle.lisp_refinement.specs.World.{DatagramValue, ServerNodeState}
+use Rattle.lisp_refinement.specs.Events.{reply_number, server_line, replies}
 use Rattle.lisp_refinement.specs.Stands.{shown_by, Shows, SameNotice, StandsForServer}
 use Rattle.lisp_refinement.proofs.Acting.{Adds, adds_none, adds_one, by_fate}
 use Rattle.lisp_refinement.proofs.Acceptances.{not_notices, nonces_after, rows_after, contacts_after}
@@ -53,13 +53,13 @@ use Rattle.lisp_refinement.proofs.Going.{notice_goes}
 use Rattle.lisp_refinement.proofs.StandingNotices.{awaited, signed_same, ended_same}
 
 -- what a step of a Map-Server at which something arrives leaves
-pub record Received (o : Opening) (T : List Step) (s : Step) (a : Arrival) (node : ℕ) (after : ServerNode) (more : List Posted) : Type 0 where
-  pub row : Arrives (turn_of o T s) a s.line
+pub record Received (o : Opening) (T : List Step) (s : Step) (a : Arrival) (node : ℕ) (after : ServerNodeState) (more : List DatagramValue) : Type 0 where
+  pub row : Arrives (context_of o T s) a s.line
   pub adds : Adds o T s more
   pub part : StandsForServer o (s ∷ T) node after
 
 -- time stands still but in a tick
-pub no_time : (e : Happening) → is_timeless e ≡ true → (now : ℕ) → now + time_of e ≡ now
+pub no_time : (e : EventValue) → is_timeless e ≡ true → (now : ℕ) → now + time_of e ≡ now
 no_time (events.Tick ms) e now = absurd (true≢false (sym e))
 no_time _ e now = omega arith
 
@@ -84,35 +84,35 @@ asked : (b : Bool) (bytes x : List ℕ) → Some x ≡ (if b then Some bytes els
 asked true bytes x e = cc
 asked false bytes x e = absurd cc
 
-module _ (o : Opening) (T : List Step) (node : ℕ) (kind : is_server o.config node ≡ true) (before after : ServerNode) (part : StandsForServer o T node before)
-    (armed called : StoreState) (shows : Shows armed (shown o T node)) (event : Happening) (fated : IsTrue (shown o T node).is_obedient → armed.fate ≡ fate_of event) (timeless : is_timeless event ≡ true) (from : Addr) (bytes : List ℕ) where
+module _ (o : Opening) (T : List Step) (node : ℕ) (kind : is_server o.config node ≡ true) (before after : ServerNodeState) (part : StandsForServer o T node before)
+    (armed called : StoreState) (shows : Shows armed (shown_store o T node)) (event : EventValue) (fated : IsTrue (shown_store o T node).is_obedient → armed.fate ≡ fate_of event) (timeless : is_timeless event ≡ true) (from : Addr) (bytes : List ℕ) where
   -- the step, by its line
   abbrev step : Line → Step
   step line = record { event = event; line = line; actor = node; shown = shown_by called }
 
-  acts : IsServers (turn_at o T node (fate_of event) called) node
+  acts : IsAtServer (turn_at o T node (fate_of event) called) node
   acts = record { kind = kind; acts = refl }
 
   still : clock T + time_of event ≡ clock T
   still = no_time event timeless (clock T)
 
   -- all but the notices stays
-  module _ (line : Line) (same_since : since o (step line ∷ T) node ≡ since o T node) (same_last : last_notice (step line ∷ T) node ≡ last_notice T node) (rest : after.core ≡ record before.core { notices = after.core.notices }) where
+  module _ (line : Line) (same_since : since_start o (step line ∷ T) node ≡ since_start o T node) (same_last : last_notice (step line ∷ T) node ≡ last_notice T node) (rest : after.core ≡ record before.core { notices = after.core.notices }) where
     stays : ((router : RouterId) → SameNotice o (step line ∷ T) node (notice_to o (step line ∷ T) node router) (notice_at after.core.notices router)) → StandsForServer o (step line ∷ T) node after
     stays standing = record {
       sites = ap (λ (c : ServerState). c.sites) rest ∙ part.sites;
-      rows = λ router eid. subst (λ (now : ℕ). option_and_then (if_alive now) (row_at after.core.rows router eid) ≡ held (since o (step line ∷ T) node) router eid now) (sym still)
-          (ap (λ (c : ServerState). option_and_then (if_alive (clock T)) (row_at c.rows router eid)) rest ∙ part.rows router eid ∙ ap (λ (xs : List Acceptance). held xs router eid (clock T)) (sym same_since));
+      rows = λ router eid. subst (λ (now : ℕ). option_and_then (if_alive now) (row_at after.core.rows router eid) ≡ held_row (since_start o (step line ∷ T) node) router eid now) (sym still)
+          (ap (λ (c : ServerState). option_and_then (if_alive (clock T)) (row_at c.rows router eid)) rest ∙ part.rows router eid ∙ ap (λ (xs : List Acceptance). held_row xs router eid (clock T)) (sym same_since));
       nonces = λ pair other. ap (λ (c : ServerState). nonce_at c.nonces pair) rest ∙ part.nonces pair other ∙ ap (last_of pair) (sym same_since);
       notice_nonce = ap (λ (c : ServerState). nonce_at c.nonces notice_pair) rest ∙ part.notice_nonce ∙ sym same_last;
       contacts = λ router eid h is. ap (λ (c : ServerState). contact_at c.contacts router) rest
-          ∙ part.contacts router eid h ((λ i. held (sym same_since i) router eid (sym still i)) ∙ is)
+          ∙ part.contacts router eid h ((λ i. held_row (sym same_since i) router eid (sym still i)) ∙ is)
           ∙ ap (λ (xs : List Acceptance). option_map (λ a. contact_of a.message a.from) (heard_last router xs)) (sym same_since);
       notices = standing;
     }
 
   -- a refusal changes nothing
-  refused : (why : Refused) (read : Result Said ReadFault) → after.core ≡ before.core → RefusesMessage (turn_at o T node (fate_of event) called) (arriving from bytes read) why
+  refused : (why : Refused) (read : Result MessageValue ReadFault) → after.core ≡ before.core → RefusesMessage (turn_at o T node (fate_of event) called) (arriving from bytes read) why
       → Received o T (step (lines.Refused node (refusals.Receive why))) (arriving from bytes read) node after []
   refused why read core refusal = record {
     row = (acts, refusal);
@@ -123,11 +123,11 @@ module _ (o : Opening) (T : List Step) (node : ℕ) (kind : is_server o.config n
   }
 
   -- a Map-Notify-Ack ends a notice
-  module _ (legal : LegalTrace o T) (m : Notification) (router : RouterId) (nonce : ℕ) (e : Ends from bytes m before.core after.core armed called router nonce) where
+  module _ (legal : LegalTrace o T) (m : MapNotifyValue) (router : RouterId) (nonce : ℕ) (e : Ends from bytes m before.core after.core armed called router nonce) where
     -- that is a legal step
     done_row : IsDone (turn_at o T node (fate_of event) called) (arriving from bytes (Ok (Notifies m))) node router nonce
     done_row =
-        let found = awaited o T node before.core.notices part.notices (fate_of event) (shown o T node) (shown_by called) from m legal e.notice e.acknowledges.awaiting in
+        let found = awaited o T node before.core.notices part.notices (fate_of event) (shown_store o T node) (shown_by called) from m legal e.notice e.acknowledges.awaiting in
         record {
           acts = acts;
           message = m;
@@ -135,7 +135,7 @@ module _ (o : Opening) (T : List Step) (node : ℕ) (kind : is_server o.config n
           ack = e.acknowledges.ack;
           notice = found.notice;
           stands = found.stands;
-          authentic = signed_same o T node before.core.notices part.notices o.config.sites bytes found.notice e.notice found.is ∙ ap (λ (sites : List SiteEntry). answers_under sites bytes e.notice) (sym part.sites) ∙ e.acknowledges.authentic;
+          authentic = signed_same o T node before.core.notices part.notices o.config.sites bytes found.notice e.notice found.is ∙ ap (λ (sites : List SiteValue). answers_under sites bytes e.notice) (sym part.sites) ∙ e.acknowledges.authentic;
           who = e.its ∙ found.is.router;
           number = e.under ∙ found.is.nonce;
           same = same_store o T node before part armed called shows (fate_of event) fated e.store;
@@ -144,8 +144,8 @@ module _ (o : Opening) (T : List Step) (node : ℕ) (kind : is_server o.config n
     -- the other notices stand on
     done_notices : (q : RouterId) → SameNotice o (step (lines.Done node router nonce) ∷ T) node (notice_to o (step (lines.Done node router nonce) ∷ T) node q) (notice_at after.core.notices q)
     done_notices q =
-        subst (λ (b : Bool). SameNotice o (step (lines.Done node router nonce) ∷ T) node (find (λ n. router_eq n.router q) (if b then without router (notices o T node) else notices o T node)) (notice_at after.core.notices q)) (sym (same_number node))
-        (subst (λ (r : RouterId). SameNotice o (step (lines.Done node router nonce) ∷ T) node (find (λ n. router_eq n.router q) (without r (notices o T node))) (notice_at after.core.notices q)) (sym e.its)
+        subst (λ (b : Bool). SameNotice o (step (lines.Done node router nonce) ∷ T) node (find (λ n. router_eq n.router q) (if b then notices_to_others router (notices o T node) else notices o T node)) (notice_at after.core.notices q)) (sym (same_number node))
+        (subst (λ (r : RouterId). SameNotice o (step (lines.Done node router nonce) ∷ T) node (find (λ n. router_eq n.router q) (notices_to_others r (notices o T node))) (notice_at after.core.notices q)) (sym e.its)
         (ended_same o T node before.core.notices part.notices (step (lines.Done node router nonce) ∷ T) after.core.notices e.notice.router e.ended refl q))
 
     done : Received o T (step (lines.Done node router nonce)) (arriving from bytes (Ok (Notifies m))) node after []
@@ -156,10 +156,10 @@ module _ (o : Opening) (T : List Step) (node : ℕ) (kind : is_server o.config n
     }
 
   -- a Map-Register is accepted
-  module _ {A : Type 0} (m : Registration) (router : RouterId) (key nonce : ℕ) (reply : Option (List ℕ)) (arrives : arrival_in (bag o T) event ≡ Some (arriving from bytes (Ok (Registers m))))
+  module _ {A : Type 0} (m : MapRegisterValue) (router : RouterId) (key nonce : ℕ) (reply : Option (List ℕ)) (arrives : arrival_in (bag o T) event ≡ Some (arriving from bytes (Ok (Registers m))))
       (a : Accepts {A = A} (register_checked before.core.sites bytes m) before.core after.core armed called from (clock T) (Accepted router key nonce reply)) where
     -- the message, what comes of it, and the line
-    abbrev message : Registration
+    abbrev message : MapRegisterValue
     message = a.passed.message
 
     abbrev one : Acceptance
@@ -175,8 +175,8 @@ module _ (o : Opening) (T : List Step) (node : ℕ) (kind : is_server o.config n
     answers = says {A = A} router (router_of message) key message.key_id nonce message.nonce reply (reply_of a.passed.secret message) a.answer
 
     -- it is what is taken in the step
-    taken_is : taken (arrival_in (bag o T) event) (clock T) ≡ one ∷ []
-    taken_is = ap (λ (x : Option Arrival). taken x (clock T)) arrives ∙ taken_one (arriving from bytes (Ok (Registers m))) (clock T) message admitted.read
+    taken_is : acceptances_in (arrival_in (bag o T) event) (clock T) ≡ one ∷ []
+    taken_is = ap (λ (x : Option Arrival). acceptances_in x (clock T)) arrives ∙ taken_one (arriving from bytes (Ok (Registers m))) (clock T) message admitted.read
 
     -- that is a legal step
     accepted_row : IsAccepted (turn_at o T node (fate_of event) called) (arriving from bytes (Ok (Registers m))) node router key nonce (reply_number (length (bag o T)) reply)
@@ -188,10 +188,10 @@ module _ (o : Opening) (T : List Step) (node : ℕ) (kind : is_server o.config n
       under = answers.under;
       number = answers.number;
       fresh = is_fresh o T node before part armed called shows (fate_of event) fated message a.fresh;
-      may = by_fate (λ f. f ≢ Doubt) (fate_of event) armed (shown o T node) shows fated a.saves;
+      may = by_fate (λ f. f ≢ Doubt) (fate_of event) armed (shown_store o T node) shows fated a.saves;
       kept = a.kept shows.honest;
       others = subst (λ (k : Kept). SameElsewhere k called.kept (pair_of message)) shows.kept (a.others shows.honest);
-      reply = ap (reply_number (length (bag o T))) answers.answer ∙ reply_case (length (bag o T)) message.want_notify (signed a.passed.secret (written_notify (notification_of message)));
+      reply = ap (reply_number (length (bag o T))) answers.answer ∙ reply_case (length (bag o T)) message.want_notify (signed a.passed.secret (written_notify (reply_to message)));
     }
 
     -- the secret of the reply
@@ -202,7 +202,7 @@ module _ (o : Opening) (T : List Step) (node : ℕ) (kind : is_server o.config n
 
     spelled : (x : List ℕ) → Some x ≡ reply_of a.passed.secret message → x ≡ bytes_of (reply_item o.config node one)
     unfolding bytes_of
-    spelled x e = asked message.want_notify (signed a.passed.secret (written_notify (notification_of message))) x e ∙ ap (λ (secret : List ℕ). signed secret (written_notify (notification_of message))) secret_is
+    spelled x e = asked message.want_notify (signed a.passed.secret (written_notify (reply_to message))) x e ∙ ap (λ (secret : List ℕ). signed secret (written_notify (reply_to message))) secret_is
 
     -- the reply goes to the bag, where there is one
     adds_reply : (q : Option (List ℕ)) → q ≡ reply_of a.passed.secret message → Adds o T (step (said q)) (option_to_list (option_map (λ x. record { from = address_at o.config node; to = from; bytes = x }) q))
@@ -212,22 +212,22 @@ module _ (o : Opening) (T : List Step) (node : ℕ) (kind : is_server o.config n
         (record { from = refl; to = refl; bytes = spelled x e; message = a.fits })
 
     -- it comes before all that was accepted since the start
-    since_is : since o (step (said reply) ∷ T) node ≡ one ∷ since o T node
+    since_is : since_start o (step (said reply) ∷ T) node ≡ one ∷ since_start o T node
     since_is =
-        ap (λ (b : Bool). if b then taken (arrival_in (bag o T) event) (clock T) ++ since o T node else since o T node) (same_number node)
-        ∙ ap (λ (xs : List Acceptance). xs ++ since o T node) taken_is
+        ap (λ (b : Bool). if b then acceptances_in (arrival_in (bag o T) event) (clock T) ++ since_start o T node else since_start o T node) (same_number node)
+        ∙ ap (λ (xs : List Acceptance). xs ++ since_start o T node) taken_is
 
     -- the Map-Server goes on to stand
     accepted_part : Adds o T (step (said reply)) (replies {A = A} (address_at o.config node) from (Ok (Accepted router key nonce reply))) → StandsForServer o (step (said reply) ∷ T) node after
     accepted_part adds = record {
       sites = a.sites ∙ part.sites;
-      rows = λ q eid. subst (λ (now : ℕ). option_and_then (if_alive now) (row_at after.core.rows q eid) ≡ held (since o (step (said reply) ∷ T) node) q eid now) (sym still)
-          (rows_after message from (clock T) (since o T node) q eid before.core.rows after.core.rows a.rows (part.rows q eid) ∙ ap (λ (xs : List Acceptance). held xs q eid (clock T)) (sym since_is));
-      nonces = λ pair other. nonces_after message from (clock T) (since o T node) before.core.nonces after.core.nonces a.nonces pair (part.nonces pair other) ∙ ap (last_of pair) (sym since_is);
+      rows = λ q eid. subst (λ (now : ℕ). option_and_then (if_alive now) (row_at after.core.rows q eid) ≡ held_row (since_start o (step (said reply) ∷ T) node) q eid now) (sym still)
+          (rows_after message from (clock T) (since_start o T node) q eid before.core.rows after.core.rows a.rows (part.rows q eid) ∙ ap (λ (xs : List Acceptance). held_row xs q eid (clock T)) (sym since_is));
+      nonces = λ pair other. nonces_after message from (clock T) (since_start o T node) before.core.nonces after.core.nonces a.nonces pair (part.nonces pair other) ∙ ap (last_of pair) (sym since_is);
       notice_nonce = a.nonces.others notice_pair (λ e. not_notices message (sym e)) ∙ part.notice_nonce;
-      contacts = λ q eid h is. contacts_after message from (clock T) (since o T node) q eid before.core.contacts after.core.contacts a.contacts (part.contacts q eid) h ((λ i. held (sym since_is i) q eid (sym still i)) ∙ is)
+      contacts = λ q eid h is. contacts_after message from (clock T) (since_start o T node) q eid before.core.contacts after.core.contacts a.contacts (part.contacts q eid) h ((λ i. held_row (sym since_is i) q eid (sym still i)) ∙ is)
           ∙ ap (λ (xs : List Acceptance). option_map (λ x. contact_of x.message x.from) (heard_last q xs)) (sym since_is);
-      notices = λ q. subst (λ (ns : List Standing). SameNotice o (step (said reply) ∷ T) node (notice_to o T node q) (notice_at ns q)) (sym a.notices)
+      notices = λ q. subst (λ (ns : List StandingNoticeValue). SameNotice o (step (said reply) ∷ T) node (notice_to o T node q) (notice_at ns q)) (sym a.notices)
           (notice_goes o T (step (said reply) ∷ T) node (adds.items, adds.added) (notice_to o T node q) (notice_at before.core.notices q) (part.notices q));
     }
 
@@ -237,8 +237,8 @@ module _ (o : Opening) (T : List Step) (node : ℕ) (kind : is_server o.config n
         record { row = accepted_row; adds = adds; part = accepted_part adds }
 
   -- whatever it answers
-  pub received : {A : Type 0} → LegalTrace o T → (read : Result Said ReadFault) (answer : Result (Took A) Refused) → arrival_in (bag o T) event ≡ Some (arriving from bytes read)
-      → IfOk answer (λ took. Takes read from bytes before.core after.core armed called (clock T) took) → IfErr answer (λ why. Refuses read from bytes before.core armed called why) → OnErr answer (after.core ≡ before.core)
+  pub received : {A : Type 0} → LegalTrace o T → (read : Result MessageValue ReadFault) (answer : Result (Took A) Refused) → arrival_in (bag o T) event ≡ Some (arriving from bytes read)
+      → IfOk answer (λ took. ServerTakes read from bytes before.core after.core armed called (clock T) took) → IfErr answer (λ why. ServerRefuses read from bytes before.core armed called why) → OnErr answer (after.core ≡ before.core)
       → (IsErrOf answer refuseds.OutOfMemory → HasHead bytes)
       → Received o T (step (server_line node (length (bag o T)) answer)) (arriving from bytes read) node after (replies (address_at o.config node) from answer)
   received {A = A} legal (Ok (Registers m)) (Ok (Accepted router key nonce reply)) arrives takes refusal same head = accepted {A = A} m router key nonce reply arrives takes

@@ -2,9 +2,9 @@
 use Rattle.std.proofs.Common.{◌≡◌, ℕ, Bool, List, Option, Some, None, Ok, Err, refl, sym, ap, subst, inl, inr, ◌∙◌}
 use Rattle.std.specs.Prelude.{IsTrue, ◌≢◌, ◌<◌, ◌⊎◌, ◌-◌, ◌^◌, Result}
 use Rattle.lisp_records.specs.declared.address.Addr.{Addr}
-use Rattle.lisp_policy.specs.Site.{SiteEntry}
+use Rattle.lisp_policy.specs.Site.{SiteValue}
 use Rattle.lisp_messages.specs.declared.fault.ReadFault.{ReadFault}
-use Rattle.lisp_messages.specs.Message.{Said, Registration, Notification, Registers, Notifies}
+use Rattle.lisp_messages.specs.Message.{MessageValue, MapRegisterValue, MapNotifyValue, Registers, Notifies}
 use Rattle.lisp_messages.specs.Reading.{HasHead}
 use Rattle.lisp_nonces.specs.declared.fault.StoreFault.{StoreFault}
 use Rattle.lisp_nonces.specs.declared.fate.Fate.{Fate}
@@ -19,14 +19,14 @@ use Rattle.lisp_admission.specs.Nonces.{KeepsLists, HasCause, IsBase as IsStoreB
 use Rattle.lisp_admission.specs.Pairs.{pair_of}
 use Rattle.lisp_server.specs.Checks.{Passed, register_checked, RefusesAck as RefusesAckOf, answers_under}
 use Rattle.lisp_server.specs.LastNonces.{nonce_at}
-use Rattle.lisp_server.specs.Receiving.{Refuses, RefusesRegister}
-use Rattle.lisp_model.specs.Trace.{Step, Opening, shown}
+use Rattle.lisp_server.specs.Receiving.{ServerRefuses, RefusesRegister}
+use Rattle.lisp_model.specs.Trace.{Step, Opening, shown_store}
 use Rattle.lisp_model.specs.Timers.{Notice}
 use Rattle.lisp_model.specs.Bag.{Arrival}
 use Rattle.lisp_model.specs.Legal.{LegalTrace}
-use Rattle.lisp_model.specs.Turn.{Turn, Same, HasCause as HasCauseIn}
+use Rattle.lisp_model.specs.Context.{Context, Same, HasCause as HasCauseIn}
 use Rattle.lisp_model.specs.Receiving.{last_in, Admits, IsFresh, RefusesAck, FailsNotify, RefusesMessage}
-use Rattle.lisp_refinement.specs.World.{ServerNode}
+use Rattle.lisp_refinement.specs.World.{ServerNodeState}
 use Rattle.lisp_refinement.specs.Stands.{shown_by, Shows, StandsForServer}
 use Rattle.lisp_refinement.proofs.Acting.{by_fate}
 use Rattle.lisp_refinement.proofs.Acceptances.{not_notices}
@@ -34,21 +34,21 @@ use Rattle.lisp_refinement.proofs.Checked.{is_passed, is_failed, base_in}
 use Rattle.lisp_refinement.proofs.StandingNotices.{awaited, none_awaited, signed_same}
 
 -- what arrives, from where, and what is read in it
-abbrev pub arriving : Addr → List ℕ → Result Said ReadFault → Arrival
+abbrev pub arriving : Addr → List ℕ → Result MessageValue ReadFault → Arrival
 arriving from bytes read = record { from = from; bytes = bytes; read = read }
 
 -- the turn of a Map-Server whose store was called
-abbrev pub turn_at : Opening → List Step → ℕ → Fate → StoreState → Turn
-turn_at o T node fate called = record { opening = o; past = T; node = node; fate = fate; before = shown o T node; after = shown_by called }
+abbrev pub turn_at : Opening → List Step → ℕ → Fate → StoreState → Context
+turn_at o T node fate called = record { opening = o; past = T; node = node; fate = fate; before = shown_store o T node; after = shown_by called }
 
-module _ (o : Opening) (T : List Step) (node : ℕ) (before : ServerNode) (part : StandsForServer o T node before) (armed called : StoreState) (shows : Shows armed (shown o T node))
-    (fate : Fate) (fated : IsTrue (shown o T node).is_obedient → armed.fate ≡ fate) where
-  abbrev pub turn : Turn
+module _ (o : Opening) (T : List Step) (node : ℕ) (before : ServerNodeState) (part : StandsForServer o T node before) (armed called : StoreState) (shows : Shows armed (shown_store o T node))
+    (fate : Fate) (fated : IsTrue (shown_store o T node).is_obedient → armed.fate ≡ fate) where
+  abbrev pub turn : Context
   turn = turn_at o T node fate called
 
   -- what is said of the fate that an obedient store was armed with
-  by : (P : Fate → Type 0) → (IsTrue armed.is_obedient → P armed.fate) → IsTrue (shown o T node).is_obedient → P fate
-  by P said = by_fate P fate armed (shown o T node) shows fated said
+  by : (P : Fate → Type 0) → (IsTrue armed.is_obedient → P armed.fate) → IsTrue (shown_store o T node).is_obedient → P fate
+  by P said = by_fate P fate armed (shown_store o T node) shows fated said
 
   -- the store is as it was, or keeps what it kept
   pub same_store : called ≡ armed → Same turn
@@ -62,23 +62,23 @@ module _ (o : Opening) (T : List Step) (node : ℕ) (before : ServerNode) (part 
   cause_in fault cause other = subst (λ (n : ℕ). (n < called.faults) ⊎ (called.faults ≡ 2 ^ 64 - 1)) shows.faults (cause other)
 
   -- where the last nonce isn't in memory it was loaded, as the fate lets it be
-  loads_in : (known base : Option ℕ) (pair : Pair) → IsStoreBase known armed pair base → known ≡ None → IsTrue (shown o T node).is_obedient → fate ≢ LoadFails
+  loads_in : (known base : Option ℕ) (pair : Pair) → IsStoreBase known armed pair base → known ≡ None → IsTrue (shown_store o T node).is_obedient → fate ≢ LoadFails
   loads_in known base pair is none = by (λ f. f ≢ LoadFails) (subst (λ (k : Option ℕ). IsStoreBase k armed pair base) none is).0
 
   -- the last nonce of a Map-Register's pair, and that it is fresh
-  pub last_is : (m : Registration) → nonce_at before.core.nonces (pair_of m) ≡ last_in turn (pair_of m)
+  pub last_is : (m : MapRegisterValue) → nonce_at before.core.nonces (pair_of m) ≡ last_in turn (pair_of m)
   last_is m = part.nonces (pair_of m) (not_notices m)
 
-  pub is_fresh : (m : Registration) → IsFreshFor (nonce_at before.core.nonces (pair_of m)) armed (pair_of m) m.nonce → IsFresh turn m
+  pub is_fresh : (m : MapRegisterValue) → IsFreshFor (nonce_at before.core.nonces (pair_of m)) armed (pair_of m) m.nonce → IsFresh turn m
   is_fresh m fresh = record {
     base = fresh.0;
-    counts = base_in (nonce_at before.core.nonces (pair_of m)) (last_in turn (pair_of m)) armed (shown o T node).kept (pair_of m) fresh.0 shows.honest shows.kept (last_is m) fresh.1;
+    counts = base_in (nonce_at before.core.nonces (pair_of m)) (last_in turn (pair_of m)) armed (shown_store o T node).kept (pair_of m) fresh.0 shows.honest shows.kept (last_is m) fresh.1;
     above = fresh.2;
     loads = λ none. loads_in (nonce_at before.core.nonces (pair_of m)) fresh.0 (pair_of m) fresh.1 (last_is m ∙ none);
   }
 
   module _ (from : Addr) (bytes : List ℕ) where
-    module _ (m : Registration) where
+    module _ (m : MapRegisterValue) where
       abbrev check : Result Passed Refused
       check = register_checked before.core.sites bytes m
 
@@ -87,14 +87,14 @@ module _ (o : Opening) (T : List Step) (node : ℕ) (before : ServerNode) (part 
       admits passed e =
           let p = is_passed before.core.sites bytes m passed e in
           record {
-            read = ap (λ (x : Registration). Ok (Registers x)) (sym p.message);
+            read = ap (λ (x : MapRegisterValue). Ok (Registers x)) (sym p.message);
             secret = passed.secret;
-            checks = subst (λ (x : Registration). secret_under o.config.sites bytes x ≡ Ok passed.secret) (sym p.message) (subst (λ (sites : List SiteEntry). secret_under sites bytes m ≡ Ok passed.secret) part.sites p.checks);
+            checks = subst (λ (x : MapRegisterValue). secret_under o.config.sites bytes x ≡ Ok passed.secret) (sym p.message) (subst (λ (sites : List SiteValue). secret_under sites bytes m ≡ Ok passed.secret) part.sites p.checks);
           }
 
       -- it fails one
       fails : (why : Refused) → (check ≡ Err why) × (called ≡ armed) → (secret_under o.config.sites bytes m ≡ Err why) × Same turn
-      fails why e = (subst (λ (sites : List SiteEntry). secret_under sites bytes m ≡ Err why) part.sites (is_failed before.core.sites bytes m why e.0), same_store e.1)
+      fails why e = (subst (λ (sites : List SiteValue). secret_under sites bytes m ≡ Err why) part.sites (is_failed before.core.sites bytes m why e.0), same_store e.1)
 
       -- a Map-Register is refused for the first reason that applies
       refuses_register : (why : Refused) → RefusesRegister check before.core armed called why → (why ≡ refuseds.OutOfMemory → HasHead bytes) → RefusesMessage turn (arriving from bytes (Ok (Registers m))) why
@@ -107,7 +107,7 @@ module _ (o : Opening) (T : List Step) (node : ℕ) (before : ServerNode) (part 
       refuses_register (refuseds.Replay saved) r head = record {
         message = r.passed.message;
         admits = admits r.passed r.checks;
-        counts = base_in (nonce_at before.core.nonces (pair_of r.passed.message)) (last_in turn (pair_of r.passed.message)) armed (shown o T node).kept (pair_of r.passed.message) (Some saved) shows.honest shows.kept (last_is r.passed.message) r.base;
+        counts = base_in (nonce_at before.core.nonces (pair_of r.passed.message)) (last_in turn (pair_of r.passed.message)) armed (shown_store o T node).kept (pair_of r.passed.message) (Some saved) shows.honest shows.kept (last_is r.passed.message) r.base;
         loads = λ none. loads_in (nonce_at before.core.nonces (pair_of r.passed.message)) (Some saved) (pair_of r.passed.message) r.base (last_is r.passed.message ∙ none);
         stale = r.stale;
         same = same_lists r.same;
@@ -137,7 +137,7 @@ module _ (o : Opening) (T : List Step) (node : ℕ) (before : ServerNode) (part 
       refuses_register refuseds.NoNotice r head = fails refuseds.NoNotice r
 
     -- a Map-Notify or Map-Notify-Ack that no notice takes
-    module _ (legal : LegalTrace o T) (m : Notification) where
+    module _ (legal : LegalTrace o T) (m : MapNotifyValue) where
       abbrev arrival : Arrival
       arrival = arriving from bytes (Ok (Notifies m))
 
@@ -148,13 +148,13 @@ module _ (o : Opening) (T : List Step) (node : ℕ) (before : ServerNode) (part 
           subst (λ (b : Bool). FailsNotify turn arrival m b refuseds.NoNotice) (sym r.0) (subst (λ (n : Option Notice). RefusesAck turn arrival n refuseds.NoNotice) (sym none) refl)
       refuses_notify refuseds.BadAuth r =
           let found = awaited o T node before.core.notices part.notices fate turn.before turn.after from m legal r.1 r.2 in
-          let tag = ap (λ (sites : List SiteEntry). answers_under sites bytes r.1) (sym part.sites) ∙ r.3 in
+          let tag = ap (λ (sites : List SiteValue). answers_under sites bytes r.1) (sym part.sites) ∙ r.3 in
           subst (λ (b : Bool). FailsNotify turn arrival m b refuseds.BadAuth) (sym r.0) (subst (λ (n : Option Notice). RefusesAck turn arrival n refuseds.BadAuth) (sym found.stands)
           (signed_same o T node before.core.notices part.notices o.config.sites bytes found.notice r.1 found.is ∙ tag, refl))
       refuses_notify _ r = absurd r
 
     -- any message is
-    pub refuses : LegalTrace o T → (read : Result Said ReadFault) (why : Refused) → Refuses read from bytes before.core armed called why → (why ≡ refuseds.OutOfMemory → HasHead bytes) → RefusesMessage turn (arriving from bytes read) why
+    pub refuses : LegalTrace o T → (read : Result MessageValue ReadFault) (why : Refused) → ServerRefuses read from bytes before.core armed called why → (why ≡ refuseds.OutOfMemory → HasHead bytes) → RefusesMessage turn (arriving from bytes read) why
     refuses legal (Ok (Registers m)) refuseds.OutOfMemory (inl untouched) head = (head refl, inl untouched.0, same_store untouched.1)
     refuses legal (Ok (Registers m)) refuseds.OutOfMemory (inr r) head = refuses_register m refuseds.OutOfMemory r head
     refuses legal (Ok (Notifies m)) refuseds.OutOfMemory (inl untouched) head = (head refl, inl untouched.0, same_store untouched.1)

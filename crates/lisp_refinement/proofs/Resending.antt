@@ -11,21 +11,21 @@ use Rattle.lisp_admission.specs.Pairs.{notice_pair}
 use Rattle.lisp_server.specs.LastNonces.{nonce_at}
 use Rattle.lisp_server.specs.Server.{ServerState}
 use Rattle.lisp_admission.specs.NoticeTimer.{due_after, gaps, has_come}
-use Rattle.lisp_server.specs.Notices.{Standing, notice_at, is_due_at, is_due as standing_due, resent, Resends, RefusesResend}
+use Rattle.lisp_server.specs.Notices.{StandingNoticeValue, notice_at, is_due_at, is_due as standing_due, resent, Resends, RefusesResend}
 use Rattle.lisp_model.specs.declared.event.Event.TheVariants as events
 use Rattle.lisp_model.specs.declared.line.Line.{Line}
 use Rattle.lisp_model.specs.declared.line.Line.TheVariants as lines
 use Rattle.lisp_model.specs.declared.refusal.Refusal.TheVariants as refusals
-use Rattle.lisp_model.specs.Trace.{Step, Opening, router_at, shown, clock}
-use Rattle.lisp_model.specs.Timers.{Notice, notices, notice_to, is_due, sent_again}
+use Rattle.lisp_model.specs.Trace.{Step, Opening, router_at, shown_store, clock}
+use Rattle.lisp_model.specs.Timers.{Notice, notices, notice_to, is_due, resent_at}
 use Rattle.lisp_model.specs.Bag.{Item, bag}
-use Rattle.lisp_model.specs.Turn.{IsServers}
+use Rattle.lisp_model.specs.Context.{IsAtServer}
 use Rattle.lisp_model.specs.Notifying.{RefusesToResend}
-use Rattle.lisp_model.specs.Legal.{Legal, turn_of}
+use Rattle.lisp_model.specs.Legal.{Legal, context_of}
 use Rattle.lisp_model.proofs.Locality.{same_number}
-use Rattle.lisp_messages.specs.Message.{IsSaid}
-use Rattle.lisp_refinement.specs.World.{Posted, ServerNode, WorldState}
-use Rattle.lisp_refinement.specs.Turns.{address_of, ResendsTo, SaysResend, ResendsFrom}
+use Rattle.lisp_messages.specs.Message.{IsMessage}
+use Rattle.lisp_refinement.specs.World.{DatagramValue, ServerNodeState, WorldState}
+use Rattle.lisp_refinement.specs.Events.{address_of, NodeResends, SaysResendAnswer, NetworkResends}
 use Rattle.lisp_refinement.specs.Stands.{Shows, IsStanding, SameNotice, StandsForServer, Stands, StandsAfter}
 use Rattle.lisp_refinement.proofs.Acting.{Adds, adds_none, adds_one, server_is, address_is, server_acts}
 use Rattle.lisp_refinement.proofs.Gets.{get_before}
@@ -33,24 +33,24 @@ use Rattle.lisp_refinement.proofs.Going.{notice_goes}
 use Rattle.lisp_refinement.proofs.NoticeParts.{its_me, known_router, same_or_other, found, found_again, its_router, sent_again_own, others_again, kept_stands, part_after}
 
 -- the trace's notice is due where the server's is
-same_due : (o : Opening) (T : List Step) (server now : ℕ) (n : Option Notice) (kept : Option Standing) → SameNotice o T server n kept → is_due n now ≡ is_due_at now kept
+same_due : (o : Opening) (T : List Step) (server now : ℕ) (n : Option Notice) (kept : Option StandingNoticeValue) → SameNotice o T server n kept → is_due n now ≡ is_due_at now kept
 unfolding due_after
 same_due o T server now (Some n) (Some kept) is = ap (λ (moments : List ℕ). has_come now (due_after moments)) is.moments ∙ ap (λ (k : ℕ). has_come now (option_map (λ gap. kept.last + gap) (slice_get gaps k))) (sym is.resends)
 same_due o T server now None None is = refl
 same_due o T server now (Some n) None is = absurd is
 same_due o T server now None (Some kept) is = absurd is
 
-module _ (old new : WorldState) (server router : ℕ) (line : Line) (turn : ResendsFrom old new server router line) (o : Opening) (T : List Step) (stand : Stands old o T) where
+module _ (old new : WorldState) (server router : ℕ) (line : Line) (turn : NetworkResends old new server router line) (o : Opening) (T : List Step) (stand : Stands old o T) where
   -- the router that is told again
   abbrev me : RouterId
   me = (router_at o.config router).me
 
   -- the step, by its line
   abbrev step : Line → Step
-  step said = record { event = events.Resend server router; line = said; actor = server; shown = shown o T server }
+  step said = record { event = events.Resend server router; line = said; actor = server; shown = shown_store o T server }
 
   -- the turn is the Map-Server's
-  acting : (said : Line) → IsServers (turn_of o T (step said)) server
+  acting : (said : Line) → IsAtServer (context_of o T (step said)) server
   acting said = record { kind = server_is old o T stand server turn.acts.before turn.acts.was; acts = refl }
 
   -- what the Map-Server stands for before
@@ -63,17 +63,17 @@ module _ (old new : WorldState) (server router : ℕ) (line : Line) (turn : Rese
 
   -- the store isn't used
   shows : (said : Line) → Shows turn.acts.after.store (step said).shown
-  shows said = subst (λ (n : ServerNode). Shows n.store (shown o T server)) (sym turn.rest) (stand.steps.server_stores server turn.acts.before turn.acts.was)
+  shows said = subst (λ (n : ServerNodeState). Shows n.store (shown_store o T server)) (sym turn.rest) (stand.steps.server_stores server turn.acts.before turn.acts.was)
 
   -- only its notices changed
   its_core : turn.acts.after.core ≡ record turn.acts.before.core { nonces = turn.acts.after.core.nonces; notices = turn.acts.after.core.notices }
   its_core =
-      let rest = ap (λ (n : ServerNode). n.core) turn.rest in
+      let rest = ap (λ (n : ServerNodeState). n.core) turn.rest in
       rest ∙ ap (λ nonces. record turn.acts.before.core { nonces = nonces; notices = turn.acts.after.core.notices }) (sym (ap (λ (c : ServerState). c.nonces) rest))
 
   -- its nonces stay
   its_nonces : turn.acts.after.core.nonces ≡ turn.acts.before.core.nonces
-  its_nonces = ap (λ (n : ServerNode). n.core.nonces) turn.rest
+  its_nonces = ap (λ (n : ServerNodeState). n.core.nonces) turn.rest
 
   -- it is sent again
   module _ (to : Addr) (bytes : List ℕ) (resends : Resends turn.acts.before.core.notices turn.acts.after.core.notices me old.clock to bytes) where
@@ -112,10 +112,10 @@ module _ (old new : WorldState) (server router : ℕ) (line : Line) (turn : Rese
     sent_bag = ap (λ (n : Option Notice). bag o T ++ option_to_list (option_and_then (λ n. slice_get (bag o T) n.datagram) n)) kept.1 ∙ ap (λ (i : Option Item). bag o T ++ option_to_list i) its_item
 
     -- its message has a spelling, as it was sent before
-    said_item : IsSaid kept.2.item.message
+    said_item : IsMessage kept.2.item.message
     said_item = (stand.bag.each kept.0.datagram (slice_index_or old.bag kept.0.datagram any) kept.2.item (slice_get-get_or old.bag kept.0.datagram any (omega (arith, stand.bag.count, slice_get_within (bag o T) kept.0.datagram kept.2.item its_item))) its_item).message
       where
-        any : Posted
+        any : DatagramValue
         any = record { from = to; to = to; bytes = bytes }
 
     -- the datagram carries the item
@@ -128,8 +128,8 @@ module _ (old new : WorldState) (server router : ℕ) (line : Line) (turn : Rese
     })
 
     -- what the trace has for a router afterwards
-    after_is : (other : RouterId) → notice_to o (step sent ∷ T) server other ≡ found other (map (sent_again me (clock T)) (notices o T server))
-    after_is other = ap (λ (b : Bool). found other (cond b (map (sent_again me (clock T)) (notices o T server)) (notices o T server))) (same_number server)
+    after_is : (other : RouterId) → notice_to o (step sent ∷ T) server other ≡ found other (map (resent_at me (clock T)) (notices o T server))
+    after_is other = ap (λ (b : Bool). found other (cond b (map (resent_at me (clock T)) (notices o T server)) (notices o T server))) (same_number server)
 
     -- the notice is the router's
     own_router : kept.0.router ≡ me
@@ -154,7 +154,7 @@ module _ (old new : WorldState) (server router : ℕ) (line : Line) (turn : Rese
     -- the router's notice stands on both sides
     own_notice : SameNotice o (step sent ∷ T) server (notice_to o (step sent ∷ T) server me) (notice_at turn.acts.after.core.notices me)
     own_notice =
-        let here = after_is me ∙ found_again me me (clock T) (notices o T server) ∙ ap (option_map (sent_again me (clock T))) kept.1 ∙ ap Some (sent_again_own me (clock T) kept.0 own_router) in
+        let here = after_is me ∙ found_again me me (clock T) (notices o T server) ∙ ap (option_map (resent_at me (clock T))) kept.1 ∙ ap Some (sent_again_own me (clock T) kept.0 own_router) in
         let there = ap (notice_at turn.acts.after.core.notices) (sym (kept.2.router ∙ own_router)) ∙ resends.after.here in
         rw (here, there) own_standing
 
@@ -177,7 +177,7 @@ module _ (old new : WorldState) (server router : ℕ) (line : Line) (turn : Rese
 
     -- and so does the network
     sent_stands : turn.more ≡ record { from = address_of old server; to = to; bytes = bytes } ∷ [] → Stands new o (step sent ∷ T)
-    sent_stands posts = server_acts old new server turn.more turn.acts o T (step sent) stand refl refl sent_legal (subst (λ (more : List Posted). Adds o T (step sent) more) (sym posts) sent_adds) (shows sent) sent_part
+    sent_stands posts = server_acts old new server turn.more turn.acts o T (step sent) stand refl refl sent_legal (subst (λ (more : List DatagramValue). Adds o T (step sent) more) (sym posts) sent_adds) (shows sent) sent_part
 
   -- it isn't
   module _ (fault : NoticeFault) (refuses : RefusesResend turn.acts.before.core.notices me old.clock fault) (same : turn.acts.after ≡ turn.acts.before) where
@@ -190,7 +190,7 @@ module _ (old new : WorldState) (server router : ℕ) (line : Line) (turn : Rese
     was_due = same_due o T server (clock T) (notice_to o T server me) (notice_at turn.acts.before.core.notices me) (part.notices me) ∙ ap (λ (now : ℕ). is_due_at now (notice_at turn.acts.before.core.notices me)) (sym stand.bag.moment)
 
     -- the reason in the trace's words
-    why : (f : NoticeFault) → RefusesResend turn.acts.before.core.notices me old.clock f → RefusesToResend (turn_of o T (step refused)) router f
+    why : (f : NoticeFault) → RefusesResend turn.acts.before.core.notices me old.clock f → RefusesToResend (context_of o T (step refused)) router f
     why notice_faults.NotDue is = (was_due ∙ is, refl)
     why notice_faults.OutOfMemory is = (was_due ∙ is, refl)
     why _ is = absurd is
@@ -207,21 +207,21 @@ module _ (old new : WorldState) (server router : ℕ) (line : Line) (turn : Rese
     refused_part : StandsForServer o (step refused ∷ T) server turn.acts.after
     refused_part = part_after o T (step refused) server turn.acts.before turn.acts.after part (time refused) refl its_core
         (λ pair differ. ap (λ nonces. nonce_at nonces pair) its_nonces) (ap (λ nonces. nonce_at nonces notice_pair) its_nonces ∙ part.notice_nonce)
-        (λ other. subst (λ (n : ServerNode). SameNotice o (step refused ∷ T) server (notice_to o T server other) (notice_at n.core.notices other)) (sym same) (notice_goes o T (step refused ∷ T) server ([], refused_bag) (notice_to o T server other) (notice_at turn.acts.before.core.notices other) (part.notices other)))
+        (λ other. subst (λ (n : ServerNodeState). SameNotice o (step refused ∷ T) server (notice_to o T server other) (notice_at n.core.notices other)) (sym same) (notice_goes o T (step refused ∷ T) server ([], refused_bag) (notice_to o T server other) (notice_at turn.acts.before.core.notices other) (part.notices other)))
 
     -- and so does the network
     refused_stands : turn.more ≡ [] → Stands new o (step refused ∷ T)
-    refused_stands posts = server_acts old new server turn.more turn.acts o T (step refused) stand refl refl refused_legal (subst (λ (more : List Posted). Adds o T (step refused) more) (sym posts) (adds_none o T (step refused) refused_bag)) (shows refused) refused_part
+    refused_stands posts = server_acts old new server turn.more turn.acts o T (step refused) stand refl refl refused_legal (subst (λ (more : List DatagramValue). Adds o T (step refused) more) (sym posts) (adds_none o T (step refused) refused_bag)) (shows refused) refused_part
 
   -- the notice was sent again, or not
-  either : (answer : Result (Addr × List ℕ) NoticeFault) → ResendsTo turn.acts.before turn.acts.after old.clock me answer → SaysResend old server router answer line turn.more → Stands new o (step line ∷ T)
+  either : (answer : Result (Addr × List ℕ) NoticeFault) → NodeResends turn.acts.before turn.acts.after old.clock me answer → SaysResendAnswer old server router answer line turn.more → Stands new o (step line ∷ T)
   either (Ok sending) resends says = subst (λ (said : Line). Stands new o (step said ∷ T)) (sym says.0) (sent_stands sending.0 sending.1 resends says.1)
   either (Err fault) refuses says = subst (λ (said : Line). Stands new o (step said ∷ T)) (sym says.0) (refused_stands fault refuses.0 refuses.1 says.1)
 
   -- the same by the router of the trace
   resent_stands : Stands new o (step line ∷ T)
-  resent_stands = either turn.answer (subst (λ (r : RouterId). ResendsTo turn.acts.before turn.acts.after old.clock r turn.answer) (its_me old o T stand router turn.place turn.number turn.node turn.there) turn.resends) turn.says
+  resent_stands = either turn.answer (subst (λ (r : RouterId). NodeResends turn.acts.before turn.acts.after old.clock r turn.answer) (its_me old o T stand router turn.place turn.number turn.node turn.there) turn.resends) turn.says
 
 -- a notice that is sent again, or isn't, leaves a network that stands for the trace with the step
-pub resend_stands : (old new : WorldState) (server router : ℕ) (line : Line) → ResendsFrom old new server router line → StandsAfter old new (events.Resend server router) line
-resend_stands old new server router line turn o T stand = (server, shown o T server, resent_stands old new server router line turn o T stand)
+pub resend_stands : (old new : WorldState) (server router : ℕ) (line : Line) → NetworkResends old new server router line → StandsAfter old new (events.Resend server router) line
+resend_stands old new server router line turn o T stand = (server, shown_store o T server, resent_stands old new server router line turn o T stand)

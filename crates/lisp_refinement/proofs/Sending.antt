@@ -7,11 +7,11 @@ use Rattle.std.proofs.lemmas.Bool.{cases_lt, lt-ltb}
 use Rattle.std.proofs.lemmas.Bool.Decides.{Decides-eqb}
 use Rattle.std.proofs.lemmas.List.{length-map, length-set}
 use Rattle.std.proofs.lemmas.Option.{slice_get_within, slice_get-get_or}
-use Rattle.lisp_records.specs.Record.{Mapping}
+use Rattle.lisp_records.specs.Record.{MapRecordValue}
 use Rattle.lisp_messages.specs.declared.head.Head.{Head}
 use Rattle.lisp_messages.specs.Head.{head_at}
 use Rattle.lisp_messages.specs.Authentic.{signed}
-use Rattle.lisp_messages.specs.Message.{IsRegistration, Registers}
+use Rattle.lisp_messages.specs.Message.{IsMapRegister, Registers}
 use Rattle.lisp_messages.specs.Written.{written}
 use Rattle.lisp_nonces.specs.declared.fate.Fate.{Fate}
 use Rattle.lisp_nonces.specs.declared.fate.Fate.TheVariants.{Doubt}
@@ -19,10 +19,10 @@ use Rattle.lisp_nonces.specs.declared.fault.StoreFault.{StoreFault}
 use Rattle.lisp_nonces.specs.declared.fault.StoreFault.TheVariants as faults
 use Rattle.lisp_nonces.specs.Kept.{Kept, kept_at, with_value, number, InDoubt, NoneBelow, SameElsewhere}
 use Rattle.lisp_nonces.specs.Store.{StoreState}
-use Rattle.lisp_etr.specs.Config.{Settings, sent_pair}
+use Rattle.lisp_etr.specs.Config.{EtrConfigValue, sent_pair}
 use Rattle.lisp_etr.specs.Etr.{EtrState}
-use Rattle.lisp_etr.specs.Round.{started, sent}
-use Rattle.lisp_etr.specs.Sending.{last_nonce, registration_of, datagram_of, block_end, Settles, LeavesPair}
+use Rattle.lisp_etr.specs.Round.{first_round, round_after_send}
+use Rattle.lisp_etr.specs.Sending.{last_nonce, map_register_of, datagram_of, block_end, Settles, LeavesPair}
 use Rattle.lisp_etr.specs.declared.round.Round.{Round}
 use Rattle.lisp_etr.specs.declared.send_fault.SendFault.{SendFault}
 use Rattle.lisp_etr.specs.declared.send_fault.SendFault.TheVariants.{NoServer, NonceSpent, OutOfMemory, Store}
@@ -30,21 +30,21 @@ use Rattle.lisp_model.specs.declared.event.Event.TheVariants as events
 use Rattle.lisp_model.specs.declared.line.Line.{Line}
 use Rattle.lisp_model.specs.declared.line.Line.TheVariants as lines
 use Rattle.lisp_model.specs.declared.refusal.Refusal.TheVariants as refusals
-use Rattle.lisp_model.specs.Trace.{Happening, Shown, Step, Opening, address_at, is_server, is_router, is_listed, router_at, settings, database, shown}
+use Rattle.lisp_model.specs.Trace.{EventValue, ShownStore, Step, Opening, address_at, is_server, is_router, is_listed, router_at, etr_config, database, shown_store}
 use Rattle.lisp_model.specs.Bag.{bytes_of, register_item}
-use Rattle.lisp_model.specs.Turn.{Turn, Same, SameOthers, MaySave, Saves, SaveFails, IsBase, Rose, values, values_after}
+use Rattle.lisp_model.specs.Context.{Context, Same, SameOthers, MaySave, Saves, SaveFails, IsBase, Rose, values, values_after}
 use Rattle.lisp_model.specs.Sending.{pair_at, last_sent, start_values, CountsFrom, IsSent, NotSaved, RefusesToSend}
 use Rattle.lisp_model.specs.Legal.{MayCome}
 use Rattle.lisp_model.proofs.HearingLemmas.{find_true}
 use Rattle.lisp_model.proofs.Locality.{same_number}
-use Rattle.lisp_refinement.specs.World.{Posted, RouterNode, RouterCore, Up, Down, WorldState}
-use Rattle.lisp_refinement.specs.Calls.{IsSentTo, IsWhy, IsNotSent, SendsTo}
-use Rattle.lisp_refinement.specs.Turns.{address_of, place_of, SaysSend, SendsUp, SendsAt, SendsFrom}
+use Rattle.lisp_refinement.specs.World.{DatagramValue, RouterNodeState, RouterCoreState, Up, Down, WorldState}
+use Rattle.lisp_refinement.specs.Calls.{CoreSends, IsSendFaultOf, CoreRefusesToSend, CoreAnswersSend}
+use Rattle.lisp_refinement.specs.Events.{address_of, place_of, SaysSendAnswer, UpRouterSends, RouterSends, NetworkSends}
 use Rattle.lisp_refinement.specs.Stands.{shown_by, Shows, Carries, StandsForRound, StandsForEtr, StandsForCore, StandsForRouter, Stands, StandsAfter}
 use Rattle.lisp_refinement.proofs.Acting.{adds_none, adds_one, by_fate, Shown-in, uses_shown, address_is}
 use Rattle.lisp_refinement.proofs.Heads.{head_written}
 use Rattle.lisp_refinement.proofs.Places.{Placed, first_place, any_found}
-use Rattle.lisp_refinement.proofs.RouterTurns.{step_of, turn_at, shown_now, RouterStep, moved, acts_router, acts_part, acts_shows, acts_once, stands_by}
+use Rattle.lisp_refinement.proofs.RouterEvents.{step_of, turn_at, shown_now, RouterStep, moved, acts_router, acts_part, acts_shows, acts_once, stands_by}
 use Rattle.lisp_refinement.proofs.RouterRounds.{sent_here, sent_there, rounds_set}
 
 -- the place of a server in a list, or none
@@ -74,17 +74,17 @@ nowhere_of servers server place high (inl there) = absurd (let low = slice_get_w
 nowhere_of servers server place high (inr none) = none.1
 
 -- a router that is up, and is asked to send to a server
-module _ (old : WorldState) (o : Opening) (T : List Step) (stand : Stands old o T) (router server : ℕ) (fate : Fate) (before : RouterNode) (kind : is_router o.config router ≡ true) (known : is_server o.config server ≡ true)
+module _ (old : WorldState) (o : Opening) (T : List Step) (stand : Stands old o T) (router server : ℕ) (fate : Fate) (before : RouterNodeState) (kind : is_router o.config router ≡ true) (known : is_server o.config server ≡ true)
     (part : StandsForRouter o T router before) (once : AllPairs (λ a b. a ≢ b) (router_at o.config router).servers)
-    (e etr : EtrState) (own : StandsForEtr o T router e) (armed called after : StoreState) (uses : Shown-in fate armed called after (shown o T router)) where
+    (e etr : EtrState) (own : StandsForEtr o T router e) (armed called after : StoreState) (uses : Shown-in fate armed called after (shown_store o T router)) where
   -- what its store shows after the call; the turn, the event and its rows; the server's place; the router afterwards
-  abbrev after_it : Shown
+  abbrev after_it : ShownStore
   after_it = shown_by called
 
-  abbrev turn : Turn
+  abbrev turn : Context
   turn = turn_at o T router fate after_it
 
-  abbrev event : Happening
+  abbrev event : EventValue
   event = events.Send router server fate
 
   abbrev Row : Line → Type 0
@@ -93,7 +93,7 @@ module _ (old : WorldState) (o : Opening) (T : List Step) (stand : Stands old o 
   abbrev place : ℕ
   place = place_of before.servers server
 
-  abbrev left : RouterNode
+  abbrev left : RouterNodeState
   left = record before { core = Up etr; store = after }
 
   -- the place is that in the trace's list
@@ -102,33 +102,33 @@ module _ (old : WorldState) (o : Opening) (T : List Step) (stand : Stands old o 
 
   -- the router has as many servers
   as_many : length e.config.servers ≡ length (router_at o.config router).servers
-  as_many = ap (λ (c : Settings). length c.servers) own.config ∙ length-map (router_at o.config router).servers (address_at o.config)
+  as_many = ap (λ (c : EtrConfigValue). length c.servers) own.config ∙ length-map (router_at o.config router).servers (address_at o.config)
 
   -- what is said of the list that was kept, and of the list that is, for the router's pair
   carried : (P : List (Option ℕ) → List (Option ℕ) → Type 0) → P (kept_at armed.kept (sent_pair e.config)) (kept_at called.kept (sent_pair e.config)) → P (values turn (pair_at o T router)) (values_after turn (pair_at o T router))
-  carried P said = subst (λ (p : Kept × Settings). P (kept_at p.0 (sent_pair p.1)) (kept_at called.kept (sent_pair p.1))) {x = (armed.kept, e.config)} {y = ((shown o T router).kept, settings o T router)} (λ i. (uses.armed_shows.kept i, own.config i)) said
+  carried P said = subst (λ (p : Kept × EtrConfigValue). P (kept_at p.0 (sent_pair p.1)) (kept_at called.kept (sent_pair p.1))) {x = (armed.kept, e.config)} {y = ((shown_store o T router).kept, etr_config o T router)} (λ i. (uses.armed_shows.kept i, own.config i)) said
 
   -- no other list changed
   others_carried : SameElsewhere armed.kept called.kept (sent_pair e.config) → SameOthers turn (pair_at o T router)
-  others_carried said = subst (λ (p : Kept × Settings). SameElsewhere p.0 called.kept (sent_pair p.1)) {x = (armed.kept, e.config)} {y = ((shown o T router).kept, settings o T router)} (λ i. (uses.armed_shows.kept i, own.config i)) said
+  others_carried said = subst (λ (p : Kept × EtrConfigValue). SameElsewhere p.0 called.kept (sent_pair p.1)) {x = (armed.kept, e.config)} {y = ((shown_store o T router).kept, etr_config o T router)} (λ i. (uses.armed_shows.kept i, own.config i)) said
 
   -- no value is below what is safe: before the call, after it, and after the step
   safe_before : NoneBelow e.safe (kept_at armed.kept (sent_pair e.config))
-  safe_before = subst (λ (p : Kept × Settings). NoneBelow e.safe (kept_at p.0 (sent_pair p.1))) {x = ((shown o T router).kept, settings o T router)} {y = (armed.kept, e.config)} (λ i. (sym uses.armed_shows.kept i, sym own.config i)) own.safe
+  safe_before = subst (λ (p : Kept × EtrConfigValue). NoneBelow e.safe (kept_at p.0 (sent_pair p.1))) {x = ((shown_store o T router).kept, etr_config o T router)} {y = (armed.kept, e.config)} (λ i. (sym uses.armed_shows.kept i, sym own.config i)) own.safe
 
   safe_after : (n : ℕ) → NoneBelow n (kept_at called.kept (sent_pair e.config)) → NoneBelow n (values_after turn (pair_at o T router))
   safe_after n none = carried (λ was is. NoneBelow n is) none
 
-  safe_now : (n : ℕ) (line : Line) → NoneBelow n (values_after turn (pair_at o T router)) → NoneBelow n (kept_at (shown o (step_of event router after_it line ∷ T) router).kept (pair_at o T router))
-  safe_now n line none = subst (λ (x : Shown). NoneBelow n (kept_at x.kept (pair_at o T router))) (sym (shown_now o T event router after_it line)) none
+  safe_now : (n : ℕ) (line : Line) → NoneBelow n (values_after turn (pair_at o T router)) → NoneBelow n (kept_at (shown_store o (step_of event router after_it line ∷ T) router).kept (pair_at o T router))
+  safe_now n line none = subst (λ (x : ShownStore). NoneBelow n (kept_at x.kept (pair_at o T router))) (sym (shown_now o T event router after_it line)) none
 
   -- a Map-Register went out
-  module _ (bytes : List ℕ) (call : IsSentTo e etr armed called place old.clock bytes) where
+  module _ (bytes : List ℕ) (call : CoreSends e etr armed called place old.clock bytes) where
     -- its line, and what was posted
     abbrev said : Line
     said = lines.Sent router server e.config.key_id (e.last + 1) (length old.bag)
 
-    abbrev datagram : Posted
+    abbrev datagram : DatagramValue
     datagram = record { from = address_of old router; to = address_of old server; bytes = bytes }
 
     -- the server is listed
@@ -136,11 +136,11 @@ module _ (old : WorldState) (o : Opening) (T : List Step) (stand : Stands old o 
     found = there_of (router_at o.config router).servers server place (let within = call.within in let many = as_many in omega (arith, within, many)) placed
 
     -- the message fits the format
-    known_message : IsRegistration (registration_of (settings o T router) (database o T router) (e.last + 1))
-    known_message = subst (λ (p : Settings × List Mapping). IsRegistration (registration_of p.0 p.1 (e.last + 1))) {x = (e.config, e.database)} {y = (settings o T router, database o T router)} (λ i. (own.config i, own.database i)) call.known
+    known_message : IsMapRegister (map_register_of (etr_config o T router) (database o T router) (e.last + 1))
+    known_message = subst (λ (p : EtrConfigValue × List MapRecordValue). IsMapRegister (map_register_of p.0 p.1 (e.last + 1))) {x = (e.config, e.database)} {y = (etr_config o T router, database o T router)} (λ i. (own.config i, own.database i)) call.known
 
     -- what was saved
-    sent_saves : Saves turn (pair_at o T router) (e.last + 1) (block_end (e.last + 1) (settings o T router).nonce_block)
+    sent_saves : Saves turn (pair_at o T router) (e.last + 1) (block_end (e.last + 1) (etr_config o T router).nonce_block)
     sent_saves = record {
       here = settled (cases_lt e.safe (e.last + 1));
       none_below = safe_after (e.last + 1) (λ v has. let safe = call.safe in let high = call.keeps_safe uses.armed_shows.honest safe_before v has in omega (arith, safe, high));
@@ -148,13 +148,13 @@ module _ (old : WorldState) (o : Opening) (T : List Step) (stand : Stands old o 
     }
       where
         -- a save of the end of the block, as the fate lets it be done
-        by : (e.safe < e.last + 1) → Settles (values turn (pair_at o T router)) (values_after turn (pair_at o T router)) (e.last + 1) (settings o T router).nonce_block → (values_after turn (pair_at o T router) ≡ values turn (pair_at o T router)) ⊎ ((values_after turn (pair_at o T router) ≡ Some (block_end (e.last + 1) (settings o T router).nonce_block) ∷ []) × MaySave turn)
+        by : (e.safe < e.last + 1) → Settles (values turn (pair_at o T router)) (values_after turn (pair_at o T router)) (e.last + 1) (etr_config o T router).nonce_block → (values_after turn (pair_at o T router) ≡ values turn (pair_at o T router)) ⊎ ((values_after turn (pair_at o T router) ≡ Some (block_end (e.last + 1) (etr_config o T router).nonce_block) ∷ []) × MaySave turn)
         by above (inl same) = inl same
-        by above (inr bound) = inr (bound, by_fate (λ f. f ≢ Doubt) fate armed (shown o T router) uses.armed_shows uses.fated (call.saves above))
+        by above (inr bound) = inr (bound, by_fate (λ f. f ≢ Doubt) fate armed (shown_store o T router) uses.armed_shows uses.fated (call.saves above))
 
         -- where nothing had to be saved the store wasn't asked
-        settled : (e.safe < e.last + 1) ⊎ (e.last + 1 ≤ e.safe) → (values_after turn (pair_at o T router) ≡ values turn (pair_at o T router)) ⊎ ((values_after turn (pair_at o T router) ≡ Some (block_end (e.last + 1) (settings o T router).nonce_block) ∷ []) × MaySave turn)
-        settled (inl above) = by above (subst (λ (c : Settings). Settles (values turn (pair_at o T router)) (values_after turn (pair_at o T router)) (e.last + 1) c.nonce_block) own.config (carried (λ was is. Settles was is (e.last + 1) e.config.nonce_block) (call.settles uses.armed_shows.honest)))
+        settled : (e.safe < e.last + 1) ⊎ (e.last + 1 ≤ e.safe) → (values_after turn (pair_at o T router) ≡ values turn (pair_at o T router)) ⊎ ((values_after turn (pair_at o T router) ≡ Some (block_end (e.last + 1) (etr_config o T router).nonce_block) ∷ []) × MaySave turn)
+        settled (inl above) = by above (subst (λ (c : EtrConfigValue). Settles (values turn (pair_at o T router)) (values_after turn (pair_at o T router)) (e.last + 1) c.nonce_block) own.config (carried (λ was is. Settles was is (e.last + 1) e.config.nonce_block) (call.settles uses.armed_shows.honest)))
         settled (inr below) = inl (carried (λ was is. is ≡ was) (ap (λ (x : StoreState). kept_at x.kept (sent_pair e.config)) (call.unasked below)))
 
     -- the row of the line
@@ -163,7 +163,7 @@ module _ (old : WorldState) (o : Opening) (T : List Step) (stand : Stands old o 
       acts = record { kind = kind; acts = refl; state = own.up };
       kind = known;
       listed = found.1;
-      under = ap (λ (c : Settings). c.key_id) own.config;
+      under = ap (λ (c : EtrConfigValue). c.key_id) own.config;
       base = own.last.0;
       counts = own.last.1;
       next = ap (λ n. n + 1) own.last.2;
@@ -179,7 +179,7 @@ module _ (old : WorldState) (o : Opening) (T : List Step) (stand : Stands old o 
     sent_carries = record {
       from = address_is old o T stand router;
       to = address_is old o T stand server;
-      bytes = call.datagram ∙ (λ i. signed (own.config i).secret (written (Registers (registration_of (own.config i) (own.database i) (e.last + 1)))));
+      bytes = call.datagram ∙ (λ i. signed (own.config i).secret (written (Registers (map_register_of (own.config i) (own.database i) (e.last + 1)))));
       message = known_message;
     }
 
@@ -188,13 +188,13 @@ module _ (old : WorldState) (o : Opening) (T : List Step) (stand : Stands old o 
     sent_counts = subst (λ b. IsBase (if b then Some (e.last + 1) else last_sent T router) (start_values o T router) (Some (e.last + 1))) (sym (same_number router)) refl
 
     -- the server has a round
-    round_there : slice_get e.rounds place ≡ Some (slice_index_or e.rounds place (started 0))
-    round_there = slice_get-get_or e.rounds place (started 0) (let low = slice_get_within (router_at o.config router).servers place server found.0 in let count = own.count in omega (arith, low, count))
+    round_there : slice_get e.rounds place ≡ Some (slice_index_or e.rounds place (first_round 0))
+    round_there = slice_get-get_or e.rounds place (first_round 0) (let low = slice_get_within (router_at o.config router).servers place server found.0 in let count = own.count in omega (arith, low, count))
 
     -- all rounds stand
     sent_rounds : (i k : ℕ) (r : Round) → slice_get (router_at o.config router).servers i ≡ Some k → slice_get etr.rounds i ≡ Some r → StandsForRound (step_of event router after_it said ∷ T) router k r
-    sent_rounds i k r listed is = rounds_set T (step_of event router after_it said ∷ T) router (router_at o.config router).servers e.rounds place server (sent (e.last + 1) old.clock (slice_index_or e.rounds place (started 0))) once found.0
-        (sent_here T event router after_it server e.config.key_id (e.last + 1) (length old.bag) old.clock (slice_index_or e.rounds place (started 0)) stand.bag.moment (own.rounds place server (slice_index_or e.rounds place (started 0)) found.0 round_there))
+    sent_rounds i k r listed is = rounds_set T (step_of event router after_it said ∷ T) router (router_at o.config router).servers e.rounds place server (round_after_send (e.last + 1) old.clock (slice_index_or e.rounds place (first_round 0))) once found.0
+        (sent_here T event router after_it server e.config.key_id (e.last + 1) (length old.bag) old.clock (slice_index_or e.rounds place (first_round 0)) stand.bag.moment (own.rounds place server (slice_index_or e.rounds place (first_round 0)) found.0 round_there))
         (sent_there T event router after_it server e.config.key_id (e.last + 1) (length old.bag)) own.rounds i k r listed (ap (λ (rs : List Round). slice_get rs i) (sym call.sends.rounds) ∙ is)
 
     -- and so does the router
@@ -205,7 +205,7 @@ module _ (old : WorldState) (o : Opening) (T : List Step) (stand : Stands old o 
       database = call.sends.database ∙ own.database;
       last = (Some (e.last + 1), sent_counts, call.sends.last);
       safe = safe_now etr.safe said (safe_after etr.safe (call.keeps_safe uses.armed_shows.honest safe_before));
-      count = ap length call.sends.rounds ∙ length-set e.rounds place (sent (e.last + 1) old.clock (slice_index_or e.rounds place (started 0))) ∙ own.count;
+      count = ap length call.sends.rounds ∙ length-set e.rounds place (round_after_send (e.last + 1) old.clock (slice_index_or e.rounds place (first_round 0))) ∙ own.count;
       rounds = sent_rounds;
     }
 
@@ -223,12 +223,12 @@ module _ (old : WorldState) (o : Opening) (T : List Step) (stand : Stands old o 
     -- what its line says is what stands in the datagram
     head_is : (head : Head) → head_at bytes ≡ Some head → ◌≡◌ {A = Head} head (record { key_id = e.config.key_id; nonce = e.last + 1 })
     head_is head read =
-        let wrote : head_at (datagram_of e.config e.database (e.last + 1)) ≡ Some (record { key_id = e.config.key_id; nonce = e.last + 1 }) = head_written e.config.secret (Registers (registration_of e.config e.database (e.last + 1))) call.known in
+        let wrote : head_at (datagram_of e.config e.database (e.last + 1)) ≡ Some (record { key_id = e.config.key_id; nonce = e.last + 1 }) = head_written e.config.secret (Registers (map_register_of e.config e.database (e.last + 1))) call.known in
         let both : ◌≡◌ {A = Option Head} (Some head) (Some (record { key_id = e.config.key_id; nonce = e.last + 1 })) = sym read ∙ ap head_at call.datagram ∙ wrote in
         cc
 
   -- it was refused
-  module _ (fault : SendFault) (call : IsNotSent e etr armed called place fault) where
+  module _ (fault : SendFault) (call : CoreRefusesToSend e etr armed called place fault) where
     -- its line
     abbrev refused : Line
     refused = lines.Refused router (refusals.Send fault)
@@ -246,7 +246,7 @@ module _ (old : WorldState) (o : Opening) (T : List Step) (stand : Stands old o 
 
     -- the end of the block, by the trace's own words
     abbrev bound : ℕ
-    bound = block_end (number own.last.0 + 1) (settings o T router).nonce_block
+    bound = block_end (number own.last.0 + 1) (etr_config o T router).nonce_block
 
     bound_is : block_end (e.last + 1) e.config.nonce_block ≡ bound
     bound_is = λ i. block_end (own.last.2 i + 1) (own.config i).nonce_block
@@ -279,7 +279,7 @@ module _ (old : WorldState) (o : Opening) (T : List Step) (stand : Stands old o 
       memory = unmoved_by f is;
       sound = λ damaged. call.sound (is ∙ ap Store damaged);
       cause = cause_of f is;
-      may = λ other. by_fate (λ x. x ≡ Doubt) fate armed (shown o T router) uses.armed_shows uses.fated (call.save_fails (device f is other));
+      may = λ other. by_fate (λ x. x ≡ Doubt) fate armed (shown_store o T router) uses.armed_shows uses.fated (call.save_fails (device f is other));
       doubted = λ other obeys. subst (λ (n : ℕ). values_after turn (pair_at o T router) ≡ with_value (values turn (pair_at o T router)) n) bound_is
           (carried (λ was is. is ≡ with_value was (block_end (e.last + 1) e.config.nonce_block)) (call.doubted (device f is other) (subst (λ (b : Bool). IsTrue b) (sym uses.armed_shows.obedient) obeys)));
     }
@@ -294,7 +294,7 @@ module _ (old : WorldState) (o : Opening) (T : List Step) (stand : Stands old o 
     }
 
     -- each refusal has its row
-    refusal : (f : SendFault) → fault ≡ f → IsWhy e place f → RefusesToSend turn router server f
+    refusal : (f : SendFault) → fault ≡ f → IsSendFaultOf e place f → RefusesToSend turn router server f
     refusal NoServer is why = (nowhere_if why, unmoved (λ device. let clash : NoServer ≡ Store faults.Device = sym is ∙ device in cc))
     refusal NonceSpent is why = (listed_if why.0, (own.last.0, own.last.1, (let high = why.1 in let last = own.last.2 in omega (arith, high, last))), unmoved (λ device. let clash : NonceSpent ≡ Store faults.Device = sym is ∙ device in cc))
     refusal OutOfMemory is why = (listed_if why.0, own.last.0, own.last.1, (let low = why.1 in let last = own.last.2 in omega (arith, low, last)), unmoved (λ device. let clash : OutOfMemory ≡ Store faults.Device = sym is ∙ device in cc))
@@ -324,10 +324,10 @@ module _ (old : WorldState) (o : Opening) (T : List Step) (stand : Stands old o 
     }
 
 -- what comes of the event at a router, up or down
-module _ (old new : WorldState) (router server : ℕ) (fate : Fate) (line : Line) (sends : SendsFrom old new router server fate line) (o : Opening) (T : List Step) (stand : Stands old o T) where
+module _ (old new : WorldState) (router server : ℕ) (fate : Fate) (line : Line) (sends : NetworkSends old new router server fate line) (o : Opening) (T : List Step) (stand : Stands old o T) where
   -- the network stands for the trace with the step
   abbrev Sent-after : Type 0
-  Sent-after = (actor : ℕ) × (s : Shown) × Stands new o (step_of (events.Send router server fate) actor s line ∷ T)
+  Sent-after = (actor : ℕ) × (s : ShownStore) × Stands new o (step_of (events.Send router server fate) actor s line ∷ T)
 
   -- the server is one, and the router, its list and its store are what the trace says
   known_server : is_server o.config server ≡ true
@@ -339,44 +339,47 @@ module _ (old new : WorldState) (router server : ℕ) (fate : Fate) (line : Line
   part_here : StandsForRouter o T router sends.acts.before
   part_here = acts_part old new router sends.more sends.acts o T stand
 
-  shows_here : Shows sends.acts.before.store (shown o T router)
+  shows_here : Shows sends.acts.before.store (shown_store o T router)
   shows_here = acts_shows old new router sends.more sends.acts o T stand
 
   once_here : AllPairs (λ a b. a ≢ b) (router_at o.config router).servers
   once_here = acts_once old new router sends.more sends.acts o T stand
 
   -- with the step of the router it does
-  ends : (s : Shown) → RouterStep o T (events.Send router server fate) router s (MayCome (turn_at o T router fate s) (events.Send router server fate)) line sends.more sends.acts.after → Sent-after
+  ends : (s : ShownStore) → RouterStep o T (events.Send router server fate) router s (MayCome (turn_at o T router fate s) (events.Send router server fate)) line sends.more sends.acts.after → Sent-after
   ends s step = (router, s, stands_by old new router sends.more sends.acts o T stand (events.Send router server fate) s line refl step)
 
   -- the router is down
-  sends_down : (config : Settings) (db : List Mapping) → sends.acts.before.core ≡ Down config db → StandsForCore o T router (Down config db) → SendsAt old router server fate sends.acts.before sends.acts.after (Down config db) line sends.more → Sent-after
-  sends_down config db is core at = ends (shown o T router) (moved o T _ router (shown o T router) _ line (lines.Down router) sends.more [] sends.acts.after sends.acts.before at.1 at.2 at.0 (record {
+  sends_down : (config : EtrConfigValue) (db : List MapRecordValue) → sends.acts.before.core ≡ Down config db → StandsForCore o T router (Down config db) → RouterSends old router server fate sends.acts.before sends.acts.after (Down config db) line sends.more → Sent-after
+  sends_down config db is core at = ends (shown_store o T router) (moved o T _ router (shown_store o T router) _ line (lines.Down router) sends.more [] sends.acts.after sends.acts.before at.1 at.2 at.0 (record {
     row = (known_server, record { acts = record { kind = kind_here; acts = refl; state = core.0 }; names = refl; same = refl });
     count = omega arith;
     obedient = refl;
     adds = adds_none o T _ refl;
     shows = shows_here;
-    part = record { me = part_here.me; servers = part_here.servers; core = subst (λ (c : RouterCore). StandsForCore o (step_of (events.Send router server fate) router (shown o T router) (lines.Down router) ∷ T) router c) (sym is) core };
+    part = record { me = part_here.me; servers = part_here.servers; core = subst (λ (c : RouterCoreState). StandsForCore o (step_of (events.Send router server fate) router (shown_store o T router) (lines.Down router) ∷ T) router c) (sym is) core };
   }))
 
   module _ (e : EtrState) (own : StandsForEtr o T router e) where
     -- it sent, or refused to
-    sends_ok : (etr : EtrState) → sends.acts.after ≡ record sends.acts.before { core = Up etr; store = sends.acts.after.store } → (armed called : StoreState) → (uses : Shown-in fate armed called sends.acts.after.store (shown o T router)) → (answer : Result (List ℕ) SendFault)
-        → SendsTo e etr armed called (place_of sends.acts.before.servers server) old.clock answer → SaysSend old router server answer line sends.more → Sent-after
+    sends_ok : (etr : EtrState) → sends.acts.after ≡ record sends.acts.before { core = Up etr; store = sends.acts.after.store } → (armed called : StoreState) → (uses : Shown-in fate armed called sends.acts.after.store (shown_store o T router)) → (answer : Result (List ℕ) SendFault)
+        → CoreAnswersSend e etr armed called (place_of sends.acts.before.servers server) old.clock answer → SaysSendAnswer old router server answer line sends.more → Sent-after
     sends_ok etr is armed called uses (Ok bytes) call says = ends _ (moved o T _ router _ _ line _ sends.more _ sends.acts.after _
         (says.said ∙ ap (λ (h : Head). lines.Sent router server h.key_id h.nonce (length old.bag)) (head_is old o T stand router server fate sends.acts.before kind_here known_server part_here once_here e etr own armed called sends.acts.after.store uses bytes call says.head says.read))
         says.posts is (sent_step old o T stand router server fate sends.acts.before kind_here known_server part_here once_here e etr own armed called sends.acts.after.store uses bytes call))
     sends_ok etr is armed called uses (Err fault) call says = ends _ (moved o T _ router _ _ line _ sends.more _ sends.acts.after _ says.0 says.1 is
         (refused_step old o T stand router server fate sends.acts.before kind_here known_server part_here once_here e etr own armed called sends.acts.after.store uses fault call))
 
-    -- it is up
-    sends_up : SendsUp old router server fate sends.acts.before sends.acts.after e line sends.more → Sent-after
-    sends_up up = sends_ok up.etr up.is up.call.armed up.call.called (uses_shown sends.acts.before.store up.call.armed up.call.called sends.acts.after.store fate (shown o T router) shows_here up.call.uses) up.answer up.call.call up.says
+  -- it is up
+  sends_up : UpRouterSends old router server fate sends.acts.before sends.acts.after line sends.more → Sent-after
+  sends_up up =
+      let call = up.sends.call in
+      sends_ok up.sends.etr (subst (λ (core : RouterCoreState). StandsForCore o T router core) up.sends.was part_here.core) up.sends.left up.sends.is call.armed call.called
+      (uses_shown sends.acts.before.store call.armed call.called sends.acts.after.store fate (shown_store o T router) shows_here call.uses) up.answer call.call up.says
 
   -- up or down
-  sends_at : (core : RouterCore) → sends.acts.before.core ≡ core → StandsForCore o T router core → SendsAt old router server fate sends.acts.before sends.acts.after core line sends.more → Sent-after
-  sends_at (Up e) is own at = sends_up e own at
+  sends_at : (core : RouterCoreState) → sends.acts.before.core ≡ core → StandsForCore o T router core → RouterSends old router server fate sends.acts.before sends.acts.after core line sends.more → Sent-after
+  sends_at (Up e) is own at = sends_up at
   sends_at (Down config db) is core at = sends_down config db is core at
 
   -- whichever it is
@@ -384,5 +387,5 @@ module _ (old new : WorldState) (router server : ℕ) (fate : Fate) (line : Line
   sends_stand = sends_at sends.acts.before.core refl part_here.core sends.sends
 
 -- a router sends, refuses to, or is down, and the network stands for the trace with that step
-pub send_stands : (old new : WorldState) (router server : ℕ) (fate : Fate) (line : Line) → SendsFrom old new router server fate line → StandsAfter old new (events.Send router server fate) line
+pub send_stands : (old new : WorldState) (router server : ℕ) (fate : Fate) (line : Line) → NetworkSends old new router server fate line → StandsAfter old new (events.Send router server fate) line
 send_stands old new router server fate line sends o T stand = sends_stand old new router server fate line sends o T stand

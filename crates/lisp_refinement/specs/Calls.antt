@@ -4,8 +4,8 @@ use Rattle.std.specs.Prelude.{◌≡◌, ◌≢◌, ℕ, ◌+◌, ◌<◌, ◌�
 use Rattle.std.specs.Option.{unwrap_or}
 use Rattle.lisp_records.specs.declared.address.Addr.{Addr}
 use Rattle.lisp_records.specs.declared.router.RouterId.{RouterId}
-use Rattle.lisp_records.specs.Record.{Mapping}
-use Rattle.lisp_messages.specs.Message.{IsRegistration}
+use Rattle.lisp_records.specs.Record.{MapRecordValue}
+use Rattle.lisp_messages.specs.Message.{IsMapRegister}
 use Rattle.lisp_messages.specs.Reading.{HasHead, message_at}
 use Rattle.lisp_nonces.specs.declared.fate.Fate.{Fate}
 use Rattle.lisp_nonces.specs.declared.fate.Fate.TheVariants.{Done}
@@ -14,10 +14,10 @@ use Rattle.lisp_nonces.specs.declared.fault.StoreFault.TheVariants as faults
 use Rattle.lisp_nonces.specs.declared.pair.Pair.{Pair}
 use Rattle.lisp_nonces.specs.Kept.{kept_at, with_value, picked, IsKept, NoneBelow, SameElsewhere, Narrows}
 use Rattle.lisp_nonces.specs.Store.{StoreState, Rose, Proceeds, MaySave, MayFailSave}
-use Rattle.lisp_etr.specs.Config.{Settings, sent_pair}
+use Rattle.lisp_etr.specs.Config.{EtrConfigValue, sent_pair}
 use Rattle.lisp_etr.specs.Etr.{EtrState, etr_started}
-use Rattle.lisp_etr.specs.Hearing.{Gives, AnswerFits, TakesMemory, seen_at, after}
-use Rattle.lisp_etr.specs.Sending.{last_nonce, registration_of, datagram_of, block_end, Sends, Settles, LeavesPair}
+use Rattle.lisp_etr.specs.Hearing.{Gives, AnswerFits, TakesMemory, seen_at, etr_after}
+use Rattle.lisp_etr.specs.Sending.{last_nonce, map_register_of, datagram_of, block_end, EtrSends, Settles, LeavesPair}
 use Rattle.lisp_etr.specs.declared.notify_fault.NotifyFault.{NotifyFault}
 use Rattle.lisp_etr.specs.declared.notify_fault.NotifyFault.TheVariants as notify_faults
 use Rattle.lisp_etr.specs.declared.seen.Seen.{Seen}
@@ -30,11 +30,12 @@ use Rattle.lisp_admission.specs.declared.refused.Refused.TheVariants as refuseds
 use Rattle.lisp_admission.specs.declared.notice_fault.NoticeFault.{NoticeFault}
 use Rattle.lisp_lookup.specs.Table.{OneEach}
 use Rattle.lisp_server.specs.declared.took.Took.{Took}
-use Rattle.lisp_server.specs.Receiving.{Takes, Refuses}
+use Rattle.lisp_server.specs.Receiving.{ServerTakes, ServerRefuses}
 use Rattle.lisp_server.specs.SendNotice.{Announces, RefusesNotice}
-use Rattle.lisp_refinement.specs.World.{ServerNode, RouterNode, RouterCore, Up, Down}
+use Rattle.lisp_refinement.specs.World.{ServerNodeState, RouterNodeState, RouterCoreState, Up, Down}
 
--- a store was armed with a fate, which an obedient one shows, and nothing else changed; with `Done` that one fails no more
+-- a store was armed with a fate, which an obedient one shows, and nothing else changed; with `Done` that one fails no
+-- more
 pub record Arms (old : StoreState) (fate : Fate) (new : StoreState) : Type 0 where
   pub kept : new.kept ≡ old.kept
   pub count : new.faults ≡ old.faults
@@ -44,121 +45,149 @@ pub record Arms (old : StoreState) (fate : Fate) (new : StoreState) : Type 0 whe
   pub quiet : IsTrue old.is_obedient → fate ≡ Done → IsTrue new.is_quiet
 
 -- what an event makes of a store: armed for the call, used in it, and armed with `Done`
-pub record Uses (old : StoreState) (fate : Fate) (armed called new : StoreState) : Type 0 where
+pub record UsesStore (old : StoreState) (fate : Fate) (armed called new : StoreState) : Type 0 where
   pub arms : Arms old fate armed
   pub proceeds : Proceeds armed called
   pub disarms : Arms called Done new
 
 -- a Map-Server received bytes from an address
-pub record Receives {A : Type 0} (old new : ServerNode) (fate : Fate) (from : Addr) (bytes : List ℕ) (now : ℕ) (answer : Result (Took A) Refused) : Type 0 where
+pub record NodeReceives {A : Type 0} (old new : ServerNodeState) (fate : Fate) (from : Addr) (bytes : List ℕ) (now : ℕ)
+    (answer : Result (Took A) Refused) : Type 0 where
   pub armed : StoreState
   pub called : StoreState
-  pub uses : Uses old.store fate armed called new.store
-  pub taken : IfOk answer (λ took. Takes (message_at bytes) from bytes old.core new.core armed called now took)
-  pub refused : IfErr answer (λ why. Refuses (message_at bytes) from bytes old.core armed called why)
+  pub uses : UsesStore old.store fate armed called new.store
+  pub taken : IfOk answer (λ took. ServerTakes (message_at bytes) from bytes old.core new.core armed called now took)
+  pub refused : IfErr answer (λ why. ServerRefuses (message_at bytes) from bytes old.core armed called why)
   pub err : OnErr answer (new.core ≡ old.core)
   pub head : IsErrOf answer refuseds.OutOfMemory → HasHead bytes
 
 -- a Map-Server was asked to send a router a notice: to which address which bytes, or why not
-pub record Notifies (old new : ServerNode) (fate : Fate) (router : RouterId) (now : ℕ) (answer : Result (Addr × List ℕ) NoticeFault) : Type 0 where
+pub record NodeNotifies (old new : ServerNodeState) (fate : Fate) (router : RouterId) (now : ℕ)
+    (answer : Result (Addr × List ℕ) NoticeFault) : Type 0 where
   pub armed : StoreState
   pub called : StoreState
-  pub uses : Uses old.store fate armed called new.store
+  pub uses : UsesStore old.store fate armed called new.store
   pub announces : IfOk answer (λ x. Announces old.core new.core armed called router now x.0 x.1)
   pub refused : IfErr answer (λ fault. RefusesNotice old.core armed called router now fault)
   pub err : OnErr answer (new.core ≡ old.core)
   pub one_each : OneEach old.core.rows
 
+-- what a router's store keeps of the nonces that it sends under
+abbrev pub sent_kept : StoreState → EtrState → List (Option ℕ)
+sent_kept store e = kept_at store.kept (sent_pair e.config)
+
 -- a router that is up sent a Map-Register to the Map-Server at a place of its list
-pub record IsSentTo (old new : EtrState) (armed called : StoreState) (place now : ℕ) (bytes : List ℕ) : Type 0 where
+pub record CoreSends (old new : EtrState) (armed called : StoreState) (place now : ℕ) (bytes : List ℕ) : Type 0 where
   pub within : place < length old.config.servers
   pub left : old.last < last_nonce
   pub datagram : bytes ≡ datagram_of old.config old.database (old.last + 1)
-  pub known : IsRegistration (registration_of old.config old.database (old.last + 1))
-  pub sends : Sends old new place now
+  pub known : IsMapRegister (map_register_of old.config old.database (old.last + 1))
+  pub sends : EtrSends old new place now
   pub safe : old.last + 1 ≤ new.safe
-  pub keeps_safe : IsTrue armed.is_honest → NoneBelow old.safe (kept_at armed.kept (sent_pair old.config)) → NoneBelow new.safe (kept_at called.kept (sent_pair old.config))
-  pub settles : IsTrue armed.is_honest → Settles (kept_at armed.kept (sent_pair old.config)) (kept_at called.kept (sent_pair old.config)) (old.last + 1) old.config.nonce_block
+  pub keeps_safe : IsTrue armed.is_honest → NoneBelow old.safe (sent_kept armed old)
+      → NoneBelow new.safe (sent_kept called old)
+  pub settles : IsTrue armed.is_honest
+      → Settles (sent_kept armed old) (sent_kept called old) (old.last + 1) old.config.nonce_block
   pub unasked : old.last + 1 ≤ old.safe → called ≡ armed
   pub saves : old.safe < old.last + 1 → MaySave armed
   pub others : IsTrue armed.is_honest → SameElsewhere armed.kept called.kept (sent_pair old.config)
 
 -- why it didn't: the first reason that applies
-abbrev pub IsWhy : EtrState → ℕ → SendFault → Type 0
-IsWhy e place NoServer = length e.config.servers ≤ place
-IsWhy e place NonceSpent = (place < length e.config.servers) × (last_nonce ≤ e.last)
-IsWhy e place _ = (place < length e.config.servers) × (e.last < last_nonce)
+abbrev pub IsSendFaultOf : EtrState → ℕ → SendFault → Type 0
+IsSendFaultOf e place NoServer = length e.config.servers ≤ place
+IsSendFaultOf e place NonceSpent = (place < length e.config.servers) × (last_nonce ≤ e.last)
+IsSendFaultOf e place _ = (place < length e.config.servers) × (e.last < last_nonce)
 
-pub record IsNotSent (old new : EtrState) (armed called : StoreState) (place : ℕ) (fault : SendFault) : Type 0 where
-  pub why : IsWhy old place fault
+pub record CoreRefusesToSend (old new : EtrState) (armed called : StoreState) (place : ℕ) (fault : SendFault)
+    : Type 0 where
+  pub why : IsSendFaultOf old place fault
   pub err : new ≡ old
-  pub keeps_safe : IsTrue armed.is_honest → NoneBelow old.safe (kept_at armed.kept (sent_pair old.config)) → NoneBelow old.safe (kept_at called.kept (sent_pair old.config))
-  pub leaves : IsTrue armed.is_honest → LeavesPair (kept_at armed.kept (sent_pair old.config)) (kept_at called.kept (sent_pair old.config)) (old.last + 1) old.config.nonce_block
+  pub keeps_safe : IsTrue armed.is_honest → NoneBelow old.safe (sent_kept armed old)
+      → NoneBelow old.safe (sent_kept called old)
+  pub leaves : IsTrue armed.is_honest
+      → LeavesPair (sent_kept armed old) (sent_kept called old) (old.last + 1) old.config.nonce_block
   pub others : IsTrue armed.is_honest → SameElsewhere armed.kept called.kept (sent_pair old.config)
   pub refused : fault ≢ Store faults.Device → called ≡ armed
   pub cause : fault ≡ Store faults.Device → Rose armed called
   pub sound : fault ≢ Store faults.Damaged
   pub save_fails : fault ≡ Store faults.Device → MayFailSave armed
-  pub doubted : fault ≡ Store faults.Device → IsTrue armed.is_obedient → kept_at called.kept (sent_pair old.config) ≡ with_value (kept_at armed.kept (sent_pair old.config)) (block_end (old.last + 1) old.config.nonce_block)
+  pub doubted : fault ≡ Store faults.Device → IsTrue armed.is_obedient
+      → sent_kept called old ≡ with_value (sent_kept armed old) (block_end (old.last + 1) old.config.nonce_block)
 
-abbrev pub SendsTo : EtrState → EtrState → StoreState → StoreState → ℕ → ℕ → Result (List ℕ) SendFault → Type 0
-SendsTo old new armed called place now (Ok bytes) = IsSentTo old new armed called place now bytes
-SendsTo old new armed called place now (Err fault) = IsNotSent old new armed called place fault
+abbrev pub CoreAnswersSend : EtrState → EtrState → StoreState → StoreState → ℕ → ℕ → Result (List ℕ) SendFault → Type 0
+CoreAnswersSend old new armed called place now (Ok bytes) = CoreSends old new armed called place now bytes
+CoreAnswersSend old new armed called place now (Err fault) = CoreRefusesToSend old new armed called place fault
 
 -- its store used in that
-pub record SendsOver (old new : EtrState) (before after : StoreState) (fate : Fate) (place now : ℕ) (answer : Result (List ℕ) SendFault) : Type 0 where
+pub record CoreAnswersSendOver (old new : EtrState) (before etr_after : StoreState) (fate : Fate) (place now : ℕ)
+    (answer : Result (List ℕ) SendFault) : Type 0 where
   pub armed : StoreState
   pub called : StoreState
-  pub uses : Uses before fate armed called after
-  pub call : SendsTo old new armed called place now answer
+  pub uses : UsesStore before fate armed called etr_after
+  pub call : CoreAnswersSend old new armed called place now answer
 
 -- a router that is up received bytes from an address
-pub record Hears {A : Type 0} (old new : EtrState) (from : Addr) (bytes : List ℕ) (answer : Result (Seen A) NotifyFault) : Type 0 where
+pub record CoreHears {A : Type 0} (old new : EtrState) (from : Addr) (bytes : List ℕ)
+    (answer : Result (Seen A) NotifyFault) : Type 0 where
   pub gives : Gives (λ seen. seen) answer (seen_at {A = A} old from bytes)
-  pub after : new ≡ after old answer
+  pub after : new ≡ etr_after old answer
   pub fits : IfOk answer (λ seen. AnswerFits old.config.key_id seen)
   pub grows : IsErrOf answer notify_faults.OutOfMemory → TakesMemory old.config from bytes
 
 -- a router starts, or doesn't and is down
-pub record IsStarted (config : Settings) (database : List Mapping) (now : ℕ) (before after : StoreState) (core : RouterCore) : Type 0 where
+pub record CoreStarts (config : EtrConfigValue) (database : List MapRecordValue) (now : ℕ)
+    (before etr_after : StoreState) (core : RouterCoreState) : Type 0 where
   pub etr : EtrState
   pub up : core ≡ Up etr
   pub starts : etr ≡ etr_started config database etr.last now
   pub last : IsTrue before.is_honest → IsKept (kept_at before.kept (sent_pair config)) etr.last
 
-pub record IsNotStarted (config : Settings) (database : List Mapping) (before after : StoreState) (core : RouterCore) (fault : StartFault) : Type 0 where
+pub record CoreRefusesToStart (config : EtrConfigValue) (database : List MapRecordValue) (before etr_after : StoreState)
+    (core : RouterCoreState) (fault : StartFault) : Type 0 where
   pub down : core ≡ Down config database
-  pub cause : (f : StoreFault) → fault ≡ start_faults.Store f → f ≢ faults.OutOfMemory → Rose before after
+  pub cause : (f : StoreFault) → fault ≡ start_faults.Store f → f ≢ faults.OutOfMemory → Rose before etr_after
 
-abbrev pub Starts : Settings → List Mapping → ℕ → StoreState → StoreState → RouterCore → Result (Unit {0}) StartFault → Type 0
-Starts config database now before after core (Ok done) = IsStarted config database now before after core
-Starts config database now before after core (Err fault) = IsNotStarted config database before after core fault
+abbrev pub CoreAnswersStart : EtrConfigValue → List MapRecordValue → ℕ → StoreState → StoreState → RouterCoreState
+    → Result (Unit {0}) StartFault → Type 0
+CoreAnswersStart config database now before etr_after core (Ok done) =
+    CoreStarts config database now before etr_after core
+CoreAnswersStart config database now before etr_after core (Err fault) =
+    CoreRefusesToStart config database before etr_after core fault
 
 -- a router starts over its store
-pub record StartsOver (config : Settings) (database : List Mapping) (now : ℕ) (before after : StoreState) (core : RouterCore) (answer : Result (Unit {0}) StartFault) : Type 0 where
-  pub starts : Starts config database now before after core answer
-  pub same : IsTrue before.is_honest → after.kept ≡ before.kept
-  pub proceeds : Proceeds before after
+pub record CoreAnswersStartOver (config : EtrConfigValue) (database : List MapRecordValue) (now : ℕ)
+    (before etr_after : StoreState) (core : RouterCoreState) (answer : Result (Unit {0}) StartFault) : Type 0 where
+  pub starts : CoreAnswersStart config database now before etr_after core answer
+  pub same : IsTrue before.is_honest → etr_after.kept ≡ before.kept
+  pub proceeds : Proceeds before etr_after
 
 -- a store after a crash: of an obedient one the value at a place is left, or the last
-pub record Restarts (old new : StoreState) (pick : ℕ) : Type 0 where
+pub record StoreRestarts (old new : StoreState) (pick : ℕ) : Type 0 where
   pub narrows : IsTrue old.is_honest → (q : Pair) → Narrows (kept_at old.kept q) (kept_at new.kept q)
   pub picks : IsTrue old.is_obedient → (q : Pair) → kept_at new.kept q ≡ picked (kept_at old.kept q) pick ∷ []
   pub proceeds : Proceeds old new
 
 -- what a router is configured with, and what it registers
-abbrev pub config_of : RouterCore → Settings
+abbrev pub config_of : RouterCoreState → EtrConfigValue
 config_of (Up e) = e.config
 config_of (Down config database) = config
 
-abbrev pub database_of : RouterCore → List Mapping
+abbrev pub database_of : RouterCoreState → List MapRecordValue
 database_of (Up e) = e.database
 database_of (Down config database) = database
 
+-- a router starts as it stands, with another database where one is given
+abbrev pub NodeStarts : RouterNodeState → RouterNodeState → Option (List MapRecordValue) → ℕ
+    → Result (Unit {0}) StartFault → Type 0
+NodeStarts old new db now answer =
+    CoreAnswersStartOver (config_of old.core) (unwrap_or db (database_of old.core)) now
+    old.store new.store new.core answer
+
 -- a router stopped, its store crashed, and it started again, with another database where one is given
-pub record RestartsRouter (old new : RouterNode) (pick : ℕ) (db : Option (List Mapping)) (now : ℕ) (answer : Result (Unit {0}) StartFault) : Type 0 where
+pub record NodeRestarts (old new : RouterNodeState) (pick : ℕ) (db : Option (List MapRecordValue)) (now : ℕ)
+    (answer : Result (Unit {0}) StartFault) : Type 0 where
   pub me : new.me ≡ old.me
   pub servers : new.servers ≡ old.servers
   pub crashed : StoreState
-  pub crashes : Restarts old.store crashed pick
-  pub starts : StartsOver (config_of old.core) (unwrap_or db (database_of old.core)) now crashed new.store new.core answer
+  pub crashes : StoreRestarts old.store crashed pick
+  pub starts : NodeStarts (record old { store = crashed }) new db now answer

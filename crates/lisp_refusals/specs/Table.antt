@@ -1,7 +1,9 @@
 -- Which rows of a table have a number, and what is written of them.
-use Rattle.std.specs.Prelude.{ℕ, Bool, List, [], ◌∷◌, ◌++◌, codes, Option, Some, None, nat_eq, if◌then◌else◌}
+use Rattle.std.specs.Prelude.{◌≡◌, ℕ, Bool, List, [], ◌∷◌, ◌++◌, codes, Option, Some, None, nat_eq, if◌then◌else◌}
 use Rattle.std.specs.List.{list_any, find, flat_map}
 use Rattle.std.specs.Fmt.{decimal}
+use Rattle.std.specs.Io.KnownBytes.{Appends}
+use Rattle.lisp_refusals.specs.Numbers.{HasNumbers}
 use Rattle.lisp_refusals.specs.declared.row.Row.{Row}
 use Rattle.lisp_refusals.specs.declared.row.Section.{Section}
 
@@ -29,6 +31,10 @@ first_remedy number (Some section) = remedy_of (find (has_number number) section
 abbrev pub remedy_in : ℕ → List Section → Option (List ℕ)
 remedy_in number sections = first_remedy number (find (has_row number) sections)
 
+-- that is what a table with the numbers says, where it says anything
+abbrev pub IsRemedy : ℕ → Option (List ℕ) → Type 0
+IsRemedy number remedy = (sections : List Section) × HasNumbers sections × (remedy ≡ remedy_in number sections)
+
 -- a mark, where a text is there
 unfoldable pub mark_at : List ℕ → List ℕ → List ℕ
 mark_at [] mark = []
@@ -39,14 +45,18 @@ unfoldable pub row_text : Section → Row → List ℕ
 row_text section row = decimal row.number
     ++ flat_map (λ text. text) (mark_at row.carried.now (codes " ") ∷ row.carried.now ∷ mark_at row.name.now (codes ", ") ∷ row.name.now ∷ codes " (" ∷ section.title.now ∷ codes ")\n  meaning: " ∷ row.meaning.now ∷ mark_at row.status.now (codes "\n  status: ") ∷ row.status.now ∷ codes "\n  what to do: " ∷ row.remedy.now ∷ codes "\n" ∷ [])
 
--- the text of a row, where it has the number
-abbrev pub row_text_if : ℕ → Section → Row → List ℕ
-row_text_if number section row = if has_number number row then row_text section row else []
+-- the entry of a row: its text, where it has the number
+abbrev pub entry : ℕ → Section → Row → List ℕ
+entry number section row = if has_number number row then row_text section row else []
 
 -- the text of the rows of a section with the number
 abbrev pub section_text : ℕ → Section → List ℕ
-section_text number section = flat_map (row_text_if number section) section.rows.now
+section_text number section = flat_map (entry number section) section.rows.now
 
 -- the text of all rows with the number
 abbrev pub explained : ℕ → List Section → List ℕ
 explained number sections = flat_map (section_text number) sections
+
+-- to what a writer held, all that a table with the numbers says of a number was added
+abbrev pub Explains : ℕ → Option (List ℕ) → Option (List ℕ) → Type 0
+Explains number old new = (sections : List Section) × HasNumbers sections × Appends old new (explained number sections)

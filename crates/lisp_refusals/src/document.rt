@@ -1,12 +1,9 @@
 //! The whole document.
 
-ghost use Rattle.std.specs.Prelude.{◌≡◌, ◌++◌, ℕ, List, OnOk, IfErr, codes};
-ghost use Rattle.std.specs.List.{flat_map};
+ghost use Rattle.std.specs.Prelude.{◌≡◌, ◌++◌, OnOk, IfErr, codes};
 ghost use Rattle.std.specs.Fmt.{decimal};
-ghost use Rattle.std.specs.Io.KnownBytes.{Appends};
-ghost use Rattle.lisp_refusals.specs.Numbers.{HasNumbers};
-ghost use Rattle.lisp_refusals.specs.Document.{document, section_document, section_head, row_line};
-ghost use Rattle.lisp_refusals.specs.declared.row.Section.{Section};
+ghost use Rattle.lisp_refusals.specs.Output.{joined, Writes};
+ghost use Rattle.lisp_refusals.specs.Document.{WritesDocument, body, section_document, section_head, row_line};
 ghost use Rattle.lisp_refusals.specs.declared.fault.ExplainFault.TheVariants as faults;
 
 use crate::fault::ExplainFault;
@@ -17,7 +14,7 @@ use std::io::Write;
 
 /// Writes the whole table in Markdown, as docs/REFUSALS.md has it.
 pub fn explain_all<W: Write>(writer: &mut W) -> Result<(), ExplainFault>
-    ensures ok { OnOk result ((opening : List ℕ) × (sections : List Section) × HasNumbers sections × Appends (W.contents writer.old) (W.contents writer.new) (document opening sections)) }
+    ensures ok { OnOk result (WritesDocument (W.contents writer.old) (W.contents writer.new)) }
     ensures fault { IfErr result (λ fault. fault ≡ faults.Write) }
 {
     write_text(opening(), writer)?;
@@ -25,7 +22,7 @@ pub fn explain_all<W: Write>(writer: &mut W) -> Result<(), ExplainFault>
 }
 
 fn write_sections<W: Write>(sections: &[Section], writer: &mut W) -> Result<(), ExplainFault>
-    ensures ok { OnOk result (Appends (W.contents writer.old) (W.contents writer.new) (flat_map section_document sections.now)) }
+    ensures ok { Writes result W.contents writer.old writer.new (body sections.now) }
     ensures fault { IfErr result (λ fault. fault ≡ faults.Write) }
 {
     for section in sections {
@@ -36,7 +33,7 @@ fn write_sections<W: Write>(sections: &[Section], writer: &mut W) -> Result<(), 
 
 #[tactic(auto, using(crate::proofs::Writing::appends_more))]
 fn write_section<W: Write>(section: &Section, writer: &mut W) -> Result<(), ExplainFault>
-    ensures ok { OnOk result (Appends (W.contents writer.old) (W.contents writer.new) (section_document section.now)) }
+    ensures ok { Writes result W.contents writer.old writer.new (section_document section.now) }
     ensures fault { IfErr result (λ fault. fault ≡ faults.Write) }
 {
     write_texts(&texts_before_rows(section), writer)?;
@@ -49,7 +46,7 @@ fn write_section<W: Write>(section: &Section, writer: &mut W) -> Result<(), Expl
 // What stands before the rows of a section.
 #[tactic(auto, unfolding(crate::specs::Document::section_head))]
 fn texts_before_rows(section: &Section) -> [&'static str; 6]
-    ensures { flat_map (λ text. text.now) result ≡ section_head section.now }
+    ensures { joined result ≡ section_head section.now }
 {
     [
         "\n## ",
@@ -64,7 +61,7 @@ fn texts_before_rows(section: &Section) -> [&'static str; 6]
 // Writes the line of a row.
 #[tactic(auto, using(crate::proofs::Writing::appends_two))]
 fn write_row<W: Write>(row: &Row, writer: &mut W) -> Result<(), ExplainFault>
-    ensures ok { OnOk result (Appends (W.contents writer.old) (W.contents writer.new) (row_line row.now)) }
+    ensures ok { Writes result W.contents writer.old writer.new (row_line row.now) }
     ensures fault { IfErr result (λ fault. fault ≡ faults.Write) }
 {
     write_text("| ", writer)?;
@@ -75,7 +72,7 @@ fn write_row<W: Write>(row: &Row, writer: &mut W) -> Result<(), ExplainFault>
 // What stands behind the number in the line of a row.
 #[tactic(auto, unfolding(crate::specs::Document::row_line))]
 fn texts_behind_number(row: &Row) -> [&'static str; 14]
-    ensures { codes "| " ++ decimal row.now.number ++ flat_map (λ text. text.now) result ≡ row_line row.now }
+    ensures { codes "| " ++ decimal row.now.number ++ joined result ≡ row_line row.now }
 {
     [
         mark_at(row.carried, " `"),

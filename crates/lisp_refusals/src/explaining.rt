@@ -1,13 +1,12 @@
 //! What is known of one number.
 
-ghost use Rattle.std.specs.Prelude.{◌≡◌, ◌↔◌, ◌++◌, List, OnOk, IfErr, IsErrOf, true, false};
-ghost use Rattle.std.specs.List.{flat_map};
+ghost use Rattle.std.specs.Prelude.{◌≡◌, ◌↔◌, ◌++◌, OnOk, IfErr, IsErrOf, false};
 ghost use Rattle.std.specs.Fmt.{decimal};
-ghost use Rattle.std.specs.Io.KnownBytes.{Appends, Keeps};
-ghost use Rattle.lisp_refusals.specs.Numbers.{is_known, HasNumbers};
-ghost use Rattle.lisp_refusals.specs.Table.{has_row, is_in, explained, section_text, row_text_if, row_text};
-ghost use Rattle.lisp_refusals.specs.declared.row.Section.{Section};
-ghost use Rattle.lisp_refusals.specs.declared.fault.ExplainFault.{ExplainFault};
+ghost use Rattle.std.specs.Io.KnownBytes.{Keeps};
+ghost use Rattle.lisp_refusals.specs.Output.{joined, Writes};
+ghost use Rattle.lisp_refusals.specs.Numbers.{is_known};
+ghost use Rattle.lisp_refusals.specs.Table.{has_row, is_in, explained, section_text, entry, row_text, Explains};
+ghost use Rattle.lisp_refusals.specs.declared.fault.ExplainFault.TheVariants.{Unknown};
 ghost use Rattle.lisp_refusals.specs.declared.fault.ExplainFault.TheVariants as faults;
 
 use crate::fault::ExplainFault;
@@ -27,9 +26,9 @@ pub fn is_known(number: u16) -> bool
 /// Writes what is known of the number: for each row that has it the title of its section, what is printed behind the number,
 /// its name and its meaning, the exit status where it has one, and what an operator does about it.
 pub fn explain<W: Write>(number: u16, writer: &mut W) -> Result<(), ExplainFault>
-    ensures ok { OnOk result ((sections : List Section) × HasNumbers sections × Appends (W.contents writer.old) (W.contents writer.new) (explained number sections)) }
-    ensures unknown { IsErrOf result ExplainFault.Unknown ↔ (is_known number ≡ false) }
-    ensures kept { IsErrOf result ExplainFault.Unknown → Keeps (W.contents writer.old) (W.contents writer.new) }
+    ensures ok { OnOk result (Explains number (W.contents writer.old) (W.contents writer.new)) }
+    ensures unknown { IsErrOf result Unknown ↔ (is_known number ≡ false) }
+    ensures kept { IsErrOf result Unknown → Keeps (W.contents writer.old) (W.contents writer.new) }
 {
     if is_known(number) {
         explain_in(&sections(), number, writer)
@@ -58,7 +57,7 @@ fn explain_in<W: Write>(
     number: u16,
     writer: &mut W,
 ) -> Result<(), ExplainFault>
-    ensures ok { OnOk result (Appends (W.contents writer.old) (W.contents writer.new) (explained number sections.now)) }
+    ensures ok { Writes result W.contents writer.old writer.new (explained number sections.now) }
     ensures fault { IfErr result (λ fault. fault ≡ faults.Write) }
 {
     for section in sections {
@@ -73,7 +72,7 @@ fn explain_section<W: Write>(
     number: u16,
     writer: &mut W,
 ) -> Result<(), ExplainFault>
-    ensures ok { OnOk result (Appends (W.contents writer.old) (W.contents writer.new) (section_text number section.now)) }
+    ensures ok { Writes result W.contents writer.old writer.new (section_text number section.now) }
     ensures fault { IfErr result (λ fault. fault ≡ faults.Write) }
 {
     for row in section.rows {
@@ -89,7 +88,7 @@ fn explain_if<W: Write>(
     number: u16,
     writer: &mut W,
 ) -> Result<(), ExplainFault>
-    ensures ok { OnOk result (Appends (W.contents writer.old) (W.contents writer.new) (row_text_if number section.now row.now)) }
+    ensures ok { Writes result W.contents writer.old writer.new (entry number section.now row.now) }
     ensures fault { IfErr result (λ fault. fault ≡ faults.Write) }
 {
     if row.number == number {
@@ -102,7 +101,7 @@ fn explain_if<W: Write>(
 // Writes a row of a section.
 #[tactic(auto, using(crate::proofs::Writing::appends_two))]
 fn explain_row<W: Write>(section: &Section, row: &Row, writer: &mut W) -> Result<(), ExplainFault>
-    ensures ok { OnOk result (Appends (W.contents writer.old) (W.contents writer.new) (row_text section.now row.now)) }
+    ensures ok { Writes result W.contents writer.old writer.new (row_text section.now row.now) }
     ensures fault { IfErr result (λ fault. fault ≡ faults.Write) }
 {
     write_number(row.number, writer)?;
@@ -112,7 +111,7 @@ fn explain_row<W: Write>(section: &Section, row: &Row, writer: &mut W) -> Result
 // What is told of a row behind its number.
 #[tactic(auto, unfolding(crate::specs::Table::row_text))]
 fn texts_behind_number(section: &Section, row: &Row) -> [&'static str; 13]
-    ensures { decimal row.now.number ++ flat_map (λ text. text.now) result ≡ row_text section.now row.now }
+    ensures { decimal row.now.number ++ joined result ≡ row_text section.now row.now }
 {
     [
         mark_at(row.carried, " "),

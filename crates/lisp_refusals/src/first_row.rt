@@ -1,11 +1,9 @@
 //! What an operator does about a number.
 
-ghost use Rattle.std.specs.Prelude.{◌≡◌, List};
+ghost use Rattle.std.specs.Prelude.{◌≡◌};
 ghost use Rattle.std.specs.Option.{option_map};
 ghost use Rattle.std.specs.List.{find};
-ghost use Rattle.lisp_refusals.specs.Numbers.{HasNumbers};
-ghost use Rattle.lisp_refusals.specs.Table.{has_number, has_row, remedy_in};
-ghost use Rattle.lisp_refusals.specs.declared.row.Section.{Section};
+ghost use Rattle.lisp_refusals.specs.Table.{has_number, has_row, remedy_in, IsRemedy};
 
 use crate::explaining::has_row;
 use crate::row::{Row, Section};
@@ -13,7 +11,7 @@ use crate::table::sections;
 
 /// What an operator does about the number, of the first row that has it, in the order of the table; `None` where no row has it.
 pub fn remedy(number: u16) -> Option<&'static str>
-    ensures value { (sections : List Section) × HasNumbers sections × (option_map (λ text. text.now) result ≡ remedy_in number sections) }
+    ensures value { IsRemedy number (option_map (λ text. text.now) result) }
 {
     remedy_in(&sections(), number)
 }

@@ -1,9 +1,8 @@
 //! Writing texts and numbers.
 
-ghost use Rattle.std.specs.Prelude.{◌≡◌, OnOk, IfErr};
-ghost use Rattle.std.specs.List.{flat_map};
+ghost use Rattle.std.specs.Prelude.{◌≡◌, IfErr};
 ghost use Rattle.std.specs.Fmt.{decimal};
-ghost use Rattle.std.specs.Io.KnownBytes.{Appends};
+ghost use Rattle.lisp_refusals.specs.Output.{joined, Writes};
 ghost use Rattle.lisp_refusals.specs.Table.{mark_at};
 ghost use Rattle.lisp_refusals.specs.declared.fault.ExplainFault.TheVariants as faults;
 
@@ -12,7 +11,7 @@ use std::io::Write;
 
 /// Writes texts, one after the other.
 pub(crate) fn write_texts<W: Write>(texts: &[&str], writer: &mut W) -> Result<(), ExplainFault>
-    ensures ok { OnOk result (Appends (W.contents writer.old) (W.contents writer.new) (flat_map (λ text. text.now) texts.now)) }
+    ensures ok { Writes result W.contents writer.old writer.new (joined texts.now) }
     ensures fault { IfErr result (λ fault. fault ≡ faults.Write) }
 {
     for text in texts {
@@ -23,7 +22,7 @@ pub(crate) fn write_texts<W: Write>(texts: &[&str], writer: &mut W) -> Result<()
 
 /// Writes a text.
 pub(crate) fn write_text<W: Write>(text: &str, writer: &mut W) -> Result<(), ExplainFault>
-    ensures ok { OnOk result (Appends (W.contents writer.old) (W.contents writer.new) text.now) }
+    ensures ok { Writes result W.contents writer.old writer.new text.now }
     ensures fault { IfErr result (λ fault. fault ≡ faults.Write) }
 {
     match writer.write_all(text.as_bytes()) {
@@ -34,7 +33,7 @@ pub(crate) fn write_text<W: Write>(text: &str, writer: &mut W) -> Result<(), Exp
 
 /// Writes a number in decimal digits.
 pub(crate) fn write_number<W: Write>(number: u16, writer: &mut W) -> Result<(), ExplainFault>
-    ensures ok { OnOk result (Appends (W.contents writer.old) (W.contents writer.new) (decimal number)) }
+    ensures ok { Writes result W.contents writer.old writer.new (decimal number) }
     ensures fault { IfErr result (λ fault. fault ≡ faults.Write) }
 {
     match write!(writer, "{number}") {

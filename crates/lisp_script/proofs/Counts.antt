@@ -1,20 +1,17 @@
 -- The words behind a verb, by their number.
-use Rattle.std.proofs.Common.{◌≡◌, ℕ, ◌-◌, ◌<◌, ◌≤◌, ◌≢◌, List, [], ◌∷◌, length, get_or, map, take, drop, Result, Err, Bor, refl, arith}
+use Rattle.std.proofs.Common.{◌≡◌, ℕ, ◌-◌, ◌<◌, ◌≤◌, ◌≢◌, List, [], ◌∷◌, length, get_or, take, drop, Result, Err, Bor, refl, arith}
 use Rattle.std.proofs.lemmas.Grind.{common_steps}
 use Rattle.lisp_records.specs.Result.{Reads}
-use Rattle.lisp_policy.specs.Configuration.{Configuration}
+use Rattle.lisp_policy.specs.Configuration.{ConfigValue}
 use Rattle.lisp_script.specs.declared.fault.ScriptWhat.TheVariants.{Count}
 use Rattle.lisp_script.specs.declared.verb.Verb.{Verb}
 use Rattle.lisp_script.specs.declared.verb.Verb.TheVariants as verbs
 use Rattle.lisp_script.specs.declared.fault.ScriptWhat.{ScriptWhat}
 use Rattle.lisp_script.specs.Fault.{Gives}
-use Rattle.lisp_script.specs.Order.{Order}
+use Rattle.lisp_script.specs.Command.{CommandValue}
+use Rattle.lisp_script.specs.Words.{texts}
 use Rattle.lisp_script.specs.Spelling.{change_of, restart_with, spelt}
 use Rattle.lisp_script.proofs.Faults.{reads_gives}
-
--- the texts of words
-abbrev pub texts : List (Bor (List ℕ)) → List (List ℕ)
-texts words = map (λ w. w.now) words
 
 pub one : (words : List (Bor (List ℕ))) (d : Bor (List ℕ)) → 1 ≤ length words → length words < 2 → texts words ≡ (get_or words 0 d).now ∷ []
 one [] d some few = absurd (omega arith)
@@ -35,7 +32,7 @@ three (a ∷ b ∷ e ∷ []) d some few = refl
 three (a ∷ b ∷ e ∷ f ∷ words) d some few = absurd (omega arith)
 
 -- more words than any verb takes that no records follow
-too_many : (c : Configuration) (verb : Verb) (a b e f : List ℕ) (words : List (List ℕ)) → verb ≢ verbs.Change → verb ≢ verbs.Restart → spelt c verb (a ∷ b ∷ e ∷ f ∷ words) ≡ Err Count
+too_many : (c : ConfigValue) (verb : Verb) (a b e f : List ℕ) (words : List (List ℕ)) → verb ≢ verbs.Change → verb ≢ verbs.Restart → spelt c verb (a ∷ b ∷ e ∷ f ∷ words) ≡ Err Count
 unfolding spelt
 too_many c verbs.Change a b e f words change restart = absurd (change refl)
 too_many c verbs.Send a b e f words change restart = refl
@@ -51,7 +48,7 @@ too_many c verbs.Ask a b e f words change restart = refl
 too_many c verbs.Due a b e f words change restart = refl
 
 -- no word behind a verb
-too_few : (c : Configuration) (verb : Verb) → spelt c verb [] ≡ Err Count
+too_few : (c : ConfigValue) (verb : Verb) → spelt c verb [] ≡ Err Count
 unfolding spelt
 too_few c verbs.Change = refl
 too_few c verbs.Send = refl
@@ -67,7 +64,7 @@ too_few c verbs.Ask = refl
 too_few c verbs.Due = refl
 
 -- a number of words that no verb takes that no records follow
-pub miscounted : (c : Configuration) (verb : Verb) (words : List (Bor (List ℕ))) → (1 ≤ length words → 4 ≤ length words) → verb ≢ verbs.Change → verb ≢ verbs.Restart → spelt c verb (texts words) ≡ Err Count
+pub miscounted : (c : ConfigValue) (verb : Verb) (words : List (Bor (List ℕ))) → (1 ≤ length words → 4 ≤ length words) → verb ≢ verbs.Change → verb ≢ verbs.Restart → spelt c verb (texts words) ≡ Err Count
 miscounted c verb [] many change restart = too_few c verb
 miscounted c verb (a ∷ []) many change restart = absurd (omega (arith, many))
 miscounted c verb (a ∷ b ∷ []) many change restart = absurd (omega (arith, many))
@@ -96,13 +93,13 @@ behind_two : (a b : Bor (List ℕ)) (words : List (Bor (List ℕ))) → take (le
 behind_two a b words = grind (arith, common_steps)
 
 -- a change with too few words, and with enough of them
-pub change_none : (c : Configuration) (words : List (Bor (List ℕ))) → length words < 2 → spelt c verbs.Change (texts words) ≡ Err Count
+pub change_none : (c : ConfigValue) (words : List (Bor (List ℕ))) → length words < 2 → spelt c verbs.Change (texts words) ≡ Err Count
 unfolding spelt
 change_none c [] few = refl
 change_none c (a ∷ []) few = refl
 change_none c (a ∷ b ∷ words) few = absurd (omega arith)
 
-pub change_more : {X : Type 0} (May : Type 0) (view : X → Order) (result : Result X ScriptWhat) (c : Configuration) (words : List (Bor (List ℕ))) (d : Bor (List ℕ)) → 2 ≤ length words
+pub change_more : {X : Type 0} (May : Type 0) (view : X → CommandValue) (result : Result X ScriptWhat) (c : ConfigValue) (words : List (Bor (List ℕ))) (d : Bor (List ℕ)) → 2 ≤ length words
     → Gives May view result (change_of c (get_or words 0 d).now (texts (take (length words - 1) (drop 1 words)))) → Gives May view result (spelt c verbs.Change (texts words))
 unfolding spelt
 change_more May view result c [] d some is = absurd (omega arith)
@@ -110,13 +107,13 @@ change_more May view result c (a ∷ []) d some is = absurd (omega arith)
 change_more May view result c (a ∷ b ∷ words) d some is = rw (behind_one a (b ∷ words)) at is
 
 -- the same for a restart
-pub restart_none : (c : Configuration) (words : List (Bor (List ℕ))) → length words < 2 → spelt c verbs.Restart (texts words) ≡ Err Count
+pub restart_none : (c : ConfigValue) (words : List (Bor (List ℕ))) → length words < 2 → spelt c verbs.Restart (texts words) ≡ Err Count
 unfolding spelt
 restart_none c [] few = refl
 restart_none c (a ∷ []) few = refl
 restart_none c (a ∷ b ∷ words) few = absurd (omega arith)
 
-pub restart_more : {X : Type 0} (May : Type 0) (view : X → Order) (result : Result X ScriptWhat) (c : Configuration) (words : List (Bor (List ℕ))) (d : Bor (List ℕ)) → 3 ≤ length words
+pub restart_more : {X : Type 0} (May : Type 0) (view : X → CommandValue) (result : Result X ScriptWhat) (c : ConfigValue) (words : List (Bor (List ℕ))) (d : Bor (List ℕ)) → 3 ≤ length words
     → Gives May view result (restart_with c (get_or words 0 d).now (get_or words 1 d).now (texts (take (length words - 2) (drop 2 words)))) → Gives May view result (spelt c verbs.Restart (texts words))
 unfolding spelt
 restart_more May view result c [] d some is = absurd (omega arith)

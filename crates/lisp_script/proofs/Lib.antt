@@ -7,3 +7,6 @@ mod Records
 mod Lines
 mod Counts
 mod Commands
+mod InputLemmas
+mod PartsLemmas
+mod Scheduled

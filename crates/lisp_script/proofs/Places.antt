@@ -3,7 +3,7 @@ use Rattle.std.proofs.Common.{◌≡◌, ℕ, zero, suc, ◌+◌, ◌*◌, ◌^�
 use Rattle.std.specs.List.{position_or_len}
 use Rattle.std.specs.Option.{option_map, ok_or}
 use Rattle.std.proofs.lemmas.Bool.{lt-ltb, le-ltb, cases_lt}
-use Rattle.lisp_policy.specs.Configuration.{Configuration}
+use Rattle.lisp_policy.specs.Configuration.{ConfigValue}
 use Rattle.lisp_script.specs.declared.fault.ScriptWhat.{ScriptWhat}
 use Rattle.lisp_script.specs.declared.fault.ScriptWhat.TheVariants.{Name}
 use Rattle.lisp_script.specs.Words.{is_word, node_of, server_of, router_of}
@@ -72,7 +72,7 @@ either_place (Some i) n later = refl
 either_place None n later = refl
 
 -- a node is that Map-Server, or else that router
-pub node_by_kind : (c : Configuration) (word : List ℕ) → node_of c word ≡ or_router (server_of c word) (router_of c word)
+pub node_by_kind : (c : ConfigValue) (word : List ℕ) → node_of c word ≡ or_router (server_of c word) (router_of c word)
 unfolding node_of server_of router_of
 node_by_kind c word =
     let named : List ℕ → Bool = λ name. is_word name word in
@@ -82,11 +82,11 @@ node_by_kind c word =
     ap (λ (o : Option ℕ). ok_or o Name) both ∙ either_place (position (λ s. is_word s.name word) c.servers) (length c.servers) (position (λ r. is_word r.name word) c.routers)
 
 -- a router by its place
-pub router_at : (c : Configuration) (word : List ℕ) (n : ℕ) (place : ℕ) → n ≡ length c.servers → position (λ r. is_word r.name word) c.routers ≡ Some place → Ok (n + place) ≡ router_of c word
+pub router_at : (c : ConfigValue) (word : List ℕ) (n : ℕ) (place : ℕ) → n ≡ length c.servers → position (λ r. is_word r.name word) c.routers ≡ Some place → Ok (n + place) ≡ router_of c word
 unfolding router_of
 router_at c word n place count at = rw (count, at) refl
 
-pub no_router : (c : Configuration) (word : List ℕ) → position (λ r. is_word r.name word) c.routers ≡ None → Err Name ≡ router_of c word
+pub no_router : (c : ConfigValue) (word : List ℕ) → position (λ r. is_word r.name word) c.routers ≡ None → Err Name ≡ router_of c word
 unfolding router_of
 no_router c word none = rw none refl
 

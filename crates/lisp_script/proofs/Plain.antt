@@ -5,7 +5,7 @@ use Rattle.hex.specs.Hex.{decode_of}
 use Rattle.lisp_records.specs.Result.{◌>>=◌}
 use Rattle.lisp_nonces.specs.declared.fate.Fate.{Fate}
 use Rattle.lisp_nonces.specs.declared.fate.Fate.TheVariants as fates
-use Rattle.lisp_policy.specs.Configuration.{Configuration}
+use Rattle.lisp_policy.specs.Configuration.{ConfigValue}
 use Rattle.lisp_script.specs.declared.fault.ScriptWhat.{ScriptWhat}
 use Rattle.lisp_script.specs.declared.fault.ScriptWhat.TheVariants as whats
 use Rattle.lisp_script.specs.declared.verb.Verb.{Verb}
@@ -56,15 +56,15 @@ hex e = absurd cc
 
 -- ---- single words
 
-node : (c : Configuration) (w : List ℕ) → Plain (node_of c w)
+node : (c : ConfigValue) (w : List ℕ) → Plain (node_of c w)
 unfolding node_of
 node c w = or_plain _ _ name
 
-server : (c : Configuration) (w : List ℕ) → Plain (server_of c w)
+server : (c : ConfigValue) (w : List ℕ) → Plain (server_of c w)
 unfolding server_of
 server c w = or_plain _ _ name
 
-router : (c : Configuration) (w : List ℕ) → Plain (router_of c w)
+router : (c : ConfigValue) (w : List ℕ) → Plain (router_of c w)
 unfolding router_of
 router c w = or_plain _ _ name
 
@@ -100,11 +100,11 @@ database (w ∷ v ∷ ws) = some (w ∷ v ∷ ws)
 
 -- ---- commands
 
-change : (c : Configuration) (r : List ℕ) (ws : List (List ℕ)) → Plain (change_of c r ws)
+change : (c : ConfigValue) (r : List ℕ) (ws : List (List ℕ)) → Plain (change_of c r ws)
 unfolding change_of
 change c r ws = then _ _ (router c r) (λ router. then _ _ (database ws) (λ db. tt))
 
-send : (c : Configuration) (r s : List ℕ) (becomes : Result Fate ScriptWhat) → Plain becomes → Plain (send_of c r s becomes)
+send : (c : ConfigValue) (r s : List ℕ) (becomes : Result Fate ScriptWhat) → Plain becomes → Plain (send_of c r s becomes)
 unfolding send_of
 send c r s becomes plain = then _ _ (router c r) (λ router. then _ _ (server c s) (λ server. then _ _ plain (λ fate. tt)))
 
@@ -112,22 +112,22 @@ deliver : (d : List ℕ) (becomes : Result Fate ScriptWhat) → Plain becomes �
 unfolding deliver_of
 deliver d becomes plain = then _ _ (numeral d) (λ k. then _ _ plain (λ fate. tt))
 
-notice : (c : Configuration) (s r : List ℕ) (becomes : Result Fate ScriptWhat) → Plain becomes → Plain (notice_of c s r becomes)
+notice : (c : ConfigValue) (s r : List ℕ) (becomes : Result Fate ScriptWhat) → Plain becomes → Plain (notice_of c s r becomes)
 unfolding notice_of
 notice c s r becomes plain = then _ _ (server c s) (λ server. then _ _ (router c r) (λ router. then _ _ plain (λ fate. tt)))
 
-restart : (c : Configuration) (n p : List ℕ) → Plain (restart_of c n p)
+restart : (c : ConfigValue) (n p : List ℕ) → Plain (restart_of c n p)
 unfolding restart_of
 restart c n p = then _ _ (node c n) (λ node. then _ _ (numeral p) (λ pick. tt))
 
-given : (c : Configuration) (n : ℕ) → Plain (given_to c n)
+given : (c : ConfigValue) (n : ℕ) → Plain (given_to c n)
 given c n = either (nat_lt n (length c.servers)) (Err whats.Name) (Ok n) name tt
 
-restart_given : (c : Configuration) (n p : List ℕ) (ws : List (List ℕ)) → Plain (restart_with c n p ws)
+restart_given : (c : ConfigValue) (n p : List ℕ) (ws : List (List ℕ)) → Plain (restart_with c n p ws)
 unfolding restart_with
 restart_given c n p ws = then _ _ (node c n) (λ node. then _ _ (numeral p) (λ pick. then _ _ (given c node) (λ router. then _ _ (database ws) (λ db. tt))))
 
-spelt_plain : (c : Configuration) (verb : Verb) (ws : List (List ℕ)) → Plain (spelt c verb ws)
+spelt_plain : (c : ConfigValue) (verb : Verb) (ws : List (List ℕ)) → Plain (spelt c verb ws)
 unfolding spelt
 spelt_plain c verbs.Change [] = count
 spelt_plain c verbs.Change (a ∷ []) = count
@@ -178,19 +178,19 @@ spelt_plain c verbs.Due (a ∷ b ∷ ws) = count
 
 -- ---- lines
 
-command : (c : Configuration) (w : List ℕ) (ws : List (List ℕ)) → Plain (command_of c w ws)
+command : (c : ConfigValue) (w : List ℕ) (ws : List (List ℕ)) → Plain (command_of c w ws)
 command c w ws = then (verb_of w) _ (or_plain _ _ word) (λ verb. spelt_plain c verb ws)
 
-words_plain : (c : Configuration) (ws : List (List ℕ)) → Plain (in_words c ws)
+words_plain : (c : ConfigValue) (ws : List (List ℕ)) → Plain (in_words c ws)
 words_plain c [] = tt
 words_plain c (w ∷ ws) = then (command_of c w ws) _ (command c w ws) (λ found. tt)
 
-line_plain : (c : Configuration) (line : List ℕ) → Plain (in_line c line)
+line_plain : (c : ConfigValue) (line : List ℕ) → Plain (in_line c line)
 line_plain c line = either (is_comment line) _ _ tt (words_plain c (words_of line))
 
 never : {X : Type 0} (read : Result X ScriptWhat) → Plain read → read ≢ Err whats.Memory
 never (Ok x) plain e = absurd cc
 never (Err what) plain e = plain cc
 
-pub in_line_plain : (c : Configuration) (line : List ℕ) → in_line c line ≢ Err whats.Memory
+pub in_line_plain : (c : ConfigValue) (line : List ℕ) → in_line c line ≢ Err whats.Memory
 in_line_plain c line = never (in_line c line) (line_plain c line)

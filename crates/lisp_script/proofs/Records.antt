@@ -1,17 +1,13 @@
 -- Reading records one after the other, as a loop does.
-use Rattle.std.proofs.Common.{◌≡◌, ℕ, ◌+◌, ◌<◌, ◌≤◌, true, codes, List, [], ◌∷◌, ◌++◌, length, get_or, map, drop, Some, None, Result, Ok, Err, Bor, refl, sym, ap, ◌∙◌, arith, add-one, append_assoc, drop-cons}
+use Rattle.std.proofs.Common.{◌≡◌, ℕ, ◌+◌, ◌<◌, ◌≤◌, true, codes, List, [], ◌∷◌, ◌++◌, length, get_or, drop, Some, None, Result, Ok, Err, Bor, refl, sym, ap, ◌∙◌, arith, add-one, append_assoc, drop-cons}
 use Rattle.std.proofs.lemmas.List.{append-nil, drop_all}
 use Rattle.lisp_records.specs.Database.{repeats}
-use Rattle.lisp_records.specs.Record.{Mapping}
+use Rattle.lisp_records.specs.Record.{MapRecordValue}
 use Rattle.lisp_records.specs.Result.{◌>>=◌}
 use Rattle.lisp_texts.specs.Reading.{record_text_of}
 use Rattle.lisp_script.specs.declared.fault.ScriptWhat.{ScriptWhat}
 use Rattle.lisp_script.specs.declared.fault.ScriptWhat.TheVariants.{Record}
-use Rattle.lisp_script.specs.Words.{is_word, records_in, some_records, database_in}
-
--- the texts that are lent
-abbrev pub texts : List (Bor (List ℕ)) → List (List ℕ)
-texts words = map (λ w. w.now) words
+use Rattle.lisp_script.specs.Words.{texts, is_word, records_in, some_records, database_in}
 
 -- what was read before, and what is still read
 abbrev pub with_front : {X E : Type 0} → List X → Result (List X) E → Result (List X) E
@@ -29,7 +25,7 @@ texts_step words i d lt =
     ap texts step
 
 -- one word is no record
-pub no_record : (front : List Mapping) (words : List (Bor (List ℕ))) (i : ℕ) (d : Bor (List ℕ)) (total : Result (List Mapping) ScriptWhat) → i < length words → None ≡ record_text_of (get_or words i d).now
+pub no_record : (front : List MapRecordValue) (words : List (Bor (List ℕ))) (i : ℕ) (d : Bor (List ℕ)) (total : Result (List MapRecordValue) ScriptWhat) → i < length words → None ≡ record_text_of (get_or words i d).now
     → with_front front (records_in (texts (drop i words))) ≡ total → total ≡ Err Record
 unfolding records_in
 no_record front words i d total lt none so_far =
@@ -37,7 +33,7 @@ no_record front words i d total lt none so_far =
     sym so_far ∙ one
 
 -- one more record is read
-pub goes_on : (front : List Mapping) (words : List (Bor (List ℕ))) (i : ℕ) (d : Bor (List ℕ)) (m : Mapping) (total : Result (List Mapping) ScriptWhat) → i < length words → Some m ≡ record_text_of (get_or words i d).now
+pub goes_on : (front : List MapRecordValue) (words : List (Bor (List ℕ))) (i : ℕ) (d : Bor (List ℕ)) (m : MapRecordValue) (total : Result (List MapRecordValue) ScriptWhat) → i < length words → Some m ≡ record_text_of (get_or words i d).now
     → with_front front (records_in (texts (drop i words))) ≡ total → with_front (front ++ m ∷ []) (records_in (texts (drop (i + 1) words))) ≡ total
 unfolding records_in
 goes_on front words i d m total lt read so_far =
@@ -46,7 +42,7 @@ goes_on front words i d m total lt read so_far =
     sym one ∙ so_far
 
 -- all records are read
-pub is_done : (front : List Mapping) (words : List (Bor (List ℕ))) (i : ℕ) (total : Result (List Mapping) ScriptWhat) → length words ≤ i
+pub is_done : (front : List MapRecordValue) (words : List (Bor (List ℕ))) (i : ℕ) (total : Result (List MapRecordValue) ScriptWhat) → length words ≤ i
     → with_front front (records_in (texts (drop i words))) ≡ total → total ≡ Ok front
 unfolding records_in
 is_done front words i total le so_far =

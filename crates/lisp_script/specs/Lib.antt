@@ -1,4 +1,10 @@
-pub mod Order
+pub mod Command
 pub mod Words
 pub mod Spelling
+pub mod Answers
 pub mod Fault
+pub mod PlayFault
+pub mod Input
+pub mod Parts
+pub mod Schedule
+pub mod RunFault

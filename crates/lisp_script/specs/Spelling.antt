@@ -7,7 +7,7 @@ use Rattle.std.specs.Str.Lines.{lines}
 use Rattle.lisp_records.specs.Result.{◌>>=◌}
 use Rattle.lisp_nonces.specs.declared.fate.Fate.{Fate}
 use Rattle.lisp_nonces.specs.declared.fate.Fate.TheVariants.{Done}
-use Rattle.lisp_policy.specs.Configuration.{Configuration}
+use Rattle.lisp_policy.specs.Configuration.{ConfigValue}
 use Rattle.lisp_model.specs.declared.event.Event.TheVariants as events
 use Rattle.lisp_script.specs.declared.command.Command.TheVariants.{Act, Hold, Acks, Ask, Due}
 use Rattle.lisp_script.specs.declared.verb.Verb.{Verb}
@@ -15,7 +15,7 @@ use Rattle.lisp_script.specs.declared.verb.Verb.TheVariants as verbs
 use Rattle.lisp_script.specs.declared.fault.ScriptWhat.{ScriptWhat}
 use Rattle.lisp_script.specs.declared.fault.ScriptWhat.TheVariants as whats
 use Rattle.lisp_script.specs.declared.fault.ScriptFault.{ScriptFault}
-use Rattle.lisp_script.specs.Order.{Order}
+use Rattle.lisp_script.specs.Command.{CommandValue}
 use Rattle.lisp_script.specs.Words.{words_of, is_word, node_of, server_of, router_of, number_in, address_in, bytes_in, doubt_in, fate_in, database_in}
 
 -- the first words
@@ -29,14 +29,14 @@ abbrev pub verb_of : List ℕ → Result Verb ScriptWhat
 verb_of word = ok_or (option_map (λ p. p.1) (find (λ p. is_word p.0 word) first_words)) whats.Word
 
 -- change R, with a database
-unfoldable pub change_of : Configuration → List ℕ → List (List ℕ) → Result Order ScriptWhat
+unfoldable pub change_of : ConfigValue → List ℕ → List (List ℕ) → Result CommandValue ScriptWhat
 change_of c r records = do
   router ← router_of c r
   db ← database_in records
   Ok (Act (events.Change router db))
 
 -- send R S
-unfoldable pub send_of : Configuration → List ℕ → List ℕ → Result Fate ScriptWhat → Result Order ScriptWhat
+unfoldable pub send_of : ConfigValue → List ℕ → List ℕ → Result Fate ScriptWhat → Result CommandValue ScriptWhat
 send_of c r s becomes = do
   router ← router_of c r
   server ← server_of c s
@@ -44,14 +44,14 @@ send_of c r s becomes = do
   Ok (Act (events.Send router server fate))
 
 -- deliver D
-unfoldable pub deliver_of : List ℕ → Result Fate ScriptWhat → Result Order ScriptWhat
+unfoldable pub deliver_of : List ℕ → Result Fate ScriptWhat → Result CommandValue ScriptWhat
 deliver_of d becomes = do
   k ← number_in d
   fate ← becomes
   Ok (Act (events.Deliver k fate))
 
 -- notice S R
-unfoldable pub notice_of : Configuration → List ℕ → List ℕ → Result Fate ScriptWhat → Result Order ScriptWhat
+unfoldable pub notice_of : ConfigValue → List ℕ → List ℕ → Result Fate ScriptWhat → Result CommandValue ScriptWhat
 notice_of c s r becomes = do
   server ← server_of c s
   router ← router_of c r
@@ -59,18 +59,18 @@ notice_of c s r becomes = do
   Ok (Act (events.Notice server router fate))
 
 -- a database is given to a router alone
-abbrev pub given_to : Configuration → ℕ → Result ℕ ScriptWhat
+abbrev pub given_to : ConfigValue → ℕ → Result ℕ ScriptWhat
 given_to c node = if nat_lt node (length c.servers) then Err whats.Name else Ok node
 
 -- restart N P
-unfoldable pub restart_of : Configuration → List ℕ → List ℕ → Result Order ScriptWhat
+unfoldable pub restart_of : ConfigValue → List ℕ → List ℕ → Result CommandValue ScriptWhat
 restart_of c n p = do
   node ← node_of c n
   pick ← number_in p
   Ok (Act (events.Restart node pick None))
 
 -- restart N P, with a database
-unfoldable pub restart_with : Configuration → List ℕ → List ℕ → List (List ℕ) → Result Order ScriptWhat
+unfoldable pub restart_with : ConfigValue → List ℕ → List ℕ → List (List ℕ) → Result CommandValue ScriptWhat
 restart_with c n p records = do
   node ← node_of c n
   pick ← number_in p
@@ -79,7 +79,7 @@ restart_with c n p records = do
   Ok (Act (events.Restart router pick (Some db)))
 
 -- a line of the table for each form of a command: what its words stand for
-unfoldable pub spelt : Configuration → Verb → List (List ℕ) → Result Order ScriptWhat
+unfoldable pub spelt : ConfigValue → Verb → List (List ℕ) → Result CommandValue ScriptWhat
 spelt c verbs.Change (r ∷ first ∷ more) = change_of c r (first ∷ more)
 spelt c verbs.Send (r ∷ s ∷ []) = send_of c r s (Ok Done)
 spelt c verbs.Send (r ∷ s ∷ doubt ∷ []) = send_of c r s (doubt_in doubt)
@@ -117,7 +117,7 @@ spelt c verbs.Due (n ∷ []) = do
 spelt c _ _ = Err whats.Count
 
 -- a command by its first word and the words behind it
-abbrev pub command_of : Configuration → List ℕ → List (List ℕ) → Result Order ScriptWhat
+abbrev pub command_of : ConfigValue → List ℕ → List (List ℕ) → Result CommandValue ScriptWhat
 command_of c word words = do
   verb ← verb_of word
   spelt c verb words
@@ -128,23 +128,23 @@ is_comment [] = false
 is_comment (b ∷ line) = b == 35
 
 -- a line has a command, or none where it is a comment or blank
-abbrev pub in_words : Configuration → List (List ℕ) → Result (Option Order) ScriptWhat
+abbrev pub in_words : ConfigValue → List (List ℕ) → Result (Option CommandValue) ScriptWhat
 in_words c [] = Ok None
 in_words c (word ∷ words) = do
   found ← command_of c word words
   Ok (Some found)
 
-abbrev pub in_line : Configuration → List ℕ → Result (Option Order) ScriptWhat
+abbrev pub in_line : ConfigValue → List ℕ → Result (Option CommandValue) ScriptWhat
 in_line c line = if is_comment line then Ok None else in_words c (words_of line)
 
 -- commands, and behind them that of a line
-abbrev pub with_line : Configuration → List Order → List ℕ → Result (List Order) ScriptWhat
+abbrev pub with_line : ConfigValue → List CommandValue → List ℕ → Result (List CommandValue) ScriptWhat
 with_line c before line = do
   found ← in_line c line
   Ok (before ++ option_to_list found)
 
 -- commands, and behind them that of the words of a line
-abbrev pub with_words : Configuration → List Order → List (List ℕ) → Result (List Order) ScriptWhat
+abbrev pub with_words : ConfigValue → List CommandValue → List (List ℕ) → Result (List CommandValue) ScriptWhat
 with_words c before words = do
   found ← in_words c words
   Ok (before ++ option_to_list found)
@@ -155,11 +155,11 @@ at_line number (Ok x) = Ok x
 at_line number (Err what) = Err (record { line = number; what = what })
 
 -- the commands of lines, numbered from a number on
-abbrev pub and_more : Option Order → List Order → List Order
+abbrev pub and_more : Option CommandValue → List CommandValue → List CommandValue
 and_more None orders = orders
 and_more (Some first) orders = first ∷ orders
 
-unfoldable pub in_lines : Configuration → ℕ → List (List ℕ) → Result (List Order) ScriptFault
+unfoldable pub in_lines : ConfigValue → ℕ → List (List ℕ) → Result (List CommandValue) ScriptFault
 in_lines c number [] = Ok []
 in_lines c number (line ∷ more) = do
   first ← at_line number (in_line c line)
@@ -167,7 +167,7 @@ in_lines c number (line ∷ more) = do
   Ok (and_more first others)
 
 -- the commands of a script
-abbrev pub script_of : Configuration → List ℕ → Result (List Order) ScriptFault
+abbrev pub script_of : ConfigValue → List ℕ → Result (List CommandValue) ScriptFault
 script_of c text = in_lines c 1 (lines text)
 
 -- a line that is neither a comment nor blank
@@ -175,7 +175,7 @@ abbrev pub HasWords : List ℕ → Type 0
 HasWords line = (is_comment line ≡ false) × (words_of line ≢ [])
 
 -- the line of a script with a number has words, and the lines before it are read without fault
-pub record IsReached (c : Configuration) (text : List ℕ) (number : ℕ) : Type 0 where
+pub record IsReached (c : ConfigValue) (text : List ℕ) (number : ℕ) : Type 0 where
   pub before : List (List ℕ)
   pub line : List ℕ
   pub behind : List (List ℕ)

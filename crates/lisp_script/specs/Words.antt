@@ -1,20 +1,25 @@
 -- What single words of a script stand for. Each is a value, or what is wrong with the word.
-use Rattle.std.specs.Prelude.{ℕ, ◌+◌, ◌==◌, Bool, nat_eq, nat_lt, List, [], ◌∷◌, length, codes, position, Result, Ok, Err, if◌then◌else◌}
+use Rattle.std.specs.Prelude.{ℕ, ◌+◌, ◌==◌, Bool, nat_eq, nat_lt, List, [], ◌∷◌, length, map, codes, position, Result, Ok, Err, if◌then◌else◌}
 use Rattle.std.specs.Cmp.Lexicographic.{pointwise}
 use Rattle.std.specs.List.{filter, slice_split}
 use Rattle.std.specs.Option.{option_map, ok_or}
+use denote.Ref.{Bor}
 use Rattle.hex.specs.Hex.{decode_of}
 use Rattle.lisp_records.specs.declared.address.Addr.{Addr}
-use Rattle.lisp_records.specs.Record.{Mapping}
+use Rattle.lisp_records.specs.Record.{MapRecordValue}
 use Rattle.lisp_records.specs.Database.{database_of}
 use Rattle.lisp_records.specs.Result.{◌>>=◌}
 use Rattle.lisp_nonces.specs.declared.fate.Fate.{Fate}
 use Rattle.lisp_nonces.specs.declared.fate.Fate.TheVariants.{Doubt, LoadFails}
 use Rattle.lisp_texts.specs.Number.{number_of}
 use Rattle.lisp_texts.specs.Reading.{address_of, record_text_of}
-use Rattle.lisp_policy.specs.Configuration.{Configuration, names}
+use Rattle.lisp_policy.specs.Configuration.{ConfigValue, names}
 use Rattle.lisp_script.specs.declared.fault.ScriptWhat.{ScriptWhat}
 use Rattle.lisp_script.specs.declared.fault.ScriptWhat.TheVariants.{Word, Name, Number, Record, Hex}
+
+-- the texts of words
+abbrev pub texts : List (Bor (List ℕ)) → List (List ℕ)
+texts words = map (λ w. w.now) words
 
 -- the words of a line, between spaces (32)
 abbrev pub words_of : List ℕ → List (List ℕ)
@@ -25,13 +30,13 @@ abbrev pub is_word : List ℕ → List ℕ → Bool
 is_word = pointwise nat_eq
 
 -- a node by its name, Map-Servers first; one that must be a Map-Server, or a router
-unfoldable pub node_of : Configuration → List ℕ → Result ℕ ScriptWhat
+unfoldable pub node_of : ConfigValue → List ℕ → Result ℕ ScriptWhat
 node_of c word = ok_or (position (λ name. is_word name word) (names c)) Name
 
-unfoldable pub server_of : Configuration → List ℕ → Result ℕ ScriptWhat
+unfoldable pub server_of : ConfigValue → List ℕ → Result ℕ ScriptWhat
 server_of c word = ok_or (position (λ s. is_word s.name word) c.servers) Name
 
-unfoldable pub router_of : Configuration → List ℕ → Result ℕ ScriptWhat
+unfoldable pub router_of : ConfigValue → List ℕ → Result ℕ ScriptWhat
 router_of c word = ok_or (option_map (λ i. length c.servers + i) (position (λ r. is_word r.name word) c.routers)) Name
 
 -- a decimal number, an address
@@ -57,18 +62,18 @@ abbrev pub fate_in : List ℕ → Result Fate ScriptWhat
 fate_in word = if is_word word (codes "loadfails") then Ok LoadFails else doubt_in word
 
 -- a database: the one word 'empty', or its records
-unfoldable pub records_in : List (List ℕ) → Result (List Mapping) ScriptWhat
+unfoldable pub records_in : List (List ℕ) → Result (List MapRecordValue) ScriptWhat
 records_in [] = Ok []
 records_in (word ∷ words) = do
   first ← ok_or (record_text_of word) Record
   others ← records_in words
   Ok (first ∷ others)
 
-abbrev pub some_records : List (List ℕ) → Result (List Mapping) ScriptWhat
+abbrev pub some_records : List (List ℕ) → Result (List MapRecordValue) ScriptWhat
 some_records words = do
   records ← records_in words
   or_fault Record (database_of records)
 
-abbrev pub database_in : List (List ℕ) → Result (List Mapping) ScriptWhat
+abbrev pub database_in : List (List ℕ) → Result (List MapRecordValue) ScriptWhat
 database_in (word ∷ []) = if is_word word (codes "empty") then Ok [] else some_records (word ∷ [])
 database_in words = some_records words

@@ -1,10 +1,9 @@
 //! Scripts.
 
-ghost use Rattle.std.specs.Prelude.{◌≡◌, ◌≢◌, [], map, Ok, Err, IfOk, IfErr};
-ghost use Rattle.lisp_script.specs.Fault.{Gives};
-ghost use Rattle.lisp_script.specs.Order.{order};
-ghost use Rattle.lisp_script.specs.Spelling.{script_of, with_words, with_line, is_comment, at_line, HasWords, IsReached};
-ghost use Rattle.lisp_script.specs.declared.fault.ScriptWhat.TheVariants.{Memory};
+ghost use Rattle.std.specs.Prelude.{◌≡◌, ◌≢◌, [], Err, IfOk, IfErr};
+ghost use Rattle.lisp_script.specs.Words.{texts};
+ghost use Rattle.lisp_script.specs.Spelling.{is_comment, at_line, HasWords};
+ghost use Rattle.lisp_script.specs.Answers.{AddsLine, AddsWords, IsScript, IsFirstFault, RunsOutWithinReach};
 
 use crate::command::Command;
 use crate::fault::{ScriptFault, ScriptWhat};
@@ -24,10 +23,10 @@ pub fn parse_script<A: Memory + Copy, E: Allocator>(
     config: &Config<E>,
     text: &str,
 ) -> Result<Vec<Command<A>, A>, ScriptFault>
-    ensures commands { IfOk result (λ commands. script_of config.now text.now ≡ Ok (map order commands.items)) }
-    ensures fault { IfErr result (λ fault. fault.what ≢ ScriptWhat.Memory → script_of config.now text.now ≡ Err fault) }
+    ensures commands { IfOk result (λ commands. IsScript config.now text.now commands.items) }
+    ensures fault { IfErr result (λ fault. IsFirstFault config.now text.now fault) }
     ensures memory { IfErr result (λ fault. fault.what ≡ ScriptWhat.Memory → A.may_refuse) }
-    ensures reached { IfErr result (λ fault. fault.what ≡ ScriptWhat.Memory → IsReached config.now text.now fault.line) }
+    ensures reached { IfErr result (λ fault. RunsOutWithinReach config.now text.now fault) }
 {
     let mut commands = Vec::new(alloc);
     for (place, line) in text.lines().enumerate() {
@@ -44,7 +43,7 @@ fn read_line<A: Memory + Copy, E: Allocator>(
     line: &str,
     commands: &mut Vec<Command<A>, A>,
 ) -> Result<(), ScriptWhat>
-    ensures gives { Gives A.may_refuse (λ _. map order commands.new.items) result (with_line config.now (map order commands.old.items) line.now) }
+    ensures gives { AddsLine A.may_refuse config.now line.now commands.old commands.new result }
     ensures asked { result ≡ Err ScriptWhat.Memory → HasWords line.now }
 {
     if is_comment(line) {
@@ -61,8 +60,8 @@ fn read_words<A: Memory + Copy, E: Allocator>(
     words: &[&str],
     commands: &mut Vec<Command<A>, A>,
 ) -> Result<(), ScriptWhat>
-    ensures gives { Gives A.may_refuse (λ _. map order commands.new.items) result (with_words config.now (map order commands.old.items) (map (λ w. w.now) words.now)) }
-    ensures asked { result ≡ Err ScriptWhat.Memory → map (λ w. w.now) words.now ≢ [] }
+    ensures gives { AddsWords A.may_refuse config.now words.now commands.old commands.new result }
+    ensures asked { result ≡ Err ScriptWhat.Memory → texts words.now ≢ [] }
 {
     let [word, words @ ..] = words else {
         return Ok(());

@@ -1,11 +1,11 @@
 //! What the words of a line spell: a command.
 
-ghost use Rattle.std.specs.Prelude.{◌≡◌, ◌≢◌, [], ◌∷◌, map};
+ghost use Rattle.std.specs.Prelude.{◌≡◌, [], ◌∷◌};
 ghost use Rattle.lisp_records.specs.Result.{Reads};
-ghost use Rattle.lisp_policy.specs.Configuration.{Configuration};
-ghost use Rattle.lisp_script.specs.Fault.{Gives};
-ghost use Rattle.lisp_script.specs.Order.{order};
-ghost use Rattle.lisp_script.specs.Spelling.{change_of, send_of, deliver_of, restart_of, restart_with, notice_of, given_to, spelt, command_of};
+ghost use Rattle.lisp_script.specs.Command.{command_value};
+ghost use Rattle.lisp_script.specs.Words.{texts};
+ghost use Rattle.lisp_script.specs.Spelling.{change_of, send_of, deliver_of, restart_of, notice_of, given_to, spelt, command_of};
+ghost use Rattle.lisp_script.specs.Answers.{GivesCommand, GivesRestart, Spells, SpellsPlainly};
 ghost use Rattle.lisp_script.specs.declared.verb.Verb.TheVariants as verbs;
 
 use crate::command::Command;
@@ -25,7 +25,7 @@ pub(crate) fn command<A: Memory + Copy, E: Allocator>(
     word: &str,
     words: &[&str],
 ) -> Result<Command<A>, ScriptWhat>
-    ensures { Gives A.may_refuse order result (command_of config.now word.now (map (λ w. w.now) words.now)) }
+    ensures { GivesCommand A.may_refuse result (command_of config.now word.now (texts words.now)) }
 {
     match Verb::from_word(word)? {
         Verb::Change => change(alloc, config, words),
@@ -41,7 +41,7 @@ fn counted<A: Memory + Copy, E: Allocator>(
     verb: Verb,
     words: &[&str],
 ) -> Result<Command<A>, ScriptWhat>
-    ensures { verb ≢ verbs.Change → verb ≢ verbs.Restart → Gives A.may_refuse order result (spelt config.now verb (map (λ w. w.now) words.now)) }
+    ensures { Spells A.may_refuse config.now verb (texts words.now) result }
 {
     match *words {
         [first] => with_one(config, verb, first),
@@ -58,7 +58,7 @@ fn with_one<A: Allocator, E: Allocator>(
     verb: Verb,
     first: &str,
 ) -> Result<Command<A>, ScriptWhat>
-    ensures { Reads order result (spelt config.now verb (first.now ∷ [])) }
+    ensures { Reads command_value result (spelt config.now verb (first.now ∷ [])) }
 {
     match verb {
         Verb::Deliver => delivered(first, Ok(Fate::Done)),
@@ -78,7 +78,7 @@ fn with_two<A: Allocator, E: Allocator>(
     first: &str,
     second: &str,
 ) -> Result<Command<A>, ScriptWhat>
-    ensures { verb ≢ verbs.Change → verb ≢ verbs.Restart → Reads order result (spelt config.now verb (first.now ∷ second.now ∷ [])) }
+    ensures { SpellsPlainly config.now verb (first.now ∷ second.now ∷ []) result }
 {
     match verb {
         Verb::Send => sent(config, first, second, Ok(Fate::Done)),
@@ -108,7 +108,7 @@ fn with_three<A: Memory + Copy, E: Allocator>(
     second: &str,
     third: &str,
 ) -> Result<Command<A>, ScriptWhat>
-    ensures { verb ≢ verbs.Change → verb ≢ verbs.Restart → Gives A.may_refuse order result (spelt config.now verb (first.now ∷ second.now ∷ third.now ∷ [])) }
+    ensures { Spells A.may_refuse config.now verb (first.now ∷ second.now ∷ third.now ∷ []) result }
 {
     match verb {
         Verb::Send => sent(config, first, second, doubt(third)),
@@ -129,7 +129,7 @@ fn change<A: Memory + Copy, E: Allocator>(
     config: &Config<E>,
     words: &[&str],
 ) -> Result<Command<A>, ScriptWhat>
-    ensures { Gives A.may_refuse order result (spelt config.now verbs.Change (map (λ w. w.now) words.now)) }
+    ensures { GivesCommand A.may_refuse result (spelt config.now verbs.Change (texts words.now)) }
 {
     match words {
         [] | [_] => Err(ScriptWhat::Count),
@@ -143,7 +143,7 @@ fn restart<A: Memory + Copy, E: Allocator>(
     config: &Config<E>,
     words: &[&str],
 ) -> Result<Command<A>, ScriptWhat>
-    ensures { Gives A.may_refuse order result (spelt config.now verbs.Restart (map (λ w. w.now) words.now)) }
+    ensures { GivesCommand A.may_refuse result (spelt config.now verbs.Restart (texts words.now)) }
 {
     match words {
         [] | [_] => Err(ScriptWhat::Count),
@@ -160,7 +160,7 @@ fn changed<A: Memory + Copy, E: Allocator>(
     name: &str,
     records: &[&str],
 ) -> Result<Command<A>, ScriptWhat>
-    ensures { Gives A.may_refuse order result (change_of config.now name.now (map (λ w. w.now) records.now)) }
+    ensures { GivesCommand A.may_refuse result (change_of config.now name.now (texts records.now)) }
 {
     let router = router(config, name)?;
     let db = database(alloc, records)?;
@@ -175,7 +175,7 @@ fn sent<A: Allocator, E: Allocator>(
     to: &str,
     becomes: Result<Fate, ScriptWhat>,
 ) -> Result<Command<A>, ScriptWhat>
-    ensures { Reads order result (send_of config.now from.now to.now becomes) }
+    ensures { Reads command_value result (send_of config.now from.now to.now becomes) }
 {
     let router = router(config, from)?;
     let server = server(config, to)?;
@@ -193,7 +193,7 @@ fn delivered<A: Allocator>(
     datagram: &str,
     becomes: Result<Fate, ScriptWhat>,
 ) -> Result<Command<A>, ScriptWhat>
-    ensures { Reads order result (deliver_of datagram.now becomes) }
+    ensures { Reads command_value result (deliver_of datagram.now becomes) }
 {
     let k = number(datagram)? as usize;
     let fate = becomes?;
@@ -207,7 +207,7 @@ fn restarted<A: Allocator, E: Allocator>(
     name: &str,
     pick: &str,
 ) -> Result<Command<A>, ScriptWhat>
-    ensures { Reads order result (restart_of config.now name.now pick.now) }
+    ensures { Reads command_value result (restart_of config.now name.now pick.now) }
 {
     let node = node(config, name)?;
     let pick = number(pick)?;
@@ -227,7 +227,7 @@ fn restarted_with<A: Memory + Copy, E: Allocator>(
     pick: &str,
     records: &[&str],
 ) -> Result<Command<A>, ScriptWhat>
-    ensures { Gives A.may_refuse order result (restart_with config.now name.now pick.now (map (λ w. w.now) records.now)) }
+    ensures { GivesRestart A.may_refuse config.now name.now pick.now records.now result }
 {
     let node = node(config, name)?;
     let pick = number(pick)?;
@@ -255,7 +255,7 @@ fn noticed<A: Allocator, E: Allocator>(
     to: &str,
     becomes: Result<Fate, ScriptWhat>,
 ) -> Result<Command<A>, ScriptWhat>
-    ensures { Reads order result (notice_of config.now from.now to.now becomes) }
+    ensures { Reads command_value result (notice_of config.now from.now to.now becomes) }
 {
     let server = server(config, from)?;
     let router = router(config, to)?;

@@ -1,8 +1,8 @@
 //! The words of a line, and what single words stand for.
 
-ghost use Rattle.std.specs.Prelude.{◌≡◌, ◌≢◌, [], map, position, IfOk, OnErr};
+ghost use Rattle.std.specs.Prelude.{◌≡◌, ◌≢◌, [], position, IfOk, OnErr};
 ghost use Rattle.lisp_script.specs.Fault.{Gives};
-ghost use Rattle.lisp_script.specs.Words.{words_of, is_word, node_of, server_of, router_of, number_in, address_in, bytes_in, doubt_in, fate_in, records_in, some_records, database_in};
+ghost use Rattle.lisp_script.specs.Words.{texts, words_of, is_word, node_of, server_of, router_of, number_in, address_in, bytes_in, doubt_in, fate_in, records_in, some_records, database_in};
 ghost use Rattle.lisp_script.specs.declared.fault.ScriptWhat.TheVariants.{Memory};
 
 use crate::fault::ScriptWhat;
@@ -15,7 +15,7 @@ use std::alloc::{AllocError, Allocator};
 
 /// The words of a line, which spaces separate.
 pub(crate) fn words<A: Memory>(alloc: A, line: &str) -> Result<Vec<&str, A>, AllocError>
-    ensures value { IfOk result (λ words. map (λ w. w.now) words.items ≡ words_of line.now) }
+    ensures value { IfOk result (λ words. texts words.items ≡ words_of line.now) }
     ensures memory { OnErr result A.may_refuse }
     ensures asked { OnErr result (words_of line.now ≢ []) }
 {
@@ -128,7 +128,7 @@ pub(crate) fn database<A: Memory + Copy>(
     alloc: A,
     words: &[&str],
 ) -> Result<Database<A>, ScriptWhat>
-    ensures { Gives A.may_refuse (λ db. db) result (database_in (map (λ w. w.now) words.now)) }
+    ensures { Gives A.may_refuse (λ db. db) result (database_in (texts words.now)) }
 {
     match *words {
         [word] if word == "empty" => some_records(alloc, &[]),
@@ -138,7 +138,7 @@ pub(crate) fn database<A: Memory + Copy>(
 
 // The database of records, a word each.
 fn some_records<A: Memory + Copy>(alloc: A, words: &[&str]) -> Result<Database<A>, ScriptWhat>
-    ensures { Gives A.may_refuse (λ db. db) result (some_records (map (λ w. w.now) words.now)) }
+    ensures { Gives A.may_refuse (λ db. db) result (some_records (texts words.now)) }
 {
     match Database::new(records(alloc, words)?) {
         Ok(db) => Ok(db),
@@ -148,7 +148,7 @@ fn some_records<A: Memory + Copy>(alloc: A, words: &[&str]) -> Result<Database<A
 
 // Records, a word each.
 fn records<A: Memory + Copy>(alloc: A, words: &[&str]) -> Result<Vec<MapRecord<A>, A>, ScriptWhat>
-    ensures { Gives A.may_refuse (λ records. records.items) result (records_in (map (λ w. w.now) words.now)) }
+    ensures { Gives A.may_refuse (λ records. records.items) result (records_in (texts words.now)) }
 {
     let mut records = Vec::new(alloc);
     for word in words {

@@ -2,7 +2,7 @@
 use Rattle.std.proofs.Common.{◌≡◌, ◌≤◌, ℕ, List, Option, Some, Result, Ok, Err, IfErr, IsOk, refl, sym, ◌∙◌, subst, arith}
 use Rattle.std.specs.Result.{IsErrOf}
 use Rattle.lisp_records.specs.declared.address.Addr.{Addr}
-use Rattle.lisp_messages.specs.Message.{Registers, Said}
+use Rattle.lisp_messages.specs.Message.{Registers, MessageValue}
 use Rattle.lisp_messages.specs.declared.fault.ReadFault.{ReadFault}
 use Rattle.lisp_nonces.specs.declared.fault.StoreFault.{StoreFault}
 use Rattle.lisp_nonces.specs.declared.fault.StoreFault.TheVariants as faults
@@ -14,7 +14,7 @@ use Rattle.lisp_server.specs.LastNonces.{nonce_at}
 use Rattle.lisp_server.specs.Server.{ServerState}
 use Rattle.lisp_server.specs.Checks.{Passed}
 use Rattle.lisp_admission.specs.Nonces.{IsBase, HasCause}
-use Rattle.lisp_server.specs.Receiving.{IsAboveAnyBase, IsAcceptable, Refuses}
+use Rattle.lisp_server.specs.Receiving.{IsAboveAnyBase, IsAcceptable, ServerRefuses}
 
 -- a fault of the store: it was refused memory, or a device failed
 uncaused : {N : Type 0} (fault : StoreFault) (before after : StoreState) → HasCause fault before after → (fault ≡ faults.OutOfMemory → N) → (N → ⊥) → (Rose before after → ⊥) → ⊥
@@ -28,8 +28,8 @@ passed_clash check p e passes fails = absurd (let clash : ◌≡◌ {A = Result 
 not_stale : (known : Option ℕ) (store : StoreState) (p : Passed) (saved : ℕ) → IsAboveAnyBase known store (pair_of p.message) p.message.nonce → IsBase known store (pair_of p.message) (Some saved) → p.message.nonce ≤ saved → ⊥
 not_stale known store p saved above base stale = (let lt = above (Some saved) base in absurd (omega (arith, lt, stale)))
 
-module _ {M N : Type 0} {said : Result Said ReadFault} {bytes : List ℕ} {old : ServerState} {before : StoreState} (from : Addr) (after : StoreState) (a : IsAcceptable said bytes old before) (roomy : M → ⊥) (keeps : N → ⊥) (sound : Rose before after → ⊥) where
-  never : (why : Refused) → Refuses (Ok (Registers a.register)) from bytes old before after why → (why ≡ refusals.OutOfMemory → M) → ((f : StoreFault) → why ≡ refusals.StoreLoad f → f ≡ faults.OutOfMemory → N) → ((f : StoreFault) → why ≡ refusals.StoreSave f → f ≡ faults.OutOfMemory → N) → ⊥
+module _ {M N : Type 0} {said : Result MessageValue ReadFault} {bytes : List ℕ} {old : ServerState} {before : StoreState} (from : Addr) (after : StoreState) (a : IsAcceptable said bytes old before) (roomy : M → ⊥) (keeps : N → ⊥) (sound : Rose before after → ⊥) where
+  never : (why : Refused) → ServerRefuses (Ok (Registers a.register)) from bytes old before after why → (why ≡ refusals.OutOfMemory → M) → ((f : StoreFault) → why ≡ refusals.StoreLoad f → f ≡ faults.OutOfMemory → N) → ((f : StoreFault) → why ≡ refusals.StoreSave f → f ≡ faults.OutOfMemory → N) → ⊥
   never refusals.OutOfMemory r memory load save = roomy (memory refl)
   never (refusals.StoreLoad f) r memory load save = uncaused f before after r.cause (load f refl) keeps sound
   never (refusals.StoreSave f) r memory load save = uncaused f before after r.cause (save f refl) keeps sound
@@ -46,6 +46,6 @@ module _ {M N : Type 0} {said : Result Said ReadFault} {bytes : List ℕ} {old :
   never refusals.NoNotice r memory load save = passed_clash _ a.passed _ a.checks r.0
 
   -- what is acceptable is accepted
-  pub accepts : {T : Type 0} (result : Result T Refused) → IfErr result (λ why. Refuses said from bytes old before after why) → (IsErrOf result refusals.OutOfMemory → M) → (IsErrOf result (refusals.StoreLoad faults.OutOfMemory) → N) → (IsErrOf result (refusals.StoreSave faults.OutOfMemory) → N) → IsOk result
+  pub accepts : {T : Type 0} (result : Result T Refused) → IfErr result (λ why. ServerRefuses said from bytes old before after why) → (IsErrOf result refusals.OutOfMemory → M) → (IsErrOf result (refusals.StoreLoad faults.OutOfMemory) → N) → (IsErrOf result (refusals.StoreSave faults.OutOfMemory) → N) → IsOk result
   accepts (Ok took) refused memory load save = refl
-  accepts (Err why) refused memory load save = absurd (never why (subst (λ (s : Result Said ReadFault). Refuses s from bytes old before after why) a.spelled refused) (λ is. memory cc) (λ f is out. load cc) (λ f is out. save cc))
+  accepts (Err why) refused memory load save = absurd (never why (subst (λ (s : Result MessageValue ReadFault). ServerRefuses s from bytes old before after why) a.spelled refused) (λ is. memory cc) (λ f is out. load cc) (λ f is out. save cc))

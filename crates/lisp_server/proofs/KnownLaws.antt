@@ -7,13 +7,13 @@ use Rattle.std.specs.Result.{IfOk, OnErr}
 use Rattle.lisp_records.proofs.RouterLaws.{router_eq-Decides}
 use Rattle.lisp_records.specs.declared.address.Addr.{Addr}
 use Rattle.lisp_records.specs.declared.router.RouterId.{RouterId}
-use Rattle.lisp_records.specs.Address.{Block}
-use Rattle.lisp_records.specs.Record.{Mapping}
+use Rattle.lisp_records.specs.Address.{PrefixValue}
+use Rattle.lisp_records.specs.Record.{MapRecordValue}
 use Rattle.lisp_records.specs.Router.{router_eq}
-use Rattle.lisp_records.specs.Row.{Holding}
-use Rattle.lisp_messages.specs.Message.{Registration}
+use Rattle.lisp_records.specs.Row.{RowValue}
+use Rattle.lisp_messages.specs.Message.{MapRegisterValue}
 use Rattle.lisp_messages.specs.Authentic.{is_authentic}
-use Rattle.lisp_policy.specs.Site.{SiteEntry, site_of, secret_of}
+use Rattle.lisp_policy.specs.Site.{SiteValue, site_of, secret_of}
 use Rattle.lisp_nonces.specs.Store.{StoreState}
 use Rattle.lisp_lookup.specs.Table.{is_row_of, row_at, last_of, Sets}
 use Rattle.lisp_lookup.proofs.TableLaws.{found_holds, has_key, some_inj}
@@ -28,17 +28,17 @@ use Rattle.lisp_server.specs.Checks.{Passed, register_checked}
 use Rattle.lisp_server.specs.Contacts.{SetsContact, IsHeard, Knows}
 use Rattle.lisp_server.specs.Receiving.{Accepts, contact_of}
 use Rattle.lisp_admission.specs.Pairs.{router_of}
-use Rattle.lisp_admission.specs.AcceptedRows.{holding, holdings}
+use Rattle.lisp_admission.specs.AcceptedRows.{row_value, row_values}
 use Rattle.lisp_admission.proofs.Turned.{turned}
 use Rattle.lisp_server.specs.Server.{SameTables, state_of}
 
 -- no row, no router
-pub none_known : (sites : List SiteEntry) (rows : List Holding) (contacts : List Contact) → rows ≡ [] → Knows sites rows contacts
+pub none_known : (sites : List SiteValue) (rows : List RowValue) (contacts : List Contact) → rows ≡ [] → Knows sites rows contacts
 unfolding row_at
-none_known sites rows contacts none router eid h at = absurd (let clash : ◌≡◌ {A = Option Holding} None (Some h) = sym (ap (find (is_row_of router eid)) none) ∙ at in cc)
+none_known sites rows contacts none router eid h at = absurd (let clash : ◌≡◌ {A = Option RowValue} None (Some h) = sym (ap (find (is_row_of router eid)) none) ∙ at in cc)
 
 -- a Map-Register that passed the checks has a secret
-signs : (sites : List SiteEntry) (bytes : List ℕ) (m : Registration) (passed : Passed) → register_checked sites bytes m ≡ Ok passed → (passed.message ≡ m) × (secret_at sites m.site m.key_id ≡ Some passed.secret)
+signs : (sites : List SiteValue) (bytes : List ℕ) (m : MapRegisterValue) (passed : Passed) → register_checked sites bytes m ≡ Ok passed → (passed.message ≡ m) × (secret_at sites m.site m.key_id ≡ Some passed.secret)
 unfolding secret_under
 signs sites bytes m passed e = by_site (site_of sites m.site) e
   where
@@ -52,24 +52,24 @@ signs sites bytes m passed e = by_site (site_of sites m.site) e
     by_last x (Ok s) own e = (let same : ◌≡◌ {A = Result Passed Refused} (Ok (record { message = m; secret = s })) (Ok passed) = e in let is : record { message = m; secret = s } ≡ passed = cc in (ap (λ (p : Passed). p.message) (sym is), ap Some (sym (own s refl) ∙ ap (λ (p : Passed). p.secret) is)))
     by_last x (Err why) own e = absurd (let clash : ◌≡◌ {A = Result Passed Refused} (Err why) (Ok passed) = e in cc)
 
-    by_secret : (site : SiteEntry) (o : Option (List ℕ)) → ((ok_or o refusals.UnknownKey >>= λ secret. check (is_authentic bytes secret) refusals.BadAuth >>= λ _. check (not m.merge) refusals.MergeAsked >>= λ _. refused_at (first_not_allowed site m.records) secret) >>= λ secret. Ok (record { message = m; secret = secret })) ≡ Ok passed → (passed.message ≡ m) × (o ≡ Some passed.secret)
+    by_secret : (site : SiteValue) (o : Option (List ℕ)) → ((ok_or o refusals.UnknownKey >>= λ secret. check (is_authentic bytes secret) refusals.BadAuth >>= λ _. check (not m.merge) refusals.MergeAsked >>= λ _. refused_at (first_not_allowed site m.records) secret) >>= λ secret. Ok (record { message = m; secret = secret })) ≡ Ok passed → (passed.message ≡ m) × (o ≡ Some passed.secret)
     by_secret site None e = absurd (let clash : ◌≡◌ {A = Result Passed Refused} (Err refusals.UnknownKey) (Ok passed) = e in cc)
     by_secret site (Some x) e = by_last x (check (is_authentic bytes x) refusals.BadAuth >>= λ _. check (not m.merge) refusals.MergeAsked >>= λ _. refused_at (first_not_allowed site m.records) x) (λ s. last (is_authentic bytes x) (not m.merge) (first_not_allowed site m.records) x s) e
 
-    by_site : (o : Option SiteEntry) → ((ok_or o refusals.UnknownSite >>= λ site. ok_or (secret_of site m.key_id) refusals.UnknownKey >>= λ secret. check (is_authentic bytes secret) refusals.BadAuth >>= λ _. check (not m.merge) refusals.MergeAsked >>= λ _. refused_at (first_not_allowed site m.records) secret) >>= λ secret. Ok (record { message = m; secret = secret })) ≡ Ok passed → (passed.message ≡ m) × (option_and_then (λ s. secret_of s m.key_id) o ≡ Some passed.secret)
+    by_site : (o : Option SiteValue) → ((ok_or o refusals.UnknownSite >>= λ site. ok_or (secret_of site m.key_id) refusals.UnknownKey >>= λ secret. check (is_authentic bytes secret) refusals.BadAuth >>= λ _. check (not m.merge) refusals.MergeAsked >>= λ _. refused_at (first_not_allowed site m.records) secret) >>= λ secret. Ok (record { message = m; secret = secret })) ≡ Ok passed → (passed.message ≡ m) × (option_and_then (λ s. secret_of s m.key_id) o ≡ Some passed.secret)
     by_site None e = absurd (let clash : ◌≡◌ {A = Result Passed Refused} (Err refusals.UnknownSite) (Ok passed) = e in cc)
     by_site (Some site) e = by_secret site (secret_of site m.key_id) e
 
 -- the rows of a Map-Register are its router's
-its_router : (m : Registration) (from : Addr) (now : ℕ) (rs : List Mapping) (p : Holding → Bool) (g : Holding) → find p (map (holding m from now) rs) ≡ Some g → g.router ≡ router_of m
-its_router m from now [] p g e = absurd (let clash : ◌≡◌ {A = Option Holding} None (Some g) = e in cc)
-its_router m from now (r ∷ rs) p g e = by (p (holding m from now r)) (its_router m from now rs p g) e
+its_router : (m : MapRegisterValue) (from : Addr) (now : ℕ) (rs : List MapRecordValue) (p : RowValue → Bool) (g : RowValue) → find p (map (row_value m from now) rs) ≡ Some g → g.router ≡ router_of m
+its_router m from now [] p g e = absurd (let clash : ◌≡◌ {A = Option RowValue} None (Some g) = e in cc)
+its_router m from now (r ∷ rs) p g e = by (p (row_value m from now r)) (its_router m from now rs p g) e
   where
-    by : (b : Bool) → (find p (map (holding m from now) rs) ≡ Some g → g.router ≡ router_of m) → cond b (Some (holding m from now r)) (find p (map (holding m from now) rs)) ≡ Some g → g.router ≡ router_of m
-    by true rest e = ap (λ (h : Holding). h.router) (sym (some_inj (holding m from now r) g e))
+    by : (b : Bool) → (find p (map (row_value m from now) rs) ≡ Some g → g.router ≡ router_of m) → cond b (Some (row_value m from now r)) (find p (map (row_value m from now) rs)) ≡ Some g → g.router ≡ router_of m
+    by true rest e = ap (λ (h : RowValue). h.router) (sym (some_inj (row_value m from now r) g e))
     by false rest e = rest e
 
-module _ (sites : List SiteEntry) (m : Registration) (from : Addr) (now : ℕ) (old new : List Contact) (secret : List ℕ) (signed : secret_at sites m.site m.key_id ≡ Some secret) (sets : SetsContact old new (contact_of m from)) where
+module _ (sites : List SiteValue) (m : MapRegisterValue) (from : Addr) (now : ℕ) (old new : List Contact) (secret : List ℕ) (signed : secret_at sites m.site m.key_id ≡ Some secret) (sets : SetsContact old new (contact_of m from)) where
   here : (q : RouterId) → q ≡ router_of m → IsHeard sites new q
   here q its = subst (λ (r : RouterId). IsHeard sites new r) (sym its) (record { contact = contact_of m from; heard = sets.here; secret = secret; signs = signed })
 
@@ -85,20 +85,20 @@ module _ (sites : List SiteEntry) (m : Registration) (from : Addr) (now : ℕ) (
         signs = heard.signs;
       }
 
-  pub known_sets : (rows rows' : List Holding) → Sets rows rows' (holdings m from now) → Knows sites rows old → Knows sites rows' new
-  known_sets rows rows' set known router eid h at = by (last_of (holdings m from now) router eid) refl (sym (set router eid) ∙ at)
+  pub known_sets : (rows rows' : List RowValue) → Sets rows rows' (row_values m from now) → Knows sites rows old → Knows sites rows' new
+  known_sets rows rows' set known router eid h at = by (last_of (row_values m from now) router eid) refl (sym (set router eid) ∙ at)
     where
-      own : (g : Holding) → last_of (holdings m from now) router eid ≡ Some g → g.router ≡ router
-      own g was = ap (λ (k : RouterId × Block). k.0) ((has_key (router, eid) g).0 (found_holds (is_row_of router eid) (reverse (holdings m from now)) g was).1)
+      own : (g : RowValue) → last_of (row_values m from now) router eid ≡ Some g → g.router ≡ router
+      own g was = ap (λ (k : RouterId × PrefixValue). k.0) ((has_key (router, eid) g).0 (found_holds (is_row_of router eid) (reverse (row_values m from now)) g was).1)
 
-      by : (o : Option Holding) → last_of (holdings m from now) router eid ≡ o → option_or o (row_at rows router eid) ≡ Some h → IsHeard sites new router
+      by : (o : Option RowValue) → last_of (row_values m from now) router eid ≡ o → option_or o (row_at rows router eid) ≡ Some h → IsHeard sites new router
       by None was at = still router (known router eid h at)
-      by (Some g) was at = here router (sym (own g was) ∙ its_router m from now (reverse m.records) (is_row_of router eid) g (ap (find (is_row_of router eid)) (turned (holding m from now) m.records) ∙ was))
+      by (Some g) was at = here router (sym (own g was) ∙ its_router m from now (reverse m.records) (is_row_of router eid) g (ap (find (is_row_of router eid)) (turned (row_value m from now) m.records) ∙ was))
 
 -- what an accepted Map-Register, or a refused message, leaves
-pub known_after : {A : Type 0} (sites : List SiteEntry) (bytes : List ℕ) (m : Registration) (old new : Tables A) (before after : StoreState) (from : Addr) (now : ℕ) (r : Result (Took A) Refused) → IfOk r (λ took. Accepts (register_checked sites bytes m) (state_of sites old) (state_of sites new) before after from now took) → OnErr r (SameTables old new) → Knows sites old.rows.rows old.contacts.contacts → Knows sites new.rows.rows new.contacts.contacts
+pub known_after : {A : Type 0} (sites : List SiteValue) (bytes : List ℕ) (m : MapRegisterValue) (old new : Tables A) (before after : StoreState) (from : Addr) (now : ℕ) (r : Result (Took A) Refused) → IfOk r (λ took. Accepts (register_checked sites bytes m) (state_of sites old) (state_of sites new) before after from now took) → OnErr r (SameTables old new) → Knows sites old.rows.rows old.contacts.contacts → Knows sites new.rows.rows new.contacts.contacts
 known_after sites bytes m old new before after from now (Ok took) a same known = accepted (signs sites bytes m a.passed a.checks)
   where
     accepted : (a.passed.message ≡ m) × (secret_at sites m.site m.key_id ≡ Some a.passed.secret) → Knows sites new.rows.rows new.contacts.contacts
-    accepted (is, signed) = known_sets sites m from now old.contacts.contacts new.contacts.contacts a.passed.secret signed (subst (λ (n : Registration). SetsContact old.contacts.contacts new.contacts.contacts (contact_of n from)) is a.contacts) old.rows.rows new.rows.rows (subst (λ (n : Registration). Sets old.rows.rows new.rows.rows (holdings n from now)) is a.rows) known
-known_after sites bytes m old new before after from now (Err why) a same known = subst (λ (x : List Holding × List Contact). Knows sites x.0 x.1) (λ i. (sym same.rows i, sym same.contacts i)) known
+    accepted (is, signed) = known_sets sites m from now old.contacts.contacts new.contacts.contacts a.passed.secret signed (subst (λ (n : MapRegisterValue). SetsContact old.contacts.contacts new.contacts.contacts (contact_of n from)) is a.contacts) old.rows.rows new.rows.rows (subst (λ (n : MapRegisterValue). Sets old.rows.rows new.rows.rows (row_values n from now)) is a.rows) known
+known_after sites bytes m old new before after from now (Err why) a same known = subst (λ (x : List RowValue × List Contact). Knows sites x.0 x.1) (λ i. (sym same.rows i, sym same.contacts i)) known

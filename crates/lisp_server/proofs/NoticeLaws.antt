@@ -13,11 +13,11 @@ use Rattle.lisp_lookup.proofs.Apart.{found}
 use Rattle.lisp_lookup.proofs.Orders.{router_total, same_router}
 use Rattle.lisp_lookup.proofs.TableLaws.{found_holds, some_inj}
 use Rattle.lisp_admission.specs.NoticeTimer.{gaps, elapsed, due_after, IsPrompt, PromptNotices}
-use Rattle.lisp_server.specs.Notices.{Standing, NoticesKeepTime, is_due, is_due_at, notice_at, is_notice_of, IsDueRouter}
+use Rattle.lisp_server.specs.Notices.{StandingNoticeValue, NoticesKeepTime, is_due, is_due_at, notice_at, is_notice_of, IsDueRouter}
 use Rattle.lisp_server.proofs.StandingLaws.{decides, notice_own, notice_held, one_for_each}
 
 -- of the notices that are due the first one is that of the least router
-pub due_found : (ns : List Standing) (now : ℕ) (n : Standing) → KeysRise (λ x. x.router) router_cmp ns → find (is_due now) ns ≡ Some n → IsDueRouter ns now (Some n.router)
+pub due_found : (ns : List StandingNoticeValue) (now : ℕ) (n : StandingNoticeValue) → KeysRise (λ x. x.router) router_cmp ns → find (is_due now) ns ≡ Some n → IsDueRouter ns now (Some n.router)
 due_found ns now n rise first = record {
   notice = n;
   stands = notice_own ns n (one_for_each ns rise) held.0;
@@ -28,17 +28,17 @@ due_found ns now n rise first = record {
     held : Contains ns n × (is_due now n ≡ true)
     held = found_holds (is_due now) ns n first
 
-    stood : (other : RouterId) (o : Option Standing) → notice_at ns other ≡ o → is_due_at now o ≡ true → router_cmp other n.router ≢ Less
+    stood : (other : RouterId) (o : Option StandingNoticeValue) → notice_at ns other ≡ o → is_due_at now o ≡ true → router_cmp other n.router ≢ Less
     stood other None at due = absurd (true≢false (sym due))
     stood other (Some m) at due =
         let its = notice_held ns other m at in
         subst (λ (q : RouterId). router_cmp q n.router ≢ Less) its.1 (halving.first_is_least (λ x. x.router) router_cmp router_total same_router is_notice_of decides (is_due now) ns n m its.0.0 rise first its.0.1 its.0.2 due)
 
 -- where none is found no router's notice is due
-pub none_found : (ns : List Standing) (now : ℕ) → find (is_due now) ns ≡ None → IsDueRouter ns now None
+pub none_found : (ns : List StandingNoticeValue) (now : ℕ) → find (is_due now) ns ≡ None → IsDueRouter ns now None
 none_found ns now never = λ q. stood q (notice_at ns q) refl
   where
-    stood : (q : RouterId) (o : Option Standing) → notice_at ns q ≡ o → is_due_at now o ≡ false
+    stood : (q : RouterId) (o : Option StandingNoticeValue) → notice_at ns q ≡ o → is_due_at now o ≡ false
     stood q None at = refl
     stood q (Some n) at =
         let held = (notice_held ns q n at).0 in

@@ -3,8 +3,8 @@ use Rattle.std.proofs.Common.{◌≡◌, ◌≤◌, ℕ, Bool, true, false, List
 use Rattle.std.specs.Result.{IfErr, IfOk, IsErrAnd, OnErr}
 use Rattle.std.specs.Prelude.{MatchResult}
 use Rattle.lisp_records.specs.declared.address.Addr.{Addr}
-use Rattle.lisp_records.specs.Row.{Holding}
-use Rattle.lisp_messages.specs.Message.{Registration, Registers, Notification, IsNotification, Notifies, Said}
+use Rattle.lisp_records.specs.Row.{RowValue}
+use Rattle.lisp_messages.specs.Message.{MapRegisterValue, Registers, MapNotifyValue, IsMapNotify, Notifies, MessageValue}
 use Rattle.lisp_messages.specs.Reading.{Fails, HasRecords}
 use Rattle.lisp_messages.specs.Spelling.{Spells}
 use Rattle.lisp_messages.proofs.FitLaws.{said_fits}
@@ -12,7 +12,7 @@ use Rattle.lisp_records.specs.Spelling.{IsBytes}
 use Rattle.lisp_messages.specs.declared.fault.ReadFault.{ReadFault}
 use Rattle.lisp_messages.specs.declared.fault.ReadFault.TheVariants as reads
 use Rattle.lisp_messages.specs.Authentic.{is_authentic}
-use Rattle.lisp_policy.specs.Site.{SiteEntry, site_of, secret_of}
+use Rattle.lisp_policy.specs.Site.{SiteValue, site_of, secret_of}
 use Rattle.lisp_nonces.specs.declared.pair.Pair.{Pair}
 use Rattle.lisp_nonces.specs.declared.fault.StoreFault.{StoreFault}
 use Rattle.lisp_nonces.specs.declared.fault.StoreFault.TheVariants as stores
@@ -26,20 +26,20 @@ use Rattle.lisp_server.specs.declared.took.Took.{Took}
 use Rattle.lisp_server.specs.declared.took.Took.TheVariants.{Accepted, NoticeDone}
 use Rattle.lisp_admission.specs.Refused.{refused_of_read}
 use Rattle.lisp_admission.specs.Pairs.{router_of, pair_of}
-use Rattle.lisp_admission.specs.AcceptedRows.{holdings}
+use Rattle.lisp_admission.specs.AcceptedRows.{row_values}
 use Rattle.lisp_lookup.specs.Table.{Sets}
 use Rattle.lisp_server.specs.LastNonces.{Nonces, nonce_at, SetsNonce}
 use Rattle.lisp_server.specs.Contacts.{SetsContact}
-use Rattle.lisp_server.specs.Notices.{Standing, EndsNotice}
+use Rattle.lisp_server.specs.Notices.{StandingNoticeValue, EndsNotice}
 use Rattle.lisp_server.specs.Server.{ServerState, SameTables, state_of}
 use Rattle.lisp_records.specs.Result.{◌>>=◌}
 use Rattle.lisp_admission.specs.Checks.{secret_under, check, refused_at, first_not_allowed}
-use Rattle.lisp_admission.specs.Checks.{notification_of}
+use Rattle.lisp_admission.specs.Checks.{reply_to}
 use Rattle.lisp_server.specs.Checks.{Passed, register_checked, Acknowledges, RefusesAck, reply_of}
 use Rattle.lisp_admission.specs.Nonces.{IsFresh, KeepsLists, Unasked, HasCause, FailsToSave, Stops, NotKept}
-use Rattle.lisp_server.specs.Receiving.{Accepts, Takes, OutOfRoom, RefusesRegister, RefusesRead, Refuses, SaveFailed}
+use Rattle.lisp_server.specs.Receiving.{Accepts, ServerTakes, OutOfRoom, RefusesRegister, RefusesRead, ServerRefuses, SaveFailed}
 
-abbrev register_passed : Registration → List ℕ → Result Passed Refused
+abbrev register_passed : MapRegisterValue → List ℕ → Result Passed Refused
 register_passed m secret = Ok (record { message = m; secret = secret })
 
 pub proceeds_on : {a b c : StoreState} → Proceeds a b → Proceeds b c → Proceeds a c
@@ -73,15 +73,15 @@ rose_later a b c up (inl more) = inl (omega (arith, up, more))
 rose_later a b c up (inr top) = inr top
 
 -- what is known once a nonce was saved, for a pair and nonce
-pub record Saved {A : Type 0} (sites : List SiteEntry) (bytes : List ℕ) (m : Registration) (from : Addr) (now : ℕ) (old mid new : Tables A) (before between after : StoreState) (rows : List Holding) (reply : Option (List ℕ)) (pair : Pair) (nonce : ℕ) : Type 0 where
+pub record Saved {A : Type 0} (sites : List SiteValue) (bytes : List ℕ) (m : MapRegisterValue) (from : Addr) (now : ℕ) (old mid new : Tables A) (before between after : StoreState) (rows : List RowValue) (reply : Option (List ℕ)) (pair : Pair) (nonce : ℕ) : Type 0 where
   pub secret : List ℕ
   pub checks : secret_under sites bytes m ≡ Ok secret
-  pub fits : IsNotification (notification_of m)
+  pub fits : IsMapNotify (reply_to m)
   pub fresh : IsFresh (nonce_at old.nonces.nonces pair) before pair nonce
   pub loaded : KeepsLists before between
   pub went : Proceeds before between
   pub same : SameTables old mid
-  pub brings : rows ≡ holdings m from now
+  pub brings : rows ≡ row_values m from now
   pub replies : reply ≡ reply_of secret m
   pub sets : Sets mid.rows.rows new.rows.rows rows
   pub nonces : SetsNonce mid.nonces.nonces new.nonces.nonces pair nonce
@@ -91,7 +91,7 @@ pub record Saved {A : Type 0} (sites : List SiteEntry) (bytes : List ℕ) (m : R
   pub done : IsTrue between.is_honest → kept_at after.kept pair ≡ Some nonce ∷ []
   pub others : IsTrue between.is_honest → SameElsewhere between.kept after.kept pair
 
-module _ {A : Type 0} {sites : List SiteEntry} {bytes : List ℕ} {m : Registration} {from : Addr} {now : ℕ} {old mid new : Tables A} {before between after : StoreState} {rows : List Holding} {reply : Option (List ℕ)} where
+module _ {A : Type 0} {sites : List SiteValue} {bytes : List ℕ} {m : MapRegisterValue} {from : Addr} {now : ℕ} {old mid new : Tables A} {before between after : StoreState} {rows : List RowValue} {reply : Option (List ℕ)} where
   accepts_own : Saved sites bytes m from now old mid new before between after rows reply (pair_of m) m.nonce → Accepts {A = A} (register_checked sites bytes m) (state_of sites old) (state_of sites new) before after from now (Accepted (router_of m) m.key_id m.nonce reply)
   accepts_own s = record {
     passed = record { message = m; secret = s.secret };
@@ -99,7 +99,7 @@ module _ {A : Type 0} {sites : List SiteEntry} {bytes : List ℕ} {m : Registrat
     fits = s.fits;
     fresh = s.fresh;
     answer = ap (λ (r : Option (List ℕ)). Accepted (router_of m) m.key_id m.nonce r) s.replies;
-    rows = subst (λ (was : List Holding). Sets was new.rows.rows (holdings m from now)) s.same.rows (subst (λ (given : List Holding). Sets mid.rows.rows new.rows.rows given) s.brings s.sets);
+    rows = subst (λ (was : List RowValue). Sets was new.rows.rows (row_values m from now)) s.same.rows (subst (λ (given : List RowValue). Sets mid.rows.rows new.rows.rows given) s.brings s.sets);
     nonces = subst (λ (was : Nonces). SetsNonce was new.nonces.nonces (pair_of m) m.nonce) s.same.nonces s.nonces;
     contacts = subst (λ (was : List Contact). SetsContact was new.contacts.contacts (record { router = router_of m; key = m.key_id; from = from })) s.same.contacts s.contacts;
     notices = s.notices ∙ s.same.notices;
@@ -117,7 +117,7 @@ pub cause_later : (fault : StoreFault) (a b c : StoreState) → a.faults ≤ b.f
 cause_later fault a b c up cause other = rose_later a b c up (cause other)
 
 -- what is known where the save failed, for a pair and nonce
-pub record Unsaved {A : Type 0} (sites : List SiteEntry) (bytes : List ℕ) (m : Registration) (old : Tables A) (before between after : StoreState) (why : Refused) (pair : Pair) (nonce : ℕ) : Type 0 where
+pub record Unsaved {A : Type 0} (sites : List SiteValue) (bytes : List ℕ) (m : MapRegisterValue) (old : Tables A) (before between after : StoreState) (why : Refused) (pair : Pair) (nonce : ℕ) : Type 0 where
   pub secret : List ℕ
   pub checks : secret_under sites bytes m ≡ Ok secret
   pub fresh : IsFresh (nonce_at old.nonces.nonces pair) before pair nonce
@@ -126,7 +126,7 @@ pub record Unsaved {A : Type 0} (sites : List SiteEntry) (bytes : List ℕ) (m :
   pub not_kept : NotKept between after pair nonce why
   pub others : IsTrue between.is_honest → SameElsewhere between.kept after.kept pair
 
-module _ {A : Type 0} {sites : List SiteEntry} {bytes : List ℕ} {m : Registration} {old : Tables A} {before between after : StoreState} where
+module _ {A : Type 0} {sites : List SiteValue} {bytes : List ℕ} {m : MapRegisterValue} {old : Tables A} {before between after : StoreState} where
   save_failed : (fault : StoreFault) → Unsaved sites bytes m old before between after (refusals.StoreSave fault) (pair_of m) m.nonce → SaveFailed (register_checked sites bytes m) (state_of sites old) before after fault
   save_failed fault s = record {
     passed = record { message = m; secret = s.secret };
@@ -190,7 +190,7 @@ unfolding OnlyChecks
 place_only None secret = tt
 place_only (Some place) secret = tt
 
-secret_only : (sites : List SiteEntry) (bytes : List ℕ) (m : Registration) → OnlyChecks (secret_under sites bytes m)
+secret_only : (sites : List SiteValue) (bytes : List ℕ) (m : MapRegisterValue) → OnlyChecks (secret_under sites bytes m)
 unfolding secret_under
 secret_only sites bytes m = bind_only _ _ (ok_or_only (site_of sites m.site) refusals.UnknownSite tt) (λ site. bind_only _ _ (ok_or_only (secret_of site m.key_id) refusals.UnknownKey tt) (λ secret. bind_only _ _ (check_only (is_authentic bytes secret) refusals.BadAuth tt) (λ b. bind_only _ _ (check_only (not m.merge) refusals.MergeAsked tt) (λ d. place_only (first_not_allowed site m.records) secret))))
 
@@ -213,11 +213,11 @@ refuses_check (refusals.StoreSave _) c old before is at = absurd is
 refuses_check refusals.NoNotice c old before is at = absurd is
 
 -- a Map-Register fails a check
-pub check_fails : (sites : List SiteEntry) (bytes : List ℕ) (m : Registration) (e : Refused) (old : ServerState) (before : StoreState) → secret_under sites bytes m ≡ Err e → RefusesRegister (register_checked sites bytes m) old before before e
+pub check_fails : (sites : List SiteValue) (bytes : List ℕ) (m : MapRegisterValue) (e : Refused) (old : ServerState) (before : StoreState) → secret_under sites bytes m ≡ Err e → RefusesRegister (register_checked sites bytes m) old before before e
 check_fails sites bytes m e old before at = refuses_check e (register_checked sites bytes m) old before (only_of (secret_under sites bytes m) e (secret_only sites bytes m) at) (ap (λ r. r >>= λ (secret : List ℕ). register_passed m secret) at)
 
 -- the nonce isn't let through
-pub stops : (sites : List SiteEntry) (bytes : List ℕ) (m : Registration) (secret : List ℕ) (old : ServerState) (before after : StoreState) (pair : Pair) (nonce : ℕ) (e : Refused) → pair ≡ pair_of m → nonce ≡ m.nonce → secret_under sites bytes m ≡ Ok secret → KeepsLists before after → Unasked (nonce_at old.nonces pair) before after → Stops (nonce_at old.nonces pair) before after pair nonce e → RefusesRegister (register_checked sites bytes m) old before after e
+pub stops : (sites : List SiteValue) (bytes : List ℕ) (m : MapRegisterValue) (secret : List ℕ) (old : ServerState) (before after : StoreState) (pair : Pair) (nonce : ℕ) (e : Refused) → pair ≡ pair_of m → nonce ≡ m.nonce → secret_under sites bytes m ≡ Ok secret → KeepsLists before after → Unasked (nonce_at old.nonces pair) before after → Stops (nonce_at old.nonces pair) before after pair nonce e → RefusesRegister (register_checked sites bytes m) old before after e
 stops sites bytes m secret old before after pair nonce e p n checks same = subst (λ (x : Pair × ℕ). Unasked (nonce_at old.nonces x.0) before after → Stops (nonce_at old.nonces x.0) before after x.0 x.1 e → RefusesRegister (register_checked sites bytes m) old before after e) (λ i. (sym p i, sym n i)) (own e)
   where
     passes : register_checked sites bytes m ≡ register_passed m secret
@@ -238,7 +238,7 @@ stops sites bytes m secret old before after pair nonce e p n checks same = subst
     own refusals.NoNotice unasked never = absurd never
 
 -- the nonce was let through, and there is no room
-pub no_room : (sites : List SiteEntry) (bytes : List ℕ) (m : Registration) (secret : List ℕ) (old : ServerState) (before after : StoreState) (pair : Pair) (nonce : ℕ) → pair ≡ pair_of m → nonce ≡ m.nonce → secret_under sites bytes m ≡ Ok secret → IsFresh (nonce_at old.nonces pair) before pair nonce → Unasked (nonce_at old.nonces pair) before after → KeepsLists before after → OutOfRoom (register_checked sites bytes m) old before after
+pub no_room : (sites : List SiteValue) (bytes : List ℕ) (m : MapRegisterValue) (secret : List ℕ) (old : ServerState) (before after : StoreState) (pair : Pair) (nonce : ℕ) → pair ≡ pair_of m → nonce ≡ m.nonce → secret_under sites bytes m ≡ Ok secret → IsFresh (nonce_at old.nonces pair) before pair nonce → Unasked (nonce_at old.nonces pair) before after → KeepsLists before after → OutOfRoom (register_checked sites bytes m) old before after
 no_room sites bytes m secret old before after pair nonce p n checks fresh unasked same = record {
   passed = record { message = m; secret = secret };
   checks = ap (λ r. r >>= λ (s : List ℕ). register_passed m s) checks;
@@ -248,7 +248,7 @@ no_room sites bytes m secret old before after pair nonce p n checks fresh unaske
 }
 
 -- the refusal of a message that was read
-refuses_read : (said : Result Said ReadFault) (from : Addr) (bytes : List ℕ) (old : ServerState) (before after : StoreState) (why : Refused) → RefusesRead said from bytes old before after why → Refuses said from bytes old before after why
+refuses_read : (said : Result MessageValue ReadFault) (from : Addr) (bytes : List ℕ) (old : ServerState) (before after : StoreState) (why : Refused) → RefusesRead said from bytes old before after why → ServerRefuses said from bytes old before after why
 refuses_read said from bytes old before after refusals.OutOfMemory r = inr r
 refuses_read said from bytes old before after refusals.UnknownSite r = r
 refuses_read said from bytes old before after refusals.UnknownKey r = r
@@ -263,18 +263,18 @@ refuses_read said from bytes old before after (refusals.StoreSave _) r = r
 refuses_read said from bytes old before after refusals.NoNotice r = r
 
 -- a Map-Register that was taken
-pub takes_register : {A : Type 0} (said : Result Said ReadFault) (m : Registration) (from : Addr) (bytes : List ℕ) (old new : ServerState) (before after : StoreState) (now : ℕ) (took : Took A) → said ≡ Ok (Registers m) → Accepts (register_checked old.sites bytes m) old new before after from now took → Takes said from bytes old new before after now took
-takes_register {A = A} said m from bytes old new before after now took at a = subst (λ (s : Result Said ReadFault). Takes s from bytes old new before after now took) (sym at) (by took a)
+pub takes_register : {A : Type 0} (said : Result MessageValue ReadFault) (m : MapRegisterValue) (from : Addr) (bytes : List ℕ) (old new : ServerState) (before after : StoreState) (now : ℕ) (took : Took A) → said ≡ Ok (Registers m) → Accepts (register_checked old.sites bytes m) old new before after from now took → ServerTakes said from bytes old new before after now took
+takes_register {A = A} said m from bytes old new before after now took at a = subst (λ (s : Result MessageValue ReadFault). ServerTakes s from bytes old new before after now took) (sym at) (by took a)
   where
-    by : (took : Took A) → Accepts (register_checked old.sites bytes m) old new before after from now took → Takes (Ok (Registers m)) from bytes old new before after now took
+    by : (took : Took A) → Accepts (register_checked old.sites bytes m) old new before after from now took → ServerTakes (Ok (Registers m)) from bytes old new before after now took
     by (Accepted router key nonce reply) a = a
     by (NoticeDone router nonce) a = absurd (let clash = a.answer in cc)
 
 -- a Map-Notify-Ack that was taken
-pub takes_notify : {A : Type 0} (said : Result Said ReadFault) (m : Notification) (from : Addr) (bytes : List ℕ) (old : ServerState) (left : List Standing) (before : StoreState) (now : ℕ) (took : Took A) → said ≡ Ok (Notifies m)
-    → (n : Standing) × Acknowledges old.sites old.notices from bytes m n × (took ≡ NoticeDone n.router n.nonce) × EndsNotice old.notices left n.router
-    → Takes said from bytes old (record old { notices = left }) before before now took
-takes_notify {A = A} said m from bytes old left before now took at (n, acknowledges, is, ended) = subst (λ (x : Result Said ReadFault × Took A). Takes x.0 from bytes old (record old { notices = left }) before before now x.1) (λ i. (sym at i, sym is i)) (record {
+pub takes_notify : {A : Type 0} (said : Result MessageValue ReadFault) (m : MapNotifyValue) (from : Addr) (bytes : List ℕ) (old : ServerState) (left : List StandingNoticeValue) (before : StoreState) (now : ℕ) (took : Took A) → said ≡ Ok (Notifies m)
+    → (n : StandingNoticeValue) × Acknowledges old.sites old.notices from bytes m n × (took ≡ NoticeDone n.router n.nonce) × EndsNotice old.notices left n.router
+    → ServerTakes said from bytes old (record old { notices = left }) before before now took
+takes_notify {A = A} said m from bytes old left before now took at (n, acknowledges, is, ended) = subst (λ (x : Result MessageValue ReadFault × Took A). ServerTakes x.0 from bytes old (record old { notices = left }) before before now x.1) (λ i. (sym at i, sym is i)) (record {
   notice = n;
   acknowledges = acknowledges;
   its = refl;
@@ -289,10 +289,10 @@ pub unchanged : {A : Type 0} (tables : Tables A) → SameTables tables tables
 unchanged tables = record { rows = refl; nonces = refl; contacts = refl; notices = refl }
 
 -- where nothing but room changed, nothing changed that callers see
-pub same_state : {A : Type 0} (sites : List SiteEntry) (old new : Tables A) → SameTables old new → state_of sites new ≡ state_of sites old
+pub same_state : {A : Type 0} (sites : List SiteValue) (old new : Tables A) → SameTables old new → state_of sites new ≡ state_of sites old
 same_state sites old new same = λ i. record { sites = sites; rows = same.rows i; nonces = same.nonces i; contacts = same.contacts i; notices = same.notices i }
 
-pub same_notices : (s : ServerState) (left : List Standing) → left ≡ s.notices → record s { notices = left } ≡ s
+pub same_notices : (s : ServerState) (left : List StandingNoticeValue) → left ≡ s.notices → record s { notices = left } ≡ s
 same_notices s left same = λ i. record s { notices = same i }
 
 -- what an answer is refused for
@@ -300,26 +300,26 @@ pub err_of : {X : Type 0} (r : Result X Refused) (why : Refused) (P : Refused �
 err_of {X = X} r why P refused is = subst (λ (r : Result X Refused). IfErr r P) is refused
 
 -- what a Map-Register was refused for
-pub refuses_register : (said : Result Said ReadFault) (m : Registration) (from : Addr) (bytes : List ℕ) (old : ServerState) (before after : StoreState) (why : Refused) → said ≡ Ok (Registers m) → RefusesRegister (register_checked old.sites bytes m) old before after why → Refuses said from bytes old before after why
-refuses_register said m from bytes old before after why at r = subst (λ (s : Result Said ReadFault). Refuses s from bytes old before after why) (sym at) (refuses_read (Ok (Registers m)) from bytes old before after why r)
+pub refuses_register : (said : Result MessageValue ReadFault) (m : MapRegisterValue) (from : Addr) (bytes : List ℕ) (old : ServerState) (before after : StoreState) (why : Refused) → said ≡ Ok (Registers m) → RefusesRegister (register_checked old.sites bytes m) old before after why → ServerRefuses said from bytes old before after why
+refuses_register said m from bytes old before after why at r = subst (λ (s : Result MessageValue ReadFault). ServerRefuses s from bytes old before after why) (sym at) (refuses_read (Ok (Registers m)) from bytes old before after why r)
 
 -- what a Map-Notify or Map-Notify-Ack was refused for
-pub refuses_notify : (said : Result Said ReadFault) (m : Notification) (from : Addr) (bytes : List ℕ) (old : ServerState) (before : StoreState) (why : Refused) → said ≡ Ok (Notifies m) → RefusesAck old.sites old.notices from bytes m why → Refuses said from bytes old before before why
-refuses_notify said m from bytes old before why at r = subst (λ (s : Result Said ReadFault). Refuses s from bytes old before before why) (sym at) (refuses_read (Ok (Notifies m)) from bytes old before before why (r, refl))
+pub refuses_notify : (said : Result MessageValue ReadFault) (m : MapNotifyValue) (from : Addr) (bytes : List ℕ) (old : ServerState) (before : StoreState) (why : Refused) → said ≡ Ok (Notifies m) → RefusesAck old.sites old.notices from bytes m why → ServerRefuses said from bytes old before before why
+refuses_notify said m from bytes old before why at r = subst (λ (s : Result MessageValue ReadFault). ServerRefuses s from bytes old before before why) (sym at) (refuses_read (Ok (Notifies m)) from bytes old before before why (r, refl))
 
 -- bytes that can't be read
-pub read_fails : (fault : ReadFault) (said : Result Said ReadFault) (from : Addr) (bytes : List ℕ) (old : ServerState) (before : StoreState) → (fault ≡ reads.OutOfMemory → HasRecords bytes) → Fails fault said → Refuses said from bytes old before before (refused_of_read fault)
+pub read_fails : (fault : ReadFault) (said : Result MessageValue ReadFault) (from : Addr) (bytes : List ℕ) (old : ServerState) (before : StoreState) → (fault ≡ reads.OutOfMemory → HasRecords bytes) → Fails fault said → ServerRefuses said from bytes old before before (refused_of_read fault)
 read_fails reads.OutOfMemory said from bytes old before grows at = inl (grows refl, refl)
-read_fails reads.Short said from bytes old before grows at = subst (λ (s : Result Said ReadFault). Refuses s from bytes old before before (refusals.Read reads.Short)) (sym at) (refl, refl)
-read_fails reads.Kind said from bytes old before grows at = subst (λ (s : Result Said ReadFault). Refuses s from bytes old before before (refusals.Read reads.Kind)) (sym at) (refl, refl)
-read_fails reads.Algorithm said from bytes old before grows at = subst (λ (s : Result Said ReadFault). Refuses s from bytes old before before (refusals.Read reads.Algorithm)) (sym at) (refl, refl)
-read_fails reads.AuthLength said from bytes old before grows at = subst (λ (s : Result Said ReadFault). Refuses s from bytes old before before (refusals.Read reads.AuthLength)) (sym at) (refl, refl)
-read_fails reads.NoIds said from bytes old before grows at = subst (λ (s : Result Said ReadFault). Refuses s from bytes old before before (refusals.Read reads.NoIds)) (sym at) (refl, refl)
-read_fails reads.Trailing said from bytes old before grows at = subst (λ (s : Result Said ReadFault). Refuses s from bytes old before before (refusals.Read reads.Trailing)) (sym at) (refl, refl)
-read_fails (reads.Record i fault) said from bytes old before grows at = subst (λ (s : Result Said ReadFault). Refuses s from bytes old before before (refusals.Read (reads.Record i fault))) (sym at) (refl, refl)
+read_fails reads.Short said from bytes old before grows at = subst (λ (s : Result MessageValue ReadFault). ServerRefuses s from bytes old before before (refusals.Read reads.Short)) (sym at) (refl, refl)
+read_fails reads.Kind said from bytes old before grows at = subst (λ (s : Result MessageValue ReadFault). ServerRefuses s from bytes old before before (refusals.Read reads.Kind)) (sym at) (refl, refl)
+read_fails reads.Algorithm said from bytes old before grows at = subst (λ (s : Result MessageValue ReadFault). ServerRefuses s from bytes old before before (refusals.Read reads.Algorithm)) (sym at) (refl, refl)
+read_fails reads.AuthLength said from bytes old before grows at = subst (λ (s : Result MessageValue ReadFault). ServerRefuses s from bytes old before before (refusals.Read reads.AuthLength)) (sym at) (refl, refl)
+read_fails reads.NoIds said from bytes old before grows at = subst (λ (s : Result MessageValue ReadFault). ServerRefuses s from bytes old before before (refusals.Read reads.NoIds)) (sym at) (refl, refl)
+read_fails reads.Trailing said from bytes old before grows at = subst (λ (s : Result MessageValue ReadFault). ServerRefuses s from bytes old before before (refusals.Read reads.Trailing)) (sym at) (refl, refl)
+read_fails (reads.Record i fault) said from bytes old before grows at = subst (λ (s : Result MessageValue ReadFault). ServerRefuses s from bytes old before before (refusals.Read (reads.Record i fault))) (sym at) (refl, refl)
 
 -- the Map-Notify of a Map-Register that was read from bytes fits the format
-pub notification_fits : (bytes : List ℕ) (m : Registration) → IsBytes bytes → Spells bytes (Registers m) → IsNotification (notification_of m)
+pub notification_fits : (bytes : List ℕ) (m : MapRegisterValue) → IsBytes bytes → Spells bytes (Registers m) → IsMapNotify (reply_to m)
 notification_fits bytes m bytewise s = (let fits = said_fits bytes (Registers m) bytewise s in record { nonce = fits.nonce; key = fits.key; records = fits.records })
 
 -- what the exit of a `?` is refused for

@@ -8,12 +8,12 @@ use Rattle.std.proofs.lemmas.Bool.{lt-ltb}
 use Rattle.lisp_records.specs.declared.database.DatabaseFault.{DatabaseFault}
 use Rattle.lisp_records.specs.declared.database.DatabaseFault.TheVariants.{TooLarge}
 use Rattle.lisp_records.specs.Database.{database_of}
-use Rattle.lisp_records.specs.Record.{Mapping}
-use Rattle.lisp_records.specs.Row.{Holding}
-use Rattle.lisp_messages.specs.Message.{IsNotification}
+use Rattle.lisp_records.specs.Record.{MapRecordValue}
+use Rattle.lisp_records.specs.Row.{RowValue}
+use Rattle.lisp_messages.specs.Message.{IsMapNotify}
 use Rattle.lisp_messages.specs.Authentic.{signed}
 use Rattle.lisp_messages.specs.Written.{written_notify}
-use Rattle.lisp_policy.specs.Site.{SiteEntry}
+use Rattle.lisp_policy.specs.Site.{SiteValue}
 use Rattle.lisp_nonces.specs.declared.fault.StoreFault.TheVariants as stores
 use Rattle.lisp_nonces.specs.Kept.{Kept, kept_at, SameElsewhere, InDoubt}
 use Rattle.lisp_nonces.specs.Store.{StoreState, Proceeds, MaySave}
@@ -28,27 +28,27 @@ use Rattle.lisp_server.specs.SendNotice.{IsRegistered, Announces, IsNotice, Noti
 use Rattle.lisp_server.specs.Contacts.{IsHeard, Knows}
 use Rattle.lisp_server.specs.LastNonces.{Nonces, nonce_at, SetsNonce}
 use Rattle.lisp_admission.specs.Pairs.{notice_pair}
-use Rattle.lisp_server.specs.Notices.{Standing, SetsNotice}
+use Rattle.lisp_server.specs.Notices.{StandingNoticeValue, SetsNotice}
 use Rattle.lisp_server.specs.Server.{ServerState, SameTables, state_of}
 use Rattle.lisp_server.proofs.ContactLaws.{contact_router}
 use Rattle.lisp_server.proofs.ReceivingLaws.{cause_later, may_save, fails_to_save}
 
 -- what one message can carry stays so when it is sorted
-pub few_left : (given records : List Mapping) → ByPrefix given records → length given ≤ 255 → length records < 256
+pub few_left : (given records : List MapRecordValue) → ByPrefix given records → length given ≤ 255 → length records < 256
 few_left given records by_prefix few = (let same = length_permutation given records by_prefix.same in omega (arith, same, few))
 
-pub few_records : (ms : List Mapping) → database_of ms ≡ Ok ms → length ms ≤ 255
+pub few_records : (ms : List MapRecordValue) → database_of ms ≡ Ok ms → length ms ≤ 255
 few_records ms fits = by (nat_lt 255 (length ms)) refl fits
   where
     by : (b : Bool) → nat_lt 255 (length ms) ≡ b → database_of ms ≡ Ok ms → length ms ≤ 255
-    by true many fits = absurd (let clash : ◌≡◌ {A = Result (List Mapping) DatabaseFault} (Err TooLarge) (Ok ms) = sym (too_many many) ∙ fits in cc)
+    by true many fits = absurd (let clash : ◌≡◌ {A = Result (List MapRecordValue) DatabaseFault} (Err TooLarge) (Ok ms) = sym (too_many many) ∙ fits in cc)
       where
         too_many : nat_lt 255 (length ms) ≡ true → database_of ms ≡ Err TooLarge
         too_many many = rw many refl
     by false few fits = (let not_above : ¬ (255 < length ms) = λ above. true≢false (sym (lt-ltb 255 (length ms) above) ∙ few) in omega (arith, not_above))
 
 -- a router with live records was heard
-pub heard_of : (sites : List SiteEntry) (rows : List Holding) (contacts : List Contact) (router : RouterId) (now : ℕ) → Knows sites rows contacts → live_of rows router now ≢ [] → IsHeard sites contacts router
+pub heard_of : (sites : List SiteValue) (rows : List RowValue) (contacts : List Contact) (router : RouterId) (now : ℕ) → Knows sites rows contacts → live_of rows router now ≢ [] → IsHeard sites contacts router
 heard_of sites rows contacts router now knows some = (let row = some_row rows router now some in knows router row.0 row.1 row.2)
 
 -- where there is an answer, it isn't the fault
@@ -61,7 +61,7 @@ no_fault None fault Q never = absurd (never refl)
 no_fault (Some x) fault Q never = tt
 
 -- what is known once a notice was sent
-pub record Sent {A : Type 0} (sites : List SiteEntry) (old mid new : Tables A) (before between after : StoreState) (router : RouterId) (now : ℕ) (contact : Contact) (secret bytes : List ℕ) (nonce : ℕ) (notice : Standing) : Type 0 where
+pub record Sent {A : Type 0} (sites : List SiteValue) (old mid new : Tables A) (before between after : StoreState) (router : RouterId) (now : ℕ) (contact : Contact) (secret bytes : List ℕ) (nonce : ℕ) (notice : StandingNoticeValue) : Type 0 where
   pub registered : IsRegistered (state_of sites old) router now
   pub contact_is : contact ≡ registered.heard.contact
   pub secret_is : secret ≡ registered.heard.secret
@@ -79,7 +79,7 @@ pub record Sent {A : Type 0} (sites : List SiteEntry) (old mid new : Tables A) (
   pub done : IsTrue between.is_honest → kept_at after.kept notice_pair ≡ Some nonce ∷ []
   pub others : IsTrue between.is_honest → SameElsewhere between.kept after.kept notice_pair
 
-module _ {A : Type 0} {sites : List SiteEntry} {old mid new : Tables A} {before between after : StoreState} {router : RouterId} {now : ℕ} {contact : Contact} {secret bytes : List ℕ} {nonce : ℕ} {notice : Standing} where
+module _ {A : Type 0} {sites : List SiteValue} {old mid new : Tables A} {before between after : StoreState} {router : RouterId} {now : ℕ} {contact : Contact} {secret bytes : List ℕ} {nonce : ℕ} {notice : StandingNoticeValue} where
   pub announces : Sent sites old mid new before between after router now contact secret bytes nonce notice → Announces (state_of sites old) (state_of sites new) before after router now contact.from bytes
   announces s = record {
     registered = s.registered;
@@ -90,8 +90,8 @@ module _ {A : Type 0} {sites : List SiteEntry} {old mid new : Tables A} {before 
     by_prefix = subst (λ (q : RouterId). ByPrefix (live_of old.rows.rows q now) s.tells.records) own s.tells.by_prefix;
     address = ap (λ (c : Contact). c.from) s.contact_is;
     datagram = s.tells.datagram ∙ (λ i. signed (s.secret_is i) (written_notify (notice_of (s.contact_is i).key (s.next.3 i) s.tells.records)));
-    fits = subst (λ (x : ℕ × ℕ). IsNotification (notice_of x.0 x.1 s.tells.records)) (λ i. ((s.contact_is i).key, s.next.3 i)) s.tells.fits;
-    stands = subst (λ (x : List Standing × Standing). SetsNotice x.0 new.notices.notices x.1) (λ i. (s.same.notices i, standing i)) s.notices;
+    fits = subst (λ (x : ℕ × ℕ). IsMapNotify (notice_of x.0 x.1 s.tells.records)) (λ i. ((s.contact_is i).key, s.next.3 i)) s.tells.fits;
+    stands = subst (λ (x : List StandingNoticeValue × StandingNoticeValue). SetsNotice x.0 new.notices.notices x.1) (λ i. (s.same.notices i, standing i)) s.notices;
     nonces = subst (λ (x : Nonces × ℕ). SetsNonce x.0 new.nonces.nonces notice_pair x.1) (λ i. (s.same.nonces i, saved i)) s.nonces;
     rest = λ i. record { sites = sites; rows = rows_are i; nonces = new.nonces.nonces; contacts = contacts_are i; notices = new.notices.notices };
     kept = λ honest. s.done (subst (λ (b : Bool). IsTrue b) (sym s.went.honest) honest) ∙ ap (λ (n : ℕ). Some n ∷ []) s.next.3;
@@ -103,7 +103,7 @@ module _ {A : Type 0} {sites : List SiteEntry} {old mid new : Tables A} {before 
       own = ap (λ (c : Contact). c.router) s.contact_is ∙ contact_router old.contacts.contacts router s.registered.heard.contact s.registered.heard.heard
 
       saved : notice.nonce ≡ nonce_after s.next.0
-      saved = ap (λ (n : Standing). n.nonce) s.notice_is ∙ s.next.3
+      saved = ap (λ (n : StandingNoticeValue). n.nonce) s.notice_is ∙ s.next.3
 
       standing : notice ≡ record { router = router; to = contact.from; key = s.registered.heard.contact.key; nonce = nonce_after s.next.0; bytes = bytes; resends = 0; last = now }
       standing = s.notice_is ∙ (λ i. record { router = own i; to = contact.from; key = (s.contact_is i).key; nonce = s.next.3 i; bytes = bytes; resends = 0; last = now })
@@ -172,7 +172,7 @@ module _ (A S : Type 0) where
   abbrev MemoryTold : NoticeFault → Type 0
   MemoryTold fault = (fault ≡ faults.OutOfMemory → A) × (fault ≡ faults.StoreLoad stores.OutOfMemory → S) × (fault ≡ faults.StoreSave stores.OutOfMemory → S)
 
-  pub told_unregistered : (live : List Mapping) (e : NoticeFault) → Unregistered live e → MemoryTold e
+  pub told_unregistered : (live : List MapRecordValue) (e : NoticeFault) → Unregistered live e → MemoryTold e
   told_unregistered live e why = ((λ is. absurd (subst (Unregistered live) is why)), (λ is. absurd (subst (Unregistered live) is why)), (λ is. absurd (subst (Unregistered live) is why)))
 
   pub told_unfollowed : (known : Option ℕ) (before after : StoreState) (e : NoticeFault) → FollowsNone known before after e → (e ≡ faults.StoreLoad stores.OutOfMemory → S) → MemoryTold e
@@ -189,6 +189,6 @@ module _ (A S : Type 0) where
   told_memory may = ((λ _. may), (λ is. absurd (subst IsOutOfMemory is tt)), (λ is. absurd (subst IsOutOfMemory is tt)))
 
 -- a notice that is sent, or isn't, leaves the rows and the contacts
-pub known_still : {A X : Type 0} (sites : List SiteEntry) (old new : Tables A) (r : Result X NoticeFault) (P : X → Type 0) → ((x : X) → P x → state_of sites new ≡ record (state_of sites old) { notices = new.notices.notices; nonces = new.nonces.nonces }) → IfOk r P → OnErr r (SameTables old new) → Knows sites old.rows.rows old.contacts.contacts → Knows sites new.rows.rows new.contacts.contacts
+pub known_still : {A X : Type 0} (sites : List SiteValue) (old new : Tables A) (r : Result X NoticeFault) (P : X → Type 0) → ((x : X) → P x → state_of sites new ≡ record (state_of sites old) { notices = new.notices.notices; nonces = new.nonces.nonces }) → IfOk r P → OnErr r (SameTables old new) → Knows sites old.rows.rows old.contacts.contacts → Knows sites new.rows.rows new.contacts.contacts
 known_still sites old new (Ok x) P rest sent same = subst (λ (s : ServerState). Knows sites s.rows s.contacts) (sym (rest x sent))
-known_still sites old new (Err why) P rest sent same = subst (λ (x : List Holding × List Contact). Knows sites x.0 x.1) (λ i. (sym same.rows i, sym same.contacts i))
+known_still sites old new (Err why) P rest sent same = subst (λ (x : List RowValue × List Contact). Knows sites x.0 x.1) (λ i. (sym same.rows i, sym same.contacts i))

@@ -1,5 +1,5 @@
 -- The last nonce of each pair since a Map-Server's start, in memory (RFC 9301 section 5.6).
-use Rattle.std.specs.Prelude.{◌≡◌, ◌≢◌, ℕ, List, map, Bool, Option, Some}
+use Rattle.std.specs.Prelude.{◌≡◌, ◌≢◌, ◌<◌, ℕ, List, map, Bool, Option, Some, None}
 use Rattle.std.specs.Coded.{Coded, coded_ℕ}
 use Rattle.std.specs.FinMap.{FinMap, get, code, from_entries}
 use Rattle.std.specs.Ordering.{eq_by_cmp}
@@ -23,7 +23,7 @@ pub record SetsNonce (old new : Nonces) (pair : Pair) (nonce : ℕ) : Type 0 whe
   pub others : (other : Pair) → other ≢ pair → nonce_at new other ≡ nonce_at old other
 
 -- the nonces, and how many more there is room for
-pub record NonceTable : Type 0 where
+pub record LastNoncesState : Type 0 where
   pub nonces : Nonces
   pub spare : ℕ
 
@@ -33,3 +33,7 @@ is_of pair entry = eq_by_cmp pair_cmp pair entry.pair
 
 unfoldable pub nonces_of : List LastNonce → Nonces
 nonces_of entries = from_entries (map (λ e. (e.pair, e.nonce)) entries)
+
+-- there is room for the last nonce of a pair, or it has one
+abbrev pub HasNonceRoom : LastNoncesState → Pair → Type 0
+HasNonceRoom nonces pair = nonce_at nonces.nonces pair ≡ None → 0 < nonces.spare

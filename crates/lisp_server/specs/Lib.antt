@@ -5,5 +5,8 @@ pub mod Contacts
 pub mod Notices
 pub mod Server
 pub mod Checks
+pub mod ReceivedAck
 pub mod Receiving
+pub mod ReceivedRegister
 pub mod SendNotice
+pub mod Recipient

@@ -1,28 +1,29 @@
 -- What a Map-Server makes of a message (RFC 9301 sections 5.6 and 8.2).
-use Rattle.std.specs.Prelude.{◌≡◌, ◌≢◌, ◌≤◌, ◌⊎◌, ℕ, List, [], ◌∷◌, Option, Some, None, Result, Ok, Err, IsTrue}
+use Rattle.std.specs.Prelude.{◌≡◌, ◌≢◌, ◌≤◌, ◌⊎◌, ℕ, List, [], ◌∷◌, Option, Some, None, Result, Ok, Err, IsTrue, IsOk}
 use Rattle.lisp_records.specs.declared.address.Addr.{Addr}
 use Rattle.lisp_records.specs.declared.router.RouterId.{RouterId}
-use Rattle.lisp_messages.specs.Message.{Registration, Registers, Notification, IsNotification, Notifies, Said}
-use Rattle.lisp_messages.specs.Reading.{HasRecords}
+use Rattle.lisp_messages.specs.Message.{MapRegisterValue, Registers, MapNotifyValue, IsMapNotify, Notifies, MessageValue}
+use Rattle.lisp_messages.specs.Reading.{HasRecords, kind_at, message_at}
 use Rattle.lisp_messages.specs.declared.fault.ReadFault.{ReadFault}
 use Rattle.lisp_nonces.specs.declared.pair.Pair.{Pair}
 use Rattle.lisp_nonces.specs.declared.fault.StoreFault.{StoreFault}
 use Rattle.lisp_nonces.specs.declared.fault.StoreFault.TheVariants as faults
 use Rattle.lisp_nonces.specs.Kept.{kept_at, SameElsewhere, InDoubt}
-use Rattle.lisp_nonces.specs.Store.{StoreState, MaySave}
+use Rattle.lisp_nonces.specs.Store.{StoreState, Rose, MaySave}
 use Rattle.lisp_admission.specs.declared.refused.Refused.{Refused}
 use Rattle.lisp_admission.specs.declared.refused.Refused.TheVariants.{Read, StoreLoad, Replay, OutOfMemory, StoreSave}
+use Rattle.lisp_admission.specs.Refused.{refused_of_read}
 use Rattle.lisp_server.specs.declared.took.Took.{Took}
 use Rattle.lisp_server.specs.declared.took.Took.TheVariants.{Accepted, NoticeDone}
 use Rattle.lisp_server.specs.declared.contacts.Contact.{Contact}
 use Rattle.lisp_admission.specs.Pairs.{router_of, pair_of}
-use Rattle.lisp_admission.specs.AcceptedRows.{holdings}
+use Rattle.lisp_admission.specs.AcceptedRows.{row_values}
 use Rattle.lisp_lookup.specs.Table.{Sets}
 use Rattle.lisp_server.specs.LastNonces.{nonce_at, SetsNonce}
 use Rattle.lisp_server.specs.Contacts.{SetsContact}
-use Rattle.lisp_server.specs.Notices.{Standing, EndsNotice}
+use Rattle.lisp_server.specs.Notices.{StandingNoticeValue, EndsNotice}
 use Rattle.lisp_server.specs.Server.{ServerState}
-use Rattle.lisp_admission.specs.Checks.{notification_of}
+use Rattle.lisp_admission.specs.Checks.{reply_to}
 use Rattle.lisp_server.specs.Checks.{Passed, register_checked, Acknowledges, RefusesAck, reply_of}
 use Rattle.lisp_admission.specs.Nonces.{IsBase, IsBelow, IsFresh, KeepsLists, Unasked, HasCause, FailsToLoad, FailsToSave}
 
@@ -31,7 +32,7 @@ abbrev pub IsAboveAnyBase : Option ℕ → StoreState → Pair → ℕ → Type 
 IsAboveAnyBase last store pair nonce = (base : Option ℕ) → IsBase last store pair base → IsBelow base nonce
 
 -- where a router was heard last
-abbrev pub contact_of : Registration → Addr → Contact
+abbrev pub contact_of : MapRegisterValue → Addr → Contact
 contact_of m from = record { router = router_of m; key = m.key_id; from = from }
 
 -- a Map-Register was accepted: it passed all checks with a fresh nonce, which an honest store keeps
@@ -40,10 +41,10 @@ contact_of m from = record { router = router_of m; key = m.key_id; from = from }
 pub record Accepts {A : Type 0} (check : Result Passed Refused) (old new : ServerState) (before after : StoreState) (from : Addr) (now : ℕ) (took : Took A) : Type 0 where
   pub passed : Passed
   pub checks : check ≡ Ok passed
-  pub fits : IsNotification (notification_of passed.message)
+  pub fits : IsMapNotify (reply_to passed.message)
   pub fresh : IsFresh (nonce_at old.nonces (pair_of passed.message)) before (pair_of passed.message) passed.message.nonce
   pub answer : took ≡ Accepted (router_of passed.message) passed.message.key_id passed.message.nonce (reply_of passed.secret passed.message)
-  pub rows : Sets old.rows new.rows (holdings passed.message from now)
+  pub rows : Sets old.rows new.rows (row_values passed.message from now)
   pub nonces : SetsNonce old.nonces new.nonces (pair_of passed.message) passed.message.nonce
   pub contacts : SetsContact old.contacts new.contacts (contact_of passed.message from)
   pub notices : new.notices ≡ old.notices
@@ -54,8 +55,8 @@ pub record Accepts {A : Type 0} (check : Result Passed Refused) (old new : Serve
   pub saves : MaySave before
 
 -- a Map-Notify-Ack ended an unsolicited Map-Notify (notice) that it acknowledges, and changed nothing else
-pub record Ends (from : Addr) (bytes : List ℕ) (m : Notification) (old new : ServerState) (before after : StoreState) (router : RouterId) (nonce : ℕ) : Type 0 where
-  pub notice : Standing
+pub record Ends (from : Addr) (bytes : List ℕ) (m : MapNotifyValue) (old new : ServerState) (before after : StoreState) (router : RouterId) (nonce : ℕ) : Type 0 where
+  pub notice : StandingNoticeValue
   pub acknowledges : Acknowledges old.sites old.notices from bytes m notice
   pub its : router ≡ notice.router
   pub under : nonce ≡ notice.nonce
@@ -64,10 +65,14 @@ pub record Ends (from : Addr) (bytes : List ℕ) (m : Notification) (old new : S
   pub store : after ≡ before
 
 -- the message that bytes from an address spell was taken
-abbrev pub Takes : {A : Type 0} → Result Said ReadFault → Addr → List ℕ → ServerState → ServerState → StoreState → StoreState → ℕ → Took A → Type 0
-Takes {A = A} (Ok (Registers m)) from bytes old new before after now (Accepted router key nonce reply) = Accepts {A = A} (register_checked old.sites bytes m) old new before after from now (Accepted router key nonce reply)
-Takes (Ok (Notifies m)) from bytes old new before after now (NoticeDone router nonce) = Ends from bytes m old new before after router nonce
-Takes _ from bytes old new before after now _ = ⊥
+abbrev pub ServerTakes : {A : Type 0} → Result MessageValue ReadFault → Addr → List ℕ → ServerState → ServerState → StoreState → StoreState → ℕ → Took A → Type 0
+ServerTakes {A = A} (Ok (Registers m)) from bytes old new before after now (Accepted router key nonce reply) = Accepts {A = A} (register_checked old.sites bytes m) old new before after from now (Accepted router key nonce reply)
+ServerTakes (Ok (Notifies m)) from bytes old new before after now (NoticeDone router nonce) = Ends from bytes m old new before after router nonce
+ServerTakes _ from bytes old new before after now _ = ⊥
+
+-- the message is the one that the bytes spell
+abbrev pub TakesMessage : {A : Type 0} → Addr → List ℕ → ServerState → ServerState → StoreState → StoreState → ℕ → Took A → Type 0
+TakesMessage from bytes old new before after now took = ServerTakes (message_at bytes) from bytes old new before after now took
 
 -- the pair's base can't be loaded from the store, which is unchanged if memory ran out in that
 pub record LoadFailed (check : Result Passed Refused) (old : ServerState) (before after : StoreState) (fault : StoreFault) : Type 0 where
@@ -118,22 +123,34 @@ RefusesRegister check old before after OutOfMemory = OutOfRoom check old before 
 RefusesRegister check old before after (StoreSave fault) = SaveFailed check old before after fault
 RefusesRegister check old before after refused = (check ≡ Err refused) × (after ≡ before)
 
+-- bytes with a fault before their records are refused for it
+abbrev pub RefusesBadHead : {X : Type 0} → List ℕ → Result X Refused → Type 0
+RefusesBadHead bytes answer = (fault : ReadFault) → kind_at bytes ≡ Err fault → answer ≡ Err (refused_of_read fault)
+
 -- what was read was refused
-abbrev pub RefusesRead : Result Said ReadFault → Addr → List ℕ → ServerState → StoreState → StoreState → Refused → Type 0
+abbrev pub RefusesRead : Result MessageValue ReadFault → Addr → List ℕ → ServerState → StoreState → StoreState → Refused → Type 0
 RefusesRead (Ok (Registers m)) from bytes old before after why = RefusesRegister (register_checked old.sites bytes m) old before after why
 RefusesRead (Ok (Notifies m)) from bytes old before after why = RefusesAck old.sites old.notices from bytes m why × (after ≡ before)
 RefusesRead (Err fault) from bytes old before after why = (why ≡ Read fault) × (after ≡ before)
 
 -- the message that bytes from an address spell was refused: as what was read, but that memory may also
 -- have run out in reading records, which leaves the store untouched
-abbrev pub Refuses : Result Said ReadFault → Addr → List ℕ → ServerState → StoreState → StoreState → Refused → Type 0
-Refuses said from bytes old before after OutOfMemory = (HasRecords bytes × (after ≡ before)) ⊎ RefusesRead said from bytes old before after OutOfMemory
-Refuses said from bytes old before after why = RefusesRead said from bytes old before after why
+abbrev pub ServerRefuses : Result MessageValue ReadFault → Addr → List ℕ → ServerState → StoreState → StoreState → Refused → Type 0
+ServerRefuses said from bytes old before after OutOfMemory = (HasRecords bytes × (after ≡ before)) ⊎ RefusesRead said from bytes old before after OutOfMemory
+ServerRefuses said from bytes old before after why = RefusesRead said from bytes old before after why
+
+-- the message is the one that the bytes spell
+abbrev pub RefusesMessage : Addr → List ℕ → ServerState → StoreState → StoreState → Refused → Type 0
+RefusesMessage from bytes old before after why = ServerRefuses (message_at bytes) from bytes old before after why
 
 -- what was read is a Map-Register that passes all checks, with a nonce above each value that may be its base
-pub record IsAcceptable (said : Result Said ReadFault) (bytes : List ℕ) (s : ServerState) (store : StoreState) : Type 0 where
-  pub register : Registration
+pub record IsAcceptable (said : Result MessageValue ReadFault) (bytes : List ℕ) (s : ServerState) (store : StoreState) : Type 0 where
+  pub register : MapRegisterValue
   pub spelled : said ≡ Ok (Registers register)
   pub passed : Passed
   pub checks : register_checked s.sites bytes register ≡ Ok passed
   pub fresh : IsAboveAnyBase (nonce_at s.nonces (pair_of passed.message)) store (pair_of passed.message) passed.message.nonce
+
+-- it is accepted, unless a device failed in between
+abbrev pub AcceptsUnlessFailed : {X E : Type 0} → List ℕ → ServerState → StoreState → StoreState → Result X E → Type 0
+AcceptsUnlessFailed bytes s before after answer = (Rose before after → ⊥) → IsAcceptable (message_at bytes) bytes s before → IsOk answer

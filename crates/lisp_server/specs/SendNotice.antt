@@ -4,8 +4,8 @@ use Rattle.lisp_records.specs.declared.address.Addr.{Addr}
 use Rattle.lisp_records.specs.declared.database.DatabaseFault.{DatabaseFault}
 use Rattle.lisp_records.specs.declared.router.RouterId.{RouterId}
 use Rattle.lisp_records.specs.Database.{database_of}
-use Rattle.lisp_records.specs.Record.{Mapping}
-use Rattle.lisp_messages.specs.Message.{Notification, IsNotification}
+use Rattle.lisp_records.specs.Record.{MapRecordValue}
+use Rattle.lisp_messages.specs.Message.{MapNotifyValue, IsMapNotify}
 use Rattle.lisp_messages.specs.Authentic.{signed}
 use Rattle.lisp_messages.specs.Written.{written_notify}
 use Rattle.lisp_nonces.specs.declared.fault.StoreFault.{StoreFault}
@@ -33,21 +33,21 @@ abbrev pub IsLast : ServerState → StoreState → Option ℕ → Type 0
 IsLast s store last = IsBase (nonce_at s.nonces notice_pair) store notice_pair last
 
 -- why no notice can be sent to the router
-abbrev pub Unregistered : List Mapping → NoticeFault → Type 0
+abbrev pub Unregistered : List MapRecordValue → NoticeFault → Type 0
 Unregistered live NotRegistered = live ≡ []
 Unregistered live TooLarge = (fault : DatabaseFault) × (database_of live ≡ Err fault)
 Unregistered live _ = ⊥
 
 -- the Map-Notify of a notice
-abbrev pub notice_of : ℕ → ℕ → List Mapping → Notification
+abbrev pub notice_of : ℕ → ℕ → List MapRecordValue → MapNotifyValue
 notice_of key nonce records = record { ack = false; nonce = nonce; key_id = key; records = records }
 
 -- the bytes are a notice of these live records, by prefix, and it fits the format
-pub record IsNotice (live : List Mapping) (key nonce : ℕ) (secret bytes : List ℕ) : Type 0 where
-  pub records : List Mapping
+pub record IsNotice (live : List MapRecordValue) (key nonce : ℕ) (secret bytes : List ℕ) : Type 0 where
+  pub records : List MapRecordValue
   pub by_prefix : ByPrefix live records
   pub datagram : bytes ≡ signed secret (written_notify (notice_of key nonce records))
-  pub fits : IsNotification (notice_of key nonce records)
+  pub fits : IsMapNotify (notice_of key nonce records)
 
 -- a notice was sent: of the router's live records, by prefix, under the key and to the address that it
 -- was heard under last, with the next nonce, which an honest store keeps alone for notices from now on; it
@@ -57,11 +57,11 @@ pub record Announces (old new : ServerState) (before after : StoreState) (router
   pub last : Option ℕ
   pub counts : IsLast old before last
   pub unspent : IsUnspent last
-  pub records : List Mapping
+  pub records : List MapRecordValue
   pub by_prefix : ByPrefix (live_of old.rows router now) records
   pub address : to ≡ registered.heard.contact.from
   pub datagram : bytes ≡ signed registered.heard.secret (written_notify (notice_of registered.heard.contact.key (nonce_after last) records))
-  pub fits : IsNotification (notice_of registered.heard.contact.key (nonce_after last) records)
+  pub fits : IsMapNotify (notice_of registered.heard.contact.key (nonce_after last) records)
   pub stands : SetsNotice old.notices new.notices (record { router = router; to = to; key = registered.heard.contact.key; nonce = nonce_after last; bytes = bytes; resends = 0; last = now })
   pub nonces : SetsNonce old.nonces new.nonces notice_pair (nonce_after last)
   pub rest : new ≡ record old { notices = new.notices; nonces = new.nonces }

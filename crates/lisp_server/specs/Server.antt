@@ -1,26 +1,32 @@
 -- What a Map-Server is (RFC 9301 section 8.2).
-use Rattle.std.specs.Prelude.{◌≡◌, ◌<◌, ◌≤◌, ℕ, List, None}
+use Rattle.std.specs.Prelude.{◌≡◌, ◌<◌, ◌≤◌, ℕ, List, [], None}
+use Rattle.std.specs.FinMap.{empty}
+use Rattle.lisp_records.specs.declared.address.Addr.{Addr}
 use Rattle.lisp_records.specs.declared.router.RouterId.{RouterId}
-use Rattle.lisp_records.specs.Row.{Holding}
-use Rattle.lisp_policy.specs.Site.{SiteEntry}
+use Rattle.lisp_records.specs.Row.{RowValue}
+use Rattle.lisp_policy.specs.Site.{SiteValue}
 use Rattle.lisp_server.specs.declared.contacts.Contact.{Contact}
 use Rattle.lisp_server.specs.declared.tables.Tables.{Tables}
 use Rattle.lisp_nonces.specs.declared.pair.Pair.{Pair}
 use Rattle.lisp_admission.specs.Pairs.{notice_pair}
-use Rattle.lisp_server.specs.Contacts.{contact_at}
-use Rattle.lisp_server.specs.LastNonces.{Nonces, nonce_at}
-use Rattle.lisp_server.specs.Notices.{Standing, notice_at}
+use Rattle.lisp_server.specs.Contacts.{contact_at, SetsContact}
+use Rattle.lisp_server.specs.LastNonces.{Nonces, nonce_at, SetsNonce}
+use Rattle.lisp_server.specs.Notices.{StandingNoticeValue, notice_at}
 
 -- its sites; the rows that it holds, dead ones too; the last nonce of each pair, where each router was
 -- heard last, and the unsolicited Map-Notifies (notices) that stand, all since the start
 pub record ServerState : Type 0 where
-  pub sites : List SiteEntry
-  pub rows : List Holding
+  pub sites : List SiteValue
+  pub rows : List RowValue
   pub nonces : Nonces
   pub contacts : List Contact
-  pub notices : List Standing
+  pub notices : List StandingNoticeValue
 
-abbrev pub state_of : {A : Type 0} → List SiteEntry → Tables A → ServerState
+-- a Map-Server of these sites that holds nothing
+abbrev pub empty_server : List SiteValue → ServerState
+empty_server sites = record { sites = sites; rows = []; nonces = empty; contacts = []; notices = [] }
+
+abbrev pub state_of : {A : Type 0} → List SiteValue → Tables A → ServerState
 state_of sites t = record { sites = sites; rows = t.rows.rows; nonces = t.nonces.nonces; contacts = t.contacts.contacts; notices = t.notices.notices }
 
 -- only the room changed
@@ -29,6 +35,14 @@ pub record SameTables {A : Type 0} (old new : Tables A) : Type 0 where
   pub nonces : new.nonces.nonces ≡ old.nonces.nonces
   pub contacts : new.contacts.contacts ≡ old.contacts.contacts
   pub notices : new.notices.notices ≡ old.notices.notices
+
+-- the router of a pair was heard at an address under the pair's key
+abbrev pub SetsPairContact : {A : Type 0} → Tables A → Tables A → Pair → Addr → Type 0
+SetsPairContact old new pair from = SetsContact old.contacts.contacts new.contacts.contacts (record { router = pair.router; key = pair.key; from = from })
+
+-- the last nonce of all notices was set
+abbrev pub SetsNoticeNonce : {A : Type 0} → Tables A → Tables A → ℕ → Type 0
+SetsNoticeNonce old new nonce = SetsNonce old.nonces.nonces new.nonces.nonces notice_pair nonce
 
 -- there is room for what a Map-Register with so many records brings under a pair
 pub record HasRoom {A : Type 0} (t : Tables A) (count : ℕ) (pair : Pair) : Type 0 where

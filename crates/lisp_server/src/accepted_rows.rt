@@ -1,8 +1,7 @@
 //! The rows that an accepted Map-Register sets (RFC 9301 section 5.6).
 
 ghost use Rattle.std.specs.Prelude.{◌≡◌, map, IfOk, OnErr};
-ghost use Rattle.lisp_admission.specs.Pairs.{router_of};
-ghost use Rattle.lisp_admission.specs.AcceptedRows.{life_of, holdings};
+ghost use Rattle.lisp_admission.specs.AcceptedRows.{life_of, row_values};
 ghost use Rattle.lisp_server.specs.AcceptedRows.{origin_of, row_of};
 ghost use Rattle.lisp_server.specs.Checks.{reply_of};
 
@@ -101,7 +100,7 @@ pub(crate) fn rows_and_reply<A: Memory + Copy>(
     from: Addr,
     now: u64,
 ) -> Result<(Vec<Row<A>, A>, Option<Bytes<A>>), AllocError>
-    ensures rows { IfOk result (λ x. x.0.items ≡ holdings register from now) }
+    ensures rows { IfOk result (λ x. x.0.items ≡ row_values register from now) }
     ensures reply { IfOk result (λ x. x.1 ≡ reply_of key.now register) }
     ensures memory { OnErr result A.may_refuse }
 {

@@ -1,10 +1,10 @@
 //! Where a Map-Server heard each router last.
 
-ghost use Rattle.std.specs.Prelude.{◌≡◌, ◌<◌, [], None, Some, IfOk, IfErr, OnOk, OnErr};
+ghost use Rattle.std.specs.Prelude.{◌≡◌, [], Some, IfOk, IfErr, OnOk, OnErr};
 ghost use Rattle.std.specs.List.{position};
 ghost use Rattle.lisp_records.specs.Router.{router_cmp};
 ghost use Rattle.lisp_policy.specs.Order.{KeysRise, IsGap};
-ghost use Rattle.lisp_server.specs.Contacts.{is_contact_of, contact_at, SetsContact};
+ghost use Rattle.lisp_server.specs.Contacts.{is_contact_of, contact_at, SetsContact, HasContactRoom};
 
 use crate::reserved::insert_reserved;
 use lisp_memory::{FallibleVec, Memory};
@@ -30,9 +30,9 @@ impl<A: Allocator> Model for Contacts<A> {
     ghost use Rattle.std.specs.Prelude.{◌-◌, vec_len, vec_capacity};
     ghost use Rattle.lisp_records.specs.Router.{router_cmp};
     ghost use Rattle.lisp_policy.specs.Order.{KeysRise};
-    ghost use Rattle.lisp_server.specs.Contacts.{ContactTable};
+    ghost use Rattle.lisp_server.specs.Contacts.{ContactsState};
 
-    ghost Value = { ContactTable };
+    ghost Value = { ContactsState };
 
     ghost view = { λ c. record { contacts = c.items.items; spare = vec_capacity c.items - vec_len c.items } };
 
@@ -64,7 +64,7 @@ impl<A: Allocator> Contacts<A> {
     /// Sets the contact of its router. Takes no memory.
     #[tactic(auto, using(crate::proofs::ContactLaws::rises_set, crate::proofs::ContactLaws::rises_insert))]
     pub(crate) fn set(&mut self, contact: Contact)
-        requires { contact_at self.old.contacts contact.router ≡ None → 0 < self.old.spare }
+        requires { HasContactRoom self.old contact.router }
         ensures { SetsContact self.old.contacts self.new.contacts contact }
     {
         match place(&self.items, &contact.router) {
@@ -78,7 +78,7 @@ impl<A: Memory> Contacts<A> {
     /// Makes room for the contact of a router, where it has none.
     pub(crate) fn prepare(&mut self, router: &RouterId) -> Result<(), AllocError>
         ensures same { self.new.contacts ≡ self.old.contacts }
-        ensures room { OnOk result (contact_at self.new.contacts router.now ≡ None → 0 < self.new.spare) }
+        ensures room { OnOk result (HasContactRoom self.new router.now) }
         ensures memory { OnErr result A.may_refuse }
     {
         match place(&self.items, router) {

@@ -1,12 +1,12 @@
 //! The last nonces since a Map-Server's start, in memory: of the Map-Registers that it accepted, and of the
 //! unsolicited Map-Notifies (notices) that it sent.
 
-ghost use Rattle.std.specs.Prelude.{◌≡◌, ◌<◌, None, Some, IfOk, IfErr, OnOk, OnErr};
+ghost use Rattle.std.specs.Prelude.{◌≡◌, Some, IfOk, IfErr, OnOk, OnErr};
 ghost use Rattle.std.specs.FinMap.{empty};
 ghost use Rattle.std.specs.List.{position};
 ghost use Rattle.lisp_nonces.specs.Pair.{pair_cmp};
 ghost use Rattle.lisp_policy.specs.Order.{KeysRise, IsGap};
-ghost use Rattle.lisp_server.specs.LastNonces.{nonce_at, SetsNonce, is_of, nonces_of};
+ghost use Rattle.lisp_server.specs.LastNonces.{nonce_at, SetsNonce, is_of, nonces_of, HasNonceRoom};
 
 use crate::reserved::insert_reserved;
 use lisp_memory::{FallibleVec, Memory};
@@ -32,9 +32,9 @@ impl<A: Allocator> Model for LastNonces<A> {
     ghost use Rattle.std.specs.Coded.{codes};
     ghost use Rattle.lisp_nonces.specs.Pair.{pair_cmp};
     ghost use Rattle.lisp_policy.specs.Order.{KeysRise};
-    ghost use Rattle.lisp_server.specs.LastNonces.{NonceTable, nonces_code, nonces_of};
+    ghost use Rattle.lisp_server.specs.LastNonces.{LastNoncesState, nonces_code, nonces_of};
 
-    ghost Value = { NonceTable };
+    ghost Value = { LastNoncesState };
 
     ghost coded = { Prim.hlevel (codes, nonces_code) };
 
@@ -68,7 +68,7 @@ impl<A: Allocator> LastNonces<A> {
     /// Sets the last nonce of a pair. Takes no memory.
     #[tactic(auto, using(crate::proofs::NonceLaws::rises_set, crate::proofs::NonceLaws::rises_insert))]
     pub(crate) fn set(&mut self, pair: Pair, nonce: u64)
-        requires { nonce_at self.old.nonces pair ≡ None → 0 < self.old.spare }
+        requires { HasNonceRoom self.old pair }
         ensures { SetsNonce self.old.nonces self.new.nonces pair nonce }
     {
         match place(&self.items, &pair) {
@@ -82,7 +82,7 @@ impl<A: Memory> LastNonces<A> {
     /// Makes room for the last nonce of a pair, where it has none.
     pub(crate) fn prepare(&mut self, pair: &Pair) -> Result<(), AllocError>
         ensures same { self.new.nonces ≡ self.old.nonces }
-        ensures room { OnOk result (nonce_at self.new.nonces pair.now ≡ None → 0 < self.new.spare) }
+        ensures room { OnOk result (HasNonceRoom self.new pair.now) }
         ensures memory { OnErr result A.may_refuse }
     {
         match place(&self.items, pair) {

@@ -1,12 +1,11 @@
 //! What holds of the timer of an unsolicited Map-Notify (notice), and which Map-Registers are accepted: each
 //! function's contract is a law.
 
-ghost use Rattle.std.specs.Prelude.{IfOk, IsOk};
-ghost use Rattle.lisp_nonces.specs.Store.{Rose};
-ghost use Rattle.lisp_messages.specs.Reading.{message_at};
+ghost use Rattle.std.specs.Prelude.{IfOk};
 ghost use Rattle.lisp_admission.specs.NoticeTimer.{PromptNotices};
 ghost use Rattle.lisp_server.specs.Notices.{NoticesKeepTime};
-ghost use Rattle.lisp_server.specs.Receiving.{IsAcceptable, Takes};
+ghost use Rattle.lisp_server.specs.Receiving.{AcceptsUnlessFailed, TakesMessage};
+ghost use Rattle.lisp_nonces.specs.Promises.{Unrefused};
 
 use crate::server::Server;
 use crate::took::Took;
@@ -37,8 +36,10 @@ pub fn accepts_exactly<S: NonceStore, A: Memory + Copy>(
     bytes: &[u8],
     now: u64,
 ) -> Result<Took<A>, Refused>
-    ensures accepts { (A.may_refuse → ⊥) → (S.may_refuse → ⊥) → (Rose (S.seen store.old) (S.seen store.new) → ⊥) → IsAcceptable (message_at bytes.now) bytes.now server.old (S.seen store.old) → IsOk result }
-    ensures only { IfOk result (λ took. Takes (message_at bytes.now) from bytes.now server.old server.new (S.seen store.old) (S.seen store.new) now took) }
+    ensures accepts { Unrefused A.may_refuse S.may_refuse
+        (AcceptsUnlessFailed bytes.now server.old (S.seen store.old) (S.seen store.new) result) }
+    ensures only { IfOk result (TakesMessage from bytes.now server.old server.new
+        (S.seen store.old) (S.seen store.new) now) }
 {
     server.receive(store, from, bytes, now)
 }

@@ -1,9 +1,8 @@
 //! Receiving a Map-Notify-Ack, which ends the unsolicited Map-Notify (notice) that it acknowledges.
 
 ghost use Rattle.std.specs.Prelude.{◌≡◌, IfOk, IfErr, OnErr};
-ghost use Rattle.lisp_server.specs.Checks.{answers_under, Acknowledges, RefusesAck};
-ghost use Rattle.lisp_server.specs.Notices.{Standing, EndsNotice};
-ghost use Rattle.lisp_server.specs.declared.took.Took.TheVariants.{NoticeDone};
+ghost use Rattle.lisp_server.specs.Checks.{answers_under};
+ghost use Rattle.lisp_server.specs.ReceivedAck.{EndedBy, RefusesArrivedAck, EndsAcknowledged};
 
 use crate::arrival::Arrival;
 use crate::standing_notice::StandingNotice;
@@ -22,8 +21,8 @@ pub(crate) fn receive_ack<A: Allocator>(
     arrival: Arrival<'_>,
     ack: &MapNotify<A>,
 ) -> Result<Took<A>, Refused>
-    ensures done { IfOk result (λ took. (n : Standing) × Acknowledges sites.now notices.old.notices arrival.entry.from arrival.entry.bytes.now ack.now n × (took ≡ NoticeDone n.router n.nonce) × EndsNotice notices.old.notices notices.new.notices n.router) }
-    ensures refused { IfErr result (λ why. RefusesAck sites.now notices.old.notices arrival.entry.from arrival.entry.bytes.now ack.now why) }
+    ensures done { EndsAcknowledged sites.now notices.old notices.new arrival.entry ack.now result }
+    ensures refused { IfErr result (RefusesArrivedAck sites.now notices.old arrival.entry ack.now) }
     ensures err { OnErr result (notices.new.notices ≡ notices.old.notices) }
 {
     let notice = ended(sites, notices, arrival, ack)?;
@@ -39,8 +38,8 @@ fn ended<'n, A: Allocator>(
     arrival: Arrival<'_>,
     ack: &MapNotify<A>,
 ) -> Result<&'n StandingNotice<A>, Refused>
-    ensures ends { IfOk result (λ n. Acknowledges sites.now notices.now.notices arrival.entry.from arrival.entry.bytes.now ack.now n.now) }
-    ensures refused { IfErr result (λ why. RefusesAck sites.now notices.now.notices arrival.entry.from arrival.entry.bytes.now ack.now why) }
+    ensures ends { IfOk result (λ n. EndedBy sites.now notices.now arrival.entry ack.now n.now) }
+    ensures refused { IfErr result (RefusesArrivedAck sites.now notices.now arrival.entry ack.now) }
 {
     if !ack.ack {
         return Err(Refused::NotMine);

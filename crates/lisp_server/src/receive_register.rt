@@ -1,16 +1,11 @@
 //! Receiving a Map-Register.
 
-ghost use Rattle.std.specs.Prelude.{◌≡◌, length, IfOk, MatchResult, OnErr};
-ghost use Rattle.lisp_nonces.specs.declared.fault.StoreFault.{StoreFault};
+ghost use Rattle.std.specs.Prelude.{◌≡◌, IfOk, OnErr};
 ghost use Rattle.lisp_nonces.specs.Store.{Proceeds};
-ghost use Rattle.lisp_admission.specs.Pairs.{pair_of};
-ghost use Rattle.lisp_messages.specs.Message.{IsNotification};
-ghost use Rattle.lisp_admission.specs.AcceptedRows.{holdings};
-ghost use Rattle.lisp_admission.specs.Checks.{notification_of};
-ghost use Rattle.lisp_server.specs.Checks.{register_checked, reply_of};
-ghost use Rattle.lisp_server.specs.Receiving.{Accepts, RefusesRegister};
-ghost use Rattle.lisp_server.specs.Server.{SameTables, HasRoom, state_of};
-ghost use Rattle.lisp_admission.specs.declared.refused.Refused.{Refused};
+ghost use Rattle.lisp_messages.specs.Message.{IsMapNotify};
+ghost use Rattle.lisp_admission.specs.Checks.{reply_to};
+ghost use Rattle.lisp_server.specs.Server.{SameTables};
+ghost use Rattle.lisp_server.specs.ReceivedRegister.{AnswersRegister, IsPrepared};
 
 use crate::accepted_rows::rows_and_reply;
 use crate::arrival::Arrival;
@@ -35,8 +30,9 @@ pub(crate) fn receive_register<S: NonceStore, A: Memory + Copy>(
     arrival: Arrival<'_>,
     register: MapRegister<A>,
 ) -> Result<Took<A>, Refused>
-    requires { IsNotification (notification_of register) }
-    ensures answer { MatchResult result (λ took. Accepts (register_checked sites.now arrival.entry.bytes.now register) (state_of sites.now tables.old) (state_of sites.now tables.new) (S.seen store.old) (S.seen store.new) arrival.entry.from arrival.entry.now took) (λ why. ((why ≡ Refused.OutOfMemory → A.may_refuse) × (why ≡ Refused.StoreLoad StoreFault.OutOfMemory → S.may_refuse) × (why ≡ Refused.StoreSave StoreFault.OutOfMemory → S.may_refuse)) × RefusesRegister (register_checked sites.now arrival.entry.bytes.now register) (state_of sites.now tables.old) (S.seen store.old) (S.seen store.new) why × SameTables tables.old tables.new) }
+    requires { IsMapNotify (reply_to register) }
+    ensures answer { AnswersRegister A.may_refuse S.may_refuse sites.now tables.old tables.new
+        (S.seen store.old) (S.seen store.new) arrival.entry register result }
     ensures proceeds { Proceeds (S.seen store.old) (S.seen store.new) }
 {
     let key = key_under(sites, arrival.bytes, &register)?;
@@ -64,7 +60,8 @@ fn prepared<A: Memory + Copy>(
     arrival: Arrival<'_>,
     register: MapRegister<A>,
 ) -> Result<(Vec<Row<A>, A>, Option<Bytes<A>>), AllocError>
-    ensures ok { IfOk result (λ x. (x.0.items ≡ holdings register arrival.entry.from arrival.entry.now) × (x.1 ≡ reply_of key.now register) × HasRoom tables.new (length x.0.items) pair.now) }
+    ensures ok { IfOk result
+        (λ x. IsPrepared key.now arrival.entry register tables.new pair.now x.0.items x.1) }
     ensures same { SameTables tables.old tables.new }
     ensures memory { OnErr result A.may_refuse }
 {

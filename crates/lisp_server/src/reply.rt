@@ -1,8 +1,7 @@
 //! The Map-Notify that answers an accepted Map-Register (RFC 9301 section 5.7).
 
-ghost use Rattle.std.specs.Prelude.{◌≡◌, Some, None, IfOk, OnErr, if◌then◌else◌};
-ghost use Rattle.lisp_messages.specs.Authentic.{signed};
-ghost use Rattle.lisp_messages.specs.Written.{written_notify};
+ghost use Rattle.std.specs.Prelude.{◌≡◌, IfOk, OnErr};
+ghost use Rattle.lisp_server.specs.Checks.{wanted_reply};
 
 use lisp_hmac::Key;
 use lisp_memory::Memory;
@@ -17,7 +16,7 @@ pub(crate) fn reply<A: Memory>(
     notify: &MapNotify<A>,
     key: &Key,
 ) -> Result<Option<Bytes<A>>, AllocError>
-    ensures reply { IfOk result (λ reply. reply ≡ (if wanted then Some (signed key.now (written_notify notify.now)) else None)) }
+    ensures reply { IfOk result (λ reply. reply ≡ wanted_reply wanted key.now notify.now) }
     ensures memory { OnErr result A.may_refuse }
 {
     if !wanted {

@@ -2,14 +2,13 @@
 
 ghost use Rattle.std.specs.Prelude.{◌≡◌, ◌≤◌, None, length, IfOk, IfErr, IfSome, MatchResult, OnErr};
 ghost use Rattle.lisp_records.specs.Moment.{max_moment};
-ghost use Rattle.lisp_nonces.specs.declared.fault.StoreFault.{StoreFault};
 ghost use Rattle.lisp_nonces.specs.Store.{Proceeds};
 ghost use Rattle.lisp_lookup.specs.Table.{OneEach};
 ghost use Rattle.lisp_lookup.specs.Records.{live_of};
-ghost use Rattle.lisp_server.specs.SendNotice.{IsRegistered, Announces, RefusesNotice, IsNotice, Unregistered};
+ghost use Rattle.lisp_server.specs.SendNotice.{Announces, Unregistered};
 ghost use Rattle.lisp_server.specs.Contacts.{IsHeard, Knows};
-ghost use Rattle.lisp_server.specs.Server.{SameTables, HasNoticeRoom, state_of};
-ghost use Rattle.lisp_admission.specs.declared.notice_fault.NoticeFault.{NoticeFault};
+ghost use Rattle.lisp_server.specs.Server.{SameTables, state_of};
+ghost use Rattle.lisp_server.specs.Recipient.{IsHeardAs, IsRecipient, IsNoticeTo, sent_notice, IsReadyNotice, RefusesToNotify};
 
 use crate::contacts::{Contact, Contacts};
 use crate::standing_notice::StandingNotice;
@@ -36,7 +35,11 @@ pub(crate) fn send_notice<S: NonceStore, A: Memory + Copy>(
 ) -> Result<(Addr, Vec<u8, A>), NoticeFault>
     requires moment { now ≤ max_moment }
     requires known { Knows sites.now tables.old.rows.rows tables.old.contacts.contacts }
-    ensures answer { MatchResult result (λ x. Announces (state_of sites.now tables.old) (state_of sites.now tables.new) (S.seen store.old) (S.seen store.new) router.now now x.0 x.1.items) (λ fault. ((fault ≡ NoticeFault.OutOfMemory → A.may_refuse) × (fault ≡ NoticeFault.StoreLoad StoreFault.OutOfMemory → S.may_refuse) × (fault ≡ NoticeFault.StoreSave StoreFault.OutOfMemory → S.may_refuse)) × RefusesNotice (state_of sites.now tables.old) (S.seen store.old) (S.seen store.new) router.now now fault × SameTables tables.old tables.new) }
+    ensures answer { MatchResult result
+        (λ x. Announces (state_of sites.now tables.old) (state_of sites.now tables.new)
+        (S.seen store.old) (S.seen store.new) router.now now x.0 x.1.items)
+        (RefusesToNotify A.may_refuse S.may_refuse sites.now tables.old tables.new
+        (S.seen store.old) (S.seen store.new) router.now now) }
     ensures one_each { OneEach tables.old.rows.rows }
     ensures proceeds { Proceeds (S.seen store.old) (S.seen store.new) }
 {
@@ -66,7 +69,8 @@ impl Recipient<'_> {
     ) -> Result<(StandingNotice<A>, Vec<u8, A>), AllocError>
         requires moment { now ≤ max_moment }
         requires few { length (live_of tables.old.rows.rows self.now.contact.router now) ≤ 255 }
-        ensures notice { IfOk result (λ x. (x.0 ≡ record { router = self.now.contact.router; to = self.now.contact.from; key = self.now.contact.key; nonce = nonce; bytes = x.1.items; resends = 0; last = now }) × IsNotice (live_of tables.old.rows.rows self.now.contact.router now) self.now.contact.key nonce self.now.key.now x.1.items × HasNoticeRoom tables.new self.now.contact.router) }
+        ensures notice { IfOk result
+            (λ x. IsReadyNotice self.now tables.old tables.new now nonce x.0 x.1.items) }
         ensures same { SameTables tables.old tables.new }
         ensures memory { OnErr result A.may_refuse }
     {
@@ -85,7 +89,7 @@ impl Recipient<'_> {
         nonce: u64,
     ) -> Result<Bytes<A>, AllocError>
         requires few { length (live_of rows.now.rows self.now.contact.router now) ≤ 255 }
-        ensures notice { IfOk result (λ bytes. IsNotice (live_of rows.now.rows self.now.contact.router now) self.now.contact.key nonce self.now.key.now bytes) }
+        ensures notice { IfOk result (IsNoticeTo self.now rows.now.rows now nonce) }
         ensures memory { OnErr result A.may_refuse }
     {
         let notify = MapNotify {
@@ -100,7 +104,7 @@ impl Recipient<'_> {
     // The notice that stands once its nonce is saved.
     fn notice<A: Allocator>(&self, nonce: u64, bytes: Bytes<A>, now: u64) -> StandingNotice<A>
         requires { now ≤ max_moment }
-        ensures { result ≡ record { router = self.now.contact.router; to = self.now.contact.from; key = self.now.contact.key; nonce = nonce; bytes = bytes; resends = 0; last = now } }
+        ensures { result ≡ sent_notice self.now.contact nonce bytes now }
     {
         StandingNotice {
             router: self.contact.router,
@@ -122,8 +126,8 @@ fn recipient_of<'s, A: Allocator + Copy>(
     now: u64,
 ) -> Result<Recipient<'s>, NoticeFault>
     requires { Knows sites.now tables.now.rows.rows tables.now.contacts.contacts }
-    ensures registered { IfOk result (λ to. (r : IsRegistered (state_of sites.now tables.now) router.now now) × (to.contact ≡ r.heard.contact) × (to.key.now ≡ r.heard.secret)) }
-    ensures refused { IfErr result (λ fault. Unregistered (live_of tables.now.rows.rows router.now now) fault) }
+    ensures registered { IfOk result (IsRecipient (state_of sites.now tables.now) router.now now) }
+    ensures refused { IfErr result (Unregistered (live_of tables.now.rows.rows router.now now)) }
     ensures one_each { OneEach tables.now.rows.rows }
 {
     let Ok(count) = tables.rows.count_live(router, now) else {
@@ -141,7 +145,7 @@ fn heard<'s, A: Allocator>(
     contacts: &Contacts<A>,
     router: &RouterId,
 ) -> Option<Recipient<'s>>
-    ensures some { IfSome result (λ to. (h : IsHeard sites.now contacts.now.contacts router.now) × (to.contact ≡ h.contact) × (to.key.now ≡ h.secret)) }
+    ensures some { IfSome result (IsHeardAs sites.now contacts.now.contacts router.now) }
     ensures none { result ≡ None → IsHeard sites.now contacts.now.contacts router.now → ⊥ }
 {
     let contact = contacts.get(router)?;

@@ -1,21 +1,20 @@
 //! The Map-Server.
 
-ghost use Rattle.std.specs.Prelude.{◌≡◌, ◌≤◌, [], Err, IfOk, IfErr, IsErrOf, OnErr};
-ghost use Rattle.std.specs.FinMap.{empty};
-ghost use Rattle.lisp_nonces.specs.declared.fault.StoreFault.{StoreFault};
+ghost use Rattle.std.specs.Prelude.{◌≡◌, ◌≤◌, IfOk, IfErr, IsErrOf, OnErr};
 ghost use Rattle.lisp_nonces.specs.Store.{Proceeds};
-ghost use Rattle.lisp_messages.specs.Reading.{HasHead, kind_at, message_at};
-ghost use Rattle.lisp_messages.specs.declared.fault.ReadFault.{ReadFault};
+ghost use Rattle.lisp_messages.specs.Reading.{HasHead};
 ghost use Rattle.lisp_lookup.specs.Table.{OneEach, Expires, IsHeld};
 ghost use Rattle.lisp_lookup.specs.Answer.{Answers};
 ghost use Rattle.lisp_records.specs.Moment.{max_moment};
 ghost use Rattle.lisp_server.specs.SendNotice.{Announces, RefusesNotice};
 ghost use Rattle.lisp_server.specs.LastNonces.{nonce_at};
-ghost use Rattle.lisp_server.specs.Notices.{OneForEach, IsDueRouter, Resends, RefusesResend};
-ghost use Rattle.lisp_server.specs.Receiving.{Takes, Refuses};
-ghost use Rattle.lisp_admission.specs.Refused.{refused_of_read};
+ghost use Rattle.lisp_server.specs.Notices.{OneForEach, IsDueRouter, RefusesResend, Resends};
+ghost use Rattle.lisp_server.specs.Receiving.{RefusesBadHead, TakesMessage, RefusesMessage};
+ghost use Rattle.lisp_admission.specs.Refused.{load_out_of_memory, save_out_of_memory};
 ghost use Rattle.lisp_admission.specs.declared.refused.Refused.{Refused};
 ghost use Rattle.lisp_admission.specs.declared.notice_fault.NoticeFault.{NoticeFault};
+ghost use Rattle.lisp_admission.specs.NoticeFault.{notice_load_out_of_memory, notice_save_out_of_memory};
+ghost use Rattle.lisp_server.specs.Server.{empty_server};
 
 use crate::arrival::Arrival;
 use crate::contacts::Contacts;
@@ -64,7 +63,7 @@ impl<A: Allocator + Copy> Server<A> {
     /// A Map-Server of these sites that holds nothing; what it learns lies in memory of `alloc`. Takes no
     /// memory.
     pub fn start(alloc: A, sites: Sites<A>) -> Server<A>
-        ensures { result ≡ record { sites = sites; rows = []; nonces = empty; contacts = []; notices = [] } }
+        ensures { result ≡ empty_server sites }
     {
         Server {
             alloc,
@@ -150,19 +149,21 @@ impl<A: Memory + Copy> Server<A> {
         now: u64,
     ) -> Result<Took<A>, Refused>
         // Accepted, or a notice done: what that means.
-        ensures taken { IfOk result (λ took. Takes (message_at bytes.now) from bytes.now self.old self.new (S.seen store.old) (S.seen store.new) now took) }
+        ensures taken { IfOk result (TakesMessage from bytes.now self.old self.new
+            (S.seen store.old) (S.seen store.new) now) }
 
         // Refused: why, and what is left of the store.
-        ensures refused { IfErr result (λ why. Refuses (message_at bytes.now) from bytes.now self.old (S.seen store.old) (S.seen store.new) why) }
+        ensures refused { IfErr result (RefusesMessage from bytes.now self.old
+            (S.seen store.old) (S.seen store.new)) }
 
         ensures err { OnErr result (self.new ≡ self.old) }
         ensures memory { IsErrOf result Refused.OutOfMemory → A.may_refuse }
-        ensures load_memory { IsErrOf result (Refused.StoreLoad StoreFault.OutOfMemory) → S.may_refuse }
-        ensures save_memory { IsErrOf result (Refused.StoreSave StoreFault.OutOfMemory) → S.may_refuse }
+        ensures load_memory { IsErrOf result load_out_of_memory → S.may_refuse }
+        ensures save_memory { IsErrOf result save_out_of_memory → S.may_refuse }
         ensures proceeds { Proceeds (S.seen store.old) (S.seen store.new) }
 
         // Before the first record nothing takes memory.
-        ensures early { (fault : ReadFault) → kind_at bytes.now ≡ Err fault → result ≡ Err (refused_of_read fault) }
+        ensures early { RefusesBadHead bytes.now result }
         ensures head { IsErrOf result Refused.OutOfMemory → HasHead bytes.now }
     {
         match read_message(self.alloc, bytes) {
@@ -201,12 +202,14 @@ impl<A: Memory + Copy> Server<A> {
         now: u64,
     ) -> Result<(Addr, Vec<u8, A>), NoticeFault>
         requires { now ≤ max_moment }
-        ensures announces { IfOk result (λ x. Announces self.old self.new (S.seen store.old) (S.seen store.new) router.now now x.0 x.1.items) }
-        ensures refused { IfErr result (λ fault. RefusesNotice self.old (S.seen store.old) (S.seen store.new) router.now now fault) }
+        ensures announces { IfOk result (λ x. Announces self.old self.new
+            (S.seen store.old) (S.seen store.new) router.now now x.0 x.1.items) }
+        ensures refused { IfErr result (RefusesNotice self.old
+            (S.seen store.old) (S.seen store.new) router.now now) }
         ensures err { OnErr result (self.new ≡ self.old) }
         ensures memory { IsErrOf result NoticeFault.OutOfMemory → A.may_refuse }
-        ensures load_memory { IsErrOf result (NoticeFault.StoreLoad StoreFault.OutOfMemory) → S.may_refuse }
-        ensures save_memory { IsErrOf result (NoticeFault.StoreSave StoreFault.OutOfMemory) → S.may_refuse }
+        ensures load_memory { IsErrOf result notice_load_out_of_memory → S.may_refuse }
+        ensures save_memory { IsErrOf result notice_save_out_of_memory → S.may_refuse }
         ensures proceeds { Proceeds (S.seen store.old) (S.seen store.new) }
         ensures one_each { OneEach self.old.rows }
     {
@@ -224,9 +227,10 @@ impl<A: Memory + Copy> Server<A> {
     /// same address. It refuses in this order: `NotDue`, `OutOfMemory`. A refusal changes nothing.
     pub fn resend(&mut self, router: &RouterId, now: u64) -> Result<(Addr, Vec<u8, A>), NoticeFault>
         requires { now ≤ max_moment }
-        ensures resends { IfOk result (λ x. Resends self.old.notices self.new.notices router.now now x.0 x.1.items) }
+        ensures resends { IfOk result
+            (λ x. Resends self.old.notices self.new.notices router.now now x.0 x.1.items) }
         ensures rest { self.new ≡ record self.old { notices = self.new.notices } }
-        ensures refused { IfErr result (λ fault. RefusesResend self.old.notices router.now now fault) }
+        ensures refused { IfErr result (RefusesResend self.old.notices router.now now) }
         ensures err { OnErr result (self.new ≡ self.old) }
         ensures memory { IsErrOf result NoticeFault.OutOfMemory → A.may_refuse }
     {

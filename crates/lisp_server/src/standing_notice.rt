@@ -31,9 +31,9 @@ pub(crate) struct StandingNotice<A: Allocator> {
 impl<A: Allocator> Model for StandingNotice<A> {
     ghost use Rattle.std.specs.Prelude.{◌≤◌};
     ghost use Rattle.lisp_records.specs.Moment.{max_moment};
-    ghost use Rattle.lisp_server.specs.Notices.{Standing};
+    ghost use Rattle.lisp_server.specs.Notices.{StandingNoticeValue};
 
-    ghost Value = { Standing };
+    ghost Value = { StandingNoticeValue };
 
     ghost view = { λ n. record { router = n.router; to = n.to; key = n.key; nonce = n.nonce; bytes = n.bytes; resends = n.resends; last = n.last } };
 

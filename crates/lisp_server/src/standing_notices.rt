@@ -1,13 +1,12 @@
 //! The unsolicited Map-Notifies (notices) of a Map-Server that stand, at most one for each router.
 
-ghost use Rattle.std.specs.Prelude.{◌≡◌, ◌<◌, ◌≤◌, [], None, Some, OnOk, OnErr, IfOk, IfErr, MatchResult, position};
+ghost use Rattle.std.specs.Prelude.{◌≡◌, ◌≤◌, [], Some, OnOk, OnErr, IfOk, IfErr, MatchResult, position};
 ghost use Rattle.lisp_records.specs.Moment.{max_moment};
 ghost use Rattle.std.specs.List.{find};
 ghost use Rattle.std.specs.Option.{option_map};
 ghost use Rattle.lisp_records.specs.Router.{router_cmp};
 ghost use Rattle.lisp_policy.specs.Order.{KeysRise, IsGap};
-ghost use Rattle.lisp_admission.specs.declared.notice_fault.NoticeFault.{NoticeFault};
-ghost use Rattle.lisp_server.specs.Notices.{is_notice_of, notice_at, is_due, OneForEach, SetsNotice, EndsNotice, awaits, Awaited, IsDueRouter, Resends, RefusesResend};
+ghost use Rattle.lisp_server.specs.Notices.{is_notice_of, is_due, OneForEach, SetsNotice, EndsNotice, awaits, Awaited, IsDueRouter, Resends, HasStandingRoom, RefusesToResend};
 
 use crate::reserved::insert_reserved;
 use crate::standing_notice::StandingNotice;
@@ -27,9 +26,9 @@ impl<A: Allocator> Model for StandingNotices<A> {
     ghost use Rattle.std.specs.Prelude.{◌-◌, vec_len, vec_capacity};
     ghost use Rattle.lisp_records.specs.Router.{router_cmp};
     ghost use Rattle.lisp_policy.specs.Order.{KeysRise};
-    ghost use Rattle.lisp_server.specs.Notices.{NoticeTable};
+    ghost use Rattle.lisp_server.specs.Notices.{StandingNoticesState};
 
-    ghost Value = { NoticeTable };
+    ghost Value = { StandingNoticesState };
 
     ghost view = { λ n. record { notices = n.items.items; spare = vec_capacity n.items - vec_len n.items } };
 
@@ -49,7 +48,7 @@ impl<A: Allocator> StandingNotices<A> {
 
     /// Keeps a notice, in place of an earlier one to its router. Takes no memory.
     pub(crate) fn keep(&mut self, notice: StandingNotice<A>)
-        requires { notice_at self.old.notices notice.router ≡ None → 0 < self.old.spare }
+        requires { HasStandingRoom self.old notice.router }
         ensures { SetsNotice self.old.notices self.new.notices notice }
     {
         match place(&self.items, &notice.router) {
@@ -90,7 +89,7 @@ impl<A: Memory> StandingNotices<A> {
     /// Makes room for the notice to a router, where none stands.
     pub(crate) fn prepare(&mut self, router: &RouterId) -> Result<(), AllocError>
         ensures same { self.new.notices ≡ self.old.notices }
-        ensures room { OnOk result (notice_at self.new.notices router.now ≡ None → 0 < self.new.spare) }
+        ensures room { OnOk result (HasStandingRoom self.new router.now) }
         ensures memory { OnErr result A.may_refuse }
     {
         match place(&self.items, router) {
@@ -108,7 +107,9 @@ impl<A: Memory> StandingNotices<A> {
         now: u64,
     ) -> Result<(Addr, Vec<u8, A>), NoticeFault>
         requires { now ≤ max_moment }
-        ensures { MatchResult result (λ x. Resends self.old.notices self.new.notices router.now now x.0 x.1.items) (λ fault. (fault ≡ NoticeFault.OutOfMemory → A.may_refuse) × RefusesResend self.old.notices router.now now fault × (self.new.notices ≡ self.old.notices)) }
+        ensures { MatchResult result
+            (λ x. Resends self.old.notices self.new.notices router.now now x.0 x.1.items)
+            (RefusesToResend A.may_refuse self.old self.new router.now now) }
     {
         let Ok(place) = place(&self.items, router) else {
             return Err(NoticeFault::NotDue);

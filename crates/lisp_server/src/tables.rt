@@ -3,10 +3,8 @@
 ghost use Rattle.std.specs.Prelude.{◌≡◌, length, OnOk, OnErr};
 ghost use Rattle.lisp_lookup.specs.Table.{Sets};
 ghost use Rattle.lisp_server.specs.LastNonces.{SetsNonce};
-ghost use Rattle.lisp_server.specs.Contacts.{SetsContact};
-ghost use Rattle.lisp_admission.specs.Pairs.{notice_pair};
 ghost use Rattle.lisp_server.specs.Notices.{SetsNotice};
-ghost use Rattle.lisp_server.specs.Server.{SameTables, HasRoom, HasNoticeRoom};
+ghost use Rattle.lisp_server.specs.Server.{SameTables, HasRoom, HasNoticeRoom, SetsPairContact, SetsNoticeNonce};
 
 use crate::contacts::{Contact, Contacts};
 use crate::last_nonces::LastNonces;
@@ -35,7 +33,7 @@ impl<A: Allocator + Copy> Tables<A> {
         requires { HasRoom self.old (length rows.items) pair }
         ensures rows { Sets self.old.rows.rows self.new.rows.rows rows.items }
         ensures nonces { SetsNonce self.old.nonces.nonces self.new.nonces.nonces pair nonce }
-        ensures contacts { SetsContact self.old.contacts.contacts self.new.contacts.contacts (record { router = pair.router; key = pair.key; from = from }) }
+        ensures contacts { SetsPairContact self.old self.new pair from }
         ensures notices { self.new.notices.notices ≡ self.old.notices.notices }
     {
         self.rows.put_all(rows);
@@ -51,7 +49,7 @@ impl<A: Allocator + Copy> Tables<A> {
     pub(crate) fn keep_notice(&mut self, notice: StandingNotice<A>)
         requires { HasNoticeRoom self.old notice.router }
         ensures rows { self.new.rows.rows ≡ self.old.rows.rows }
-        ensures nonces { SetsNonce self.old.nonces.nonces self.new.nonces.nonces notice_pair notice.nonce }
+        ensures nonces { SetsNoticeNonce self.old self.new notice.nonce }
         ensures contacts { self.new.contacts.contacts ≡ self.old.contacts.contacts }
         ensures notices { SetsNotice self.old.notices.notices self.new.notices.notices notice }
     {

@@ -9,8 +9,8 @@ use Rattle.lisp_records.specs.declared.address.Addr.{Addr}
 use Rattle.lisp_records.specs.Address.{IsWhole}
 use Rattle.lisp_texts.specs.Reading.{address_of}
 use Rattle.lisp_sites.specs.declared.field.Field.TheVariants as fields
-use Rattle.lisp_policy.specs.Site.{SiteEntry}
-use Rattle.lisp_policy.specs.Configuration.{Server, Router, Configuration, IsServer, IsRouter}
+use Rattle.lisp_policy.specs.Site.{SiteValue}
+use Rattle.lisp_policy.specs.Configuration.{ServerEntryValue, RouterEntryValue, ConfigValue, IsServerEntry, IsRouterEntry}
 use Rattle.lisp_policy.specs.Configuration.{is_name}
 use Rattle.lisp_sites.specs.Form.{name_of, text_as}
 use Rattle.lisp_sites.specs.Table.{required, items, as_entry, each, flat, has_server, fresh_server_name, server_at, servers_of, has_router, fresh_router_name, router_node, router_identity, places_of, router_flags, router_nonce_block, database_at, router_at}
@@ -22,7 +22,7 @@ use Rattle.lisp_sites.proofs.RouterParts.{is_identity, places_apart, few_nonces,
 
 -- ---- Map-Servers
 
-one_server : (before : List Server) (d : Data) (s : Server) → server_at before d ≡ Ok s → TakesName IsServer (λ s. s.name) [] before s
+one_server : (before : List ServerEntryValue) (d : Data) (s : ServerEntryValue) → server_at before d ≡ Ok s → TakesName IsServerEntry (λ s. s.name) [] before s
 unfolding server_at
 one_server before d s e =
     let entry = bind_ok (as_entry fields.Server d) _ s e in
@@ -31,28 +31,28 @@ one_server before d s e =
     let new = fresh-Ok fields.ServerName (required fields.ServerName (codes "name") (text_as name_of) entry.0) (has_server before) name.0 name.1 in
     let text = required_text-Ok fields.ServerName (codes "name") name_of entry.0 name.0 new.0 in
     let place = required_text-Ok fields.ServerAddress (codes "address") address_of entry.0 address.0 address.1 in
-    subst (TakesName IsServer (λ s. s.name) [] before) (same_ok (record { name = name.0; address = address.0 }) s address.2) (record {
+    subst (TakesName IsServerEntry (λ s. s.name) [] before) (same_ok (record { name = name.0; address = address.0 }) s address.2) (record {
       kind = record { name = name_fits text.0 name.0 text.1; address = address_fits place.0 address.0 place.1 };
       new = list_any-map (λ n. bytes_eq n name.0) (λ s. s.name) before ∙ new.1;
     })
 
-pub servers_named : (d : Data) (servers : List Server) → servers_of d ≡ Ok servers → AreNamed IsServer (λ s. s.name) [] servers
+pub servers_named : (d : Data) (servers : List ServerEntryValue) → servers_of d ≡ Ok servers → AreNamed IsServerEntry (λ s. s.name) [] servers
 servers_named d servers e =
     let entries = bind_told (items fields.Server (codes "server") d) (each fields.Server (flat server_at) [] 1) servers e in
-    each_named IsServer (λ s. s.name) [] fields.Server (flat server_at) (one_flat server_at one_server) (λ i j d lt within. absurd (omega arith)) entries.0 servers entries.2
+    each_named IsServerEntry (λ s. s.name) [] fields.Server (flat server_at) (one_flat server_at one_server) (λ i j d lt within. absurd (omega arith)) entries.0 servers entries.2
 
 -- no server before has the name of one that is read
-pub server_is_new : (before : List Server) (d : Data) (s : Server) → server_at before d ≡ Ok s → list_any (λ x. bytes_eq x.name s.name) before ≡ false
+pub server_is_new : (before : List ServerEntryValue) (d : Data) (s : ServerEntryValue) → server_at before d ≡ Ok s → list_any (λ x. bytes_eq x.name s.name) before ≡ false
 server_is_new before d s e = sym (list_any-map (λ n. bytes_eq n s.name) (λ x. x.name) before) ∙ (one_server before d s e).new
 
 -- ---- routers
 
-record IsNode (servers : List Server) (before : List Router) (node : List ℕ × Addr) : Type 0 where
+record IsNode (servers : List ServerEntryValue) (before : List RouterEntryValue) (node : List ℕ × Addr) : Type 0 where
   name : is_name node.0 ≡ true
   address : IsWhole node.1
   new : list_any (λ n. bytes_eq n node.0) (map (λ s. s.name) servers ++ map (λ r. r.name) before) ≡ false
 
-is_node : (servers : List Server) (before : List Router) (d : Data) (node : List ℕ × Addr) → router_node servers before d ≡ Ok node → IsNode servers before node
+is_node : (servers : List ServerEntryValue) (before : List RouterEntryValue) (d : Data) (node : List ℕ × Addr) → router_node servers before d ≡ Ok node → IsNode servers before node
 unfolding router_node
 is_node servers before d node e =
     let entry = bind_ok (as_entry fields.Router d) _ node e in
@@ -68,8 +68,8 @@ is_node servers before d node e =
       new = list_any-append test (map (λ s. s.name) servers) (map (λ r. r.name) before) ∙ (λ i. list_any-map test (λ s. s.name) servers i || list_any-map test (λ r. r.name) before i) ∙ new.1;
     })
 
-module _ (c : Configuration) where
-  pub one_router : (before : List Router) (d : Data) (r : Router) → router_at c.sites c.servers before d ≡ Ok r → TakesName (IsRouter c) (λ r. r.name) (map (λ s. s.name) c.servers) before r
+module _ (c : ConfigValue) where
+  pub one_router : (before : List RouterEntryValue) (d : Data) (r : RouterEntryValue) → router_at c.sites c.servers before d ≡ Ok r → TakesName (IsRouterEntry c) (λ r. r.name) (map (λ s. s.name) c.servers) before r
   unfolding router_at
   one_router before d r e =
       let node = bind_told (router_node c.servers before d) _ r e in
@@ -83,7 +83,7 @@ module _ (c : Configuration) where
       let listed = places_apart c.servers d places.0 places.1 in
       let few = few_nonces d block.0 block.1 in
       let kept = is_database d database.0 database.1 in
-      subst (TakesName (IsRouter c) (λ r. r.name) (map (λ s. s.name) c.servers) before) (same_ok _ r database.2) (record {
+      subst (TakesName (IsRouterEntry c) (λ r. r.name) (map (λ s. s.name) c.servers) before) (same_ok _ r database.2) (record {
         kind = record {
           name = named.name;
           address = named.address;
@@ -105,7 +105,7 @@ second_false true b none = absurd (true≢false none)
 second_false false b none = none
 
 -- no router before has the name of one that is read
-pub router_is_new : (sites : List SiteEntry) (servers : List Server) (before : List Router) (d : Data) (r : Router) → router_at sites servers before d ≡ Ok r → list_any (λ x. bytes_eq x.name r.name) before ≡ false
+pub router_is_new : (sites : List SiteValue) (servers : List ServerEntryValue) (before : List RouterEntryValue) (d : Data) (r : RouterEntryValue) → router_at sites servers before d ≡ Ok r → list_any (λ x. bytes_eq x.name r.name) before ≡ false
 router_is_new sites servers before d r e =
     let test : List ℕ → Bool = λ n. bytes_eq n r.name in
     let new = (one_router (record { sites = sites; servers = servers; routers = [] }) before d r e).new in

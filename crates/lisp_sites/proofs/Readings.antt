@@ -14,7 +14,7 @@ use Rattle.lisp_sites.specs.declared.fault.ConfigFault.TheVariants.{Missing, Bad
 use Rattle.lisp_sites.specs.declared.place.PlacedFault.{PlacedFault}
 use Rattle.lisp_sites.specs.Form.{text_as}
 use Rattle.lisp_records.specs.Result.{◌>>=◌}
-use Rattle.lisp_sites.specs.Table.{required_at, required, fresh, nowhere, told, within, in_entry, each, flat}
+use Rattle.lisp_sites.specs.Table.{required_at, required, fresh, nowhere, placed_nowhere, within, in_entry, each, flat}
 
 -- ---- one value
 
@@ -31,7 +31,7 @@ bind_ok (Ok x) f y e = (x, refl, e)
 bind_ok (Err w) f y e = absurd (not_ok w y e)
 
 -- the same where its fault is told without an entry, or with one
-pub told-Ok : {X : Type 0} (r : Result X ConfigFault) (x : X) → told r ≡ Ok x → r ≡ Ok x
+pub told-Ok : {X : Type 0} (r : Result X ConfigFault) (x : X) → placed_nowhere r ≡ Ok x → r ≡ Ok x
 told-Ok (Ok y) x e = ap Ok (same_ok y x e)
 told-Ok (Err w) x e = absurd (not_ok (record { fault = w; place = nowhere }) x e)
 
@@ -39,8 +39,8 @@ in_entry-Ok : {X : Type 0} (array : Field) (number : ℕ) (r : Result X PlacedFa
 in_entry-Ok array number (Ok y) x e = ap Ok (same_ok y x e)
 in_entry-Ok array number (Err f) x e = absurd (not_ok (within array number f) x e)
 
-pub bind_told : {A B : Type 0} (r : Result A ConfigFault) (f : A → Result B PlacedFault) (y : B) → (told r >>= f) ≡ Ok y → (x : A) × (r ≡ Ok x) × (f x ≡ Ok y)
-bind_told r f y e = let x = bind_ok (told r) f y e in (x.0, told-Ok r x.0 x.1, x.2)
+pub bind_told : {A B : Type 0} (r : Result A ConfigFault) (f : A → Result B PlacedFault) (y : B) → (placed_nowhere r >>= f) ≡ Ok y → (x : A) × (r ≡ Ok x) × (f x ≡ Ok y)
+bind_told r f y e = let x = bind_ok (placed_nowhere r) f y e in (x.0, told-Ok r x.0 x.1, x.2)
 
 pub ok_or-Ok : {X : Type 0} (o : Option X) (w : ConfigFault) (x : X) → ok_or o w ≡ Ok x → o ≡ Some x
 ok_or-Ok (Some y) w x e = ap Some (same_ok y x e)

@@ -12,15 +12,15 @@ use Rattle.std.proofs.lemmas.Option.{same_Some, cond_some}
 use Rattle.toml.specs.Data.{Data, get, as_str, as_array}
 use Rattle.lisp_records.specs.declared.database.DatabaseFault.TheVariants.{RepeatedPrefix, TooLarge}
 use Rattle.lisp_records.specs.declared.router.RouterId.{RouterId}
-use Rattle.lisp_records.specs.Record.{Mapping, IsMapping}
+use Rattle.lisp_records.specs.Record.{MapRecordValue, IsMapRecord}
 use Rattle.lisp_records.specs.Database.{repeats, size, database_of}
 use Rattle.lisp_texts.specs.Reading.{if_so, record_text_of}
 use Rattle.lisp_texts.specs.Form.{site_id_of, xtr_of}
 use Rattle.lisp_texts.proofs.Options.{bind_some}
 use Rattle.lisp_sites.specs.declared.field.Field.TheVariants as fields
 use Rattle.lisp_sites.specs.declared.fault.ConfigFault.TheVariants.{BadValue}
-use Rattle.lisp_policy.specs.Site.{SiteEntry, site_of, has_key}
-use Rattle.lisp_policy.specs.Configuration.{Server}
+use Rattle.lisp_policy.specs.Site.{SiteValue, site_of, has_key}
+use Rattle.lisp_policy.specs.Configuration.{ServerEntryValue}
 use Rattle.lisp_sites.specs.Form.{text_as, byte_as, nonce_block_as}
 use Rattle.lisp_sites.specs.Table.{required, optional_at, items, each, flat, router_site, router_key, router_identity, server_place, place_of, place_at, places_of, router_nonce_block, record_at, as_database, database_at}
 use Rattle.lisp_sites.proofs.Readings.{same_ok, bind_ok, bind_told, told-Ok, one_flat, ok_or-Ok, result_ok-Some, and_then-Some, required-Ok, required_text-Ok, fresh-Ok, none_like, each_keeps, all_push, AreApart, Joins, each_apart}
@@ -38,22 +38,22 @@ find-Some {X} test (x ∷ xs) y e = at (test x) refl e (find-Some test xs y)
     at false is e behind = behind e
 
 -- it has a key of its site
-pub record IsIdentity (sites : List SiteEntry) (me : RouterId × ℕ) : Type 0 where
+pub record IsIdentity (sites : List SiteValue) (me : RouterId × ℕ) : Type 0 where
   pub xtr : length me.0.xtr ≡ 16
   pub xtr_bytes : AllByRecursion (λ n. n < 256) me.0.xtr
   pub key_id : me.1 < 256
   pub key : IsSomeAnd (site_of sites me.0.site) (λ s. has_key s.keys me.1 ≡ true)
 
-module _ (sites : List SiteEntry) where
+module _ (sites : List SiteValue) where
   -- the site is found by its own Site-ID
-  site_there : (entry : Data) (site : SiteEntry) → router_site sites entry ≡ Ok site → site_of sites site.id ≡ Some site
+  site_there : (entry : Data) (site : SiteValue) → router_site sites entry ≡ Ok site → site_of sites site.id ≡ Some site
   site_there entry site e =
       let v = required-Ok fields.RouterSite (codes "site") (λ d. option_and_then (site_of sites) (text_as site_id_of d)) entry site e in
       let id = and_then-Some (site_of sites) (text_as site_id_of v.0) site v.1 in
       let same : site.id ≡ id.0 = eqb-true site.id id.0 (find-Some (λ s. s.id == id.0) sites site id.2) in
       ap (site_of sites) same ∙ id.2
 
-  key_there : (site : SiteEntry) (entry : Data) (id : ℕ) → router_key site entry ≡ Ok id → (id < 256) × (has_key site.keys id ≡ true)
+  key_there : (site : SiteValue) (entry : Data) (id : ℕ) → router_key site entry ≡ Ok id → (id < 256) × (has_key site.keys id ≡ true)
   key_there site entry id e =
       let v = required-Ok fields.RouterKey (codes "key") (λ d. option_and_then (λ n. if_so (has_key site.keys n) n) (byte_as d)) entry id e in
       let n = and_then-Some (λ n. if_so (has_key site.keys n) n) (byte_as v.0) id v.1 in
@@ -73,7 +73,7 @@ module _ (sites : List SiteEntry) where
         xtr = bytes.0;
         xtr_bytes = bytes.1;
         key_id = has.0;
-        key = subst (λ (o : Option SiteEntry). IsSomeAnd o (λ s. has_key s.keys id.0 ≡ true)) (sym (site_there entry site.0 site.1)) has.1;
+        key = subst (λ (o : Option SiteValue). IsSomeAnd o (λ s. has_key s.keys id.0 ≡ true)) (sym (site_there entry site.0 site.1)) has.1;
       })
 
 -- ---- how many nonces one save serves
@@ -87,11 +87,11 @@ few_nonces entry n e = at (get (codes "nonce_block") entry) e
 
 -- ---- a router's Map-Servers
 
-within : (test : Server → Bool) (servers : List Server) (k : ℕ) → position test servers ≡ Some k → k < length servers
+within : (test : ServerEntryValue → Bool) (servers : List ServerEntryValue) (k : ℕ) → position test servers ≡ Some k → k < length servers
 within test [] k e = cc e
 within test (s ∷ ss) k e = (position-Some test (s ∷ ss) k s e).0
 
-module _ (servers : List Server) where
+module _ (servers : List ServerEntryValue) where
   one_place : (before : List ℕ) (d : Data) (place : ℕ) → place_at servers before d ≡ Ok place → Joins (λ k. k < length servers) (λ a b. a ≢ b) before place
   one_place before d place e =
       let new = fresh-Ok fields.RouterServers (place_of servers d) (λ k. list_any (λ p. p == k) before) place e in
@@ -109,13 +109,13 @@ module _ (servers : List Server) where
 
 -- ---- a router's records
 
-one_record : (before : List Mapping) (d : Data) (m : Mapping) → record_at before d ≡ Ok m → IsMapping m
+one_record : (before : List MapRecordValue) (d : Data) (m : MapRecordValue) → record_at before d ≡ Ok m → IsMapRecord m
 one_record before d m e =
     let text = bind_some (as_str d) record_text_of m (ok_or-Ok (text_as record_text_of d) (BadValue fields.RouterRecords) m e) in
     record_fits text.0 m text.2
 
 -- the records that make a database are its records
-database_same : (ms db : List Mapping) → database_of ms ≡ Ok db → ms ≡ db
+database_same : (ms db : List MapRecordValue) → database_of ms ≡ Ok db → ms ≡ db
 database_same ms db e = at (ltb 255 (length ms)) (repeats ms) (ltb 16384 (size ms)) e
   where
     at : (many alike large : Bool) → (if many then Err TooLarge else (if alike then Err RepeatedPrefix else (if large then Err TooLarge else Ok ms))) ≡ Ok db → ms ≡ db
@@ -124,16 +124,16 @@ database_same ms db e = at (ltb 255 (length ms)) (repeats ms) (ltb 16384 (size m
     at false false true e = cc e
     at false false false e = same_ok ms db e
 
-pub record IsDatabase (db : List Mapping) : Type 0 where
-  pub records : AllByRecursion IsMapping db
+pub record IsDatabase (db : List MapRecordValue) : Type 0 where
+  pub records : AllByRecursion IsMapRecord db
   pub database : database_of db ≡ Ok db
 
-pub is_database : (entry : Data) (db : List Mapping) → database_at entry ≡ Ok db → IsDatabase db
+pub is_database : (entry : Data) (db : List MapRecordValue) → database_at entry ≡ Ok db → IsDatabase db
 unfolding database_at
 is_database entry db e =
     let texts = bind_told (items fields.RouterRecords (codes "records") entry) _ db e in
     let records = bind_ok (each fields.RouterRecords (flat record_at) [] 1 texts.0) _ db texts.2 in
     let made = result_ok-Some (database_of records.0) db (ok_or-Ok (result_ok (database_of records.0)) (BadValue fields.RouterRecords) db (told-Ok (as_database records.0) db records.2)) in
     let same = database_same records.0 db made in
-    let all = each_keeps (AllByRecursion IsMapping) fields.RouterRecords (flat record_at) (λ before d m reads so_far. all_push IsMapping before m so_far (one_flat record_at one_record before d m reads)) texts.0 [] records.0 1 records.1 tt in
-    record { records = subst (AllByRecursion IsMapping) same all; database = ap database_of (sym same) ∙ made }
+    let all = each_keeps (AllByRecursion IsMapRecord) fields.RouterRecords (flat record_at) (λ before d m reads so_far. all_push IsMapRecord before m so_far (one_flat record_at one_record before d m reads)) texts.0 [] records.0 1 records.1 tt in
+    record { records = subst (AllByRecursion IsMapRecord) same all; database = ap database_of (sym same) ∙ made }

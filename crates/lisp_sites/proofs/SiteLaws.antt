@@ -3,13 +3,13 @@ use Rattle.std.proofs.Common.{◌≡◌, ◌≢◌, false, ◌==◌, List, [], O
 use Rattle.std.specs.Prelude.{codes}
 use Rattle.std.proofs.lemmas.Bool.Decides.{Decides-eqb}
 use Rattle.toml.specs.Data.{Data, as_bool}
-use Rattle.lisp_records.specs.Address.{block_eq}
+use Rattle.lisp_records.specs.Address.{prefix_eq}
 use Rattle.lisp_records.proofs.DatabaseLaws.{block_eq-Decides}
 use Rattle.lisp_texts.specs.Reading.{prefix_of}
 use Rattle.lisp_texts.specs.Form.{site_id_of, secret_text_of}
 use Rattle.lisp_sites.specs.declared.field.Field.TheVariants as fields
 use Rattle.lisp_policy.specs.declared.site.SitePrefix.{SitePrefix}
-use Rattle.lisp_policy.specs.Site.{KeyEntry, SiteEntry, has_key}
+use Rattle.lisp_policy.specs.Site.{SiteKeyValue, SiteValue, has_key}
 use Rattle.lisp_policy.specs.Configuration.{IsKey, IsSitePrefix, IsSite}
 use Rattle.lisp_sites.specs.Form.{text_as, byte_as}
 use Rattle.lisp_sites.specs.Table.{required, optional, items, as_entry, each, flat, fresh_key_id, key_at, keys_of, has_eid, fresh_eid, prefix_at, prefixes_of, has_site, fresh_site_id, site_at, sites_of}
@@ -17,7 +17,7 @@ use Rattle.lisp_sites.proofs.Readings.{same_ok, bind_ok, bind_told, one_flat, re
 use Rattle.lisp_sites.proofs.Forms.{byte_fits, secret_fits, site_id_fits}
 use Rattle.lisp_sites.proofs.TextFits.{prefix_fits}
 
-one_key : (before : List KeyEntry) (d : Data) (k : KeyEntry) → key_at before d ≡ Ok k → Joins IsKey (λ a b. a.id ≢ b.id) before k
+one_key : (before : List SiteKeyValue) (d : Data) (k : SiteKeyValue) → key_at before d ≡ Ok k → Joins IsKey (λ a b. a.id ≢ b.id) before k
 unfolding key_at
 one_key before d k e =
     let entry = bind_ok (as_entry fields.SiteKey d) _ k e in
@@ -32,7 +32,7 @@ one_key before d k e =
       apart = none_like (λ x. x.id == id.0) (λ x. x.id ≡ id.0) (λ x. (Decides-eqb x.id id.0).1) before new.1;
     })
 
-keys_apart : (d : Data) (keys : List KeyEntry) → keys_of d ≡ Ok keys → AreApart IsKey (λ a b. a.id ≢ b.id) keys
+keys_apart : (d : Data) (keys : List SiteKeyValue) → keys_of d ≡ Ok keys → AreApart IsKey (λ a b. a.id ≢ b.id) keys
 keys_apart d keys e =
     let entries = bind_told (items fields.SiteKey (codes "key") d) (each fields.SiteKey (flat key_at) [] 1) keys e in
     each_apart IsKey (λ a b. a.id ≢ b.id) fields.SiteKey (flat key_at) (one_flat key_at one_key) entries.0 keys entries.2
@@ -48,7 +48,7 @@ one_prefix before d p e =
     let fits = prefix_fits text.0 eid.0 text.1 in
     subst (Joins IsSitePrefix (λ a b. a.eid ≢ b.eid) before) (same_ok (record { eid = eid.0; more_specifics = flag.0 }) p flag.2) (record {
       kind = record { whole = fits.0; block = fits.1 };
-      apart = none_like (λ x. block_eq x.eid eid.0) (λ x. x.eid ≡ eid.0) (λ x. (block_eq-Decides x.eid eid.0).1) before new.1;
+      apart = none_like (λ x. prefix_eq x.eid eid.0) (λ x. x.eid ≡ eid.0) (λ x. (block_eq-Decides x.eid eid.0).1) before new.1;
     })
 
 prefixes_apart : (d : Data) (prefixes : List SitePrefix) → prefixes_of d ≡ Ok prefixes → AreApart IsSitePrefix (λ a b. a.eid ≢ b.eid) prefixes
@@ -56,7 +56,7 @@ prefixes_apart d prefixes e =
     let entries = bind_told (items fields.SitePrefix (codes "prefix") d) (each fields.SitePrefix (flat prefix_at) [] 1) prefixes e in
     each_apart IsSitePrefix (λ a b. a.eid ≢ b.eid) fields.SitePrefix (flat prefix_at) (one_flat prefix_at one_prefix) entries.0 prefixes entries.2
 
-one_site : (before : List SiteEntry) (d : Data) (s : SiteEntry) → site_at before d ≡ Ok s → Joins IsSite (λ a b. a.id ≢ b.id) before s
+one_site : (before : List SiteValue) (d : Data) (s : SiteValue) → site_at before d ≡ Ok s → Joins IsSite (λ a b. a.id ≢ b.id) before s
 unfolding site_at
 one_site before d s e =
     let entry = bind_told (as_entry fields.Site d) _ s e in
@@ -72,7 +72,7 @@ one_site before d s e =
       apart = none_like (λ x. x.id == id.0) (λ x. x.id ≡ id.0) (λ x. (Decides-eqb x.id id.0).1) before new.1;
     })
 
-pub sites_apart : (d : Data) (sites : List SiteEntry) → sites_of d ≡ Ok sites → AreApart IsSite (λ a b. a.id ≢ b.id) sites
+pub sites_apart : (d : Data) (sites : List SiteValue) → sites_of d ≡ Ok sites → AreApart IsSite (λ a b. a.id ≢ b.id) sites
 sites_apart d sites e =
     let entries = bind_told (items fields.Site (codes "site") d) (each fields.Site site_at [] 1) sites e in
     each_apart IsSite (λ a b. a.id ≢ b.id) fields.Site site_at one_site entries.0 sites entries.2

@@ -4,8 +4,8 @@ use Rattle.std.specs.List.{AllByRecursion, AllZip, flat_map}
 use Rattle.lisp_records.specs.declared.address.Addr.{Addr}
 use Rattle.lisp_records.specs.declared.address.Addr.TheVariants.{V4, V6}
 use Rattle.lisp_records.specs.declared.locator.Locator.{Locator}
-use Rattle.lisp_records.specs.Address.{Block, IsBlock, IsWhole}
-use Rattle.lisp_records.specs.Record.{Mapping, IsLocator, IsMapping}
+use Rattle.lisp_records.specs.Address.{PrefixValue, IsPrefix, IsWhole}
+use Rattle.lisp_records.specs.Record.{MapRecordValue, IsLocator, IsMapRecord}
 use Rattle.lisp_records.proofs.AddressLemmas.{IsWhole-cleared, IsBlock-cleared}
 use Rattle.lisp_texts.specs.Text.{group_octets, IsAddressText, IsPrefixText, IsByteText, numbers_of_locator, IsLocatorText, IsRecordText}
 use Rattle.lisp_texts.specs.Reading.{address_of, prefix_of, record_text_of}
@@ -33,13 +33,13 @@ whole text (V6 octets) s = record {
 pub address_fits : (text : List ℕ) (a : Addr) → address_of text ≡ Some a → IsWhole a
 address_fits text a e = whole text a (address_takes text a e)
 
-prefix_whole : (text : List ℕ) (b : Block) → IsPrefixText text b → IsWhole b.addr × IsBlock b
+prefix_whole : (text : List ℕ) (b : PrefixValue) → IsPrefixText text b → IsWhole b.addr × IsPrefix b
 prefix_whole text b s = (
   subst IsWhole s.masked (IsWhole-cleared s.written b.mask_len (whole s.address s.written s.spelled)),
-  subst (λ (a : Addr). IsBlock (record { addr = a; mask_len = b.mask_len })) s.masked (IsBlock-cleared s.written b.mask_len s.mask),
+  subst (λ (a : Addr). IsPrefix (record { addr = a; mask_len = b.mask_len })) s.masked (IsBlock-cleared s.written b.mask_len s.mask),
 )
 
-pub prefix_fits : (text : List ℕ) (b : Block) → prefix_of text ≡ Some b → IsWhole b.addr × IsBlock b
+pub prefix_fits : (text : List ℕ) (b : PrefixValue) → prefix_of text ≡ Some b → IsWhole b.addr × IsPrefix b
 prefix_fits text b e = prefix_whole text b (prefix_takes text b e)
 
 each_byte : (pieces : List (List ℕ)) (numbers : List ℕ) → AllZip IsByteText pieces numbers → AllByRecursion (λ n. n < 256) numbers
@@ -62,10 +62,10 @@ locators_whole [] (l ∷ ls) each = absurd each
 locators_whole (p ∷ pieces) [] each = absurd each
 locators_whole (p ∷ pieces) (l ∷ ls) each = (locator_whole p l each.0, locators_whole pieces ls each.1)
 
-record_whole : (text : List ℕ) (m : Mapping) → IsRecordText text m → IsMapping m
+record_whole : (text : List ℕ) (m : MapRecordValue) → IsRecordText text m → IsMapRecord m
 record_whole text m s =
-    let act : m.act ≡ 0 = ap (λ (x : Mapping). x.act) s.flags in
-    let version : m.version ≡ 0 = ap (λ (x : Mapping). x.version) s.flags in
+    let act : m.act ≡ 0 = ap (λ (x : MapRecordValue). x.act) s.flags in
+    let version : m.version ≡ 0 = ap (λ (x : MapRecordValue). x.version) s.flags in
     let eid = prefix_whole s.prefix m.eid s.spelled in
     record {
       ttl = s.fits;
@@ -77,5 +77,5 @@ record_whole text m s =
       locators = locators_whole s.pieces m.locators s.each;
     }
 
-pub record_fits : (text : List ℕ) (m : Mapping) → record_text_of text ≡ Some m → IsMapping m
+pub record_fits : (text : List ℕ) (m : MapRecordValue) → record_text_of text ≡ Some m → IsMapRecord m
 record_fits text m e = record_whole text m (record_found {E = ConfigFault} text (Ok (Some m)) (sym e))

@@ -6,7 +6,7 @@ use Rattle.lisp_sites.specs.declared.fault.ConfigFault.TheVariants.{Toml, Missin
 use Rattle.lisp_sites.specs.declared.place.Place.{Place}
 use Rattle.lisp_sites.specs.declared.place.PlacedFault.{PlacedFault}
 use Rattle.lisp_records.specs.Result.{◌>>=◌}
-use Rattle.lisp_sites.specs.Table.{Fails, FailsAt, Gives, GivesAt, told, nowhere, unplaced}
+use Rattle.lisp_sites.specs.Table.{Fails, FailsAt, Gives, GivesAt, placed_nowhere, nowhere, unplaced}
 
 -- a fault of a part is the fault of the whole, where each is passed on, with its place
 pub FailsAt-passed : {X Y : Type 0} (e : ConfigFault) (p q : Place) (part : Result X PlacedFault) (whole : Result Y PlacedFault) → ((f : ConfigFault) → part ≡ Err (record { fault = f; place = p }) → whole ≡ Err (record { fault = f; place = q })) → FailsAt e p part → FailsAt e q whole
@@ -29,11 +29,11 @@ without_place view (Ok x) read gives = ap unplaced gives
 without_place view (Err f) read gives = Fails-unplaced f.fault f.place read gives
 
 -- a fault that is in no entry yet is that of what goes on from there
-pub told_fails : {X Y : Type 0} (e : ConfigFault) (read : Result X ConfigFault) (f : X → Result Y PlacedFault) → Fails e read → FailsAt e nowhere (told read >>= f)
-told_fails Toml read f fails = ap (λ r. told r >>= f) fails
-told_fails (Missing name) read f fails = ap (λ r. told r >>= f) fails
-told_fails (BadValue name) read f fails = ap (λ r. told r >>= f) fails
-told_fails (Repeated name) read f fails = ap (λ r. told r >>= f) fails
+pub told_fails : {X Y : Type 0} (e : ConfigFault) (read : Result X ConfigFault) (f : X → Result Y PlacedFault) → Fails e read → FailsAt e nowhere (placed_nowhere read >>= f)
+told_fails Toml read f fails = ap (λ r. placed_nowhere r >>= f) fails
+told_fails (Missing name) read f fails = ap (λ r. placed_nowhere r >>= f) fails
+told_fails (BadValue name) read f fails = ap (λ r. placed_nowhere r >>= f) fails
+told_fails (Repeated name) read f fails = ap (λ r. placed_nowhere r >>= f) fails
 told_fails OutOfMemory read f fails = tt
 
 -- the same of a fault that is in an entry

@@ -3,3 +3,4 @@ pub mod Field
 pub mod Keys
 pub mod Names
 pub mod Table
+pub mod Answers

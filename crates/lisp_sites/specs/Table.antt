@@ -7,8 +7,8 @@ use Rattle.std.specs.Str.{bytes_eq}
 use Rattle.toml.specs.Data.{Data, table, Items, no_items, item, Members, get, as_str, as_bool, as_array, as_table}
 use Rattle.lisp_records.specs.declared.address.Addr.{Addr}
 use Rattle.lisp_records.specs.declared.router.RouterId.{RouterId}
-use Rattle.lisp_records.specs.Address.{Block, block_eq}
-use Rattle.lisp_records.specs.Record.{Mapping}
+use Rattle.lisp_records.specs.Address.{PrefixValue, prefix_eq}
+use Rattle.lisp_records.specs.Record.{MapRecordValue}
 use Rattle.lisp_records.specs.Result.{◌>>=◌}
 use Rattle.lisp_records.specs.Database.{database_of}
 use Rattle.lisp_texts.specs.Reading.{if_so, address_of, prefix_of, record_text_of}
@@ -20,8 +20,8 @@ use Rattle.lisp_sites.specs.declared.place.Place.{Place}
 use Rattle.lisp_sites.specs.declared.place.PlacedFault.{PlacedFault}
 use Rattle.lisp_sites.specs.declared.fault.ConfigFault.TheVariants.{Toml, Missing, BadValue, Repeated, OutOfMemory}
 use Rattle.lisp_policy.specs.declared.site.SitePrefix.{SitePrefix}
-use Rattle.lisp_policy.specs.Site.{KeyEntry, SiteEntry, site_of, has_key}
-use Rattle.lisp_policy.specs.Configuration.{Server, Router, Configuration}
+use Rattle.lisp_policy.specs.Site.{SiteKeyValue, SiteValue, site_of, has_key}
+use Rattle.lisp_policy.specs.Configuration.{ServerEntryValue, RouterEntryValue, ConfigValue}
 use Rattle.lisp_sites.specs.Form.{name_of, text_as, byte_as, nonce_block_as}
 
 -- a field that has to be there: its name, its key in the entry, and the form of its value; Missing
@@ -57,9 +57,9 @@ as_entry name d = if is_some (as_table d) then Ok d else Err (BadValue name)
 abbrev pub nowhere : Place
 nowhere = record { entry = None; part = None }
 
-abbrev pub told : {X : Type 0} → Result X ConfigFault → Result X PlacedFault
-told (Ok x) = Ok x
-told (Err fault) = Err (record { fault = fault; place = nowhere })
+abbrev pub placed_nowhere : {X : Type 0} → Result X ConfigFault → Result X PlacedFault
+placed_nowhere (Ok x) = Ok x
+placed_nowhere (Err fault) = Err (record { fault = fault; place = nowhere })
 
 -- a fault in an entry of an array: the entry is its place, and the entry that was its place is the part of it
 abbrev pub within : Field → ℕ → PlacedFault → PlacedFault
@@ -82,17 +82,17 @@ one_more read before d = read before d >>= λ x. Ok (before ++ x ∷ [])
 
 -- the items of an array, none where it is absent, read so
 abbrev pub each_item : {X : Type 0} → Field → List ℕ → (List X → Data → Result X PlacedFault) → List X → Data → Result (List X) PlacedFault
-each_item name key read before d = told (items name key d) >>= each name read before 1
+each_item name key read before d = placed_nowhere (items name key d) >>= each name read before 1
 
 -- an item that has no entries of its own
 abbrev pub flat : {X : Type 0} → (List X → Data → Result X ConfigFault) → List X → Data → Result X PlacedFault
-flat read before d = told (read before d)
+flat read before d = placed_nowhere (read before d)
 
 -- site.key: id, no two alike in a site; secret
-abbrev pub fresh_key_id : List KeyEntry → Data → Result ℕ ConfigFault
+abbrev pub fresh_key_id : List SiteKeyValue → Data → Result ℕ ConfigFault
 fresh_key_id before d = required fields.SiteKeyId (codes "id") byte_as d >>= λ id. fresh fields.SiteKeyId (has_key before id) id
 
-unfoldable pub key_at : List KeyEntry → Data → Result KeyEntry ConfigFault
+unfoldable pub key_at : List SiteKeyValue → Data → Result SiteKeyValue ConfigFault
 key_at before d = do
   entry ← as_entry fields.SiteKey d
   id ← fresh_key_id before entry
@@ -100,10 +100,10 @@ key_at before d = do
   Ok (record { id = id; secret = secret })
 
 -- site.prefix: eid, no two alike in a site; more_specifics
-abbrev pub has_eid : List SitePrefix → Block → Bool
-has_eid prefixes eid = list_any (λ p. block_eq p.eid eid) prefixes
+abbrev pub has_eid : List SitePrefix → PrefixValue → Bool
+has_eid prefixes eid = list_any (λ p. prefix_eq p.eid eid) prefixes
 
-abbrev pub fresh_eid : List SitePrefix → Data → Result Block ConfigFault
+abbrev pub fresh_eid : List SitePrefix → Data → Result PrefixValue ConfigFault
 fresh_eid before d = required fields.SitePrefixEid (codes "eid") (text_as prefix_of) d >>= λ eid. fresh fields.SitePrefixEid (has_eid before eid) eid
 
 unfoldable pub prefix_at : List SitePrefix → Data → Result SitePrefix ConfigFault
@@ -114,34 +114,34 @@ prefix_at before d = do
   Ok (record { eid = eid; more_specifics = more_specifics })
 
 -- site: id, no two alike; its keys; its prefixes
-abbrev pub has_site : List SiteEntry → ℕ → Bool
+abbrev pub has_site : List SiteValue → ℕ → Bool
 has_site sites id = list_any (λ s. s.id == id) sites
 
-abbrev pub fresh_site_id : List SiteEntry → Data → Result ℕ ConfigFault
+abbrev pub fresh_site_id : List SiteValue → Data → Result ℕ ConfigFault
 fresh_site_id before d = required fields.SiteId (codes "id") (text_as site_id_of) d >>= λ id. fresh fields.SiteId (has_site before id) id
 
-abbrev pub keys_of : Data → Result (List KeyEntry) PlacedFault
+abbrev pub keys_of : Data → Result (List SiteKeyValue) PlacedFault
 keys_of d = each_item fields.SiteKey (codes "key") (flat key_at) [] d
 
 abbrev pub prefixes_of : Data → Result (List SitePrefix) PlacedFault
 prefixes_of d = each_item fields.SitePrefix (codes "prefix") (flat prefix_at) [] d
 
-unfoldable pub site_at : List SiteEntry → Data → Result SiteEntry PlacedFault
+unfoldable pub site_at : List SiteValue → Data → Result SiteValue PlacedFault
 site_at before d = do
-  entry ← told (as_entry fields.Site d)
-  id ← told (fresh_site_id before entry)
+  entry ← placed_nowhere (as_entry fields.Site d)
+  id ← placed_nowhere (fresh_site_id before entry)
   keys ← keys_of entry
   prefixes ← prefixes_of entry
   Ok (record { id = id; keys = keys; prefixes = prefixes })
 
 -- server: name, no two nodes alike; address
-abbrev pub has_server : List Server → List ℕ → Bool
+abbrev pub has_server : List ServerEntryValue → List ℕ → Bool
 has_server servers name = list_any (λ s. bytes_eq s.name name) servers
 
-abbrev pub fresh_server_name : List Server → Data → Result (List ℕ) ConfigFault
+abbrev pub fresh_server_name : List ServerEntryValue → Data → Result (List ℕ) ConfigFault
 fresh_server_name before d = required fields.ServerName (codes "name") (text_as name_of) d >>= λ name. fresh fields.ServerName (has_server before name) name
 
-unfoldable pub server_at : List Server → Data → Result Server ConfigFault
+unfoldable pub server_at : List ServerEntryValue → Data → Result ServerEntryValue ConfigFault
 server_at before d = do
   entry ← as_entry fields.Server d
   name ← fresh_server_name before entry
@@ -149,13 +149,13 @@ server_at before d = do
   Ok (record { name = name; address = address })
 
 -- router: name, no two nodes alike; address
-abbrev pub has_router : List Router → List ℕ → Bool
+abbrev pub has_router : List RouterEntryValue → List ℕ → Bool
 has_router routers name = list_any (λ r. bytes_eq r.name name) routers
 
-abbrev pub fresh_router_name : List Server → List Router → Data → Result (List ℕ) ConfigFault
+abbrev pub fresh_router_name : List ServerEntryValue → List RouterEntryValue → Data → Result (List ℕ) ConfigFault
 fresh_router_name servers before d = required fields.RouterName (codes "name") (text_as name_of) d >>= λ name. fresh fields.RouterName (has_server servers name || has_router before name) name
 
-unfoldable pub router_node : List Server → List Router → Data → Result (List ℕ × Addr) ConfigFault
+unfoldable pub router_node : List ServerEntryValue → List RouterEntryValue → Data → Result (List ℕ × Addr) ConfigFault
 router_node servers before d = do
   entry ← as_entry fields.Router d
   name ← fresh_router_name servers before entry
@@ -163,13 +163,13 @@ router_node servers before d = do
   Ok (name, address)
 
 -- site, a configured one; xtr; key, one of that site
-abbrev pub router_site : List SiteEntry → Data → Result SiteEntry ConfigFault
+abbrev pub router_site : List SiteValue → Data → Result SiteValue ConfigFault
 router_site sites entry = required fields.RouterSite (codes "site") (λ d. option_and_then (site_of sites) (text_as site_id_of d)) entry
 
-abbrev pub router_key : SiteEntry → Data → Result ℕ ConfigFault
+abbrev pub router_key : SiteValue → Data → Result ℕ ConfigFault
 router_key site entry = required fields.RouterKey (codes "key") (λ d. option_and_then (λ id. if_so (has_key site.keys id) id) (byte_as d)) entry
 
-unfoldable pub router_identity : List SiteEntry → Data → Result (RouterId × ℕ) ConfigFault
+unfoldable pub router_identity : List SiteValue → Data → Result (RouterId × ℕ) ConfigFault
 router_identity sites entry = do
   site ← router_site sites entry
   xtr ← required fields.RouterXtr (codes "xtr") (text_as xtr_of) entry
@@ -177,17 +177,17 @@ router_identity sites entry = do
   Ok (record { site = site.id; xtr = xtr }, key_id)
 
 -- servers: names of servers, no two alike, kept as their places
-abbrev pub server_place : List Server → List ℕ → Option ℕ
+abbrev pub server_place : List ServerEntryValue → List ℕ → Option ℕ
 server_place servers name = position (λ s. bytes_eq s.name name) servers
 
-abbrev pub place_of : List Server → Data → Result ℕ ConfigFault
+abbrev pub place_of : List ServerEntryValue → Data → Result ℕ ConfigFault
 place_of servers d = ok_or (option_and_then (server_place servers) (as_str d)) (BadValue fields.RouterServers)
 
-abbrev pub place_at : List Server → List ℕ → Data → Result ℕ ConfigFault
+abbrev pub place_at : List ServerEntryValue → List ℕ → Data → Result ℕ ConfigFault
 place_at servers before d = place_of servers d >>= λ place. fresh fields.RouterServers (list_any (λ p. p == place) before) place
 
-abbrev pub places_of : List Server → Data → Result (List ℕ) PlacedFault
-places_of servers entry = told (required fields.RouterServers (codes "servers") as_array entry) >>= each fields.RouterServers (flat (place_at servers)) [] 1
+abbrev pub places_of : List ServerEntryValue → Data → Result (List ℕ) PlacedFault
+places_of servers entry = placed_nowhere (required fields.RouterServers (codes "servers") as_array entry) >>= each fields.RouterServers (flat (place_at servers)) [] 1
 
 -- proxy, use_ttl
 unfoldable pub router_flags : Data → Result (Bool × Bool) ConfigFault
@@ -201,25 +201,25 @@ abbrev pub router_nonce_block : Data → Result ℕ ConfigFault
 router_nonce_block entry = optional fields.RouterNonceBlock (codes "nonce_block") nonce_block_as 1 entry
 
 -- records: texts of records that make a database
-abbrev pub record_at : List Mapping → Data → Result Mapping ConfigFault
+abbrev pub record_at : List MapRecordValue → Data → Result MapRecordValue ConfigFault
 record_at before d = ok_or (text_as record_text_of d) (BadValue fields.RouterRecords)
 
-abbrev pub as_database : List Mapping → Result (List Mapping) ConfigFault
+abbrev pub as_database : List MapRecordValue → Result (List MapRecordValue) ConfigFault
 as_database records = ok_or (result_ok (database_of records)) (BadValue fields.RouterRecords)
 
-unfoldable pub database_at : Data → Result (List Mapping) PlacedFault
+unfoldable pub database_at : Data → Result (List MapRecordValue) PlacedFault
 database_at entry = do
-  texts ← told (items fields.RouterRecords (codes "records") entry)
+  texts ← placed_nowhere (items fields.RouterRecords (codes "records") entry)
   records ← each fields.RouterRecords (flat record_at) [] 1 texts
-  told (as_database records)
+  placed_nowhere (as_database records)
 
-unfoldable pub router_at : List SiteEntry → List Server → List Router → Data → Result Router PlacedFault
+unfoldable pub router_at : List SiteValue → List ServerEntryValue → List RouterEntryValue → Data → Result RouterEntryValue PlacedFault
 router_at sites servers before d = do
-  node ← told (router_node servers before d)
-  identity ← told (router_identity sites d)
+  node ← placed_nowhere (router_node servers before d)
+  identity ← placed_nowhere (router_identity sites d)
   places ← places_of servers d
-  flags ← told (router_flags d)
-  nonce_block ← told (router_nonce_block d)
+  flags ← placed_nowhere (router_flags d)
+  nonce_block ← placed_nowhere (router_nonce_block d)
   database ← database_at d
   Ok (record {
     name = node.0;
@@ -234,16 +234,16 @@ router_at sites servers before d = do
   })
 
 -- the whole document: sites, then servers, then routers
-abbrev pub sites_of : Data → Result (List SiteEntry) PlacedFault
+abbrev pub sites_of : Data → Result (List SiteValue) PlacedFault
 sites_of d = each_item fields.Site (codes "site") site_at [] d
 
-abbrev pub servers_of : Data → Result (List Server) PlacedFault
+abbrev pub servers_of : Data → Result (List ServerEntryValue) PlacedFault
 servers_of d = each_item fields.Server (codes "server") (flat server_at) [] d
 
-abbrev pub routers_of : List SiteEntry → List Server → Data → Result (List Router) PlacedFault
+abbrev pub routers_of : List SiteValue → List ServerEntryValue → Data → Result (List RouterEntryValue) PlacedFault
 routers_of sites servers d = each_item fields.Router (codes "router") (router_at sites servers) [] d
 
-unfoldable pub configuration_of : Data → Result Configuration PlacedFault
+unfoldable pub configuration_of : Data → Result ConfigValue PlacedFault
 configuration_of d = do
   sites ← sites_of d
   servers ← servers_of d
@@ -256,15 +256,15 @@ document_of None = Err Toml
 document_of (Some ms) = Ok (table ms)
 
 -- the configuration that a text says, as `toml` reads it, or its first fault with the place
-abbrev pub placed_config_of : Option Members → Result Configuration PlacedFault
-placed_config_of read = told (document_of read) >>= configuration_of
+abbrev pub placed_config_of : Option Members → Result ConfigValue PlacedFault
+placed_config_of read = placed_nowhere (document_of read) >>= configuration_of
 
 -- the same without the place
 abbrev pub unplaced : {X : Type 0} → Result X PlacedFault → Result X ConfigFault
 unplaced (Ok x) = Ok x
 unplaced (Err e) = Err e.fault
 
-abbrev pub config_of : Option Members → Result Configuration ConfigFault
+abbrev pub config_of : Option Members → Result ConfigValue ConfigFault
 config_of read = unplaced (placed_config_of read)
 
 -- what a function answers, seen by view, is what the table gives; out of memory may come at any time

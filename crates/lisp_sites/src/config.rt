@@ -3,7 +3,7 @@
 ghost use Rattle.std.specs.Prelude.{◌≡◌, ◌+◌, IfErr, length};
 ghost use Rattle.toml.specs.Parse.{parse_document};
 ghost use Rattle.toml.specs.View.{view};
-ghost use Rattle.lisp_policy.specs.Configuration.{IsConfiguration};
+ghost use Rattle.lisp_policy.specs.Configuration.{IsConfig};
 ghost use Rattle.lisp_sites.specs.Table.{Gives, GivesAt, unplaced, document_of, configuration_of, placed_config_of, config_of};
 ghost use Rattle.lisp_sites.specs.declared.fault.ConfigFault.TheVariants.{OutOfMemory};
 
@@ -33,13 +33,13 @@ pub struct Config<A: Allocator = Global> {
 }
 
 impl<A: Allocator> Model for Config<A> {
-    ghost use Rattle.lisp_policy.specs.Configuration.{Configuration, IsConfiguration};
+    ghost use Rattle.lisp_policy.specs.Configuration.{ConfigValue, IsConfig};
 
-    ghost Value = { Configuration };
+    ghost Value = { ConfigValue };
 
     ghost view = { λ c. record { sites = c.sites; servers = c.servers.items; routers = c.routers.items } };
 
-    ghost invariant = { λ c. IsConfiguration (record { sites = c.sites; servers = c.servers.items; routers = c.routers.items }) };
+    ghost invariant = { λ c. IsConfig (record { sites = c.sites; servers = c.servers.items; routers = c.routers.items }) };
 }
 
 impl<A: Allocator> Config<A> {
@@ -62,7 +62,7 @@ impl<A: Allocator> Config<A> {
         ensures routers { result.now ≡ self.now.routers }
 
         // What the type promises of every configuration.
-        ensures configuration { IsConfiguration self.now }
+        ensures configuration { IsConfig self.now }
     {
         &self.routers
     }

@@ -1,8 +1,7 @@
 //! Reading the entries of an array, one after the other.
 
 ghost use Rattle.std.specs.Prelude.{◌≡◌, IfErr};
-ghost use Rattle.toml.specs.View.{view, items_view};
-ghost use Rattle.lisp_sites.specs.Table.{GivesAt, each, one_more, each_item};
+ghost use Rattle.lisp_sites.specs.Answers.{GivesOneMore, GivesEach, GivesTables};
 ghost use Rattle.lisp_sites.specs.declared.fault.ConfigFault.TheVariants.{OutOfMemory};
 
 use crate::field::Field;
@@ -29,7 +28,7 @@ pub(crate) trait Entries {
 
     /// Reads one more entry, behind those before it.
     fn read_next(&mut self, given: &Self::Given, entry: &Value) -> Result<(), PlacedFault>
-        ensures gives { GivesAt (λ _. entries self.new) result (one_more (read given.now) (entries self.old) (view entry.now)) }
+        ensures gives { GivesOneMore entries self.old self.new result (read given.now) entry.now }
         ensures memory { IfErr result (λ f. f.fault ≡ OutOfMemory → may_refuse) };
 }
 
@@ -40,7 +39,7 @@ pub(crate) fn read_each<L: Entries + Drop>(
     array: Field,
     values: &[Value],
 ) -> Result<L, PlacedFault>
-    ensures gives { GivesAt L.entries result (each array (L.read given.now) (L.entries list) 1 (items_view values.now)) }
+    ensures gives { GivesEach L.entries result array (L.read given.now) list values.now }
     ensures memory { IfErr result (λ f. f.fault ≡ OutOfMemory → L.may_refuse) }
 {
     for (index, value) in values.iter().enumerate() {
@@ -60,7 +59,7 @@ pub(crate) fn read_tables<L: Entries + Drop>(
     entry: &Value,
     key: &str,
 ) -> Result<L, PlacedFault>
-    ensures gives { GivesAt L.entries result (each_item array key.now (L.read given.now) (L.entries list) (view entry.now)) }
+    ensures gives { GivesTables L.entries result array key.now (L.read given.now) list entry.now }
     ensures memory { IfErr result (λ f. f.fault ≡ OutOfMemory → L.may_refuse) }
 {
     read_each(list, given, array, tables(entry, key, array)?)

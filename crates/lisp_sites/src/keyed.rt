@@ -1,8 +1,8 @@
 //! Elements that are told apart by keys.
 
-ghost use Rattle.std.specs.Prelude.{◌≡◌, [], ◌∷◌, ◌++◌, true, OnOk, OnErr, IfErr};
-ghost use Rattle.std.specs.BTreeSet.{Updates, IsUnchanged};
+ghost use Rattle.std.specs.Prelude.{◌≡◌, [], ◌∷◌, ◌++◌, OnOk, OnErr, IfErr};
 ghost use Rattle.std.specs.List.{list_any};
+ghost use Rattle.lisp_sites.specs.Keys.{AddsKeyed, KeepsKeyed};
 ghost use Rattle.lisp_sites.specs.declared.fault.ConfigFault.TheVariants.{OutOfMemory};
 
 use crate::fault::ConfigFault;
@@ -86,8 +86,8 @@ fn add<T: Copy, K: Ord + Copy, A: Memory + Copy>(
     item: T,
     key: K,
 ) -> Result<(), ConfigFault>
-    ensures added { OnOk result ((items.new.items ≡ items.old.items ++ item ∷ []) × Updates K.cmp keys.old keys.new key true) }
-    ensures same { OnErr result ((items.new.items ≡ items.old.items) × IsUnchanged keys.old keys.new) }
+    ensures added { OnOk result (AddsKeyed K.cmp items.old items.new item keys.old keys.new key) }
+    ensures same { OnErr result (KeepsKeyed items.old items.new keys.old keys.new) }
     ensures memory { IfErr result (λ fault. (fault ≡ OutOfMemory) × A.may_refuse) }
 {
     items.make_room(1)?;

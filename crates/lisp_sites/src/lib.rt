@@ -18,7 +18,7 @@ mod value;
 pub use config::Config;
 pub use fault::ConfigFault;
 pub use field::Field;
-pub use lisp_policy::{Places, Site, SitePrefix, Sites};
+pub use lisp_policy::{Places, Site, SiteKey, SitePrefix, Sites};
 pub use lisp_texts::{
     MAX_SECRET, addr_from_text, addr_to_text, number_from_text, prefix_from_text, prefix_to_text,
     record_from_text, record_to_text, secret_from_text, site_id_from_text, xtr_from_text,

@@ -3,7 +3,7 @@
 ghost use Rattle.std.specs.Prelude.{◌≡◌, false, [], ◌∷◌, ◌++◌, OnOk, IfErr, position};
 ghost use Rattle.std.specs.List.{list_any};
 ghost use Rattle.std.specs.Str.{bytes_eq};
-ghost use Rattle.lisp_sites.specs.Names.{ArePlaces};
+ghost use Rattle.lisp_sites.specs.Names.{KeepsPlaces};
 ghost use Rattle.lisp_sites.specs.declared.fault.ConfigFault.TheVariants.{OutOfMemory};
 
 use crate::fault::ConfigFault;
@@ -98,7 +98,7 @@ fn add<N: Named + Drop, A: Memory + Copy>(
     node: N,
 ) -> Result<(), ConfigFault>
     ensures added { OnOk result (items.new.items ≡ items.old.items ++ node ∷ []) }
-    ensures placed { ArePlaces places.old N.name items.old.items → list_any (λ n. bytes_eq (N.name n) (N.name node)) items.old.items ≡ false → ArePlaces places.new N.name items.new.items }
+    ensures placed { KeepsPlaces N.name places.old places.new items.old items.new node }
     ensures memory { IfErr result (λ fault. (fault ≡ OutOfMemory) × A.may_refuse) }
 {
     items.make_room(1)?;

@@ -4,7 +4,8 @@ ghost use Rattle.std.specs.Prelude.{◌≡◌, [], IfErr, IsErrOf};
 ghost use Rattle.toml.specs.View.{view, items_view};
 ghost use Rattle.lisp_records.specs.Result.{Reads};
 ghost use Rattle.lisp_policy.specs.Site.{has_key};
-ghost use Rattle.lisp_sites.specs.Table.{Gives, GivesAt, flat, router_node, router_site, router_key, router_identity, place_of, place_at, places_of, router_flags, record_at, as_database, database_at, router_at, routers_of};
+ghost use Rattle.lisp_sites.specs.Table.{Gives, GivesAt, flat, router_site, router_key, router_identity, place_of, place_at, places_of, router_flags, record_at, as_database, database_at, router_at};
+ghost use Rattle.lisp_sites.specs.Answers.{GivesNode, GivesRouter, GivesRouters};
 ghost use Rattle.lisp_sites.specs.declared.fault.ConfigFault.TheVariants.{OutOfMemory};
 
 use crate::entries::{Entries, read_each, read_tables};
@@ -48,9 +49,9 @@ pub struct RouterEntry<A: Allocator = Global> {
 }
 
 impl<A: Allocator> Model for RouterEntry<A> {
-    ghost use Rattle.lisp_policy.specs.Configuration.{Router};
+    ghost use Rattle.lisp_policy.specs.Configuration.{RouterEntryValue};
 
-    ghost Value = { Router };
+    ghost Value = { RouterEntryValue };
 
     ghost view = { λ r. record { name = r.name; address = r.address; me = r.me; key_id = r.key_id; servers = r.servers; proxy = r.proxy; use_ttl = r.use_ttl; nonce_block = r.nonce_block; database = r.database } };
 }
@@ -76,7 +77,7 @@ pub(crate) fn read_routers<A: Memory + Copy>(
     network: &Network<A>,
     document: &Value,
 ) -> Result<Nodes<RouterEntry<A>, A>, PlacedFault>
-    ensures gives { GivesAt (λ routers. routers) result (routers_of network.now.sites network.now.servers (view document.now)) }
+    ensures gives { GivesRouters result network.now.sites network.now.servers document.now }
     ensures memory { IfErr result (λ f. f.fault ≡ OutOfMemory → A.may_refuse) }
 {
     let routers = Nodes::new(network.alloc);
@@ -107,7 +108,7 @@ fn read_router<A: Memory + Copy>(
     entry: &Value,
     before: &Nodes<RouterEntry<A>, A>,
 ) -> Result<RouterEntry<A>, PlacedFault>
-    ensures gives { GivesAt (λ r. r) result (router_at network.now.sites network.now.servers before.now (view entry.now)) }
+    ensures gives { GivesRouter result network.now.sites network.now.servers before.now entry.now }
     ensures memory { IfErr result (λ f. f.fault ≡ OutOfMemory → A.may_refuse) }
 {
     let alloc = network.alloc;
@@ -138,7 +139,7 @@ fn read_node<A: Memory + Copy>(
     servers: &Nodes<ServerEntry<A>, A>,
     before: &Nodes<RouterEntry<A>, A>,
 ) -> Result<(Name<A>, Addr), ConfigFault>
-    ensures gives { Gives (λ n. (n.0, n.1)) result (router_node servers.now before.now (view entry.now)) }
+    ensures gives { GivesNode result servers.now before.now entry.now }
     ensures memory { IsErrOf result OutOfMemory → A.may_refuse }
 {
     check_table(entry, Field::Router)?;

@@ -29,9 +29,9 @@ pub struct ServerEntry<A: Allocator = Global> {
 }
 
 impl<A: Allocator> Model for ServerEntry<A> {
-    ghost use Rattle.lisp_policy.specs.Configuration.{Server};
+    ghost use Rattle.lisp_policy.specs.Configuration.{ServerEntryValue};
 
-    ghost Value = { Server };
+    ghost Value = { ServerEntryValue };
 
     ghost view = { λ s. record { name = s.name; address = s.address } };
 }

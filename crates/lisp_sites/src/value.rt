@@ -3,12 +3,13 @@
 
 ghost use Rattle.std.specs.Prelude.{◌≡◌, IsErrOf, false, ok_or};
 ghost use Rattle.toml.specs.Data.{as_str, as_bool, as_array};
-ghost use Rattle.toml.specs.View.{view, items_view};
+ghost use Rattle.toml.specs.View.{view};
 ghost use Rattle.lisp_texts.specs.Reading.{address_of, prefix_of};
-ghost use Rattle.lisp_texts.specs.Form.{site_id_of, xtr_of, secret_text_of};
+ghost use Rattle.lisp_texts.specs.Form.{site_id_of, xtr_of};
 ghost use Rattle.lisp_sites.specs.Form.{name_of, text_as, byte_as, nonce_block_as};
 ghost use Rattle.lisp_records.specs.Result.{Reads};
-ghost use Rattle.lisp_sites.specs.Table.{Gives, required, optional, items, as_entry};
+ghost use Rattle.lisp_sites.specs.Table.{required, optional, items, as_entry};
+ghost use Rattle.lisp_sites.specs.Answers.{ReadsItems, ReadsText, GivesSecret};
 ghost use Rattle.lisp_sites.specs.declared.fault.ConfigFault.TheVariants.{BadValue, OutOfMemory};
 
 use crate::fault::ConfigFault;
@@ -28,7 +29,7 @@ pub(crate) fn tables<'a>(
     key: &str,
     name: Field,
 ) -> Result<&'a [Value], ConfigFault>
-    ensures reads { Reads (λ vs. items_view vs.now) result (items name key.now (view entry.now)) }
+    ensures reads { ReadsItems result (items name key.now (view entry.now)) }
     ensures plain { ¬ (IsErrOf result OutOfMemory) }
 {
     match entry.get(key) {
@@ -43,7 +44,7 @@ pub(crate) fn array<'a>(
     key: &str,
     name: Field,
 ) -> Result<&'a [Value], ConfigFault>
-    ensures reads { Reads (λ vs. items_view vs.now) result (required name key.now as_array (view entry.now)) }
+    ensures reads { ReadsItems result (required name key.now as_array (view entry.now)) }
     ensures plain { ¬ (IsErrOf result OutOfMemory) }
 {
     match entry.get(key) {
@@ -54,7 +55,7 @@ pub(crate) fn array<'a>(
 
 // The elements of an array.
 fn elements(value: &Value, name: Field) -> Result<&[Value], ConfigFault>
-    ensures reads { Reads (λ vs. items_view vs.now) result (ok_or (as_array (view value.now)) (BadValue name)) }
+    ensures reads { ReadsItems result (ok_or (as_array (view value.now)) (BadValue name)) }
     ensures plain { ¬ (IsErrOf result OutOfMemory) }
 {
     match value.as_array() {
@@ -77,7 +78,7 @@ pub(crate) fn check_table(entry: &Value, name: Field) -> Result<(), ConfigFault>
 
 // A text that has to be there.
 fn text<'a>(entry: &'a Value, key: &str, name: Field) -> Result<&'a str, ConfigFault>
-    ensures reads { Reads (λ t. t.now) result (required name key.now as_str (view entry.now)) }
+    ensures reads { ReadsText result (required name key.now as_str (view entry.now)) }
     ensures plain { ¬ (IsErrOf result OutOfMemory) }
 {
     match entry.get(key) {
@@ -189,7 +190,7 @@ pub(crate) fn secret<A: Memory>(
     key: &str,
     name: Field,
 ) -> Result<Bytes<A>, ConfigFault>
-    ensures gives { Gives (λ b. b) result (required name key.now (text_as secret_text_of) (view entry.now)) }
+    ensures gives { GivesSecret result name key.now entry.now }
     ensures memory { IsErrOf result OutOfMemory → A.may_refuse }
 {
     match secret_from_text(alloc, text(entry, key, name)?)? {
@@ -200,7 +201,7 @@ pub(crate) fn secret<A: Memory>(
 
 /// The text of a node's name.
 pub(crate) fn name<'a>(entry: &'a Value, key: &str, name: Field) -> Result<&'a str, ConfigFault>
-    ensures reads { Reads (λ t. t.now) result (required name key.now (text_as name_of) (view entry.now)) }
+    ensures reads { ReadsText result (required name key.now (text_as name_of) (view entry.now)) }
     ensures plain { ¬ (IsErrOf result OutOfMemory) }
 {
     let text = text(entry, key, name)?;

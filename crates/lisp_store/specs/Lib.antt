@@ -1,3 +1,4 @@
 pub mod Failing
+pub mod File
 pub mod NonceText
 pub mod NonceLine

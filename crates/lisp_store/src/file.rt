@@ -1,10 +1,11 @@
 //! A store in files, one for each pair.
 
-ghost use Rattle.std.specs.Prelude.{◌≡◌, ◌≢◌, ◌≤◌, ◌+◌, ◌-◌, ◌^◌, Err, false, IfOk, IfErr, OnErr, IsErrOf, length, min};
+ghost use Rattle.std.specs.Prelude.{◌≡◌, ◌≢◌, ◌≤◌, Err, false, IfOk, IfErr, OnErr, IsErrOf, length};
 ghost use Rattle.std.specs.FinMap.{empty};
 ghost use Rattle.lisp_nonces.specs.Store.{StoreState};
 ghost use Rattle.lisp_nonces.specs.declared.fate.Fate.{Fate};
 ghost use Rattle.lisp_nonces.specs.declared.fault.StoreFault.{StoreFault};
+ghost use Rattle.lisp_store.specs.File.{CountsFault};
 
 use crate::text::{nonce_from_text, nonce_text};
 use lisp_memory::{FallibleString, Memory};
@@ -41,7 +42,7 @@ pub struct FileStore<R> {
 impl<R: Files + AllocGlobal + Clone + Drop> FileStore<R> {
     /// A store over the folder `dir`, which must be there; touches no file.
     pub fn open(rt: &R, dir: &str) -> Result<FileStore<R>, AllocError>
-        ensures faults { IfOk result (λ store. (⟦<FileStore<R> as NonceStore>⟧.seen store).faults ≡ 0) }
+        ensures faults { IfOk result (λ store. (⟦<Self as NonceStore>⟧.seen store).faults ≡ 0) }
         ensures memory { R.is_infallible rt.now → OnErr result ⟦<Global as Memory>⟧.may_refuse }
     {
         Ok(FileStore {
@@ -124,7 +125,7 @@ impl<R> FileStore<R> {
     // The answer, which is counted if it is a fault of the device.
     fn counted<T>(&mut self, answer: Result<T, StoreFault>) -> Result<T, StoreFault>
         ensures same { result ≡ answer }
-        ensures fault { IfErr result (λ f. f ≢ StoreFault.OutOfMemory → self.new.faults ≡ min (self.old.faults + 1) (2 ^ 64 - 1)) }
+        ensures fault { IfErr result (CountsFault self.old.faults self.new.faults) }
         ensures memory { IsErrOf result StoreFault.OutOfMemory → self.new.faults ≡ self.old.faults }
         ensures count { self.old.faults ≤ self.new.faults }
     {

@@ -1,7 +1,7 @@
 //! The text of a nonce in a file.
 
-ghost use Rattle.std.specs.Prelude.{◌≡◌, ◌<◌, ◌^◌, ℕ, Some, IfSome, length};
-ghost use Rattle.lisp_store.specs.NonceText.{last_digits, nonce_text};
+ghost use Rattle.std.specs.Prelude.{◌≡◌, IfSome, length};
+ghost use Rattle.lisp_store.specs.NonceText.{last_digits, nonce_text, FindsNonce};
 
 /// What stands before the digits of a nonce.
 const FRONT: usize = 6;
@@ -21,7 +21,7 @@ pub fn nonce_text(nonce: u64) -> [u8; 27]
 /// The nonce whose text this is, `None` where it is the text of none.
 pub fn nonce_from_text(text: &[u8]) -> Option<u64>
     ensures text { IfSome result (λ nonce. text.now ≡ nonce_text nonce) }
-    ensures only { (nonce : ℕ) → nonce < 2 ^ 64 → text.now ≡ nonce_text nonce → result ≡ Some nonce }
+    ensures only { FindsNonce text.now result }
 {
     let digits = text.get(FRONT..FRONT + DIGITS)?;
     let Ok(digits) = str::from_utf8(digits) else {

@@ -1,7 +1,7 @@
 //! What a client is told of a network of one Map-Server and one router, after a registration and its reply.
 
 use crate::playing::SCHEDULE;
-use lisp_client::{Question, Told, ask};
+use lisp_client::{Answers, Question, ask};
 use lisp_nonces::Fate;
 use lisp_sites::Config;
 use lisp_world::Event;
@@ -35,7 +35,7 @@ fn a_client_is_told_the_row_that_was_sent_and_what_was_counted(rt: HostRuntime) 
 }
 
 /// What the Map-Server and the router tell after the events.
-fn told(alloc: Global) -> Option<Told> {
+fn told(alloc: Global) -> Option<Answers> {
     let (configuration, _) = SCHEDULE.split_once("---\n")?;
     let config = Config::from_toml(alloc, alloc, configuration).ok()?;
     let question = Question {

@@ -1,4 +1,4 @@
-//! Tests of what neither a clause nor a stored run of `examples` shows: the vectors of HMAC (`hmac`), what worked bytes say
+//! Tests of what neither a clause nor a stored run of `tests` shows: the vectors of HMAC (`hmac`), what worked bytes say
 //! (`records`, `messages`), a table of hundreds of rows (`rows`), readers and writers that fail (`playing`),
 //! stores that fail (`stores`), and what a client is told (`client`). This crate has no
 //! function of its own.

@@ -4,9 +4,8 @@
 use crate::playing::SCHEDULE;
 use crate::support::assert_at;
 use lisp_nonces::{NonceStore, Pair, PairKind, WorldStore};
-use lisp_playing::{Command, PlayFault, play_on};
+use lisp_player::{Command, PlayFault, parse_script, play_on};
 use lisp_records::RouterId;
-use lisp_script::parse_script;
 use lisp_sites::Config;
 use lisp_store::{Failing, Liar};
 use lisp_world::{World, WorldFault};

@@ -1,12 +1,8 @@
 -- Reading locators one after the other, as a loop does.
-use Rattle.std.proofs.Common.{◌≡◌, ℕ, ◌+◌, ◌<◌, ◌≤◌, List, [], ◌∷◌, ◌++◌, length, get_or, map, drop, Option, Some, None, Bor, refl, sym, ap, ◌∙◌, add-one, append_assoc, drop-cons}
+use Rattle.std.proofs.Common.{◌≡◌, ℕ, ◌+◌, ◌<◌, ◌≤◌, List, [], ◌∷◌, ◌++◌, length, get_or, drop, Option, Some, None, Bor, refl, sym, ap, ◌∙◌, add-one, append_assoc, drop-cons}
 use Rattle.std.proofs.lemmas.List.{append-nil, drop_all}
 use Rattle.lisp_records.specs.declared.locator.Locator.{Locator}
-use Rattle.lisp_texts.specs.Reading.{◌>>=◌, locator_of, locators_of}
-
--- the texts that are lent
-abbrev pub texts : List (Bor (List ℕ)) → List (List ℕ)
-texts pieces = map (λ x. x.now) pieces
+use Rattle.lisp_texts.specs.Reading.{◌>>=◌, texts, locator_of, locators_of}
 
 -- what was read before, and what is still read
 abbrev pub with_front : List Locator → Option (List Locator) → Option (List Locator)

@@ -7,7 +7,7 @@ use Rattle.std.proofs.lemmas.Bool.{le-leb, leb-true}
 use Rattle.std.proofs.lemmas.Option.{same_Some, cond_some}
 use Rattle.lisp_records.specs.declared.address.Addr.{Addr}
 use Rattle.lisp_records.specs.declared.address.Addr.TheVariants.{V4, V6}
-use Rattle.lisp_records.specs.Address.{Block, max_len, cleared}
+use Rattle.lisp_records.specs.Address.{PrefixValue, max_len, cleared}
 use Rattle.lisp_texts.specs.Text.{IsAddressText, IsPrefixText}
 use Rattle.lisp_texts.specs.Reading.{cut, byte_of, address_of, prefix_of}
 use Rattle.lisp_texts.proofs.Options.{bind_some}
@@ -16,7 +16,7 @@ use Rattle.lisp_texts.proofs.ByteNumbers.{byte_again, byte_takes}
 use Rattle.lisp_texts.proofs.AddressLaws.{address_takes, address_again, free-address}
 
 -- an address under a mask
-abbrev under : Addr → ℕ → Block
+abbrev under : Addr → ℕ → PrefixValue
 under a n = record { addr = cleared a n; mask_len = n }
 
 -- masks are numbers below 256
@@ -35,7 +35,7 @@ prefix_made text front behind a n parts spelled number fits = record {
 }
 
 -- a prefix that is read is spelled so
-pub prefix_takes : (text : List ℕ) (b : Block) → prefix_of text ≡ Some b → IsPrefixText text b
+pub prefix_takes : (text : List ℕ) (b : PrefixValue) → prefix_of text ≡ Some b → IsPrefixText text b
 unfolding prefix_of
 prefix_takes text b e =
     let p = bind_some (cut 47 text) _ b e in
@@ -50,24 +50,24 @@ prefix_read front a n spelled fits =
     rw (cut-at 47 front (decimal n) (free-address 47 front a (omega arith) refl refl spelled), address_again front a spelled, byte_again n (mask_small a n fits), le-leb n (max_len a) fits) refl
 
 -- a prefix that is spelled so is read
-pub prefix_again : (text : List ℕ) (b : Block) → IsPrefixText text b → prefix_of text ≡ Some b
+pub prefix_again : (text : List ℕ) (b : PrefixValue) → IsPrefixText text b → prefix_of text ≡ Some b
 prefix_again text b s =
     let parts : text ≡ s.address ++ 47 ∷ decimal b.mask_len = s.parts ∙ append_assoc s.address (47 ∷ []) (decimal b.mask_len) in
     let same : under s.written b.mask_len ≡ b = ap (λ (a : Addr). record { addr = a; mask_len = b.mask_len }) s.masked in
-    ap prefix_of parts ∙ prefix_read s.address s.written b.mask_len s.spelled s.mask ∙ ap (λ (c : Block). Some c) same
+    ap prefix_of parts ∙ prefix_read s.address s.written b.mask_len s.spelled s.mask ∙ ap (λ (c : PrefixValue). Some c) same
 
 -- no mark but a slash and those of addresses stands in a prefix
-pub free-prefix : (mark : ℕ) (text : List ℕ) (b : Block) → 16 ≤ digit_value mark → eqb 46 mark ≡ false → eqb 58 mark ≡ false → eqb 47 mark ≡ false → IsPrefixText text b → IsFree mark text
+pub free-prefix : (mark : ℕ) (text : List ℕ) (b : PrefixValue) → 16 ≤ digit_value mark → eqb 46 mark ≡ false → eqb 58 mark ≡ false → eqb 47 mark ≡ false → IsPrefixText text b → IsFree mark text
 free-prefix mark text b none dot colon slash s =
     let parts : text ≡ s.address ++ 47 ∷ decimal b.mask_len = s.parts ∙ append_assoc s.address (47 ∷ []) (decimal b.mask_len) in
     let small : b.mask_len < 2 ^ 64 = omega (arith, mask_small s.written b.mask_len s.mask) in
     rw parts (free-append mark s.address (47 ∷ decimal b.mask_len) (free-address mark s.address s.written none dot colon s.spelled) (slash, free-decimal mark b.mask_len (omega arith) small))
 
 -- a text spells at most one prefix
-pub one_prefix : (text : List ℕ) (p q : Block) → IsPrefixText text p → IsPrefixText text q → p ≡ q
+pub one_prefix : (text : List ℕ) (p q : PrefixValue) → IsPrefixText text p → IsPrefixText text q → p ≡ q
 one_prefix text p q s t = same_Some p q (sym (prefix_again text p s) ∙ prefix_again text q t)
 
 -- what is answered is spelled
-pub prefix_found : (text : List ℕ) (r : Option Block) → r ≡ prefix_of text → IfSome r (λ b. IsPrefixText text b)
+pub prefix_found : (text : List ℕ) (r : Option PrefixValue) → r ≡ prefix_of text → IfSome r (λ b. IsPrefixText text b)
 prefix_found text (Some b) e = prefix_takes text b (sym e)
 prefix_found text None e = tt

@@ -8,11 +8,11 @@ use Rattle.std.proofs.lemmas.List.Elements.{All-from_recursion}
 use Rattle.std.proofs.lemmas.List.Splits.{slice_split_none, slice_split_at, join_with_byte-slice_split}
 use Rattle.std.proofs.lemmas.Option.{none-some, same_Some, cond_some}
 use Rattle.lisp_records.specs.declared.locator.Locator.{Locator}
-use Rattle.lisp_records.specs.Address.{Block}
-use Rattle.lisp_records.specs.Record.{Mapping}
+use Rattle.lisp_records.specs.Address.{PrefixValue}
+use Rattle.lisp_records.specs.Record.{MapRecordValue}
 use Rattle.lisp_texts.specs.Number.{number_of}
 use Rattle.lisp_texts.specs.Text.{IsAddressText, IsPrefixText, numbers_of_locator, shown_locator, IsLocatorText, IsRecordText}
-use Rattle.lisp_texts.specs.Reading.{cut, address_of, prefix_of, number_below, numbers_of, located, locator_of_parts, locator_of, locators_of, front_of, mapping_of, record_of, record_text_of}
+use Rattle.lisp_texts.specs.Reading.{cut, address_of, prefix_of, number_below, numbers_of, located, locator_of_parts, locator_of, locators_of, front_of, map_record_of, record_of, record_text_of}
 use Rattle.lisp_texts.proofs.Options.{bind_some}
 use Rattle.lisp_texts.proofs.Cut.{IsFree, cut-free, cut-at, cut_parts, free-append}
 use Rattle.lisp_texts.proofs.AddressLaws.{address_takes, address_again, free-address}
@@ -103,7 +103,7 @@ free-locators (p ∷ pieces) (l ∷ ls) each = (free-locator p l each.0, free-lo
 
 -- ---- the prefix and the TTL
 
-record IsFrontText (text : List ℕ) (front : Block × ℕ) : Type 0 where
+record IsFrontText (text : List ℕ) (front : PrefixValue × ℕ) : Type 0 where
   prefix : List ℕ
   ttl : List ℕ
   parts : text ≡ prefix ++ 61 ∷ ttl
@@ -111,7 +111,7 @@ record IsFrontText (text : List ℕ) (front : Block × ℕ) : Type 0 where
   number : number_of ttl ≡ Some front.1
   fits : front.1 < 2 ^ 32
 
-front_takes : (text : List ℕ) (front : Block × ℕ) → front_of text ≡ Some front → IsFrontText text front
+front_takes : (text : List ℕ) (front : PrefixValue × ℕ) → front_of text ≡ Some front → IsFrontText text front
 unfolding front_of
 front_takes text front e =
     let p = bind_some (cut 61 text) _ front e in
@@ -127,14 +127,14 @@ front_takes text front e =
       fits = number.1;
     })
 
-front_again : (prefix ttl : List ℕ) (b : Block) (n : ℕ) → IsPrefixText prefix b → number_of ttl ≡ Some n → n < 2 ^ 32 → front_of (prefix ++ 61 ∷ ttl) ≡ Some (b, n)
+front_again : (prefix ttl : List ℕ) (b : PrefixValue) (n : ℕ) → IsPrefixText prefix b → number_of ttl ≡ Some n → n < 2 ^ 32 → front_of (prefix ++ 61 ∷ ttl) ≡ Some (b, n)
 unfolding front_of
 front_again prefix ttl b n spelled number fits =
     rw (cut-at 61 prefix ttl (free-prefix 61 prefix b (omega arith) refl refl refl spelled), prefix_again prefix b spelled, below_again (2 ^ 32) ttl n number fits) refl
 
 -- ---- the record
 
-record_made : (text piece : List ℕ) (pieces : List (List ℕ)) (front : Block × ℕ) (ls : List Locator) → join_with_byte 43 (piece ∷ pieces) ≡ text → IsFrontText piece front → AllZip IsLocatorText pieces ls → length ls < 256 → IsRecordText text (mapping_of front.0 front.1 ls)
+record_made : (text piece : List ℕ) (pieces : List (List ℕ)) (front : PrefixValue × ℕ) (ls : List Locator) → join_with_byte 43 (piece ∷ pieces) ≡ text → IsFrontText piece front → AllZip IsLocatorText pieces ls → length ls < 256 → IsRecordText text (map_record_of front.0 front.1 ls)
 record_made text piece pieces front ls whole f each count = record {
   prefix = f.prefix;
   ttl = f.ttl;
@@ -148,17 +148,17 @@ record_made text piece pieces front ls whole f each count = record {
   flags = refl;
 }
 
-pieces_take : (text : List ℕ) (pieces : List (List ℕ)) (m : Mapping) → join_with_byte 43 pieces ≡ text → record_of pieces ≡ Some m → IsRecordText text m
+pieces_take : (text : List ℕ) (pieces : List (List ℕ)) (m : MapRecordValue) → join_with_byte 43 pieces ≡ text → record_of pieces ≡ Some m → IsRecordText text m
 unfolding record_of
 pieces_take text [] m whole e = absurd (none-some m e)
 pieces_take text (piece ∷ pieces) m whole e =
     let f = bind_some (front_of piece) _ m e in
     let ls = bind_some (locators_of pieces) _ m f.2 in
-    let some = cond_some (ltb (length ls.0) 256) (mapping_of f.0.0 f.0.1 ls.0) m ls.2 in
+    let some = cond_some (ltb (length ls.0) 256) (map_record_of f.0.0 f.0.1 ls.0) m ls.2 in
     subst (IsRecordText text) some.1 (record_made text piece pieces f.0 ls.0 whole (front_takes piece f.0 f.1) (locators_take pieces ls.0 ls.1) (ltb-true _ _ some.0))
 
 -- a record that is read is spelled so
-record_takes : (text : List ℕ) (m : Mapping) → record_text_of text ≡ Some m → IsRecordText text m
+record_takes : (text : List ℕ) (m : MapRecordValue) → record_text_of text ≡ Some m → IsRecordText text m
 record_takes text m e = pieces_take text (slice_split (λ b. eqb b 43) text) m (join_with_byte-slice_split 43 text) e
 
 -- pieces without plus signs are what a text is cut into
@@ -167,34 +167,34 @@ cut_again x [] free others = ap (slice_split (λ b. eqb b 43)) (append-nil x) �
 cut_again x (y ∷ ys) free others =
     slice_split_at (λ b. eqb b 43) x 43 (y ++ marked 43 ys) (All-from_recursion _ x free) refl ∙ ap (λ (parts : List (List ℕ)). x ∷ parts) (cut_again y ys others.0 others.1)
 
-record_read : (prefix ttl : List ℕ) (pieces : List (List ℕ)) (m : Mapping) → IsPrefixText prefix m.eid → number_of ttl ≡ Some m.ttl → m.ttl < 2 ^ 32 → AllZip IsLocatorText pieces m.locators → length m.locators < 256
-    → record_of ((prefix ++ 61 ∷ ttl) ∷ pieces) ≡ Some (mapping_of m.eid m.ttl m.locators)
+record_read : (prefix ttl : List ℕ) (pieces : List (List ℕ)) (m : MapRecordValue) → IsPrefixText prefix m.eid → number_of ttl ≡ Some m.ttl → m.ttl < 2 ^ 32 → AllZip IsLocatorText pieces m.locators → length m.locators < 256
+    → record_of ((prefix ++ 61 ∷ ttl) ∷ pieces) ≡ Some (map_record_of m.eid m.ttl m.locators)
 unfolding record_of
 record_read prefix ttl pieces m spelled number fits each count =
     rw (front_again prefix ttl m.eid m.ttl spelled number fits, locators_again pieces m.locators each, lt-ltb (length m.locators) 256 count) refl
 
 -- a record that is spelled so is read
-pub record_again : (text : List ℕ) (m : Mapping) → IsRecordText text m → record_text_of text ≡ Some m
+pub record_again : (text : List ℕ) (m : MapRecordValue) → IsRecordText text m → record_text_of text ≡ Some m
 record_again text m s =
     let parts : text ≡ (s.prefix ++ 61 ∷ s.ttl) ++ marked 43 s.pieces = s.parts ∙ ap (λ (t : List ℕ). t ++ marked 43 s.pieces) (append_assoc s.prefix (61 ∷ []) s.ttl) in
     let free : IsFree 43 (s.prefix ++ 61 ∷ s.ttl) = free-append 43 s.prefix (61 ∷ s.ttl) (free-prefix 43 s.prefix m.eid (omega arith) refl refl refl s.spelled) (refl, free-number 43 s.ttl m.ttl (omega arith) s.number) in
     ap record_text_of parts ∙ ap record_of (cut_again (s.prefix ++ 61 ∷ s.ttl) s.pieces free (free-locators s.pieces m.locators s.each))
-    ∙ record_read s.prefix s.ttl s.pieces m s.spelled s.number s.fits s.each s.count ∙ ap (λ (x : Mapping). Some x) (sym s.flags)
+    ∙ record_read s.prefix s.ttl s.pieces m s.spelled s.number s.fits s.each s.count ∙ ap (λ (x : MapRecordValue). Some x) (sym s.flags)
 
 -- a text spells at most one record
-pub one_record : (text : List ℕ) (m n : Mapping) → IsRecordText text m → IsRecordText text n → m ≡ n
+pub one_record : (text : List ℕ) (m n : MapRecordValue) → IsRecordText text m → IsRecordText text n → m ≡ n
 one_record text m n s t = same_Some m n (sym (record_again text m s) ∙ record_again text n t)
 
-found : (text : List ℕ) (o : Option Mapping) → o ≡ record_text_of text → IfSome o (λ m. IsRecordText text m)
+found : (text : List ℕ) (o : Option MapRecordValue) → o ≡ record_text_of text → IfSome o (λ m. IsRecordText text m)
 found text (Some m) e = record_takes text m (sym e)
 found text None e = tt
 
 -- what is answered is spelled
-pub record_found : {E : Type 0} (text : List ℕ) (r : Result (Option Mapping) E) → IfOk r (λ o. o ≡ record_text_of text) → IfOk r (λ o. IfSome o (λ m. IsRecordText text m))
+pub record_found : {E : Type 0} (text : List ℕ) (r : Result (Option MapRecordValue) E) → IfOk r (λ o. o ≡ record_text_of text) → IfOk r (λ o. IfSome o (λ m. IsRecordText text m))
 record_found text (Ok o) e = found text o e
 record_found text (Err e) given = tt
 
 -- what is spelled is answered
-pub record_only : {E : Type 0} (text : List ℕ) (r : Result (Option Mapping) E) → IfOk r (λ o. o ≡ record_text_of text) → (m : Mapping) → IsRecordText text m → IfOk r (λ o. o ≡ Some m)
+pub record_only : {E : Type 0} (text : List ℕ) (r : Result (Option MapRecordValue) E) → IfOk r (λ o. o ≡ record_text_of text) → (m : MapRecordValue) → IsRecordText text m → IfOk r (λ o. o ≡ Some m)
 record_only text (Ok o) e m s = e ∙ record_again text m s
 record_only text (Err e) given m s = tt

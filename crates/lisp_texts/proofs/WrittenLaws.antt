@@ -10,8 +10,8 @@ use Rattle.std.proofs.lemmas.Str.{digit_value-digit_char}
 use Rattle.lisp_records.specs.declared.address.Addr.{Addr}
 use Rattle.lisp_records.specs.declared.address.Addr.TheVariants.{V4, V6}
 use Rattle.lisp_records.specs.declared.locator.Locator.{Locator}
-use Rattle.lisp_records.specs.Address.{Block, IsBlock, IsWhole}
-use Rattle.lisp_records.specs.Record.{Mapping, IsLocator, IsMapping}
+use Rattle.lisp_records.specs.Address.{PrefixValue, IsPrefix, IsWhole}
+use Rattle.lisp_records.specs.Record.{MapRecordValue, IsLocator, IsMapRecord}
 use Rattle.lisp_texts.specs.Text.{IsAddressText, IsGroup, group_octets, IsPrefixText, IsByteText, IsNumbersText, numbers_of_locator, shown_locator, IsLocatorText, IsRecordText}
 use Rattle.lisp_texts.specs.Reading.{record_text_of}
 use Rattle.lisp_texts.specs.Written.{hex_text, groups_text, addr_text, prefix_text, numbers_text, locator_text, record_text, shown}
@@ -79,7 +79,7 @@ written_address (V6 octets) has =
 -- ---- prefixes
 
 -- the written text of a prefix is one of its texts
-pub written_prefix : (b : Block) → IsBlock b → IsWhole b.addr → IsPrefixText (prefix_text b) b
+pub written_prefix : (b : PrefixValue) → IsPrefix b → IsWhole b.addr → IsPrefixText (prefix_text b) b
 written_prefix b block has = record {
   address = addr_text b.addr;
   written = b.addr;
@@ -120,7 +120,7 @@ marked-map [] = refl
 marked-map (l ∷ ls) = ap (λ (t : List ℕ). 43 ∷ (locator_text l ++ t)) (marked-map ls)
 
 -- the written text of a record is a text of what it shows
-pub written_record : (m : Mapping) → IsMapping m → IsRecordText (record_text m) (shown m)
+pub written_record : (m : MapRecordValue) → IsMapRecord m → IsRecordText (record_text m) (shown m)
 written_record m has = record {
   prefix = prefix_text m.eid;
   ttl = decimal m.ttl;
@@ -135,5 +135,5 @@ written_record m has = record {
 }
 
 -- what is written of a record is read again
-pub reads_back : (m : Mapping) → IsMapping m → record_text_of (record_text m) ≡ Some (shown m)
+pub reads_back : (m : MapRecordValue) → IsMapRecord m → record_text_of (record_text m) ≡ Some (shown m)
 reads_back m has = record_again (record_text m) (shown m) (written_record m has)

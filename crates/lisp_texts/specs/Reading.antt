@@ -1,5 +1,6 @@
 -- Reading a text from left to right: what the grammar's relations come to as functions.
-use Rattle.std.specs.Prelude.{ℕ, zero, suc, ◌+◌, ◌^◌, List, [], ◌∷◌, ◌++◌, length, take, drop, slice_index, Bool, true, false, ◌&&◌, nat_lt, nat_le, ◌==◌, if◌then◌else◌, Option, Some, None}
+use Rattle.std.specs.Prelude.{ℕ, zero, suc, ◌+◌, ◌^◌, List, [], ◌∷◌, ◌++◌, length, map, take, drop, slice_index, Bool, true, false, ◌&&◌, nat_lt, nat_le, ◌==◌, if◌then◌else◌, Option, Some, None, Vec}
+use Rattle.std.specs.Borrow.{Bor}
 use Rattle.std.specs.Char.{digit_value}
 use Rattle.std.specs.Int.{w16, to_be_bytes}
 use Rattle.std.specs.List.{position, list_all, slice_split}
@@ -8,14 +9,25 @@ use Rattle.std.specs.Str.Parse.{digits_value}
 use Rattle.lisp_records.specs.declared.address.Addr.{Addr}
 use Rattle.lisp_records.specs.declared.address.Addr.TheVariants.{V4, V6}
 use Rattle.lisp_records.specs.declared.locator.Locator.{Locator}
-use Rattle.lisp_records.specs.Address.{Block, max_len, cleared}
-use Rattle.lisp_records.specs.Record.{Mapping}
+use Rattle.lisp_records.specs.Address.{PrefixValue, max_len, prefix_around}
+use Rattle.lisp_records.specs.Record.{MapRecordValue}
 use Rattle.lisp_texts.specs.Number.{number_of}
 
 infixl 10 ◌>>=◌
 abbrev pub ◌>>=◌ : {A B : Type 0} → Option A → (A → Option B) → Option B
 (Some x) >>= f = f x
 None >>= f = None
+
+-- the texts that references show
+abbrev pub texts : List (Bor (List ℕ)) → List (List ℕ)
+texts references = map (λ x. x.now) references
+
+abbrev pub four_texts : Bor (List ℕ) × Bor (List ℕ) × Bor (List ℕ) × Bor (List ℕ) → List ℕ × List ℕ × List ℕ × List ℕ
+four_texts q = (q.0.now, q.1.now, q.2.now, q.3.now)
+
+-- the elements of a vector, where there is one
+abbrev pub items_of : {X Z : Type 0} → Option (Vec X Z) → Option (List X)
+items_of found = option_map (λ v. v.items) found
 
 -- the parts before and after the first mark
 unfoldable pub cut : ℕ → List ℕ → Option (List ℕ × List ℕ)
@@ -87,12 +99,12 @@ first_of None other = other
 unfoldable pub address_of : List ℕ → Option Addr
 address_of text = first_of (option_map V4 (v4_of text)) (option_map V6 (v6_of text))
 
-unfoldable pub prefix_of : List ℕ → Option Block
+unfoldable pub prefix_of : List ℕ → Option PrefixValue
 prefix_of text = do
   pieces ← cut 47 text
   addr ← address_of pieces.0
   mask_len ← byte_of pieces.1
-  if_so (nat_le mask_len (max_len addr)) (record { addr = cleared addr mask_len; mask_len = mask_len })
+  if_so (nat_le mask_len (max_len addr)) (prefix_around addr mask_len)
 
 -- four numbers below 256, joined by slashes
 unfoldable pub numbers_of : List ℕ → Option (List ℕ)
@@ -138,23 +150,27 @@ locators_of (piece ∷ pieces) = do
   Some (first ∷ others)
 
 -- a prefix and a TTL
-unfoldable pub front_of : List ℕ → Option (Block × ℕ)
+unfoldable pub front_of : List ℕ → Option (PrefixValue × ℕ)
 front_of text = do
   parts ← cut 61 text
   eid ← prefix_of parts.0
   ttl ← number_below (2 ^ 32) parts.1
   Some (eid, ttl)
 
-abbrev pub mapping_of : Block → ℕ → List Locator → Mapping
-mapping_of eid ttl locators = record { ttl = ttl; act = 0; authoritative = true; version = 0; eid = eid; locators = locators }
+abbrev pub map_record_of : PrefixValue → ℕ → List Locator → MapRecordValue
+map_record_of eid ttl locators = record { ttl = ttl; act = 0; authoritative = true; version = 0; eid = eid; locators = locators }
 
--- a record from the pieces between plus signs
-unfoldable pub record_of : List (List ℕ) → Option Mapping
+-- a record from its pieces
+unfoldable pub record_of : List (List ℕ) → Option MapRecordValue
 record_of [] = None
 record_of (piece ∷ pieces) = do
   front ← front_of piece
   locators ← locators_of pieces
-  if_so (nat_lt (length locators) 256) (mapping_of front.0 front.1 locators)
+  if_so (nat_lt (length locators) 256) (map_record_of front.0 front.1 locators)
 
-abbrev pub record_text_of : List ℕ → Option Mapping
-record_text_of text = record_of (slice_split (λ b. b == 43) text)
+-- the pieces between plus signs
+abbrev pub pieces_of : List ℕ → List (List ℕ)
+pieces_of text = slice_split (λ b. b == 43) text
+
+abbrev pub record_text_of : List ℕ → Option MapRecordValue
+record_text_of text = record_of (pieces_of text)

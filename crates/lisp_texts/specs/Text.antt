@@ -9,8 +9,8 @@ use Rattle.std.specs.Str.Parse.{IsNumeral, digits_value}
 use Rattle.lisp_records.specs.declared.address.Addr.{Addr}
 use Rattle.lisp_records.specs.declared.address.Addr.TheVariants.{V4, V6}
 use Rattle.lisp_records.specs.declared.locator.Locator.{Locator}
-use Rattle.lisp_records.specs.Address.{Block, max_len, cleared}
-use Rattle.lisp_records.specs.Record.{Mapping}
+use Rattle.lisp_records.specs.Address.{PrefixValue, max_len, cleared}
+use Rattle.lisp_records.specs.Record.{MapRecordValue}
 use Rattle.lisp_texts.specs.Number.{number_of}
 
 -- the octets of an IPv4 address in decimal, joined by dots (46)
@@ -41,7 +41,7 @@ IsAddressText text (V6 octets) = IsV6Text text octets
 
 -- an address, a slash, and the mask length in decimal: the block is of the address, its bits past
 -- the mask cleared
-pub record IsPrefixText (text : List ℕ) (b : Block) : Type 0 where
+pub record IsPrefixText (text : List ℕ) (b : PrefixValue) : Type 0 where
   pub address : List ℕ
   pub written : Addr
   pub parts : text ≡ address ++ codes "/" ++ decimal b.mask_len
@@ -77,7 +77,7 @@ pub record IsLocatorText (text : List ℕ) (l : Locator) : Type 0 where
   pub flags : l ≡ shown_locator l
 
 -- a prefix, `=`, the TTL, and the locators, each after a plus sign (43)
-pub record IsRecordText (text : List ℕ) (m : Mapping) : Type 0 where
+pub record IsRecordText (text : List ℕ) (m : MapRecordValue) : Type 0 where
   pub prefix : List ℕ
   pub ttl : List ℕ
   pub pieces : List (List ℕ)

@@ -1,12 +1,11 @@
 //! The texts of records.
 
-ghost use Rattle.std.specs.Prelude.{◌≡◌, ◌<◌, ◌==◌, ◌++◌, ◌∷◌, Some, map, IfSome, IfOk, OnErr, OnOk, string_bytes};
-ghost use Rattle.std.specs.List.{flat_map, slice_split};
-ghost use Rattle.std.specs.Option.{option_map};
-ghost use Rattle.lisp_records.specs.Record.{Mapping, IsMapping};
+ghost use Rattle.std.specs.Prelude.{◌≡◌, Some, IfSome, IfOk, OnErr, OnOk, string_bytes};
+ghost use Rattle.lisp_memory.specs.Appending.{StringGrowsBy};
+ghost use Rattle.lisp_records.specs.Record.{MapRecordValue, IsMapRecord};
 ghost use Rattle.lisp_texts.specs.Text.{IsRecordText};
-ghost use Rattle.lisp_texts.specs.Reading.{cut, number_below, numbers_of, located, locator_of, locators_of, front_of, record_of, record_text_of};
-ghost use Rattle.lisp_texts.specs.Written.{numbers_text, locator_text, record_text};
+ghost use Rattle.lisp_texts.specs.Reading.{texts, items_of, pieces_of, numbers_of, located, locator_of, locators_of, front_of, record_of, record_text_of};
+ghost use Rattle.lisp_texts.specs.Written.{numbers_text, locator_text, locators_text, record_text};
 
 use crate::number::{byte_from_text, number_from_text};
 use crate::text::{addr_from_text, parted, prefix_from_text, put_addr, put_prefix, quarters};
@@ -29,7 +28,7 @@ pub fn record_from_text<A: Memory + Copy>(
     text: &str,
 ) -> Result<Option<MapRecord<A>>, AllocError>
     ensures found { IfOk result (λ r. IfSome r (λ m. IsRecordText text.now m)) }
-    ensures only { (m : Mapping) → IsRecordText text.now m → IfOk result (λ r. r ≡ Some m) }
+    ensures only { (m : MapRecordValue) → IsRecordText text.now m → IfOk result (λ r. r ≡ Some m) }
     ensures exact { IfOk result (λ r. r ≡ record_text_of text.now) }
     ensures memory { OnErr result A.may_refuse }
 {
@@ -47,7 +46,7 @@ pub fn record_to_text<A: Memory, B: Allocator>(
     ensures memory { OnErr result A.may_refuse }
 
     // Every record of the program has this text, so that what is written is read again.
-    ensures known { IsMapping entry.now }
+    ensures known { IsMapRecord entry.now }
 {
     let mut text = String::new(alloc);
     put_record(&mut text, entry)?;
@@ -56,7 +55,7 @@ pub fn record_to_text<A: Memory, B: Allocator>(
 
 // The pieces between plus signs.
 fn pieces<A: Memory>(alloc: A, text: &str) -> Result<Vec<&str, A>, AllocError>
-    ensures value { IfOk result (λ v. map (λ x. x.now) v.items ≡ slice_split (λ b. b == 43) text.now) }
+    ensures value { IfOk result (λ v. texts v.items ≡ pieces_of text.now) }
     ensures memory { OnErr result A.may_refuse }
 {
     let mut pieces = Vec::new(alloc);
@@ -69,7 +68,7 @@ fn pieces<A: Memory>(alloc: A, text: &str) -> Result<Vec<&str, A>, AllocError>
 // A record from its pieces.
 #[tactic(auto, unfolding(crate::specs::Reading::record_of))]
 fn record<A: Memory + Copy>(alloc: A, pieces: &[&str]) -> Result<Option<MapRecord<A>>, AllocError>
-    ensures value { IfOk result (λ r. r ≡ record_of (map (λ x. x.now) pieces.now)) }
+    ensures value { IfOk result (λ r. r ≡ record_of (texts pieces.now)) }
     ensures memory { OnErr result A.may_refuse }
 {
     let [piece, pieces @ ..] = pieces else {
@@ -97,7 +96,7 @@ fn front(text: &str) -> Option<(Prefix, u32)>
 
 // The locators of pieces, one each.
 fn locators<A: Memory>(alloc: A, pieces: &[&str]) -> Result<Option<Vec<Locator, A>>, AllocError>
-    ensures value { IfOk result (λ r. option_map (λ v. v.items) r ≡ locators_of (map (λ x. x.now) pieces.now)) }
+    ensures value { IfOk result (λ r. items_of r ≡ locators_of (texts pieces.now)) }
     ensures memory { OnErr result A.may_refuse }
 {
     let mut locators = Vec::new(alloc);
@@ -160,9 +159,9 @@ fn put_record<A: Memory, B: Allocator>(
     text: &mut String<A>,
     entry: &MapRecord<B>,
 ) -> Result<(), AllocError>
-    ensures text { OnOk result (string_bytes text.new ≡ string_bytes text.old ++ record_text entry.now) }
+    ensures text { OnOk result (StringGrowsBy text.old text.new (record_text entry.now)) }
     ensures memory { OnErr result A.may_refuse }
-    ensures known { IsMapping entry.now }
+    ensures known { IsMapRecord entry.now }
 {
     let (ttl, locators) = (entry.ttl(), entry.locators());
     put_prefix(text, entry.eid())?;
@@ -172,7 +171,7 @@ fn put_record<A: Memory, B: Allocator>(
 
 // Appends the texts of locators, each after a plus sign. Out of memory, it may leave a part of them.
 fn put_locators<A: Memory>(text: &mut String<A>, locators: &[Locator]) -> Result<(), AllocError>
-    ensures text { OnOk result (string_bytes text.new ≡ string_bytes text.old ++ flat_map (λ l. 43 ∷ locator_text l) locators.now) }
+    ensures text { OnOk result (StringGrowsBy text.old text.new (locators_text locators.now)) }
     ensures memory { OnErr result A.may_refuse }
 {
     for locator in locators {
@@ -184,7 +183,7 @@ fn put_locators<A: Memory>(text: &mut String<A>, locators: &[Locator]) -> Result
 
 // Appends the text of a locator. Out of memory, it may leave a part of it.
 fn put_locator<A: Memory>(text: &mut String<A>, locator: &Locator) -> Result<(), AllocError>
-    ensures text { OnOk result (string_bytes text.new ≡ string_bytes text.old ++ locator_text locator.now) }
+    ensures text { OnOk result (StringGrowsBy text.old text.new (locator_text locator.now)) }
     ensures memory { OnErr result A.may_refuse }
 {
     put_addr(text, locator.addr)?;
@@ -193,7 +192,7 @@ fn put_locator<A: Memory>(text: &mut String<A>, locator: &Locator) -> Result<(),
 
 // Appends the numbers of a locator, each after a slash.
 fn put_numbers<A: Memory>(text: &mut String<A>, locator: &Locator) -> Result<(), AllocError>
-    ensures text { OnOk result (string_bytes text.new ≡ string_bytes text.old ++ numbers_text locator.now) }
+    ensures text { OnOk result (StringGrowsBy text.old text.new (numbers_text locator.now)) }
     ensures memory { OnErr result A.may_refuse }
 {
     let (priority, weight) = (locator.priority, locator.weight);

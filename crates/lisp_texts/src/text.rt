@@ -1,13 +1,12 @@
 //! The texts of addresses and prefixes.
 
-ghost use Rattle.std.specs.Prelude.{◌≡◌, ◌<◌, ◌==◌, ◌++◌, IfSome, IfOk, OnErr, OnOk, map, position, string_bytes};
-ghost use Rattle.std.specs.Fmt.{decimal};
-ghost use Rattle.std.specs.List.{join_with_byte};
+ghost use Rattle.std.specs.Prelude.{◌≡◌, ◌<◌, ◌==◌, ◌++◌, IfSome, IfOk, OnErr, OnOk, position, string_bytes};
 ghost use Rattle.std.specs.Option.{option_map};
-ghost use Rattle.lisp_records.specs.Address.{Block, IsBlock, IsWhole};
+ghost use Rattle.lisp_memory.specs.Appending.{StringGrowsBy};
+ghost use Rattle.lisp_records.specs.Address.{PrefixValue, IsPrefix, IsWhole};
 ghost use Rattle.lisp_texts.specs.Text.{IsAddressText, IsPrefixText};
-ghost use Rattle.lisp_texts.specs.Reading.{cut, quarters_of, byte_of, digit_of, group_of, v4_of, v6_of, address_of, prefix_of};
-ghost use Rattle.lisp_texts.specs.Written.{hex_text, groups_text, addr_text, prefix_text};
+ghost use Rattle.lisp_texts.specs.Reading.{four_texts, cut, quarters_of, byte_of, digit_of, group_of, v4_of, v6_of, address_of, prefix_of};
+ghost use Rattle.lisp_texts.specs.Written.{hex_text, v4_text, v6_text, addr_text, prefix_text};
 
 use crate::number::byte_from_text;
 use lisp_memory::{FallibleString, Memory};
@@ -35,7 +34,7 @@ pub fn addr_from_text(text: &str) -> Option<Addr>
 /// be set in the text and are cleared in the prefix.
 pub fn prefix_from_text(text: &str) -> Option<Prefix>
     ensures found { IfSome result (λ b. IsPrefixText text.now b) }
-    ensures only { (b : Block) → IsPrefixText text.now b → result ≡ Some b }
+    ensures only { (b : PrefixValue) → IsPrefixText text.now b → result ≡ Some b }
     ensures exact { result ≡ prefix_of text.now }
 {
     prefix(text)
@@ -64,7 +63,7 @@ pub fn prefix_to_text<A: Memory>(alloc: A, prefix: &Prefix) -> Result<String<A>,
 
     // Every prefix of the program has this text, so that what is written is read again.
     ensures known { IsWhole prefix.now.addr }
-    ensures block { IsBlock prefix.now }
+    ensures block { IsPrefix prefix.now }
 {
     let mut text = String::new(alloc);
     put_prefix(&mut text, *prefix)?;
@@ -173,7 +172,7 @@ fn place_of(text: &[u8], mark: u8) -> Option<usize>
 #[tactic(auto, unfolding(crate::specs::Reading::quarters_of))]
 pub(crate) fn quarters(text: &str, mark: char) -> Option<(&str, &str, &str, &str)>
     requires { mark < 128 }
-    ensures { option_map (λ q. (q.0.now, q.1.now, q.2.now, q.3.now)) result ≡ quarters_of mark text.now }
+    ensures { option_map (λ q. four_texts q) result ≡ quarters_of mark text.now }
 {
     let (first, rest) = parted(text, mark)?;
     let (second, rest) = parted(rest, mark)?;
@@ -192,10 +191,10 @@ pub(crate) fn parted(text: &str, mark: char) -> Option<(&str, &str)>
 
 /// Appends the text of a prefix. Out of memory, it may leave a part of it.
 pub(crate) fn put_prefix<A: Memory>(text: &mut String<A>, prefix: Prefix) -> Result<(), AllocError>
-    ensures text { OnOk result (string_bytes text.new ≡ string_bytes text.old ++ prefix_text prefix) }
+    ensures text { OnOk result (StringGrowsBy text.old text.new (prefix_text prefix)) }
     ensures memory { OnErr result A.may_refuse }
     ensures known { IsWhole prefix.addr }
-    ensures block { IsBlock prefix }
+    ensures block { IsPrefix prefix }
 {
     let mask_len = prefix.mask_len();
     put_addr(text, prefix.addr())?;
@@ -204,7 +203,7 @@ pub(crate) fn put_prefix<A: Memory>(text: &mut String<A>, prefix: Prefix) -> Res
 
 /// Appends the text of an address. Out of memory, it may leave a part of it.
 pub(crate) fn put_addr<A: Memory>(text: &mut String<A>, addr: Addr) -> Result<(), AllocError>
-    ensures text { OnOk result (string_bytes text.new ≡ string_bytes text.old ++ addr_text addr) }
+    ensures text { OnOk result (StringGrowsBy text.old text.new (addr_text addr)) }
     ensures memory { OnErr result A.may_refuse }
 {
     match addr {
@@ -215,7 +214,7 @@ pub(crate) fn put_addr<A: Memory>(text: &mut String<A>, addr: Addr) -> Result<()
 
 // Appends four decimal numbers, joined by dots.
 fn put_v4<A: Memory>(text: &mut String<A>, octets: [u8; 4]) -> Result<(), AllocError>
-    ensures text { OnOk result (string_bytes text.new ≡ string_bytes text.old ++ join_with_byte 46 (map decimal octets)) }
+    ensures text { OnOk result (StringGrowsBy text.old text.new (v4_text octets)) }
     ensures memory { OnErr result A.may_refuse }
 {
     let [a, b, c, d] = octets;
@@ -224,7 +223,7 @@ fn put_v4<A: Memory>(text: &mut String<A>, octets: [u8; 4]) -> Result<(), AllocE
 
 // Appends eight groups, joined by colons.
 fn put_v6<A: Memory>(text: &mut String<A>, octets: [u8; 16]) -> Result<(), AllocError>
-    ensures text { OnOk result (string_bytes text.new ≡ string_bytes text.old ++ join_with_byte 58 (groups_text octets)) }
+    ensures text { OnOk result (StringGrowsBy text.old text.new (v6_text octets)) }
     ensures memory { OnErr result A.may_refuse }
 {
     put_group(text, octets[0], octets[1])?;
@@ -237,7 +236,7 @@ fn put_v6<A: Memory>(text: &mut String<A>, octets: [u8; 16]) -> Result<(), Alloc
 
 // Appends the four digits of a group.
 fn put_group<A: Memory>(text: &mut String<A>, high: u8, low: u8) -> Result<(), AllocError>
-    ensures text { OnOk result (string_bytes text.new ≡ string_bytes text.old ++ (hex_text high ++ hex_text low)) }
+    ensures text { OnOk result (StringGrowsBy text.old text.new (hex_text high ++ hex_text low)) }
     ensures memory { OnErr result A.may_refuse }
 {
     text.try_write(format_args!("{high:02x}{low:02x}"))

@@ -11,8 +11,8 @@ use Rattle.lisp_records.specs.Address.{addr_eq}
 use Rattle.lisp_records.specs.declared.address.Addr.{Addr}
 use Rattle.lisp_nonces.specs.declared.fate.Fate.{Fate}
 use Rattle.lisp_model.specs.declared.line.Line.{Line}
-use Rattle.lisp_refinement.specs.World.{Posted, ServerNode, RouterNode, WorldState}
-use Rattle.lisp_refinement.specs.Turns.{address_of, node_with, posted, Arrives, ArrivesWhere, Delivers}
+use Rattle.lisp_refinement.specs.World.{DatagramValue, ServerNodeState, RouterNodeState, WorldState}
+use Rattle.lisp_refinement.specs.Events.{address_of, node_with, datagram_to, Arrives, ArrivesWhere, NetworkDelivers}
 use Rattle.lisp_world.specs.Faults.{datagram_fault, node_fault, refusal_of}
 use Rattle.lisp_model.specs.declared.world_fault.WorldFault.{WorldFault}
 use Rattle.lisp_model.specs.declared.world_fault.WorldFault.TheVariants.{NoDatagram}
@@ -34,23 +34,23 @@ module _ (seen w : WorldState) (same : seen ≡ w) where
   no_datagram_fault k checked x found is = sym (ap refusal_of found) ∙ is ∙ ap (λ (v : WorldState). datagram_fault v k) (sym same)
 
 -- so a datagram is there, and so is a node that has an address
-pub datagram_there : (bag : List Posted) (k : ℕ) → None ≡ (if nat_le (length bag) k then Some NoDatagram else None) → k < length bag
+pub datagram_there : (bag : List DatagramValue) (k : ℕ) → None ≡ (if nat_le (length bag) k then Some NoDatagram else None) → k < length bag
 datagram_there bag k passes = leb-false (length bag) k (passed _ _ passes)
 
 pub addressed_there : (addresses : List Addr) (address : Addr) (node : ℕ) → Some node ≡ position (λ a. addr_eq a address) addresses → node < length addresses
 addressed_there addresses address node found = (position-Some (λ a. addr_eq a address) addresses node address (sym found)).0
 
 -- it is the same where there is room for more datagrams alone
-pub same_world : (w : WorldState) (bag : List Posted) → bag ≡ w.bag → record w { bag = bag } ≡ w
-same_world w bag same = ap (λ (b : List Posted). record w { bag = b }) same
+pub same_world : (w : WorldState) (bag : List DatagramValue) → bag ≡ w.bag → record w { bag = bag } ≡ w
+same_world w bag same = ap (λ (b : List DatagramValue). record w { bag = b }) same
 
 -- bytes arrived at a node: so they do in the network where its nodes are written over the old ones, and the answer went to
 -- the end of the bag
 module _ (A : Type 0) (w : WorldState) (node : ℕ) (fate : Fate) (from : Addr) (bytes : List ℕ) (line : Line) (reply : Option (List ℕ))
-    (servers : List ServerNode) (routers : List RouterNode) where
-  pub arrived : (servers_long routers_long : ℕ) (bag : List Posted) → servers_long ≡ length servers → routers_long ≡ length routers
-      → bag ≡ w.bag ++ posted (address_of w node) from reply
-      → Arrives A w (record w { bag = w.bag ++ posted (address_of w node) from reply; servers = servers; routers = routers }) node fate from bytes line
+    (servers : List ServerNodeState) (routers : List RouterNodeState) where
+  pub arrived : (servers_long routers_long : ℕ) (bag : List DatagramValue) → servers_long ≡ length servers → routers_long ≡ length routers
+      → bag ≡ w.bag ++ datagram_to (address_of w node) from reply
+      → Arrives A w (record w { bag = w.bag ++ datagram_to (address_of w node) from reply; servers = servers; routers = routers }) node fate from bytes line
       → Arrives A w (record w {
         bag = bag;
         servers = take servers_long (servers ++ drop (length servers) w.servers);
@@ -65,8 +65,8 @@ module _ (A : Type 0) (w : WorldState) (node : ℕ) (fate : Fate) (from : Addr) 
       })
 
 -- a datagram that was sent, and what becomes of it at the node that has its address, or at none
-pub delivered : {A : Type 0} {old new : WorldState} {k : ℕ} {fate : Fate} {line : Line} (d : Posted) (to : Option ℕ)
-    → slice_get old.bag k ≡ Some d → to ≡ node_with old d.to → ArrivesWhere A old new k fate d to line → Delivers A old new k fate line
+pub delivered : {A : Type 0} {old new : WorldState} {k : ℕ} {fate : Fate} {line : Line} (d : DatagramValue) (to : Option ℕ)
+    → slice_get old.bag k ≡ Some d → to ≡ node_with old d.to → ArrivesWhere A old new k fate d to line → NetworkDelivers A old new k fate line
 delivered {A = A} {old = old} {new = new} {k = k} {fate = fate} {line = line} d to sent found arrives =
     record { datagram = d; sent = sent; arrives = subst (λ (at : Option ℕ). ArrivesWhere A old new k fate d at line) found arrives }
 

@@ -6,14 +6,14 @@ use Rattle.std.proofs.lemmas.List.{length-map, map-set, set-append_left}
 use Rattle.std.proofs.lemmas.Option.{slice_get_within, slice_get-map, get_or_from_slice_get}
 use Rattle.std.proofs.Math.Seq.{map-set_same}
 use Rattle.lisp_records.specs.declared.address.Addr.{Addr}
-use Rattle.lisp_records.specs.Record.{Mapping}
+use Rattle.lisp_records.specs.Record.{MapRecordValue}
 use Rattle.lisp_nonces.specs.declared.fate.Fate.{Fate}
 use Rattle.lisp_nonces.specs.declared.fate.Fate.TheVariants.{Done}
 use Rattle.lisp_nonces.specs.Store.{StoreState, Proceeds}
 use Rattle.lisp_model.specs.declared.line.Line.{Line}
-use Rattle.lisp_refinement.specs.World.{Posted, ServerNode, RouterNode, RouterCore, Up, Down, WorldState}
-use Rattle.lisp_refinement.specs.Calls.{Uses}
-use Rattle.lisp_refinement.specs.Turns.{ServerActs, RouterActs, ExpiresEach, Ticks, Changes, SendsAt, SendsFrom, HearsAt, Arrives, ArrivesWhere, Delivers, RestartsNode, NoticesFrom, ResendsFrom, node_with}
+use Rattle.lisp_refinement.specs.World.{DatagramValue, ServerNodeState, RouterNodeState, RouterCoreState, Up, Down, WorldState}
+use Rattle.lisp_refinement.specs.Calls.{UsesStore}
+use Rattle.lisp_refinement.specs.Events.{ServerActs, RouterActs, ExpiresEach, NetworkTicks, NetworkChanges, RouterSends, NetworkSends, RouterHears, Arrives, ArrivesWhere, NetworkDelivers, NetworkRestarts, NetworkNotifies, NetworkResends, node_with}
 use Rattle.lisp_world.specs.Quiet.{stores_of, IsCalm, AllCalm, failures, KeepsCalm}
 use Rattle.lisp_refinement.proofs.Gets.{AtSet, get_set, get_before}
 
@@ -34,7 +34,7 @@ obeys : (old new : StoreState) → new.is_obedient ≡ old.is_obedient → IsTru
 obeys old new same = subst (λ (b : Bool). IsTrue b) (sym same)
 
 -- a call for which the store was armed, with `Done` in the end
-uses_keeps : (old armed called new : StoreState) (fate : Fate) → Uses old fate armed called new → KeepsStore old new fate
+uses_keeps : (old armed called new : StoreState) (fate : Fate) → UsesStore old fate armed called new → KeepsStore old new fate
 uses_keeps old armed called new fate uses = record {
   calm = λ calm. record { obedient = obeys called new uses.disarms.obedient (called_obeys calm); quiet = uses.disarms.quiet (called_obeys calm) refl };
   unfailing = λ calm done. uses.disarms.count ∙ (uses.proceeds.quiet (uses.arms.quiet calm.obedient done)).1 ∙ uses.arms.count;
@@ -112,76 +112,76 @@ abbrev router_stores : WorldState → List StoreState
 router_stores w = map (λ n. n.store) w.routers
 
 -- a Map-Server acted, and its store was replaced
-server_keeps : (old new : WorldState) (node : ℕ) (more : List Posted) (fate : Fate) (acts : ServerActs old new node more)
+server_keeps : (old new : WorldState) (node : ℕ) (more : List DatagramValue) (fate : Fate) (acts : ServerActs old new node more)
     → KeepsStore acts.before.store acts.after.store fate → KeepsCalm old new fate
 server_keeps old new node more fate acts keeps = one_replaced old new fate (record {
   place = node;
   before = acts.before.store;
   after = acts.after.store;
   was = get_before (server_stores old) (router_stores old) node acts.before.store
-      (slice_get-map (λ (n : ServerNode). n.store) old.servers node ∙ ap (λ (found : Option ServerNode). option_map (λ n. n.store) found) acts.was);
+      (slice_get-map (λ (n : ServerNodeState). n.store) old.servers node ∙ ap (λ (found : Option ServerNodeState). option_map (λ n. n.store) found) acts.was);
   left = ap (λ (w : WorldState). stores_of w) acts.left
-      ∙ ap (λ (all : List StoreState). all ++ router_stores old) (map-set (λ (n : ServerNode). n.store) old.servers node acts.after)
+      ∙ ap (λ (all : List StoreState). all ++ router_stores old) (map-set (λ (n : ServerNodeState). n.store) old.servers node acts.after)
       ∙ sym (set-append_left (server_stores old) (router_stores old) node acts.after.store
-      (omega (arith, slice_get_within old.servers node acts.before acts.was, length-map old.servers (λ (n : ServerNode). n.store))));
+      (omega (arith, slice_get_within old.servers node acts.before acts.was, length-map old.servers (λ (n : ServerNodeState). n.store))));
   keeps = keeps;
 })
 
 -- a router acted, and its store was replaced: it stands behind those of the Map-Servers
-router_keeps : (old new : WorldState) (node : ℕ) (more : List Posted) (fate : Fate) (acts : RouterActs old new node more)
+router_keeps : (old new : WorldState) (node : ℕ) (more : List DatagramValue) (fate : Fate) (acts : RouterActs old new node more)
     → KeepsStore acts.before.store acts.after.store fate → KeepsCalm old new fate
 router_keeps old new node more fate acts keeps = one_replaced old new fate (record {
   place = length (server_stores old) + acts.place;
   before = acts.before.store;
   after = acts.after.store;
   was = get_behind (server_stores old) (router_stores old) (length (server_stores old) + acts.place) acts.place refl
-      ∙ slice_get-map (λ (n : RouterNode). n.store) old.routers acts.place ∙ ap (λ (found : Option RouterNode). option_map (λ n. n.store) found) acts.was;
+      ∙ slice_get-map (λ (n : RouterNodeState). n.store) old.routers acts.place ∙ ap (λ (found : Option RouterNodeState). option_map (λ n. n.store) found) acts.was;
   left = ap (λ (w : WorldState). stores_of w) acts.left
-      ∙ ap (λ (all : List StoreState). server_stores old ++ all) (map-set (λ (n : RouterNode). n.store) old.routers acts.place acts.after)
+      ∙ ap (λ (all : List StoreState). server_stores old ++ all) (map-set (λ (n : RouterNodeState). n.store) old.routers acts.place acts.after)
       ∙ sym (set_behind (server_stores old) (router_stores old) (length (server_stores old) + acts.place) acts.place acts.after.store refl);
   keeps = keeps;
 })
 
 -- Map-Servers that drop their dead rows have the stores that they had
-expired_stores : (old new : List ServerNode) (now : ℕ) → length new ≡ length old → ExpiresEach old new now
-    → map (λ (n : ServerNode). n.store) new ≡ map (λ (n : ServerNode). n.store) old
+expired_stores : (old new : List ServerNodeState) (now : ℕ) → length new ≡ length old → ExpiresEach old new now
+    → map (λ (n : ServerNodeState). n.store) new ≡ map (λ (n : ServerNodeState). n.store) old
 expired_stores [] [] now count each = refl
 expired_stores [] (m ∷ new) now count each = absurd (omega (arith, count))
 expired_stores (n ∷ old) [] now count each = absurd (omega (arith, count))
 expired_stores (n ∷ old) (m ∷ new) now count each =
-    let same : m.store ≡ n.store = ap (λ (x : ServerNode). x.store) (each zero n m refl refl).rest in
+    let same : m.store ≡ n.store = ap (λ (x : ServerNodeState). x.store) (each zero n m refl refl).rest in
     let rest = expired_stores old new now (omega (arith, count)) (λ k. each (suc k)) in
     λ i. same i ∷ rest i
 
 -- time passes
-pub ticks_calm : (old new : WorldState) (ms : ℕ) (line : Line) → Ticks old new ms line → KeepsCalm old new Done
+pub ticks_calm : (old new : WorldState) (ms : ℕ) (line : Line) → NetworkTicks old new ms line → KeepsCalm old new Done
 ticks_calm old new ms line ticks = same_stores old new Done
     (ap (λ (w : WorldState). stores_of w) ticks.left
     ∙ ap (λ (all : List StoreState). all ++ router_stores old) (expired_stores old.servers new.servers (old.clock + ms) ticks.count ticks.each))
 
 -- a router is given another database
-pub changes_calm : (old new : WorldState) (router : ℕ) (db : List Mapping) (line : Line) → Changes old new router db line → KeepsCalm old new Done
+pub changes_calm : (old new : WorldState) (router : ℕ) (db : List MapRecordValue) (line : Line) → NetworkChanges old new router db line → KeepsCalm old new Done
 changes_calm old new router db line changes = router_keeps old new router [] Done changes.acts
-    (same_store changes.acts.before.store changes.acts.after.store Done (ap (λ (n : RouterNode). n.store) changes.changes))
+    (same_store changes.acts.before.store changes.acts.after.store Done (ap (λ (n : RouterNodeState). n.store) changes.changes))
 
 -- a router that sends uses its store if it is up
-send_keeps : (old : WorldState) (router server : ℕ) (fate : Fate) (before after : RouterNode) (core : RouterCore) (line : Line) (more : List Posted)
-    → SendsAt old router server fate before after core line more → KeepsStore before.store after.store fate
-send_keeps old router server fate before after (Up e) line more sends = uses_keeps before.store sends.call.armed sends.call.called after.store fate sends.call.uses
+send_keeps : (old : WorldState) (router server : ℕ) (fate : Fate) (before after : RouterNodeState) (core : RouterCoreState) (line : Line) (more : List DatagramValue)
+    → RouterSends old router server fate before after core line more → KeepsStore before.store after.store fate
+send_keeps old router server fate before after (Up e) line more up = uses_keeps before.store up.sends.call.armed up.sends.call.called after.store fate up.sends.call.uses
 send_keeps old router server fate before after (Down config database) line more sends =
-    same_store before.store after.store fate (ap (λ (n : RouterNode). n.store) sends.0)
+    same_store before.store after.store fate (ap (λ (n : RouterNodeState). n.store) sends.0)
 
 -- a router sends
-pub sends_calm : (old new : WorldState) (router server : ℕ) (fate : Fate) (line : Line) → SendsFrom old new router server fate line → KeepsCalm old new fate
+pub sends_calm : (old new : WorldState) (router server : ℕ) (fate : Fate) (line : Line) → NetworkSends old new router server fate line → KeepsCalm old new fate
 sends_calm old new router server fate line sends = router_keeps old new router sends.more fate sends.acts
     (send_keeps old router server fate sends.acts.before sends.acts.after sends.acts.before.core line sends.more sends.sends)
 
 -- a router that is given bytes uses its store if it is up
-hear_keeps : (A : Type 0) (old : WorldState) (node : ℕ) (before after : RouterNode) (fate : Fate) (from : Addr) (bytes : List ℕ) (core : RouterCore)
-    (line : Line) (more : List Posted) → HearsAt A old node before after fate from bytes core line more → KeepsStore before.store after.store fate
-hear_keeps A old node before after fate from bytes (Up e) line more hears = uses_keeps before.store hears.armed hears.armed after.store fate hears.uses
+hear_keeps : (A : Type 0) (old : WorldState) (node : ℕ) (before after : RouterNodeState) (fate : Fate) (from : Addr) (bytes : List ℕ) (core : RouterCoreState)
+    (line : Line) (more : List DatagramValue) → RouterHears A old node before after fate from bytes core line more → KeepsStore before.store after.store fate
+hear_keeps A old node before after fate from bytes (Up e) line more up = uses_keeps before.store up.hears.armed up.hears.armed after.store fate up.hears.uses
 hear_keeps A old node before after fate from bytes (Down config database) line more hears =
-    same_store before.store after.store fate (ap (λ (n : RouterNode). n.store) hears.0)
+    same_store before.store after.store fate (ap (λ (n : RouterNodeState). n.store) hears.0)
 
 -- bytes arrive at a node
 pub arrives_calm : (A : Type 0) (old new : WorldState) (node : ℕ) (fate : Fate) (from : Addr) (bytes : List ℕ) (line : Line)
@@ -192,17 +192,17 @@ arrives_calm A old new node fate from bytes line (inr router) = router_keeps old
     (hear_keeps A old node router.acts.before router.acts.after fate from bytes router.acts.before.core line router.more router.hears)
 
 -- a datagram arrives where it was sent to, or nowhere
-arrival_calm : (A : Type 0) (old new : WorldState) (k : ℕ) (fate : Fate) (d : Posted) (target : Option ℕ) (line : Line)
+arrival_calm : (A : Type 0) (old new : WorldState) (k : ℕ) (fate : Fate) (d : DatagramValue) (target : Option ℕ) (line : Line)
     → ArrivesWhere A old new k fate d target line → KeepsCalm old new fate
 arrival_calm A old new k fate d (Some node) line arrives = arrives_calm A old new node fate d.from d.bytes line arrives
 arrival_calm A old new k fate d None line nowhere = same_stores old new fate (ap (λ (w : WorldState). stores_of w) nowhere.0)
 
 -- a datagram that was sent is delivered
-pub delivers_calm : (A : Type 0) (old new : WorldState) (k : ℕ) (fate : Fate) (line : Line) → Delivers A old new k fate line → KeepsCalm old new fate
+pub delivers_calm : (A : Type 0) (old new : WorldState) (k : ℕ) (fate : Fate) (line : Line) → NetworkDelivers A old new k fate line → KeepsCalm old new fate
 delivers_calm A old new k fate line delivers = arrival_calm A old new k fate delivers.datagram (node_with old delivers.datagram.to) line delivers.arrives
 
 -- a node stops, its store crashes, and it starts again
-pub restarts_calm : (old new : WorldState) (node pick : ℕ) (db : Option (List Mapping)) (line : Line) → RestartsNode old new node pick db line → KeepsCalm old new Done
+pub restarts_calm : (old new : WorldState) (node pick : ℕ) (db : Option (List MapRecordValue)) (line : Line) → NetworkRestarts old new node pick db line → KeepsCalm old new Done
 restarts_calm old new node pick db line (inl (none, server)) = server_keeps old new node [] Done server.acts
     (proceeds_keeps server.acts.before.store server.acts.after.store Done server.crashes.proceeds)
 restarts_calm old new node pick db line (inr router) = router_keeps old new node [] Done router.acts
@@ -211,11 +211,11 @@ restarts_calm old new node pick db line (inr router) = router_keeps old new node
     (proceeds_keeps router.restarts.crashed router.acts.after.store Done router.restarts.starts.proceeds))
 
 -- a Map-Server sends a notice
-pub notices_calm : (old new : WorldState) (server router : ℕ) (fate : Fate) (line : Line) → NoticesFrom old new server router fate line → KeepsCalm old new fate
+pub notices_calm : (old new : WorldState) (server router : ℕ) (fate : Fate) (line : Line) → NetworkNotifies old new server router fate line → KeepsCalm old new fate
 notices_calm old new server router fate line notices = server_keeps old new server notices.more fate notices.acts
     (uses_keeps notices.acts.before.store notices.notifies.armed notices.notifies.called notices.acts.after.store fate notices.notifies.uses)
 
 -- a Map-Server sends a notice again, without its store
-pub resends_calm : (old new : WorldState) (server router : ℕ) (line : Line) → ResendsFrom old new server router line → KeepsCalm old new Done
+pub resends_calm : (old new : WorldState) (server router : ℕ) (line : Line) → NetworkResends old new server router line → KeepsCalm old new Done
 resends_calm old new server router line resends = server_keeps old new server resends.more Done resends.acts
-    (same_store resends.acts.before.store resends.acts.after.store Done (ap (λ (n : ServerNode). n.store) resends.rest))
+    (same_store resends.acts.before.store resends.acts.after.store Done (ap (λ (n : ServerNodeState). n.store) resends.rest))

@@ -1,7 +1,6 @@
 pub mod Loops
 pub mod Arrivals
 pub mod Calm
-pub mod Steps
 pub mod Taking
 pub mod Running
 pub mod MakingChecks

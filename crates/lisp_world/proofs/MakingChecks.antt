@@ -13,7 +13,7 @@ use Rattle.lisp_records.specs.declared.address.Addr.TheVariants.{V4, V6}
 use Rattle.lisp_records.specs.Address.{addr_eq}
 use Rattle.lisp_records.specs.Router.{router_eq}
 use Rattle.lisp_records.proofs.RouterLaws.{router_eq-Decides}
-use Rattle.lisp_policy.specs.Configuration.{Configuration, Router, HasServers, IsRouter, IsConfiguration}
+use Rattle.lisp_policy.specs.Configuration.{ConfigValue, RouterEntryValue, HasServers, IsRouterEntry, IsConfig}
 use Rattle.lisp_model.specs.Trace.{addresses}
 use Rattle.lisp_model.specs.Network.{IsNetwork}
 use Rattle.lisp_world.specs.Openings.{has_twice, repeats}
@@ -154,7 +154,7 @@ addr_differs : (a b : Addr) → addr_eq a b ≡ false → a ≢ b
 addr_differs a b other same = true≢false (sym (addr_itself a) ∙ ap (addr_eq a) same ∙ other)
 
 -- a configuration in which nothing repeats is that of a network
-pub is_network : (c : Configuration) → IsConfiguration c → repeats c ≡ false → IsNetwork c
+pub is_network : (c : ConfigValue) → IsConfig c → repeats c ≡ false → IsNetwork c
 is_network c configured none = record {
   addresses = λ i j d less low. addr_differs _ _ (no_twice addr_eq (addresses c) parts.0 i j d less low);
   routers = λ i j d less low same. (let other = no_twice (λ a b. router_eq a.me b.me) c.routers parts.1 i j d less low in true≢false (sym ((router_eq-Decides _ _).1 same) ∙ other));
@@ -164,6 +164,6 @@ is_network c configured none = record {
     parts : (has_twice addr_eq (addresses c) ≡ false) × (has_twice (λ a b. router_eq a.me b.me) c.routers ≡ false)
     parts = neither (has_twice addr_eq (addresses c)) (has_twice (λ a b. router_eq a.me b.me) c.routers) none
 
-    each : (rs : List Router) → AllByRecursion (IsRouter c) rs → AllByRecursion (HasServers c.servers) rs
+    each : (rs : List RouterEntryValue) → AllByRecursion (IsRouterEntry c) rs → AllByRecursion (HasServers c.servers) rs
     each [] all = tt
     each (r ∷ rs) all = (all.0.servers, each rs all.1)

@@ -6,9 +6,9 @@ use Rattle.std.proofs.Math.Seq.{take-suc, take-length}
 use Rattle.std.proofs.Math.ListN.{drop_of_length-le}
 use Rattle.std.proofs.lemmas.List.{map-append, append_assoc}
 use Rattle.std.proofs.lemmas.Option.{slice_get-get_or, slice_get_within}
-use Rattle.lisp_policy.specs.Configuration.{Configuration}
+use Rattle.lisp_policy.specs.Configuration.{ConfigValue}
 use Rattle.lisp_nonces.specs.Store.{StoreState}
-use Rattle.lisp_refinement.specs.World.{ServerNode, RouterNode}
+use Rattle.lisp_refinement.specs.World.{ServerNodeState, RouterNodeState}
 use Rattle.lisp_world.specs.Making.{server_over, IsRouterOver, AddsNode, AreServers, AreRouters, AreNodes, HasStarted, HaveStarted}
 use Rattle.lisp_refinement.proofs.Gets.{none_is_some, same_some, get_set, get_before}
 
@@ -55,7 +55,7 @@ module _ {X : Type 0} where
       (λ i. take ((all ∙ sym same) i) (new ++ none i)) ∙ ap (take (length new)) (append-nil new) ∙ take-length new
 
 -- the nodes over the stores so far: Map-Servers first
-pub record SoFar (c : Configuration) (stores : List StoreState) (made : List ServerNode) (down : List RouterNode) : Type 0 where
+pub record SoFar (c : ConfigValue) (stores : List StoreState) (made : List ServerNodeState) (down : List RouterNodeState) : Type 0 where
   pub count : length stores ≡ length made + length down
   pub few : length made ≤ length c.servers
   pub first : (length down ≡ 0) ⊎ (length made ≡ length c.servers)
@@ -63,7 +63,7 @@ pub record SoFar (c : Configuration) (stores : List StoreState) (made : List Ser
   pub are_routers : AreRouters c stores down
 
 -- none yet
-pub none_so_far : (c : Configuration) → SoFar c [] [] []
+pub none_so_far : (c : ConfigValue) → SoFar c [] [] []
 none_so_far c = record {
   count = refl;
   few = omega arith;
@@ -72,12 +72,12 @@ none_so_far c = record {
   are_routers = λ k n at. absurd (none_is_some at);
 }
 
-module _ (c : Configuration) (stores : List StoreState) (made : List ServerNode) (down : List RouterNode) (so_far : SoFar c stores made down) (s : StoreState) where
+module _ (c : ConfigValue) (stores : List StoreState) (made : List ServerNodeState) (down : List RouterNodeState) (so_far : SoFar c stores made down) (s : StoreState) where
   abbrev stores_now : List StoreState
   stores_now = stores ++ s ∷ []
 
   -- one more Map-Server
-  module _ (n : ServerNode) (low : length made < length c.servers) (is : n ≡ server_over c s) where
+  module _ (n : ServerNodeState) (low : length made < length c.servers) (is : n ≡ server_over c s) where
     no_router : (length down ≡ 0) ⊎ (length made ≡ length c.servers) → length down ≡ 0
     no_router (inl none) = none
     no_router (inr all) = absurd (omega (arith, low, all))
@@ -105,7 +105,7 @@ module _ (c : Configuration) (stores : List StoreState) (made : List ServerNode)
     }
 
   -- one more router
-  module _ (n : RouterNode) (high : length c.servers ≤ length made) (is : IsRouterOver c (length down) s n) where
+  module _ (n : RouterNodeState) (high : length c.servers ≤ length made) (is : IsRouterOver c (length down) s n) where
     all_servers : length made ≡ length c.servers
     all_servers = omega (arith, high, so_far.few)
 
@@ -131,15 +131,15 @@ module _ (c : Configuration) (stores : List StoreState) (made : List ServerNode)
     }
 
 -- one more, of either kind
-pub one_more : (c : Configuration) (stores : List StoreState) (s : StoreState) (made servers : List ServerNode) (down routers : List RouterNode)
+pub one_more : (c : ConfigValue) (stores : List StoreState) (s : StoreState) (made servers : List ServerNodeState) (down routers : List RouterNodeState)
     → SoFar c stores made down → AddsNode c s made servers down routers → SoFar c (stores ++ s ∷ []) servers routers
 one_more c stores s made servers down routers so_far (inl (low, same, (n, added, is))) =
-    subst (λ (p : List ServerNode × List RouterNode). SoFar c (stores ++ s ∷ []) p.0 p.1) (λ i. (sym added i, sym same i)) (server_more c stores made down so_far s n low is)
+    subst (λ (p : List ServerNodeState × List RouterNodeState). SoFar c (stores ++ s ∷ []) p.0 p.1) (λ i. (sym added i, sym same i)) (server_more c stores made down so_far s n low is)
 one_more c stores s made servers down routers so_far (inr (high, same, (n, added, is))) =
-    subst (λ (p : List ServerNode × List RouterNode). SoFar c (stores ++ s ∷ []) p.0 p.1) (λ i. (sym same i, sym added i)) (router_more c stores made down so_far s n high is)
+    subst (λ (p : List ServerNodeState × List RouterNodeState). SoFar c (stores ++ s ∷ []) p.0 p.1) (λ i. (sym same i, sym added i)) (router_more c stores made down so_far s n high is)
 
 -- all of them
-pub all_made : (c : Configuration) (stores : List StoreState) (made : List ServerNode) (down : List RouterNode) → length stores ≡ length c.servers + length c.routers
+pub all_made : (c : ConfigValue) (stores : List StoreState) (made : List ServerNodeState) (down : List RouterNodeState) → length stores ≡ length c.servers + length c.routers
     → SoFar c stores made down → AreNodes c stores made down
 all_made c stores made down count so_far = record {
   server_count = servers so_far.first;
@@ -153,20 +153,20 @@ all_made c stores made down count so_far = record {
     servers (inr all) = all
 
 -- the routers before a place have started, those from it on are as they were
-pub record StartedTo (old new : List RouterNode) (i : ℕ) : Type 0 where
+pub record StartedTo (old new : List RouterNodeState) (i : ℕ) : Type 0 where
   pub count : length new ≡ length old
-  pub each : (k : ℕ) (n : RouterNode) → slice_get new k ≡ Some n → ((k < i) × ((m : RouterNode) × (slice_get old k ≡ Some m) × HasStarted m n)) ⊎ ((i ≤ k) × (slice_get old k ≡ Some n))
+  pub each : (k : ℕ) (n : RouterNodeState) → slice_get new k ≡ Some n → ((k < i) × ((m : RouterNodeState) × (slice_get old k ≡ Some m) × HasStarted m n)) ⊎ ((i ≤ k) × (slice_get old k ≡ Some n))
 
 -- none yet
-pub started_to_none : (routers : List RouterNode) → StartedTo routers routers 0
+pub started_to_none : (routers : List RouterNodeState) → StartedTo routers routers 0
 started_to_none routers = record { count = refl; each = λ k n at. inr (omega arith, at) }
 
-module _ (old new : List RouterNode) (i : ℕ) (to : StartedTo old new i) where
-  abbrev Was : ℕ → RouterNode → Type 0
-  Was k n = (m : RouterNode) × (slice_get old k ≡ Some m) × HasStarted m n
+module _ (old new : List RouterNodeState) (i : ℕ) (to : StartedTo old new i) where
+  abbrev Was : ℕ → RouterNodeState → Type 0
+  Was k n = (m : RouterNodeState) × (slice_get old k ≡ Some m) × HasStarted m n
 
   -- the next one is as it was
-  pub next_was : (x : RouterNode) → i < length new → x ≡ get_or new i x → slice_get old i ≡ Some x
+  pub next_was : (x : RouterNodeState) → i < length new → x ≡ get_or new i x → slice_get old i ≡ Some x
   next_was x low is = first_was (to.each i x (slice_get-get_or new i x low ∙ ap Some (sym is)))
     where
       first_was : ((i < i) × Was i x) ⊎ ((i ≤ i) × (slice_get old i ≡ Some x)) → slice_get old i ≡ Some x
@@ -174,17 +174,17 @@ module _ (old new : List RouterNode) (i : ℕ) (to : StartedTo old new i) where
       first_was (inr (_, at)) = at
 
   -- one more
-  pub started_more : (x y : RouterNode) → i < length new → x ≡ get_or new i x → HasStarted x y → StartedTo old (slice_set new i y) (i + 1)
+  pub started_more : (x y : RouterNodeState) → i < length new → x ≡ get_or new i x → HasStarted x y → StartedTo old (slice_set new i y) (i + 1)
   started_more x y low is starts = record { count = same_length ∙ to.count; each = λ k n at. each_now k n (get_set new i k y n at) }
     where
       same_length : length (slice_set new i y) ≡ length new
       same_length = length-set new i y
 
-      further : (k : ℕ) (n : RouterNode) → k ≢ i → ((k < i) × Was k n) ⊎ ((i ≤ k) × (slice_get old k ≡ Some n)) → ((k < i + 1) × Was k n) ⊎ ((i + 1 ≤ k) × (slice_get old k ≡ Some n))
+      further : (k : ℕ) (n : RouterNodeState) → k ≢ i → ((k < i) × Was k n) ⊎ ((i ≤ k) × (slice_get old k ≡ Some n)) → ((k < i + 1) × Was k n) ⊎ ((i + 1 ≤ k) × (slice_get old k ≡ Some n))
       further k n other (inl (less, done)) = inl (omega (arith, less), done)
       further k n other (inr (more, at)) = inr (omega (arith, more, other), at)
 
-      each_now : (k : ℕ) (n : RouterNode) → ((k ≡ i) × (y ≡ n)) ⊎ ((k ≢ i) × (slice_get new k ≡ Some n)) → ((k < i + 1) × Was k n) ⊎ ((i + 1 ≤ k) × (slice_get old k ≡ Some n))
+      each_now : (k : ℕ) (n : RouterNodeState) → ((k ≡ i) × (y ≡ n)) ⊎ ((k ≢ i) × (slice_get new k ≡ Some n)) → ((k < i + 1) × Was k n) ⊎ ((i + 1 ≤ k) × (slice_get old k ≡ Some n))
       each_now k n (inl (same, that)) = inl (omega (arith, same), (x, ap (slice_get old) same ∙ next_was x low is, subst (λ m. HasStarted x m) that starts))
       each_now k n (inr (other, at)) = further k n other (to.each k n at)
 
@@ -192,12 +192,12 @@ module _ (old new : List RouterNode) (i : ℕ) (to : StartedTo old new i) where
   pub all_started : length new ≤ i → HaveStarted old new
   all_started high = record { count = to.count; each = λ k n at. done k n at (to.each k n at) }
     where
-      done : (k : ℕ) (n : RouterNode) → slice_get new k ≡ Some n → ((k < i) × Was k n) ⊎ ((i ≤ k) × (slice_get old k ≡ Some n)) → Was k n
+      done : (k : ℕ) (n : RouterNodeState) → slice_get new k ≡ Some n → ((k < i) × Was k n) ⊎ ((i ≤ k) × (slice_get old k ≡ Some n)) → Was k n
       done k n at (inl (less, was)) = was
       done k n at (inr (more, _)) = (let low = slice_get_within new k n at in absurd (omega (arith, low, more, high)))
 
 -- the same of lists that are equal to these
-pub moved_nodes : (c : Configuration) (stores known : List StoreState) (made servers : List ServerNode) (down routers : List RouterNode)
+pub moved_nodes : (c : ConfigValue) (stores known : List StoreState) (made servers : List ServerNodeState) (down routers : List RouterNodeState)
     → stores ≡ known → made ≡ servers → down ≡ routers → SoFar c known servers routers → SoFar c stores made down
 moved_nodes c stores known made servers down routers same_stores same_servers same_routers so_far =
-    subst (λ (p : List StoreState × List ServerNode × List RouterNode). SoFar c p.0 p.1 p.2) {x = (known, servers, routers)} {y = (stores, made, down)} (λ i. (sym same_stores i, sym same_servers i, sym same_routers i)) so_far
+    subst (λ (p : List StoreState × List ServerNodeState × List RouterNodeState). SoFar c p.0 p.1 p.2) {x = (known, servers, routers)} {y = (stores, made, down)} (λ i. (sym same_stores i, sym same_servers i, sym same_routers i)) so_far

@@ -9,23 +9,23 @@ use Rattle.lisp_admission.specs.declared.notice_fault.NoticeFault.{NoticeFault}
 use Rattle.lisp_model.specs.declared.line.Line.{Line}
 use Rattle.lisp_messages.specs.Head.{head_at}
 use Rattle.lisp_nodes.proofs.ServerCalls.{server_acted, notice_head}
-use Rattle.lisp_refinement.specs.Calls.{Notifies}
-use Rattle.lisp_refinement.specs.World.{Posted, ServerNode, RouterNode, WorldState}
-use Rattle.lisp_refinement.specs.Turns.{NoticesFrom, ResendsFrom, ResendsTo, SaysNotice, SaysResend}
+use Rattle.lisp_refinement.specs.Calls.{NodeNotifies}
+use Rattle.lisp_refinement.specs.World.{DatagramValue, ServerNodeState, RouterNodeState, WorldState}
+use Rattle.lisp_refinement.specs.Events.{NetworkNotifies, NetworkResends, NodeResends, SaysNoticeAnswer, SaysResendAnswer}
 
 -- the bytes of a notice that was made have a Key ID and a nonce
-pub notice_headed : (before after : ServerNode) (fate : Fate) (me : RouterId) (now : ℕ) {answer : Result (Addr × List ℕ) NoticeFault}
-    → Notifies before after fate me now answer → IfOk answer (λ sent. IsSome (head_at sent.1))
+pub notice_headed : (before after : ServerNodeState) (fate : Fate) (me : RouterId) (now : ℕ) {answer : Result (Addr × List ℕ) NoticeFault}
+    → NodeNotifies before after fate me now answer → IfOk answer (λ sent. IsSome (head_at sent.1))
 notice_headed before after fate me now {answer = Ok sent} notifies = notice_head _ _ _ _ _ _ _ _ notifies.announces
 notice_headed before after fate me now {answer = Err fault} notifies = tt
 
 -- a Map-Server that was read by its number was asked for a notice of a router that was read by its place
-module _ (old : WorldState) (server router place : ℕ) (line : Line) (before after : ServerNode) (node : RouterNode) (me : RouterId) (bag : List Posted)
+module _ (old : WorldState) (server router place : ℕ) (line : Line) (before after : ServerNodeState) (node : RouterNodeState) (me : RouterId) (bag : List DatagramValue)
     (beside : (router ≡ length old.servers + place) × (place < length old.routers)) (serves : server < length old.servers)
     (read_server : before ≡ get_or old.servers server before) (read_router : node ≡ get_or old.routers place node) (is_me : me ≡ node.me)
     (answer : Result (Addr × List ℕ) NoticeFault) where
-  pub noticed : (fate : Fate) → Notifies before after fate me old.clock answer → (more : List Posted) × (bag ≡ old.bag ++ more) × SaysNotice old server router answer line more
-      → NoticesFrom old (record old { bag = bag; servers = slice_set old.servers server after }) server router fate line
+  pub noticed : (fate : Fate) → NodeNotifies before after fate me old.clock answer → (more : List DatagramValue) × (bag ≡ old.bag ++ more) × SaysNoticeAnswer old server router answer line more
+      → NetworkNotifies old (record old { bag = bag; servers = slice_set old.servers server after }) server router fate line
   noticed fate notifies told = record {
     place = place;
     number = beside.0;
@@ -34,13 +34,13 @@ module _ (old : WorldState) (server router place : ℕ) (line : Line) (before af
     more = told.0;
     acts = server_acted old server before after bag told.0 serves read_server told.1;
     answer = answer;
-    notifies = subst (λ (r : RouterId). Notifies before after fate r old.clock answer) is_me notifies;
+    notifies = subst (λ (r : RouterId). NodeNotifies before after fate r old.clock answer) is_me notifies;
     says = told.2;
   }
 
-  pub resent : after ≡ record before { core = record before.core { notices = after.core.notices } } → ResendsTo before after old.clock me answer
-      → (more : List Posted) × (bag ≡ old.bag ++ more) × SaysResend old server router answer line more
-      → ResendsFrom old (record old { bag = bag; servers = slice_set old.servers server after }) server router line
+  pub resent : after ≡ record before { core = record before.core { notices = after.core.notices } } → NodeResends before after old.clock me answer
+      → (more : List DatagramValue) × (bag ≡ old.bag ++ more) × SaysResendAnswer old server router answer line more
+      → NetworkResends old (record old { bag = bag; servers = slice_set old.servers server after }) server router line
   resent rest resends told = record {
     place = place;
     number = beside.0;
@@ -50,6 +50,6 @@ module _ (old : WorldState) (server router place : ℕ) (line : Line) (before af
     acts = server_acted old server before after bag told.0 serves read_server told.1;
     rest = rest;
     answer = answer;
-    resends = subst (λ (r : RouterId). ResendsTo before after old.clock r answer) is_me resends;
+    resends = subst (λ (r : RouterId). NodeResends before after old.clock r answer) is_me resends;
     says = told.2;
   }

@@ -4,7 +4,7 @@ use Rattle.std.specs.Prelude.{◌≢◌, IfOk, IsErrAnd, IsErrOf, OnErr, if◌th
 use Rattle.std.specs.Option.{unwrap_or}
 use Rattle.lisp_etr.specs.declared.start_fault.StartFault.{StartFault}
 use Rattle.lisp_model.specs.Memory.{MayTell}
-use Rattle.lisp_model.specs.Trace.{Happening, fate_of}
+use Rattle.lisp_model.specs.Trace.{EventValue, fate_of}
 use Rattle.lisp_model.specs.declared.event.Event.TheVariants as events
 use Rattle.lisp_model.specs.declared.line.Line.{Line}
 use Rattle.lisp_model.specs.declared.world_fault.WorldFault.{WorldFault}
@@ -50,7 +50,7 @@ no_datagram clash = absurd cc
 clock : Clock ≢ OutOfMemory
 clock clash = absurd cc
 
-never : (w : WorldState) (event : Happening) → fault_of w event ≢ Some OutOfMemory
+never : (w : WorldState) (event : EventValue) → fault_of w event ≢ Some OutOfMemory
 never w (events.Change router db) = unless _ _ _ no_node (unless _ _ _ wrong_kind nothing)
 never w (events.Send router server fate) = unless _ _ _ no_node (unless _ _ _ wrong_kind nothing)
 never w (events.Deliver k fate) = unless _ _ _ no_datagram nothing
@@ -61,7 +61,7 @@ never w (events.Notice server router fate) = unless _ _ _ no_node (unless _ _ _ 
 never w (events.Resend server router) = unless _ _ _ no_node (unless _ _ _ wrong_kind nothing)
 
 -- what an event comes to, part by part
-module _ (node_may store_may : Type 0) (old new : WorldState) (event : Happening) where
+module _ (node_may store_may : Type 0) (old new : WorldState) (event : EventValue) where
   pub took_stands : (r : Result Line WorldFault) → Takes node_may store_may old new event r → IfOk r (λ line. StandsAfter old new event line)
   took_stands (Ok line) took = took.stands
   took_stands (Err why) refused = tt

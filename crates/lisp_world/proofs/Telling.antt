@@ -11,13 +11,13 @@ use Rattle.lisp_etr.specs.declared.start_fault.StartFault.{StartFault}
 use Rattle.lisp_etr.specs.declared.start_fault.StartFault.TheVariants as starts
 use Rattle.lisp_admission.specs.declared.notice_fault.NoticeFault.{NoticeFault}
 use Rattle.lisp_admission.specs.declared.notice_fault.NoticeFault.TheVariants as notices
-use Rattle.lisp_server.specs.Notices.{Standing, RefusesResend}
+use Rattle.lisp_server.specs.Notices.{StandingNoticeValue, RefusesResend}
 use Rattle.lisp_model.specs.declared.line.Line.{Line}
 use Rattle.lisp_model.specs.declared.line.Line.TheVariants as lines
 use Rattle.lisp_model.specs.declared.refusal.Refusal.TheVariants as refusals
 use Rattle.lisp_model.specs.Memory.{MayTell, is_store_memory}
-use Rattle.lisp_refinement.specs.World.{Posted, ServerNode, WorldState}
-use Rattle.lisp_refinement.specs.Turns.{ResendsTo, SaysNotice, SaysResend}
+use Rattle.lisp_refinement.specs.World.{DatagramValue, ServerNodeState, WorldState}
+use Rattle.lisp_refinement.specs.Events.{NodeResends, SaysNoticeAnswer, SaysResendAnswer}
 use Rattle.lisp_world.specs.Asked.{SaysAsked}
 
 module _ (node_may store_may : Type 0) (node : ℕ) where
@@ -32,7 +32,7 @@ module _ (node_may store_may : Type 0) (node : ℕ) where
   send_tells (sends.Store fault) may store = (λ out. absurd cc, in_store_sent fault (λ is. store (ap sends.Store is)))
   send_tells _ may store = (λ out. absurd cc, λ out. absurd cc)
 
-  pub sent_tells : (w : WorldState) (server : ℕ) (answer : Option (Result (List ℕ) SendFault)) (line : Line) (more : List Posted) → SaysAsked w node server answer line more
+  pub sent_tells : (w : WorldState) (server : ℕ) (answer : Option (Result (List ℕ) SendFault)) (line : Line) (more : List DatagramValue) → SaysAsked w node server answer line more
       → IfSome answer (λ a. a ≡ Err sends.OutOfMemory → node_may) → IfSome answer (λ a. a ≡ Err (sends.Store stores.OutOfMemory) → store_may) → MayTell node_may store_may line
   sent_tells w server (Some (Ok bytes)) line more says may store = subst (λ (l : Line). MayTell node_may store_may l) (sym says.said) tt
   sent_tells w server (Some (Err fault)) line more says may store =
@@ -65,7 +65,7 @@ module _ (node_may store_may : Type 0) (node : ℕ) where
   notice_tells (notices.StoreSave fault) may load save = (λ out. absurd cc, in_store_saved fault (λ is. save (ap notices.StoreSave is)))
   notice_tells _ may load save = (λ out. absurd cc, λ out. absurd cc)
 
-  pub noticed_tells : (w : WorldState) (router : ℕ) (answer : Result (Addr × List ℕ) NoticeFault) (line : Line) (more : List Posted) → SaysNotice w node router answer line more
+  pub noticed_tells : (w : WorldState) (router : ℕ) (answer : Result (Addr × List ℕ) NoticeFault) (line : Line) (more : List DatagramValue) → SaysNoticeAnswer w node router answer line more
       → (answer ≡ Err notices.OutOfMemory → node_may) → (answer ≡ Err (notices.StoreLoad stores.OutOfMemory) → store_may) → (answer ≡ Err (notices.StoreSave stores.OutOfMemory) → store_may)
       → MayTell node_may store_may line
   noticed_tells w router (Ok sent) line more says may load save = subst (λ (l : Line). MayTell node_may store_may l) (sym says.said) tt
@@ -73,14 +73,14 @@ module _ (node_may store_may : Type 0) (node : ℕ) where
       subst (λ (l : Line). MayTell node_may store_may l) (sym says.0) (notice_tells fault (λ is. may (ap Err is)) (λ is. load (ap Err is)) (λ is. save (ap Err is)))
 
   -- of one that is sent again, whose store isn't used
-  resend_tells : (old : List Standing) (router : RouterId) (now : ℕ) (fault : NoticeFault) → RefusesResend old router now fault → (fault ≡ notices.OutOfMemory → node_may)
+  resend_tells : (old : List StandingNoticeValue) (router : RouterId) (now : ℕ) (fault : NoticeFault) → RefusesResend old router now fault → (fault ≡ notices.OutOfMemory → node_may)
       → MayTell node_may store_may (lines.Refused node (refusals.Notice fault))
   resend_tells old router now notices.OutOfMemory refused may = (λ out. may refl, λ out. absurd cc)
   resend_tells old router now notices.NotDue refused may = (λ out. absurd cc, λ out. absurd cc)
   resend_tells old router now _ refused may = absurd refused
 
-  pub resent_tells : (w : WorldState) (router : ℕ) (answer : Result (Addr × List ℕ) NoticeFault) (line : Line) (more : List Posted) → SaysResend w node router answer line more
-      → (before after : ServerNode) (now : ℕ) (me : RouterId) → ResendsTo before after now me answer → (answer ≡ Err notices.OutOfMemory → node_may) → MayTell node_may store_may line
+  pub resent_tells : (w : WorldState) (router : ℕ) (answer : Result (Addr × List ℕ) NoticeFault) (line : Line) (more : List DatagramValue) → SaysResendAnswer w node router answer line more
+      → (before after : ServerNodeState) (now : ℕ) (me : RouterId) → NodeResends before after now me answer → (answer ≡ Err notices.OutOfMemory → node_may) → MayTell node_may store_may line
   resent_tells w router (Ok sent) line more says before after now me resends may = subst (λ (l : Line). MayTell node_may store_may l) (sym says.0) tt
   resent_tells w router (Err fault) line more says before after now me resends may =
       subst (λ (l : Line). MayTell node_may store_may l) (sym says.0) (resend_tells before.core.notices me now fault resends.0 (λ is. may (ap Err is)))

@@ -1,7 +1,7 @@
 -- Why no network is made: by the part that failed, and over calm stores.
 use Rattle.std.proofs.Common.{◌≡◌, ◌⊎◌, ℕ, ◌+◌, ◌-◌, ◌^◌, ◌<◌, ◌≤◌, List, length, Result, Ok, Err, Some, refl, sym, ap, subst, inl, inr, ◌∙◌, arith}
 use Rattle.std.specs.Prelude.{◌≢◌, slice_get, IfErr, IsErrAnd}
-use Rattle.lisp_policy.specs.Configuration.{Configuration}
+use Rattle.lisp_policy.specs.Configuration.{ConfigValue}
 use Rattle.lisp_nonces.specs.Store.{StoreState, Rose}
 use Rattle.lisp_nonces.specs.declared.fault.StoreFault.{StoreFault}
 use Rattle.lisp_nonces.specs.declared.fault.StoreFault.TheVariants as store_faults
@@ -9,7 +9,7 @@ use Rattle.lisp_etr.specs.declared.start_fault.StartFault.{StartFault}
 use Rattle.lisp_etr.specs.declared.start_fault.StartFault.TheVariants as starts
 use Rattle.lisp_model.specs.declared.world_fault.WorldFault.{WorldFault}
 use Rattle.lisp_model.specs.declared.world_fault.WorldFault.TheVariants as faults
-use Rattle.lisp_refinement.specs.World.{ServerNode, RouterNode}
+use Rattle.lisp_refinement.specs.World.{ServerNodeState, RouterNodeState}
 use Rattle.lisp_world.specs.Making.{AreNodes, IsUnstarted, IsStartFault, IsNewFault, AllBelowEnd, IsCalmFault}
 use Rattle.lisp_world.specs.Quiet.{AllCalm}
 
@@ -19,12 +19,12 @@ memory_fault (Ok x) P is holds = tt
 memory_fault (Err fault) P is holds = subst P (sym is) holds
 
 -- a router didn't start: its number, and its store among those of the nodes
-module _ (c : Configuration) (stores : List StoreState) (Refused StoreRefused : Type 0) (made : List ServerNode) (down : List RouterNode) (nodes : AreNodes c stores made down) {X : Type 0} (r : Result X WorldFault) (fault : WorldFault) (first : ℕ) (count : first ≡ length made) where
-  pub start_fault : r ≡ Err fault → IsStartFault first down fault Refused StoreRefused → IfErr r (λ why. IsNewFault c stores Refused StoreRefused why)
+module _ (c : ConfigValue) (stores : List StoreState) (Refused StoreRefused : Type 0) (made : List ServerNodeState) (down : List RouterNodeState) (nodes : AreNodes c stores made down) {X : Type 0} (r : Result X WorldFault) (fault : WorldFault) (first : ℕ) (count : first ≡ length made) where
+  pub start_fault : r ≡ Err fault → IsStartFault first down Refused StoreRefused fault → IfErr r (λ why. IsNewFault c stores Refused StoreRefused why)
   start_fault is why = subst (λ (x : Result X WorldFault). IfErr x (λ why. IsNewFault c stores Refused StoreRefused why)) (sym (is ∙ ap Err why.is)) row
     where
       was : (s : StoreState) × (slice_get stores (length c.servers + why.place) ≡ Some s) × (why.node.store ≡ s)
-      was = (let over = nodes.are_routers why.place why.node why.there in (over.0, over.1, ap (λ (n : RouterNode). n.store) over.2.2))
+      was = (let over = nodes.are_routers why.place why.node why.there in (over.0, over.1, ap (λ (n : RouterNodeState). n.store) over.2.2))
 
       row : IsNewFault c stores Refused StoreRefused (faults.Start (first + why.place) why.why)
       row = (
@@ -36,7 +36,7 @@ module _ (c : Configuration) (stores : List StoreState) (Refused StoreRefused : 
       )
 
 -- over calm stores none fails by its device
-module _ (c : Configuration) (stores : List StoreState) (Refused StoreRefused : Type 0) (calm : AllCalm stores) (below : AllBelowEnd stores) where
+module _ (c : ConfigValue) (stores : List StoreState) (Refused StoreRefused : Type 0) (calm : AllCalm stores) (below : AllBelowEnd stores) where
   unfailing : (node : ℕ) (why : StartFault) (f : StoreFault) → why ≡ starts.Store f → f ≢ store_faults.OutOfMemory → IsNewFault c stores Refused StoreRefused (faults.Start node why) → ⊥
   unfailing node why f is other (high, before, there, after, unstarted) = never (unstarted.cause f is other)
     where

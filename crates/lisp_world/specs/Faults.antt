@@ -1,7 +1,7 @@
 -- A network's faults: what keeps it from taking an event.
-use Rattle.std.specs.Prelude.{◌≡◌, ℕ, ◌+◌, ◌&&◌, ◌||◌, nat_le, nat_lt, not, is_some, Bool, length, Option, Some, None, Result, Ok, Err, IfErr, if◌then◌else◌}
+use Rattle.std.specs.Prelude.{◌≡◌, ◌<◌, ℕ, ◌+◌, ◌&&◌, ◌||◌, nat_le, nat_lt, not, is_some, Bool, length, Option, Some, None, Result, Ok, Err, IfErr, if◌then◌else◌}
 use Rattle.lisp_records.specs.Moment.{max_moment}
-use Rattle.lisp_model.specs.Trace.{Happening}
+use Rattle.lisp_model.specs.Trace.{EventValue}
 use Rattle.lisp_model.specs.declared.event.Event.TheVariants as events
 use Rattle.lisp_refinement.specs.World.{WorldState}
 use Rattle.lisp_model.specs.declared.world_fault.WorldFault.{WorldFault}
@@ -14,12 +14,19 @@ is_missing w node = nat_le (length w.addresses) node
 abbrev pub is_server : WorldState → ℕ → Bool
 is_server w node = nat_lt node (length w.servers)
 
+-- the place of a router among the routers
+abbrev pub IsRouterPlace : WorldState → ℕ → ℕ → Type 0
+IsRouterPlace w router place = (router ≡ length w.servers + place) × (place < length w.routers)
+
 -- the fault of an event: of one node; of a router; of a router and a Map-Server; of a restart; of a datagram; of time
 abbrev pub node_fault : WorldState → ℕ → Option WorldFault
 node_fault w node = if is_missing w node then Some faults.NoNode else None
 
 abbrev pub router_fault : WorldState → ℕ → Option WorldFault
-router_fault w router = if is_missing w router then Some faults.NoNode else if is_server w router then Some faults.WrongKind else None
+router_fault w router =
+    if is_missing w router then Some faults.NoNode
+    else if is_server w router then Some faults.WrongKind
+    else None
 
 abbrev pub pair_fault : WorldState → ℕ → ℕ → Option WorldFault
 pair_fault w router server =
@@ -28,7 +35,10 @@ pair_fault w router server =
     else None
 
 abbrev pub restart_fault : {X : Type 0} → WorldState → ℕ → Option X → Option WorldFault
-restart_fault w node db = if is_missing w node then Some faults.NoNode else if is_server w node && is_some db then Some faults.WrongKind else None
+restart_fault w node db =
+    if is_missing w node then Some faults.NoNode
+    else if is_server w node && is_some db then Some faults.WrongKind
+    else None
 
 abbrev pub datagram_fault : WorldState → ℕ → Option WorldFault
 datagram_fault w k = if nat_le (length w.bag) k then Some faults.NoDatagram else None
@@ -36,7 +46,7 @@ datagram_fault w k = if nat_le (length w.bag) k then Some faults.NoDatagram else
 abbrev pub tick_fault : WorldState → ℕ → Option WorldFault
 tick_fault w ms = if nat_lt max_moment (w.clock + ms) then Some faults.Clock else None
 
-abbrev pub fault_of : WorldState → Happening → Option WorldFault
+abbrev pub fault_of : WorldState → EventValue → Option WorldFault
 fault_of w (events.Change router db) = router_fault w router
 fault_of w (events.Send router server fate) = pair_fault w router server
 fault_of w (events.Deliver k fate) = datagram_fault w k

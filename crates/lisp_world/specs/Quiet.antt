@@ -1,8 +1,9 @@
 -- Stores that don't fail unasked.
-use Rattle.std.specs.Prelude.{◌≡◌, ℕ, List, ◌++◌, map, slice_get, Some, IsTrue}
+use Rattle.std.specs.Prelude.{◌≡◌, ℕ, List, ◌++◌, map, slice_get, Some, Result, IsTrue, IfOk}
 use Rattle.lisp_nonces.specs.Store.{StoreState}
 use Rattle.lisp_nonces.specs.declared.fate.Fate.{Fate}
 use Rattle.lisp_nonces.specs.declared.fate.Fate.TheVariants.{Done}
+use Rattle.lisp_model.specs.declared.world_fault.WorldFault.{WorldFault}
 use Rattle.lisp_refinement.specs.World.{WorldState}
 
 -- the stores of the nodes, Map-Servers first
@@ -28,3 +29,8 @@ failures stores = map (λ s. s.faults) stores
 pub record KeepsCalm (old new : WorldState) (fate : Fate) : Type 0 where
   pub calm : AllCalm (stores_of old) → AllCalm (stores_of new)
   pub unfailing : AllCalm (stores_of old) → fate ≡ Done → failures (stores_of new) ≡ failures (stores_of old)
+
+-- a network that is made over calm stores has calm ones, none of which failed
+abbrev pub StaysCalm : List StoreState → Result WorldState WorldFault → Type 0
+StaysCalm stores result =
+    AllCalm stores → IfOk result (λ w. AllCalm (stores_of w) × (failures (stores_of w) ≡ failures stores))

@@ -1,21 +1,19 @@
 //! A network is made.
 
-ghost use Rattle.std.specs.Prelude.{◌≡◌, ◌↔◌, ◌+◌, ◌^◌, ◌<◌, ◌≤◌, ◌||◌, ◌++◌, ◌∷◌, ℕ, true, false, [], Err, IfOk, IfErr, IsErrOf, OnOk, OnErr, length, map, slice_index_or};
+ghost use Rattle.std.specs.Prelude.{◌≡◌, ◌↔◌, ◌+◌, ◌^◌, ◌<◌, ◌||◌, ◌++◌, ◌∷◌, true, false, [], Err, IfOk, IfErr, IsErrOf, OnOk, OnErr, length, map};
 ghost use Rattle.std.specs.List.{AllByRecursion, list_any};
 ghost use Rattle.lisp_records.specs.Address.{addr_eq};
 ghost use Rattle.lisp_records.specs.Router.{router_eq};
-ghost use Rattle.lisp_records.specs.declared.address.Addr.TheVariants.{V4};
 ghost use Rattle.lisp_policy.specs.Configuration.{HasServers};
-ghost use Rattle.lisp_nonces.specs.declared.fault.StoreFault.{StoreFault};
 ghost use Rattle.lisp_etr.specs.declared.start_fault.StartFault.{StartFault};
 ghost use Rattle.lisp_model.specs.declared.world_fault.WorldFault.{WorldFault};
-ghost use Rattle.lisp_model.specs.Trace.{addresses as addresses_of, settings_of, secret_at};
+ghost use Rattle.lisp_model.specs.Trace.{addresses as addresses_of, etr_config_of, secret_at};
 ghost use Rattle.lisp_model.specs.Network.{IsNetwork};
-ghost use Rattle.lisp_world.specs.Making.{server_over, router_over, IsRouterOver, AddsNode, AreNodes, HasStarted, HaveStarted, IsUnstarted, IsStartFault, IsNewFault, AllBelowEnd, IsCalmFault};
-ghost use Rattle.lisp_world.specs.Openings.{has_twice, repeats, opening, lists_of};
-ghost use Rattle.lisp_world.specs.Quiet.{AllHonest, AllCalm, stores_of, failures};
+ghost use Rattle.lisp_nodes.specs.Memory.{no_store_memory_to_start};
+ghost use Rattle.lisp_world.specs.Making.{server_over, router_over, IsRouterOver, addresses_at, HasNodeLeft, AddsNode, AreMade, HasStarted, HaveStarted, StaysDown, IsStartFault, FailsOver, FailsToStartOnlyIf, FailsCalm};
+ghost use Rattle.lisp_world.specs.Openings.{repeats, share_address, share_identity, nodes_share_address, IsOpened, KeepsLists};
+ghost use Rattle.lisp_world.specs.Quiet.{AllHonest, StaysCalm};
 ghost use Rattle.lisp_refinement.specs.Headline.{Promises};
-ghost use Rattle.lisp_refinement.specs.Stands.{Stands};
 
 use crate::world::World;
 use core::mem::replace_with;
@@ -46,18 +44,18 @@ impl<S: WorldStore, A: Memory + Copy> World<S, A> {
         requires { length stores.items ≡ length config.now.servers + length config.now.routers }
 
         // Over honest stores it stands for its opening.
-        ensures stands { AllHonest (map S.seen stores.items) → IfOk result (λ w. Stands w (opening config.now w) []) }
+        ensures stands { AllHonest (map S.seen stores.items) → IfOk result (IsOpened config.now) }
         ensures headline { IfOk result (λ w. Promises w) }
-        ensures lists { AllHonest (map S.seen stores.items) → IfOk result (λ w. lists_of (stores_of w) ≡ lists_of (map S.seen stores.items)) }
-        ensures faults { IfErr result (λ why. IsNewFault config.now (map S.seen stores.items) A.may_refuse S.may_refuse why) }
+        ensures lists { KeepsLists (map S.seen stores.items) result }
+        ensures faults { FailsOver config.now S.seen stores.items A.may_refuse S.may_refuse result }
         ensures repeated { (result ≡ Err WorldFault.Repeated) ↔ (repeats config.now ≡ true) }
         ensures memory { IsErrOf result WorldFault.OutOfMemory → A.may_refuse }
-        ensures start_memory { (node : ℕ) → IsErrOf result (WorldFault.Start node StartFault.OutOfMemory) → A.may_refuse }
-        ensures store_memory { (node : ℕ) → IsErrOf result (WorldFault.Start node (StartFault.Store StoreFault.OutOfMemory)) → S.may_refuse }
+        ensures start_memory { FailsToStartOnlyIf result StartFault.OutOfMemory A.may_refuse }
+        ensures store_memory { FailsToStartOnlyIf result no_store_memory_to_start S.may_refuse }
 
         // Stores that obey and fail no more are so again, and none has failed.
-        ensures calm { AllCalm (map S.seen stores.items) → IfOk result (λ w. AllCalm (stores_of w) × (failures (stores_of w) ≡ failures (map S.seen stores.items))) }
-        ensures calm_faults { AllCalm (map S.seen stores.items) → AllBelowEnd (map S.seen stores.items) → IfErr result (IsCalmFault A.may_refuse S.may_refuse) }
+        ensures calm { StaysCalm (map S.seen stores.items) result }
+        ensures calm_faults { FailsCalm (map S.seen stores.items) A.may_refuse S.may_refuse result }
     {
         if repeats(config) {
             return Err(WorldFault::Repeated);
@@ -87,7 +85,7 @@ fn repeats<E: Allocator>(config: &Config<E>) -> bool
 
 // Whether a Map-Server has the address of another one behind it, or of a router.
 fn servers_repeat<E: Allocator>(servers: &[ServerEntry<E>], routers: &[RouterEntry<E>]) -> bool
-    ensures { (result || has_twice (λ a b. addr_eq a.address b.address) routers.now) ≡ has_twice addr_eq (map (λ s. s.address) servers.now ++ map (λ r. r.address) routers.now) }
+    ensures { (result || share_address routers.now) ≡ nodes_share_address servers.now routers.now }
 {
     for (i, server) in servers.iter().enumerate() {
         if is_server_at(&servers[i + 1..], server.address)
@@ -101,7 +99,7 @@ fn servers_repeat<E: Allocator>(servers: &[ServerEntry<E>], routers: &[RouterEnt
 
 // Whether a router has the address or the identity of another one behind it.
 fn routers_repeat<E: Allocator>(routers: &[RouterEntry<E>]) -> bool
-    ensures { result ≡ (has_twice (λ a b. addr_eq a.address b.address) routers.now || has_twice (λ a b. router_eq a.me b.me) routers.now) }
+    ensures { result ≡ (share_address routers.now || share_identity routers.now) }
 {
     for (i, router) in routers.iter().enumerate() {
         if is_router_at(&routers[i + 1..], router.address)
@@ -173,7 +171,7 @@ where
     S: Drop,
     requires count { length stores.items ≡ length config.now.servers + length config.now.routers }
     requires addresses { addresses.now ≡ addresses_of config.now }
-    ensures nodes { IfOk result (λ n. AreNodes config.now (map S.seen stores.items) n.0.items n.1.items) }
+    ensures nodes { IfOk result (λ n. AreMade config.now S.seen stores.items n.0.items n.1.items) }
     ensures memory { OnErr result A.may_refuse }
 {
     let mut servers = Vec::new(alloc);
@@ -196,7 +194,7 @@ fn add_node<S: WorldStore, A: Memory + Copy, E: Allocator>(
 where
     S: Drop,
     requires addresses { addresses.now ≡ addresses_of config.now }
-    requires left { length config.now.servers ≤ length servers.old.items → length routers.old.items < length config.now.routers }
+    requires left { HasNodeLeft config.now servers.old.items routers.old.items }
     ensures added { OnOk result (AddsNode config.now (S.seen store) servers.old.items servers.new.items routers.old.items routers.new.items) }
     ensures memory { OnErr result A.may_refuse }
 {
@@ -297,7 +295,7 @@ fn settings<A: Memory + Copy, E: Allocator>(
 ) -> Result<EtrConfig<A>, AllocError>
     requires addresses { addresses.now ≡ addresses_of config.now }
     requires servers { HasServers config.now.servers entry.now }
-    ensures settings { IfOk result (λ s. s ≡ settings_of config.now entry.now) }
+    ensures settings { IfOk result (λ s. s ≡ etr_config_of config.now entry.now) }
     ensures memory { OnErr result A.may_refuse }
 {
     let servers = each_address(alloc, addresses, entry.servers.as_slice())?;
@@ -329,7 +327,7 @@ fn each_address<A: Memory + Copy>(
     places: &[usize],
 ) -> Result<Vec<Addr, A>, AllocError>
     requires { AllByRecursion (λ place. place < length addresses.now) places.now }
-    ensures addresses { IfOk result (λ v. v.items ≡ map (λ place. slice_index_or addresses.now place (V4 [])) places.now) }
+    ensures addresses { IfOk result (λ v. v.items ≡ addresses_at addresses.now places.now) }
     ensures memory { OnErr result A.may_refuse }
 {
     let mut found = Vec::new(alloc);
@@ -347,7 +345,7 @@ fn start_all<S: WorldStore, A: Memory + Copy>(
 ) -> Result<(), WorldFault>
     requires { first + length routers.old < 2 ^ 64 }
     ensures started { OnOk result (HaveStarted routers.old routers.new) }
-    ensures faults { IfErr result (λ fault. IsStartFault first routers.old fault A.may_refuse S.may_refuse) }
+    ensures faults { IfErr result (IsStartFault first routers.old A.may_refuse S.may_refuse) }
 {
     for i in 0..routers.len() {
         if let Err(fault) = start(alloc, &mut routers[i]) {
@@ -364,7 +362,7 @@ fn start<S: WorldStore, A: Memory + Copy>(
     router: &mut RouterNode<S, A>,
 ) -> Result<(), StartFault>
     ensures started { OnOk result (HasStarted router.old router.new) }
-    ensures unstarted { IfErr result (λ why. IsUnstarted router.old.store router.new.store why A.may_refuse S.may_refuse) }
+    ensures unstarted { IfErr result (StaysDown router.old router.new A.may_refuse S.may_refuse) }
 {
     let how = Start {
         alloc,

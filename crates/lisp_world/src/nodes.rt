@@ -1,8 +1,8 @@
 //! The nodes of a network by their numbers and addresses.
 
-ghost use Rattle.std.specs.Prelude.{◌≡◌, ◌+◌, ◌<◌, IfOk, length, slice_index_or};
-ghost use Rattle.lisp_world.specs.Faults.{is_missing, is_server, node_fault, router_fault, pair_fault, refusal_of};
-ghost use Rattle.lisp_refinement.specs.Turns.{address_of, node_with};
+ghost use Rattle.std.specs.Prelude.{◌≡◌, ◌<◌, IfOk, length, slice_index_or};
+ghost use Rattle.lisp_world.specs.Faults.{is_missing, is_server, IsRouterPlace, node_fault, router_fault, pair_fault, refusal_of};
+ghost use Rattle.lisp_refinement.specs.Events.{address_of, node_with};
 
 use crate::world::World;
 use lisp_model::WorldFault;
@@ -52,7 +52,7 @@ impl<S: WorldStore, A: Allocator> World<S, A> {
 
     // The place of a router among the routers.
     pub(crate) fn router_place(&self, router: usize) -> Result<usize, WorldFault>
-        ensures place { IfOk result (λ place. (router ≡ length self.now.servers + place) × (place < length self.now.routers)) }
+        ensures place { IfOk result (IsRouterPlace self.now router) }
         ensures fault { refusal_of result ≡ router_fault self.now router }
     {
         if self.is_missing(router) {
@@ -66,7 +66,7 @@ impl<S: WorldStore, A: Allocator> World<S, A> {
 
     // The place of a router among the routers, beside a Map-Server.
     pub(crate) fn place_beside(&self, server: usize, router: usize) -> Result<usize, WorldFault>
-        ensures place { IfOk result (λ place. (router ≡ length self.now.servers + place) × (place < length self.now.routers)) }
+        ensures place { IfOk result (IsRouterPlace self.now router) }
         ensures server { IfOk result (λ place. server < length self.now.servers) }
         ensures fault { refusal_of result ≡ pair_fault self.now router server }
     {

@@ -1,11 +1,10 @@
 //! A Map-Server sends an unsolicited Map-Notify (notice).
 
-ghost use Rattle.std.specs.Prelude.{◌≡◌, ◌<◌, ◌++◌, List, IfOk, IsSome};
+ghost use Rattle.std.specs.Prelude.{◌<◌, IfOk, IsSome};
 ghost use Rattle.std.specs.Vec.{vec_len, vec_capacity};
 ghost use Rattle.lisp_messages.specs.Head.{head_at};
 ghost use Rattle.lisp_model.specs.declared.event.Event.TheVariants.{Notice};
-ghost use Rattle.lisp_refinement.specs.World.{Posted, WorldState};
-ghost use Rattle.lisp_refinement.specs.Turns.{address_of, SaysNotice};
+ghost use Rattle.lisp_world.specs.Asked.{BagGrowsByNotice};
 ghost use Rattle.lisp_world.specs.Taking.{Takes};
 
 use crate::room::with_room;
@@ -46,7 +45,7 @@ fn notice_line<A: Memory>(
 ) -> Line
     requires room { vec_len bag.old < vec_capacity bag.old }
     requires head { IfOk notice (λ sent. IsSome (head_at sent.1)) }
-    ensures { (w : WorldState) → bag.old.items ≡ w.bag → from ≡ address_of w server → (more : List Posted) × (bag.new.items ≡ w.bag ++ more) × SaysNotice w server router notice result more }
+    ensures { BagGrowsByNotice bag.old.items bag.new.items from server router notice result }
 {
     match notice {
         Ok((to, bytes)) => {

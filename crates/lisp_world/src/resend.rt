@@ -1,10 +1,9 @@
 //! A Map-Server sends a notice again.
 
-ghost use Rattle.std.specs.Prelude.{◌≡◌, ◌<◌, ◌++◌, List};
+ghost use Rattle.std.specs.Prelude.{◌<◌};
 ghost use Rattle.std.specs.Vec.{vec_len, vec_capacity};
 ghost use Rattle.lisp_model.specs.declared.event.Event.TheVariants.{Resend};
-ghost use Rattle.lisp_refinement.specs.World.{Posted, WorldState};
-ghost use Rattle.lisp_refinement.specs.Turns.{address_of, SaysResend};
+ghost use Rattle.lisp_world.specs.Asked.{BagGrowsByResend};
 ghost use Rattle.lisp_world.specs.Taking.{Takes};
 
 use crate::room::with_room;
@@ -39,7 +38,7 @@ fn resend_line<A: Memory>(
     notice: Result<(Addr, Bytes<A>), NoticeFault>,
 ) -> Line
     requires { vec_len bag.old < vec_capacity bag.old }
-    ensures { (w : WorldState) → bag.old.items ≡ w.bag → from ≡ address_of w server → (more : List Posted) × (bag.new.items ≡ w.bag ++ more) × SaysResend w server router notice result more }
+    ensures { BagGrowsByResend bag.old.items bag.new.items from server router notice result }
 {
     match notice {
         Ok((to, bytes)) => {

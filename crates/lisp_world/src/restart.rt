@@ -6,7 +6,7 @@ ghost use Rattle.lisp_model.specs.Legal.{Fits};
 ghost use Rattle.lisp_model.specs.declared.event.Event.TheVariants.{Restart};
 ghost use Rattle.lisp_world.specs.Faults.{is_server, refusal_of, restart_fault};
 ghost use Rattle.lisp_world.specs.Taking.{Takes};
-ghost use Rattle.lisp_refinement.specs.Turns.{RestartsServer, RestartsAt};
+ghost use Rattle.lisp_refinement.specs.Events.{NetworkRestartsServer, NetworkRestartsRouter};
 
 use crate::world::World;
 use lisp_memory::Memory;
@@ -54,7 +54,7 @@ impl<S: WorldStore, A: Memory + Copy> World<S, A> {
 
     fn restart_server(&mut self, node: usize, pick: u64) -> Line
         requires { node < length self.old.servers }
-        ensures { RestartsServer self.old self.new node pick result }
+        ensures { NetworkRestartsServer self.old self.new node pick result }
     {
         let alloc = self.alloc;
         self.servers[node].restart(alloc, pick);
@@ -63,7 +63,7 @@ impl<S: WorldStore, A: Memory + Copy> World<S, A> {
 
     fn restart_router(&mut self, node: usize, pick: u64, db: Option<Database<A>>) -> Line
         requires { (length self.old.servers ≤ node) × (node < length self.old.addresses) }
-        ensures restarts { RestartsAt self.old self.new node pick db result }
+        ensures restarts { NetworkRestartsRouter self.old self.new node pick db result }
         ensures tells { MayTell A.may_refuse S.may_refuse result }
     {
         let how = Start {

@@ -1,10 +1,9 @@
 //! A network takes events, one after another.
 
-ghost use Rattle.std.specs.Prelude.{◌≡◌, ◌<◌, ◌++◌, ◌∷◌, [], MatchResult, IfErr, map};
+ghost use Rattle.std.specs.Prelude.{◌≡◌, ◌<◌, ◌++◌, ◌∷◌, [], IfErr};
 ghost use Rattle.std.specs.Vec.{vec_len, vec_capacity};
-ghost use Rattle.lisp_model.specs.Trace.{happening};
 ghost use Rattle.lisp_world.specs.Quiet.{AllCalm, stores_of};
-ghost use Rattle.lisp_world.specs.Runs.{RunsOn, StopsAt};
+ghost use Rattle.lisp_world.specs.Runs.{Runs};
 ghost use Rattle.lisp_model.specs.declared.world_fault.WorldFault.TheVariants.{OutOfMemory};
 ghost use Rattle.lisp_refinement.specs.Headline.{Promises};
 
@@ -23,7 +22,7 @@ impl<S: WorldStore, A: Memory + Copy> World<S, A> {
         events: &[Event<E>],
         lines: &mut Vec<Line, A>,
     ) -> Result<(), (usize, WorldFault)>
-        ensures runs { MatchResult result (λ done. RunsOn A.may_refuse S.may_refuse self.old self.new lines.old.items lines.new.items (map happening events.now)) (λ at. StopsAt A.may_refuse S.may_refuse self.old self.new lines.old.items lines.new.items (map happening events.now) at.0 at.1) }
+        ensures runs { Runs A.may_refuse S.may_refuse self.old self.new lines.old.items lines.new.items events.now result }
         ensures headline { Promises self.new }
         ensures memory { IfErr result (λ at. at.1 ≡ OutOfMemory → A.may_refuse) }
         ensures calm { AllCalm (stores_of self.old) → AllCalm (stores_of self.new) }

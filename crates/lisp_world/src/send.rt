@@ -1,12 +1,10 @@
 //! A router sends a Map-Register.
 
-ghost use Rattle.std.specs.Prelude.{◌≡◌, ◌<◌, ◌++◌, List, IfOk, IfSome, IsSome};
+ghost use Rattle.std.specs.Prelude.{◌<◌, IfOk, IfSome, IsSome};
 ghost use Rattle.std.specs.Vec.{vec_len, vec_capacity};
 ghost use Rattle.lisp_messages.specs.Head.{head_at};
 ghost use Rattle.lisp_model.specs.declared.event.Event.TheVariants.{Send};
-ghost use Rattle.lisp_refinement.specs.World.{Posted, WorldState};
-ghost use Rattle.lisp_refinement.specs.Turns.{address_of};
-ghost use Rattle.lisp_world.specs.Asked.{SaysAsked};
+ghost use Rattle.lisp_world.specs.Asked.{BagGrowsBySend};
 ghost use Rattle.lisp_world.specs.Taking.{Takes};
 
 use crate::room::with_room;
@@ -49,7 +47,7 @@ fn send_line<A: Memory>(
 ) -> Line
     requires room { vec_len bag.old < vec_capacity bag.old }
     requires head { IfSome answer (λ sent. IfOk sent (λ bytes. IsSome (head_at bytes))) }
-    ensures { (w : WorldState) → bag.old.items ≡ w.bag → from ≡ address_of w router → to ≡ address_of w server → (more : List Posted) × (bag.new.items ≡ w.bag ++ more) × SaysAsked w router server answer result more }
+    ensures { BagGrowsBySend bag.old.items bag.new.items from to router server answer result }
 {
     match answer {
         Some(Ok(bytes)) => {

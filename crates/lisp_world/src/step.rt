@@ -2,7 +2,7 @@
 
 ghost use Rattle.std.specs.Prelude.{◌≡◌, IfOk, OnErr, IsErrOf};
 ghost use Rattle.lisp_model.specs.Memory.{MayTell};
-ghost use Rattle.lisp_model.specs.Trace.{fate_of, happening};
+ghost use Rattle.lisp_model.specs.Trace.{fate_of, event_value};
 ghost use Rattle.lisp_world.specs.Faults.{Faults, fault_of};
 ghost use Rattle.lisp_world.specs.Quiet.{KeepsCalm};
 ghost use Rattle.lisp_world.specs.Taking.{Takes};
@@ -24,9 +24,9 @@ impl<S: WorldStore, A: Memory + Copy> World<S, A> {
     /// datagram or a database; every other event takes no memory).
     pub fn step<E: Allocator>(&mut self, event: &Event<E>) -> Result<Line, WorldFault>
         // It stands for each trace that it stood for, followed by this event with its line.
-        ensures stands { IfOk result (λ line. StandsAfter self.old self.new (happening event.now) line) }
+        ensures stands { IfOk result (StandsAfter self.old self.new (event_value event.now)) }
         ensures headline { Promises self.new }
-        ensures fault { Faults (fault_of self.old (happening event.now)) result }
+        ensures fault { Faults (fault_of self.old (event_value event.now)) result }
         ensures err { OnErr result (self.new ≡ self.old) }
 
         // Only where memory may be refused, or a store's memory, a fault or a line says so.
@@ -34,14 +34,14 @@ impl<S: WorldStore, A: Memory + Copy> World<S, A> {
         ensures tells { IfOk result (MayTell A.may_refuse S.may_refuse) }
 
         // Stores that obey and fail no more are so again, and none fails unless the event makes it.
-        ensures calm { KeepsCalm self.old self.new (fate_of (happening event.now)) }
+        ensures calm { KeepsCalm self.old self.new (fate_of (event_value event.now)) }
     {
         self.take(event)
     }
 
     // Takes one event.
     fn take<E: Allocator>(&mut self, event: &Event<E>) -> Result<Line, WorldFault>
-        ensures { Takes A.may_refuse S.may_refuse self.old self.new (happening event.now) result }
+        ensures { Takes A.may_refuse S.may_refuse self.old self.new (event_value event.now) result }
     {
         match event {
             Event::Change { router, db } => self.change(*router, db),

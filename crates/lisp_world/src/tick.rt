@@ -3,7 +3,7 @@
 ghost use Rattle.std.specs.Prelude.{◌≡◌, ◌≤◌, length};
 ghost use Rattle.lisp_records.specs.Moment.{max_moment};
 ghost use Rattle.lisp_model.specs.declared.event.Event.TheVariants.{Tick};
-ghost use Rattle.lisp_refinement.specs.Turns.{ExpiresEach};
+ghost use Rattle.lisp_refinement.specs.Events.{ExpiresEach};
 ghost use Rattle.lisp_world.specs.Taking.{Takes};
 
 use crate::world::World;

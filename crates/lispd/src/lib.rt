@@ -5,8 +5,7 @@
 #![tactic(auto)]
 
 pub use lisp_answer::{AnswerFault, AnswerSetup, answer};
-pub use lisp_loop::run_loop;
 pub use lisp_refusals::{ExplainFault, explain, explain_all};
-pub use lisp_running::{keep_router_running, keep_server_running, run_router, run_server};
-pub use lisp_streams::{InputFault, PlayFault, RunFault, check_config};
-pub use lispd_cli::{AnswerOption, ProgramFault, SetupFault, setup};
+pub use lisp_script::{InputFault, PlayFault, RunFault};
+pub use lisp_udp::{keep_router_running, keep_server_running, run_loop, run_router, run_server};
+pub use lispd_cli::{AnswerOption, ProgramFault, SetupFault, check_config, setup};

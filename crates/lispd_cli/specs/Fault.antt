@@ -2,12 +2,12 @@
 -- words of the command line.
 use Rattle.std.specs.Prelude.{ℕ, Option, None}
 use Rattle.lisp_answer.specs.Fault.{fault_number}
-use Rattle.lisp_streams.specs.Fault.{play_fault_number, play_fault_status, play_fault_line}
+use Rattle.lisp_script.specs.PlayFault.{play_fault_number, play_fault_status, play_fault_line}
 use Rattle.lisp_refusals.specs.Fault.{explain_fault_number, explain_fault_status}
-use Rattle.lisp_streams.specs.RunFault.{run_status, run_line}
-use Rattle.lisp_streams.specs.declared.input_fault.InputFault.{InputFault}
-use Rattle.lisp_streams.specs.declared.input_fault.InputFault.TheVariants as input_faults
-use Rattle.lisp_streams.specs.declared.play_fault.PlayFault.TheVariants as play_faults
+use Rattle.lisp_script.specs.RunFault.{run_status, run_line}
+use Rattle.lisp_script.specs.declared.input_fault.InputFault.{InputFault}
+use Rattle.lisp_script.specs.declared.input_fault.InputFault.TheVariants as input_faults
+use Rattle.lisp_script.specs.declared.play_fault.PlayFault.TheVariants as play_faults
 use Rattle.lispd_cli.specs.declared.fault.SetupFault.{SetupFault}
 use Rattle.lispd_cli.specs.declared.fault.SetupFault.TheVariants as setup_faults
 use Rattle.lispd_cli.specs.declared.fault.ProgramFault.{ProgramFault}

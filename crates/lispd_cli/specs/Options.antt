@@ -1,11 +1,11 @@
 -- The options of `answer`, as `clap` matched them: each in its form, the defaults where they are
 -- absent, in the order --site, --key, --secret, --prefix.
-use Rattle.std.specs.Prelude.{◌≡◌, ℕ, Bool, false, List, codes, Option, Some, None, Result, Ok, Err, nat_lt, if◌then◌else◌}
+use Rattle.std.specs.Prelude.{◌≡◌, ℕ, Bool, false, List, codes, Option, Some, None, Result, Ok, Err, IsOk, nat_lt, if◌then◌else◌}
 use Rattle.std.specs.Str.{bytes_eq}
 use Rattle.clap.specs.Words.{first_value, found_of}
 use Rattle.clap.specs.declared.parser.matches.ArgMatches.{ArgMatches}
 use denote.Ref.{Bor}
-use Rattle.lisp_records.specs.Address.{Block}
+use Rattle.lisp_records.specs.Address.{PrefixValue}
 use Rattle.lisp_records.specs.Result.{◌>>=◌}
 use Rattle.lisp_texts.specs.Number.{number_of}
 use Rattle.lisp_texts.specs.Form.{site_id_of, secret_text_of}
@@ -14,7 +14,7 @@ use Rattle.lispd_cli.specs.declared.option.AnswerOption.{AnswerOption}
 use Rattle.lispd_cli.specs.declared.option.AnswerOption.TheVariants.{Site, Key, Secret, Prefix}
 use Rattle.lispd_cli.specs.declared.fault.SetupFault.{SetupFault}
 use Rattle.lispd_cli.specs.declared.fault.SetupFault.TheVariants.{BadOption, OutOfMemory}
-use Rattle.lisp_answer.specs.Setup.{Setup, default_setup}
+use Rattle.lisp_answer.specs.Setup.{AnswerSetupValue, default_setup}
 
 -- an option's name on the command line, without its dashes
 abbrev pub option_name : AnswerOption → List ℕ
@@ -62,10 +62,14 @@ key_in matches = or_default Key default_setup.key key_of (option_text matches (o
 abbrev pub secret_in : Option (Bor ArgMatches) → Result (List ℕ) SetupFault
 secret_in matches = or_default Secret default_setup.secret secret_text_of (option_text matches (option_name Secret))
 
-abbrev pub prefix_in : Option (Bor ArgMatches) → Result Block SetupFault
+abbrev pub prefix_in : Option (Bor ArgMatches) → Result PrefixValue SetupFault
 prefix_in matches = or_default Prefix default_setup.prefix prefix_of (option_text matches (option_name Prefix))
 
-unfoldable pub setup_of : Option (Bor ArgMatches) → Result Setup SetupFault
+-- the options before the secret are in their forms
+abbrev pub ReachesSecret : Option (Bor ArgMatches) → Type 0
+ReachesSecret matches = IsOk (site_in matches) × IsOk (key_in matches)
+
+unfoldable pub setup_of : Option (Bor ArgMatches) → Result AnswerSetupValue SetupFault
 setup_of matches = do
   site ← site_in matches
   key ← key_in matches

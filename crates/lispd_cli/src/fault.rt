@@ -7,7 +7,7 @@ ghost use Rattle.lispd_cli.specs.Fault.{setup_fault_number, setup_fault_status, 
 use crate::option::AnswerOption;
 use lisp_answer::AnswerFault;
 use lisp_refusals::ExplainFault;
-use lisp_streams::{InputFault, PlayFault, RunFault};
+use lisp_script::{InputFault, PlayFault, RunFault};
 use std::alloc::AllocError;
 use thiserror::Error;
 

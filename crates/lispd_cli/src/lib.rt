@@ -3,6 +3,7 @@
 #![tactic(auto)]
 
 mod argument;
+mod check;
 mod command_line;
 mod fault;
 mod help;
@@ -13,6 +14,7 @@ mod reporting;
 mod subcommands;
 mod words;
 
+pub use check::check_config;
 pub use command_line::{CONFIG, FILE, NAME, NUMBER, STORE, TURNS, command};
 pub use fault::{ProgramFault, SetupFault};
 pub use option::AnswerOption;

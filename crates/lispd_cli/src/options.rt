@@ -1,9 +1,9 @@
 //! The options of `answer`.
 
-ghost use Rattle.std.specs.Prelude.{◌≡◌, IsErrOf, IsOk};
+ghost use Rattle.std.specs.Prelude.{◌≡◌, IsErrOf};
 ghost use Rattle.std.specs.Option.{option_map};
 ghost use Rattle.lisp_records.specs.Result.{Reads};
-ghost use Rattle.lispd_cli.specs.Options.{Gives, option_text, site_in, key_in, secret_in, prefix_in, flag_of, setup_of};
+ghost use Rattle.lispd_cli.specs.Options.{Gives, option_text, site_in, key_in, secret_in, prefix_in, flag_of, ReachesSecret, setup_of};
 ghost use Rattle.lispd_cli.specs.declared.fault.SetupFault.{SetupFault};
 
 use crate::fault::SetupFault;
@@ -27,7 +27,7 @@ pub fn setup<A: Memory>(
     ensures setup { Gives (λ s. s) result (setup_of matches.entry) }
 
     // Before the secret nothing takes memory; the secret is out of memory only where its memory may be refused.
-    ensures early { IsErrOf result SetupFault.OutOfMemory → IsOk (site_in matches.entry) × IsOk (key_in matches.entry) }
+    ensures early { IsErrOf result SetupFault.OutOfMemory → ReachesSecret matches.entry }
     ensures memory { IsErrOf result SetupFault.OutOfMemory → A.may_refuse }
 {
     let site = site(matches)?;

@@ -1,7 +1,7 @@
 //! What would be right where a configuration has a fault.
 
+use lisp_script::PlayFault;
 use lisp_sites::{ConfigFault, Field};
-use lisp_streams::PlayFault;
 
 /// What an operator may do about a fault of a schedule's configuration, in words; `None` for every other fault, whose own
 /// words say it.

@@ -3,7 +3,7 @@
 use crate::fault::ProgramFault;
 use crate::remedy::advice;
 use lisp_refusals::remedy;
-use lisp_streams::PlayFault;
+use lisp_script::PlayFault;
 use std::fmt::{self, Display, Formatter, Write};
 use std::process::ExitCode;
 

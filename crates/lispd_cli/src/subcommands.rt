@@ -1,5 +1,6 @@
 //! The subcommands that need no network.
 
+use crate::check::check_config;
 use crate::command_line::{CONFIG, NUMBER};
 use crate::fault::ProgramFault;
 use crate::options::setup;
@@ -8,7 +9,7 @@ use crate::words::word;
 use clap::ArgMatches;
 use lisp_answer::{AnswerSetup, answer};
 use lisp_refusals::{ExplainFault, explain, explain_all};
-use lisp_streams::{InputFault, check_config};
+use lisp_script::InputFault;
 use lisp_texts::number_from_text;
 use std::alloc::Global;
 use std::fmt::Display;

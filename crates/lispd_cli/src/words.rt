@@ -25,7 +25,7 @@ pub struct NodeWords<'a> {
     pub turns: Option<u32>,
 }
 
-/// The words of `server` and `router`. Fault: 98 where the turns have another form than they take.
+/// The words of `server` and `router`. Fault: `ProgramFault::Turns` (98) where the turns have another form than they take.
 pub fn node_words<'a>(words: &ArgMatches<'a>) -> Result<NodeWords<'a>, ProgramFault> {
     let turns = turns(words)?;
     Ok(NodeWords {

@@ -1,10 +1,9 @@
 //! What each subcommand runs.
 
 use clap::ArgMatches;
-use lisp_loop::run_loop;
 use lisp_player::play;
-use lisp_running::{keep_router_running, keep_server_running, run_router, run_server};
-use lisp_streams::PlayFault;
+use lisp_script::PlayFault;
+use lisp_udp::{keep_router_running, keep_server_running, run_loop, run_router, run_server};
 use lispd_cli::{CONFIG, FILE, NodeWords, ProgramFault, STORE, node_words, run_alone, word};
 use std::alloc::Global;
 use std::fs::{self, File};

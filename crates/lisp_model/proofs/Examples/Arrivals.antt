@@ -3,7 +3,7 @@ use Rattle.std.proofs.Common.{Bool, Err, List, None, Ok, Option, Some, [], ap, a
 use Rattle.std.specs.Prelude.{ok_or, ◌<◌, ◌^◌}
 use Rattle.lisp_hmac.proofs.TagLemmas.{length-tag}
 use Rattle.lisp_records.specs.Address.{masked}
-use Rattle.lisp_records.specs.Record.{Mapping}
+use Rattle.lisp_records.specs.Record.{MapRecordValue}
 use Rattle.lisp_records.specs.Result.{◌>>=◌}
 use Rattle.lisp_records.specs.declared.address.Addr.{Addr}
 use Rattle.lisp_records.specs.declared.router.RouterId.{RouterId}
@@ -11,23 +11,24 @@ use Rattle.lisp_nonces.specs.declared.pair.Pair.{Pair}
 use Rattle.lisp_nonces.specs.declared.pair.PairKind.TheVariants as kinds
 use Rattle.lisp_messages.proofs.WrittenLaws.{reads_back}
 use Rattle.lisp_messages.specs.Authentic.{is_authentic}
-use Rattle.lisp_messages.specs.Message.{AreRecords, IsRegistration, IsSaid, Registers}
+use Rattle.lisp_messages.specs.Message.{AreRecords, IsMapRegister, IsMessage, Registers}
 use Rattle.lisp_messages.specs.Reading.{kind_at, message_at}
 use Rattle.lisp_messages.specs.declared.fault.ReadFault.TheVariants as reads
-use Rattle.lisp_etr.specs.Hearing.{check, checked}
+use Rattle.lisp_etr.specs.Hearing.{check, checked_notify}
 use Rattle.lisp_etr.specs.declared.notify_fault.NotifyFault.TheVariants.{BadAuth, NotMine}
 use Rattle.lisp_etr.specs.declared.notify_fault.NotifyFault.TheVariants as notify_faults
 use Rattle.lisp_admission.specs.Checks.{first_not_allowed, secret_under}
 use Rattle.lisp_admission.specs.Pairs.{notice_pair}
-use Rattle.lisp_model.specs.Bag.{Item, arrival_of, bytes_of, thrown}
-use Rattle.lisp_model.specs.Counted.{heard, server_from}
+use Rattle.lisp_model.specs.Bag.{Item, arrival_of, bytes_of, junk_arrival}
+use Rattle.lisp_model.specs.Counted.{notify_at, server_from}
 use Rattle.lisp_model.specs.Trace.{Step}
-use Rattle.lisp_model.proofs.Examples.Samples.{got_from, heard_of, local_at, mapping, network, opening, registers, secret, site, told, wide}
+use Rattle.lisp_model.specs.Story.{got_from, local_at, mapping, network, opening, secret, site, wide}
+use Rattle.lisp_model.proofs.Examples.Samples.{heard_of, registers, told}
 use Rattle.lisp_model.proofs.Examples.Traces.{foreign}
 use Rattle.lisp_model.proofs.ItemLemmas.{item_authentic, passes}
 
 -- messages of a few records fit
-pub fits : (db : List Mapping) (nonce : ℕ) → nonce < 2 ^ 64 → AreRecords db → IsRegistration (registers db nonce)
+pub fits : (db : List MapRecordValue) (nonce : ℕ) → nonce < 2 ^ 64 → AreRecords db → IsMapRegister (registers db nonce)
 fits db nonce low records = record { nonce = low; key = omega arith; records = records; xtr = refl; xtr_bytes = search rules; site = omega arith }
 
 pub no_records : AreRecords []
@@ -38,25 +39,25 @@ unfolding masked
 wide_record ttl low = (omega arith, (record { ttl = low; act = omega arith; version = omega arith; block = (omega arith, refl); eid = record { width = refl; bytes = (omega arith, (omega arith, (omega arith, (omega arith, tt)))) }; count = omega arith; locators = tt }, tt))
 
 -- a Map-Register of the first router passes the checks
-pub admitted : (i : Item) (db : List Mapping) (nonce : ℕ) → i.secret ≡ secret → first_not_allowed site db ≡ None → secret_under network.sites (bytes_of i) (registers db nonce) ≡ Ok secret
+pub admitted : (i : Item) (db : List MapRecordValue) (nonce : ℕ) → i.secret ≡ secret → first_not_allowed site db ≡ None → secret_under network.sites (bytes_of i) (registers db nonce) ≡ Ok secret
 admitted i db nonce key allowed = passes network.sites (bytes_of i) (registers db nonce) site secret refl refl (subst (λ (s : List ℕ). is_authentic (bytes_of i) s ≡ true) key (item_authentic i)) refl allowed
 
-passed : (s : Option ℕ) (server nonce : ℕ) (records : List Mapping) (b : Bool) → s ≡ Some server → b ≡ true
+passed : (s : Option ℕ) (server nonce : ℕ) (records : List MapRecordValue) (b : Bool) → s ≡ Some server → b ≡ true
     → ok_or s NotMine >>= (λ n. check b BadAuth >>= λ _. Ok (heard_of n nonce records)) ≡ Ok (heard_of server nonce records)
 passed s server nonce records b from tag = rw (from, tag) refl
 
 -- from a server it passes the checks of the first router
-pub hears : (from to : Addr) (nonce : ℕ) (records : List Mapping) (server : ℕ) → server_from network 2 from ≡ Some server → (T : List Step) → heard opening T 2 (arrival_of (told from to nonce records)) ≡ Ok (heard_of server nonce records)
-unfolding checked
+pub hears : (from to : Addr) (nonce : ℕ) (records : List MapRecordValue) (server : ℕ) → server_from network 2 from ≡ Some server → (T : List Step) → notify_at opening T 2 (arrival_of (told from to nonce records)) ≡ Ok (heard_of server nonce records)
+unfolding checked_notify
 hears from to nonce records server is T = passed _ server nonce records _ is (item_authentic (told from to nonce records))
 
 -- what was sent is read back
-pub item_reads : (i : Item) → IsSaid i.message → message_at (bytes_of i) ≡ Ok i.message
+pub item_reads : (i : Item) → IsMessage i.message → message_at (bytes_of i) ≡ Ok i.message
 unfolding bytes_of
 item_reads i said = reads_back i.message _ said (length-tag i.secret _ 16)
 
 pub registers_read : (i : Item) (ttl nonce : ℕ) → i.message ≡ Registers (registers (mapping wide ttl ∷ []) nonce) → ttl < 2 ^ 32 → nonce < 2 ^ 64 → message_at (bytes_of i) ≡ Ok i.message
-registers_read i ttl nonce says low small = item_reads i (subst IsSaid (sym says) (fits (mapping wide ttl ∷ []) nonce small (wide_record ttl low)))
+registers_read i ttl nonce says low small = item_reads i (subst IsMessage (sym says) (fits (mapping wide ttl ∷ []) nonce small (wide_record ttl low)))
 
 pub told_reads : (from to : Addr) (nonce ttl : ℕ) → nonce < 2 ^ 64 → ttl < 2 ^ 32 → message_at (bytes_of (told from to nonce (mapping wide ttl ∷ []))) ≡ Ok (told from to nonce (mapping wide ttl ∷ [])).message
 told_reads from to nonce ttl small low = item_reads (told from to nonce (mapping wide ttl ∷ [])) (record { nonce = small; key = omega arith; records = wide_record ttl low })
@@ -76,6 +77,6 @@ pub kinds_differ : {router : RouterId} → notice_pair ≡ got_from router → �
 kinds_differ e = let kinds : kinds.Notice ≡ kinds.Received = ap (λ (p : Pair). p.kind) e in cc
 
 -- neither are they at a router
-pub short_heard : heard opening [] 2 (thrown (local_at 11) []) ≡ Err (notify_faults.Read reads.Short)
-unfolding checked
+pub short_heard : notify_at opening [] 2 (junk_arrival (local_at 11) []) ≡ Err (notify_faults.Read reads.Short)
+unfolding checked_notify
 short_heard = rw short_message refl

@@ -1,11 +1,12 @@
--- Illegal traces, each of which breaks one promise: they are legal up to the steps that break it.
+-- Traces, each of which breaks one promise. They are legal up to the step that breaks it, which is illegal; in four it is
+-- legal and unclean: `accepted_forged`, `accepted_from_elsewhere`, `held_forged` and `held_unequal`.
 use Rattle.std.proofs.Common.{Bool, List, None, Ok, Option, Some, [], ap, arith, false, inl, inr, refl, slice_index_or, subst, suc, sym, true, true≢false, zero, ℕ, ◌∙◌, ◌∷◌, ◌≡◌, ◌≢◌}
 use Rattle.std.specs.FinMap.{empty, insert}
 use Rattle.std.specs.List.{Contains, flat_map}
 use Rattle.std.specs.Option.{option_to_list}
 use Rattle.std.specs.Prelude.{Result, ◌++◌, ◌+◌, ◌-◌, ◌<◌, ◌^◌, ◌⊎◌}
-use Rattle.lisp_records.specs.Record.{Mapping}
-use Rattle.lisp_records.specs.Row.{Holding}
+use Rattle.lisp_records.specs.Record.{MapRecordValue}
+use Rattle.lisp_records.specs.Row.{RowValue}
 use Rattle.lisp_records.specs.declared.address.Addr.{Addr}
 use Rattle.lisp_records.specs.declared.address.Addr.TheVariants.{V4, V6}
 use Rattle.lisp_records.specs.declared.router.RouterId.{RouterId}
@@ -13,7 +14,7 @@ use Rattle.lisp_nonces.specs.Kept.{kept_at, number}
 use Rattle.lisp_nonces.specs.declared.fate.Fate.TheVariants as fates
 use Rattle.lisp_nonces.specs.declared.fault.StoreFault.TheVariants as stores
 use Rattle.lisp_nonces.specs.declared.pair.Pair.{Pair}
-use Rattle.lisp_messages.specs.Message.{Registers, Registration, Said}
+use Rattle.lisp_messages.specs.Message.{Registers, MapRegisterValue, MessageValue}
 use Rattle.lisp_messages.specs.Reading.{message_at}
 use Rattle.lisp_messages.specs.declared.fault.ReadFault.{ReadFault}
 use Rattle.lisp_etr.specs.Sending.{last_nonce}
@@ -22,29 +23,30 @@ use Rattle.lisp_etr.specs.declared.send_fault.SendFault.TheVariants as send_faul
 use Rattle.lisp_etr.specs.declared.start_fault.StartFault.TheVariants as start_faults
 use Rattle.lisp_admission.specs.Nonces.{IsBelow}
 use Rattle.lisp_admission.specs.declared.refused.Refused.TheVariants as refuseds
-use Rattle.lisp_model.specs.Bag.{Item, bytes_of, register_item, since, taken, thrown}
-use Rattle.lisp_model.specs.Held.{Acceptance, held}
-use Rattle.lisp_model.specs.History.{Entry, message_of, record_in}
-use Rattle.lisp_model.specs.Legal.{turn_of}
+use Rattle.lisp_model.specs.Bag.{Item, bytes_of, register_item, since_start, acceptances_in, junk_arrival}
+use Rattle.lisp_model.specs.Held.{Acceptance, held_row}
+use Rattle.lisp_model.specs.History.{SentRegister, message_of, record_in}
+use Rattle.lisp_model.specs.Legal.{context_of}
 use Rattle.lisp_model.specs.Must.{DeviceFailed, IsExcused, Must}
 use Rattle.lisp_model.specs.Promises.{AcceptedWasSent, CountedWasAccepted, DoneWasNoticed, HeldAgree, HeldWasSent, IsOf, LeavesOthers, NoncesRise, NoticeNoncesRise, NoticesDiffer, ReplaysAreTried}
-use Rattle.lisp_model.specs.Timers.{Notice, Sends}
+use Rattle.lisp_model.specs.Timers.{Notice, RoundTimes}
 use Rattle.lisp_model.specs.Trace.{Step, address_at, router_at}
-use Rattle.lisp_model.specs.Turn.{HasCause}
+use Rattle.lisp_model.specs.Context.{HasCause}
 use Rattle.lisp_model.specs.declared.event.Event.TheVariants as events
 use Rattle.lisp_model.specs.declared.line.Line.{Line}
 use Rattle.lisp_model.specs.declared.line.Line.TheVariants as lines
 use Rattle.lisp_model.specs.declared.refusal.Refusal.TheVariants as refusals
 use Rattle.lisp_model.proofs.Examples.Arrivals.{admitted, hears, registers_read}
 use Rattle.lisp_model.proofs.Examples.NearMisses.Common.{never}
-use Rattle.lisp_model.proofs.Examples.Samples.{answered, arrived, at, blank, counts, ends, got_from, heard_of, keeps, local_at, mapping, network, notices, one, one_left, opening, refuses, registers, replays, row_of, secret, sends, sent_by, step, takes, tells, ticks, told_to, two, wide}
-use Rattle.lisp_model.proofs.Examples.Traces.{answered_elsewhere, both_heard, both_sent, both_taken, first_entry, first_told, foreign, foreign_sent, newer_taken, one_counted, one_sent, one_taken, registered_again, restarted, sent_twice, short, was_noticed}
+use Rattle.lisp_model.specs.Story.{at, blank, counts, got_from, keeps, local_at, mapping, network, one, one_counted, one_sent, one_taken, opening, replays, secret, sends, sent_by, step, takes, two, wide}
+use Rattle.lisp_model.proofs.Examples.Samples.{answered, arrived, ends, heard_of, notices, one_left, refuses, registers, row_of, tells, ticks, told_to}
+use Rattle.lisp_model.proofs.Examples.Traces.{answered_elsewhere, both_heard, both_sent, both_taken, first_entry, first_told, foreign, foreign_sent, newer_taken, registered_again, restarted, sent_twice, short, was_noticed}
 use Rattle.lisp_model.proofs.ItemLemmas.{item_authentic}
 use Rattle.lisp_model.proofs.KeptLemmas.{kept_at-empty, only_value, set_here}
 use Rattle.lisp_model.proofs.ListLemmas.{at_head, head_or_tail, in_none}
 use Rattle.lisp_model.proofs.MustLaws.{must}
 
-only_first : (e : Entry) → Contains (first_entry ∷ []) e → e ≡ first_entry
+only_first : (e : SentRegister) → Contains (first_entry ∷ []) e → e ≡ first_entry
 only_first e has = at (head_or_tail first_entry [] e has)
   where
     at : (e ≡ first_entry) ⊎ Contains [] e → e ≡ first_entry
@@ -52,7 +54,7 @@ only_first e has = at (head_or_tail first_entry [] e has)
     at (inr none) = absurd (in_none e none)
 
 -- the record of another time to live
-abbrev ttl_of : List Mapping → ℕ
+abbrev ttl_of : List MapRecordValue → ℕ
 ttl_of [] = 0
 ttl_of (m ∷ ms) = m.ttl
 
@@ -123,7 +125,7 @@ changed_by_another : LeavesOthers opening later_counted (step (events.Change 2 s
 changed_by_another leaves = other_records (leaves.router 2 refl (λ e. absurd (omega (arith, e)))).database
 
 rounds_of_another : LeavesOthers opening later_counted (step (events.Change 2 short) (lines.Changed 2 1) 3 blank) → ⊥
-rounds_of_another leaves = let begin : ◌≡◌ {A = ℕ} 5 60000 = ap (λ (r : Sends). r.begin) ((leaves.router 2 refl (λ e. absurd (omega (arith, e)))).round 0) in absurd (omega (arith, begin))
+rounds_of_another leaves = let begin : ◌≡◌ {A = ℕ} 5 60000 = ap (λ (r : RoundTimes). r.begin) ((leaves.router 2 refl (λ e. absurd (omega (arith, e)))).round 0) in absurd (omega (arith, begin))
 
 told_by_another : LeavesOthers opening one_taken (step (events.Notice 0 2 fates.Done) (lines.Notice 0 2 1 (2 ^ 63) 2) 1 blank) → ⊥
 told_by_another leaves = let clash : ◌≡◌ {A = List Notice} (told_to one (2 ^ 63) 2 (0 ∷ []) ∷ []) [] = (leaves.server 0 refl (λ e. absurd (omega (arith, e)))).notices in absurd cc
@@ -150,19 +152,19 @@ taken_elsewhere = takes one_sent 0 1 1 1 ∷ one_sent
 accepted_elsewhere : AcceptedWasSent opening taken_elsewhere → ⊥
 accepted_elsewhere all =
     let of = all 1 (arrived (mapping wide 1440 ∷ []) 1) (at_head (arrived (mapping wide 1440 ∷ []) 1) []) in
-    let whom : ◌≡◌ {A = ℕ} 0 1 = sym (ap (λ (e : Entry). e.server) (only_first of.0 of.1.sent)) ∙ of.1.whom in
+    let whom : ◌≡◌ {A = ℕ} 0 1 = sym (ap (λ (e : SentRegister). e.server) (only_first of.0 of.1.sent)) ∙ of.1.whom in
     absurd (omega (arith, whom))
 
 -- from another address
 accepted_from_elsewhere : AcceptedWasSent opening answered_elsewhere → ⊥
 accepted_from_elsewhere all = by (all 0 (record (arrived (mapping wide 1440 ∷ []) 1) { from = local_at 99 }) (subst (λ (xs : List Acceptance). Contains (xs ++ []) (record (arrived (mapping wide 1440 ∷ []) 1) { from = local_at 99 })) (sym lost) (at_head _ [])))
   where
-    lost : taken (Some (thrown (local_at 99) (bytes_of (register_item opening [] 2 0 1)))) 0 ≡ record (arrived (mapping wide 1440 ∷ []) 1) { from = local_at 99 } ∷ []
-    lost = ap (λ (r : Result Said ReadFault). taken (Some (record { from = local_at 99; bytes = bytes_of (register_item opening [] 2 0 1); read = r })) 0) (registers_read (register_item opening [] 2 0 1) 1440 1 refl (omega arith) (omega arith))
+    lost : acceptances_in (Some (junk_arrival (local_at 99) (bytes_of (register_item opening [] 2 0 1)))) 0 ≡ record (arrived (mapping wide 1440 ∷ []) 1) { from = local_at 99 } ∷ []
+    lost = ap (λ (r : Result MessageValue ReadFault). acceptances_in (Some (record { from = local_at 99; bytes = bytes_of (register_item opening [] 2 0 1); read = r })) 0) (registers_read (register_item opening [] 2 0 1) 1440 1 refl (omega arith) (omega arith))
 
-    by : (e : Entry) × IsOf opening answered_elsewhere 0 (record (arrived (mapping wide 1440 ∷ []) 1) { from = local_at 99 }) e → ⊥
+    by : (e : SentRegister) × IsOf opening answered_elsewhere 0 (record (arrived (mapping wide 1440 ∷ []) 1) { from = local_at 99 }) e → ⊥
     by (e, of) =
-        let from : local_at 99 ≡ local_at 21 = of.from ∙ ap (λ (x : Entry). address_at network x.router) (only_first e of.sent) in
+        let from : local_at 99 ≡ local_at 21 = of.from ∙ ap (λ (x : SentRegister). address_at network x.router) (only_first e of.sent) in
         let last : ◌≡◌ {A = ℕ} 99 21 = ap last_byte from in
         absurd (omega (arith, last))
 
@@ -173,8 +175,8 @@ forged server nonce = record { from = local_at 21; to = address_at network serve
 forged_read : (server nonce : ℕ) → nonce < 2 ^ 64 → message_at (bytes_of (forged server nonce)) ≡ Ok (Registers (registers short nonce))
 forged_read server nonce small = registers_read (forged server nonce) 60 nonce refl (omega arith) small
 
-taken_of : (server nonce : ℕ) → nonce < 2 ^ 64 → taken (Some (thrown (local_at 21) (bytes_of (forged server nonce)))) 0 ≡ arrived short nonce ∷ []
-taken_of server nonce small = ap (λ (r : Result Said ReadFault). taken (Some (record { from = local_at 21; bytes = bytes_of (forged server nonce); read = r })) 0) (forged_read server nonce small)
+taken_of : (server nonce : ℕ) → nonce < 2 ^ 64 → acceptances_in (Some (junk_arrival (local_at 21) (bytes_of (forged server nonce)))) 0 ≡ arrived short nonce ∷ []
+taken_of server nonce small = ap (λ (r : Result MessageValue ReadFault). acceptances_in (Some (record { from = local_at 21; bytes = bytes_of (forged server nonce); read = r })) 0) (forged_read server nonce small)
 
 abbrev forged_taken : List Step
 forged_taken = step (events.Junk 0 (local_at 21) (bytes_of (forged 0 1))) (lines.Accepted 0 one 1 1 (Some 1)) 0 (keeps blank (got_from one) 1) ∷ one_sent
@@ -182,56 +184,56 @@ forged_taken = step (events.Junk 0 (local_at 21) (bytes_of (forged 0 1))) (lines
 accepted_forged : AcceptedWasSent opening forged_taken → ⊥
 accepted_forged all =
     let of = all 0 (arrived short 1) (subst (λ (xs : List Acceptance). Contains (xs ++ []) (arrived short 1)) (sym (taken_of 0 1 (omega arith))) (at_head (arrived short 1) [])) in
-    other_records (ap (λ (m : Registration). m.records) (of.1.message ∙ ap (message_of network) (only_first of.0 of.1.sent)))
+    other_records (ap (λ (m : MapRegisterValue). m.records) (of.1.message ∙ ap (message_of network) (only_first of.0 of.1.sent)))
 
 abbrev sent_again_alike : List Step
 sent_again_alike = sends one_sent 1 1 1 ∷ one_sent
 
-abbrev second_alike : Entry
+abbrev second_alike : SentRegister
 second_alike = record { router = 2; key = 1; nonce = 1; server = 1; database = mapping wide 1440 ∷ []; position = 1 }
 
 nonce_sent_twice : AcceptedWasSent opening (takes sent_again_alike 0 0 1 2 ∷ sent_again_alike) → ⊥
 nonce_sent_twice all = by (all 0 (arrived (mapping wide 1440 ∷ []) 1) (at_head (arrived (mapping wide 1440 ∷ []) 1) []))
   where
-    both : List Entry
+    both : List SentRegister
     both = second_alike ∷ first_entry ∷ []
 
-    servers : (f : Entry) → ((g : Entry) → Contains both g → g.router ≡ f.router → g.key ≡ f.key → g.nonce ≡ f.nonce → g ≡ f) → f.router ≡ 2 → f.key ≡ 1 → f.nonce ≡ 1 → ⊥
+    servers : (f : SentRegister) → ((g : SentRegister) → Contains both g → g.router ≡ f.router → g.key ≡ f.key → g.nonce ≡ f.nonce → g ≡ f) → f.router ≡ 2 → f.key ≡ 1 → f.nonce ≡ 1 → ⊥
     servers f only router key nonce =
         let same : second_alike ≡ first_entry = only second_alike (0, omega arith, refl) (sym router) (sym key) (sym nonce) ∙ sym (only first_entry (1, omega arith, refl) (sym router) (sym key) (sym nonce)) in
-        let server : ◌≡◌ {A = ℕ} 1 0 = ap (λ (e : Entry). e.server) same in
+        let server : ◌≡◌ {A = ℕ} 1 0 = ap (λ (e : SentRegister). e.server) same in
         absurd (omega (arith, server))
 
-    by : (e : Entry) × IsOf opening (takes sent_again_alike 0 0 1 2 ∷ sent_again_alike) 0 (arrived (mapping wide 1440 ∷ []) 1) e → ⊥
+    by : (e : SentRegister) × IsOf opening (takes sent_again_alike 0 0 1 2 ∷ sent_again_alike) 0 (arrived (mapping wide 1440 ∷ []) 1) e → ⊥
     by (e, of) = at (head_or_tail second_alike (first_entry ∷ []) e of.sent)
       where
         at : (e ≡ second_alike) ⊎ Contains (first_entry ∷ []) e → ⊥
-        at (inl is) = servers e of.only (ap (λ (x : Entry). x.router) is) (ap (λ (x : Entry). x.key) is) (ap (λ (x : Entry). x.nonce) is)
+        at (inl is) = servers e of.only (ap (λ (x : SentRegister). x.router) is) (ap (λ (x : SentRegister). x.key) is) (ap (λ (x : SentRegister). x.nonce) is)
         at (inr later) =
             let is = only_first e later in
-            servers e of.only (ap (λ (x : Entry). x.router) is) (ap (λ (x : Entry). x.key) is) (ap (λ (x : Entry). x.nonce) is)
+            servers e of.only (ap (λ (x : SentRegister). x.router) is) (ap (λ (x : SentRegister). x.key) is) (ap (λ (x : SentRegister). x.nonce) is)
 
 -- what is held was sent: to another Map-Server; with another record
 held_elsewhere : HeldWasSent opening taken_elsewhere → ⊥
 held_elsewhere all =
     let of = all 1 one wide (row_of (mapping wide 1440) 1 0) refl in
-    let whom : ◌≡◌ {A = ℕ} 0 1 = sym (ap (λ (e : Entry). e.server) (only_first of.0 of.1)) ∙ of.2 in
+    let whom : ◌≡◌ {A = ℕ} 0 1 = sym (ap (λ (e : SentRegister). e.server) (only_first of.0 of.1)) ∙ of.2 in
     absurd (omega (arith, whom))
 
 -- what a Map-Server holds that accepted one message
-abbrev held_of : List Acceptance → Option Holding
-held_of since = held since one wide 0
+abbrev held_of : List Acceptance → Option RowValue
+held_of since_start = held_row since_start one wide 0
 
 held_forged : HeldWasSent opening forged_taken → ⊥
 held_forged all =
     let of = all 0 one wide (row_of (mapping wide 60) 1 0) (ap (λ (xs : List Acceptance). held_of (xs ++ [])) (taken_of 0 1 (omega arith))) in
-    other_records (sym (ap option_to_list (sym (ap (λ (e : Entry). record_in e wide) (only_first of.0 of.1)) ∙ of.4)))
+    other_records (sym (ap option_to_list (sym (ap (λ (e : SentRegister). record_in e wide) (only_first of.0 of.1)) ∙ of.4)))
 
 -- two Map-Servers agree: one accepted another record than what was sent to it, with no change between
 abbrev unequal : List Step
 unequal = step (events.Junk 1 (local_at 21) (bytes_of (forged 1 2))) (lines.Accepted 1 one 1 2 (Some 3)) 1 (keeps blank (got_from one) 2) ∷ takes both_sent 0 0 1 2 ∷ both_sent
 
-abbrev second_entry : Entry
+abbrev second_entry : SentRegister
 second_entry = record { router = 2; key = 1; nonce = 2; server = 1; database = mapping wide 1440 ∷ []; position = 1 }
 
 held_unequal : HeldAgree opening unequal → ⊥
@@ -240,7 +242,7 @@ held_unequal agree =
     refl (ap (λ (xs : List Acceptance). held_of (xs ++ [])) (taken_of 1 2 (omega arith))) (1, omega arith, refl) (0, omega arith, refl)
     (record { router = refl; key = refl; nonce = refl }) (record { router = refl; key = refl; nonce = refl })
     (record { router = refl; later = λ place s low high is. absurd (omega (arith, low, high)); earlier = λ place s low high is. absurd (omega (arith, low, high)) }) in
-    let ttl : ◌≡◌ {A = ℕ} 1440 60 = ap (λ (m : Mapping). m.ttl) same in
+    let ttl : ◌≡◌ {A = ℕ} 1440 60 = ap (λ (m : MapRecordValue). m.ttl) same in
     absurd (omega (arith, ttl))
 
 -- what is counted was accepted: by no Map-Server; by none, and a later one was; another message; by another Map-Server
@@ -248,11 +250,11 @@ counted_unaccepted : CountedWasAccepted opening (counts one_sent 0 0 1 ∷ one_s
 counted_unaccepted all = let was = all 2 0 1 1 (at_head (1, 1) []) in in_none was.acceptance was.taken
 
 -- the nonce of the one message that was accepted
-only_nonce : (a x : Acceptance) (m : Registration) (nonce : ℕ) → Contains (a ∷ []) x → x.message ≡ m → m.nonce ≡ nonce → a.message.nonce ≡ nonce
+only_nonce : (a x : Acceptance) (m : MapRegisterValue) (nonce : ℕ) → Contains (a ∷ []) x → x.message ≡ m → m.nonce ≡ nonce → a.message.nonce ≡ nonce
 only_nonce a x m nonce has is number = by (head_or_tail a [] x has)
   where
     by : (x ≡ a) ⊎ Contains [] x → a.message.nonce ≡ nonce
-    by (inl same) = sym (ap (λ (y : Acceptance). y.message.nonce) same) ∙ ap (λ (n : Registration). n.nonce) is ∙ number
+    by (inl same) = sym (ap (λ (y : Acceptance). y.message.nonce) same) ∙ ap (λ (n : MapRegisterValue). n.nonce) is ∙ number
     by (inr none) = absurd (in_none x none)
 
 abbrev counted_early : List Step
@@ -283,19 +285,19 @@ counted_of_another_server all = let was = all 2 0 1 2 (at_head (1, 2) []) in in_
 counted_by_another : CountedWasAccepted opening (step (events.Deliver 1 fates.Done) (lines.Counted 3 0 1 1) 3 blank ∷ one_taken) → ⊥
 counted_by_another all =
     let was = all 3 0 1 1 (at_head (1, 1) []) in
-    let who : ◌≡◌ {A = ℕ} 2 3 = sym (ap (λ (e : Entry). e.router) (only_first was.entry was.sent)) ∙ was.who in
+    let who : ◌≡◌ {A = ℕ} 2 3 = sym (ap (λ (e : SentRegister). e.router) (only_first was.entry was.sent)) ∙ was.who in
     absurd (omega (arith, who))
 
 counted_under_another_key : CountedWasAccepted opening (step (events.Deliver 1 fates.Done) (lines.Counted 2 0 7 1) 2 blank ∷ one_taken) → ⊥
 counted_under_another_key all =
     let was = all 2 0 7 1 (at_head (7, 1) []) in
-    let under : ◌≡◌ {A = ℕ} 1 7 = sym (ap (λ (e : Entry). e.key) (only_first was.entry was.sent)) ∙ was.under in
+    let under : ◌≡◌ {A = ℕ} 1 7 = sym (ap (λ (e : SentRegister). e.key) (only_first was.entry was.sent)) ∙ was.under in
     absurd (omega (arith, under))
 
 counted_elsewhere : CountedWasAccepted opening (step (events.Deliver 1 fates.Done) (lines.Counted 2 1 1 1) 2 blank ∷ taken_elsewhere) → ⊥
 counted_elsewhere all =
     let was = all 2 1 1 1 (at_head (1, 1) []) in
-    let whom : ◌≡◌ {A = ℕ} 0 1 = sym (ap (λ (e : Entry). e.server) (only_first was.entry was.sent)) ∙ was.whom in
+    let whom : ◌≡◌ {A = ℕ} 0 1 = sym (ap (λ (e : SentRegister). e.server) (only_first was.entry was.sent)) ∙ was.whom in
     absurd (omega (arith, whom))
 
 -- what is done was noticed: by nobody; with another nonce; from another Map-Server; by another router
@@ -396,12 +398,13 @@ next_not_accepted must = not_done (must.accept _ (registers (mapping wide 1440 �
     below : (v : Option ℕ) → Contains (kept_at (insert empty (got_from one) (Some 1 ∷ [])) (got_from one)) v → IsBelow v 2
     below v has = subst (λ (w : Option ℕ). IsBelow w 2) (sym (only_value (Some 1) v (subst (λ (vs : List (Option ℕ)). Contains vs v) (set_here empty (got_from one) (Some 1 ∷ [])) has))) (omega arith)
 
+-- a store that keeps nothing has no last nonce
+none_spent : (v : Option ℕ) → Contains (kept_at empty (sent_by one)) v → number v < last_nonce
+none_spent v has = subst (λ (w : Option ℕ). number w < last_nonce) (sym (only_value None v (subst (λ (vs : List (Option ℕ)). Contains vs v) (kept_at-empty (sent_by one)) has))) (omega arith)
+
 -- a router that is up says that it is down
 not_down : Must IsExcused opening [] (step (events.Send 2 0 fates.Done) (lines.Down 2) 2 blank) → ⊥
 not_down must = not_done (must.send 2 0 fates.Done refl refl refl none_spent)
-  where
-    none_spent : (v : Option ℕ) → Contains (kept_at empty (sent_by one)) v → number v < last_nonce
-    none_spent v has = subst (λ (w : Option ℕ). number w < last_nonce) (sym (only_value None v (subst (λ (vs : List (Option ℕ)). Contains vs v) (kept_at-empty (sent_by one)) has))) (omega arith)
 
 -- the reply to the last Map-Register to a Map-Server is stale, since another one was sent to another Map-Server
 not_counted_of_each : Must IsExcused opening both_taken (refuses both_taken (events.Deliver 2 fates.Done) 2 (refusals.Notify (notify_faults.Stale 2))) → ⊥
@@ -418,19 +421,13 @@ unfailed (inr same) = absurd (omega (arith, same))
 fault_is_no_excuse : Must IsExcused opening [] (refuses [] (events.Send 2 0 fates.Done) 2 (refusals.Send (send_faults.Store stores.Device))) → ⊥
 fault_is_no_excuse must = by (must.send 2 0 fates.Done refl refl refl none_spent)
   where
-    none_spent : (v : Option ℕ) → Contains (kept_at empty (sent_by one)) v → number v < last_nonce
-    none_spent v has = subst (λ (w : Option ℕ). number w < last_nonce) (sym (only_value None v (subst (λ (vs : List (Option ℕ)). Contains vs v) (kept_at-empty (sent_by one)) has))) (omega arith)
-
-    by : (false ≡ true) ⊎ HasCause (turn_of opening [] (refuses [] (events.Send 2 0 fates.Done) 2 (refusals.Send (send_faults.Store stores.Device)))) stores.Device → ⊥
+    by : (false ≡ true) ⊎ HasCause (context_of opening [] (refuses [] (events.Send 2 0 fates.Done) 2 (refusals.Send (send_faults.Store stores.Device)))) stores.Device → ⊥
     by (inl e) = absurd cc
     by (inr cause) = unfailed (cause (λ e. let clash : stores.Device ≡ stores.OutOfMemory = e in absurd cc))
 
 memory_is_no_excuse : Must DeviceFailed opening [] (refuses [] (events.Send 2 0 fates.Done) 2 (refusals.Send send_faults.OutOfMemory)) → ⊥
 memory_is_no_excuse must = by (must.send 2 0 fates.Done refl refl refl none_spent)
   where
-    none_spent : (v : Option ℕ) → Contains (kept_at empty (sent_by one)) v → number v < last_nonce
-    none_spent v has = subst (λ (w : Option ℕ). number w < last_nonce) (sym (only_value None v (subst (λ (vs : List (Option ℕ)). Contains vs v) (kept_at-empty (sent_by one)) has))) (omega arith)
-
-    by : (false ≡ true) ⊎ ((stores.OutOfMemory ≢ stores.OutOfMemory) × HasCause (turn_of opening [] (refuses [] (events.Send 2 0 fates.Done) 2 (refusals.Send send_faults.OutOfMemory))) stores.OutOfMemory) → ⊥
+    by : (false ≡ true) ⊎ ((stores.OutOfMemory ≢ stores.OutOfMemory) × HasCause (context_of opening [] (refuses [] (events.Send 2 0 fates.Done) 2 (refusals.Send send_faults.OutOfMemory))) stores.OutOfMemory) → ⊥
     by (inl e) = absurd cc
     by (inr cause) = cause.0 refl

@@ -1,24 +1,25 @@
 -- What the meanings make of other nodes, and of the latest of several: each looks at its own.
 use Rattle.std.proofs.Common.{List, None, Some, [], false, map, refl, true, ◌^◌, ◌∷◌, ◌≡◌}
 use Rattle.std.specs.Prelude.{slice_get}
-use Rattle.lisp_records.specs.Record.{Mapping}
+use Rattle.lisp_records.specs.Record.{MapRecordValue}
 use Rattle.lisp_nonces.specs.declared.fate.Fate.TheVariants as fates
 use Rattle.lisp_etr.specs.Timers.{due_after}
 use Rattle.lisp_etr.specs.declared.start_fault.StartFault.TheVariants as start_faults
-use Rattle.lisp_model.specs.Accepted.{accepted}
-use Rattle.lisp_model.specs.Bag.{bag, register_item, reply_item, since}
-use Rattle.lisp_model.specs.Counted.{acked, acknowledged, latest}
+use Rattle.lisp_model.specs.Accepted.{acceptances}
+use Rattle.lisp_model.specs.Bag.{bag, register_item, reply_item, since_start}
+use Rattle.lisp_model.specs.Counted.{acked, counted_nonces, latest_nonce}
 use Rattle.lisp_model.specs.Faults.{world_fault_number}
-use Rattle.lisp_model.specs.Held.{Acceptance, heard_last, held, last_of, rows}
+use Rattle.lisp_model.specs.Held.{Acceptance, heard_last, held_row, last_of, rows}
 use Rattle.lisp_model.specs.History.{record_for}
 use Rattle.lisp_model.specs.Sending.{last_sent, start_values}
 use Rattle.lisp_model.specs.Timers.{due, last_notice, notice_to, notices as standing}
-use Rattle.lisp_model.specs.Trace.{Step, database, fate_of, is_up, settings}
+use Rattle.lisp_model.specs.Trace.{Step, database, fate_of, is_up, etr_config}
 use Rattle.lisp_model.specs.declared.event.Event.TheVariants as events
 use Rattle.lisp_model.specs.declared.line.Line.TheVariants as lines
 use Rattle.lisp_model.specs.declared.world_fault.WorldFault.TheVariants as world_faults
-use Rattle.lisp_model.proofs.Examples.Samples.{answered, arrived, at, blank, blocks, changes, counts, got_from, keeps, local_at, mapping, narrow, one, opening, registers, repeats, restarts, row_of, secret, sends, sent_by, step, takes, ticks, told, told_to, two, two_keys, wide}
-use Rattle.lisp_model.proofs.Examples.Traces.{both_sent, first_told, not_started, one_counted, one_sent, one_taken, refused_changed, restarted_changed, short}
+use Rattle.lisp_model.specs.Story.{at, blank, counts, got_from, keeps, local_at, mapping, narrow, one, one_counted, one_sent, one_taken, opening, restarts, secret, sends, sent_by, step, takes, two, wide}
+use Rattle.lisp_model.proofs.Examples.Samples.{answered, arrived, blocks, changes, registers, repeats, row_of, ticks, told, told_to, two_keys}
+use Rattle.lisp_model.proofs.Examples.Traces.{both_sent, first_told, not_started, refused_changed, restarted_changed, short}
 
 -- where a router was heard last: of two messages the later one
 heard_latest : heard_last one (record (arrived short 2) { from = local_at 99 } ∷ arrived short 1 ∷ []) ≡ Some (record (arrived short 2) { from = local_at 99 })
@@ -29,10 +30,10 @@ last_of_the_key : last_of (got_from one) (record (arrived short 2) { message = r
 last_of_the_key = refl
 
 -- of two records of one prefix in a message the later one is held, and is a database's
-abbrev twice : List Mapping
+abbrev twice : List MapRecordValue
 twice = mapping wide 1440 ∷ mapping wide 60 ∷ []
 
-later_held : held (arrived twice 1 ∷ []) one wide 0 ≡ Some (row_of (mapping wide 60) 1 0)
+later_held : held_row (arrived twice 1 ∷ []) one wide 0 ≡ Some (row_of (mapping wide 60) 1 0)
 later_held = refl
 
 later_recorded : record_for twice wide ≡ Some (mapping wide 60)
@@ -42,7 +43,7 @@ later_recorded = refl
 abbrev a_minute : Acceptance
 a_minute = record { message = record (registers (mapping wide 1 ∷ []) 2) { use_ttl = true }; from = local_at 21; moment = 0 }
 
-gone_after_a_minute : held (a_minute ∷ arrived (mapping wide 1440 ∷ []) 1 ∷ []) one wide 60000 ≡ None
+gone_after_a_minute : held_row (a_minute ∷ arrived (mapping wide 1440 ∷ []) 1 ∷ []) one wide 60000 ≡ None
 gone_after_a_minute = refl
 
 none_listed_after_a_minute : rows (a_minute ∷ arrived (mapping wide 1440 ∷ []) 1 ∷ []) 60000 ≡ []
@@ -79,7 +80,7 @@ down_though_another_starts : is_up (step (events.Restart 3 0 None) (lines.Restar
 down_though_another_starts = refl
 
 -- what a restart forgets
-latest_after_restart : latest (restarts one_counted 2 ∷ one_counted) 2 0 ≡ 0
+latest_after_restart : latest_nonce (restarts one_counted 2 ∷ one_counted) 2 0 ≡ 0
 latest_after_restart = refl
 
 sent_after_restart : last_sent (restarts one_counted 2 ∷ one_counted) 2 ≡ None
@@ -99,7 +100,7 @@ due_after_restart = refl
 abbrev others_restarted : List Step
 others_restarted = step (events.Restart 3 0 None) (lines.Restarted 3) 3 blank ∷ step (events.Restart 1 0 None) (lines.Restarted 1) 1 blank ∷ first_told
 
-since_stays : since opening others_restarted 0 ≡ since opening first_told 0
+since_stays : since_start opening others_restarted 0 ≡ since_start opening first_told 0
 since_stays = refl
 
 notices_stay : standing opening others_restarted 0 ≡ told_to one (2 ^ 63) 2 (0 ∷ []) ∷ []
@@ -108,7 +109,7 @@ notices_stay = refl
 last_notice_stays : last_notice others_restarted 0 ≡ Some (2 ^ 63)
 last_notice_stays = refl
 
-latest_stays : latest others_restarted 2 0 ≡ 1
+latest_stays : latest_nonce others_restarted 2 0 ≡ 1
 latest_stays = refl
 
 last_sent_stays : last_sent others_restarted 2 ≡ Some 1
@@ -132,7 +133,7 @@ due_of_another_after_a_change : due (changes later short ∷ later) 3 0 ≡ 0
 unfolding due_after
 due_of_another_after_a_change = refl
 
-latest_of_another : latest one_sent 3 0 ≡ 0
+latest_of_another : latest_nonce one_sent 3 0 ≡ 0
 latest_of_another = refl
 
 last_sent_of_another : last_sent one_sent 3 ≡ None
@@ -144,16 +145,16 @@ acked_of_another = refl
 acked_from_another : acked one_counted 2 1 ≡ None
 acked_from_another = refl
 
-acknowledged_of_another : acknowledged one_counted 3 0 ≡ []
+acknowledged_of_another : counted_nonces one_counted 3 0 ≡ []
 acknowledged_of_another = refl
 
-acknowledged_from_another : acknowledged one_counted 2 1 ≡ []
+acknowledged_from_another : counted_nonces one_counted 2 1 ≡ []
 acknowledged_from_another = refl
 
-accepted_by_another : accepted opening one_taken 1 ≡ []
+accepted_by_another : acceptances opening one_taken 1 ≡ []
 accepted_by_another = refl
 
-since_of_another : since opening one_taken 1 ≡ []
+since_of_another : since_start opening one_taken 1 ≡ []
 since_of_another = refl
 
 done_at_another : standing opening (step (events.Deliver 4 fates.Done) (lines.Done 1 one (2 ^ 63)) 1 blank ∷ first_told) 0 ≡ told_to one (2 ^ 63) 2 (0 ∷ []) ∷ []
@@ -171,7 +172,7 @@ unfolding due_after
 due_after_the_last = refl
 
 -- a message has the moment of its arrival
-taken_late : held (since opening (takes (ticks one_sent 500 500 ∷ one_sent) 0 0 1 1 ∷ ticks one_sent 500 500 ∷ one_sent) 0) one wide 500 ≡ Some (row_of (mapping wide 1440) 1 500)
+taken_late : held_row (since_start opening (takes (ticks one_sent 500 500 ∷ one_sent) 0 0 1 1 ∷ ticks one_sent 500 500 ∷ one_sent) 0) one wide 500 ≡ Some (row_of (mapping wide 1440) 1 500)
 taken_late = refl
 
 -- a line without a datagram adds nothing to the bag; what is sent again is what was sent
@@ -207,7 +208,7 @@ numbers : map world_fault_number (world_faults.NoNode ∷ world_faults.WrongKind
 numbers = refl
 
 -- a router's settings are those of its configuration
-its_settings : settings blocks [] 2 ≡ record { me = one; key_id = 1; secret = secret; servers = local_at 11 ∷ local_at 12 ∷ []; proxy = true; use_ttl = true; nonce_block = 10 }
+its_settings : etr_config blocks [] 2 ≡ record { me = one; key_id = 1; secret = secret; servers = local_at 11 ∷ local_at 12 ∷ []; proxy = true; use_ttl = true; nonce_block = 10 }
 its_settings = refl
 
 -- what a router's store kept at its start, another node's start doesn't change

@@ -6,11 +6,11 @@ use Rattle.std.specs.Prelude.{Result, slice_get, ◌+◌, ◌^◌}
 use Rattle.lisp_records.specs.Address.{masked}
 use Rattle.lisp_records.specs.Database.{database_of, repeats as repeats_in}
 use Rattle.lisp_records.specs.Moment.{max_moment}
-use Rattle.lisp_records.specs.Record.{Mapping}
+use Rattle.lisp_records.specs.Record.{MapRecordValue}
 use Rattle.lisp_records.specs.Written.{written}
 use Rattle.lisp_nonces.specs.Kept.{number}
 use Rattle.lisp_nonces.specs.declared.fate.Fate.TheVariants as fates
-use Rattle.lisp_messages.specs.Message.{AreRecords, Said}
+use Rattle.lisp_messages.specs.Message.{AreRecords, MessageValue}
 use Rattle.lisp_messages.specs.declared.fault.ReadFault.{ReadFault}
 use Rattle.lisp_messages.specs.declared.fault.ReadFault.TheVariants as reads
 use Rattle.lisp_etr.specs.Sending.{last_nonce}
@@ -20,20 +20,21 @@ use Rattle.lisp_admission.specs.NoticeTimer.{due_after}
 use Rattle.lisp_admission.specs.Pairs.{notice_pair}
 use Rattle.lisp_admission.specs.declared.notice_fault.NoticeFault.TheVariants as notice_faults
 use Rattle.lisp_admission.specs.declared.refused.Refused.TheVariants as refuseds
-use Rattle.lisp_model.specs.Bag.{Item, bag, bytes_of, register_item, reply_item, since, taken, thrown}
-use Rattle.lisp_model.specs.Held.{held}
-use Rattle.lisp_model.specs.Legal.{Legal, LegalTrace, turn_of}
+use Rattle.lisp_model.specs.Bag.{Item, bag, bytes_of, register_item, reply_item, since_start, acceptances_in, junk_arrival}
+use Rattle.lisp_model.specs.Held.{held_row}
+use Rattle.lisp_model.specs.Legal.{Legal, LegalTrace, context_of}
 use Rattle.lisp_model.specs.Receiving.{FailsCheck}
 use Rattle.lisp_model.specs.Trace.{Step}
 use Rattle.lisp_model.specs.declared.event.Event.TheVariants as events
 use Rattle.lisp_model.specs.declared.line.Line.TheVariants as lines
 use Rattle.lisp_model.specs.declared.refusal.Refusal.TheVariants as refusals
 use Rattle.lisp_model.proofs.Examples.Arrivals.{hears, kinds_differ, registers_read, short_heard, short_message, strange_refused, wide_record}
-use Rattle.lisp_model.proofs.Examples.Samples.{answered, at, blank, blocks, changes, counts, fails_load, got_from, keeps, local_at, mapping, narrow, network, one, opening, refuses, replays, restarts, sends, sent_by, spent, step, takes, tells, ticks, told, two, wide}
+use Rattle.lisp_model.specs.Story.{at, blank, counts, got_from, keeps, local_at, mapping, narrow, network, one, one_counted, one_sent, one_taken, opening, replays, restarts, sends, sent_by, step, takes, two, wide}
+use Rattle.lisp_model.proofs.Examples.Samples.{answered, blocks, changes, fails_load, refuses, spent, tells, ticks, told}
 use Rattle.lisp_model.proofs.Examples.Steps.{changes_legal, counts_legal, doubts_send_legal, doubts_take_legal, ends_legal, fails_load_legal, notices_legal, refuses_record, repeats_legal, replays_legal, restarts_legal, restarts_to_legal, sends_legal, takes_legal, tells_legal, ticks_legal}
-use Rattle.lisp_model.proofs.Examples.Traces.{aged, answered_elsewhere, both_sent, both_taken, doubted, ended, first_told, foreign, foreign_sent, forgot, held_at, is_down, kept_it, newer_taken, not_started, older_noticed, one_counted, one_sent, one_taken, registered_again, restarted, sent_after, sent_twice, short, spent_taken, told_again, told_and_gone, told_anew, two_sent, unsure, unsure_forgot, unsure_kept, waited, was_noticed}
+use Rattle.lisp_model.proofs.Examples.Traces.{aged, answered_elsewhere, both_sent, both_taken, doubted, ended, first_told, foreign, foreign_sent, forgot, held_at, is_down, kept_it, newer_taken, not_started, older_noticed, registered_again, restarted, sent_after, sent_twice, short, spent_taken, told_again, told_and_gone, told_anew, two_sent, unsure, unsure_forgot, unsure_kept, waited, was_noticed}
 use Rattle.lisp_model.proofs.KeptLemmas.{empty_full, insert_full, only_value, set_full, set_here, set_others, stays}
-use Rattle.lisp_model.proofs.TurnLemmas.{doubted_end, doubted_new, doubted_old, fresh_value, other_value, set_value}
+use Rattle.lisp_model.proofs.ContextLemmas.{doubted_end, doubted_new, doubted_old, fresh_value, other_value, set_value}
 
 pub one_sent_legal : LegalTrace opening one_sent
 one_sent_legal = (sends_legal [] 0 1 0 None refl refl refl (fresh_value (sent_by one)) refl (omega arith) (wide_record 1440 (omega arith)) refl, tt)
@@ -76,7 +77,7 @@ restarted_legal = (restarts_legal one_taken 0 (inl refl) (set_full _ _ _ empty_f
 pub restart_remembers : LegalTrace opening (replays restarted 0 0 1 ∷ restarted)
 restart_remembers = (replays_legal restarted 0 0 1 1 _ _ refl refl refl refl refl refl (set_value _ _ _) (omega arith), restarted_legal)
 
-restart_holds_nothing : held (since opening restarted 0) one wide 0 ≡ None
+restart_holds_nothing : held_row (since_start opening restarted 0) one wide 0 ≡ None
 restart_holds_nothing = refl
 
 doubted_legal : LegalTrace opening doubted
@@ -203,7 +204,7 @@ pub no_server : LegalTrace opening (refuses [] (events.Send 3 1 fates.Done) 3 (r
 no_server = (record { faults = omega arith; obedient = refl; row = (refl, refl, record { kind = refl; acts = refl; state = refl }, (refl, refl)) }, tt)
 
 pub nothing_thrown : LegalTrace opening (refuses [] (events.Junk 0 (local_at 21) []) 0 (refusals.Receive (refuseds.Read reads.Short)) ∷ [])
-nothing_thrown = (record { faults = omega arith; obedient = refl; row = record { acts = refl; arrives = (record { kind = refl; acts = refl }, (subst (λ (r : Result Said ReadFault). FailsCheck (turn_of opening [] (refuses [] (events.Junk 0 (local_at 21) []) 0 (refusals.Receive (refuseds.Read reads.Short)))) (thrown (local_at 21) []) r (refuseds.Read reads.Short)) (sym short_message) refl, refl)) } }, tt)
+nothing_thrown = (record { faults = omega arith; obedient = refl; row = record { acts = refl; arrives = (record { kind = refl; acts = refl }, (subst (λ (r : Result MessageValue ReadFault). FailsCheck (context_of opening [] (refuses [] (events.Junk 0 (local_at 21) []) 0 (refusals.Receive (refuseds.Read reads.Short)))) (junk_arrival (local_at 21) []) r (refuseds.Read reads.Short)) (sym short_message) refl, refl)) } }, tt)
 
 pub nothing_thrown_at_router : LegalTrace opening (refuses [] (events.Junk 2 (local_at 11) []) 2 (refusals.Notify (notify_faults.Read reads.Short)) ∷ [])
 nothing_thrown_at_router = (record { faults = omega arith; obedient = refl; row = record { acts = refl; arrives = record { acts = record { kind = refl; acts = refl; state = refl }; same = refl; comes = inl (rw short_heard refl) } } }, tt)
@@ -257,7 +258,7 @@ down_and_up = (
 
 -- a datagram that was overheard is thrown in from an address that no node has: it is accepted, and the reply gets nowhere
 lost_item : bag opening answered_elsewhere ≡ register_item opening [] 2 0 1 ∷ told (local_at 11) (local_at 99) 1 (mapping wide 1440 ∷ []) ∷ []
-lost_item = ap (λ (r : Result Said ReadFault). register_item opening [] 2 0 1 ∷ map (reply_item network 0) (taken (Some (record { from = local_at 99; bytes = bytes_of (register_item opening [] 2 0 1); read = r })) 0)) (registers_read (register_item opening [] 2 0 1) 1440 1 refl (omega arith) (omega arith))
+lost_item = ap (λ (r : Result MessageValue ReadFault). register_item opening [] 2 0 1 ∷ map (reply_item network 0) (acceptances_in (Some (record { from = local_at 99; bytes = bytes_of (register_item opening [] 2 0 1); read = r })) 0)) (registers_read (register_item opening [] 2 0 1) 1440 1 refl (omega arith) (omega arith))
 
 pub lost : Legal opening answered_elsewhere (step (events.Deliver 1 fates.Done) (lines.Nowhere 1) 4 (at [] 4))
 lost = record {
@@ -301,7 +302,7 @@ notices_spent_told = record {
     refl,
     record { kind = refl; acts = refl },
     refl,
-    (record { some = λ e. let clash : ◌≡◌ {A = List Mapping} (mapping narrow 1440 ∷ []) [] = e in absurd cc; fits = narrow_fits }, Some (2 ^ 64 - 1), other_value _ (got_from two) notice_pair _ (Some (2 ^ 64 - 1)) (λ e. absurd (kinds_differ e)) (set_value _ _ _), λ none obeys clash. absurd cc, omega arith, refl),
+    (record { some = λ e. let clash : ◌≡◌ {A = List MapRecordValue} (mapping narrow 1440 ∷ []) [] = e in absurd cc; fits = narrow_fits }, Some (2 ^ 64 - 1), other_value _ (got_from two) notice_pair _ (Some (2 ^ 64 - 1)) (λ e. absurd (kinds_differ e)) (set_value _ _ _), λ none obeys clash. absurd cc, omega arith, refl),
   );
 }
 

@@ -4,19 +4,20 @@ use Rattle.std.specs.Prelude.{slice_get, ◌+◌, ◌^◌}
 use Rattle.lisp_nonces.specs.declared.fate.Fate.TheVariants as fates
 use Rattle.lisp_etr.specs.Timers.{due_after}
 use Rattle.lisp_admission.specs.NoticeTimer.{due_after as notice_due_after}
-use Rattle.lisp_model.specs.Bag.{bag, since}
-use Rattle.lisp_model.specs.Counted.{acked, acknowledged, latest}
-use Rattle.lisp_model.specs.Held.{held, rows}
+use Rattle.lisp_model.specs.Bag.{bag, since_start}
+use Rattle.lisp_model.specs.Counted.{acked, counted_nonces, latest_nonce}
+use Rattle.lisp_model.specs.Held.{held_row, rows}
 use Rattle.lisp_model.specs.History.{history}
 use Rattle.lisp_model.specs.Timers.{due, is_due, notice_to, notices as standing}
 use Rattle.lisp_model.specs.Trace.{Step}
 use Rattle.lisp_model.specs.declared.event.Event.TheVariants as events
 use Rattle.lisp_model.specs.declared.line.Line.TheVariants as lines
-use Rattle.lisp_model.proofs.Examples.Samples.{at, changes, counts, local_at, mapping, narrow, one, opening, restarts, row_of, sends, step, takes, tells, ticks, told, told_to, two, wide}
-use Rattle.lisp_model.proofs.Examples.Traces.{both_heard, both_sent, both_taken, first_told, newer_taken, one_counted, one_sent, one_taken, short, told_anew, two_sent}
+use Rattle.lisp_model.specs.Story.{at, counts, local_at, mapping, narrow, one, one_counted, one_sent, one_taken, opening, restarts, sends, step, takes, two, wide}
+use Rattle.lisp_model.proofs.Examples.Samples.{changes, row_of, tells, ticks, told, told_to}
+use Rattle.lisp_model.proofs.Examples.Traces.{both_heard, both_sent, both_taken, first_told, newer_taken, short, told_anew, two_sent}
 
 -- a later record takes the place of an earlier one
-newer_held : held (since opening newer_taken 0) one wide 0 ≡ Some (row_of (mapping wide 60) 2 0)
+newer_held : held_row (since_start opening newer_taken 0) one wide 0 ≡ Some (row_of (mapping wide 60) 2 0)
 newer_held = refl
 
 -- each entry has the database of its moment
@@ -30,24 +31,24 @@ narrowed = changes one_taken (mapping narrow 5 ∷ []) ∷ one_taken
 abbrev narrow_taken : List Step
 narrow_taken = takes (sends narrowed 0 2 2 ∷ narrowed) 2 0 2 3 ∷ sends narrowed 0 2 2 ∷ narrowed
 
-both_held : rows (since opening narrow_taken 0) 0 ≡ row_of (mapping wide 1440) 1 0 ∷ row_of (mapping narrow 5) 2 0 ∷ []
+both_held : rows (since_start opening narrow_taken 0) 0 ≡ row_of (mapping wide 1440) 1 0 ∷ row_of (mapping narrow 5) 2 0 ∷ []
 both_held = refl
 
 -- two servers hold equal records of one database
-held_by_both : held (since opening both_taken 0) one wide 0 ≡ Some (row_of (mapping wide 1440) 1 0)
+held_by_both : held_row (since_start opening both_taken 0) one wide 0 ≡ Some (row_of (mapping wide 1440) 1 0)
 held_by_both = refl
 
-held_by_other : held (since opening both_taken 1) one wide 0 ≡ Some (row_of (mapping wide 1440) 2 0)
+held_by_other : held_row (since_start opening both_taken 1) one wide 0 ≡ Some (row_of (mapping wide 1440) 2 0)
 held_by_other = refl
 
 -- what a router counted; its restart forgets the last, and not that it was
-counted_once : acknowledged one_counted 2 0 ≡ (1, 1) ∷ []
+counted_once : counted_nonces one_counted 2 0 ≡ (1, 1) ∷ []
 counted_once = refl
 
 counted_since : acked (restarts one_counted 2 ∷ one_counted) 2 0 ≡ None
 counted_since = refl
 
-counted_ever : acknowledged (restarts one_counted 2 ∷ one_counted) 2 0 ≡ (1, 1) ∷ []
+counted_ever : counted_nonces (restarts one_counted 2 ∷ one_counted) 2 0 ≡ (1, 1) ∷ []
 counted_ever = refl
 
 -- timers: at once; a second after the first send; a minute after the counted one; at once after a change
@@ -117,9 +118,9 @@ ended_by_restart = refl
 abbrev older_taken : List Step
 older_taken = takes two_sent 0 0 1 2 ∷ two_sent
 
-newer_listed : rows (since opening (takes older_taken 1 0 2 3 ∷ older_taken) 0) 0 ≡ row_of (mapping wide 60) 2 0 ∷ []
+newer_listed : rows (since_start opening (takes older_taken 1 0 2 3 ∷ older_taken) 0) 0 ≡ row_of (mapping wide 60) 2 0 ∷ []
 newer_listed = refl
 
 -- the reply to the last Map-Register to each Map-Server counts, though another one was sent to another Map-Server since
-latest_of_each : latest both_sent 2 0 ≡ 1
+latest_of_each : latest_nonce both_sent 2 0 ≡ 1
 latest_of_each = refl

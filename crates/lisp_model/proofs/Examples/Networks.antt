@@ -4,10 +4,10 @@ use Rattle.std.specs.List.{AllPairs}
 use Rattle.lisp_records.specs.declared.address.Addr.{Addr}
 use Rattle.lisp_records.specs.declared.address.Addr.TheVariants.{V4, V6}
 use Rattle.lisp_records.specs.declared.router.RouterId.{RouterId}
-use Rattle.lisp_policy.specs.Configuration.{Configuration}
+use Rattle.lisp_policy.specs.Configuration.{ConfigValue}
 use Rattle.lisp_model.specs.Network.{IsNetwork}
 use Rattle.lisp_model.specs.Trace.{addresses, router_at}
-use Rattle.lisp_model.proofs.Examples.Samples.{local_at, network, one, two}
+use Rattle.lisp_model.specs.Story.{local_at, network, one, two}
 
 abbrev last_byte : Addr → ℕ
 last_byte (V4 bytes) = slice_index_or bytes 3 0
@@ -59,7 +59,7 @@ is_network = record {
 }
 
 -- not one: two nodes of one address; two routers of one identity; a router that names no Map-Server, or one twice
-abbrev router_with : Addr → RouterId → List ℕ → Configuration
+abbrev router_with : Addr → RouterId → List ℕ → ConfigValue
 router_with address me servers = record network { routers = router_at network 2 ∷ record (router_at network 3) { address = address; me = me; servers = servers } ∷ [] }
 
 alike_addresses : IsNetwork (router_with (local_at 11) two (0 ∷ [])) → ⊥

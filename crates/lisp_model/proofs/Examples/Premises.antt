@@ -2,26 +2,27 @@
 use Rattle.std.proofs.Common.{Err, List, Ok, Some, [], ap, arith, false, inl, inr, refl, reverse, subst, sym, true≢false, ℕ, ◌∙◌, ◌∷◌, ◌≡◌}
 use Rattle.std.specs.List.{Contains}
 use Rattle.std.specs.Prelude.{Result, position, slice_get, ◌⊎◌}
-use Rattle.lisp_records.specs.Record.{Mapping}
+use Rattle.lisp_records.specs.Record.{MapRecordValue}
 use Rattle.lisp_records.specs.declared.address.Addr.{Addr}
 use Rattle.lisp_messages.specs.Authentic.{is_authentic}
-use Rattle.lisp_messages.specs.Message.{IsSaid, Registers, Registration, Said}
+use Rattle.lisp_messages.specs.Message.{IsMessage, Registers, MapRegisterValue, MessageValue}
 use Rattle.lisp_messages.specs.Reading.{message_at}
 use Rattle.lisp_messages.specs.declared.fault.ReadFault.{ReadFault}
 use Rattle.lisp_messages.specs.declared.fault.ReadFault.TheVariants as reads
 use Rattle.lisp_etr.specs.declared.notify_fault.NotifyFault.TheVariants as notify_faults
 use Rattle.lisp_admission.specs.declared.refused.Refused.TheVariants as refuseds
 use Rattle.lisp_model.specs.Bag.{Item, bag, bytes_of, register_item}
-use Rattle.lisp_model.specs.Change.{Keeps, NoChange, gives}
+use Rattle.lisp_model.specs.Change.{Keeps, NoChange, gives_database}
 use Rattle.lisp_model.specs.Clean.{Clean, IsEcho, IsForged, IsHarmless, IsNoise, secrets_of}
-use Rattle.lisp_model.specs.History.{Entry}
+use Rattle.lisp_model.specs.History.{SentRegister}
 use Rattle.lisp_model.specs.Trace.{Step, address_at}
 use Rattle.lisp_model.specs.declared.event.Event.TheVariants as events
 use Rattle.lisp_model.specs.declared.line.Line.TheVariants as lines
 use Rattle.lisp_model.specs.declared.refusal.Refusal.TheVariants as refusals
 use Rattle.lisp_model.proofs.Examples.Arrivals.{fits, item_reads, short_message, wide_record}
-use Rattle.lisp_model.proofs.Examples.Samples.{at, blank, changes, local_at, mapping, network, opening, refuses, registers, restarts, secret, sends, step, ticks, two_keys, wide}
-use Rattle.lisp_model.proofs.Examples.Traces.{both_sent, first_entry, one_sent, restarted_changed, short, two_sent}
+use Rattle.lisp_model.specs.Story.{at, blank, local_at, mapping, network, one_sent, opening, restarts, secret, sends, step, wide}
+use Rattle.lisp_model.proofs.Examples.Samples.{changes, refuses, registers, ticks, two_keys}
+use Rattle.lisp_model.proofs.Examples.Traces.{both_sent, first_entry, restarted_changed, short, two_sent}
 use Rattle.lisp_model.proofs.ItemLemmas.{item_authentic}
 use Rattle.lisp_model.proofs.ListLemmas.{at_head, head_or_tail, in_none}
 
@@ -56,16 +57,16 @@ in_bag x y has = at (head_or_tail x [] y has)
     at (inr none) = absurd (in_none y none)
 
 -- bytes of an item of the first router that are no echo aren't harmless
-no_echo : (T : List Step) (node : ℕ) (from : Addr) (i : Item) → i.secret ≡ secret → IsSaid i.message → secrets_of opening T node ≡ secret ∷ []
+no_echo : (T : List Step) (node : ℕ) (from : Addr) (i : Item) → i.secret ≡ secret → IsMessage i.message → secrets_of opening T node ≡ secret ∷ []
     → (IsEcho (bag opening T) from (address_at network node) (bytes_of i) → ⊥) → IsHarmless opening T (events.Junk node from (bytes_of i)) → ⊥
 no_echo T node from i key said secrets none (inl echo) = none echo
-no_echo T node from i key said secrets none (inr (inl (fault, is))) = let clash : ◌≡◌ {A = Result Said ReadFault} (Ok i.message) (Err fault) = sym (item_reads i said) ∙ is in absurd cc
+no_echo T node from i key said secrets none (inr (inl (fault, is))) = let clash : ◌≡◌ {A = Result MessageValue ReadFault} (Ok i.message) (Err fault) = sym (item_reads i said) ∙ is in absurd cc
 no_echo T node from i key said secrets none (inr (inr forged)) = true≢false (sym (item_authentic i) ∙ forged i.secret (subst (λ (xs : List (List ℕ)). Contains xs i.secret) (sym secrets) (subst (λ (x : List ℕ). Contains (secret ∷ []) x) (sym key) (at_head secret []))))
 
 abbrev first_item : Item
 first_item = register_item opening [] 2 0 1
 
-first_said : IsSaid first_item.message
+first_said : IsMessage first_item.message
 first_said = fits (mapping wide 1440 ∷ []) 1 (omega arith) (wide_record 1440 (omega arith))
 
 sent_by_nobody : Clean opening (step (events.Junk 0 (local_at 21) (bytes_of first_item)) (lines.Down 0) 0 blank ∷ []) → ⊥
@@ -73,7 +74,7 @@ sent_by_nobody clean = by clean.0
   where
     by : IsEcho [] (local_at 21) (local_at 11) (bytes_of first_item) ⊎ (IsNoise (bytes_of first_item) ⊎ IsForged (secret ∷ []) (bytes_of first_item)) → ⊥
     by (inl echo) = in_none echo.item echo.sent
-    by (inr (inl (fault, is))) = let clash : ◌≡◌ {A = Result Said ReadFault} (Ok first_item.message) (Err fault) = sym (item_reads first_item first_said) ∙ is in absurd cc
+    by (inr (inl (fault, is))) = let clash : ◌≡◌ {A = Result MessageValue ReadFault} (Ok first_item.message) (Err fault) = sym (item_reads first_item first_said) ∙ is in absurd cc
     by (inr (inr forged)) = true≢false (sym (item_authentic first_item) ∙ forged secret (at_head secret []))
 
 from_another : Clean opening (step (events.Junk 0 (local_at 22) (bytes_of first_item)) (lines.Down 0) 0 blank ∷ one_sent) → ⊥
@@ -93,10 +94,10 @@ to_another clean = no_echo one_sent 1 (local_at 21) first_item refl first_said r
 sent_unchanged : NoChange both_sent first_entry (record { router = 2; key = 1; nonce = 2; server = 1; database = mapping wide 1440 ∷ []; position = 1 })
 sent_unchanged = record { router = refl; later = λ place s low high is. absurd (omega (arith, low, high)); earlier = λ place s low high is. absurd (omega (arith, low, high)) }
 
-abbrev third_entry : List Mapping → Entry
+abbrev third_entry : List MapRecordValue → SentRegister
 third_entry db = record { router = 2; key = 1; nonce = 2; server = 0; database = db; position = 2 }
 
-unchanged_by : (T : List Step) (s : Step) → slice_get (reverse T) 1 ≡ Some s → gives s.event 2 ≡ false → NoChange T first_entry (third_entry (mapping wide 1440 ∷ []))
+unchanged_by : (T : List Step) (s : Step) → slice_get (reverse T) 1 ≡ Some s → gives_database s.event 2 ≡ false → NoChange T first_entry (third_entry (mapping wide 1440 ∷ []))
 unchanged_by T s there none = record { router = refl; later = between; earlier = λ place t low high is. absurd (omega (arith, low, high)) }
   where
     some_same : (t : Step) → Some s ≡ Some t → s ≡ t
@@ -106,7 +107,7 @@ unchanged_by T s there none = record { router = refl; later = between; earlier =
     between place t low high is =
         let at : place ≡ 1 = omega (arith, low, high) in
         let same : s ≡ t = some_same t (sym there ∙ sym (ap (slice_get (reverse T)) at) ∙ is) in
-        subst (λ (x : Step). gives x.event 2 ≡ false) same none
+        subst (λ (x : Step). gives_database x.event 2 ≡ false) same none
 
 -- the second of two sends, after a step between
 abbrev sent_after_step : Step → List Step
@@ -132,7 +133,7 @@ sent_restarted n = absurd (true≢false (n.later 1 restarted_changed (omega arit
 abbrev sent_later : List Step
 sent_later = sends (sends (changes [] short ∷ []) 0 1 0 ∷ changes [] short ∷ []) 0 2 1 ∷ sends (changes [] short ∷ []) 0 1 0 ∷ changes [] short ∷ []
 
-abbrev entry_at : ℕ → ℕ → ℕ → Entry
+abbrev entry_at : ℕ → ℕ → ℕ → SentRegister
 entry_at router nonce position = record { router = router; key = 1; nonce = nonce; server = 0; database = short; position = position }
 
 changed_before : NoChange sent_later (entry_at 2 1 1) (entry_at 2 2 2)
@@ -157,12 +158,12 @@ unclean_before clean = sent_by_nobody clean.1
 abbrev other_item : Item
 other_item = record first_item { message = Registers (registers short 9) }
 
-other_said : IsSaid other_item.message
+other_said : IsMessage other_item.message
 other_said = fits short 9 (omega arith) (wide_record 60 (omega arith))
 
 other_bytes : Clean opening (step (events.Junk 0 (local_at 21) (bytes_of other_item)) (lines.Down 0) 0 blank ∷ one_sent) → ⊥
 other_bytes clean = no_echo one_sent 0 (local_at 21) other_item refl other_said refl (λ echo.
-    let read : ◌≡◌ {A = Result Said ReadFault} (Ok first_item.message) (Ok other_item.message) = sym (item_reads first_item first_said) ∙ ap (λ (i : Item). message_at (bytes_of i)) (sym (in_bag first_item echo.item echo.sent)) ∙ ap message_at echo.same ∙ item_reads other_item other_said in
+    let read : ◌≡◌ {A = Result MessageValue ReadFault} (Ok first_item.message) (Ok other_item.message) = sym (item_reads first_item first_said) ∙ ap (λ (i : Item). message_at (bytes_of i)) (sym (in_bag first_item echo.item echo.sent)) ∙ ap message_at echo.same ∙ item_reads other_item other_said in
     let message : registers (mapping wide 1440 ∷ []) 1 ≡ registers short 9 = cc in
-    let nonce : ◌≡◌ {A = ℕ} 1 9 = ap (λ (m : Registration). m.nonce) message in
+    let nonce : ◌≡◌ {A = ℕ} 1 9 = ap (λ (m : MapRegisterValue). m.nonce) message in
     absurd (omega (arith, nonce))) clean.0

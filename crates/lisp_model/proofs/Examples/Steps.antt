@@ -5,7 +5,7 @@ use Rattle.std.specs.Prelude.{nat_le, slice_get, ◌<◌, ◌^◌, ◌≢◌, �
 use Rattle.std.proofs.lemmas.Bool.{le-leb, leb-true}
 use Rattle.lisp_records.specs.Database.{database_of, repeats as repeats_in}
 use Rattle.lisp_records.specs.Moment.{max_moment}
-use Rattle.lisp_records.specs.Record.{Mapping}
+use Rattle.lisp_records.specs.Record.{MapRecordValue}
 use Rattle.lisp_records.specs.Written.{written}
 use Rattle.lisp_records.specs.declared.address.Addr.{Addr}
 use Rattle.lisp_nonces.specs.Kept.{kept_at, number}
@@ -13,29 +13,30 @@ use Rattle.lisp_nonces.specs.declared.fate.Fate.TheVariants as fates
 use Rattle.lisp_nonces.specs.declared.fault.StoreFault.TheVariants as stores
 use Rattle.lisp_nonces.specs.declared.pair.Pair.{Pair}
 use Rattle.lisp_messages.specs.Authentic.{is_authentic}
-use Rattle.lisp_messages.specs.Message.{AreRecords, Registers, Said}
+use Rattle.lisp_messages.specs.Message.{AreRecords, Registers, MessageValue}
 use Rattle.lisp_etr.specs.Hearing.{first_notice, is_latest}
 use Rattle.lisp_etr.specs.Sending.{block_end, last_nonce}
 use Rattle.lisp_admission.specs.Checks.{first_not_allowed}
 use Rattle.lisp_admission.specs.Nonces.{IsBelow, nonce_after}
 use Rattle.lisp_admission.specs.Pairs.{notice_pair}
 use Rattle.lisp_admission.specs.declared.refused.Refused.TheVariants as refuseds
-use Rattle.lisp_model.specs.Bag.{Item, arrival_of, bag, bytes_of, since}
-use Rattle.lisp_model.specs.Counted.{heard, latest, server_from}
-use Rattle.lisp_model.specs.Held.{Acceptance, heard_last, held, last_of, records_of}
-use Rattle.lisp_model.specs.Legal.{Legal, turn_of}
+use Rattle.lisp_model.specs.Bag.{Item, arrival_of, bag, bytes_of, since_start}
+use Rattle.lisp_model.specs.Counted.{notify_at, latest_nonce, server_from}
+use Rattle.lisp_model.specs.Held.{Acceptance, heard_last, held_row, last_of, records_of}
+use Rattle.lisp_model.specs.Legal.{Legal, context_of}
 use Rattle.lisp_model.specs.Receiving.{FailsCheck, awaiting}
 use Rattle.lisp_model.specs.Sending.{CountsFrom}
 use Rattle.lisp_model.specs.Timers.{Notice, due, is_due, last_notice, notice_to}
 use Rattle.lisp_model.specs.Trace.{Step, clock, database, is_listed, is_router, is_server, is_up, node_at}
-use Rattle.lisp_model.specs.Turn.{IsBase, SaveFails, Saves}
+use Rattle.lisp_model.specs.Context.{IsBase, SaveFails, Saves}
 use Rattle.lisp_model.specs.declared.event.Event.TheVariants as events
 use Rattle.lisp_model.specs.declared.refusal.Refusal.TheVariants as refusals
 use Rattle.lisp_model.proofs.Examples.Arrivals.{admitted, fits, hears}
-use Rattle.lisp_model.proofs.Examples.Samples.{answered, at, changes, counts, doubts_send, doubts_take, ends, fails_load, got_from, local_at, mapping, network, notices, one, opening, refuses, registers, repeats, replays, restarts, restarts_to, secret, sends, sent_by, site, takes, tells, ticks, told, wide}
+use Rattle.lisp_model.specs.Story.{at, counts, got_from, local_at, mapping, network, one, opening, replays, restarts, secret, sends, sent_by, site, takes, wide}
+use Rattle.lisp_model.proofs.Examples.Samples.{answered, changes, doubts_send, doubts_take, ends, fails_load, notices, refuses, registers, repeats, restarts_to, tells, ticks, told}
 use Rattle.lisp_model.proofs.ItemLemmas.{is_not_allowed, item_authentic}
 use Rattle.lisp_model.proofs.KeptLemmas.{IsFull, narrows, set_here, set_others, stays}
-use Rattle.lisp_model.proofs.TurnLemmas.{in_doubt, saved}
+use Rattle.lisp_model.proofs.ContextLemmas.{in_doubt, saved}
 
 -- a router that saves each nonce by itself
 block_of_one : (nonce : ℕ) → nonce ≤ last_nonce → block_end nonce 1 ≡ nonce
@@ -65,9 +66,9 @@ sends_legal T server nonce datagram base up kind listed counts next low records 
   );
 }
 
-pub takes_legal : (T : List Step) (k server nonce datagram : ℕ) (i : Item) (db : List Mapping) (base : Option ℕ) → slice_get (bag opening T) k ≡ Some i → node_at network i.to ≡ Some server → is_server network server ≡ true
+pub takes_legal : (T : List Step) (k server nonce datagram : ℕ) (i : Item) (db : List MapRecordValue) (base : Option ℕ) → slice_get (bag opening T) k ≡ Some i → node_at network i.to ≡ Some server → is_server network server ≡ true
     → i.message ≡ Registers (registers db nonce) → i.secret ≡ secret → first_not_allowed site db ≡ None
-    → IsBase (last_of (got_from one) (since opening T server)) (kept_at (at T server).kept (got_from one)) base → IsBelow base nonce → datagram ≡ length (bag opening T) → Legal opening T (takes T k server nonce datagram)
+    → IsBase (last_of (got_from one) (since_start opening T server)) (kept_at (at T server).kept (got_from one)) base → IsBelow base nonce → datagram ≡ length (bag opening T) → Legal opening T (takes T k server nonce datagram)
 takes_legal T k server nonce datagram i db base sent there kind says key allowed counts below place = record {
   faults = omega arith;
   obedient = refl;
@@ -91,9 +92,9 @@ takes_legal T k server nonce datagram i db base sent there kind says key allowed
   };
 }
 
-pub replays_legal : (T : List Step) (k server nonce saved : ℕ) (i : Item) (db : List Mapping) → slice_get (bag opening T) k ≡ Some i → node_at network i.to ≡ Some server → is_server network server ≡ true
+pub replays_legal : (T : List Step) (k server nonce saved : ℕ) (i : Item) (db : List MapRecordValue) → slice_get (bag opening T) k ≡ Some i → node_at network i.to ≡ Some server → is_server network server ≡ true
     → i.message ≡ Registers (registers db nonce) → i.secret ≡ secret → first_not_allowed site db ≡ None
-    → IsBase (last_of (got_from one) (since opening T server)) (kept_at (at T server).kept (got_from one)) (Some saved) → nonce ≤ saved → Legal opening T (replays T k server saved)
+    → IsBase (last_of (got_from one) (since_start opening T server)) (kept_at (at T server).kept (got_from one)) (Some saved) → nonce ≤ saved → Legal opening T (replays T k server saved)
 replays_legal T k server nonce saved i db sent there kind says key allowed counts stale = record {
   faults = omega arith;
   obedient = refl;
@@ -123,8 +124,8 @@ not_above m n low = at (nat_le m n) refl
     at false is = is
     at true is = let above = leb-true m n is in absurd (omega (arith, low, above))
 
-pub counts_legal : (T : List Step) (k server nonce : ℕ) (from : Addr) (records : List Mapping) → is_up T 2 ≡ true → slice_get (bag opening T) k ≡ Some (told from (local_at 21) nonce records)
-    → server_from network 2 from ≡ Some server → nonce < first_notice → is_latest nonce (latest T 2 server) ≡ true → Legal opening T (counts T k server nonce)
+pub counts_legal : (T : List Step) (k server nonce : ℕ) (from : Addr) (records : List MapRecordValue) → is_up T 2 ≡ true → slice_get (bag opening T) k ≡ Some (told from (local_at 21) nonce records)
+    → server_from network 2 from ≡ Some server → nonce < first_notice → is_latest nonce (latest_nonce T 2 server) ≡ true → Legal opening T (counts T k server nonce)
 counts_legal T k server nonce from records up sent is low last = record {
   faults = omega arith;
   obedient = refl;
@@ -136,7 +137,7 @@ counts_legal T k server nonce from records up sent is low last = record {
   };
 }
 
-pub changes_legal : (T : List Step) (db : List Mapping) → database_of db ≡ Ok db → is_up T 2 ≡ true → Legal opening T (changes T db)
+pub changes_legal : (T : List Step) (db : List MapRecordValue) → database_of db ≡ Ok db → is_up T 2 ≡ true → Legal opening T (changes T db)
 changes_legal T db fits up = record { faults = omega arith; obedient = refl; row = record { acts = record { kind = refl; acts = refl; state = up }; names = refl; fits = fits; count = refl; same = refl } }
 
 pub ticks_legal : (T : List Step) (ms now : ℕ) → now ≡ clock T + ms → now ≤ max_moment → Legal opening T (ticks T ms now)
@@ -147,12 +148,12 @@ pub doubts_send_legal : (T : List Step) (server : ℕ) (base : Option ℕ) → i
 doubts_send_legal T server base up kind listed counted left unbound = record {
   faults = omega arith;
   obedient = refl;
-  row = (refl, kind, record { kind = refl; acts = refl; state = up }, (listed, record { base = base; counts = counted; left = left; fails = subst (λ (n : ℕ). SaveFails (turn_of opening T (doubts_send T server (number base + 1))) (sent_by one) n stores.Device) (sym (block_of_one (number base + 1) (omega (arith, left)))) (in_doubt (turn_of opening T (doubts_send T server (number base + 1))) (sent_by one) (number base + 1) unbound refl (omega arith)) }));
+  row = (refl, kind, record { kind = refl; acts = refl; state = up }, (listed, record { base = base; counts = counted; left = left; fails = subst (λ (n : ℕ). SaveFails (context_of opening T (doubts_send T server (number base + 1))) (sent_by one) n stores.Device) (sym (block_of_one (number base + 1) (omega (arith, left)))) (in_doubt (context_of opening T (doubts_send T server (number base + 1))) (sent_by one) (number base + 1) unbound refl (omega arith)) }));
 }
 
-pub doubts_take_legal : (T : List Step) (k server nonce : ℕ) (i : Item) (db : List Mapping) (base : Option ℕ) → slice_get (bag opening T) k ≡ Some i → node_at network i.to ≡ Some server → is_server network server ≡ true
+pub doubts_take_legal : (T : List Step) (k server nonce : ℕ) (i : Item) (db : List MapRecordValue) (base : Option ℕ) → slice_get (bag opening T) k ≡ Some i → node_at network i.to ≡ Some server → is_server network server ≡ true
     → i.message ≡ Registers (registers db nonce) → i.secret ≡ secret → first_not_allowed site db ≡ None
-    → IsBase (last_of (got_from one) (since opening T server)) (kept_at (at T server).kept (got_from one)) base → IsBelow base nonce → (at T server).is_obedient ≡ false → Legal opening T (doubts_take T k server nonce)
+    → IsBase (last_of (got_from one) (since_start opening T server)) (kept_at (at T server).kept (got_from one)) base → IsBelow base nonce → (at T server).is_obedient ≡ false → Legal opening T (doubts_take T k server nonce)
 doubts_take_legal T k server nonce i db base sent there kind says key allowed counts below unbound = record {
   faults = omega arith;
   obedient = refl;
@@ -172,8 +173,8 @@ doubts_take_legal T k server nonce i db base sent there kind says key allowed co
   };
 }
 
-pub fails_load_legal : (T : List Step) (k server nonce : ℕ) (i : Item) (db : List Mapping) → slice_get (bag opening T) k ≡ Some i → node_at network i.to ≡ Some server → is_server network server ≡ true
-    → i.message ≡ Registers (registers db nonce) → i.secret ≡ secret → first_not_allowed site db ≡ None → last_of (got_from one) (since opening T server) ≡ None → Legal opening T (fails_load T k server)
+pub fails_load_legal : (T : List Step) (k server nonce : ℕ) (i : Item) (db : List MapRecordValue) → slice_get (bag opening T) k ≡ Some i → node_at network i.to ≡ Some server → is_server network server ≡ true
+    → i.message ≡ Registers (registers db nonce) → i.secret ≡ secret → first_not_allowed site db ≡ None → last_of (got_from one) (since_start opening T server) ≡ None → Legal opening T (fails_load T k server)
 fails_load_legal T k server nonce i db sent there kind says key allowed unknown = record {
   faults = omega arith;
   obedient = refl;
@@ -194,7 +195,7 @@ fails_load_legal T k server nonce i db sent there kind says key allowed unknown 
 }
 
 -- a record that the site doesn't have is refused
-pub refuses_record : (T : List Step) (k server nonce place : ℕ) (i : Item) (db : List Mapping) → slice_get (bag opening T) k ≡ Some i → node_at network i.to ≡ Some server → is_server network server ≡ true
+pub refuses_record : (T : List Step) (k server nonce place : ℕ) (i : Item) (db : List MapRecordValue) → slice_get (bag opening T) k ≡ Some i → node_at network i.to ≡ Some server → is_server network server ≡ true
     → i.message ≡ Registers (registers db nonce) → i.secret ≡ secret → first_not_allowed site db ≡ Some place → Legal opening T (refuses T (events.Deliver k fates.Done) server (refusals.Receive (refuseds.NotAllowed place)))
 refuses_record T k server nonce place i db sent there kind says key bad = record {
   faults = omega arith;
@@ -206,7 +207,7 @@ refuses_record T k server nonce place i db sent there kind says key bad = record
     arrives = (
       record { kind = kind; acts = refl },
       (
-        subst (λ (x : Said). FailsCheck (turn_of opening T (refuses T (events.Deliver k fates.Done) server (refusals.Receive (refuseds.NotAllowed place)))) (arrival_of i) (Ok x) (refuseds.NotAllowed place)) (sym says)
+        subst (λ (x : MessageValue). FailsCheck (context_of opening T (refuses T (events.Deliver k fates.Done) server (refusals.Receive (refuseds.NotAllowed place)))) (arrival_of i) (Ok x) (refuseds.NotAllowed place)) (sym says)
             (is_not_allowed network.sites (bytes_of i) (registers db nonce) site secret place refl refl (subst (λ (s : List ℕ). is_authentic (bytes_of i) s ≡ true) key (item_authentic i)) refl bad),
         refl,
       ),
@@ -230,9 +231,9 @@ wide_fits = refl
 wide_some : (mapping wide 1440 ∷ []) ≢ []
 wide_some e = absurd cc
 
-pub tells_legal : (T : List Step) (nonce datagram : ℕ) (last : Acceptance) (base : Option ℕ) → records_of (since opening T 0) one (clock T) ≡ mapping wide 1440 ∷ [] → heard_last one (since opening T 0) ≡ Some last → last.message.key_id ≡ 1
+pub tells_legal : (T : List Step) (nonce datagram : ℕ) (last : Acceptance) (base : Option ℕ) → records_of (since_start opening T 0) one (clock T) ≡ mapping wide 1440 ∷ [] → heard_last one (since_start opening T 0) ≡ Some last → last.message.key_id ≡ 1
     → IsBase (last_notice T 0) (kept_at (at T 0).kept notice_pair) base → nonce ≡ nonce_after base → nonce < 2 ^ 64 → datagram ≡ length (bag opening T) → Legal opening T (tells T nonce datagram)
-tells_legal T nonce datagram last base held heard key counts next bound place = record {
+tells_legal T nonce datagram last base held_row notify_at key counts next bound place = record {
   faults = omega arith;
   obedient = refl;
   row = (
@@ -241,9 +242,9 @@ tells_legal T nonce datagram last base held heard key counts next bound place = 
     record {
       acts = record { kind = refl; acts = refl };
       kind = refl;
-      tells = record { some = subst (λ (rs : List Mapping). rs ≢ []) (sym held) wide_some; fits = subst (λ (rs : List Mapping). database_of rs ≡ Ok rs) (sym held) wide_fits };
+      tells = record { some = subst (λ (rs : List MapRecordValue). rs ≢ []) (sym held_row) wide_some; fits = subst (λ (rs : List MapRecordValue). database_of rs ≡ Ok rs) (sym held_row) wide_fits };
       last = last;
-      heard = heard;
+      heard = notify_at;
       under = sym key;
       base = base;
       counts = counts;
@@ -259,7 +260,7 @@ tells_legal T nonce datagram last base held heard key counts next bound place = 
 pub repeats_legal : (T : List Step) (datagram : ℕ) → is_due (notice_to opening T 0 one) (clock T) ≡ true → datagram ≡ length (bag opening T) → Legal opening T (repeats T datagram)
 repeats_legal T datagram due place = record { faults = omega arith; obedient = refl; row = (refl, refl, record { acts = record { kind = refl; acts = refl }; kind = refl; due = due; place = place; same = refl }) }
 
-pub notices_legal : (T : List Step) (k nonce datagram : ℕ) (records : List Mapping) → is_up T 2 ≡ true → slice_get (bag opening T) k ≡ Some (told (local_at 11) (local_at 21) nonce records) → first_notice ≤ nonce → datagram ≡ length (bag opening T) → Legal opening T (notices T k nonce datagram)
+pub notices_legal : (T : List Step) (k nonce datagram : ℕ) (records : List MapRecordValue) → is_up T 2 ≡ true → slice_get (bag opening T) k ≡ Some (told (local_at 11) (local_at 21) nonce records) → first_notice ≤ nonce → datagram ≡ length (bag opening T) → Legal opening T (notices T k nonce datagram)
 notices_legal T k nonce datagram records up sent high place = record {
   faults = omega arith;
   obedient = refl;
@@ -271,8 +272,8 @@ notices_legal T k nonce datagram records up sent high place = record {
   };
 }
 
-pub ends_legal : (T : List Step) (k nonce : ℕ) (records : List Mapping) (n : Notice) → slice_get (bag opening T) k ≡ Some (answered nonce records)
-    → awaiting (turn_of opening T (ends T k nonce)) (local_at 21) (record { ack = true; nonce = nonce; key_id = 1; records = records }) ≡ Some n → n.router ≡ one → n.key ≡ 1 → nonce ≡ n.nonce → Legal opening T (ends T k nonce)
+pub ends_legal : (T : List Step) (k nonce : ℕ) (records : List MapRecordValue) (n : Notice) → slice_get (bag opening T) k ≡ Some (answered nonce records)
+    → awaiting (context_of opening T (ends T k nonce)) (local_at 21) (record { ack = true; nonce = nonce; key_id = 1; records = records }) ≡ Some n → n.router ≡ one → n.key ≡ 1 → nonce ≡ n.nonce → Legal opening T (ends T k nonce)
 ends_legal T k nonce records n sent stands router key number = record {
   faults = omega arith;
   obedient = refl;

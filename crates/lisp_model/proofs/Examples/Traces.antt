@@ -1,33 +1,24 @@
 -- Traces of the small network.
 use Rattle.std.proofs.Common.{List, None, Option, Some, [], false, true, ℕ, ◌-◌, ◌∷◌}
 use Rattle.std.specs.Prelude.{◌+◌, ◌^◌}
-use Rattle.lisp_records.specs.Record.{Mapping}
-use Rattle.lisp_records.specs.Row.{Holding}
+use Rattle.lisp_records.specs.Record.{MapRecordValue}
+use Rattle.lisp_records.specs.Row.{RowValue}
 use Rattle.lisp_nonces.specs.declared.fate.Fate.TheVariants as fates
 use Rattle.lisp_nonces.specs.declared.fault.StoreFault.TheVariants as stores
 use Rattle.lisp_etr.specs.declared.start_fault.StartFault.TheVariants as start_faults
 use Rattle.lisp_admission.specs.Pairs.{notice_pair}
-use Rattle.lisp_model.specs.Bag.{bytes_of, register_item, since}
-use Rattle.lisp_model.specs.Held.{held}
-use Rattle.lisp_model.specs.History.{Entry}
+use Rattle.lisp_model.specs.Bag.{bytes_of, register_item, since_start}
+use Rattle.lisp_model.specs.Held.{held_row}
+use Rattle.lisp_model.specs.History.{SentRegister}
 use Rattle.lisp_model.specs.Trace.{Step, clock}
 use Rattle.lisp_model.specs.declared.event.Event.TheVariants as events
 use Rattle.lisp_model.specs.declared.line.Line.TheVariants as lines
 use Rattle.lisp_model.specs.declared.refusal.Refusal.TheVariants as refusals
-use Rattle.lisp_model.proofs.Examples.Samples.{at, blank, changes, counts, doubts_send, doubts_take, ends, failed, got_from, keeps, local_at, mapping, narrow, notices, one, opening, repeats, restarts, restarts_to, sends, sent_by, step, strange, takes, tells, ticks, two, wide}
-
--- a Map-Register is sent, accepted and counted
-abbrev pub one_sent : List Step
-one_sent = sends [] 0 1 0 ∷ []
-
-abbrev pub one_taken : List Step
-one_taken = takes one_sent 0 0 1 1 ∷ one_sent
-
-abbrev pub one_counted : List Step
-one_counted = counts one_taken 1 0 1 ∷ one_taken
+use Rattle.lisp_model.specs.Story.{at, blank, counts, got_from, keeps, local_at, mapping, narrow, one, one_counted, one_sent, one_taken, opening, restarts, sends, sent_by, step, takes, two, wide}
+use Rattle.lisp_model.proofs.Examples.Samples.{changes, doubts_send, doubts_take, ends, failed, notices, repeats, restarts_to, strange, tells, ticks}
 
 -- an older datagram arrives after a newer one
-abbrev pub short : List Mapping
+abbrev pub short : List MapRecordValue
 short = mapping wide 60 ∷ []
 
 abbrev pub two_sent : List Step
@@ -64,8 +55,8 @@ unsure_kept = restarts_to unsure 0 (got_from one) (Some 1) ∷ unsure
 abbrev pub aged : ℕ → List Step
 aged ms = ticks one_counted ms ms ∷ one_counted
 
-abbrev pub held_at : List Step → Option Holding
-held_at T = held (since opening T 0) one wide (clock T)
+abbrev pub held_at : List Step → Option RowValue
+held_at T = held_row (since_start opening T 0) one wide (clock T)
 
 -- two servers accept different Map-Registers of one database
 abbrev pub both_sent : List Step
@@ -75,7 +66,7 @@ abbrev pub both_taken : List Step
 both_taken = takes (takes both_sent 0 0 1 2 ∷ both_sent) 1 1 2 3 ∷ takes both_sent 0 0 1 2 ∷ both_sent
 
 -- a record of another site is refused, whatever stands beside it
-abbrev pub foreign : List Mapping
+abbrev pub foreign : List MapRecordValue
 foreign = mapping wide 1440 ∷ mapping strange 1440 ∷ []
 
 -- the server tells the router what it holds, and tells it again; the router answers, and that ends it
@@ -123,10 +114,10 @@ registered_again = takes sent_after 3 0 2 4 ∷ sent_after
 abbrev pub both_heard : List Step
 both_heard = step (events.Deliver 2 fates.Done) (lines.Accepted 0 two 1 1 (Some 3)) 0 (keeps (at one_taken 0) (got_from two) 1) ∷ step (events.Send 3 0 fates.Done) (lines.Sent 3 0 1 1 2) 3 (keeps (at one_taken 3) (sent_by two) 1) ∷ one_taken
 
-abbrev pub row_of_one : Holding
+abbrev pub row_of_one : RowValue
 row_of_one = record { router = one; key = 1; nonce = 1; mapping = mapping wide 1440; accepted = 0; life = 180000; proxy = true; from = local_at 21 }
 
-abbrev pub row_of_two : Holding
+abbrev pub row_of_two : RowValue
 row_of_two = record { router = two; key = 1; nonce = 1; mapping = mapping narrow 1440; accepted = 0; life = 180000; proxy = false; from = local_at 22 }
 
 -- a router doesn't start: it is down, and says so, until it does
@@ -141,7 +132,7 @@ abbrev pub answered_elsewhere : List Step
 answered_elsewhere = step (events.Junk 0 (local_at 99) (bytes_of (register_item opening [] 2 0 1))) (lines.Accepted 0 one 1 1 (Some 1)) 0 (keeps (at one_sent 0) (got_from one) 1) ∷ one_sent
 
 -- what the first router sent first
-abbrev pub first_entry : Entry
+abbrev pub first_entry : SentRegister
 first_entry = record { router = 2; key = 1; nonce = 1; server = 0; database = mapping wide 1440 ∷ []; position = 0 }
 
 -- the first router starts again with another database

@@ -1,6 +1,6 @@
 use Rattle.std.proofs.Common.{ℕ, ◌∷◌, [], ◌++◌, replicate, ap, ◌∙◌, arith}
 use Rattle.std.proofs.lemmas.List.{replicate-append-replicate}
-use Rattle.lisp_client.proofs.Stores.{fresh}
+use Rattle.lisp_client.specs.Stores.{fresh}
 use Rattle.lisp_client.proofs.client.stores.Goals as goal
 
 pub loop-preserved : goal.loop-preserved

@@ -1,5 +1,5 @@
 use Rattle.std.proofs.Common.{◌≡◌, replicate}
-use Rattle.lisp_client.proofs.Stores.{fresh}
+use Rattle.lisp_client.specs.Stores.{fresh}
 use Rattle.lisp_client.proofs.client.stores.Given as goal
 
 -- a store for each turn so far

@@ -4,10 +4,10 @@ use Rattle.lisp_records.specs.declared.address.Addr.{Addr}
 use Rattle.lisp_records.specs.Address.{addr_eq}
 use Rattle.std.proofs.lemmas.Result.{err_from_is_err_and}
 use Rattle.lisp_messages.specs.Authentic.{is_authentic}
-use Rattle.lisp_messages.specs.Message.{Notification}
+use Rattle.lisp_messages.specs.Message.{MapNotifyValue}
 use Rattle.lisp_messages.specs.Reading.{message_at}
 use Rattle.lisp_messages.specs.declared.notify.MapNotify.{MapNotify}
-use Rattle.lisp_etr.specs.Config.{Settings}
+use Rattle.lisp_etr.specs.Config.{EtrConfigValue}
 use Rattle.lisp_etr.specs.Hearing.{server_at}
 use Rattle.lisp_etr.proofs.HearingLaws.{found, unread, wrong_key, bad_auth, passes, not_out, not_mine, missed}
 use Rattle.lisp_etr.proofs.hearing.hear.Goals as goal
@@ -32,26 +32,26 @@ returns-in_err-notify-clause-exact g c =
 pub returns-then-notify-config-clause-exact : goal.returns-then-notify-config-clause-exact
 returns-then-notify-config-clause-exact g c =
     let config = c.config.view_is in
-    let its = found c.args.from c.in-Some.server (c.as_slice.ensures ∙ ap (λ (s : Settings). s.servers) config) c.in-Some.ensures in
-    let own = ap (λ (m : Notification). m.key_id) c.notify.view_is in
+    let its = found c.args.from c.in-Some.server (c.as_slice.ensures ∙ ap (λ (s : EtrConfigValue). s.servers) config) c.in-Some.ensures in
+    let own = ap (λ (m : MapNotifyValue). m.key_id) c.notify.view_is in
     wrong_key c.args.config.now c.args.bytes.now (message_at c.args.bytes.now) (server_at c.args.config.now.servers c.args.from) c.in_ok-notify.notify c.in_ok-notify.ensures.exact c.in-Some.server its
-    (λ same. c.if-notify-config.true (own ∙ same ∙ sym (ap (λ (s : Settings). s.key_id) config)))
+    (λ same. c.if-notify-config.true (own ∙ same ∙ sym (ap (λ (s : EtrConfigValue). s.key_id) config)))
 
 pub returns-then-not-authentic_under-clause-exact : goal.returns-then-not-authentic_under-clause-exact
 returns-then-not-authentic_under-clause-exact g c =
     let config = c.config.view_is in
-    let its = found c.args.from c.in-Some.server (c.as_slice.ensures ∙ ap (λ (s : Settings). s.servers) config) c.in-Some.ensures in
-    let key = sym (ap (λ (m : Notification). m.key_id) c.notify.view_is) ∙ c.if-notify-config.false ∙ ap (λ (s : Settings). s.key_id) config in
-    let secret = ap (λ (s : Settings). s.secret) config in
+    let its = found c.args.from c.in-Some.server (c.as_slice.ensures ∙ ap (λ (s : EtrConfigValue). s.servers) config) c.in-Some.ensures in
+    let key = sym (ap (λ (m : MapNotifyValue). m.key_id) c.notify.view_is) ∙ c.if-notify-config.false ∙ ap (λ (s : EtrConfigValue). s.key_id) config in
+    let secret = ap (λ (s : EtrConfigValue). s.secret) config in
     bad_auth c.args.config.now c.args.bytes.now (message_at c.args.bytes.now) (server_at c.args.config.now.servers c.args.from) c.in_ok-notify.notify c.in_ok-notify.ensures.exact c.in-Some.server its key
     (ap (is_authentic c.args.bytes.now) (sym secret) ∙ sym c.authentic_under.ensures.test ∙ c.if-not-authentic_under.true)
 
 pub returns-clause-exact : goal.returns-clause-exact
 returns-clause-exact g c =
     let config = c.config.view_is in
-    let its = found c.args.from c.in-Some.server (c.as_slice.ensures ∙ ap (λ (s : Settings). s.servers) config) c.in-Some.ensures in
-    let key = sym (ap (λ (m : Notification). m.key_id) c.notify.view_is) ∙ c.if-notify-config.false ∙ ap (λ (s : Settings). s.key_id) config in
-    let secret = ap (λ (s : Settings). s.secret) config in
+    let its = found c.args.from c.in-Some.server (c.as_slice.ensures ∙ ap (λ (s : EtrConfigValue). s.servers) config) c.in-Some.ensures in
+    let key = sym (ap (λ (m : MapNotifyValue). m.key_id) c.notify.view_is) ∙ c.if-notify-config.false ∙ ap (λ (s : EtrConfigValue). s.key_id) config in
+    let secret = ap (λ (s : EtrConfigValue). s.secret) config in
     passes c.args.config.now c.args.bytes.now (message_at c.args.bytes.now) (server_at c.args.config.now.servers c.args.from) c.in_ok-notify.notify c.in_ok-notify.ensures.exact c.in-Some.server its key
     (ap (is_authentic c.args.bytes.now) (sym secret) ∙ sym c.authentic_under.ensures.test ∙ c.if-not-authentic_under.false)
 
@@ -67,7 +67,7 @@ pub returns-clause-memory : goal.returns-clause-memory
 returns-clause-memory g c = not_out _ refl
 
 pub returns-clause-key : goal.returns-clause-key
-returns-clause-key g c = ap (λ (m : Notification). m.key_id) (sym c.notify.view_is) ∙ c.if-notify-config.false ∙ ap (λ (s : Settings). s.key_id) c.config.view_is
+returns-clause-key g c = ap (λ (m : MapNotifyValue). m.key_id) (sym c.notify.view_is) ∙ c.if-notify-config.false ∙ ap (λ (s : EtrConfigValue). s.key_id) c.config.view_is
 
 pub returns-then-notify-config-clause-memory : goal.returns-then-notify-config-clause-memory
 returns-then-notify-config-clause-memory g c = not_out _ refl
@@ -77,4 +77,4 @@ returns-in_default-clause-memory g c = not_out _ refl
 
 pub returns-in_default-clause-exact : goal.returns-in_default-clause-exact
 returns-in_default-clause-exact g c = not_mine c.args.config.now c.args.bytes.now (message_at c.args.bytes.now) (server_at c.args.config.now.servers c.args.from) c.in_ok-notify.notify c.in_ok-notify.ensures.exact
-    (missed c.args.from (c.as_slice.ensures ∙ ap (λ (s : Settings). s.servers) c.config.view_is) (sym c.server_at.ensures ∙ c.in_default.is))
+    (missed c.args.from (c.as_slice.ensures ∙ ap (λ (s : EtrConfigValue). s.servers) c.config.view_is) (sym c.server_at.ensures ∙ c.in_default.is))

@@ -2,14 +2,14 @@ use Rattle.std.proofs.Common.{◌≡◌, ◌∷◌, [], ℕ, Some, arith, Err, i
 use Rattle.lisp_etr.proofs.SafeLaws.{none_below, alone}
 use Rattle.lisp_nonces.specs.declared.pair.Pair.{Pair}
 use Rattle.lisp_nonces.specs.Kept.{kept_at, with_value, InDoubt}
-use Rattle.lisp_etr.specs.Config.{Settings, sent_pair}
+use Rattle.lisp_etr.specs.Config.{EtrConfigValue, sent_pair}
 use Rattle.lisp_etr.specs.Sending.{block_end}
 use Rattle.lisp_etr.proofs.Refusals.{store_fault, unsaved, apart}
 use Rattle.lisp_etr.proofs.sending.keep_block.Goals as goal
 
 -- what holds of the pair and the number of a save holds of a configuration's pair and the end of its block
-saved : (P : Pair → ℕ → Type 0) (nonce : ℕ) {pair : Pair} {end : ℕ} {inside now : Settings} → pair ≡ sent_pair now → end ≡ block_end nonce inside.nonce_block → inside ≡ now → P pair end → P (sent_pair now) (block_end nonce now.nonce_block)
-saved P nonce {end = saves} {now = now} pair end same holds = subst (λ (s : Settings). P (sent_pair now) (block_end nonce s.nonce_block)) same (subst (P (sent_pair now)) end (subst (λ (p : Pair). P p saves) pair holds))
+saved : (P : Pair → ℕ → Type 0) (nonce : ℕ) {pair : Pair} {end : ℕ} {inside now : EtrConfigValue} → pair ≡ sent_pair now → end ≡ block_end nonce inside.nonce_block → inside ≡ now → P pair end → P (sent_pair now) (block_end nonce now.nonce_block)
+saved P nonce {end = saves} {now = now} pair end same holds = subst (λ (s : EtrConfigValue). P (sent_pair now) (block_end nonce s.nonce_block)) same (subst (P (sent_pair now)) end (subst (λ (p : Pair). P p saves) pair holds))
 
 pub returns-in-Err-clause-still_safe : goal.returns-in-Err-clause-still_safe
 returns-in-Err-clause-still_safe g c honest none = none_below c.args.safe c.block_end-end.result _ _ (omega (arith, c.block_end-end.ensures, c.requires, c.if-nonce-safe.false)) (rw (← c.pair.ensures) (c.in-Err.ensures.doubt honest)) none

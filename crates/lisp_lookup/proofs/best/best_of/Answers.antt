@@ -1,6 +1,6 @@
 use Rattle.std.proofs.Common.{◌+◌, ◌<◌, length, Some, inl, inr, sym, ap, ◌∙◌, arith}
 use Rattle.std.specs.Option.{option_map}
-use Rattle.lisp_lookup.specs.Index.{prefix_cmp}
+use Rattle.lisp_lookup.specs.Index.{row_prefix_cmp}
 use Rattle.lisp_lookup.proofs.AnswerLaws.{best_next}
 use Rattle.lisp_lookup.proofs.BestLaws.{Seen, best_seen, behind, seen_more, seen_last, seen_splits, same_more, other_block, within_end, past_end}
 use Rattle.lisp_lookup.proofs.IndexLaws.{below_most, falls_prefix, number_within, row_read}
@@ -11,15 +11,15 @@ pub place-first-requires-clause-falls : goal.place-first-requires-clause-falls
 place-first-requires-clause-falls g c = falls_prefix c.args.prefix.now c.args.rows.now c.args.by_prefix.now.items c.requires.index.rises
 
 pub bounds-rows-index : goal.bounds-rows-index
-bounds-rows-index g c = number_within prefix_cmp c.args.rows.now c.args.by_prefix.now.items c.loop-place.place c.index.result.now c.requires.index.rises (omega (arith, c.loop-place-test.true, c.args.by_prefix.now.ok.0)) c.index.ensures
+bounds-rows-index g c = number_within row_prefix_cmp c.args.rows.now c.args.by_prefix.now.items c.loop-place.place c.index.result.now c.requires.index.rises (omega (arith, c.loop-place-test.true, c.args.by_prefix.now.ok.0)) c.index.ensures
 
 pub offset_bounds-rows-index : goal.offset_bounds-rows-index
-offset_bounds-rows-index g c = below_most c.index.result.now (length c.args.rows.now) (number_within prefix_cmp c.args.rows.now c.args.by_prefix.now.items c.loop-place.place c.index.result.now c.requires.index.rises (omega (arith, c.loop-place-test.true, c.args.by_prefix.now.ok.0)) c.index.ensures)
+offset_bounds-rows-index g c = below_most c.index.result.now (length c.args.rows.now) (number_within row_prefix_cmp c.args.rows.now c.args.by_prefix.now.items c.loop-place.place c.index.result.now c.requires.index.rises (omega (arith, c.loop-place-test.true, c.args.by_prefix.now.ok.0)) c.index.ensures)
 
 pub returns-then-not-is_of : goal.returns-then-not-is_of
 returns-then-not-is_of g c =
     let lt : c.loop-place.place < length c.args.by_prefix.now.items = omega (arith, c.loop-place-test.true, c.args.by_prefix.now.ok.0) in
-    let known = row_read prefix_cmp c.args.rows.now c.args.by_prefix.now.items c.loop-place.place c.index.result.now c.index-rows-index.result c.requires.index.rises lt c.index.ensures c.index-rows-index.is in
+    let known = row_read row_prefix_cmp c.args.rows.now c.args.by_prefix.now.items c.loop-place.place c.index.result.now c.index-rows-index.result c.requires.index.rises lt c.index.ensures c.index-rows-index.is in
     let differs = other_block c.index-rows-index.result.mapping.eid c.args.prefix.now (sym c.is_of.ensures ∙ c.if-not-is_of.true) in
     best_seen c.args.rows.now c.args.by_prefix.now.items c.args.prefix.now c.place-first.result c.requires.index c.place-first.ensures.bound c.loop-place.place (omega (arith, lt)) c.loop-place.invariant.same
     (behind c.args.rows.now c.args.by_prefix.now.items c.args.prefix.now c.place-first.result c.requires.index c.place-first.ensures.bound c.loop-place.place c.index-rows-index.result c.loop-place.auto.place lt (known c.index-rows-index.result) differs)
@@ -28,7 +28,7 @@ returns-then-not-is_of g c =
 pub loop-place-preserved : goal.loop-place-preserved
 loop-place-preserved g c =
     let lt : c.loop-place.place < length c.args.by_prefix.now.items = omega (arith, c.loop-place-test.true, c.args.by_prefix.now.ok.0) in
-    let known = row_read prefix_cmp c.args.rows.now c.args.by_prefix.now.items c.loop-place.place c.index.result.now c.index-rows-index.result c.requires.index.rises lt c.index.ensures c.index-rows-index.is in
+    let known = row_read row_prefix_cmp c.args.rows.now c.args.by_prefix.now.items c.loop-place.place c.index.result.now c.index-rows-index.result c.requires.index.rises lt c.index.ensures c.index-rows-index.is in
     record {
       same = same_more c.args.rows.now c.args.by_prefix.now.items c.args.prefix.now c.place-first.result c.loop-place.place c.index-rows-index.result known (sym c.is_of.ensures ∙ c.if-not-is_of.false) c.loop-place.invariant.same;
       best = best_next (Seen c.args.rows.now c.args.by_prefix.now.items c.place-first.result c.loop-place.place) (Seen c.args.rows.now c.args.by_prefix.now.items c.place-first.result (c.loop-place.place + 1)) c.index-rows-index.result c.args.addr.now c.args.now

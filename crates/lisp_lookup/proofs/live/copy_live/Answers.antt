@@ -1,8 +1,8 @@
 use Rattle.std.proofs.Common.{inl, inr, sym, ap, ◌∙◌, [], ◌∷◌, ◌++◌, arith}
 use Rattle.std.proofs.lemmas.List.{append-nil, take_all}
 use Rattle.std.proofs.lemmas.Result.{IfOk-from_err}
-use Rattle.lisp_records.specs.Record.{Mapping}
-use Rattle.lisp_records.specs.Row.{Holding}
+use Rattle.lisp_records.specs.Record.{MapRecordValue}
+use Rattle.lisp_records.specs.Row.{RowValue}
 use Rattle.lisp_records.proofs.Grown.{on_err}
 use Rattle.lisp_lookup.specs.Records.{live_of}
 use Rattle.lisp_lookup.proofs.LiveLaws.{copies_next, none_recorded}
@@ -11,7 +11,7 @@ use Rattle.lisp_lookup.proofs.live.copy_live.Goals as goal
 
 pub loop-row-preserved : goal.loop-row-preserved
 loop-row-preserved g c = copies_next c.args.rows.now c.loop-row.row-index c.row-item.result c.args.router.now c.args.now c.loop-row.records.items c.if-is_live_of.records.items c.loop-row-test.true c.row-item.is c.loop-row.invariant (elim c.if-is_live_of.branch [
-  | then-is_live_of+in_ok-copy+in_ok-try_push w ↦ inl (sym c.is_live_of.ensures ∙ w.if-is_live_of.true, ap (λ v. v.items) w.records-is ∙ w.in_ok-try_push.ensures.items ∙ ap (λ (m : Mapping). c.loop-row.records.items ++ m ∷ []) (w.in_ok-copy.ensures.equal ∙ ap (λ (h : Holding). h.mapping) c.row.view_is))
+  | then-is_live_of+in_ok-copy+in_ok-try_push w ↦ inl (sym c.is_live_of.ensures ∙ w.if-is_live_of.true, ap (λ v. v.items) w.records-is ∙ w.in_ok-try_push.ensures.items ∙ ap (λ (m : MapRecordValue). c.loop-row.records.items ++ m ∷ []) (w.in_ok-copy.ensures.equal ∙ ap (λ (h : RowValue). h.mapping) c.row.view_is))
   | else-is_live_of w ↦ inr (sym c.is_live_of.ensures ∙ w.if-is_live_of.false, ap (λ v. v.items) w.records-is ∙ sym (append-nil c.loop-row.records.items))
 ])
 

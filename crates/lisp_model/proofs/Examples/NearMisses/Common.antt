@@ -4,18 +4,19 @@ use Rattle.std.specs.FinMap.{insert}
 use Rattle.std.specs.List.{Contains}
 use Rattle.std.specs.Prelude.{Err, Result}
 use Rattle.lisp_records.specs.Database.{database_of, repeats as repeats_in}
-use Rattle.lisp_records.specs.Record.{Mapping}
+use Rattle.lisp_records.specs.Record.{MapRecordValue}
 use Rattle.lisp_records.specs.declared.database.DatabaseFault.{DatabaseFault}
 use Rattle.lisp_records.specs.declared.database.DatabaseFault.TheVariants.{RepeatedPrefix}
 use Rattle.lisp_nonces.specs.Kept.{Kept, kept_at}
 use Rattle.lisp_nonces.specs.declared.pair.Pair.{Pair}
-use Rattle.lisp_messages.specs.Message.{Registration}
+use Rattle.lisp_messages.specs.Message.{MapRegisterValue}
 use Rattle.lisp_messages.specs.Reading.{kind_at, message_at, records_at, register_at}
 use Rattle.lisp_messages.specs.declared.fault.ReadFault.TheVariants as reads
 use Rattle.lisp_admission.specs.declared.refused.Refused.{Refused}
 use Rattle.lisp_model.specs.Bag.{Item, register_item}
 use Rattle.lisp_model.proofs.Examples.Arrivals.{fits}
-use Rattle.lisp_model.proofs.Examples.Samples.{mapping, opening, registers, wide}
+use Rattle.lisp_model.specs.Story.{mapping, opening, wide}
+use Rattle.lisp_model.proofs.Examples.Samples.{registers}
 use Rattle.lisp_model.proofs.KeptLemmas.{only_value, set_here}
 
 -- the one value that was set, and none before
@@ -33,19 +34,19 @@ pub never : false ≡ true → ⊥
 never e = absurd cc
 
 -- the first router's first Map-Register, as a message and as a datagram
-abbrev pub first : Registration
+abbrev pub first : MapRegisterValue
 first = registers (mapping wide 1440 ∷ []) 1
 
 abbrev pub first_item : Item
 first_item = register_item opening [] 2 0 1
 
 -- records that are no database: two of one EID-Prefix
-abbrev pub repeated : List Mapping
+abbrev pub repeated : List MapRecordValue
 repeated = mapping wide 60 ∷ mapping wide 30 ∷ []
 
 pub no_database : database_of repeated ≡ Ok repeated → ⊥
 unfolding repeats_in
-no_database fits = let clash : ◌≡◌ {A = Result (List Mapping) DatabaseFault} (Err RepeatedPrefix) (Ok repeated) = fits in absurd cc
+no_database fits = let clash : ◌≡◌ {A = Result (List MapRecordValue) DatabaseFault} (Err RepeatedPrefix) (Ok repeated) = fits in absurd cc
 
 -- 32 bytes of a Map-Register without records, with bit I clear
 abbrev pub bare : List ℕ

@@ -9,14 +9,15 @@ use Rattle.lisp_etr.specs.Sending.{block_end, last_nonce}
 use Rattle.lisp_etr.specs.declared.send_fault.SendFault.TheVariants as send_faults
 use Rattle.lisp_admission.specs.Pairs.{notice_pair}
 use Rattle.lisp_admission.specs.declared.notice_fault.NoticeFault.TheVariants as notice_faults
-use Rattle.lisp_model.specs.Legal.{Legal, turn_of}
-use Rattle.lisp_model.specs.Turn.{MaySave}
+use Rattle.lisp_model.specs.Legal.{Legal, context_of}
+use Rattle.lisp_model.specs.Context.{MaySave}
 use Rattle.lisp_model.specs.declared.event.Event.TheVariants as events
 use Rattle.lisp_model.specs.declared.line.Line.TheVariants as lines
 use Rattle.lisp_model.specs.declared.refusal.Refusal.TheVariants as refusals
 use Rattle.lisp_model.proofs.Examples.Arrivals.{kinds_differ}
 use Rattle.lisp_model.proofs.Examples.NearMisses.Common.{nothing_is_no_number, only_set_of}
-use Rattle.lisp_model.proofs.Examples.Samples.{at, blank, blocks, failed, got_from, keeps, one, one_left, sent_by, spent, step, two}
+use Rattle.lisp_model.specs.Story.{at, blank, got_from, keeps, one, sent_by, step, two}
+use Rattle.lisp_model.proofs.Examples.Samples.{blocks, failed, one_left, spent}
 use Rattle.lisp_model.proofs.Examples.Traces.{one_left_taken, spent_taken}
 use Rattle.lisp_model.proofs.KeptLemmas.{kept_at-empty, only_value, set_here, set_others}
 
@@ -60,7 +61,7 @@ saved_short_of_its_block l = by l.row.2.saves.here
     shows : kept_at (insert empty (sent_by one) (Some 1 ∷ [])) (sent_by one) ≡ Some 1 ∷ []
     shows = set_here empty (sent_by one) (Some 1 ∷ [])
 
-    by : (kept_at (insert empty (sent_by one) (Some 1 ∷ [])) (sent_by one) ≡ kept_at empty (sent_by one)) ⊎ ((kept_at (insert empty (sent_by one) (Some 1 ∷ [])) (sent_by one) ≡ Some (block_end 1 10) ∷ []) × MaySave (turn_of blocks [] (step (events.Send 2 0 fates.Done) (lines.Sent 2 0 1 1 0) 2 (keeps blank (sent_by one) 1)))) → ⊥
+    by : (kept_at (insert empty (sent_by one) (Some 1 ∷ [])) (sent_by one) ≡ kept_at empty (sent_by one)) ⊎ ((kept_at (insert empty (sent_by one) (Some 1 ∷ [])) (sent_by one) ≡ Some (block_end 1 10) ∷ []) × MaySave (context_of blocks [] (step (events.Send 2 0 fates.Done) (lines.Sent 2 0 1 1 0) 2 (keeps blank (sent_by one) 1)))) → ⊥
     by (inl same) = nothing_is_no_number (sym (kept_at-empty (sent_by one)) ∙ sym same ∙ shows)
     by (inr saved) =
         let one_value : ◌≡◌ {A = List (Option ℕ)} (Some 1 ∷ []) (Some 10 ∷ []) = sym shows ∙ saved.0 in

@@ -7,21 +7,22 @@ use Rattle.lisp_nonces.specs.Kept.{Kept, SameElsewhere, kept_at, number, picked,
 use Rattle.lisp_nonces.specs.declared.fate.Fate.TheVariants as fates
 use Rattle.lisp_nonces.specs.declared.fault.StoreFault.TheVariants as stores
 use Rattle.lisp_nonces.specs.declared.pair.Pair.{Pair}
-use Rattle.lisp_messages.specs.Message.{Registration}
+use Rattle.lisp_messages.specs.Message.{MapRegisterValue}
 use Rattle.lisp_etr.specs.Sending.{block_end}
 use Rattle.lisp_etr.specs.declared.send_fault.SendFault.TheVariants as send_faults
 use Rattle.lisp_admission.specs.Pairs.{notice_pair, pair_of}
 use Rattle.lisp_admission.specs.declared.refused.Refused.TheVariants as refuseds
-use Rattle.lisp_model.specs.Legal.{Legal, turn_of}
-use Rattle.lisp_model.specs.Trace.{Opening, Shown, Step}
-use Rattle.lisp_model.specs.Turn.{MaySave}
+use Rattle.lisp_model.specs.Legal.{Legal, context_of}
+use Rattle.lisp_model.specs.Trace.{Opening, ShownStore, Step}
+use Rattle.lisp_model.specs.Context.{MaySave}
 use Rattle.lisp_model.specs.declared.event.Event.TheVariants as events
 use Rattle.lisp_model.specs.declared.line.Line.TheVariants as lines
 use Rattle.lisp_model.specs.declared.refusal.Refusal.TheVariants as refusals
 use Rattle.lisp_model.proofs.Examples.Arrivals.{kinds_differ}
 use Rattle.lisp_model.proofs.Examples.NearMisses.Common.{first, first_item, nothing_is_no_number, only_set_of}
-use Rattle.lisp_model.proofs.Examples.Samples.{at, blank, doubts, failed, got_from, keeps, network, one, opening, sent_by, step, two}
-use Rattle.lisp_model.proofs.Examples.Traces.{foreign_sent, not_started, one_sent, one_taken, short, waited}
+use Rattle.lisp_model.specs.Story.{at, blank, got_from, keeps, network, one, one_sent, one_taken, opening, sent_by, step, two}
+use Rattle.lisp_model.proofs.Examples.Samples.{doubts, failed}
+use Rattle.lisp_model.proofs.Examples.Traces.{foreign_sent, not_started, short, waited}
 use Rattle.lisp_model.proofs.KeptLemmas.{kept_at-empty, only_value, set_here, set_others}
 
 -- a Map-Register goes out before its nonce is kept
@@ -37,7 +38,7 @@ saved_far_ahead l = at l.row.2.saves.here
     shows : kept_at (insert empty (sent_by one) (Some 1025 ∷ [])) (sent_by one) ≡ Some 1025 ∷ []
     shows = set_here empty (sent_by one) (Some 1025 ∷ [])
 
-    at : (kept_at (insert empty (sent_by one) (Some 1025 ∷ [])) (sent_by one) ≡ kept_at empty (sent_by one)) ⊎ ((kept_at (insert empty (sent_by one) (Some 1025 ∷ [])) (sent_by one) ≡ Some 1 ∷ []) × MaySave (turn_of opening [] (step (events.Send 2 0 fates.Done) (lines.Sent 2 0 1 1 0) 2 (keeps blank (sent_by one) 1025)))) → ⊥
+    at : (kept_at (insert empty (sent_by one) (Some 1025 ∷ [])) (sent_by one) ≡ kept_at empty (sent_by one)) ⊎ ((kept_at (insert empty (sent_by one) (Some 1025 ∷ [])) (sent_by one) ≡ Some 1 ∷ []) × MaySave (context_of opening [] (step (events.Send 2 0 fates.Done) (lines.Sent 2 0 1 1 0) 2 (keeps blank (sent_by one) 1025)))) → ⊥
     at (inl same) = nothing_is_no_number (sym (kept_at-empty (sent_by one)) ∙ sym same ∙ shows)
     at (inr saved) =
         let one_value : ◌≡◌ {A = List (Option ℕ)} (Some 1 ∷ []) (Some 1025 ∷ []) = sym saved.0 ∙ shows in
@@ -52,7 +53,7 @@ save_moves_another l = nothing_is_no_number (sym (kept_at-empty (sent_by two)) �
     routers_differ e = let last : ◌≡◌ {A = ℕ} 11 10 = ap (λ (p : Pair). slice_index_or p.router.xtr 15 0) e in absurd (omega (arith, last))
 
 -- stores that do what they are armed with
-abbrev obeys : Shown
+abbrev obeys : ShownStore
 obeys = record { kept = empty; faults = 0; is_obedient = true }
 
 abbrev obedient : Opening
@@ -62,7 +63,7 @@ obedient = record { config = network; stores = obeys ∷ obeys ∷ obeys ∷ obe
 saved_in_doubt : Legal obedient [] (step (events.Send 2 0 fates.Doubt) (lines.Sent 2 0 1 1 0) 2 (keeps obeys (sent_by one) 1)) → ⊥
 saved_in_doubt l = at l.row.2.saves.here
   where
-    at : (kept_at (insert empty (sent_by one) (Some 1 ∷ [])) (sent_by one) ≡ kept_at empty (sent_by one)) ⊎ ((kept_at (insert empty (sent_by one) (Some 1 ∷ [])) (sent_by one) ≡ Some 1 ∷ []) × MaySave (turn_of obedient [] (step (events.Send 2 0 fates.Doubt) (lines.Sent 2 0 1 1 0) 2 (keeps obeys (sent_by one) 1)))) → ⊥
+    at : (kept_at (insert empty (sent_by one) (Some 1 ∷ [])) (sent_by one) ≡ kept_at empty (sent_by one)) ⊎ ((kept_at (insert empty (sent_by one) (Some 1 ∷ [])) (sent_by one) ≡ Some 1 ∷ []) × MaySave (context_of obedient [] (step (events.Send 2 0 fates.Doubt) (lines.Sent 2 0 1 1 0) 2 (keeps obeys (sent_by one) 1)))) → ⊥
     at (inl same) = nothing_is_no_number (sym (kept_at-empty (sent_by one)) ∙ sym same ∙ set_here empty (sent_by one) (Some 1 ∷ []))
     at (inr saved) = saved.1 refl refl
 
@@ -104,14 +105,14 @@ doubt_of_another_nonce l = by l.row.3.1.fails.here
     by (inr more) = another (sym after ∙ more ∙ ap (λ (b : Option ℕ). kept_at empty (sent_by one) ++ Some (block_end (number b + 1) 1) ∷ []) base ∙ ap (λ (vs : List (Option ℕ)). vs ++ Some 1 ∷ []) (kept_at-empty (sent_by one)))
 
 -- a save for which memory was refused leaves a doubt: of a send, of a message
-abbrev adds : Shown → Pair → ℕ → Shown
+abbrev adds : ShownStore → Pair → ℕ → ShownStore
 adds s pair nonce = record s { kept = insert s.kept pair (kept_at s.kept pair ++ Some nonce ∷ []) }
 
 one_longer : (vs : List (Option ℕ)) (v : Option ℕ) → vs ++ v ∷ [] ≡ vs → ⊥
 one_longer [] v same = absurd cc
 one_longer (w ∷ vs) v same = one_longer vs v cc
 
-adds_is_not_same : (s : Shown) (pair : Pair) (nonce : ℕ) → (adds s pair nonce).kept ≡ s.kept → ⊥
+adds_is_not_same : (s : ShownStore) (pair : Pair) (nonce : ℕ) → (adds s pair nonce).kept ≡ s.kept → ⊥
 adds_is_not_same s pair nonce same = one_longer (kept_at s.kept pair) (Some nonce) (sym (set_here s.kept pair (kept_at s.kept pair ++ Some nonce ∷ [])) ∙ ap (λ (kept : Kept). kept_at kept pair) same)
 
 doubt_without_memory : Legal opening [] (step (events.Send 2 0 fates.Done) (lines.Refused 2 (refusals.Send (send_faults.Store stores.OutOfMemory))) 2 (adds blank (sent_by one) 1)) → ⊥
@@ -175,7 +176,7 @@ message_moves_another : Legal opening one_sent (step (events.Deliver 0 fates.Don
 message_moves_another l =
     let item : first_item ≡ l.row.item = cc in
     let message : first ≡ l.row.arrives.message = cc in
-    let others : SameElsewhere empty (keeps (keeps blank (got_from two) 7) (got_from one) 1).kept (got_from one) = subst (λ (m : Registration). SameElsewhere empty (keeps (keeps blank (got_from two) 7) (got_from one) 1).kept (pair_of m)) (sym message) l.row.arrives.others in
+    let others : SameElsewhere empty (keeps (keeps blank (got_from two) 7) (got_from one) 1).kept (got_from one) = subst (λ (m : MapRegisterValue). SameElsewhere empty (keeps (keeps blank (got_from two) 7) (got_from one) 1).kept (pair_of m)) (sym message) l.row.arrives.others in
     nothing_is_no_number (sym (kept_at-empty (got_from two)) ∙ sym (others (got_from two) routers_differ) ∙ set_others (keeps blank (got_from two) 7).kept (got_from one) (Some 1 ∷ []) (got_from two) routers_differ ∙ set_here empty (got_from two) (Some 7 ∷ []))
   where
     routers_differ : got_from two ≡ got_from one → ⊥
@@ -236,6 +237,6 @@ told_in_doubt l = by l.row.2.saves.here
     after = set_here (keeps obeys (got_from one) 1).kept notice_pair (Some (2 ^ 63) ∷ [])
 
     by : (kept_at (keeps (keeps obeys (got_from one) 1) notice_pair (2 ^ 63)).kept notice_pair ≡ kept_at (keeps obeys (got_from one) 1).kept notice_pair)
-        ⊎ ((kept_at (keeps (keeps obeys (got_from one) 1) notice_pair (2 ^ 63)).kept notice_pair ≡ Some (2 ^ 63) ∷ []) × MaySave (turn_of obedient obedient_taken (step (events.Notice 0 2 fates.Doubt) (lines.Notice 0 2 1 (2 ^ 63) 2) 0 (keeps (keeps obeys (got_from one) 1) notice_pair (2 ^ 63))))) → ⊥
+        ⊎ ((kept_at (keeps (keeps obeys (got_from one) 1) notice_pair (2 ^ 63)).kept notice_pair ≡ Some (2 ^ 63) ∷ []) × MaySave (context_of obedient obedient_taken (step (events.Notice 0 2 fates.Doubt) (lines.Notice 0 2 1 (2 ^ 63) 2) 0 (keeps (keeps obeys (got_from one) 1) notice_pair (2 ^ 63))))) → ⊥
     by (inl same) = nothing_is_no_number (sym before ∙ sym same ∙ after)
     by (inr saved) = saved.1 refl refl

@@ -4,7 +4,7 @@ use Rattle.std.specs.FinMap.{empty}
 use Rattle.std.specs.List.{Contains}
 use Rattle.std.specs.Prelude.{Err, Result, ◌+◌, ◌-◌, ◌<◌, ◌^◌, ◌≤◌}
 use Rattle.lisp_records.specs.Database.{repeats as repeats_in}
-use Rattle.lisp_records.specs.Record.{Mapping}
+use Rattle.lisp_records.specs.Record.{MapRecordValue}
 use Rattle.lisp_records.specs.Written.{written}
 use Rattle.lisp_records.specs.declared.database.DatabaseFault.{DatabaseFault}
 use Rattle.lisp_nonces.specs.Kept.{number}
@@ -21,8 +21,9 @@ use Rattle.lisp_model.specs.declared.line.Line.TheVariants as lines
 use Rattle.lisp_model.specs.declared.refusal.Refusal.TheVariants as refusals
 use Rattle.lisp_model.proofs.Examples.Arrivals.{kinds_differ}
 use Rattle.lisp_model.proofs.Examples.NearMisses.Common.{never}
-use Rattle.lisp_model.proofs.Examples.Samples.{at, blank, failed, got_from, keeps, local_at, mapping, one, opening, refuses, registers, repeats, spent, step, tells, two, wide}
-use Rattle.lisp_model.proofs.Examples.Traces.{first_told, one_taken, registered_again, spent_taken, told_and_gone, waited}
+use Rattle.lisp_model.specs.Story.{at, blank, got_from, keeps, local_at, mapping, one, one_taken, opening, step, two, wide}
+use Rattle.lisp_model.proofs.Examples.Samples.{failed, refuses, registers, repeats, spent, tells}
+use Rattle.lisp_model.proofs.Examples.Traces.{first_told, registered_again, spent_taken, told_and_gone, waited}
 use Rattle.lisp_model.proofs.KeptLemmas.{kept_at-empty, only_value, set_here, set_others}
 
 -- a record is told after a restart
@@ -66,10 +67,10 @@ told_elsewhere l = let place : ◌≡◌ {A = ℕ} 3 2 = l.row.2.place in absurd
 -- one record is called too large, or nothing
 told_too_large : Legal opening one_taken (refuses one_taken (events.Notice 0 2 fates.Done) 0 (refusals.Notice notice_faults.TooLarge)) → ⊥
 unfolding written repeats_in
-told_too_large l = let clash : ◌≡◌ {A = Result (List Mapping) DatabaseFault} (Ok (mapping wide 1440 ∷ [])) (Err l.row.3.1) = l.row.3.2 in absurd cc
+told_too_large l = let clash : ◌≡◌ {A = Result (List MapRecordValue) DatabaseFault} (Ok (mapping wide 1440 ∷ [])) (Err l.row.3.1) = l.row.3.2 in absurd cc
 
 told_of_nothing : Legal opening one_taken (refuses one_taken (events.Notice 0 2 fates.Done) 0 (refusals.Notice notice_faults.NotRegistered)) → ⊥
-told_of_nothing l = let clash : ◌≡◌ {A = List Mapping} (mapping wide 1440 ∷ []) [] = l.row.3.0 in absurd cc
+told_of_nothing l = let clash : ◌≡◌ {A = List MapRecordValue} (mapping wide 1440 ∷ []) [] = l.row.3.0 in absurd cc
 
 -- the nonces of notices are spent before the last one
 notices_not_spent : Legal opening one_taken (refuses one_taken (events.Notice 0 2 fates.Done) 0 (refusals.Notice notice_faults.NonceSpent)) → ⊥

@@ -17,8 +17,9 @@ use Rattle.lisp_model.specs.declared.event.Event.TheVariants as events
 use Rattle.lisp_model.specs.declared.line.Line.TheVariants as lines
 use Rattle.lisp_model.specs.declared.refusal.Refusal.TheVariants as refusals
 use Rattle.lisp_model.proofs.Examples.NearMisses.Common.{first_item, never, no_database, repeated}
-use Rattle.lisp_model.proofs.Examples.Samples.{at, blank, failed, keeps, local_at, network, one, opening, refuses, sent_by, step, ticks}
-use Rattle.lisp_model.proofs.Examples.Traces.{answered_elsewhere, not_started, one_sent, one_taken, short, waited}
+use Rattle.lisp_model.specs.Story.{at, blank, keeps, local_at, network, one, one_sent, one_taken, opening, sent_by, step}
+use Rattle.lisp_model.proofs.Examples.Samples.{failed, refuses, ticks}
+use Rattle.lisp_model.proofs.Examples.Traces.{answered_elsewhere, not_started, short, waited}
 
 -- the clock goes its own way
 wrong_clock : Legal opening [] (ticks [] 1000 2000) → ⊥

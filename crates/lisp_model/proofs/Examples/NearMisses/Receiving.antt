@@ -6,7 +6,7 @@ use Rattle.lisp_records.specs.declared.router.RouterId.{RouterId}
 use Rattle.lisp_nonces.specs.Kept.{kept_at}
 use Rattle.lisp_nonces.specs.declared.fate.Fate.TheVariants as fates
 use Rattle.lisp_messages.specs.Authentic.{is_authentic}
-use Rattle.lisp_messages.specs.Message.{Notification, Notifies, Registers, Registration, Said}
+use Rattle.lisp_messages.specs.Message.{MapNotifyValue, Notifies, Registers, MapRegisterValue, MessageValue}
 use Rattle.lisp_messages.specs.Reading.{HasRecords, kind_at, message_at}
 use Rattle.lisp_messages.specs.declared.fault.ReadFault.{ReadFault}
 use Rattle.lisp_messages.specs.declared.fault.ReadFault.TheVariants as reads
@@ -14,20 +14,21 @@ use Rattle.lisp_admission.specs.Checks.{secret_under}
 use Rattle.lisp_admission.specs.Nonces.{IsBelow}
 use Rattle.lisp_admission.specs.Pairs.{pair_of, router_of}
 use Rattle.lisp_admission.specs.declared.refused.Refused.TheVariants as refuseds
-use Rattle.lisp_model.specs.Bag.{Item, arrival_of, bytes_of, register_item, since, thrown}
+use Rattle.lisp_model.specs.Bag.{Item, arrival_of, bytes_of, register_item, since_start, junk_arrival}
 use Rattle.lisp_model.specs.Held.{last_of}
-use Rattle.lisp_model.specs.Legal.{Legal, turn_of}
+use Rattle.lisp_model.specs.Legal.{Legal, context_of}
 use Rattle.lisp_model.specs.Receiving.{FailsCheck, IsFresh, IsToAccept, awaiting, has_tag_for}
 use Rattle.lisp_model.specs.Timers.{Notice}
 use Rattle.lisp_model.specs.Trace.{node_at}
-use Rattle.lisp_model.specs.Turn.{IsBase}
+use Rattle.lisp_model.specs.Context.{IsBase}
 use Rattle.lisp_model.specs.declared.event.Event.TheVariants as events
 use Rattle.lisp_model.specs.declared.line.Line.TheVariants as lines
 use Rattle.lisp_model.specs.declared.refusal.Refusal.TheVariants as refusals
 use Rattle.lisp_model.proofs.Examples.Arrivals.{strange_refused, told_reads}
 use Rattle.lisp_model.proofs.Examples.NearMisses.Common.{bare, bare_read, cut, first, first_item, never, nothing_is_no_number, ok_is_no_refusal, only_set_of}
-use Rattle.lisp_model.proofs.Examples.Samples.{answered, at, blank, fails_load, got_from, keeps, local_at, mapping, network, one, opening, refuses, registers, replays, secret, site, step, takes, told, told_to, two, wide}
-use Rattle.lisp_model.proofs.Examples.Traces.{first_told, foreign, foreign_sent, one_sent, one_taken, restarted, sent_twice, was_noticed}
+use Rattle.lisp_model.specs.Story.{at, blank, got_from, keeps, local_at, mapping, network, one, one_sent, one_taken, opening, replays, secret, site, step, takes, two, wide}
+use Rattle.lisp_model.proofs.Examples.Samples.{answered, fails_load, refuses, registers, told, told_to}
+use Rattle.lisp_model.proofs.Examples.Traces.{first_told, foreign, foreign_sent, restarted, sent_twice, was_noticed}
 use Rattle.lisp_model.proofs.ItemLemmas.{bad_tag, is_not_allowed, item_authentic}
 use Rattle.lisp_model.proofs.KeptLemmas.{kept_at-empty}
 
@@ -36,7 +37,7 @@ replay_accepted : Legal opening one_taken (takes one_taken 0 0 1 2) → ⊥
 replay_accepted l =
     let item : first_item ≡ l.row.item = cc in
     let message : first ≡ l.row.arrives.message = cc in
-    let fresh : IsFresh (turn_of opening one_taken (takes one_taken 0 0 1 2)) first = subst (IsFresh (turn_of opening one_taken (takes one_taken 0 0 1 2))) (sym message) l.row.arrives.fresh in
+    let fresh : IsFresh (context_of opening one_taken (takes one_taken 0 0 1 2)) first = subst (IsFresh (context_of opening one_taken (takes one_taken 0 0 1 2))) (sym message) l.row.arrives.fresh in
     let above : 1 < 1 = subst (λ (b : Option ℕ). IsBelow b 1) fresh.counts fresh.above in
     absurd (omega (arith, above))
 
@@ -45,7 +46,7 @@ replay_after_restart : Legal opening restarted (takes restarted 0 0 1 2) → ⊥
 replay_after_restart l =
     let item : first_item ≡ l.row.item = cc in
     let message : first ≡ l.row.arrives.message = cc in
-    let fresh : IsFresh (turn_of opening restarted (takes restarted 0 0 1 2)) first = subst (IsFresh (turn_of opening restarted (takes restarted 0 0 1 2))) (sym message) l.row.arrives.fresh in
+    let fresh : IsFresh (context_of opening restarted (takes restarted 0 0 1 2)) first = subst (IsFresh (context_of opening restarted (takes restarted 0 0 1 2))) (sym message) l.row.arrives.fresh in
     let above : 1 < 1 = subst (λ (b : Option ℕ). IsBelow b 1) (only_set_of (got_from one) _ fresh.base (Some 1) fresh.counts) fresh.above in
     absurd (omega (arith, above))
 
@@ -54,7 +55,7 @@ accepted_unsaved : Legal opening one_sent (step (events.Deliver 0 fates.Done) (l
 accepted_unsaved l =
     let item : first_item ≡ l.row.item = cc in
     let message : first ≡ l.row.arrives.message = cc in
-    let kept : kept_at empty (got_from one) ≡ Some 1 ∷ [] = subst (λ (m : Registration). kept_at empty (pair_of m) ≡ Some m.nonce ∷ []) (sym message) l.row.arrives.kept in
+    let kept : kept_at empty (got_from one) ≡ Some 1 ∷ [] = subst (λ (m : MapRegisterValue). kept_at empty (pair_of m) ≡ Some m.nonce ∷ []) (sym message) l.row.arrives.kept in
     nothing_is_no_number (sym (kept_at-empty (got_from one)) ∙ kept)
 
 -- the Map-Notify that was asked for doesn't go out
@@ -62,7 +63,7 @@ accepted_without_reply : Legal opening one_sent (step (events.Deliver 0 fates.Do
 accepted_without_reply l =
     let item : first_item ≡ l.row.item = cc in
     let message : first ≡ l.row.arrives.message = cc in
-    let clash : ◌≡◌ {A = Option ℕ} None (Some 1) = subst (λ (m : Registration). None ≡ (if m.want_notify then Some 1 else None)) (sym message) l.row.arrives.reply in
+    let clash : ◌≡◌ {A = Option ℕ} None (Some 1) = subst (λ (m : MapRegisterValue). None ≡ (if m.want_notify then Some 1 else None)) (sym message) l.row.arrives.reply in
     absurd cc
 
 -- its reply stands elsewhere than at the end of the bag
@@ -70,7 +71,7 @@ replied_elsewhere : Legal opening one_sent (takes one_sent 0 0 1 2) → ⊥
 replied_elsewhere l =
     let item : first_item ≡ l.row.item = cc in
     let message : first ≡ l.row.arrives.message = cc in
-    let reply : ◌≡◌ {A = Option ℕ} (Some 2) (Some 1) = subst (λ (m : Registration). Some 2 ≡ (if m.want_notify then Some 1 else None)) (sym message) l.row.arrives.reply in
+    let reply : ◌≡◌ {A = Option ℕ} (Some 2) (Some 1) = subst (λ (m : MapRegisterValue). Some 2 ≡ (if m.want_notify then Some 1 else None)) (sym message) l.row.arrives.reply in
     let place : ◌≡◌ {A = ℕ} 2 1 = cc in
     absurd (omega (arith, place))
 
@@ -86,14 +87,14 @@ accepted_under_another_key : Legal opening one_sent (step (events.Deliver 0 fate
 accepted_under_another_key l =
     let item : first_item ≡ l.row.item = cc in
     let message : first ≡ l.row.arrives.message = cc in
-    let under : ◌≡◌ {A = ℕ} 2 1 = l.row.arrives.under ∙ sym (ap (λ (m : Registration). m.key_id) message) in
+    let under : ◌≡◌ {A = ℕ} 2 1 = l.row.arrives.under ∙ sym (ap (λ (m : MapRegisterValue). m.key_id) message) in
     absurd (omega (arith, under))
 
 accepted_with_another_nonce : Legal opening one_sent (step (events.Deliver 0 fates.Done) (lines.Accepted 0 one 1 2 (Some 1)) 0 (keeps blank (got_from one) 1)) → ⊥
 accepted_with_another_nonce l =
     let item : first_item ≡ l.row.item = cc in
     let message : first ≡ l.row.arrives.message = cc in
-    let number : ◌≡◌ {A = ℕ} 2 1 = l.row.arrives.number ∙ sym (ap (λ (m : Registration). m.nonce) message) in
+    let number : ◌≡◌ {A = ℕ} 2 1 = l.row.arrives.number ∙ sym (ap (λ (m : MapRegisterValue). m.nonce) message) in
     absurd (omega (arith, number))
 
 -- another server gets it
@@ -114,7 +115,7 @@ foreign_accepted l =
     let message : registers foreign 1 ≡ l.row.arrives.message = cc in
     let secret_is = l.row.arrives.admits.secret in
     let checks : secret_under network.sites (bytes_of foreign_item) (registers foreign 1) ≡ Ok secret_is = subst (λ (i : Item). secret_under network.sites (bytes_of i) (registers foreign 1) ≡ Ok secret_is) (sym item)
-    (subst (λ (m : Registration). secret_under network.sites (bytes_of l.row.item) m ≡ Ok secret_is) (sym message) l.row.arrives.admits.checks) in
+    (subst (λ (m : MapRegisterValue). secret_under network.sites (bytes_of l.row.item) m ≡ Ok secret_is) (sym message) l.row.arrives.admits.checks) in
     ok_is_no_refusal (sym (is_not_allowed network.sites (bytes_of foreign_item) (registers foreign 1) site secret 1 refl refl (item_authentic foreign_item) refl strange_refused) ∙ checks)
 
 -- the first reason isn't told: the record is checked before the nonce
@@ -124,7 +125,7 @@ wrong_order l =
     let item : foreign_item ≡ l.row.item = cc in
     let message : registers foreign 1 ≡ a.message = cc in
     let checks : secret_under network.sites (bytes_of foreign_item) (registers foreign 1) ≡ Ok a.admits.secret = subst (λ (i : Item). secret_under network.sites (bytes_of i) (registers foreign 1) ≡ Ok a.admits.secret) (sym item)
-    (subst (λ (m : Registration). secret_under network.sites (bytes_of l.row.item) m ≡ Ok a.admits.secret) (sym message) a.admits.checks) in
+    (subst (λ (m : MapRegisterValue). secret_under network.sites (bytes_of l.row.item) m ≡ Ok a.admits.secret) (sym message) a.admits.checks) in
     ok_is_no_refusal (sym (is_not_allowed network.sites (bytes_of foreign_item) (registers foreign 1) site secret 1 refl refl (item_authentic foreign_item) refl strange_refused) ∙ checks)
 
 -- a replay is told with another number than the last nonce, or of a nonce above it
@@ -132,16 +133,16 @@ replay_with_another_number : Legal opening one_taken (replays one_taken 0 0 5) �
 replay_with_another_number l =
     let item : first_item ≡ l.row.item = cc in
     let message : first ≡ l.row.arrives.1.message = cc in
-    let counts : ◌≡◌ {A = Option ℕ} (Some 5) (Some 1) = subst (λ (m : Registration). IsBase (last_of (pair_of m) (since opening one_taken 0)) (kept_at (at one_taken 0).kept (pair_of m)) (Some 5)) (sym message) l.row.arrives.1.counts in
+    let counts : ◌≡◌ {A = Option ℕ} (Some 5) (Some 1) = subst (λ (m : MapRegisterValue). IsBase (last_of (pair_of m) (since_start opening one_taken 0)) (kept_at (at one_taken 0).kept (pair_of m)) (Some 5)) (sym message) l.row.arrives.1.counts in
     let number : ◌≡◌ {A = ℕ} 5 1 = cc in
     absurd (omega (arith, number))
 
 replay_of_a_fresh_nonce : Legal opening sent_twice (replays sent_twice 2 0 1) → ⊥
 replay_of_a_fresh_nonce l =
     let item : register_item opening one_taken 2 0 2 ≡ l.row.item = cc in
-    let read : ◌≡◌ {A = Result Said ReadFault} (Ok (Registers (registers (mapping wide 1440 ∷ []) 2))) (Ok (Registers l.row.arrives.1.message)) = ap (λ (i : Item). Ok i.message) item ∙ l.row.arrives.1.admits.read in
+    let read : ◌≡◌ {A = Result MessageValue ReadFault} (Ok (Registers (registers (mapping wide 1440 ∷ []) 2))) (Ok (Registers l.row.arrives.1.message)) = ap (λ (i : Item). Ok i.message) item ∙ l.row.arrives.1.admits.read in
     let message : registers (mapping wide 1440 ∷ []) 2 ≡ l.row.arrives.1.message = cc in
-    let stale : 2 ≤ 1 = subst (λ (m : Registration). m.nonce ≤ 1) (sym message) l.row.arrives.1.stale in
+    let stale : 2 ≤ 1 = subst (λ (m : MapRegisterValue). m.nonce ≤ 1) (sym message) l.row.arrives.1.stale in
     absurd (omega (arith, stale))
 
 -- a load fails though the last nonce is in memory
@@ -150,7 +151,7 @@ load_failed_though_known l =
     let a = l.row.arrives.1 in
     let item : first_item ≡ l.row.item = cc in
     let message : first ≡ a.message = cc in
-    let unknown : ◌≡◌ {A = Option ℕ} (Some 1) None = ap (λ (m : Registration). last_of (pair_of m) (since opening one_taken 0)) message ∙ a.unknown in
+    let unknown : ◌≡◌ {A = Option ℕ} (Some 1) None = ap (λ (m : MapRegisterValue). last_of (pair_of m) (since_start opening one_taken 0)) message ∙ a.unknown in
     absurd cc
 
 -- memory runs out for bytes whose head can't be read
@@ -162,18 +163,18 @@ no_memory_for_no_head l = l.row.arrives.1.0 reads.Short refl
 no_memory_for_no_records : Legal opening [] (refuses [] (events.Junk 0 (local_at 21) bare) 0 (refusals.Receive refuseds.OutOfMemory)) → ⊥
 no_memory_for_no_records l = by l.row.arrives.1.1
   where
-    by : HasRecords bare ⊎ IsToAccept (turn_of opening [] (refuses [] (events.Junk 0 (local_at 21) bare) 0 (refusals.Receive refuseds.OutOfMemory))) (thrown (local_at 21) bare) → ⊥
+    by : HasRecords bare ⊎ IsToAccept (context_of opening [] (refuses [] (events.Junk 0 (local_at 21) bare) 0 (refusals.Receive refuseds.OutOfMemory))) (junk_arrival (local_at 21) bare) → ⊥
     by (inl records) = absurd (omega (arith, records))
-    by (inr accepts) = absurd (let clash : ◌≡◌ {A = Result Said ReadFault} (Err reads.NoIds) (Ok (Registers accepts.message)) = sym bare_read ∙ accepts.admits.read in cc)
+    by (inr accepts) = absurd (let clash : ◌≡◌ {A = Result MessageValue ReadFault} (Err reads.NoIds) (Ok (Registers accepts.message)) = sym bare_read ∙ accepts.admits.read in cc)
 
 -- what isn't authentic is accepted
 accepted_without_tag : (bytes : List ℕ) → message_at bytes ≡ Ok (Registers first) → is_authentic bytes secret ≡ false
     → Legal opening [] (step (events.Junk 0 (local_at 21) bytes) (lines.Accepted 0 one 1 1 (Some 0)) 0 (keeps blank (got_from one) 1)) → ⊥
 accepted_without_tag bytes read forged l =
-    let both : ◌≡◌ {A = Result Said ReadFault} (Ok (Registers first)) (Ok (Registers l.row.arrives.message)) = sym read ∙ l.row.arrives.admits.read in
+    let both : ◌≡◌ {A = Result MessageValue ReadFault} (Ok (Registers first)) (Ok (Registers l.row.arrives.message)) = sym read ∙ l.row.arrives.admits.read in
     let message : first ≡ l.row.arrives.message = cc in
     let secret_is = l.row.arrives.admits.secret in
-    ok_is_no_refusal (sym (bad_tag network.sites bytes first site secret refl refl forged) ∙ subst (λ (m : Registration). secret_under network.sites bytes m ≡ Ok secret_is) (sym message) l.row.arrives.admits.checks)
+    ok_is_no_refusal (sym (bad_tag network.sites bytes first site secret refl refl forged) ∙ subst (λ (m : MapRegisterValue). secret_under network.sites bytes m ≡ Ok secret_is) (sym message) l.row.arrives.admits.checks)
 
 -- a Map-Notify is taken for its acknowledgement
 abbrev notice_back : Item
@@ -182,11 +183,11 @@ notice_back = told (local_at 21) (local_at 11) (2 ^ 63) (mapping wide 1440 ∷ [
 notice_taken_for_acknowledgement : Legal opening first_told (step (events.Junk 0 (local_at 21) (bytes_of notice_back)) (lines.Done 0 one (2 ^ 63)) 0 (at first_told 0)) → ⊥
 notice_taken_for_acknowledgement l =
     let a = l.row.arrives in
-    let both : ◌≡◌ {A = Result Said ReadFault} (Ok notice_back.message) (Ok (Notifies a.message)) = sym (told_reads (local_at 21) (local_at 11) (2 ^ 63) 1440 (omega arith) (omega arith)) ∙ a.read in
+    let both : ◌≡◌ {A = Result MessageValue ReadFault} (Ok notice_back.message) (Ok (Notifies a.message)) = sym (told_reads (local_at 21) (local_at 11) (2 ^ 63) 1440 (omega arith) (omega arith)) ∙ a.read in
     let same : record { ack = false; nonce = 2 ^ 63; key_id = 1; records = mapping wide 1440 ∷ [] } ≡ a.message = cc in
-    never (ap (λ (m : Notification). m.ack) same ∙ a.ack)
+    never (ap (λ (m : MapNotifyValue). m.ack) same ∙ a.ack)
 
-abbrev acknowledgement : Notification
+abbrev acknowledgement : MapNotifyValue
 acknowledgement = record { ack = true; nonce = 2 ^ 63; key_id = 1; records = mapping wide 1440 ∷ [] }
 
 -- what isn't authentic ends a notice
@@ -194,35 +195,35 @@ done_without_tag : (bytes : List ℕ) → message_at bytes ≡ Ok (Notifies ackn
     → Legal opening was_noticed (step (events.Junk 0 (local_at 21) bytes) (lines.Done 0 one (2 ^ 63)) 0 (at was_noticed 0)) → ⊥
 done_without_tag bytes read forged l =
     let a = l.row.arrives in
-    let both : ◌≡◌ {A = Result Said ReadFault} (Ok (Notifies acknowledgement)) (Ok (Notifies a.message)) = sym read ∙ a.read in
+    let both : ◌≡◌ {A = Result MessageValue ReadFault} (Ok (Notifies acknowledgement)) (Ok (Notifies a.message)) = sym read ∙ a.read in
     let message : acknowledgement ≡ a.message = cc in
-    let t = turn_of opening was_noticed (step (events.Junk 0 (local_at 21) bytes) (lines.Done 0 one (2 ^ 63)) 0 (at was_noticed 0)) in
+    let t = context_of opening was_noticed (step (events.Junk 0 (local_at 21) bytes) (lines.Done 0 one (2 ^ 63)) 0 (at was_noticed 0)) in
     let stands : awaiting t (local_at 21) acknowledgement ≡ Some a.notice = ap (awaiting t (local_at 21)) message ∙ a.stands in
     let notice : told_to one (2 ^ 63) 2 (3000 ∷ 0 ∷ []) ≡ a.notice = cc in
-    true≢false (sym (subst (λ (n : Notice). has_tag_for t (thrown (local_at 21) bytes) n ≡ true) (sym notice) a.authentic) ∙ forged)
+    true≢false (sym (subst (λ (n : Notice). has_tag_for t (junk_arrival (local_at 21) bytes) n ≡ true) (sym notice) a.authentic) ∙ forged)
 
 -- an acknowledgement from another address ends it
 done_from_elsewhere : (bytes : List ℕ) → message_at bytes ≡ Ok (Notifies acknowledgement)
     → Legal opening was_noticed (step (events.Junk 0 (local_at 22) bytes) (lines.Done 0 one (2 ^ 63)) 0 (at was_noticed 0)) → ⊥
 done_from_elsewhere bytes read l =
     let a = l.row.arrives in
-    let both : ◌≡◌ {A = Result Said ReadFault} (Ok (Notifies acknowledgement)) (Ok (Notifies a.message)) = sym read ∙ a.read in
+    let both : ◌≡◌ {A = Result MessageValue ReadFault} (Ok (Notifies acknowledgement)) (Ok (Notifies a.message)) = sym read ∙ a.read in
     let message : acknowledgement ≡ a.message = cc in
-    let t = turn_of opening was_noticed (step (events.Junk 0 (local_at 22) bytes) (lines.Done 0 one (2 ^ 63)) 0 (at was_noticed 0)) in
+    let t = context_of opening was_noticed (step (events.Junk 0 (local_at 22) bytes) (lines.Done 0 one (2 ^ 63)) 0 (at was_noticed 0)) in
     let stands : ◌≡◌ {A = Option Notice} None (Some a.notice) = ap (awaiting t (local_at 22)) message ∙ a.stands in
     absurd cc
 
 -- an acknowledgement under another key ends it
-abbrev another_keys : Notification
+abbrev another_keys : MapNotifyValue
 another_keys = record { ack = true; nonce = 2 ^ 63; key_id = 2; records = mapping wide 1440 ∷ [] }
 
 done_under_another_key : (bytes : List ℕ) → message_at bytes ≡ Ok (Notifies another_keys)
     → Legal opening was_noticed (step (events.Junk 0 (local_at 21) bytes) (lines.Done 0 one (2 ^ 63)) 0 (at was_noticed 0)) → ⊥
 done_under_another_key bytes read l =
     let a = l.row.arrives in
-    let both : ◌≡◌ {A = Result Said ReadFault} (Ok (Notifies another_keys)) (Ok (Notifies a.message)) = sym read ∙ a.read in
+    let both : ◌≡◌ {A = Result MessageValue ReadFault} (Ok (Notifies another_keys)) (Ok (Notifies a.message)) = sym read ∙ a.read in
     let message : another_keys ≡ a.message = cc in
-    let t = turn_of opening was_noticed (step (events.Junk 0 (local_at 21) bytes) (lines.Done 0 one (2 ^ 63)) 0 (at was_noticed 0)) in
+    let t = context_of opening was_noticed (step (events.Junk 0 (local_at 21) bytes) (lines.Done 0 one (2 ^ 63)) 0 (at was_noticed 0)) in
     let stands : ◌≡◌ {A = Option Notice} None (Some a.notice) = ap (awaiting t (local_at 21)) message ∙ a.stands in
     absurd cc
 
@@ -230,9 +231,9 @@ done_under_another_key bytes read l =
 done_of_another_router : Legal opening was_noticed (step (events.Deliver 4 fates.Done) (lines.Done 0 two (2 ^ 63)) 0 (at was_noticed 0)) → ⊥
 done_of_another_router l =
     let a = l.row.arrives in
-    let t = turn_of opening was_noticed (step (events.Deliver 4 fates.Done) (lines.Done 0 two (2 ^ 63)) 0 (at was_noticed 0)) in
+    let t = context_of opening was_noticed (step (events.Deliver 4 fates.Done) (lines.Done 0 two (2 ^ 63)) 0 (at was_noticed 0)) in
     let item : answered (2 ^ 63) (mapping wide 1440 ∷ []) ≡ l.row.item = cc in
-    let both : ◌≡◌ {A = Result Said ReadFault} (Ok (Notifies acknowledgement)) (Ok (Notifies a.message)) = ap (λ (i : Item). Ok i.message) item ∙ a.read in
+    let both : ◌≡◌ {A = Result MessageValue ReadFault} (Ok (Notifies acknowledgement)) (Ok (Notifies a.message)) = ap (λ (i : Item). Ok i.message) item ∙ a.read in
     let message : acknowledgement ≡ a.message = cc in
     let stands : awaiting t (local_at 21) acknowledgement ≡ Some a.notice = ap (λ (i : Item). awaiting t i.from acknowledgement) item ∙ ap (awaiting t l.row.item.from) message ∙ a.stands in
     let notice : told_to one (2 ^ 63) 2 (3000 ∷ 0 ∷ []) ≡ a.notice = cc in
@@ -242,9 +243,9 @@ done_of_another_router l =
 done_with_another_nonce : Legal opening was_noticed (step (events.Deliver 4 fates.Done) (lines.Done 0 one (2 ^ 63 + 1)) 0 (at was_noticed 0)) → ⊥
 done_with_another_nonce l =
     let a = l.row.arrives in
-    let t = turn_of opening was_noticed (step (events.Deliver 4 fates.Done) (lines.Done 0 one (2 ^ 63 + 1)) 0 (at was_noticed 0)) in
+    let t = context_of opening was_noticed (step (events.Deliver 4 fates.Done) (lines.Done 0 one (2 ^ 63 + 1)) 0 (at was_noticed 0)) in
     let item : answered (2 ^ 63) (mapping wide 1440 ∷ []) ≡ l.row.item = cc in
-    let both : ◌≡◌ {A = Result Said ReadFault} (Ok (Notifies acknowledgement)) (Ok (Notifies a.message)) = ap (λ (i : Item). Ok i.message) item ∙ a.read in
+    let both : ◌≡◌ {A = Result MessageValue ReadFault} (Ok (Notifies acknowledgement)) (Ok (Notifies a.message)) = ap (λ (i : Item). Ok i.message) item ∙ a.read in
     let message : acknowledgement ≡ a.message = cc in
     let stands : awaiting t (local_at 21) acknowledgement ≡ Some a.notice = ap (λ (i : Item). awaiting t i.from acknowledgement) item ∙ ap (awaiting t l.row.item.from) message ∙ a.stands in
     let notice : told_to one (2 ^ 63) 2 (3000 ∷ 0 ∷ []) ≡ a.notice = cc in
@@ -254,7 +255,7 @@ done_with_another_nonce l =
 -- an acknowledgement is refused for its tag, which is right
 right_tag_refused : Legal opening was_noticed (refuses was_noticed (events.Deliver 4 fates.Done) 0 (refusals.Receive refuseds.BadAuth)) → ⊥
 right_tag_refused l =
-    let t = turn_of opening was_noticed (refuses was_noticed (events.Deliver 4 fates.Done) 0 (refusals.Receive refuseds.BadAuth)) in
+    let t = context_of opening was_noticed (refuses was_noticed (events.Deliver 4 fates.Done) 0 (refusals.Receive refuseds.BadAuth)) in
     let item : answered (2 ^ 63) (mapping wide 1440 ∷ []) ≡ l.row.item = cc in
     let fails : FailsCheck t (arrival_of (answered (2 ^ 63) (mapping wide 1440 ∷ []))) (Ok (Notifies acknowledgement)) refuseds.BadAuth = subst (λ (i : Item). FailsCheck t (arrival_of i) (Ok i.message) refuseds.BadAuth) (sym item) l.row.arrives.1.0 in
     true≢false (sym (item_authentic (answered (2 ^ 63) (mapping wide 1440 ∷ []))) ∙ fails.0)
@@ -262,8 +263,8 @@ right_tag_refused l =
 -- a Map-Notify is refused as an acknowledgement that no notice waits for
 notify_refused_as_acknowledgement : Legal opening [] (refuses [] (events.Junk 0 (local_at 21) (bytes_of notice_back)) 0 (refusals.Receive refuseds.NoNotice)) → ⊥
 notify_refused_as_acknowledgement l =
-    let t = turn_of opening [] (refuses [] (events.Junk 0 (local_at 21) (bytes_of notice_back)) 0 (refusals.Receive refuseds.NoNotice)) in
-    let clash : refuseds.NoNotice ≡ refuseds.NotMine = subst (λ (r : Result Said ReadFault). FailsCheck t (thrown (local_at 21) (bytes_of notice_back)) r refuseds.NoNotice) (told_reads (local_at 21) (local_at 11) (2 ^ 63) 1440 (omega arith) (omega arith)) l.row.arrives.1.0 in
+    let t = context_of opening [] (refuses [] (events.Junk 0 (local_at 21) (bytes_of notice_back)) 0 (refusals.Receive refuseds.NoNotice)) in
+    let clash : refuseds.NoNotice ≡ refuseds.NotMine = subst (λ (r : Result MessageValue ReadFault). FailsCheck t (junk_arrival (local_at 21) (bytes_of notice_back)) r refuseds.NoNotice) (told_reads (local_at 21) (local_at 11) (2 ^ 63) 1440 (omega arith) (omega arith)) l.row.arrives.1.0 in
     absurd cc
 
 -- the line names another Map-Server than the one that accepts

@@ -12,7 +12,8 @@ use Rattle.lisp_model.specs.declared.event.Event.TheVariants as events
 use Rattle.lisp_model.specs.declared.line.Line.TheVariants as lines
 use Rattle.lisp_model.specs.declared.refusal.Refusal.TheVariants as refusals
 use Rattle.lisp_model.proofs.Examples.NearMisses.Common.{never, no_database, only_set_of, repeated}
-use Rattle.lisp_model.proofs.Examples.Samples.{blank, changes, keeps, one, opening, refuses, sends, sent_by, spent, step, two}
+use Rattle.lisp_model.specs.Story.{blank, keeps, one, opening, sends, sent_by, step, two}
+use Rattle.lisp_model.proofs.Examples.Samples.{changes, refuses, spent}
 use Rattle.lisp_model.proofs.Examples.Traces.{not_started, short}
 use Rattle.lisp_model.proofs.KeptLemmas.{kept_at-empty, only_value}
 

@@ -2,16 +2,16 @@ use Rattle.std.proofs.Common.{ℕ, ◌-◌, ◌<◌, List, length, get_or, ◌++
 use borrow.Author.Rules.{scaled_Fits}
 use Rattle.std.specs.Prelude.{slice_get, slice_set}
 use Rattle.std.proofs.lemmas.Option.{slice_get-get_or}
-use Rattle.lisp_refinement.specs.Calls.{Receives}
-use Rattle.lisp_refinement.specs.Turns.{address_of, posted, server_line}
-use Rattle.lisp_refinement.specs.World.{ServerNode, RouterNode}
+use Rattle.lisp_refinement.specs.Calls.{NodeReceives}
+use Rattle.lisp_refinement.specs.Events.{address_of, datagram_to, server_line}
+use Rattle.lisp_refinement.specs.World.{ServerNodeState, RouterNodeState}
 use Rattle.lisp_nodes.proofs.arrival.hear.Goals as goal
 
 pub returns-then-node-servers-clause-hears : goal.returns-then-node-servers-clause-hears
 returns-then-node-servers-clause-hears g c = λ w servers routers clock next.
     let place = c.args.node - length c.args.servers.now in
     let within : place < length c.args.routers.now = omega (arith, c.requires, c.if-node-servers.true) in
-    let more = posted (address_of w c.args.node) c.args.how.from c.router_hears.result.1 in
+    let more = datagram_to (address_of w c.args.node) c.args.how.from c.router_hears.result.1 in
     inr (record {
       more = more;
       acts = record {
@@ -19,7 +19,7 @@ returns-then-node-servers-clause-hears g c = λ w servers routers clock next.
         number = let long = ap length servers in omega (arith, long, c.if-node-servers.true);
         before = get_or c.args.routers.now place c.index-routers-node.result;
         after = c.router_hears.new.router;
-        was = ap (λ (nodes : List RouterNode). slice_get nodes place) routers ∙ slice_get-get_or _ _ _ within;
+        was = ap (λ (nodes : List RouterNodeState). slice_get nodes place) routers ∙ slice_get-get_or _ _ _ within;
         left = λ i. record w { bag = w.bag ++ more; servers = sym servers i; routers = slice_set (sym routers i) place c.router_hears.new.router };
       };
       hears = c.router_hears.ensures.hears w next;
@@ -36,14 +36,14 @@ returns-clause-hears g c = λ w servers routers clock next.
       acts = record {
         before = before;
         after = after;
-        was = ap (λ (nodes : List ServerNode). slice_get nodes c.args.node) servers ∙ slice_get-get_or _ _ _ c.if-node-servers.false;
+        was = ap (λ (nodes : List ServerNodeState). slice_get nodes c.args.node) servers ∙ slice_get-get_or _ _ _ c.if-node-servers.false;
         left = λ i. record w {
           bag = w.bag ++ sym (heard.3 (address_of w c.args.node) how.from) i;
           servers = slice_set (sym servers i) c.args.node after;
           routers = sym routers i;
         };
       };
-      receives = subst (λ (now : ℕ). Receives before after how.fate how.from c.args.bytes.now now heard.0) (sym clock) heard.1;
+      receives = subst (λ (now : ℕ). NodeReceives before after how.fate how.from c.args.bytes.now now heard.0) (sym clock) heard.1;
       said = heard.2 ∙ ap (λ (number : ℕ). server_line c.args.node number heard.0) (sym next);
     })
 

@@ -1,5 +1,5 @@
 use Rattle.std.proofs.lemmas.Result.{IfErr-weaker}
-use Rattle.lisp_playing.proofs.Turning.{at_ok}
+use Rattle.lisp_player.proofs.Taking.{at_ok}
 use Rattle.lisp_player.proofs.Beginning.{of_input}
 use Rattle.lisp_player.proofs.schedule.play.Goals as goal
 

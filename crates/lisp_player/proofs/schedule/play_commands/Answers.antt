@@ -1,7 +1,7 @@
 use Rattle.std.proofs.Common.{map}
 use Rattle.std.proofs.lemmas.Result.{err_from_is_err_and, IfErr-weaker}
-use Rattle.lisp_script.specs.Order.{order}
-use Rattle.lisp_playing.proofs.Turning.{at_ok}
+use Rattle.lisp_script.specs.Command.{command_value}
+use Rattle.lisp_player.proofs.Taking.{at_ok}
 use Rattle.lisp_player.proofs.Beginning.{same_fault, played_from, stopped_from, broken_from, neither, begun_ends, played_ends, not_broken}
 use Rattle.lisp_player.proofs.schedule.play_commands.Goals as goal
 
@@ -17,15 +17,15 @@ returns-in_err-world-clause-breaks g c =
 
 pub returns-clause-plays : goal.returns-clause-plays
 returns-clause-plays g c = at_ok c.play_on.result _ _
-    (λ wrote. played_from _ _ c.args.config.now (map order c.args.commands.now) c.in_ok-world.world c.play_on.new.world _ _ c.in_ok-world.ensures.repeats c.in_ok-world.ensures.begins wrote) c.play_on.ensures.plays
+    (λ wrote. played_from _ _ c.args.config.now (map command_value c.args.commands.now) c.in_ok-world.world c.play_on.new.world _ _ c.in_ok-world.ensures.repeats c.in_ok-world.ensures.begins wrote) c.play_on.ensures.plays
 
 pub returns-clause-stops : goal.returns-clause-stops
 returns-clause-stops g c = λ memory.
-    stopped_from _ _ c.args.config.now (map order c.args.commands.now) c.in_ok-world.world c.play_on.new.world _ _ c.in_ok-world.ensures.repeats c.in_ok-world.ensures.begins (c.play_on.ensures.stops memory)
+    stopped_from _ _ c.args.config.now (map command_value c.args.commands.now) c.in_ok-world.world c.play_on.new.world _ _ c.in_ok-world.ensures.repeats c.in_ok-world.ensures.begins (c.play_on.ensures.stops memory)
 
 pub returns-clause-breaks : goal.returns-clause-breaks
 returns-clause-breaks g c = λ cut.
-    broken_from _ _ c.args.config.now (map order c.args.commands.now) c.in_ok-world.world c.play_on.new.world _ _ c.in_ok-world.ensures.repeats c.in_ok-world.ensures.begins (c.play_on.ensures.breaks cut)
+    broken_from _ _ c.args.config.now (map command_value c.args.commands.now) c.in_ok-world.world c.play_on.new.world _ _ c.in_ok-world.ensures.repeats c.in_ok-world.ensures.begins (c.play_on.ensures.breaks cut)
 
 pub returns-clause-silent : goal.returns-clause-silent
 returns-clause-silent g c = IfErr-weaker c.play_on.result _ _ (λ fault why. neither fault why) c.play_on.ensures.faults

@@ -1,6 +1,6 @@
 use Rattle.std.proofs.Common.{ℕ, ◌∷◌, [], ◌++◌, replicate, ap, ◌∙◌, arith}
 use Rattle.std.proofs.lemmas.List.{replicate-append-replicate}
-use Rattle.lisp_player.proofs.Beginning.{fresh}
+use Rattle.lisp_player.specs.Schedule.{fresh}
 use Rattle.lisp_player.proofs.schedule.stores.Goals as goal
 
 pub loop-preserved : goal.loop-preserved

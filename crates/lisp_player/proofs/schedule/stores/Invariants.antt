@@ -1,5 +1,5 @@
 use Rattle.std.proofs.Common.{◌≡◌, replicate}
-use Rattle.lisp_player.proofs.Beginning.{fresh}
+use Rattle.lisp_player.specs.Schedule.{fresh}
 use Rattle.lisp_player.proofs.schedule.stores.Given as goal
 
 -- a store for each turn so far

@@ -1,6 +1,6 @@
 use Rattle.std.proofs.Common.{map, inl, refl}
 use Rattle.std.proofs.lemmas.Result.{err_from_is_err_and}
-use Rattle.lisp_script.specs.Order.{order}
+use Rattle.lisp_script.specs.Command.{command_value}
 use Rattle.lisp_script.proofs.Commands.{one_more, no_more, no_command}
 use Rattle.lisp_script.proofs.script.read_words.Goals as goal
 
@@ -13,7 +13,7 @@ returns-in_default-clause-gives g c = no_more c.args.config.now c.args.commands.
 pub returns-in_err-command-clause-gives : goal.returns-in_err-command-clause-gives
 returns-in_err-command-clause-gives g c =
     let p = err_from_is_err_and c.from_residual.result c.from_residual.ensures.1 in
-    rw (p.1, p.2) (no_command g.A.Memory.may_refuse c.args.config.now (map order c.args.commands.now.items) c.args.words.now _ c.in_err-command.field-0.0 c.in-len1-up.len_at_least c.in_err-command.ensures)
+    rw (p.1, p.2) (no_command g.A.Memory.may_refuse c.args.config.now (map command_value c.args.commands.now.items) c.args.words.now _ c.in_err-command.field-0.0 c.in-len1-up.len_at_least c.in_err-command.ensures)
 
 pub returns-in_err-try_push-clause-gives : goal.returns-in_err-try_push-clause-gives
 returns-in_err-try_push-clause-gives g c =

@@ -1,5 +1,5 @@
 use Rattle.std.proofs.Common.{inr}
-use Rattle.lisp_script.specs.Order.{order}
+use Rattle.lisp_script.specs.Command.{command_value}
 use Rattle.lisp_script.specs.Spelling.{spelt}
 use Rattle.lisp_script.specs.declared.verb.Verb.TheVariants as verbs
 use Rattle.lisp_script.proofs.Counts.{by_two, restart_none, restart_more}
@@ -10,7 +10,7 @@ returns-in-empty g c = inr (restart_none c.args.config.now c.args.words.now c.in
 
 pub returns-in-len2 : goal.returns-in-len2
 unfolding spelt
-returns-in-len2 g c = by_two g.A.Memory.may_refuse order c.restarted.result (spelt c.args.config.now verbs.Restart) c.args.words.now _ c.in-len2.len_at_least c.in-len2.len_below c.restarted.ensures
+returns-in-len2 g c = by_two g.A.Memory.may_refuse command_value c.restarted.result (spelt c.args.config.now verbs.Restart) c.args.words.now _ c.in-len2.len_at_least c.in-len2.len_below c.restarted.ensures
 
 pub returns-in-len2-up : goal.returns-in-len2-up
-returns-in-len2-up g c = restart_more g.A.Memory.may_refuse order c.restarted_with.result c.args.config.now c.args.words.now _ c.in-len2-up.len_at_least c.restarted_with.ensures
+returns-in-len2-up g c = restart_more g.A.Memory.may_refuse command_value c.restarted_with.result c.args.config.now c.args.words.now _ c.in-len2-up.len_at_least c.restarted_with.ensures

@@ -1,6 +1,6 @@
 use Rattle.std.proofs.Common.{inr}
-use Rattle.lisp_script.specs.Words.{records_in}
-use Rattle.lisp_script.proofs.Records.{texts, no_record, goes_on, is_done}
+use Rattle.lisp_script.specs.Words.{texts, records_in}
+use Rattle.lisp_script.proofs.Records.{no_record, goes_on, is_done}
 use Rattle.lisp_script.proofs.words.records.Goals as goal
 
 pub returns-in_default : goal.returns-in_default

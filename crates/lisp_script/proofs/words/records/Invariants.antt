@@ -1,6 +1,6 @@
 use Rattle.std.proofs.Common.{◌≡◌, drop}
-use Rattle.lisp_script.specs.Words.{records_in}
-use Rattle.lisp_script.proofs.Records.{texts, with_front}
+use Rattle.lisp_script.specs.Words.{texts, records_in}
+use Rattle.lisp_script.proofs.Records.{with_front}
 use Rattle.lisp_script.proofs.words.records.Given as goal
 
 -- the records so far, and those still to read, are what was to be read

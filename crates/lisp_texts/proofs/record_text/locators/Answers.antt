@@ -1,5 +1,5 @@
-use Rattle.lisp_texts.specs.Reading.{locators_of}
-use Rattle.lisp_texts.proofs.Locators.{texts, no_locator, goes_on, is_done}
+use Rattle.lisp_texts.specs.Reading.{texts, locators_of}
+use Rattle.lisp_texts.proofs.Locators.{no_locator, goes_on, is_done}
 use Rattle.lisp_texts.proofs.record_text.locators.Goals as goal
 
 pub returns-in_default-clause-value : goal.returns-in_default-clause-value

@@ -1,6 +1,6 @@
 use Rattle.std.proofs.Common.{◌≡◌, drop}
-use Rattle.lisp_texts.specs.Reading.{locators_of}
-use Rattle.lisp_texts.proofs.Locators.{texts, with_front}
+use Rattle.lisp_texts.specs.Reading.{texts, locators_of}
+use Rattle.lisp_texts.proofs.Locators.{with_front}
 use Rattle.lisp_texts.proofs.record_text.locators.Given as goal
 
 -- the locators so far, and those still to read, are what was to be read

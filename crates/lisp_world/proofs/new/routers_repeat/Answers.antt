@@ -2,20 +2,20 @@ use Rattle.std.proofs.Common.{ℕ, Bool, List, ap, sym, ◌∙◌}
 use Rattle.std.specs.List.{list_any}
 use Rattle.lisp_records.specs.Address.{addr_eq}
 use Rattle.lisp_records.specs.Router.{router_eq}
-use Rattle.lisp_policy.specs.Configuration.{Router}
+use Rattle.lisp_policy.specs.Configuration.{RouterEntryValue}
 use Rattle.lisp_world.proofs.MakingChecks.{behind, passed_first, passed_second, again_here, again_later, again_nowhere}
 use Rattle.lisp_world.proofs.new.routers_repeat.Goals as goal
 use Rattle.lisp_world.proofs.new.routers_repeat.Goals.{then-is_router_at-via-then-is_router_at, then-is_router_at-via-else-is_router_at+then-is_router}
 
 -- routers of one address, and of one identity
-abbrev alike : Router → Router → Bool
+abbrev alike : RouterEntryValue → RouterEntryValue → Bool
 alike a b = addr_eq a.address b.address
 
-abbrev same : Router → Router → Bool
+abbrev same : RouterEntryValue → RouterEntryValue → Bool
 same a b = router_eq a.me b.me
 
 -- a router is so related to one behind a place
-abbrev meets : (Router → Router → Bool) → List Router → ℕ → Router → Bool
+abbrev meets : (RouterEntryValue → RouterEntryValue → Bool) → List RouterEntryValue → ℕ → RouterEntryValue → Bool
 meets test routers i x = list_any (test x) (behind routers i)
 
 pub returns-then-is_router_at : goal.returns-then-is_router_at

@@ -1,16 +1,16 @@
 use Rattle.std.proofs.Common.{ℕ, Bool, List, ap, sym, ◌∙◌}
 use Rattle.std.specs.List.{list_any}
 use Rattle.lisp_records.specs.Address.{addr_eq}
-use Rattle.lisp_policy.specs.Configuration.{Server, Router}
+use Rattle.lisp_policy.specs.Configuration.{ServerEntryValue, RouterEntryValue}
 use Rattle.lisp_world.proofs.MakingChecks.{behind, passed_first, passed_second, meets_here, meets_later, joined_rest}
 use Rattle.lisp_world.proofs.new.servers_repeat.Goals as goal
 use Rattle.lisp_world.proofs.new.servers_repeat.Goals.{then-is_server_at-via-then-is_server_at, then-is_server_at-via-else-is_server_at+then-is_router_at}
 
 -- a Map-Server has the address of one behind a place, or of a router
-abbrev meets_server : List Server → ℕ → Server → Bool
+abbrev meets_server : List ServerEntryValue → ℕ → ServerEntryValue → Bool
 meets_server servers i x = list_any (λ s. addr_eq x.address s.address) (behind servers i)
 
-abbrev meets_router : List Router → Server → Bool
+abbrev meets_router : List RouterEntryValue → ServerEntryValue → Bool
 meets_router routers x = list_any (λ r. addr_eq x.address r.address) routers
 
 pub returns-then-is_server_at : goal.returns-then-is_server_at

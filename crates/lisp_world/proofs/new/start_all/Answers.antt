@@ -1,6 +1,6 @@
 use Rattle.std.proofs.Common.{◌+◌, ◌<◌, length, Err, arith, refl, sym, ap, subst}
 use borrow.Author.Rules.{scaled_Fits}
-use Rattle.lisp_refinement.specs.World.{RouterNode}
+use Rattle.lisp_refinement.specs.World.{RouterNodeState}
 use Rattle.lisp_world.specs.Making.{HasStarted, IsUnstarted}
 use Rattle.lisp_world.proofs.MakingNodes.{started_to_none, next_was, started_more, all_started}
 use Rattle.lisp_world.proofs.new.start_all.Goals as goal
@@ -18,14 +18,14 @@ returns-in-Err-clause-faults g c =
       why = c.in-Err.fault;
       is = refl;
       after = c.start.new.router.store;
-      unstarted = subst (λ (m : RouterNode). IsUnstarted m.store c.start.new.router.store c.in-Err.fault g.A.Memory.may_refuse g.S.NonceStore.may_refuse) (sym c.index-routers-i.is) c.in-Err.ensures.unstarted;
+      unstarted = subst (λ (m : RouterNodeState). IsUnstarted m.store c.start.new.router.store c.in-Err.fault g.A.Memory.may_refuse g.S.NonceStore.may_refuse) (sym c.index-routers-i.is) c.in-Err.ensures.unstarted;
     }
 
 pub loop-i-preserved : goal.loop-i-preserved
 loop-i-preserved g c =
     let low : c.loop-i.i < length c.loop-i.routers = omega (arith, c.loop-i-test.true, c.loop-i.auto.routers) in
     started_more c.args.routers.now c.loop-i.routers c.loop-i.i c.loop-i.invariant c.index-routers-i.result c.start.new.router low c.index-routers-i.is
-    (subst (λ (m : RouterNode). HasStarted m c.start.new.router) (sym c.index-routers-i.is) c.in_default.ensures.started)
+    (subst (λ (m : RouterNodeState). HasStarted m c.start.new.router) (sym c.index-routers-i.is) c.in_default.ensures.started)
 
 pub returns-clause-started : goal.returns-clause-started
 returns-clause-started g c =

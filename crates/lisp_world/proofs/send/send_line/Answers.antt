@@ -1,15 +1,15 @@
 use Rattle.std.proofs.Common.{List, length, refl, sym, ap, ◌∙◌, [], ◌∷◌, ◌++◌}
 use Rattle.std.proofs.lemmas.List.{append-nil}
 use Rattle.lisp_model.specs.declared.line.Line.TheVariants as lines
-use Rattle.lisp_refinement.specs.World.{Posted}
+use Rattle.lisp_refinement.specs.World.{DatagramValue}
 use Rattle.lisp_world.proofs.send.send_line.Goals as goal
 
 pub returns-in-Some-Ok : goal.returns-in-Some-Ok
 returns-in-Some-Ok g c = λ w bag from to.
     let head = c.post_message-head.result in
-    let more : List Posted = record { from = c.args.from; to = c.args.to; bytes = c.in-Some-Ok.bytes } ∷ [] in (
+    let more : List DatagramValue = record { from = c.args.from; to = c.args.to; bytes = c.in-Some-Ok.bytes } ∷ [] in (
       more,
-      c.post_message-head.ensures.bag ∙ ap (λ (b : List Posted). b ++ more) bag,
+      c.post_message-head.ensures.bag ∙ ap (λ (b : List DatagramValue). b ++ more) bag,
       rw (c.in-Some-Ok.is, c.in-Some-Ok.field-0-is) (record {
         head = head;
         read = c.post_message-head.ensures.head;

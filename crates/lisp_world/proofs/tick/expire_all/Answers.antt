@@ -1,7 +1,7 @@
 use Rattle.std.proofs.Common.{length, arith}
 use Rattle.std.proofs.lemmas.Option.{slice_get_within}
 use borrow.Author.Rules.{scaled_Fits}
-use Rattle.lisp_refinement.specs.Turns.{ExpiresNode}
+use Rattle.lisp_refinement.specs.Events.{ExpiresNode}
 use Rattle.lisp_world.proofs.Loops.{done_more, same_more}
 use Rattle.lisp_world.proofs.tick.expire_all.Goals as goal
 

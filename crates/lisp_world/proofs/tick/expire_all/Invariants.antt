@@ -1,4 +1,4 @@
-use Rattle.lisp_refinement.specs.Turns.{ExpiresNode}
+use Rattle.lisp_refinement.specs.Events.{ExpiresNode}
 use Rattle.lisp_world.proofs.Loops.{DoneBelow, SameFrom}
 use Rattle.lisp_world.proofs.tick.expire_all.Given as goal
 

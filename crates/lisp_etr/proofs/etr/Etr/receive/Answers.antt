@@ -1,8 +1,8 @@
 use Rattle.std.proofs.Common.{ap, is_ok, sym, ◌∙◌, Err, true≢false, ℕ, ◌<◌, ◌≤◌, inr, length, IfOk, subst}
 use Rattle.std.proofs.lemmas.Result.{err_from_is_err_and, IfErr-at_err}
-use Rattle.lisp_messages.specs.Message.{Notification}
+use Rattle.lisp_messages.specs.Message.{MapNotifyValue}
 use Rattle.lisp_etr.specs.Etr.{EtrState}
-use Rattle.lisp_etr.specs.Hearing.{heard, first_notice, AnswerFits}
+use Rattle.lisp_etr.specs.Hearing.{notify_from, first_notice, AnswerFits}
 use Rattle.lisp_etr.proofs.HearingLaws.{same_fault, noticed, counts, counted_fits}
 use Rattle.lisp_etr.proofs.etr.Etr.receive.Goals as goal
 
@@ -19,14 +19,14 @@ returns-clause-early g c fault kind = absurd (true≢false (ap is_ok (c.in_ok-se
 
 pub returns-then-notify-ge-FIRST_NOTICE_NONCE-clause-answer : goal.returns-then-notify-ge-FIRST_NOTICE_NONCE-clause-answer
 returns-then-notify-ge-FIRST_NOTICE_NONCE-clause-answer g c =
-    let own = ap (λ (m : Notification). m.nonce) c.notify.view_is in
-    let hears = ap (λ (e : EtrState). heard e.config c.args.from c.args.bytes.now) (sym c.self.view_is) ∙ c.in_ok-server.ensures.exact in
+    let own = ap (λ (m : MapNotifyValue). m.nonce) c.notify.view_is in
+    let hears = ap (λ (e : EtrState). notify_from e.config c.args.from c.args.bytes.now) (sym c.self.view_is) ∙ c.in_ok-server.ensures.exact in
     noticed c.args.self.now (record { server = c.in_ok-server.server; message = c.in_ok-server.notify }) hears own c.if-notify-ge-FIRST_NOTICE_NONCE.true c.notice.result c.notice.ensures.notice c.notice.ensures.err
 
 pub returns-clause-answer : goal.returns-clause-answer
 returns-clause-answer g c =
-    let own = ap (λ (m : Notification). m.nonce) c.notify.view_is in
-    let hears = ap (λ (e : EtrState). heard e.config c.args.from c.args.bytes.now) (sym c.self.view_is) ∙ c.in_ok-server.ensures.exact in
+    let own = ap (λ (m : MapNotifyValue). m.nonce) c.notify.view_is in
+    let hears = ap (λ (e : EtrState). notify_from e.config c.args.from c.args.bytes.now) (sym c.self.view_is) ∙ c.in_ok-server.ensures.exact in
     counts c.args.self.now (record { server = c.in_ok-server.server; message = c.in_ok-server.notify }) hears own c.if-notify-ge-FIRST_NOTICE_NONCE.false c.count.result c.count.ensures.answer
 
 pub returns-clause-fits : goal.returns-clause-fits
@@ -40,8 +40,8 @@ count-requires g c = subst (λ (e : EtrState). c.in_ok-server.server < length e.
 
 pub returns-then-notify-ge-FIRST_NOTICE_NONCE-clause-grows : goal.returns-then-notify-ge-FIRST_NOTICE_NONCE-clause-grows
 returns-then-notify-ge-FIRST_NOTICE_NONCE-clause-grows g c out =
-    let hears = ap (λ (e : EtrState). heard e.config c.args.from c.args.bytes.now) (sym c.self.view_is) ∙ c.in_ok-server.ensures.exact in
-    let late = subst (λ (nonce : ℕ). first_notice ≤ nonce) (ap (λ (m : Notification). m.nonce) c.notify.view_is) c.if-notify-ge-FIRST_NOTICE_NONCE.true in
+    let hears = ap (λ (e : EtrState). notify_from e.config c.args.from c.args.bytes.now) (sym c.self.view_is) ∙ c.in_ok-server.ensures.exact in
+    let late = subst (λ (nonce : ℕ). first_notice ≤ nonce) (ap (λ (m : MapNotifyValue). m.nonce) c.notify.view_is) c.if-notify-ge-FIRST_NOTICE_NONCE.true in
     (λ fault kind. true≢false (ap is_ok (c.in_ok-server.ensures.early fault kind)), inr (record { server = c.in_ok-server.server; message = c.in_ok-server.notify }, hears, late))
 
 pub returns-clause-memory : goal.returns-clause-memory

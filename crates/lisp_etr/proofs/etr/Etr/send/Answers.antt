@@ -6,19 +6,19 @@ use Rattle.lisp_nonces.specs.declared.fault.StoreFault.TheVariants.{Device}
 use Rattle.lisp_etr.specs.declared.send_fault.SendFault.TheVariants.{Store}
 use Rattle.lisp_etr.specs.Config.{sent_pair}
 use Rattle.lisp_etr.specs.Etr.{EtrState}
-use Rattle.lisp_etr.specs.Sending.{datagram_of, Sends, Settles, LeavesPair}
-use Rattle.lisp_etr.specs.Round.{started, sent}
+use Rattle.lisp_etr.specs.Sending.{datagram_of, EtrSends, Settles, LeavesPair}
+use Rattle.lisp_etr.specs.Round.{first_round, round_after_send}
 use Rattle.lisp_etr.specs.declared.round.Round.{Round}
 use Rattle.lisp_etr.proofs.Refusals.{kind, apart, neither, store_fault, told}
 use Rattle.lisp_etr.proofs.etr.Etr.send.Given as given
 use Rattle.lisp_etr.proofs.etr.Etr.send.Goals as goal
 
 -- the round that goes on is that of the Map-Server
-goes_on : (rounds : List Round) (server nonce now : ℕ) (old new : Round) → server < length rounds → old ≡ get_or rounds server old → new ≡ sent nonce now old → slice_set rounds server new ≡ slice_set rounds server (sent nonce now (slice_index_or rounds server (started 0)))
-goes_on rounds server nonce now old new within at is = ap (λ (r : Round). slice_set rounds server r) (is ∙ ap (sent nonce now) (at ∙ get_or_default rounds server old (started 0) within))
+goes_on : (rounds : List Round) (server nonce now : ℕ) (old new : Round) → server < length rounds → old ≡ get_or rounds server old → new ≡ round_after_send nonce now old → slice_set rounds server new ≡ slice_set rounds server (round_after_send nonce now (slice_index_or rounds server (first_round 0)))
+goes_on rounds server nonce now old new within at is = ap (λ (r : Round). slice_set rounds server r) (is ∙ ap (round_after_send nonce now) (at ∙ get_or_default rounds server old (first_round 0) within))
 
 pub returns-clause-sends : goal.returns-clause-sends
-returns-clause-sends g c = subst (λ (s : EtrState). Sends s (record { config = c.self.inside.config; database = c.self.inside.database; last = c.self.inside.last + 1; safe = c.in_ok-self-inside.field-0; rounds = slice_set c.self.inside.rounds.items c.args.server c.send.new.self }) c.args.server c.args.now) c.self.view_is (record {
+returns-clause-sends g c = subst (λ (s : EtrState). EtrSends s (record { config = c.self.inside.config; database = c.self.inside.database; last = c.self.inside.last + 1; safe = c.in_ok-self-inside.field-0; rounds = slice_set c.self.inside.rounds.items c.args.server c.send.new.self }) c.args.server c.args.now) c.self.view_is (record {
   config = refl;
   database = refl;
   last = refl;

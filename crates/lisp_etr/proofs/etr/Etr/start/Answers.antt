@@ -1,6 +1,6 @@
 use Rattle.std.proofs.Common.{ap, length, ◌∙◌, Err, sym, subst}
 use Rattle.std.proofs.lemmas.List.{length-replicate}
-use Rattle.lisp_etr.specs.Config.{Settings}
+use Rattle.lisp_etr.specs.Config.{EtrConfigValue}
 use Rattle.std.specs.List.{Contains}
 use Rattle.lisp_nonces.specs.declared.pair.Pair.{Pair}
 use Rattle.lisp_nonces.specs.Kept.{kept_at}
@@ -8,7 +8,7 @@ use Rattle.lisp_etr.proofs.Refusals.{start_fault, not_stored}
 use Rattle.lisp_etr.proofs.etr.Etr.start.Goals as goal
 
 pub invariant_of-result : goal.invariant_of-result
-invariant_of-result g c = ap length c.in-Ok.ensures.items ∙ length-replicate _ _ ∙ ap length c.as_slice.ensures ∙ ap (λ (s : Settings). length s.servers) c.config.view_is
+invariant_of-result g c = ap length c.in-Ok.ensures.items ∙ length-replicate _ _ ∙ ap length c.as_slice.ensures ∙ ap (λ (s : EtrConfigValue). length s.servers) c.config.view_is
 
 pub returns-in-Err-clause-cause : goal.returns-in-Err-clause-cause
 returns-in-Err-clause-cause g c f is other = c.in-Err.ensures.cause (λ out. other (sym (start_fault is) ∙ out))

@@ -1,9 +1,9 @@
 use Rattle.std.proofs.Common.{List, length, ap, subst, arith}
 use Rattle.std.specs.Ordering.{is_lt}
-use Rattle.lisp_records.specs.Address.{block_cmp}
-use Rattle.lisp_records.specs.Row.{Holding}
+use Rattle.lisp_records.specs.Address.{prefix_cmp}
+use Rattle.lisp_records.specs.Row.{RowValue}
 use Rattle.lisp_lookup.specs.declared.probe.Probe.TheVariants.{Prefix}
-use Rattle.lisp_lookup.specs.Index.{RowsInOrder, IsBound}
+use Rattle.lisp_lookup.specs.Index.{CountedRowsValue, IsBound}
 use Rattle.lisp_lookup.proofs.IndexLaws.{falls_prefix}
 use Rattle.lisp_lookup.proofs.CountLaws.{count_rows, long_index}
 use Rattle.lisp_lookup.proofs.table.Table.find.Goals as goal
@@ -16,13 +16,13 @@ new-rows-requires g c = record { below = rw c.deref.ensures.value c.self.invaria
 
 pub returns-clause-lesser : goal.returns-clause-lesser
 returns-clause-lesser g c =
-    let order = subst (λ (r : RowsInOrder). IsBound (Prefix c.args.prefix.now) r.rows r.numbers c.find.result) c.new-rows.ensures c.find.ensures.bound in
-    let bound = subst (λ (rows : List Holding). IsBound (Prefix c.args.prefix.now) rows c.self.inside.by_prefix.items c.find.result) c.deref.ensures.value order in
-    rw (← c.self.view_is) (count_rows c.self.inside.items.items c.self.inside.by_prefix.items (λ h. is_lt (block_cmp h.mapping.eid c.args.prefix.now)) c.find.result c.self.invariant.by_prefix bound.within bound.before bound.after)
+    let order = subst (λ (r : CountedRowsValue). IsBound (Prefix c.args.prefix.now) r.rows r.numbers c.find.result) c.new-rows.ensures c.find.ensures.bound in
+    let bound = subst (λ (rows : List RowValue). IsBound (Prefix c.args.prefix.now) rows c.self.inside.by_prefix.items c.find.result) c.deref.ensures.value order in
+    rw (← c.self.view_is) (count_rows c.self.inside.items.items c.self.inside.by_prefix.items (λ h. is_lt (prefix_cmp h.mapping.eid c.args.prefix.now)) c.find.result c.self.invariant.by_prefix bound.within bound.before bound.after)
 
 pub returns-clause-cost : goal.returns-clause-cost
 returns-clause-cost g c =
-    let numbers = ap (λ (r : RowsInOrder). length r.numbers) c.new-rows.ensures in
+    let numbers = ap (λ (r : CountedRowsValue). length r.numbers) c.new-rows.ensures in
     rw (← c.self.view_is) (omega (arith, c.find.ensures.cost, numbers, long_index c.self.inside.items.items c.self.inside.by_prefix.items c.self.invariant.by_prefix))
 
 pub returns-clause-grows : goal.returns-clause-grows

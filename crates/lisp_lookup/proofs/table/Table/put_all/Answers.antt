@@ -2,7 +2,7 @@ use Rattle.std.proofs.Common.{List, length, refl, sym, ap, ◌∙◌, subst, ari
 use Rattle.std.proofs.lemmas.Iterator.Adapters.{YieldsList-from_vec}
 use Rattle.std.proofs.lemmas.Iterator.Consumers.{YieldsList-end}
 use Rattle.std.proofs.lemmas.List.{map-id}
-use Rattle.lisp_records.specs.Row.{Holding}
+use Rattle.lisp_records.specs.Row.{RowValue}
 use Rattle.lisp_lookup.specs.Table.{Sets}
 use Rattle.lisp_lookup.proofs.TableLaws.{sets_more}
 use Rattle.lisp_lookup.proofs.DeadlineLaws.{one_each}
@@ -31,4 +31,4 @@ returns-clause-sets g c =
     let gives = c.into_iter-row-iterator.ensures.into_iter_gives in
     let end = YieldsList-end (YieldsList-from_vec c.args.rows.items gives.0 (gives.1 ∙ c.args.rows.ok.0)) c.loop-row.yielded c.loop-row.row-iterator c.loop-row.yielded_by
     c.next.result c.next.new.self c.in-None.is c.next.ensures.steps in
-    subst (λ (given : List Holding). Sets c.args.self.now.rows c.loop-row.self.rows given) (sym (map-id c.loop-row.yielded) ∙ end.0) c.loop-row.invariant.set
+    subst (λ (given : List RowValue). Sets c.args.self.now.rows c.loop-row.self.rows given) (sym (map-id c.loop-row.yielded) ∙ end.0) c.loop-row.invariant.set

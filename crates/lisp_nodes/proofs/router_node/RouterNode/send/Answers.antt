@@ -2,8 +2,8 @@ use Rattle.std.proofs.Common.{List, ℕ, ap, refl, sym, subst, ◌∙◌, Err}
 use Rattle.lisp_nonces.specs.Kept.{NoneBelow, kept_at}
 use Rattle.lisp_etr.specs.Config.{sent_pair}
 use Rattle.lisp_etr.specs.Etr.{EtrState}
-use Rattle.lisp_refinement.specs.Calls.{SendsTo}
-use Rattle.lisp_refinement.specs.Turns.{place_of}
+use Rattle.lisp_refinement.specs.Calls.{CoreAnswersSend}
+use Rattle.lisp_refinement.specs.Events.{place_of}
 use Rattle.lisp_nodes.specs.Cores.{core_of}
 use Rattle.lisp_nodes.proofs.NodeCalls.{server_there, nonce_left, why_not_sent}
 use Rattle.lisp_nodes.proofs.router_node.RouterNode.send.Goals as goal
@@ -21,7 +21,7 @@ returns-clause-up g c =
         armed = g.S.NonceStore.seen c.arm.new.store;
         called = g.S.NonceStore.seen c.send-answer.new.store;
         uses = record { arms = c.arm.ensures; proceeds = c.send-answer.ensures.proceeds; disarms = c.arm-2.ensures };
-        call = subst (λ (place : ℕ). SendsTo c.in-Up.etr c.send-answer.new.self (g.S.NonceStore.seen c.arm.new.store) (g.S.NonceStore.seen c.send-answer.new.store) place c.args.now c.match-answer.result)
+        call = subst (λ (place : ℕ). CoreAnswersSend c.in-Up.etr c.send-answer.new.self (g.S.NonceStore.seen c.arm.new.store) (g.S.NonceStore.seen c.send-answer.new.store) place c.args.now c.match-answer.result)
             (c.place_of-place.ensures ∙ ap (λ (listed : List ℕ). place_of listed c.args.server) c.as_slice.ensures)
             (elim c.match-answer.branch [
               | in-Ok w ↦ let there = server_there c.send-answer.result _ _ (λ clash. absurd (let both = sym w.in-Ok.is ∙ clash in cc)) c.send-answer.ensures.no_server in

@@ -1,10 +1,10 @@
 use Rattle.std.proofs.Common.{List, ap, refl, subst, sym, ◌∙◌}
 use Rattle.std.specs.Option.{unwrap_or}
-use Rattle.lisp_records.specs.Record.{Mapping}
-use Rattle.lisp_etr.specs.Config.{Settings}
+use Rattle.lisp_records.specs.Record.{MapRecordValue}
+use Rattle.lisp_etr.specs.Config.{EtrConfigValue}
 use Rattle.lisp_etr.specs.Etr.{EtrState}
 use Rattle.lisp_refinement.specs.World.{Down}
-use Rattle.lisp_refinement.specs.Calls.{Starts}
+use Rattle.lisp_refinement.specs.Calls.{CoreAnswersStart}
 use Rattle.lisp_nodes.specs.Cores.{core_of}
 use Rattle.lisp_nodes.proofs.RouterCalls.{no_fault, same_fault}
 use Rattle.lisp_nodes.proofs.router_node.RouterNode.start.Goals as goal
@@ -14,7 +14,7 @@ pub returns-clause-starts : goal.returns-clause-starts
 returns-clause-starts g c =
     rw (← c.self.view_is)
     (record {
-      starts = subst (λ (from : Settings × List Mapping). Starts from.0 from.1 c.args.how.now (g.S.NonceStore.seen c.self.inside.store) (g.S.NonceStore.seen c.start.new.store) (core_of c.match-start.core.0) c.match-start.core.1)
+      starts = subst (λ (from : EtrConfigValue × List MapRecordValue). CoreAnswersStart from.0 from.1 c.args.how.now (g.S.NonceStore.seen c.self.inside.store) (g.S.NonceStore.seen c.start.new.store) (core_of c.match-start.core.0) c.match-start.core.1)
           (λ i. (c.stopped-config.ensures.config i, (c.unwrap_or-database.ensures ∙ ap (unwrap_or c.args.how.db) c.stopped-config.ensures.database) i))
           (elim c.match-start.branch [
             | in-Ok w ↦ rw w.core-is (record { etr = w.in-Ok.etr; up = refl; starts = w.in-Ok.ensures.started; last = w.in-Ok.ensures.last })
@@ -27,10 +27,10 @@ returns-clause-starts g c =
 -- its key is that of what it started from
 pub invariant_of-result : goal.invariant_of-result
 invariant_of-result g c =
-    let same = c.self.invariant ∙ ap (λ (s : Settings). s.key_id) (sym c.stopped-config.ensures.config) in
+    let same = c.self.invariant ∙ ap (λ (s : EtrConfigValue). s.key_id) (sym c.stopped-config.ensures.config) in
     elim c.match-start.branch [
       | in-Ok w ↦ rw w.core-is (same ∙ ap (λ (e : EtrState). e.config.key_id) (sym w.in-Ok.ensures.started))
-      | in-Err w ↦ rw w.core-is (same ∙ ap (λ (s : Settings). s.key_id) (sym w.in-Err.ensures.back.0))
+      | in-Err w ↦ rw w.core-is (same ∙ ap (λ (s : EtrConfigValue). s.key_id) (sym w.in-Err.ensures.back.0))
     ]
 
 pub returns-clause-memory : goal.returns-clause-memory

@@ -2,7 +2,7 @@ use Rattle.std.proofs.Common.{List, None, slice_index_or, Option, ℕ, sym, ap, 
 use Rattle.std.specs.List.{Contains}
 use Rattle.lisp_nonces.specs.Entries.{kept_of}
 use Rattle.lisp_nonces.specs.Kept.{kept_at}
-use Rattle.lisp_nonces.specs.Memory.{Memory}
+use Rattle.lisp_nonces.specs.Memory.{MemoryStoreState}
 use Rattle.lisp_nonces.proofs.Saving.{no_fault, not_out, rose, load_leaves, load_failed, load_answers}
 use Rattle.lisp_nonces.proofs.memory.MemoryStoreNonceStore.load.Goals as goal
 
@@ -25,21 +25,21 @@ pub returns-clause-cause : goal.returns-clause-cause
 returns-clause-cause g c = tt
 
 pub returns-then-load_fails-clause-same : goal.returns-then-load_fails-clause-same
-returns-then-load_fails-clause-same g c = ap (λ (m : Memory). m.kept) c.self.view_is
+returns-then-load_fails-clause-same g c = ap (λ (m : MemoryStoreState). m.kept) c.self.view_is
 
 pub returns-then-load_fails-clause-after : goal.returns-then-load_fails-clause-after
 returns-then-load_fails-clause-after g c = rw (← c.self.view_is) (load_failed _ _ (c.load_fails.ensures.0 c.if-load_fails.true) c.saturating_add-self-inside.ensures)
 
 pub returns-clause-after : goal.returns-clause-after
-returns-clause-after g c = load_leaves c.args.self.now (λ fails. true≢false (sym (c.load_fails.ensures.1 (ap (λ (m : Memory). m.fate) c.self.view_is ∙ fails)) ∙ c.if-load_fails.false))
+returns-clause-after g c = load_leaves c.args.self.now (λ fails. true≢false (sym (c.load_fails.ensures.1 (ap (λ (m : MemoryStoreState). m.fate) c.self.view_is ∙ fails)) ∙ c.if-load_fails.false))
 
 pub returns-clause-member : goal.returns-clause-member
-returns-clause-member g c = subst (λ (values : List (Option ℕ)). Contains values c.first.result) (c.values_of.ensures.values ∙ ap (λ es. kept_at (kept_of es) c.args.pair.now) c.deref.ensures.value ∙ ap (λ (m : Memory). kept_at m.kept c.args.pair.now) c.self.view_is) c.first.ensures.member
+returns-clause-member g c = subst (λ (values : List (Option ℕ)). Contains values c.first.result) (c.values_of.ensures.values ∙ ap (λ es. kept_at (kept_of es) c.args.pair.now) c.deref.ensures.value ∙ ap (λ (m : MemoryStoreState). kept_at m.kept c.args.pair.now) c.self.view_is) c.first.ensures.member
 
 pub first-requires : goal.first-requires
 first-requires g c = c.values_of.ensures.some
 
 pub returns-clause-answer : goal.returns-clause-answer
 returns-clause-answer g c =
-    let values = c.values_of.ensures.values ∙ ap (λ es. kept_at (kept_of es) c.args.pair.now) c.deref.ensures.value ∙ ap (λ (m : Memory). kept_at m.kept c.args.pair.now) c.self.view_is in
-    load_answers c.args.self.now.fate _ _ (λ fails. true≢false (sym (c.load_fails.ensures.1 (ap (λ (m : Memory). m.fate) c.self.view_is ∙ fails)) ∙ c.if-load_fails.false)) (c.first.ensures.value ∙ ap (λ (vs : List (Option ℕ)). slice_index_or vs 0 None) values)
+    let values = c.values_of.ensures.values ∙ ap (λ es. kept_at (kept_of es) c.args.pair.now) c.deref.ensures.value ∙ ap (λ (m : MemoryStoreState). kept_at m.kept c.args.pair.now) c.self.view_is in
+    load_answers c.args.self.now.fate _ _ (λ fails. true≢false (sym (c.load_fails.ensures.1 (ap (λ (m : MemoryStoreState). m.fate) c.self.view_is ∙ fails)) ∙ c.if-load_fails.false)) (c.first.ensures.value ∙ ap (λ (vs : List (Option ℕ)). slice_index_or vs 0 None) values)

@@ -1,6 +1,6 @@
 use Rattle.std.proofs.Common.{arith, Some, sym, ap, ◌∙◌}
 use Rattle.std.specs.Option.{option_map}
-use Rattle.lisp_policy.specs.Site.{KeyEntry}
+use Rattle.lisp_policy.specs.Site.{SiteKeyValue}
 use Rattle.lisp_policy.proofs.IndexLaws.{at_index, in_list, not_indexed}
 use Rattle.lisp_policy.proofs.site.Site.key.Goals as goal
 
@@ -8,7 +8,7 @@ pub index-requires : goal.index-requires
 index-requires g c = grind (arith, in_list)
 
 pub returns-in-Some : goal.returns-in-Some
-returns-in-Some g c = rw (← c.self.view_is) (ap (λ (k : KeyEntry). Some k.secret) (c.behind-self.view_is ∙ c.index.ensures) ∙ sym (ap (option_map (λ (k : KeyEntry). k.secret)) (at_index (λ k. k.id) c.self.inside.by_id _ c.args.key_id _ c.index.result.now c.self.invariant (sym (rw c.from.ensures at c.in-Some.ensures)))))
+returns-in-Some g c = rw (← c.self.view_is) (ap (λ (k : SiteKeyValue). Some k.secret) (c.behind-self.view_is ∙ c.index.ensures) ∙ sym (ap (option_map (λ (k : SiteKeyValue). k.secret)) (at_index (λ k. k.id) c.self.inside.by_id _ c.args.key_id _ c.index.result.now c.self.invariant (sym (rw c.from.ensures at c.in-Some.ensures)))))
 
 pub returns-in-None : goal.returns-in-None
-returns-in-None g c = rw (← c.self.view_is) (sym (ap (option_map (λ (k : KeyEntry). k.secret)) (not_indexed (λ k. k.id) c.self.inside.by_id _ c.args.key_id c.self.invariant (sym (rw c.from.ensures at c.in-None.ensures)))))
+returns-in-None g c = rw (← c.self.view_is) (sym (ap (option_map (λ (k : SiteKeyValue). k.secret)) (not_indexed (λ k. k.id) c.self.inside.by_id _ c.args.key_id c.self.invariant (sym (rw c.from.ensures at c.in-None.ensures)))))

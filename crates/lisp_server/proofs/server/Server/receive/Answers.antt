@@ -1,6 +1,6 @@
 use Rattle.std.proofs.Common.{refl, ap, ◌∙◌, subst, Ok, Err, is_ok, true≢false, arith}
 use Rattle.std.proofs.lemmas.Result.{IfOk-weaker, IfErr-weaker, IfErr-at_err, on_err_weaker}
-use Rattle.lisp_messages.specs.Meaning.{said}
+use Rattle.lisp_messages.specs.Meaning.{message_value}
 use Rattle.lisp_messages.specs.Spelling.{Spells}
 use Rattle.lisp_admission.specs.Refused.{refused_of_read}
 use Rattle.lisp_server.proofs.ReceivingLaws.{read_fails, notification_fits, takes_register, takes_notify, refuses_register, refuses_notify, same_state, same_notices, err_of, answer_ok, answer_err, answer_on_err, answer_at}
@@ -9,19 +9,19 @@ use Rattle.lisp_server.proofs.KnownLaws.{known_after}
 use Rattle.lisp_server.proofs.server.Server.receive.Goals as goal
 
 pub receive_register-requires : goal.receive_register-requires
-receive_register-requires g c = notification_fits c.args.bytes.now c.in-Ok-Register.message (λ i. omega (arith, c.type_inv.bytes i)) (subst (Spells c.args.bytes.now) (ap said c.in-Ok-Register.field-0-is) c.in-Ok-Register.ensures.found)
+receive_register-requires g c = notification_fits c.args.bytes.now c.in-Ok-Register.message (λ i. omega (arith, c.type_inv.bytes i)) (subst (Spells c.args.bytes.now) (ap message_value c.in-Ok-Register.field-0-is) c.in-Ok-Register.ensures.found)
 
 pub returns-in-Ok-Register-clause-taken : goal.returns-in-Ok-Register-clause-taken
-returns-in-Ok-Register-clause-taken g c = rw (← c.self.view_is) (IfOk-weaker c.receive_register.result _ _ (λ took. takes_register _ c.in-Ok-Register.message _ _ _ _ _ _ _ took (c.in-Ok-Register.ensures.exact ∙ ap (λ m. Ok (said m)) c.in-Ok-Register.field-0-is)) (answer_ok c.receive_register.result _ _ c.receive_register.ensures.answer))
+returns-in-Ok-Register-clause-taken g c = rw (← c.self.view_is) (IfOk-weaker c.receive_register.result _ _ (λ took. takes_register _ c.in-Ok-Register.message _ _ _ _ _ _ _ took (c.in-Ok-Register.ensures.exact ∙ ap (λ m. Ok (message_value m)) c.in-Ok-Register.field-0-is)) (answer_ok c.receive_register.result _ _ c.receive_register.ensures.answer))
 
 pub returns-in-Ok-Register-clause-refused : goal.returns-in-Ok-Register-clause-refused
-returns-in-Ok-Register-clause-refused g c = rw (← c.self.view_is) (answer_err c.receive_register.result _ _ c.receive_register.ensures.answer (λ why left. refuses_register _ c.in-Ok-Register.message _ _ _ _ _ why (c.in-Ok-Register.ensures.exact ∙ ap (λ m. Ok (said m)) c.in-Ok-Register.field-0-is) left.1))
+returns-in-Ok-Register-clause-refused g c = rw (← c.self.view_is) (answer_err c.receive_register.result _ _ c.receive_register.ensures.answer (λ why left. refuses_register _ c.in-Ok-Register.message _ _ _ _ _ why (c.in-Ok-Register.ensures.exact ∙ ap (λ m. Ok (message_value m)) c.in-Ok-Register.field-0-is) left.1))
 
 pub returns-in-Ok-Notify-clause-taken : goal.returns-in-Ok-Notify-clause-taken
-returns-in-Ok-Notify-clause-taken g c = rw (← c.self.view_is) (IfOk-weaker c.receive_ack.result _ _ (λ took. takes_notify _ c.in-Ok-Notify.notify _ _ _ c.receive_ack.new.notices.notices _ _ took (c.in-Ok-Notify.ensures.exact ∙ ap (λ m. Ok (said m)) c.in-Ok-Notify.field-0-is)) c.receive_ack.ensures.done)
+returns-in-Ok-Notify-clause-taken g c = rw (← c.self.view_is) (IfOk-weaker c.receive_ack.result _ _ (λ took. takes_notify _ c.in-Ok-Notify.notify _ _ _ c.receive_ack.new.notices.notices _ _ took (c.in-Ok-Notify.ensures.exact ∙ ap (λ m. Ok (message_value m)) c.in-Ok-Notify.field-0-is)) c.receive_ack.ensures.done)
 
 pub returns-in-Ok-Notify-clause-refused : goal.returns-in-Ok-Notify-clause-refused
-returns-in-Ok-Notify-clause-refused g c = rw (← c.self.view_is) (IfErr-weaker c.receive_ack.result _ _ (λ why. refuses_notify _ c.in-Ok-Notify.notify _ _ _ _ why (c.in-Ok-Notify.ensures.exact ∙ ap (λ m. Ok (said m)) c.in-Ok-Notify.field-0-is)) c.receive_ack.ensures.refused)
+returns-in-Ok-Notify-clause-refused g c = rw (← c.self.view_is) (IfErr-weaker c.receive_ack.result _ _ (λ why. refuses_notify _ c.in-Ok-Notify.notify _ _ _ _ why (c.in-Ok-Notify.ensures.exact ∙ ap (λ m. Ok (message_value m)) c.in-Ok-Notify.field-0-is)) c.receive_ack.ensures.refused)
 
 pub returns-in-Err-clause-refused : goal.returns-in-Err-clause-refused
 returns-in-Err-clause-refused g c = rw c.of_read.ensures (read_fails c.in-Err.fault _ _ _ c.args.self.now (g.S.NonceStore.seen c.args.store.now) (λ is. (c.in-Err.ensures.grows (ap Err is)).1) c.in-Err.ensures.exact)

@@ -1,5 +1,5 @@
 use Rattle.std.proofs.Common.{refl, sym, ap, ◌∙◌, true, false, arith}
-use Rattle.lisp_server.specs.Notices.{Standing, is_due}
+use Rattle.lisp_server.specs.Notices.{StandingNoticeValue, is_due}
 use Rattle.lisp_server.proofs.StandingLaws.{place_within, none_due, due_there, same_there, same_set, rises_still, due_seldom, not_due_alone, resends}
 use Rattle.lisp_server.proofs.ReceivingLaws.{refused_for}
 use Rattle.lisp_server.proofs.standing_notices.StandingNotices.resend.Goals as goal
@@ -25,7 +25,7 @@ returns-then-not-is_due g c = rw (← c.self.view_is) (
 )
 
 pub invariant_of-self : goal.invariant_of-self
-invariant_of-self g c = rises_still c.self.inside.items.items c.args.router.now c.in-Ok.place c.index_mut.result.now _ c.resend.new.self c.self.invariant (rw c.deref.ensures.value at c.in-Ok.ensures.found) c.index_mut.ensures.value (ap (λ (n : Standing). n.router) c.in_err-resend.ensures.err)
+invariant_of-self g c = rises_still c.self.inside.items.items c.args.router.now c.in-Ok.place c.index_mut.result.now _ c.resend.new.self c.self.invariant (rw c.deref.ensures.value at c.in-Ok.ensures.found) c.index_mut.ensures.value (ap (λ (n : StandingNoticeValue). n.router) c.in_err-resend.ensures.err)
 
 pub returns-in_err-resend : goal.returns-in_err-resend
 returns-in_err-resend g c = rw (← c.self.view_is) (refused_for c.from_residual.result _ _ _ c.from_residual.ensures.1 (
@@ -35,7 +35,7 @@ returns-in_err-resend g c = rw (← c.self.view_is) (refused_for c.from_residual
 ))
 
 pub invariant_of-self-2 : goal.invariant_of-self-2
-invariant_of-self-2 g c = rises_still c.self.inside.items.items c.args.router.now c.in-Ok.place c.index_mut.result.now _ c.resend.new.self c.self.invariant (rw c.deref.ensures.value at c.in-Ok.ensures.found) c.index_mut.ensures.value (ap (λ (n : Standing). n.router) c.in_ok-resend.ensures.resent)
+invariant_of-self-2 g c = rises_still c.self.inside.items.items c.args.router.now c.in-Ok.place c.index_mut.result.now _ c.resend.new.self c.self.invariant (rw c.deref.ensures.value at c.in-Ok.ensures.found) c.index_mut.ensures.value (ap (λ (n : StandingNoticeValue). n.router) c.in_ok-resend.ensures.resent)
 
 pub returns : goal.returns
 returns g c =

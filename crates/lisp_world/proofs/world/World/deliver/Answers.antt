@@ -1,6 +1,6 @@
 use Rattle.std.proofs.Common.{◌≡◌, ◌<◌, length, refl, sym, ap, ◌∙◌, arith}
 use Rattle.std.specs.List.{length_refill}
-use Rattle.lisp_refinement.specs.World.{Posted, WorldState}
+use Rattle.lisp_refinement.specs.World.{DatagramValue, WorldState}
 use Rattle.lisp_world.proofs.Arrivals.{addressed_there, datagram_there, no_datagram_fault}
 use Rattle.lisp_world.proofs.Taking.{handed, lost}
 use Rattle.lisp_world.proofs.world.World.deliver.Goals as goal
@@ -55,5 +55,5 @@ returns g c =
     rw (← c.self.view_is)
     (handed _ _ w c.with_room.new.bag.items c.with_room.ensures.same c.args.k c.args.fate possible _ c.index-datagram.result.now c.index-datagram.ensures c.datagram.view_is _ c.in-Some.node c.index.result.now
     c.as_slice-bytes.result.now c.address-address.result c.hear-line.result.0 c.hear-line.result.1 c.hear-line.new.servers c.hear-line.new.routers inside.servers.len inside.routers.len c.post_reply.new.bag.items
-    c.in-Some.ensures c.index.ensures (c.as_slice-bytes.ensures ∙ ap (λ (p : Posted). p.bytes) c.behind-self.view_is) all_servers all_routers c.address-address.ensures c.post_reply.ensures
+    c.in-Some.ensures c.index.ensures (c.as_slice-bytes.ensures ∙ ap (λ (p : DatagramValue). p.bytes) c.behind-self.view_is) all_servers all_routers c.address-address.ensures c.post_reply.ensures
     (c.hear-line.ensures.hears w (sym c.deref_mut.ensures.value) (sym c.deref_mut-2.ensures.value) refl count) c.hear-line.ensures.tells)

@@ -1,7 +1,7 @@
 use Rattle.std.proofs.Common.{◌≡◌, ◌<◌, ◌++◌, length, refl, sym, ap, ◌∙◌, arith}
 use Rattle.std.specs.List.{length_refill}
 use Rattle.lisp_nonces.specs.declared.fate.Fate.TheVariants.{Done}
-use Rattle.lisp_refinement.specs.Turns.{posted}
+use Rattle.lisp_refinement.specs.Events.{datagram_to}
 use Rattle.lisp_refinement.specs.World.{WorldState}
 use Rattle.lisp_world.proofs.Arrivals.{arrived, node_there}
 use Rattle.lisp_world.proofs.Taking.{arrives_taken}
@@ -37,7 +37,7 @@ returns g c =
     rw (← c.self.view_is)
     (arrives_taken _ _ w _ _ c.args.to c.args.from c.args.bytes.now c.hear-line.result.0 possible
     (arrived _ w c.args.to Done c.args.from c.args.bytes.now c.hear-line.result.0 c.hear-line.result.1 c.hear-line.new.servers c.hear-line.new.routers inside.servers.len inside.routers.len c.post_reply.new.bag.items all_servers all_routers
-    (c.post_reply.ensures ∙ (λ i. c.make_room.ensures.items i ++ posted (c.address-address.ensures i) c.args.from c.hear-line.result.1))
+    (c.post_reply.ensures ∙ (λ i. c.make_room.ensures.items i ++ datagram_to (c.address-address.ensures i) c.args.from c.hear-line.result.1))
     (c.hear-line.ensures.hears w (sym c.deref_mut.ensures.value) (sym c.deref_mut-2.ensures.value) refl count))
     c.hear-line.ensures.tells)
 

@@ -5,7 +5,7 @@ use Rattle.lisp_nonces.specs.declared.fault.StoreFault.TheVariants as store_faul
 use Rattle.lisp_etr.specs.declared.start_fault.StartFault.TheVariants as starts
 use Rattle.lisp_nodes.proofs.NodeCalls.{err_is}
 use Rattle.lisp_nonces.specs.Store.{StoreState}
-use Rattle.lisp_refinement.specs.World.{RouterNode, WorldState}
+use Rattle.lisp_refinement.specs.World.{RouterNodeState, WorldState}
 use Rattle.lisp_world.specs.Making.{HaveStarted, IsStartFault}
 use Rattle.lisp_world.proofs.MakingNodes.{written_whole}
 use Rattle.lisp_world.proofs.Unmade.{memory_fault, start_fault, calm_fault}
@@ -25,7 +25,7 @@ memory_alone (Ok x) is same = absurd is
 memory_alone (Err e) is same = absurd cc
 
 -- a router that doesn't start says why
-module _ {X : Type 0} (r : Result X WorldFault) (first : ℕ) (routers : List RouterNode) (fault : WorldFault) (Refused StoreRefused : Type 0) (is : r ≡ Err fault) (why : IsStartFault first routers fault Refused StoreRefused) where
+module _ {X : Type 0} (r : Result X WorldFault) (first : ℕ) (routers : List RouterNodeState) (fault : WorldFault) (Refused StoreRefused : Type 0) (is : r ≡ Err fault) (why : IsStartFault first routers Refused StoreRefused fault) where
   unstarted_alone : r ≢ Err faults.Repeated
   unstarted_alone same = (let both = sym is ∙ same in let start = why.is in cc)
 
@@ -41,10 +41,10 @@ module _ {X : Type 0} (r : Result X WorldFault) (first : ℕ) (routers : List Ro
 module _ (g : _) (c : goal.After-new g) where
   -- the routers started
   started : HaveStarted c.in_ok-servers.routers.items c.start_all.new.routers
-  started = subst (λ (l : List RouterNode). HaveStarted l c.start_all.new.routers) c.deref_mut.ensures.value c.in_ok-start_all.ensures.started
+  started = subst (λ (l : List RouterNodeState). HaveStarted l c.start_all.new.routers) c.deref_mut.ensures.value c.in_ok-start_all.ensures.started
 
   -- and their list was written whole
-  abbrev routers_left : List RouterNode
+  abbrev routers_left : List RouterNodeState
   routers_left = take c.in_ok-servers.routers.len (c.start_all.new.routers ++ drop (length c.start_all.new.routers) c.in_ok-servers.routers.items)
 
   routers_now : routers_left ≡ c.start_all.new.routers
@@ -72,7 +72,7 @@ module _ (g : _) (c : goal.After-new g) where
     empty_bag = c.new.ensures.items;
     down = c.in_ok-servers.routers.items;
     nodes = c.in_ok-servers.ensures.nodes;
-    started_all = subst (λ (l : List RouterNode). HaveStarted c.in_ok-servers.routers.items l) (sym routers_now) started;
+    started_all = subst (λ (l : List RouterNodeState). HaveStarted c.in_ok-servers.routers.items l) (sym routers_now) started;
   }
 
   -- as many stores as nodes
@@ -179,7 +179,7 @@ returns-in_err-start_all-clause-faults g c =
     start_fault c.args.config.now (map g.S.NonceStore.seen c.args.stores.items) g.A.Memory.may_refuse g.S.NonceStore.may_refuse c.in_ok-servers.servers.items c.in_ok-servers.routers.items c.in_ok-servers.ensures.nodes
     c.from_residual-in_err-start_all.result c.in_err-start_all.field-0.0 c.len.result first
     (err_is c.from_residual-in_err-start_all.result c.in_err-start_all.field-0.0 c.from_residual-in_err-start_all.ensures.1)
-    (subst (λ (l : List RouterNode). IsStartFault c.len.result l c.in_err-start_all.field-0.0 g.A.Memory.may_refuse g.S.NonceStore.may_refuse) c.deref_mut.ensures.value c.in_err-start_all.ensures.faults)
+    (subst (λ (l : List RouterNodeState). IsStartFault c.len.result l g.A.Memory.may_refuse g.S.NonceStore.may_refuse c.in_err-start_all.field-0.0) c.deref_mut.ensures.value c.in_err-start_all.ensures.faults)
 
 -- and over calm stores
 pub returns-then-repeats-clause-calm_faults : goal.returns-then-repeats-clause-calm_faults

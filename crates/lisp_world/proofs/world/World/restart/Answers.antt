@@ -1,8 +1,8 @@
 use Rattle.std.proofs.Common.{Option, List, inl, inr, sym, subst, ◌∙◌}
-use Rattle.lisp_records.specs.Record.{Mapping}
+use Rattle.lisp_records.specs.Record.{MapRecordValue}
 use Rattle.lisp_model.specs.Legal.{Fits}
 use Rattle.lisp_model.specs.Memory.{MayTell}
-use Rattle.lisp_refinement.specs.Turns.{RestartsAt}
+use Rattle.lisp_refinement.specs.Events.{NetworkRestartsRouter}
 use Rattle.lisp_world.proofs.Taking.{restarts_taken}
 use Rattle.lisp_world.proofs.world.World.restart.Goals as goal
 
@@ -15,5 +15,5 @@ returns-then-is_server g c =
 pub returns : goal.returns
 returns g c =
     restarts_taken _ _ _ _ c.args.node c.args.pick c.args.db.now _ c.in_ok-check_restart.ensures.fault c.in_ok-db.ensures.fits
-    (inr (subst (λ (given : Option (List Mapping)). RestartsAt c.args.self.now c.restart_router.new.self c.args.node c.args.pick given c.restart_router.result) c.in_ok-db.ensures.equal c.restart_router.ensures.restarts))
+    (inr (subst (λ (given : Option (List MapRecordValue)). NetworkRestartsRouter c.args.self.now c.restart_router.new.self c.args.node c.args.pick given c.restart_router.result) c.in_ok-db.ensures.equal c.restart_router.ensures.restarts))
     c.restart_router.ensures.tells

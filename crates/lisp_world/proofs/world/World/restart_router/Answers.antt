@@ -1,6 +1,6 @@
 use Rattle.std.proofs.Common.{ap, ◌∙◌, sym, arith, ◌-◌, ◌+◌, ◌<◌, ◌≡◌, ℕ, length, Err}
 use Rattle.std.proofs.lemmas.List.{length-set}
-use Rattle.lisp_refinement.specs.Turns.{start_line}
+use Rattle.lisp_refinement.specs.Events.{start_line}
 use Rattle.lisp_nodes.proofs.RouterCalls.{router_changed}
 use Rattle.lisp_world.proofs.Telling.{start_tells}
 use Rattle.lisp_world.proofs.world.World.restart_router.Goals as goal

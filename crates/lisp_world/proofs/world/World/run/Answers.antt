@@ -1,6 +1,6 @@
 use Rattle.std.proofs.Common.{◌∙◌, ap, refl, inr, sym, arith, map, Result, Err}
 use Rattle.std.proofs.lemmas.List.{length-map}
-use Rattle.lisp_model.specs.Trace.{happening}
+use Rattle.lisp_model.specs.Trace.{event_value}
 use Rattle.lisp_model.specs.declared.line.Line.{Line}
 use Rattle.lisp_model.specs.declared.world_fault.WorldFault.{WorldFault}
 use Rattle.lisp_world.proofs.Running.{possible_of, event_there, runs_none, runs_all, runs_next, stops_here, why_refused, at_error, at_value}
@@ -8,7 +8,7 @@ use Rattle.lisp_refinement.proofs.Headlines.{networks_promise}
 use Rattle.lisp_world.proofs.world.World.run.Goals as goal
 
 pub loop-i-init : goal.loop-i-init
-loop-i-init g c = (runs_none _ _ c.args.self.now c.args.lines.now.items (map happening c.args.events.now), λ calm. calm)
+loop-i-init g c = (runs_none _ _ c.args.self.now c.args.lines.now.items (map event_value c.args.events.now), λ calm. calm)
 
 pub returns-then-is_err-clause-runs : goal.returns-then-is_err-clause-runs
 returns-then-is_err-clause-runs g c =
@@ -43,13 +43,13 @@ returns-in-Err-clause-calm g c calm = c.step.ensures.calm.calm (c.loop-i.invaria
 pub loop-i-preserved : goal.loop-i-preserved
 loop-i-preserved g c =
     let there = event_there c.args.events.now c.loop-i.i c.index-events-i.result c.loop-i-test.true c.index-events-i.is in (
-      runs_next _ _ _ _ (map happening c.args.events.now) _ _ _ _ _ c.make_room.ensures.items there c.loop-i.invariant.0 _ _ _ c.add.ensures (record { possible = possible_of _ _ c.in-Ok.ensures.fault; stands = c.in-Ok.ensures.stands; calm = c.in-Ok.ensures.calm; tells = c.in-Ok.ensures.tells }),
+      runs_next _ _ _ _ (map event_value c.args.events.now) _ _ _ _ _ c.make_room.ensures.items there c.loop-i.invariant.0 _ _ _ c.add.ensures (record { possible = possible_of _ _ c.in-Ok.ensures.fault; stands = c.in-Ok.ensures.stands; calm = c.in-Ok.ensures.calm; tells = c.in-Ok.ensures.tells }),
       λ calm. c.step.ensures.calm.calm (c.loop-i.invariant.1 calm),
     )
 
 pub returns-clause-runs : goal.returns-clause-runs
 returns-clause-runs g c =
-    runs_all _ _ _ _ _ _ _ c.loop-i.i (omega (arith, length-map c.args.events.now happening, c.loop-i-test.false)) c.loop-i.invariant.0
+    runs_all _ _ _ _ _ _ _ c.loop-i.i (omega (arith, length-map c.args.events.now event_value, c.loop-i-test.false)) c.loop-i.invariant.0
 
 pub returns-clause-calm : goal.returns-clause-calm
 returns-clause-calm g c = c.loop-i.invariant.1

@@ -1,0 +1,291 @@
+-- What is asked of a node of a network that stands for a trace.
+use Rattle.std.proofs.Common.{Bor, ◌≡◌, ℕ, suc, ◌+◌, ◌-◌, ◌<◌, ◌≤◌, nat_lt, nat_le, Bool, true, false, List, [], ◌++◌, length, take, get_or, Option, Some, None, refl, sym, ap, subst, ◌∙◌, arith}
+use Rattle.std.specs.Prelude.{is_some, slice_get, slice_index_or, position, if◌then◌else◌}
+use Rattle.std.specs.List.{find, flat_map, position_or_len}
+use Rattle.std.specs.Option.{option_map, option_and_then, unwrap_or}
+use Rattle.std.proofs.lemmas.Bool.{ltb-true, ltb-false, lt-ltb, le-ltb}
+use Rattle.std.proofs.Math.Seq.{take-suc}
+use Rattle.std.proofs.lemmas.List.{flat_map_more}
+use Rattle.std.proofs.lemmas.List.Folds.{find_at}
+use Rattle.std.proofs.lemmas.Option.{slice_get_within, slice_get_past}
+use Rattle.lisp_records.specs.declared.address.Addr.{Addr}
+use Rattle.lisp_records.specs.declared.router.RouterId.{RouterId}
+use Rattle.lisp_records.specs.Row.{RowValue}
+use Rattle.lisp_policy.specs.Configuration.{ConfigValue, RouterEntryValue}
+use Rattle.lisp_lookup.specs.declared.answer.Answer.{Answer}
+use Rattle.lisp_lookup.specs.Answer.{Answers}
+use Rattle.lisp_lookup.specs.Table.{OneEach, IsHeld}
+use Rattle.lisp_etr.specs.Etr.{EtrState}
+use Rattle.lisp_server.specs.Server.{ServerState}
+use Rattle.lisp_server.specs.Notices.{OneForEach, IsDueRouter}
+use Rattle.lisp_model.specs.Trace.{Step, Opening, router_at, clock, is_up}
+use Rattle.lisp_model.specs.Counted.{acked}
+use Rattle.lisp_model.specs.Timers.{due}
+use Rattle.lisp_refinement.specs.World.{WorldState, ServerNodeState, RouterNodeState, RouterCoreState, Up, Down}
+use Rattle.lisp_refinement.specs.Nodes.{server_at, up_in, etr_at}
+use Rattle.lisp_refinement.specs.Stands.{StandsForCore, Stands}
+use Rattle.lisp_refinement.specs.Asked.{ServerTells, RouterTells}
+use Rattle.lisp_refinement.proofs.Gets.{none_is_some, same_some, get_within}
+use Rattle.lisp_refinement.proofs.Asking.{servers_tell, routers_tell}
+use Rattle.lisp_lines.specs.Query.{hold_text, ack_text, ask_text, due_text, due_server, due_router}
+use Rattle.lisp_player.specs.Asked.{Where, Holds, Asks, Acknowledges, IsDue, IsDueAtRouter, OfTraces, CountedFrom, router_in, due_in, is_router, of_router, down_text, fault_text, missing_text}
+use Rattle.lisp_model.specs.declared.world_fault.WorldFault.{WorldFault}
+use Rattle.lisp_model.specs.declared.world_fault.WorldFault.TheVariants.{NoNode, WrongKind}
+
+-- of two, the one that a test picks
+where_true : (test : Bool) (Yes No : Type 0) → test ≡ true → Yes → Where test Yes No
+where_true test Yes No is holds = subst (λ (b : Bool). Where b Yes No) (sym is) holds
+
+where_false : (test : Bool) (Yes No : Type 0) → test ≡ false → No → Where test Yes No
+where_false test Yes No is holds = subst (λ (b : Bool). Where b Yes No) (sym is) holds
+
+-- the node of a Map-Server that runs
+node_of : (found : Option ServerNodeState) (core : ServerState) → Some core ≡ option_map (λ (n : ServerNodeState). n.core) found → (n : ServerNodeState) × (found ≡ Some n) × (n.core ≡ core)
+node_of (Some n) core is = (n, refl, sym (same_some core n.core is))
+node_of None core is = absurd (none_is_some (sym is))
+
+-- the node of a router that is up
+router_of : (found : Option RouterNodeState) (etr : EtrState) → Some etr ≡ option_and_then (λ (n : RouterNodeState). up_in n.core) found → (n : RouterNodeState) × (found ≡ Some n) × (n.core ≡ Up etr)
+router_of (Some n) etr is = (n, refl, by n.core is)
+  where
+    by : (core : RouterCoreState) → Some etr ≡ up_in core → core ≡ Up etr
+    by (Up e) same = ap Up (sym (same_some etr e same))
+    by (Down config database) same = absurd (none_is_some (sym same))
+router_of None etr is = absurd (none_is_some (sym is))
+
+-- no is not yes
+false_is_true : false ≡ true → ⊥
+false_is_true e = absurd cc
+
+module _ (w : WorldState) (o : Opening) (T : List Step) (stand : Stands w o T) where
+  -- a Map-Server tells what the trace says
+  server_told : (A : Type 0) (server : ℕ) (core : ServerState) → Some core ≡ server_at w server → (nat_lt server (length o.config.servers) ≡ true) × ServerTells A o T server core w.clock
+  server_told A server core at =
+      let node = node_of (slice_get w.servers server) core at in
+      let low = slice_get_within w.servers server node.0 node.1 in
+      let count = stand.steps.servers in
+      (lt-ltb server (length o.config.servers) (omega (arith, low, count)), subst (λ (core : ServerState). ServerTells A o T server core w.clock) node.2 (servers_tell A w o T stand server node.0 node.1))
+
+  -- no Map-Server has a number
+  server_missing : (server : ℕ) → None ≡ server_at w server → nat_lt server (length o.config.servers) ≡ false
+  server_missing server at = by (nat_lt server (length o.config.servers)) refl
+    where
+      by : (b : Bool) → nat_lt server (length o.config.servers) ≡ b → b ≡ false
+      by false past = refl
+      by true below =
+          let count = stand.steps.servers in
+          let its = get_within w.servers server (omega (arith, count, ltb-true server (length o.config.servers) below)) in
+          absurd (none_is_some (at ∙ ap (option_map (λ (n : ServerNodeState). n.core)) its.1))
+
+  -- a router that is up tells what the trace says
+  router_told : (node : ℕ) (etr : EtrState) → Some etr ≡ etr_at w node → (is_up T node ≡ true) × RouterTells o T node etr w.clock
+  router_told node etr running = by (nat_lt node (length w.servers)) refl running
+    where
+      at_place : (k : ℕ) → length w.servers ≤ node → k ≡ node - length w.servers
+          → Some etr ≡ option_and_then (λ (n : RouterNodeState). up_in n.core) (slice_get w.routers k) → (is_up T node ≡ true) × RouterTells o T node etr w.clock
+      at_place k past is_place is =
+          let its = router_of (slice_get w.routers k) etr is in
+          let count = stand.steps.servers in
+          let same : length o.config.servers + k ≡ node = omega (arith, count, past, is_place) in
+          let standing = subst (λ (core : RouterCoreState). StandsForCore o T (length o.config.servers + k) core) its.2 (stand.routers k its.0 its.1).core in
+          subst (λ (r : ℕ). (is_up T r ≡ true) × RouterTells o T r etr w.clock) same (standing.up, routers_tell w o T stand k its.0 etr its.1 its.2)
+
+      by : (b : Bool) → nat_lt node (length w.servers) ≡ b
+          → Some etr ≡ option_and_then (λ (n : RouterNodeState). up_in n.core) (if b then None else slice_get w.routers (node - length w.servers)) → (is_up T node ≡ true) × RouterTells o T node etr w.clock
+      by true below is = absurd (none_is_some (sym is))
+      by false past is = at_place (node - length w.servers) (ltb-false node (length w.servers) past) refl is
+
+  -- a router that doesn't run is down
+  router_down : (node : ℕ) → is_router o.config node ≡ true → None ≡ etr_at w node → is_up T node ≡ false
+  router_down node is_there none = by (nat_lt node (length o.config.servers)) refl is_there
+    where
+      count : length w.servers ≡ length o.config.servers
+      count = stand.steps.servers
+
+      of_core : (k : ℕ) (core : RouterCoreState) → StandsForCore o T (length o.config.servers + k) core → None ≡ up_in core → is_up T (length o.config.servers + k) ≡ false
+      of_core k (Up etr) standing at = absurd (none_is_some at)
+      of_core k (Down config database) standing at = standing.0
+
+      at_place : (k : ℕ) → length o.config.servers + k ≡ node → k < length w.routers
+          → None ≡ option_and_then (λ (n : RouterNodeState). up_in n.core) (slice_get w.routers k) → is_up T node ≡ false
+      at_place k same within at =
+          let its = get_within w.routers k within in
+          let core : None ≡ up_in its.0.core = at ∙ ap (option_and_then (λ (n : RouterNodeState). up_in n.core)) its.1 in
+          subst (λ (r : ℕ). is_up T r ≡ false) same (of_core k its.0.core (stand.routers k its.0 its.1).core core)
+
+      by : (b : Bool) → nat_lt node (length o.config.servers) ≡ b → (if b then false else nat_lt node (length o.config.servers + length o.config.routers)) ≡ true → is_up T node ≡ false
+      by true below there' = absurd (false_is_true there')
+      by false past there' =
+          let low = ltb-false node (length o.config.servers) past in
+          let high = ltb-true node (length o.config.servers + length o.config.routers) there' in
+          let routers = stand.steps.routers in
+          let no_server : nat_lt node (length w.servers) ≡ false = le-ltb node (length w.servers) (omega (arith, count, low)) in
+          let at = none ∙ ap (λ (b : Bool). option_and_then (λ (n : RouterNodeState). up_in n.core) (if b then None else slice_get w.routers (node - length w.servers))) no_server in
+          at_place (node - length w.servers) (omega (arith, count, low)) (omega (arith, count, low, high, routers)) at
+
+-- what is said of a configuration, for each trace over it
+of_config : (w : WorldState) (c : ConfigValue) (Said : ConfigValue → Type 0) (P : Opening → List Step → Type 0) → Said c → ((o : Opening) (T : List Step) → Stands w o T → Said o.config → P o T) → OfTraces w c P
+of_config w c Said P said given = λ o T stand config. given o T stand (subst Said (sym config) said)
+
+-- the router of a configuration
+router_found : (c : ConfigValue) (node : ℕ) (entry : RouterEntryValue) → Some entry ≡ router_in c node → (is_router c node ≡ true) × (entry ≡ router_at c node)
+router_found c node entry at = by (is_router c node) refl at
+  where
+    by : (b : Bool) → is_router c node ≡ b → Some entry ≡ (if b then Some (router_at c node) else None) → (is_router c node ≡ true) × (entry ≡ router_at c node)
+    by true is same = (is, same_some entry (router_at c node) same)
+    by false is same = absurd (none_is_some (sym same))
+
+router_missing : (c : ConfigValue) (node : ℕ) → None ≡ router_in c node → is_router c node ≡ false
+router_missing c node at = by (is_router c node) at
+  where
+    by : (b : Bool) → None ≡ (if b then Some (router_at c node) else None) → b ≡ false
+    by true same = absurd (none_is_some same)
+    by false same = refl
+
+-- the router of a configuration, read behind its Map-Servers; there is none before them
+module _ (c : ConfigValue) (node : ℕ) where
+  pub entry_read : (place : ℕ) (r : Option (Bor RouterEntryValue)) → length c.servers ≤ node → place ≡ node - length c.servers → is_some r ≡ nat_lt place (length c.routers)
+      → ((d : RouterEntryValue) → unwrap_or (option_map (λ x. x.now) r) d ≡ slice_index_or c.routers place d) → option_map (λ x. x.now) r ≡ router_in c node
+  entry_read place (Some x) behind at there gives =
+      let low = ltb-true place (length c.routers) (sym there) in
+      let second = le-ltb node (length c.servers) behind in
+      let below = lt-ltb node (length c.servers + length c.routers) (omega (arith, low, at, behind)) in
+      let is : x.now ≡ router_at c node = at_place _ in
+      ap (λ (r : RouterEntryValue). Some r) is ∙ sym (λ i. if (if second i then false else below i) then Some (router_at c node) else None)
+    where
+      at_place : (d : RouterEntryValue) → x.now ≡ slice_index_or c.routers (node - length c.servers) d
+      at_place d = gives d ∙ ap (λ (k : ℕ). slice_index_or c.routers k d) at
+  entry_read place None behind at there gives =
+      let high = ltb-false place (length c.routers) (sym there) in
+      let second = le-ltb node (length c.servers) behind in
+      let past = le-ltb node (length c.servers + length c.routers) (omega (arith, high, at, behind)) in
+      sym (λ i. if (if second i then false else past i) then Some (router_at c node) else None)
+
+  pub entry_before : node < length c.servers → None ≡ router_in c node
+  entry_before before =
+      sym (ap (λ (b : Bool). if (if b then false else nat_lt node (length c.servers + length c.routers)) then Some (router_at c node) else None) (lt-ltb node (length c.servers) before))
+
+-- a node that is missing: of the other kind, or there is none
+pub missing_wrong : (c : ConfigValue) (node : ℕ) (fault : WorldFault) → fault ≡ WrongKind → node < length c.servers + length c.routers → fault_text fault ≡ missing_text c node
+missing_wrong c node fault is below = ap fault_text is ∙ sym (ap (λ (b : Bool). if b then fault_text WrongKind else fault_text NoNode) (lt-ltb node (length c.servers + length c.routers) below))
+
+pub missing_none : (c : ConfigValue) (node : ℕ) (fault : WorldFault) → fault ≡ NoNode → length c.servers + length c.routers ≤ node → fault_text fault ≡ missing_text c node
+missing_none c node fault is past = ap fault_text is ∙ sym (ap (λ (b : Bool). if b then fault_text WrongKind else fault_text NoNode) (le-ltb node (length c.servers + length c.routers) past))
+
+-- what is found first stands at the first place
+found_first : {X : Type 0} (p : X → Bool) (xs : List X) → find p xs ≡ option_and_then (slice_get xs) (position p xs)
+found_first p xs = find_at p xs ∙ by (nat_lt (position_or_len p xs) (length xs)) refl
+  where
+    by : (b : Bool) → nat_lt (position_or_len p xs) (length xs) ≡ b → slice_get xs (position_or_len p xs) ≡ option_and_then (slice_get xs) (if b then Some (position_or_len p xs) else None)
+    by true below = refl
+    by false past = slice_get_past xs (position_or_len p xs) (ltb-false (position_or_len p xs) (length xs) past)
+
+-- which rows a Map-Server holds
+pub hold_told : (w : WorldState) (c : ConfigValue) (server : ℕ) (core : ServerState) (now : ℕ) (told listed : List RowValue) (text : List ℕ)
+    → Some core ≡ server_at w server → now ≡ w.clock → told ≡ listed → IsHeld core.rows now listed → text ≡ hold_text c server now told → OfTraces w c (λ o T. Holds o T server text)
+hold_told w c server core now told listed text at moment same held is =
+    of_config w c (λ (c : ConfigValue). text ≡ hold_text c server now told) (λ o T. Holds o T server text) is (λ o T stand said.
+    let tells = server_told w o T stand (Unit {0}) server core at in
+    let all = tells.1.held listed (subst (λ (n : ℕ). IsHeld core.rows n listed) moment held) in
+    where_true _ _ _ tells.0 (said ∙ ap (λ (n : ℕ). hold_text o.config server n told) (moment ∙ stand.bag.moment) ∙ ap (hold_text o.config server (clock T)) (same ∙ all)))
+
+pub hold_missing : (w : WorldState) (c : ConfigValue) (server : ℕ) (text : List ℕ) → None ≡ server_at w server → text ≡ missing_text c server → OfTraces w c (λ o T. Holds o T server text)
+hold_missing w c server text at is =
+    of_config w c (λ (c : ConfigValue). text ≡ missing_text c server) (λ o T. Holds o T server text) is (λ o T stand said. where_false _ _ _ (server_missing w o T stand server at) said)
+
+-- who answers for an address
+pub ask_told : (A : Type 0) (w : WorldState) (c : ConfigValue) (server : ℕ) (core : ServerState) (addr : Addr) (now : ℕ) (answer : Answer A) (text : List ℕ)
+    → Some core ≡ server_at w server → now ≡ w.clock → OneEach core.rows → Answers core.rows core.sites addr now answer → text ≡ ask_text c server addr answer → OfTraces w c (λ o T. Asks A o T server addr text)
+ask_told A w c server core addr now answer text at moment one answers is =
+    of_config w c (λ (c : ConfigValue). text ≡ ask_text c server addr answer) (λ o T. Asks A o T server addr text) is (λ o T stand said.
+    let tells = server_told w o T stand A server core at in
+    where_true _ _ _ tells.0 (answer, tells.1.answer addr answer one (subst (λ (n : ℕ). Answers core.rows core.sites addr n answer) moment answers), said))
+
+pub ask_missing : (A : Type 0) (w : WorldState) (c : ConfigValue) (server : ℕ) (addr : Addr) (text : List ℕ) → None ≡ server_at w server → text ≡ missing_text c server → OfTraces w c (λ o T. Asks A o T server addr text)
+ask_missing A w c server addr text at is =
+    of_config w c (λ (c : ConfigValue). text ≡ missing_text c server) (λ o T. Asks A o T server addr text) is (λ o T stand said. where_false _ _ _ (server_missing w o T stand server at) said)
+
+-- to which router a notice is due
+pub due_told : (w : WorldState) (c : ConfigValue) (node : ℕ) (core : ServerState) (now : ℕ) (router : Option RouterId) (text : List ℕ)
+    → Some core ≡ server_at w node → now ≡ w.clock → OneForEach core.notices → IsDueRouter core.notices now router → text ≡ due_text c node (due_router c router) → OfTraces w c (λ o T. IsDue o T node text)
+due_told w c node core now router text at moment one is_due is =
+    of_config w c (λ (c : ConfigValue). text ≡ due_text c node (due_router c router)) (λ o T. IsDue o T node text) is (λ o T stand said.
+    let tells = server_told w o T stand (Unit {0}) node core at in
+    where_true _ _ _ tells.0 (router, tells.1.due_notices router one (subst (λ (n : ℕ). IsDueRouter core.notices n router) moment is_due), said))
+
+pub due_otherwise : (w : WorldState) (c : ConfigValue) (node : ℕ) (text : List ℕ) → None ≡ server_at w node → OfTraces w c (λ o T. IsDueAtRouter o T node text) → OfTraces w c (λ o T. IsDue o T node text)
+due_otherwise w c node text at told = λ o T stand config. where_false _ _ _ (server_missing w o T stand node at) (told o T stand config)
+
+-- a router that is up, or down, or none
+module _ (w : WorldState) (c : ConfigValue) (node : ℕ) (text : List ℕ) (Told : Opening → List Step → List ℕ) where
+  -- of a router what it tells, else that there is none
+  abbrev IsOfRouter : Opening → List Step → Type 0
+  IsOfRouter o T = text ≡ (if is_router o.config node then of_router o T node (Told o T) else missing_text o.config node)
+
+  up_told : (entry : RouterEntryValue) (etr : EtrState) (Said : ConfigValue → Type 0) → Some entry ≡ router_in c node → Some etr ≡ etr_at w node → Said c
+      → ((o : Opening) (T : List Step) → Stands w o T → RouterTells o T node etr w.clock → entry ≡ router_at o.config node → Said o.config → text ≡ Told o T) → OfTraces w c IsOfRouter
+  up_told entry etr Said found at said given =
+      of_config w c (λ (c : ConfigValue). (Some entry ≡ router_in c node) × Said c) IsOfRouter (found, said) (λ o T stand both.
+      let its = router_found o.config node entry both.0 in
+      let tells = router_told w o T stand node etr at in
+      given o T stand tells.1 its.1 both.1
+      ∙ sym (ap (λ (b : Bool). if b then of_router o T node (Told o T) else missing_text o.config node) its.0 ∙ ap (λ (b : Bool). if b then Told o T else down_text o.config node) tells.0))
+
+  down_told : (entry : RouterEntryValue) → Some entry ≡ router_in c node → None ≡ etr_at w node → text ≡ down_text c node → OfTraces w c IsOfRouter
+  down_told entry found at is =
+      of_config w c (λ (c : ConfigValue). (Some entry ≡ router_in c node) × (text ≡ down_text c node)) IsOfRouter (found, is) (λ o T stand both.
+      let its = router_found o.config node entry both.0 in
+      both.1 ∙ sym (ap (λ (b : Bool). if b then of_router o T node (Told o T) else missing_text o.config node) its.0 ∙ ap (λ (b : Bool). if b then Told o T else down_text o.config node) (router_down w o T stand node its.0 at)))
+
+  none_told : None ≡ router_in c node → text ≡ missing_text c node → OfTraces w c IsOfRouter
+  none_told found is =
+      of_config w c (λ (c : ConfigValue). (None ≡ router_in c node) × (text ≡ missing_text c node)) IsOfRouter (found, is) (λ o T stand both.
+      both.1 ∙ sym (ap (λ (b : Bool). if b then of_router o T node (Told o T) else missing_text o.config node) (router_missing o.config node both.0)))
+
+-- what a router counted from each of its Map-Servers
+abbrev counts : ℕ → Opening → List Step → List ℕ
+counts router o T = flat_map (λ server. ack_text o.config router server (acked T router server)) (router_at o.config router).servers
+
+pub acks_told : (w : WorldState) (c : ConfigValue) (router : ℕ) (entry : RouterEntryValue) (etr : EtrState) (listed : List ℕ) (text : List ℕ)
+    → Some entry ≡ router_in c router → Some etr ≡ etr_at w router → listed ≡ entry.servers
+    → ((counted : ℕ → Option (ℕ × ℕ)) → CountedFrom etr listed counted → text ≡ flat_map (λ server. ack_text c router server (counted server)) listed)
+    → OfTraces w c (λ o T. Acknowledges o T router text)
+acks_told w c router entry etr listed text found at all lines =
+    up_told w c router text (counts router) entry etr (λ (c : ConfigValue). (counted : ℕ → Option (ℕ × ℕ)) → CountedFrom etr listed counted → text ≡ flat_map (λ server. ack_text c router server (counted server)) listed) found at lines (λ o T stand tells same said.
+    let list = all ∙ ap (λ (r : RouterEntryValue). r.servers) same in
+    said (acked T router) (subst (λ (servers : List ℕ). CountedFrom etr servers (acked T router)) (sym list) tells.acked)
+    ∙ ap (flat_map (λ server. ack_text o.config router server (acked T router server))) list)
+
+pub acks_down : (w : WorldState) (c : ConfigValue) (router : ℕ) (entry : RouterEntryValue) (text : List ℕ) → Some entry ≡ router_in c router → None ≡ etr_at w router → text ≡ down_text c router → OfTraces w c (λ o T. Acknowledges o T router text)
+acks_down w c router entry text found at is = down_told w c router text (counts router) entry found at is
+
+pub acks_missing : (w : WorldState) (c : ConfigValue) (router : ℕ) (text : List ℕ) → None ≡ router_in c router → text ≡ missing_text c router → OfTraces w c (λ o T. Acknowledges o T router text)
+acks_missing w c router text found is = none_told w c router text (counts router) found is
+
+-- one line more
+pub counted_more : (f : ℕ → List ℕ) (servers : List ℕ) (place : ℕ) (before after : List ℕ) → place < length servers → before ≡ flat_map f (take place servers)
+    → after ≡ before ++ f (get_or servers place 0) → after ≡ flat_map f (take (place + 1) servers)
+counted_more f servers place before after within so_far grown =
+    let next : suc place ≡ place + 1 = omega arith in
+    grown ∙ ap (λ (t : List ℕ). t ++ f (get_or servers place 0)) so_far ∙ flat_map_more f [] (take place servers) (get_or servers place 0)
+    ∙ ap (flat_map f) (sym (take-suc servers place 0 within)) ∙ ap (λ (n : ℕ). flat_map f (take n servers)) next
+
+-- which Map-Server is due to a router
+abbrev dues : ℕ → Opening → List Step → List ℕ
+dues node o T = due_text o.config node (due_server o.config (find (λ server. nat_le (due T node server) (clock T)) (router_at o.config node).servers))
+
+pub due_up : (w : WorldState) (c : ConfigValue) (node : ℕ) (entry : RouterEntryValue) (etr : EtrState) (now : ℕ) (server : Option ℕ) (listed : List ℕ) (text : List ℕ)
+    → Some entry ≡ router_in c node → Some etr ≡ etr_at w node → now ≡ w.clock → listed ≡ entry.servers → server ≡ due_in etr listed now → text ≡ due_text c node (due_server c server) → OfTraces w c (λ o T. IsDueAtRouter o T node text)
+due_up w c node entry etr now server listed text found at moment all its is =
+    up_told w c node text (dues node) entry etr (λ (c : ConfigValue). text ≡ due_text c node (due_server c server)) found at is (λ o T stand tells same said.
+    let servers = all ∙ ap (λ (r : RouterEntryValue). r.servers) same in
+    let first : server ≡ find (λ server. nat_le (due T node server) (clock T)) (router_at o.config node).servers =
+    its ∙ ap (λ (n : ℕ). due_in etr listed n) moment ∙ ap (λ (list : List ℕ). due_in etr list w.clock) servers
+    ∙ ap (option_and_then (slice_get (router_at o.config node).servers)) tells.due ∙ sym (found_first (λ server. nat_le (due T node server) (clock T)) (router_at o.config node).servers) in
+    said ∙ ap (λ (s : Option ℕ). due_text o.config node (due_server o.config s)) first)
+
+pub due_down : (w : WorldState) (c : ConfigValue) (node : ℕ) (entry : RouterEntryValue) (text : List ℕ) → Some entry ≡ router_in c node → None ≡ etr_at w node → text ≡ down_text c node → OfTraces w c (λ o T. IsDueAtRouter o T node text)
+due_down w c node entry text found at is = down_told w c node text (dues node) entry found at is
+
+pub due_missing : (w : WorldState) (c : ConfigValue) (node : ℕ) (text : List ℕ) → None ≡ router_in c node → text ≡ missing_text c node → OfTraces w c (λ o T. IsDueAtRouter o T node text)
+due_missing w c node text found is = none_told w c node text (dues node) found is

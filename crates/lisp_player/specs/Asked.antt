@@ -1,0 +1,104 @@
+-- The text of what is asked of a node, by the trace alone.
+use Rattle.std.specs.Prelude.{◌≡◌, ℕ, ◌+◌, nat_lt, nat_le, Bool, true, false, position, slice_get, List, [], ◌∷◌, ◌++◌, length, codes, Option, Some, None, Result, String, string_bytes, IfOk, if◌then◌else◌}
+use Rattle.std.specs.Fmt.{decimal}
+use Rattle.std.specs.List.{find, flat_map}
+use Rattle.std.specs.Option.{option_and_then}
+use Rattle.lisp_records.specs.declared.address.Addr.{Addr}
+use Rattle.lisp_records.specs.declared.router.RouterId.{RouterId}
+use Rattle.lisp_lookup.specs.declared.answer.Answer.{Answer}
+use Rattle.lisp_policy.specs.Configuration.{ConfigValue, RouterEntryValue}
+use Rattle.lisp_model.specs.declared.line.Line.TheVariants as lines
+use Rattle.lisp_model.specs.Trace.{Step, Opening, router_at, clock, is_up}
+use Rattle.lisp_model.specs.Held.{rows}
+use Rattle.lisp_model.specs.Bag.{since_start}
+use Rattle.lisp_model.specs.Counted.{acked}
+use Rattle.lisp_model.specs.Timers.{due}
+use Rattle.lisp_model.specs.Answer.{IsAnswer}
+use Rattle.lisp_etr.specs.Etr.{EtrState}
+use Rattle.lisp_refinement.specs.World.{WorldState}
+use Rattle.lisp_refinement.specs.Stands.{Stands}
+use Rattle.lisp_refinement.specs.Asked.{IsNextNotice}
+use Rattle.lisp_model.specs.declared.world_fault.WorldFault.{WorldFault}
+use Rattle.lisp_model.specs.declared.world_fault.WorldFault.TheVariants.{NoNode, WrongKind}
+use Rattle.lisp_model.specs.Faults.{world_fault_number}
+use Rattle.lisp_lines.specs.declared.datagram_place.DatagramPlace.TheVariants.{Shown}
+use Rattle.lisp_lines.specs.Line.{line_text}
+use Rattle.lisp_lines.specs.Query.{hold_text, ack_text, ask_text, due_text, due_server, due_router}
+
+-- a fault of the network
+abbrev pub fault_text : WorldFault → List ℕ
+fault_text fault = codes "fault " ++ decimal (world_fault_number fault) ++ 10 ∷ []
+
+-- a node that isn't there, or is of the other kind
+abbrev pub missing_text : ConfigValue → ℕ → List ℕ
+missing_text c node = if nat_lt node (length c.servers + length c.routers) then fault_text WrongKind else fault_text NoNode
+
+-- a Map-Server is asked, or a router; which is down, or up
+abbrev pub Where : Bool → Type 0 → Type 0 → Type 0
+Where true Yes No = Yes
+Where false Yes No = No
+
+abbrev pub AsServer : ConfigValue → ℕ → List ℕ → Type 0 → Type 0
+AsServer c node text Told = Where (nat_lt node (length c.servers)) Told (text ≡ missing_text c node)
+
+abbrev pub down_text : ConfigValue → ℕ → List ℕ
+down_text c router = line_text c Shown (lines.Down router)
+
+abbrev pub of_router : Opening → List Step → ℕ → List ℕ → List ℕ
+of_router o T router told = if is_up T router then told else down_text o.config router
+
+-- which rows a Map-Server holds
+abbrev pub Holds : Opening → List Step → ℕ → List ℕ → Type 0
+Holds o T server text = AsServer o.config server text (text ≡ hold_text o.config server (clock T) (rows (since_start o T server) (clock T)))
+
+-- who answers for an address there
+abbrev pub Asks : Type 0 → Opening → List Step → ℕ → Addr → List ℕ → Type 0
+Asks A o T server addr text = AsServer o.config server text ((answer : Answer A) × IsAnswer o T server addr answer × (text ≡ ask_text o.config server addr answer))
+
+-- what a router counted last from each of its Map-Servers
+abbrev pub acks_text : Opening → List Step → ℕ → List ℕ
+acks_text o T router = of_router o T router (flat_map (λ server. ack_text o.config router server (acked T router server)) (router_at o.config router).servers)
+
+abbrev pub is_router : ConfigValue → ℕ → Bool
+is_router c node = if nat_lt node (length c.servers) then false else nat_lt node (length c.servers + length c.routers)
+
+abbrev pub Acknowledges : Opening → List Step → ℕ → List ℕ → Type 0
+Acknowledges o T router text = text ≡ (if is_router o.config router then acks_text o T router else missing_text o.config router)
+
+-- to which router a notice is due; which Map-Server is due to a router
+abbrev pub due_at_router : Opening → List Step → ℕ → List ℕ
+due_at_router o T router = of_router o T router (due_text o.config router (due_server o.config (find (λ server. nat_le (due T router server) (clock T)) (router_at o.config router).servers)))
+
+abbrev pub IsDueAtRouter : Opening → List Step → ℕ → List ℕ → Type 0
+IsDueAtRouter o T node text = text ≡ (if is_router o.config node then due_at_router o T node else missing_text o.config node)
+
+abbrev pub IsDue : Opening → List Step → ℕ → List ℕ → Type 0
+IsDue o T node text =
+    Where (nat_lt node (length o.config.servers))
+    ((router : Option RouterId) × IsNextNotice o T node router × (text ≡ due_text o.config node (due_router o.config router)))
+    (IsDueAtRouter o T node text)
+
+-- it holds of each trace that a network of a configuration stands for
+abbrev pub OfTraces : WorldState → ConfigValue → (Opening → List Step → Type 0) → Type 0
+OfTraces w c P = (o : Opening) (T : List Step) → Stands w o T → o.config ≡ c → P o T
+
+-- a text, where there is one, says this of each such trace
+abbrev pub SaysOfTraces : {E Z : Type 0} → Result (String Z) E → WorldState → ConfigValue → (Opening → List Step → List ℕ → Type 0) → Type 0
+SaysOfTraces result w c P = IfOk result (λ text. OfTraces w c (λ o T. P o T (string_bytes text)))
+
+-- what a router counted last from each of these Map-Servers, by its rounds
+abbrev pub CountedFrom : EtrState → List ℕ → (ℕ → Option (ℕ × ℕ)) → Type 0
+CountedFrom etr servers counted = (place server : ℕ) → slice_get servers place ≡ Some server → option_and_then (λ round. round.acked) (slice_get etr.rounds place) ≡ counted server
+
+-- a text, where there is one, has a line for each of these Map-Servers: what the router counted last from it
+abbrev pub ListsCounts : {E Z : Type 0} → Result (String Z) E → ConfigValue → ℕ → EtrState → List ℕ → Type 0
+ListsCounts result c router etr servers = IfOk result
+    (λ text. (counted : ℕ → Option (ℕ × ℕ)) → CountedFrom etr servers counted → string_bytes text ≡ flat_map (λ server. ack_text c router server (counted server)) servers)
+
+-- the router of a configuration with a number
+abbrev pub router_in : ConfigValue → ℕ → Option RouterEntryValue
+router_in c node = if is_router c node then Some (router_at c node) else None
+
+-- the Map-Server of a list that is due first, by the rounds of its router at a moment
+abbrev pub due_in : EtrState → List ℕ → ℕ → Option ℕ
+due_in etr servers now = option_and_then (slice_get servers) (position (λ round. nat_le round.due now) etr.rounds)

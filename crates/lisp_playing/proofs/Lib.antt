@@ -1,4 +1,0 @@
-mod Queries
-mod Failures
-pub mod Turning
-mod Leading

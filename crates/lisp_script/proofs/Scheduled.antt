@@ -1,0 +1,75 @@
+-- An input is a schedule, or what is wrong with it.
+use Rattle.std.proofs.Common.{◌≡◌, ℕ, Bool, true, false, List, Some, None, Result, Ok, Err, refl, ◌∙◌}
+use Rattle.std.specs.Prelude.{◌≢◌}
+use Rattle.std.specs.Str.{IsUtf8, is_utf8}
+use Rattle.std.proofs.lemmas.Str.{is_utf8-from_IsUtf8, IsUtf8-from_is_utf8}
+use Rattle.toml.specs.Parse.{parse_document}
+use Rattle.lisp_policy.specs.Configuration.{ConfigValue}
+use Rattle.lisp_sites.specs.Table.{config_of, Fails}
+use Rattle.lisp_sites.specs.declared.fault.ConfigFault.{ConfigFault}
+use Rattle.lisp_sites.specs.declared.fault.ConfigFault.TheVariants as config_faults
+use Rattle.lisp_script.specs.Command.{CommandValue}
+use Rattle.lisp_script.specs.Spelling.{script_of, IsReached}
+use Rattle.lisp_script.specs.declared.fault.ScriptFault.{ScriptFault}
+use Rattle.lisp_script.specs.declared.fault.ScriptWhat.{ScriptWhat}
+use Rattle.lisp_script.specs.declared.fault.ScriptWhat.TheVariants as whats
+use Rattle.lisp_script.specs.declared.play_fault.PlayFault.TheVariants as faults
+use Rattle.lisp_script.specs.Parts.{parted}
+use Rattle.lisp_script.specs.Schedule.{script_in, parts_in, schedule_of, HasParts, IsNoConfig, IsNoScript}
+
+module _ (input : List ℕ) where
+  -- it is no text
+  pub no_text : (IsUtf8 input → ⊥) → schedule_of input ≡ Err faults.NotUtf8
+  unfolding schedule_of
+  no_text not = rw (is_no_utf8 (is_utf8 input) refl) refl
+    where
+      is_no_utf8 : (test : Bool) → is_utf8 input ≡ test → is_utf8 input ≡ false
+      is_no_utf8 true is = absurd (not (IsUtf8-from_is_utf8 input is))
+      is_no_utf8 false is = is
+
+  module _ (utf8 : IsUtf8 input) where
+    -- it has no two parts
+    pub no_parts : parted input ≡ None → schedule_of input ≡ Err faults.NoScript
+    unfolding schedule_of
+    no_parts none = rw (is_utf8-from_IsUtf8 input utf8, none) refl
+
+    module _ (configuration script : List ℕ) (parts : parted input ≡ Some (configuration, script)) where
+      in_parts : schedule_of input ≡ parts_in (configuration, script)
+      unfolding schedule_of
+      in_parts = rw (is_utf8-from_IsUtf8 input utf8, parts) refl
+
+      has_parts : HasParts input (configuration, script)
+      has_parts = (is_utf8-from_IsUtf8 input utf8, parts)
+
+      -- the first one is no configuration
+      no_config : (why : ConfigFault) → config_of (parse_document configuration) ≡ Err why → schedule_of input ≡ Err (faults.Config why)
+      unfolding parts_in
+      no_config why is = in_parts ∙ rw is refl
+
+      pub no_configuration : (why : ConfigFault) → Fails why (config_of (parse_document configuration)) → IsNoConfig input why
+      no_configuration config_faults.Toml is = no_config config_faults.Toml is
+      no_configuration (config_faults.Missing name) is = no_config (config_faults.Missing name) is
+      no_configuration (config_faults.BadValue name) is = no_config (config_faults.BadValue name) is
+      no_configuration (config_faults.Repeated name) is = no_config (config_faults.Repeated name) is
+      no_configuration config_faults.OutOfMemory is = ((configuration, script), has_parts)
+
+      module _ (c : ConfigValue) (config : config_of (parse_document configuration) ≡ Ok c) where
+        -- the second one is no script, or one
+        faulty : (why : ScriptFault) → script_of c script ≡ Err why → schedule_of input ≡ Err (faults.Script why)
+        unfolding parts_in script_in
+        faulty why is = in_parts ∙ rw (config, is) refl
+
+        pub a_schedule : (orders : List CommandValue) → script_of c script ≡ Ok orders → schedule_of input ≡ Ok (c, orders)
+        unfolding parts_in script_in
+        a_schedule orders is = in_parts ∙ rw (config, is) refl
+
+        module _ (May : Type 0) (line : ℕ) where
+          pub no_script : (what : ScriptWhat) → (what ≢ whats.Memory → script_of c script ≡ Err (record { line = line; what = what })) → (what ≡ whats.Memory → May) → (what ≡ whats.Memory → IsReached c script line)
+              → IsNoScript May input line what
+          no_script whats.Memory fault may reached = (may refl, record { parts = (configuration, script); parted = has_parts; config = c; configured = config; reached = reached refl })
+          no_script whats.Word fault may reached = faulty _ (fault (λ e. absurd cc))
+          no_script whats.Count fault may reached = faulty _ (fault (λ e. absurd cc))
+          no_script whats.Name fault may reached = faulty _ (fault (λ e. absurd cc))
+          no_script whats.Number fault may reached = faulty _ (fault (λ e. absurd cc))
+          no_script whats.Record fault may reached = faulty _ (fault (λ e. absurd cc))
+          no_script whats.Hex fault may reached = faulty _ (fault (λ e. absurd cc))

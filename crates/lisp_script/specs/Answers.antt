@@ -1,0 +1,50 @@
+-- What the functions of this crate answer: commands, or why words and lines are none.
+use Rattle.std.specs.Prelude.{◌≡◌, ◌≢◌, ℕ, List, map, Result, Ok, Err, Vec}
+use denote.Ref.{Bor}
+use Rattle.lisp_records.specs.Result.{Reads}
+use Rattle.lisp_policy.specs.Configuration.{ConfigValue}
+use Rattle.lisp_script.specs.declared.command.Command.{Command}
+use Rattle.lisp_script.specs.declared.verb.Verb.{Verb}
+use Rattle.lisp_script.specs.declared.verb.Verb.TheVariants as verbs
+use Rattle.lisp_script.specs.declared.fault.ScriptWhat.{ScriptWhat}
+use Rattle.lisp_script.specs.declared.fault.ScriptWhat.TheVariants as whats
+use Rattle.lisp_script.specs.declared.fault.ScriptFault.{ScriptFault}
+use Rattle.lisp_script.specs.Command.{CommandValue, command_value}
+use Rattle.lisp_script.specs.Fault.{Gives}
+use Rattle.lisp_script.specs.Words.{texts}
+use Rattle.lisp_script.specs.Spelling.{spelt, restart_with, with_line, with_words, script_of, IsReached}
+
+-- a command is what a definition gives; memory runs out only where it may
+abbrev pub GivesCommand : {A : Type 0} → Type 0 → Result (Command A) ScriptWhat → Result CommandValue ScriptWhat → Type 0
+GivesCommand may result read = Gives may command_value result read
+
+-- a command that restarts a router with a database of records
+abbrev pub GivesRestart : {A : Type 0} → Type 0 → ConfigValue → List ℕ → List ℕ → List (Bor (List ℕ)) → Result (Command A) ScriptWhat → Type 0
+GivesRestart may c name pick records result = GivesCommand may result (restart_with c name pick (texts records))
+
+-- the command that a verb, which no records follow, and its words spell
+abbrev pub Spells : {A : Type 0} → Type 0 → ConfigValue → Verb → List (List ℕ) → Result (Command A) ScriptWhat → Type 0
+Spells may c verb words result = verb ≢ verbs.Change → verb ≢ verbs.Restart → GivesCommand may result (spelt c verb words)
+
+-- one that takes no memory
+abbrev pub SpellsPlainly : {A : Type 0} → ConfigValue → Verb → List (List ℕ) → Result (Command A) ScriptWhat → Type 0
+SpellsPlainly c verb words result = verb ≢ verbs.Change → verb ≢ verbs.Restart → Reads command_value result (spelt c verb words)
+
+-- the command of a line, or of words, was appended to commands, where there is one
+abbrev pub AddsLine : {A X Z : Type 0} → Type 0 → ConfigValue → List ℕ → Vec (Command A) Z → Vec (Command A) Z → Result X ScriptWhat → Type 0
+AddsLine may c line old new result = Gives may (λ _. map command_value new.items) result (with_line c (map command_value old.items) line)
+
+abbrev pub AddsWords : {A X Z : Type 0} → Type 0 → ConfigValue → List (Bor (List ℕ)) → Vec (Command A) Z → Vec (Command A) Z → Result X ScriptWhat → Type 0
+AddsWords may c words old new result = Gives may (λ _. map command_value new.items) result (with_words c (map command_value old.items) (texts words))
+
+-- the commands of a script
+abbrev pub IsScript : {A : Type 0} → ConfigValue → List ℕ → List (Command A) → Type 0
+IsScript c text commands = script_of c text ≡ Ok (map command_value commands)
+
+-- a fault that isn't out of memory is the first of the script
+abbrev pub IsFirstFault : ConfigValue → List ℕ → ScriptFault → Type 0
+IsFirstFault c text fault = fault.what ≢ whats.Memory → script_of c text ≡ Err fault
+
+-- one that is comes at a line that is reached
+abbrev pub RunsOutWithinReach : ConfigValue → List ℕ → ScriptFault → Type 0
+RunsOutWithinReach c text fault = fault.what ≡ whats.Memory → IsReached c text fault.line

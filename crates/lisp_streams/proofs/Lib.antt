@@ -1,3 +1,0 @@
-mod InputLemmas
-mod PartsLemmas
-mod Scheduled

@@ -1,5 +1,0 @@
-use Rattle.lisp_streams.proofs.PartsLemmas.{before_rest}
-use Rattle.lisp_streams.proofs.parts.before.Goals as goal
-
-pub split_at-requires : goal.split_at-requires
-split_at-requires c = before_rest c.args.text.now c.args.rest.now c.requires c.utf8.rest

@@ -1,5 +1,0 @@
-pub mod Fault
-pub mod Input
-pub mod Parts
-pub mod Schedule
-pub mod RunFault

@@ -1,0 +1,26 @@
+//! Nodes on UDP sockets and files: a Map-Server or a site router (`run_server`, `run_router`), and a whole network in one
+//! process that a script drives (`run_loop`). Each node has a socket at its address, UDP port 4342 (RFC 9301 section 5),
+//! and keeps its nonces in a folder.
+#![tactic(auto)]
+
+// What each node has.
+mod endpoint;
+mod entry;
+mod folder;
+mod output;
+
+// One node, which takes turns.
+mod clock;
+mod node;
+mod router;
+mod server;
+mod station;
+mod turns;
+
+// A whole network.
+mod datagrams;
+mod network;
+
+pub use network::run_loop;
+pub use router::{keep_router_running, run_router};
+pub use server::{keep_server_running, run_server};

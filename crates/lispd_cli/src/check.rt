@@ -1,0 +1,132 @@
+//! What was understood of a configuration, a line for each site and each node.
+
+use lisp_memory::FallibleString;
+use lisp_policy::{Site, SitePrefix};
+use lisp_records::{Addr, MapRecord};
+use lisp_script::{InputFault, PlayFault, read_config};
+use lisp_sites::{Config, Name, RouterEntry};
+use lisp_texts::{addr_to_text, prefix_to_text, record_to_text};
+use std::alloc::{AllocError, Global};
+use std::fmt::Display;
+use std::fs::Files;
+use std::io::Write;
+
+/// Reads the configuration of a file, and prints a line for each site, Map-Server and router of it. At a fault of the
+/// configuration nothing is printed.
+pub fn check_config<R: Files + AllocGlobal, W: Write>(
+    rt: &R,
+    path: &str,
+    writer: &mut W,
+) -> Result<(), InputFault> {
+    let config = read_config(rt, path)?;
+    print_config(rt.alloc(), &config, writer)
+}
+
+fn print_config<W: Write>(
+    alloc: Global,
+    config: &Config,
+    writer: &mut W,
+) -> Result<(), InputFault> {
+    for site in config.sites().as_slice() {
+        print(site_line(alloc, site), writer)?;
+    }
+    for server in config.servers() {
+        let line = node_line(alloc, "server", &server.name, &server.address);
+        print(line, writer)?;
+    }
+    for router in config.routers() {
+        print(router_line(alloc, config, router), writer)?;
+    }
+    Ok(())
+}
+
+// Prints a line, unless memory ran out for it.
+fn print<W: Write>(line: Result<String, AllocError>, writer: &mut W) -> Result<(), InputFault> {
+    let line = line?;
+    match writeln!(writer, "{line}") {
+        Ok(()) => Ok(()),
+        Err(_) => Err(InputFault::Input(PlayFault::Write)),
+    }
+}
+
+fn site_line(alloc: Global, site: &Site) -> Result<String, AllocError> {
+    let id = site.id();
+    let mut line = String::try_format(alloc, format_args!("site {id:016x}"))?;
+    for key in site.keys() {
+        put(&mut line, "key", key.id)?;
+    }
+    put_prefixes(&mut line, alloc, site.prefixes())?;
+    Ok(line)
+}
+
+fn put_prefixes(
+    line: &mut String,
+    alloc: Global,
+    prefixes: &[SitePrefix],
+) -> Result<(), AllocError> {
+    for prefix in prefixes {
+        put(line, "prefix", prefix_to_text(alloc, &prefix.eid)?)?;
+        if prefix.more_specifics {
+            line.try_write(" more-specifics")?;
+        }
+    }
+    Ok(())
+}
+
+fn router_line(alloc: Global, config: &Config, router: &RouterEntry) -> Result<String, AllocError> {
+    let mut line = node_line(alloc, "router", &router.name, &router.address)?;
+    put_identity(&mut line, router)?;
+    put_servers(&mut line, config, router.servers.as_slice())?;
+    put_flags(&mut line, router)?;
+    put_records(&mut line, alloc, router.database.records())?;
+    Ok(line)
+}
+
+// A node's name and address, behind what it is.
+fn node_line(alloc: Global, what: &str, name: &Name, address: &Addr) -> Result<String, AllocError> {
+    let name = name.as_str();
+    let address = addr_to_text(alloc, address)?;
+    String::try_format(alloc, format_args!("{what} {name} {address}"))
+}
+
+// A router's site, xTR-ID and Key ID.
+fn put_identity(line: &mut String, router: &RouterEntry) -> Result<(), AllocError> {
+    let site = router.me.site;
+    let xtr = u128::from_be_bytes(router.me.xtr);
+    let key = router.key_id;
+    line.try_write(format_args!(" site {site:016x} xtr {xtr:032x} key {key}"))
+}
+
+fn put_servers(line: &mut String, config: &Config, places: &[usize]) -> Result<(), AllocError> {
+    for place in places {
+        if let Some(server) = config.servers().get(*place) {
+            put(line, "server", server.name.as_str())?;
+        }
+    }
+    Ok(())
+}
+
+fn put_flags(line: &mut String, router: &RouterEntry) -> Result<(), AllocError> {
+    if router.proxy {
+        line.try_write(" proxy")?;
+    }
+    if router.use_ttl {
+        line.try_write(" use-ttl")?;
+    }
+    if router.nonce_block > 1 {
+        put(line, "nonce-block", router.nonce_block)?;
+    }
+    Ok(())
+}
+
+fn put_records(line: &mut String, alloc: Global, records: &[MapRecord]) -> Result<(), AllocError> {
+    for record in records {
+        put(line, "record", record_to_text(alloc, record)?)?;
+    }
+    Ok(())
+}
+
+// A value, behind what it is.
+fn put<D: Display + Drop>(line: &mut String, what: &str, value: D) -> Result<(), AllocError> {
+    line.try_write(format_args!(" {what} {value}"))
+}

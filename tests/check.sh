@@ -1,0 +1,153 @@
+#!/bin/sh
+# check.sh [PROGRAM]
+# Runs the program (out/lispd, where none is named) over the cases of answers.txt, the schedules, the lines of
+# refused.txt, files that can't be read or written, bytes that were changed (changed.py), beside a plain list of rows
+# (rows.py), with calls that fail (failing.py), over schedules that are drawn (fuzz.py), and on sockets and files
+# (running.py). Prints each run that differs from what is wanted, and ends with 1 where one does.
+case ${1-} in
+    '') program=../out/lispd ;;
+    /*) program=$1 ;;
+    *) program=$PWD/$1 ;;
+esac
+cd "$(dirname "$0")" && mkdir -p ../out || exit 1
+configuration=../examples/configuration.toml
+exchange=../examples/schedules/01-exchange
+runs=0
+failed=0
+
+# differs NAME WANTED: reports that the last run was another than is wanted.
+differs() {
+    echo "$1: status $status, '$(cat ../out/stdout)', '$(cat ../out/stderr)'; wanted $2"
+    failed=1
+}
+
+# plays SCHEDULE: plays a schedule, and shows where its lines differ from those of the file beside it.
+plays() {
+    "$program" play "$1" > ../out/stdout 2> ../out/stderr
+    status=$?
+    runs=$((runs + 1))
+    [ $status = 0 ] && [ ! -s ../out/stderr ] && diff -u "${1%.schedule}.out" ../out/stdout ||
+        differs "$1" "0, '$(cat "${1%.schedule}.out")', ''"
+}
+
+# holds FILE TEXT: whether the file is this line, nothing where TEXT is empty, any text where it is *, and the
+# same as FILE where it is @FILE.
+holds() {
+    case $2 in
+        '') [ ! -s "$1" ] ;;
+        '*') [ -s "$1" ] ;;
+        @*) cmp -s "${2#@}" "$1" ;;
+        *) printf '%s\n' "$2" | cmp -s - "$1" ;;
+    esac
+}
+
+# expect NAME STATUS OUTPUT ERROR WORD...: runs the program with these words, and standard input as it is given.
+expect() {
+    name=$1 wanted_status=$2 wanted_output=$3 wanted_error=$4
+    shift 4
+    "$program" "$@" > ../out/stdout 2> ../out/stderr
+    status=$?
+    runs=$((runs + 1))
+    [ $status = "$wanted_status" ] && holds ../out/stdout "$wanted_output" &&
+        holds ../out/stderr "$wanted_error" ||
+        differs "$name" "$wanted_status, '$wanted_output', '$wanted_error'"
+}
+
+# Runs the case that was read, and forgets it.
+run_case() {
+    [ -n "$title" ] || return 0
+    case $input in
+        @*) from=${input#@} ;;
+        *)
+            from=../out/stdin
+            printf '%b' "$input" > $from
+            ;;
+    esac
+    eval "set -- $words"
+    expect "$title" "$code" "$output" "$error" "$@" < "$from" || failed=1
+    title='' words='' input='' code=0 output='' error=''
+}
+
+title='' words='' input='' code=0 output='' error=''
+while IFS= read -r line || [ -n "$line" ]; do
+    value=${line#*: }
+    case $line in
+        '#'*) ;;
+        '') run_case ;;
+        'case: '*) title=$value ;;
+        'words: '*) words=$words$value ;;
+        'input: '*) input=$input$value ;;
+        'status: '*) code=$value ;;
+        'output: '*) output=$output$value ;;
+        'error: '*) error=$error$value ;;
+        *)
+            echo "answers.txt: '$line' begins with no key"
+            failed=1
+            ;;
+    esac
+done < answers.txt
+run_case
+[ $runs -gt 0 ] || failed=1
+
+for schedule in ../examples/schedules/*.schedule schedules/*/*.schedule; do
+    plays "$schedule"
+done
+
+# Each line of refused.txt, in a schedule of the configuration.
+while IFS='|' read -r part fault text; do
+    case $part in
+        '#'* | '') continue ;;
+        script) cat $configuration && printf -- '---\n%b\n' "$text" ;;
+        configuration) sed "$text" $configuration && echo --- ;;
+        whole) printf '%b' "$text" ;;
+    esac > ../out/schedule
+    expect "refused.txt: $text" 2 '' "lispd: fault $fault" play ../out/schedule
+done < refused.txt
+
+expect 'a schedule on standard input' 0 @$exchange.out '' play - < $exchange.schedule
+expect 'a schedule that is not there' 1 '' 'lispd: fault 93' play no-such.schedule
+expect 'a directory as a schedule' 1 '' 'lispd: fault 87' play .
+head -c 1048577 /dev/zero | tr '\0' '#' > ../out/long
+expect 'a schedule of 1,048,577 bytes' 1 '' 'lispd: fault 89' play ../out/long
+expect 'a directory as input' 1 '' 'lispd: fault 87' < .
+head -c 1048576 /dev/zero | tr '\0' z > ../out/long
+expect 'a line of 1,048,576 bytes' 0 'refused 94' '' < ../out/long
+head -c 1048577 /dev/zero | tr '\0' 0 > ../out/long
+expect 'a line of 1,048,577 bytes' 1 '' 'lispd: fault 89' < ../out/long
+
+# fills WORD...: runs the program with these words and an output that is full.
+fills() {
+    : > ../out/stdout
+    "$program" "$@" < ../examples/map-register.hex > /dev/full 2> ../out/stderr
+    status=$?
+    [ $status = 1 ] && holds ../out/stderr 'lispd: fault 88' ||
+        differs "a full output, words '$*'" "1, '', 'lispd: fault 88'"
+}
+
+fills
+fills play $exchange.schedule
+fills --help
+fills --version
+
+expect 'a configuration that is checked' 0 @checked.txt '' check $configuration
+sed 's/"0000000000000001"/"1"/' $configuration > ../out/configuration.toml
+expect 'a configuration with a fault' 2 \
+    'fault 22: site 1: site.id has a bad value: a Site-ID is a text of 16 hexadecimal digits, and a router'"'"'s is that of a site' \
+    'lispd: fault 22' check ../out/configuration.toml
+sed '0,/^address = /s/^secret = .*/&\n[[site.key]]\nid = 2\nsecret = ""/' $configuration > ../out/configuration.toml
+expect 'a configuration with a fault in the second key' 2 \
+    'fault 22: site 1, key 2: site.key.secret has a bad value: a secret is 1 to 256 bytes in hexadecimal digits' \
+    'lispd: fault 22' check ../out/configuration.toml
+expect 'a configuration that is not there' 1 '' 'lispd: fault 93' check no-such.toml
+expect 'every number explained' 0 @../docs/REFUSALS.md '' explain
+expect 'a number explained' 0 '*' '' explain 57
+expect 'a number of nothing' 2 '' 'lispd: fault 98' explain 69
+expect 'no number' 2 '' 'lispd: fault 98' explain x
+
+./changed.py "$program" || failed=1
+./rows.py "$program" || failed=1
+./failing.py "$program" || failed=1
+./fuzz.py "$program" 1 200 || failed=1
+./running.py "$program" || failed=1
+
+exit $failed
