@@ -29,7 +29,7 @@ pub(crate) trait Node {
     /// Sends what is due at a moment, in ms. Faults: 88, 97.
     fn send_due<W: Write>(
         &mut self,
-        station: &Station,
+        station: &mut Station,
         now: u64,
         writer: &mut W,
     ) -> Result<(), RunFault>
@@ -98,6 +98,6 @@ fn run_at<R: Net + Clock + AllocGlobal, N: Node + Drop, W: Write>(
     requires { IsNode config.now number }
 {
     let mut node = node?;
-    let station = Station::bind(rt, config, number)?;
-    take_turns(rt, &mut node, &station, turns, writer)
+    let mut station = Station::bind(rt, config, number)?;
+    take_turns(rt, &mut node, &mut station, turns, writer)
 }

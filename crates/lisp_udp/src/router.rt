@@ -88,7 +88,7 @@ impl<S: WorldStore> Node for RouterNode<S> {
     // A Map-Register to each Map-Server that is due, at most one to each, until one is refused.
     fn send_due<W: Write>(
         &mut self,
-        station: &Station,
+        station: &mut Station,
         now: u64,
         writer: &mut W,
     ) -> Result<(), RunFault> {
@@ -111,7 +111,7 @@ fn due_server<S: WorldStore>(router: &RouterNode<S>, servers: &[usize], now: u64
 // Sends a Map-Register to the Map-Server with a number; whether it wasn't refused.
 fn register<S: WorldStore, W: Write>(
     router: &mut RouterNode<S>,
-    station: &Station,
+    station: &mut Station,
     server: usize,
     now: u64,
     writer: &mut W,
@@ -130,7 +130,7 @@ fn register<S: WorldStore, W: Write>(
 
 // Prints the line of a Map-Register, and sends it.
 fn print_and_send<W: Write>(
-    station: &Station,
+    station: &mut Station,
     server: usize,
     message: &[u8],
     writer: &mut W,
@@ -143,9 +143,10 @@ fn print_and_send<W: Write>(
         server,
         key: key_id,
         nonce,
-        datagram: 0,
+        datagram: station.sent,
     };
-    match station.config.servers().get(server) {
+    let config = station.config;
+    match config.servers().get(server) {
         Some(entry) => station.print_and_send(&line, &entry.address, message, writer),
         None => station.print(&line, writer),
     }

@@ -71,7 +71,7 @@ impl<S: WorldStore> Node for ServerNode<S> {
     // It drops dead rows, and sends each notice that is due once more, until one is refused.
     fn send_due<W: Write>(
         &mut self,
-        station: &Station,
+        station: &mut Station,
         now: u64,
         writer: &mut W,
     ) -> Result<(), RunFault> {
@@ -89,7 +89,7 @@ impl<S: WorldStore> Node for ServerNode<S> {
 // Sends a router's notice once more; whether it wasn't refused.
 fn send_notice<S: WorldStore, W: Write>(
     server: &mut ServerNode<S>,
-    station: &Station,
+    station: &mut Station,
     router: &RouterId,
     now: u64,
     writer: &mut W,
@@ -101,7 +101,7 @@ fn send_notice<S: WorldStore, W: Write>(
             let line = Line::Resent {
                 server: station.number,
                 router: station.number_of(router),
-                datagram: 0,
+                datagram: station.sent,
             };
             station.print_and_send(&line, &to, message.as_slice(), writer)?;
             Ok(true)

@@ -27,6 +27,8 @@ pub(crate) struct Station<'a> {
     /// The numbers of the Map-Servers that a router registers with; none of a Map-Server.
     pub(crate) servers: &'a [usize],
     pub(crate) endpoint: Endpoint<'a>,
+    /// How many datagrams the node has sent: the number of the next one.
+    pub(crate) sent: usize,
 }
 
 impl<'a> Station<'a> {
@@ -50,6 +52,7 @@ impl<'a> Station<'a> {
             number,
             servers,
             endpoint,
+            sent: 0,
         })
     }
 
@@ -75,19 +78,20 @@ impl<'a> Station<'a> {
 
     /// Prints the line of an event, and then sends its message. A socket that fails is a line, too. Faults: 88, 97.
     pub(crate) fn print_and_send<W: Write>(
-        &self,
+        &mut self,
         line: &Line,
         to: &Addr,
         message: &[u8],
         writer: &mut W,
     ) -> Result<(), RunFault> {
         self.print(line, writer)?;
+        self.sent = self.sent.saturating_add(1);
         self.endpoint.send(to, message, writer)
     }
 
     /// Prints the line of what arrived, and sends the reply to where it came from, where there is one. Faults: 88, 97.
     pub(crate) fn answer<W: Write>(
-        &self,
+        &mut self,
         line: &Line,
         from: &Addr,
         reply: Option<Bytes>,

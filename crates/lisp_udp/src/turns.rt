@@ -16,7 +16,7 @@ use std::time::Clock;
 pub(crate) fn take_turns<R: Clock, N: Node, W: Write>(
     rt: &R,
     node: &mut N,
-    station: &Station,
+    station: &mut Station,
     turns: u64,
     writer: &mut W,
 ) -> Result<(), RunFault> {
@@ -32,7 +32,7 @@ pub(crate) fn take_turns<R: Clock, N: Node, W: Write>(
 fn take_turn<C: Clock, N: Node, W: Write>(
     rt: &C,
     node: &mut N,
-    station: &Station,
+    station: &mut Station,
     clock: &mut Stopwatch,
     buffer: &mut [u8],
     writer: &mut W,
@@ -51,7 +51,7 @@ fn take_turn<C: Clock, N: Node, W: Write>(
 // Answers a datagram.
 fn hear<N: Node, W: Write>(
     node: &mut N,
-    station: &Station,
+    station: &mut Station,
     from: Addr,
     bytes: &[u8],
     now: u64,
@@ -61,7 +61,7 @@ fn hear<N: Node, W: Write>(
         fate: Fate::Done,
         from,
         now,
-        next: 0,
+        next: station.sent,
     };
     let (line, reply) = node.hear(station.number, how, bytes);
     station.answer(&line, &from, reply, writer)
