@@ -1,4 +1,4 @@
--- Over clean traces servers that hold a prefix of a router from entries with no change between hold equal records.
+-- A row that is held is that of a message that was accepted.
 use Rattle.std.proofs.Common.{◌≡◌, ℕ, Bool, true, false, cond, List, [], ◌∷◌, ◌++◌, map, Option, Some, None, refl, sym, ap, inl, inr, ◌∙◌}
 use Rattle.std.specs.Prelude.{◌⊎◌, ◌&&◌, if◌then◌else◌, reverse}
 use Rattle.std.specs.List.{Contains, find}
@@ -78,10 +78,3 @@ held_found since router eid now g e = at (find (is_row_of router eid) (accepted_
         clash : ◌≡◌ {A = Option RowValue} None (Some g) → ⊥
         clash e = absurd cc
     at (Some h) is e = found_in since router eid g (is ∙ ap Some (alive h (is_alive h now) e))
-
--- messages of one router with equal records give equal rows
-pub same_mapping : (router : RouterId) (eid : PrefixValue) (one other : List Acceptance) (g h : RowValue) (x : Found one router eid g) (y : Found other router eid h) → router_of x.acceptance.message ≡ router_of y.acceptance.message → x.acceptance.message.records ≡ y.acceptance.message.records → g.mapping ≡ h.mapping
-same_mapping router eid one other g h x y who records =
-    let both : Some x.mapping ≡ Some y.mapping = sym x.last ∙ (λ i. find (λ r. router_eq (who i) router && prefix_eq r.eid eid) (reverse (records i))) ∙ y.last in
-    let same : x.mapping ≡ y.mapping = cc in
-    ap (λ (z : RowValue). z.mapping) x.is ∙ same ∙ sym (ap (λ (z : RowValue). z.mapping) y.is)

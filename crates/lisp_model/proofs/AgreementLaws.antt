@@ -1,55 +1,30 @@
 -- Over clean traces servers that hold a prefix of a router from entries with no change between hold equal records.
-use Rattle.std.proofs.Common.{◌≡◌, ℕ, ◌+◌, ◌-◌, ◌<◌, ◌≤◌, Bool, true, false, List, [], ◌∷◌, ◌++◌, length, sym, ap, subst, inl, inr, ◌∙◌, arith}
-use Rattle.std.specs.Prelude.{◌≢◌, ◌⊎◌, ◌==◌, if◌then◌else◌, nat_lt, nat_le}
+use Rattle.std.proofs.Common.{◌≡◌, ℕ, ◌+◌, ◌-◌, ◌<◌, ◌≤◌, true, List, [], ◌∷◌, length, Some, sym, ap, subst, inl, inr, ◌∙◌, arith}
+use Rattle.std.specs.Prelude.{◌≢◌, ◌⊎◌, nat_lt, nat_le}
 use Rattle.std.specs.List.{AllPairs, Contains}
 use Rattle.std.proofs.lemmas.Bool.{and_parts, ltb-true, leb-true, cases_lt}
-use Rattle.std.proofs.lemmas.List.Elements.{Contains-append_cases, Contains-append_left, Contains-append_right}
 use Rattle.lisp_records.specs.declared.router.RouterId.{RouterId}
 use Rattle.lisp_records.specs.Address.{PrefixValue}
+use Rattle.lisp_records.specs.Record.{MapRecordValue}
 use Rattle.lisp_records.specs.Row.{RowValue}
 use Rattle.lisp_policy.specs.Configuration.{ConfigValue}
-use Rattle.lisp_admission.specs.Pairs.{router_of}
 use Rattle.lisp_model.specs.declared.event.Event.TheVariants as events
 use Rattle.lisp_model.specs.declared.line.Line.{Line}
 use Rattle.lisp_model.specs.declared.line.Line.TheVariants as lines
 use Rattle.lisp_model.specs.Trace.{EventValue, Step, Opening, ShownStore, is_router, router_at, clock}
-use Rattle.lisp_model.specs.History.{SentRegister, history, message_of}
-use Rattle.lisp_model.specs.Held.{Acceptance}
-use Rattle.lisp_model.specs.Bag.{since_start, since_start_after}
-use Rattle.lisp_model.specs.Accepted.{acceptances, acceptances_after, acceptances_in_step}
+use Rattle.lisp_model.specs.History.{SentRegister, record_for, record_in, history}
+use Rattle.lisp_model.specs.Held.{held_row}
+use Rattle.lisp_model.specs.Bag.{since_start}
 use Rattle.lisp_model.specs.Change.{NoChange, Keeps}
 use Rattle.lisp_model.specs.Clean.{Clean}
 use Rattle.lisp_model.specs.Legal.{MayCome, LegalTrace, context_of}
 use Rattle.lisp_model.specs.Promises.{HeldAgree, IsRowOf}
 use Rattle.lisp_model.specs.Network.{IsNetwork}
-use Rattle.lisp_model.proofs.Agreement.{Found, held_found, same_mapping}
 use Rattle.lisp_model.proofs.ChangeLemmas.{IsNew, new_or_old, same_database, one_place}
+use Rattle.lisp_model.proofs.HeldLaws.{held_was_sent}
 use Rattle.lisp_model.proofs.ListLemmas.{in_none}
-use Rattle.lisp_model.proofs.OriginLaws.{were_sent}
 use Rattle.lisp_model.proofs.Origins.{ReadsBack}
 use Rattle.lisp_model.proofs.Sound.{unique}
-
--- what was accepted since the start was accepted
-within : (line : Line) (new new_since old : List Acceptance) (k : ℕ) (x : Acceptance) → (Contains new_since x → Contains old x) → Contains (since_start_after line new k new_since) x → Contains (acceptances_after line new k old) x
-within (lines.Accepted server _ _ _ _) new sin old k x before has = at (server == k) has
-  where
-    at : (b : Bool) → Contains (if b then new ++ sin else sin) x → Contains (if b then new ++ old else old) x
-    at true has = both (Contains-append_cases new sin x has)
-      where
-        both : Contains new x ⊎ Contains sin x → Contains (new ++ old) x
-        both (inl one) = Contains-append_left new old x one
-        both (inr later) = Contains-append_right new old x (before later)
-    at false has = before has
-within (lines.Restarted node) new sin old k x before has = at (node == k) has
-  where
-    at : (b : Bool) → Contains (if b then [] else sin) x → Contains old x
-    at true has = absurd (in_none x has)
-    at false has = before has
-within _ new sin old k x before has = before has
-
-pub since_accepted : (o : Opening) (T : List Step) (k : ℕ) (x : Acceptance) → Contains (since_start o T k) x → Contains (acceptances o T k) x
-since_accepted o [] k x has = absurd (in_none x has)
-since_accepted o (s ∷ T) k x has = within s.line (acceptances_in_step o T s) (since_start o T k) (acceptances o T k) k x (since_accepted o T k x) has
 
 -- entries are those of routers
 sent_by_router : (o : Opening) (T : List Step) (actor : ℕ) (after : ShownStore) (e : EventValue) (r s k n g : ℕ) → MayCome (context_of o T (record { event = e; line = lines.Sent r s k n g; actor = actor; shown = after })) e (lines.Sent r s k n g) → is_router o.config r ≡ true
@@ -83,15 +58,14 @@ one_router c distinct i j is_i is_j same =
     at a b x y (inr high) (inr low) = omega (arith, high, low)
 
 module _ (o : Opening) (distinct : IsNetwork o.config) (reads : ReadsBack) (T : List Step) (legal : LegalTrace o T) (clean : Clean o T) where
-  -- the message of a row is that of its entry
-  entry_of_row : (k : ℕ) (router : RouterId) (eid : PrefixValue) (g : RowValue) (f : Found (since_start o T k) router eid g) (d : SentRegister) → Contains (history o T) d → IsRowOf o.config g d → f.acceptance.message ≡ message_of o.config d
-  entry_of_row k router eid g f d has row =
-      let w = were_sent o distinct.addresses reads T legal clean k f.acceptance (since_accepted o T k f.acceptance f.taken) in
-      let me : (router_at o.config d.router).me ≡ (router_at o.config w.entry.router).me = sym row.router ∙ ap (λ (z : RowValue). z.router) f.is ∙ ap router_of w.message in
-      let number : d.router ≡ w.entry.router = one_router o.config distinct.routers d.router w.entry.router (entry_router o T legal d has) (entry_router o T legal w.entry w.sent) me in
-      let nonce : d.nonce ≡ w.entry.nonce = sym row.nonce ∙ ap (λ (z : RowValue). z.nonce) f.is ∙ ap (λ m. m.nonce) w.message in
-      let same : d ≡ w.entry = unique o T legal w.entry d w.sent has number nonce in
-      w.message ∙ ap (message_of o.config) (sym same)
+  -- a row has the record of its entry's database
+  record_of : (k : ℕ) (router : RouterId) (eid : PrefixValue) (g : RowValue) → held_row (since_start o T k) router eid (clock T) ≡ Some g → (d : SentRegister) → Contains (history o T) d → IsRowOf o.config g d → record_in d eid ≡ Some g.mapping
+  record_of k router eid g is_held d has row =
+      let f = held_was_sent o distinct reads T legal clean k router eid g is_held in
+      let me : (router_at o.config d.router).me ≡ (router_at o.config f.0.router).me = sym row.router ∙ f.3.router in
+      let number : d.router ≡ f.0.router = one_router o.config distinct.routers d.router f.0.router (entry_router o T legal d has) (entry_router o T legal f.0 f.1) me in
+      let same : d ≡ f.0 = unique o T legal f.0 d f.1 has number (sym row.key ∙ f.3.key) (sym row.nonce ∙ f.3.nonce) in
+      ap (λ (x : SentRegister). record_in x eid) same ∙ f.4
 
   database_same : (d e : SentRegister) → Contains (history o T) d → Contains (history o T) e → NoChange T d e → d.database ≡ e.database
   database_same d e has_d has_e none = at (cases_lt d.position e.position) (cases_lt e.position d.position)
@@ -104,10 +78,8 @@ module _ (o : Opening) (distinct : IsNetwork o.config) (reads : ReadsBack) (T : 
   -- equal records
   pub held_agree : HeldAgree o T
   held_agree one other router eid g h d e held_g held_h has_d has_e row_g row_h none =
-      let x = held_found (since_start o T one) router eid (clock T) g held_g in
-      let y = held_found (since_start o T other) router eid (clock T) h held_h in
-      let first = entry_of_row one router eid g x d has_d row_g in
-      let second = entry_of_row other router eid h y e has_e row_h in
-      same_mapping router eid (since_start o T one) (since_start o T other) g h x y
-      (ap router_of first ∙ ap (λ (r : ℕ). (router_at o.config r).me) none.router ∙ sym (ap router_of second))
-      (ap (λ m. m.records) first ∙ database_same d e has_d has_e none ∙ sym (ap (λ m. m.records) second))
+      let first = record_of one router eid g held_g d has_d row_g in
+      let second = record_of other router eid h held_h e has_e row_h in
+      let both : Some g.mapping ≡ Some h.mapping = sym first ∙ ap (λ (db : List MapRecordValue). record_for db eid) (database_same d e has_d has_e none) ∙ second in
+      let same : g.mapping ≡ h.mapping = cc in
+      same

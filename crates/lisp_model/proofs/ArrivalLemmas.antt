@@ -60,7 +60,7 @@ IsOfArrival _ = ⊥
 
 module _ (o : Opening) (T : List Step) (reads : ReadsBack) (all : AllFrom o (history o T) (bag o T)) (below : AllBelow (bag o T)) (node : ℕ) where
   delivered : (i : Item) → Contains (bag o T) i → node_at o.config i.to ≡ Some node → (m : MapNotifyValue) → i.message ≡ Notifies m → IsOfItem o (bag o T) node i.from m
-  delivered i has there m is = record { item = i; sent = has; source = refl; target = node_there o.config i.to node there; what = m; says = is; head = record { ack = refl; nonce = refl } }
+  delivered i has there m is = record { item = i; sent = has; source = refl; target = node_there o.config i.to node there; what = m; says = is; head = record { ack = refl; key = refl; nonce = refl } }
 
   echoed : (from : Addr) (bytes : List ℕ) → IsEcho (bag o T) from (address_at o.config node) bytes → (m : MapNotifyValue) → message_at bytes ≡ Ok (Notifies m) → IsOfItem o (bag o T) node from m
   echoed from bytes echo m read = at echo.item.message refl

@@ -10,7 +10,7 @@ use Rattle.lisp_etr.specs.Hearing.{first_notice, is_latest}
 use Rattle.lisp_admission.specs.Checks.{reply_to}
 use Rattle.lisp_model.specs.declared.line.Line.{Line}
 use Rattle.lisp_model.specs.declared.line.Line.TheVariants as lines
-use Rattle.lisp_model.specs.Trace.{EventValue, Step, Opening, ShownStore, addresses, address_at, is_server, is_router, router_at}
+use Rattle.lisp_model.specs.Trace.{EventValue, Step, Opening, ShownStore, addresses, address_at, is_server, is_router}
 use Rattle.lisp_model.specs.History.{sent_registers_in, history}
 use Rattle.lisp_model.specs.Bag.{Item, Arrival, bag}
 use Rattle.lisp_model.specs.Accepted.{acceptances, acceptances_in_step}
@@ -75,21 +75,20 @@ said_same m n e = cc
 
 module _ (o : Opening) (distinct : AllPairs (λ a b. a ≢ b) (addresses o.config)) (reads : ReadsBack) where
   module _ (T : List Step) (legal : LegalTrace o T) (clean : Clean o T) (router server key nonce : ℕ) where
-    -- a reply from the server to the router, with that nonce
-    replied : (i : Item) (n : MapNotifyValue) (reply : IsReply o (acceptances o T) i) → i.message ≡ Notifies n → n.nonce ≡ nonce → i.from ≡ address_at o.config server → i.to ≡ address_at o.config router
-        → is_server o.config server ≡ true → is_router o.config router ≡ true → key ≡ (router_at o.config router).key_id → WasAccepted o T router server key nonce
-    replied i n reply says number source target kind its under =
+    -- a reply from the server to the router, with that key and nonce
+    replied : (i : Item) (n : MapNotifyValue) (reply : IsReply o (acceptances o T) i) → i.message ≡ Notifies n → n.key_id ≡ key → n.nonce ≡ nonce → i.from ≡ address_at o.config server → i.to ≡ address_at o.config router
+        → is_server o.config server ≡ true → is_router o.config router ≡ true → WasAccepted o T router server key nonce
+    replied i n reply says under number source target kind its =
         let whose : reply.server ≡ server = server_of o.config distinct server reply.server (sym (ap (λ (x : Item). x.from) reply.is) ∙ source) kind reply.kind in
         let w = were_sent o distinct reads T legal clean reply.server reply.acceptance reply.taken in
         let e : IsEntry o w.entry = entry_is o T legal w.entry w.sent in
         let same : reply_to reply.acceptance.message ≡ n = said_same _ n (sym (ap (λ (x : Item). x.message) reply.is) ∙ says) in
-        let who : w.entry.router ≡ router = router_of o.config distinct w.entry.router router e.kind its (sym w.from ∙ sym (ap (λ (x : Item). x.to) reply.is) ∙ target) in
         record {
           entry = w.entry;
           sent = w.sent;
-          who = who;
+          who = router_of o.config distinct w.entry.router router e.kind its (sym w.from ∙ sym (ap (λ (x : Item). x.to) reply.is) ∙ target);
           whom = w.whom ∙ whose;
-          under = e.under ∙ ap (λ (r : ℕ). (router_at o.config r).key_id) who ∙ sym under;
+          under = sym (ap (λ (m : MapRegisterValue). m.key_id) w.message) ∙ ap (λ (x : MapNotifyValue). x.key_id) same ∙ under;
           number = sym (ap (λ (m : MapRegisterValue). m.nonce) w.message) ∙ ap (λ (x : MapNotifyValue). x.nonce) same ∙ number;
           acceptance = reply.acceptance;
           taken = subst (λ (k : ℕ). Contains (acceptances o T k) reply.acceptance) whose reply.taken;
@@ -101,9 +100,9 @@ module _ (o : Opening) (distinct : AllPairs (λ a b. a ≢ b) (addresses o.confi
     counted_at s a what its h origin =
         let number : origin.what.nonce ≡ nonce = sym origin.head.nonce ∙ sym what.number in
         let reply = (all_known o distinct reads T legal clean origin.item origin.sent origin.what origin.says).reply (sym origin.head.ack ∙ h.read.plain) (subst (λ (k : ℕ). k < first_notice) (sym number) what.low) in
-        replied origin.item origin.what reply origin.says number
+        replied origin.item origin.what reply origin.says (sym origin.head.key ∙ h.key ∙ sym what.under) number
         (origin.source ∙ sym h.source ∙ ap (address_at o.config) (sym what.whose)) (origin.target ∙ ap (address_at o.config) what.acts)
-        (is_to_server o T legal router server nonce what.latest) its (what.under ∙ ap (λ (k : ℕ). (router_at o.config k).key_id) what.acts)
+        (is_to_server o T legal router server nonce what.latest) its
 
     -- what is counted was accepted
     counted : (node : ℕ) (after : ShownStore) (e : EventValue) → IsHarmless o T e → MayCome (context_of o T (record { event = e; line = lines.Counted router server key nonce; actor = node; shown = after })) e (lines.Counted router server key nonce) → WasAccepted o T router server key nonce

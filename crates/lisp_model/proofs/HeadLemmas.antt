@@ -1,5 +1,5 @@
 -- What is read of the head of a Map-Notify or Map-Notify-Ack that was written.
-use Rattle.std.proofs.Common.{◌≡◌, ℕ, ◌^◌, ◌<◌, Bool, true, false, List, length, Ok, sym, ap, subst, ◌∙◌}
+use Rattle.std.proofs.Common.{◌≡◌, ℕ, ◌^◌, ◌<◌, Bool, true, false, List, length, Ok, refl, sym, ap, subst, ◌∙◌}
 use Rattle.std.specs.Prelude.{Result, drop, slice_index, ◌==◌, ◌||◌}
 use Rattle.std.proofs.lemmas.Nat.{from_be_bytes-to_be_bytes_8}
 use Rattle.lisp_records.specs.Record.{MapRecordValue}
@@ -32,9 +32,14 @@ nonce_again : (n : MapNotifyValue) (auth : List ℕ) → n.nonce < 2 ^ 64 → no
 unfolding written_notify
 nonce_again n auth below = from_be_bytes-to_be_bytes_8 n.nonce below
 
--- its bit and its nonce
+key_again : (n : MapNotifyValue) (auth : List ℕ) → slice_index (written_notify n auth) 12 ≡ n.key_id
+unfolding written_notify
+key_again n auth = refl
+
+-- its bit, its Key ID and its nonce
 pub record SameHead (m n : MapNotifyValue) : Type 0 where
   pub ack : m.ack ≡ n.ack
+  pub key : m.key_id ≡ n.key_id
   pub nonce : m.nonce ≡ n.nonce
 
 same_said : (m n : MapNotifyValue) → ◌≡◌ {A = Result MessageValue ReadFault} (Ok (Notifies n)) (Ok (Notifies m)) → n ≡ m
@@ -52,7 +57,11 @@ same_head n auth m below e =
     let k = bind_ok (kind_at bytes) (λ kind. records_at 0 (slice_index bytes 3) (drop 32 bytes) >>= λ rs. tail_at kind bytes rs.0 rs.1) (Notifies m) e in
     let l = bind_ok (records_at 0 (slice_index bytes 3) (drop 32 bytes)) (λ rs. tail_at k.0 bytes rs.0 rs.1) (Notifies m) k.2 in
     let is : map_notify_of n.ack bytes l.0.0 ≡ m = tail_is n.ack bytes l.0.0 l.0.1 m (subst (λ (kind : Kind). tail_at kind bytes l.0.0 l.0.1 ≡ Ok (Notifies m)) (sym (kind_is n.ack n.nonce n.key_id n.records auth k.0 k.1)) l.2) in
-    record { ack = sym (ap (λ (x : MapNotifyValue). x.ack) is); nonce = sym (ap (λ (x : MapNotifyValue). x.nonce) is) ∙ nonce_again n auth below }
+    record {
+      ack = sym (ap (λ (x : MapNotifyValue). x.ack) is);
+      key = sym (ap (λ (x : MapNotifyValue). x.key_id) is) ∙ key_again n auth;
+      nonce = sym (ap (λ (x : MapNotifyValue). x.nonce) is) ∙ nonce_again n auth below;
+    }
 
 -- so is that of an item
 pub item_head : (i : Item) (n m : MapNotifyValue) → i.message ≡ Notifies n → n.nonce < 2 ^ 64 → message_at (bytes_of i) ≡ Ok (Notifies m) → SameHead m n

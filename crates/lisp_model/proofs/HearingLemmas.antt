@@ -1,8 +1,9 @@
 -- What a router hears, what it knows of its secret, and which entries there are.
-use Rattle.std.proofs.Common.{◌≡◌, ℕ, ◌+◌, ◌<◌, ◌≤◌, Bool, true, false, cond, List, [], ◌∷◌, length, map, Option, Some, None, Ok, Err, refl, sym, ap, subst, ◌∙◌, arith}
+use Rattle.std.proofs.Common.{◌≡◌, ℕ, ◌+◌, ◌<◌, ◌≤◌, Bool, true, false, cond, List, [], ◌∷◌, length, map, Option, Some, None, Ok, Err, refl, sym, ap, subst, ◌∙◌, true≢false, arith}
 use Rattle.std.specs.Prelude.{◌≢◌, ◌==◌, nat_lt, nat_le, Result, ok_or, if◌then◌else◌}
 use Rattle.std.specs.List.{AllPairs, Contains, find, flat_map}
 use Rattle.std.proofs.lemmas.Bool.{and_parts, ltb-true, leb-true}
+use Rattle.std.proofs.lemmas.Bool.Decides.{Decides-eqb}
 use Rattle.std.proofs.lemmas.List.{length-append, length-map}
 use Rattle.lisp_records.specs.Address.{addr_eq}
 use Rattle.lisp_policy.specs.Configuration.{ConfigValue}
@@ -68,12 +69,14 @@ pub record IsHeard (o : Opening) (T : List Step) (router : ℕ) (a : Arrival) (h
   pub read : IsRead a.read h.message
   pub listed : Contains (router_at o.config router).servers h.server
   pub source : address_at o.config h.server ≡ a.from
+  pub key : h.message.key_id ≡ (etr_config o T router).key_id
   pub authentic : is_authentic a.bytes (etr_config o T router).secret ≡ true
 
 -- what each check lets through
 pub record HasPassed (c : EtrConfigValue) (bytes : List ℕ) (read : Result MessageValue ReadFault) (from : Option ℕ) (h : ServerNotify) : Type 0 where
   pub reads : notify_read read ≡ Ok h.message
   pub found : from ≡ Some h.server
+  pub key : h.message.key_id ≡ c.key_id
   pub authentic : is_authentic bytes c.secret ≡ true
 
 has_passed : (c : EtrConfigValue) (bytes : List ℕ) (read : Result MessageValue ReadFault) (from : Option ℕ) (h : ServerNotify) → checked_notify c bytes read from ≡ Ok h → HasPassed c bytes read from h
@@ -83,13 +86,13 @@ has_passed c bytes read from h e =
     let s = bind_ok (ok_or from NotMine) (λ server. check (m.0.key_id == c.key_id) WrongKey >>= λ _. check (is_authentic bytes c.secret) BadAuth >>= λ _. Ok (record { server = server; message = m.0 })) h m.2 in
     let k = bind_ok (check (m.0.key_id == c.key_id) WrongKey) (λ _. check (is_authentic bytes c.secret) BadAuth >>= λ _. Ok (record { server = s.0; message = m.0 })) h s.2 in
     let t = bind_ok (check (is_authentic bytes c.secret) BadAuth) (λ _. Ok (record { server = s.0; message = m.0 })) h k.2 in
-    made m.0 s.0 m.1 s.1 (passed _ t.0 BadAuth t.1) t.2
+    made m.0 s.0 m.1 s.1 ((Decides-eqb m.0.key_id c.key_id).0 (passed _ k.0 WrongKey k.1)) (passed _ t.0 BadAuth t.1) t.2
   where
-    made : (m : MapNotifyValue) (server : ℕ) → notify_read read ≡ Ok m → ok_or from NotMine ≡ Ok server → is_authentic bytes c.secret ≡ true
+    made : (m : MapNotifyValue) (server : ℕ) → notify_read read ≡ Ok m → ok_or from NotMine ≡ Ok server → m.key_id ≡ c.key_id → is_authentic bytes c.secret ≡ true
         → ◌≡◌ {A = Result ServerNotify NotifyFault} (Ok (record { server = server; message = m })) (Ok h) → HasPassed c bytes read from h
-    made m server reads found authentic is =
+    made m server reads found key authentic is =
         let same : ◌≡◌ {A = ServerNotify} (record { server = server; message = m }) h = cc in
-        subst (HasPassed c bytes read from) same (record { reads = reads; found = some_of from server found; authentic = authentic })
+        subst (HasPassed c bytes read from) same (record { reads = reads; found = some_of from server found; key = key; authentic = authentic })
 
 pub is_heard : (o : Opening) (T : List Step) (router : ℕ) (a : Arrival) (h : ServerNotify) → notify_at o T router a ≡ Ok h → IsHeard o T router a h
 is_heard o T router a h e =
@@ -98,6 +101,7 @@ is_heard o T router a h e =
       read = read_of a.read h.message p.reads;
       listed = in_find (λ s. addr_eq (address_at o.config s) a.from) (router_at o.config router).servers h.server p.found;
       source = addr_same _ _ (find_true (λ s. addr_eq (address_at o.config s) a.from) (router_at o.config router).servers h.server p.found);
+      key = p.key;
       authentic = p.authentic;
     }
 
@@ -116,6 +120,9 @@ router_in c k is =
 no_server : (c : ConfigValue) (k : ℕ) → length c.servers ≤ k → (b : Bool) → is_server c k ≡ b → b ≡ false
 no_server c k above true is = let low = ltb-true k (length c.servers) is in absurd (omega (arith, low, above))
 no_server c k above false is = refl
+
+pub not_both : (c : ConfigValue) (k : ℕ) → is_router c k ≡ true → is_server c k ≡ true → ⊥
+not_both c k router server = true≢false (sym server ∙ no_server c k (router_above c k router) (is_server c k) refl)
 
 pub knows_own : (o : Opening) (T : List Step) (k : ℕ) → is_router o.config k ≡ true → Contains (secrets_of o T k) (etr_config o T k).secret
 knows_own o T k is = subst (λ b. Contains (if b then flat_map (λ s. map (λ key. key.secret) s.keys) o.config.sites else (etr_config o T k).secret ∷ []) (etr_config o T k).secret) (sym (no_server o.config k (router_above o.config k is) (is_server o.config k) refl)) (at_head _ [])

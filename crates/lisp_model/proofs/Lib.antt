@@ -3,6 +3,7 @@ pub mod ContextLemmas
 pub mod ItemLemmas
 pub mod Locality
 pub mod ListLemmas
+pub mod ServerLemmas
 pub mod Rising
 pub mod RisingSteps
 pub mod RisingLaws

@@ -26,11 +26,11 @@ use Rattle.lisp_model.specs.Bag.{Item, Arrival, arrival_in, acceptances_in, noti
 use Rattle.lisp_model.specs.Accepted.{acceptances, acceptances_after}
 use Rattle.lisp_model.specs.Clean.{IsHarmless, Clean}
 use Rattle.lisp_model.specs.Legal.{MayCome, LegalTrace, context_of}
-use Rattle.lisp_model.proofs.AgreementLaws.{since_accepted}
 use Rattle.lisp_model.proofs.ArrivalLemmas.{comes}
 use Rattle.lisp_model.proofs.ChangeLemmas.{get_last}
 use Rattle.lisp_model.proofs.CleanLemmas.{in_find, in_flat_map, from_map, secret_in}
 use Rattle.lisp_model.proofs.HearingLemmas.{find_true}
+use Rattle.lisp_model.proofs.HeldLaws.{since_accepted}
 use Rattle.lisp_model.proofs.ListLemmas.{at_head, in_tail, head_or_tail, in_none}
 use Rattle.lisp_model.proofs.OriginLaws.{were_sent}
 use Rattle.lisp_model.proofs.Origins.{ReadsBack, all_from, one_taken}

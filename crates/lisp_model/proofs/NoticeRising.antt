@@ -20,7 +20,7 @@ use Rattle.lisp_model.specs.declared.event.Event.TheVariants as events
 use Rattle.lisp_model.specs.declared.line.Line.{Line}
 use Rattle.lisp_model.specs.declared.line.Line.TheVariants as lines
 use Rattle.lisp_model.specs.declared.refusal.Refusal.TheVariants as refusals
-use Rattle.lisp_model.specs.Trace.{EventValue, Step, Opening, ShownStore, shown_store}
+use Rattle.lisp_model.specs.Trace.{EventValue, Step, Opening, ShownStore, is_server, shown_store}
 use Rattle.lisp_model.specs.Bag.{Arrival, arrival_of, junk_arrival}
 use Rattle.lisp_model.specs.Timers.{last_notice, last_notice_after}
 use Rattle.lisp_model.specs.Context.{Context, values, values_after, Same, IsBase}
@@ -31,7 +31,9 @@ use Rattle.lisp_model.specs.Legal.{MayCome, Arrives, Legal, LegalTrace, context_
 use Rattle.lisp_model.specs.Promises.{Falls, notice_nonces, notice_nonces_after, NoticeNoncesRise}
 use Rattle.lisp_model.proofs.ListLemmas.{head_or_tail, in_none}
 use Rattle.lisp_model.proofs.HeardLines.{IsBy}
+use Rattle.lisp_model.proofs.HearingLemmas.{not_both}
 use Rattle.lisp_model.proofs.Locality.{by_actor, unless, same_number, other_number, last_notice_other}
+use Rattle.lisp_model.proofs.ServerLemmas.{no_notices}
 
 -- what holds at a server: its notices' nonces fall from the last one, and are at most each kept value, and
 -- at most the last one since its start
@@ -104,8 +106,8 @@ not_received p is e = absurd (let clash : kinds.Notice ≡ kinds.Received = ap (
 not_sent : (p : Pair) → p.kind ≡ kinds.Sent → notice_pair ≢ p
 not_sent p is e = absurd (let clash : kinds.Notice ≡ kinds.Sent = ap (λ (x : Pair). x.kind) e ∙ is in cc)
 
--- a step of the node
-module _ (t : Context) (nonces : List ℕ) (safe : NoticeSafe nonces (last_notice t.past t.node) (values t notice_pair)) where
+-- a step of the server
+module _ (t : Context) (its : is_server t.opening.config t.node ≡ true) (nonces : List ℕ) (safe : NoticeSafe nonces (last_notice t.past t.node) (values t notice_pair)) where
   abbrev After : Line → Type 0
   After line = NoticeSafe (notice_nonces_after line t.node nonces) (last_notice_after line t.node (last_notice t.past t.node)) (values_after t notice_pair)
 
@@ -173,7 +175,7 @@ module _ (t : Context) (nonces : List ℕ) (safe : NoticeSafe nonces (last_notic
   row_safe (events.Junk to from bytes) line row = arrives_safe (junk_arrival from bytes) line row.arrives
   row_safe (events.Tick ms) (lines.Ticked passed now) row = stays (ap (λ (s : ShownStore). kept_at s.kept notice_pair) row.idle.same)
   row_safe (events.Restart node pick db) (lines.Restarted named) row = restart_line named (row.names ∙ sym row.acts) (forgets nonces (last_notice t.past t.node) (values t notice_pair) safe (values_after t notice_pair) (row.narrows notice_pair).each)
-  row_safe (events.Restart node pick db) (lines.Refused named (refusals.Start fault)) row = narrows nonces (last_notice t.past t.node) (values t notice_pair) safe (values_after t notice_pair) (row.narrows notice_pair).each
+  row_safe (events.Restart node pick db) (lines.Refused named (refusals.Start fault)) row = absurd (not_both t.opening.config node row.kind (ap (is_server t.opening.config) (sym row.acts) ∙ its))
   row_safe (events.Notice server router fate) (lines.Notice s r key nonce datagram) row =
       let told : NoticeSafe (nonce_after row.2.base ∷ nonces) (Some (nonce_after row.2.base)) (values_after t notice_pair) = tells nonces (last_notice t.past t.node) (values t notice_pair) safe row.2.base row.2.counts (values_after t notice_pair) (subst (λ (n : ℕ). NoneBelow n (values_after t notice_pair)) row.2.next row.2.saves.none_below) in
       notice_line s nonce (row.0 ∙ sym row.2.acts.acts) (subst (λ (n : ℕ). NoticeSafe (n ∷ nonces) (Some n) (values_after t notice_pair)) (sym row.2.next) told)
@@ -194,9 +196,9 @@ module _ (o : Opening) where
   safe_opening : (k : ℕ) → SafeAt [] k
   safe_opening k = record { falls = tt; floor = λ n has. absurd (in_none n has); top = λ l e. absurd (none_is_some e) }
 
-  safe_actor : (T : List Step) (s : Step) → Legal o T s → SafeAt T s.actor → SafeAt (s ∷ T) s.actor
-  safe_actor T s l safe = subst (λ (b : Bool). NoticeSafe (notice_nonces (s ∷ T) s.actor) (last_notice (s ∷ T) s.actor) (kept_at (if b then s.shown else shown_store o T s.actor).kept notice_pair)) (sym (same_number s.actor))
-      (row_safe (context_of o T s) (notice_nonces T s.actor) safe s.event s.line l.row)
+  safe_actor : (T : List Step) (s : Step) → Legal o T s → is_server o.config s.actor ≡ true → SafeAt T s.actor → SafeAt (s ∷ T) s.actor
+  safe_actor T s l its safe = subst (λ (b : Bool). NoticeSafe (notice_nonces (s ∷ T) s.actor) (last_notice (s ∷ T) s.actor) (kept_at (if b then s.shown else shown_store o T s.actor).kept notice_pair)) (sym (same_number s.actor))
+      (row_safe (context_of o T s) its (notice_nonces T s.actor) safe s.event s.line l.row)
 
   safe_other : (T : List Step) (s : Step) (k : ℕ) → k ≢ s.actor → Legal o T s → SafeAt T k → SafeAt (s ∷ T) k
   safe_other T s k differ l safe =
@@ -205,16 +207,23 @@ module _ (o : Opening) where
       (subst (λ (last : Option ℕ). NoticeSafe (notice_nonces T k) last (kept_at (shown_store o (s ∷ T) k).kept notice_pair)) (sym (last_notice_other s.actor k differ s.line by (last_notice T k)))
       (subst (λ (b : Bool). NoticeSafe (notice_nonces T k) (last_notice T k) (kept_at (if b then s.shown else shown_store o T k).kept notice_pair)) (sym (other_number s.actor k (λ e. differ (sym e)))) safe))
 
-  safe_step : (T : List Step) (s : Step) (k : ℕ) (b : Bool) → (s.actor == k) ≡ b → Legal o T s → ((n : ℕ) → SafeAt T n) → SafeAt (s ∷ T) k
-  safe_step T s k true e l safe = subst (SafeAt (s ∷ T)) ((Decides-eqb s.actor k).0 e) (safe_actor T s l (safe s.actor))
-  safe_step T s k false e l safe = safe_other T s k (λ same. not_same same) l (safe k)
+  safe_step : (T : List Step) (s : Step) (k : ℕ) (b : Bool) → (s.actor == k) ≡ b → Legal o T s → is_server o.config k ≡ true → ((n : ℕ) → is_server o.config n ≡ true → SafeAt T n) → SafeAt (s ∷ T) k
+  safe_step T s k true e l its safe =
+      let same : s.actor ≡ k = (Decides-eqb s.actor k).0 e in
+      let acts : is_server o.config s.actor ≡ true = ap (is_server o.config) same ∙ its in
+      subst (SafeAt (s ∷ T)) same (safe_actor T s l acts (safe s.actor acts))
+  safe_step T s k false e l its safe = safe_other T s k (λ same. not_same same) l (safe k its)
     where
       not_same : k ≡ s.actor → ⊥
       not_same same = let clash : true ≡ false = sym (same_number s.actor) ∙ ap (λ n. s.actor == n) (sym same) ∙ e in absurd cc
 
-  safe_trace : (T : List Step) → LegalTrace o T → (k : ℕ) → SafeAt T k
-  safe_trace [] legal k = safe_opening k
-  safe_trace (s ∷ T) legal k = safe_step T s k (s.actor == k) refl legal.0 (safe_trace T legal.1)
+  safe_trace : (T : List Step) → LegalTrace o T → (k : ℕ) → is_server o.config k ≡ true → SafeAt T k
+  safe_trace [] legal k its = safe_opening k
+  safe_trace (s ∷ T) legal k its = safe_step T s k (s.actor == k) refl legal.0 its (safe_trace T legal.1)
 
 pub notice_nonces_rise : (o : Opening) (T : List Step) → LegalTrace o T → NoticeNoncesRise T
-notice_nonces_rise o T legal server = (safe_trace o T legal server).falls
+notice_nonces_rise o T legal server = at (is_server o.config server) refl
+  where
+    at : (b : Bool) → is_server o.config server ≡ b → Falls (notice_nonces T server)
+    at true its = (safe_trace o T legal server its).falls
+    at false other = subst Falls (sym (no_notices o server other T legal)) tt

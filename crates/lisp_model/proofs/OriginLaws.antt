@@ -52,4 +52,4 @@ module _ (o : Opening) (distinct : AllPairs (λ a b. a ≢ b) (addresses o.confi
   pub accepted_was_sent : (T : List Step) → LegalTrace o T → Clean o T → AcceptedWasSent o T
   accepted_was_sent T legal clean server a has =
       let f = were_sent T legal clean server a has in
-      (f.entry, record { sent = f.sent; whom = f.whom; message = f.message; from = f.from; only = λ g in_it router key nonce. unique o T legal f.entry g f.sent in_it router nonce })
+      (f.entry, record { sent = f.sent; whom = f.whom; message = f.message; from = f.from; only = λ g in_it router key nonce. unique o T legal f.entry g f.sent in_it router key nonce })

@@ -32,18 +32,17 @@ use Rattle.lisp_model.proofs.Locality.{same_number}
 use Rattle.lisp_model.proofs.OriginLaws.{were_sent}
 use Rattle.lisp_model.proofs.Origins.{ReadsBack, AllFrom, all_from}
 
--- an entry is a router's, under its key, with a nonce of a router
+-- an entry is a router's, with a nonce of a router
 pub record IsEntry (o : Opening) (e : SentRegister) : Type 0 where
   pub kind : is_router o.config e.router ≡ true
-  pub under : e.key ≡ (router_at o.config e.router).key_id
   pub low : e.nonce < first_notice
 
 below_first : {n : ℕ} → n ≤ last_nonce → n < first_notice
 below_first within = omega (arith, within)
 
 sent_entry : (o : Opening) (T : List Step) (actor : ℕ) (after : ShownStore) (e : EventValue) (r s k n g : ℕ) → MayCome (context_of o T (record { event = e; line = lines.Sent r s k n g; actor = actor; shown = after })) e (lines.Sent r s k n g)
-    → (is_router o.config r ≡ true) × (k ≡ (router_at o.config r).key_id) × (n < first_notice) × (is_server o.config s ≡ true)
-sent_entry o T actor after (events.Send router server fate) r s k n g row = (ap (is_router o.config) row.0 ∙ row.2.acts.kind, row.2.under ∙ ap (λ (x : ℕ). (router_at o.config x).key_id) (sym row.0), below_first row.2.within, ap (is_server o.config) row.1 ∙ row.2.kind)
+    → (is_router o.config r ≡ true) × (n < first_notice) × (is_server o.config s ≡ true)
+sent_entry o T actor after (events.Send router server fate) r s k n g row = (ap (is_router o.config) row.0 ∙ row.2.acts.kind, below_first row.2.within, ap (is_server o.config) row.1 ∙ row.2.kind)
 sent_entry o T actor after (events.Change _ _) r s k n g row = absurd row
 sent_entry o T actor after (events.Deliver _ _) r s k n g row = absurd row.arrives
 sent_entry o T actor after (events.Junk _ _ _) r s k n g row = absurd row.arrives
@@ -53,7 +52,7 @@ sent_entry o T actor after (events.Notice _ _ _) r s k n g row = absurd row
 sent_entry o T actor after (events.Resend _ _) r s k n g row = absurd row
 
 pub server_of_sent : (o : Opening) (T : List Step) (actor : ℕ) (after : ShownStore) (e : EventValue) (r s k n g : ℕ) → MayCome (context_of o T (record { event = e; line = lines.Sent r s k n g; actor = actor; shown = after })) e (lines.Sent r s k n g) → is_server o.config s ≡ true
-server_of_sent o T actor after e r s k n g row = (sent_entry o T actor after e r s k n g row).3
+server_of_sent o T actor after e r s k n g row = (sent_entry o T actor after e r s k n g row).2
 
 pub entry_is : (o : Opening) (T : List Step) → LegalTrace o T → (d : SentRegister) → Contains (history o T) d → IsEntry o d
 entry_is o [] legal d has = absurd (in_none d has)
@@ -62,7 +61,7 @@ entry_is o (s ∷ T) legal d has = at (new_or_old o T s.line d has) (entry_is o 
     at : IsNew o T s.line d ⊎ Contains (history o T) d → (Contains (history o T) d → IsEntry o d) → IsEntry o d
     at (inl new) later =
         let row = sent_entry o T s.actor s.shown s.event new.router new.server new.key new.nonce new.datagram (subst (λ (line : Line). MayCome (context_of o T s) s.event line) new.sent legal.0.row) in
-        subst (IsEntry o) (sym new.is) (record { kind = row.0; under = row.1; low = row.2 })
+        subst (IsEntry o) (sym new.is) (record { kind = row.0; low = row.1 })
     at (inr old) later = later old
 
 -- the reply to a Map-Register that a server accepted

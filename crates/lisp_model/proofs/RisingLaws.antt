@@ -15,7 +15,7 @@ use Rattle.lisp_admission.specs.Pairs.{pair_of}
 use Rattle.lisp_model.specs.declared.event.Event.TheVariants as events
 use Rattle.lisp_model.specs.declared.line.Line.TheVariants as lines
 use Rattle.lisp_model.specs.declared.refusal.Refusal.TheVariants as refusals
-use Rattle.lisp_model.specs.Trace.{EventValue, Step, Opening, shown_store, clock}
+use Rattle.lisp_model.specs.Trace.{EventValue, Step, Opening, is_server, shown_store, clock}
 use Rattle.lisp_model.specs.Held.{Acceptance, is_of_pair, last_of}
 use Rattle.lisp_model.specs.Bag.{Arrival, arrival_of, arrival_in, junk_arrival, acceptances_in, bag, since_start}
 use Rattle.lisp_model.specs.Accepted.{acceptances, acceptances_in_step, nonces_of, tried_nonces}
@@ -28,6 +28,7 @@ use Rattle.lisp_model.proofs.ListLemmas.{at_head, in_tail, head_or_tail, in_none
 use Rattle.lisp_model.proofs.Locality.{by_actor, same_number, other_number, since_other, accepted_other, tried_other}
 use Rattle.lisp_model.proofs.Rising.{Safe}
 use Rattle.lisp_model.proofs.RisingSteps.{row_safe, taken_one}
+use Rattle.lisp_model.proofs.ServerLemmas.{none_accepted}
 
 -- a number among values is among their numbers
 some_number : (v : Option ℕ) (m : ℕ) (ms : List ℕ) → (Some m ≡ v) ⊎ Contains ms m → Contains (option_to_list v ++ ms) m
@@ -64,9 +65,9 @@ module _ (o : Opening) (q : Pair) (kind : q.kind ≡ kinds.Received) where
       clash : {l : ℕ} → ◌≡◌ {A = Option ℕ} None (Some l) → ⊥
       clash e = absurd cc
 
-  safe_actor : (T : List Step) (s : Step) → Legal o T s → SafeAt T s.actor → SafeAt (s ∷ T) s.actor
-  safe_actor T s l safe = subst (λ b. Safe q (acceptances o (s ∷ T) s.actor) (since_start o (s ∷ T) s.actor) (tried_nonces o (s ∷ T) s.actor q) (kept_at (if b then s.shown else shown_store o T s.actor).kept q)) (sym (same_number s.actor))
-      (row_safe (context_of o T s) q kind (acceptances o T s.actor) (tried_nonces o T s.actor q) safe s.event s.line l.row)
+  safe_actor : (T : List Step) (s : Step) → Legal o T s → is_server o.config s.actor ≡ true → SafeAt T s.actor → SafeAt (s ∷ T) s.actor
+  safe_actor T s l its safe = subst (λ b. Safe q (acceptances o (s ∷ T) s.actor) (since_start o (s ∷ T) s.actor) (tried_nonces o (s ∷ T) s.actor q) (kept_at (if b then s.shown else shown_store o T s.actor).kept q)) (sym (same_number s.actor))
+      (row_safe (context_of o T s) its q kind (acceptances o T s.actor) (tried_nonces o T s.actor q) safe s.event s.line l.row)
 
   safe_other : (T : List Step) (s : Step) (k : ℕ) → k ≢ s.actor → Legal o T s → SafeAt T k → SafeAt (s ∷ T) k
   safe_other T s k differ l safe =
@@ -76,16 +77,19 @@ module _ (o : Opening) (q : Pair) (kind : q.kind ≡ kinds.Received) where
       (subst (λ (ns : List ℕ). Safe q (acceptances o T k) (since_start o T k) ns (kept_at (shown_store o (s ∷ T) k).kept q)) (sym (tried_other s.actor k differ s.line by (nonces_of q (acceptances_in_step o T s)) (tried_nonces o T k q)))
       (subst (λ b. Safe q (acceptances o T k) (since_start o T k) (tried_nonces o T k q) (kept_at (if b then s.shown else shown_store o T k).kept q)) (sym (other_number s.actor k (λ e. differ (sym e)))) safe)))
 
-  safe_step : (T : List Step) (s : Step) (k : ℕ) (b : Bool) → (s.actor == k) ≡ b → Legal o T s → ((n : ℕ) → SafeAt T n) → SafeAt (s ∷ T) k
-  safe_step T s k true e l safe = subst (SafeAt (s ∷ T)) ((Decides-eqb s.actor k).0 e) (safe_actor T s l (safe s.actor))
-  safe_step T s k false e l safe = safe_other T s k (λ same. not_same same) l (safe k)
+  safe_step : (T : List Step) (s : Step) (k : ℕ) (b : Bool) → (s.actor == k) ≡ b → Legal o T s → is_server o.config k ≡ true → ((n : ℕ) → is_server o.config n ≡ true → SafeAt T n) → SafeAt (s ∷ T) k
+  safe_step T s k true e l its safe =
+      let same : s.actor ≡ k = (Decides-eqb s.actor k).0 e in
+      let acts : is_server o.config s.actor ≡ true = ap (is_server o.config) same ∙ its in
+      subst (SafeAt (s ∷ T)) same (safe_actor T s l acts (safe s.actor acts))
+  safe_step T s k false e l its safe = safe_other T s k (λ same. not_same same) l (safe k its)
     where
       not_same : k ≡ s.actor → ⊥
       not_same same = let clash : true ≡ false = sym (same_number s.actor) ∙ ap (λ n. s.actor == n) (sym same) ∙ e in absurd cc
 
-  pub safe_trace : (T : List Step) → LegalTrace o T → (k : ℕ) → SafeAt T k
-  safe_trace [] legal k = safe_opening k
-  safe_trace (s ∷ T) legal k = safe_step T s k (s.actor == k) refl legal.0 (safe_trace T legal.1)
+  pub safe_trace : (T : List Step) → LegalTrace o T → (k : ℕ) → is_server o.config k ≡ true → SafeAt T k
+  safe_trace [] legal k its = safe_opening k
+  safe_trace (s ∷ T) legal k its = safe_step T s k (s.actor == k) refl legal.0 its (safe_trace T legal.1)
 
 -- pairs of other kinds have no accepted nonces
 no_nonces : (q : Pair) → q.kind ≢ kinds.Received → (acc : List Acceptance) → nonces_of q acc ≡ []
@@ -100,7 +104,11 @@ pub nonces_rise : (o : Opening) (T : List Step) → LegalTrace o T → NoncesRis
 nonces_rise o T legal server q = at q.kind refl
   where
     at : (kind : PairKind) → q.kind ≡ kind → Falls (nonces_of q (acceptances o T server))
-    at kinds.Received e = (safe_trace o q e T legal server).falls
+    at kinds.Received e = received (is_server o.config server) refl
+      where
+        received : (b : Bool) → is_server o.config server ≡ b → Falls (nonces_of q (acceptances o T server))
+        received true its = (safe_trace o q e T legal server its).falls
+        received false other = subst (λ (acc : List Acceptance). Falls (nonces_of q acc)) (sym (none_accepted o server other T legal)) tt
     at kinds.Sent e = subst Falls (sym (no_nonces q (λ is. sent_clash (sym e ∙ is)) (acceptances o T server))) tt
       where
         sent_clash : kinds.Sent ≢ kinds.Received
@@ -113,11 +121,12 @@ nonces_rise o T legal server q = at q.kind refl
 -- a replay has a base
 module _ (t : Context) (server saved : ℕ) where
   record HasBase (x : Acceptance) : Type 0 where
+    kind : is_server t.opening.config server ≡ true
     acts : t.node ≡ server
     base : IsBase (last_in t (pair_of x.message)) (values t (pair_of x.message)) (Some saved)
 
   has_base : (a : Arrival) (now : ℕ) → Arrives t a (lines.Refused server (refusals.Receive (Replay saved))) → (x : Acceptance) → Contains (acceptances_in (Some a) now) x → HasBase x
-  has_base a now row x has = record { acts = row.0.acts; base = subst (λ (y : Acceptance). IsBase (last_in t (pair_of y.message)) (values t (pair_of y.message)) (Some saved)) (sym only) row.1.counts }
+  has_base a now row x has = record { kind = row.0.kind; acts = row.0.acts; base = subst (λ (y : Acceptance). IsBase (last_in t (pair_of y.message)) (values t (pair_of y.message)) (Some saved)) (sym only) row.1.counts }
     where
       one : Acceptance
       one = record { message = row.1.message; from = a.from; moment = now }
@@ -146,4 +155,4 @@ replays_tried o T s legal l server saved is x has =
     let found = replay_base (context_of o T s) server saved s.event (subst (MayCome (context_of o T s) s.event) is l.row) x has in
     let q = pair_of x.message in
     subst (λ (k : ℕ). Contains (tried_nonces o T k (pair_of x.message)) saved) found.acts
-    (based q (acceptances o T s.actor) (since_start o T s.actor) (tried_nonces o T s.actor q) (kept_at (shown_store o T s.actor).kept q) (safe_trace o q refl T legal s.actor) saved (last_of q (since_start o T s.actor)) refl found.base)
+    (based q (acceptances o T s.actor) (since_start o T s.actor) (tried_nonces o T s.actor q) (kept_at (shown_store o T s.actor).kept q) (safe_trace o q refl T legal s.actor (ap (is_server o.config) found.acts ∙ found.kind)) saved (last_of q (since_start o T s.actor)) refl found.base)

@@ -20,7 +20,7 @@ use Rattle.lisp_model.specs.declared.event.Event.TheVariants as events
 use Rattle.lisp_model.specs.declared.line.Line.{Line}
 use Rattle.lisp_model.specs.declared.line.Line.TheVariants as lines
 use Rattle.lisp_model.specs.declared.refusal.Refusal.TheVariants as refusals
-use Rattle.lisp_model.specs.Trace.{EventValue, ShownStore, clock}
+use Rattle.lisp_model.specs.Trace.{EventValue, ShownStore, is_server, clock}
 use Rattle.lisp_model.specs.Held.{Acceptance, last_of}
 use Rattle.lisp_model.specs.Bag.{Arrival, arrival_of, arrival_in, junk_arrival, as_register, acceptances_in, bag, since_start, since_start_after}
 use Rattle.lisp_model.specs.Accepted.{acceptances_after, nonces_of, tried_nonces_after}
@@ -29,6 +29,7 @@ use Rattle.lisp_model.specs.Sending.{RefusesToSend}
 use Rattle.lisp_model.specs.Receiving.{IsFresh, RefusesMessage}
 use Rattle.lisp_model.specs.Notifying.{RefusesNotice, RefusesToResend}
 use Rattle.lisp_model.specs.Legal.{MayCome, Arrives}
+use Rattle.lisp_model.proofs.HearingLemmas.{not_both}
 use Rattle.lisp_model.proofs.KeptLemmas.{pair_itself, pair_same}
 use Rattle.lisp_model.proofs.Locality.{same_number}
 use Rattle.lisp_model.proofs.Rising.{Safe, safe_narrows, safe_restarts, safe_doubts, safe_takes, safe_passes, nonces_of-same, nonces_of-other}
@@ -50,7 +51,7 @@ differs_at q p e same = true≢false (sym (pair_itself q) ∙ ap (λ (x : Pair).
 pub taken_one : (a : Arrival) (now : ℕ) (m : MapRegisterValue) → a.read ≡ Ok (Registers m) → acceptances_in (Some a) now ≡ record { message = m; from = a.from; moment = now } ∷ []
 taken_one a now m read = ap (λ r. option_to_list (option_map (λ x. record { message = x; from = a.from; moment = now }) (as_register r))) read
 
-module _ (t : Context) (q : Pair) (kind : q.kind ≡ kinds.Received) (acc : List Acceptance) (old : List ℕ) (safe : Safe q acc (since_start t.opening t.past t.node) old (values t q)) where
+module _ (t : Context) (its : is_server t.opening.config t.node ≡ true) (q : Pair) (kind : q.kind ≡ kinds.Received) (acc : List Acceptance) (old : List ℕ) (safe : Safe q acc (since_start t.opening t.past t.node) old (values t q)) where
   before : List Acceptance
   before = since_start t.opening t.past t.node
 
@@ -141,7 +142,7 @@ module _ (t : Context) (q : Pair) (kind : q.kind ≡ kinds.Received) (acc : List
   restart_line : (named : ℕ) → named ≡ t.node → Safe q acc [] old (values_after t q) → Safe q acc (if named == t.node then [] else since_start t.opening t.past t.node) old (values_after t q)
   restart_line named is next = subst (λ b. Safe q acc (if b then [] else since_start t.opening t.past t.node) old (values_after t q)) (sym (ap (λ s. s == t.node) is ∙ same_number t.node)) next
 
-  -- any legal step of the node
+  -- any legal step of the server
   pub row_safe : (e : EventValue) (line : Line) → MayCome t e line → After (acceptances_in (arrival_in (bag t.opening t.past) e) (clock t.past)) line
   row_safe (events.Change router db) (lines.Changed named records) row = quiet row.same
   row_safe (events.Change router db) (lines.Down named) row = quiet row.same
@@ -153,7 +154,7 @@ module _ (t : Context) (q : Pair) (kind : q.kind ≡ kinds.Received) (acc : List
   row_safe (events.Junk to from bytes) line row = arrives_safe (junk_arrival from bytes) (clock t.past) line row.arrives
   row_safe (events.Tick ms) (lines.Ticked passed now) row = stays (ap (λ (s : ShownStore). kept_at s.kept q) row.idle.same)
   row_safe (events.Restart node pick db) (lines.Restarted named) row = restart_line named (row.names ∙ sym row.acts) (safe_restarts q acc (since_start t.opening t.past t.node) old (values t q) safe (values_after t q) (row.narrows q).each)
-  row_safe (events.Restart node pick db) (lines.Refused named (refusals.Start fault)) row = safe_narrows q acc (since_start t.opening t.past t.node) old (values t q) safe (values_after t q) (row.narrows q).each
+  row_safe (events.Restart node pick db) (lines.Refused named (refusals.Start fault)) row = absurd (not_both t.opening.config node row.kind (ap (is_server t.opening.config) (sym row.acts) ∙ its))
   row_safe (events.Notice server router fate) (lines.Notice s r key nonce datagram) row = stays (row.2.saves.others q not_notice)
   row_safe (events.Notice server router fate) (lines.Refused named (refusals.Notice why)) row = tells_safe router why row.3
   row_safe (events.Resend server router) (lines.Resent s r datagram) row = quiet row.2.same

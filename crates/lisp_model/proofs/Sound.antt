@@ -123,24 +123,24 @@ module _ (o : Opening) where
   sound [] legal r = record { floor = λ e has. absurd (in_none e has); below = λ base counts e has. absurd (in_none e has) }
   sound (s ∷ T) legal r = sound_step T s r (s.actor == r) refl legal.0 (sound T legal.1)
 
-  -- entries of one router and nonce are one
+  -- entries of one router, key and nonce are one
   abbrev pub Unique : List SentRegister → Type 0
-  Unique entries = (e f : SentRegister) → Contains entries e → Contains entries f → f.router ≡ e.router → f.nonce ≡ e.nonce → f ≡ e
+  Unique entries = (e f : SentRegister) → Contains entries e → Contains entries f → f.router ≡ e.router → f.key ≡ e.key → f.nonce ≡ e.nonce → f ≡ e
 
-  new_unique : (one : SentRegister) (entries : List SentRegister) → Unique entries → ((f : SentRegister) → Contains entries f → f.router ≡ one.router → f.nonce < one.nonce) → Unique (one ∷ entries)
-  new_unique one entries old below e f has_e has_f router nonce = at (head_or_tail one entries e has_e) (head_or_tail one entries f has_f)
+  new_unique : (one : SentRegister) (entries : List SentRegister) → Unique entries → ((f : SentRegister) → Contains entries f → f.router ≡ one.router → f.key ≡ one.key → f.nonce < one.nonce) → Unique (one ∷ entries)
+  new_unique one entries old below e f has_e has_f router key nonce = at (head_or_tail one entries e has_e) (head_or_tail one entries f has_f)
     where
       at : (e ≡ one) ⊎ Contains entries e → (f ≡ one) ⊎ Contains entries f → f ≡ e
       at (inl is_e) (inl is_f) = is_f ∙ sym is_e
-      at (inl is_e) (inr in_f) = let low = below f in_f (router ∙ ap (λ (x : SentRegister). x.router) is_e) in let same = ap (λ (x : SentRegister). x.nonce) is_e in absurd (omega (arith, low, same, nonce))
-      at (inr in_e) (inl is_f) = let low = below e in_e (sym router ∙ ap (λ (x : SentRegister). x.router) is_f) in let same = ap (λ (x : SentRegister). x.nonce) is_f in absurd (omega (arith, low, same, nonce))
-      at (inr in_e) (inr in_f) = old e f in_e in_f router nonce
+      at (inl is_e) (inr in_f) = let low = below f in_f (router ∙ ap (λ (x : SentRegister). x.router) is_e) (key ∙ ap (λ (x : SentRegister). x.key) is_e) in let same = ap (λ (x : SentRegister). x.nonce) is_e in absurd (omega (arith, low, same, nonce))
+      at (inr in_e) (inl is_f) = let low = below e in_e (sym router ∙ ap (λ (x : SentRegister). x.router) is_f) (sym key ∙ ap (λ (x : SentRegister). x.key) is_f) in let same = ap (λ (x : SentRegister). x.nonce) is_f in absurd (omega (arith, low, same, nonce))
+      at (inr in_e) (inr in_f) = old e f in_e in_f router key nonce
 
   unique_row : (T : List Step) (s : Step) → Legal o T s → SoundAt T s.actor → Unique (history o T) → Unique (history o (s ∷ T))
   unique_row T s l safe old = by s.line (leaves (context_of o T s) s.event s.line l.row)
     where
       by : (line : Line) → Leaves (context_of o T s) line → Unique (sent_registers_in o T line ++ history o T)
-      by (lines.Sent r server key nonce datagram) left = new_unique _ (history o T) old (λ f has its. sent_above (context_of o T s) safe left.0 left.1 key nonce datagram left.3 f has (its ∙ left.2))
+      by (lines.Sent r server key nonce datagram) left = new_unique _ (history o T) old (λ f has its under. sent_above (context_of o T s) safe left.0 left.1 key nonce datagram left.3 f has (its ∙ left.2))
       by _ left = old
 
   pub unique : (T : List Step) → LegalTrace o T → Unique (history o T)

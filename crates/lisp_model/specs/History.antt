@@ -33,9 +33,9 @@ abbrev pub message_of : ConfigValue → SentRegister → MapRegisterValue
 message_of c e =
     map_register_of (record (etr_config_of c (router_at c e.router)) { key_id = e.key }) (sent_records e) e.nonce
 
--- the record that its message has for a prefix
+-- the record that its database has for a prefix
 abbrev pub record_in : SentRegister → PrefixValue → Option MapRecordValue
-record_in e eid = record_for (sent_records e) eid
+record_in e eid = record_for e.database eid
 
 abbrev pub sent_registers_in : Opening → List Step → Line → List SentRegister
 sent_registers_in o T (lines.Sent router server key nonce _) = record { router = router; key = key; nonce = nonce; server = server; database = database o T router; position = length T } ∷ []

@@ -37,7 +37,7 @@ start_values_after _ new r old = old
 
 abbrev pub start_values : Opening → List Step → ℕ → List (Option ℕ)
 start_values o [] r = kept_at (shown_store o [] r).kept (pair_at o [] r)
-start_values o (s ∷ T) r = start_values_after s.line (kept_at s.shown.kept (pair_at o T r)) r (start_values o T r)
+start_values o (s ∷ T) r = start_values_after s.line (kept_at s.shown.kept (pair_at o (s ∷ T) r)) r (start_values o T r)
 
 -- the numbers that the next nonce of a router may count from
 abbrev pub CountsFrom : Opening → List Step → ℕ → Option ℕ → Type 0
