@@ -19,9 +19,10 @@ lispd:
 demo: lispd
 	@tools/demo
 
-# No crate may use lisp_memory's own proof that the machine's memory may be refused: grep prints the files that do.
+# No crate may use lisp_memory's own proof that the machine's memory may be refused. Of its definitions others name those of three
+# modules, which have no proof: grep prints whatever else they name.
 test:
-	@! grep -rlE 'Rattle\.lisp_memory|lisp_memory::(specs|proofs)' crates --include=*.antt --include=*.rt | grep -v '^crates/lisp_memory/'
+	@! grep -roE 'Rattle\.lisp_memory[.A-Za-z_]*|lisp_memory::(specs|proofs)' crates --include=*.antt --include=*.rt --exclude-dir=lisp_memory --exclude-dir=out | grep -vE ':Rattle\.lisp_memory\.specs\.(Appending|Inserting|Room)\.?$$'
 	@tools/slips --compare docs/SLIPS.md
 	rt ci
 	@tests/check.sh crates/lispd_main/out/lispd_main
