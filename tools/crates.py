@@ -7,6 +7,9 @@ import tempfile
 import time
 from concurrent.futures import FIRST_COMPLETED, ThreadPoolExecutor, wait
 from contextlib import contextmanager
+from functools import cache
+from importlib.machinery import SourceFileLoader
+from importlib.util import module_from_spec, spec_from_loader
 
 TOP = os.path.dirname(os.path.dirname(os.path.abspath(__file__)))
 PROGRAM = "lispd_main"
@@ -54,6 +57,29 @@ def room(crates, without=()):
             shutil.copytree(f"{TOP}/crates/{it}", f"{top}/crates/{it}", copy_function=link,
                             ignore=shutil.ignore_patterns(*unneeded))
         yield top
+
+
+class Kit:
+    """The kit's own functions: no command of it tries several wrong bodies in one check."""
+
+    def __init__(self):
+        loader = SourceFileLoader("rt", os.path.realpath(shutil.which("rt")))
+        self.rt = module_from_spec(spec_from_loader("rt", loader))
+        loader.exec_module(self.rt)
+
+    def __getattr__(self, name):
+        return getattr(self.rt, name)
+
+    def opened(self, top):
+        """The crates of a checkout in which `rt ci` ran, by their names."""
+        self.rt.Crate.cuts_libraries, self.rt.Crate.allowed = True, self.rt.handles_of(top)
+        self.rt.rtlib.guarded()
+        return {it.name: it for it in self.rt.crates_of(top)}
+
+
+@cache
+def kit():
+    return Kit()
 
 
 def run_kit(words, folder):
