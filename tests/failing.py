@@ -18,7 +18,9 @@ EXAMPLES = HERE.parent / "examples"
 LONGEST = 40
 LIMIT = 20
 # What may be printed for want of memory: a refusal by a core, by its store, or the fault of an event.
-TOLD = re.compile(r"refused \S+ (?:36|48|58|66|(?:35|42|56|59|65|68) store 32)|fault 75")
+TOLD = re.compile(r"refused \S+ (?:36|48|58|66|(?:35|38|42|56|59|65|68) store 32)|fault 75")
+# A start that was refused.
+UNSTARTED = re.compile(r"refused (\S+) (?:36|35 store 32)\n")
 # How a play ends where memory is refused and no node is asked: the configuration, the network, a line of the script, the rest.
 ENDED = re.compile(r"lispd: fault (?:24|75|76|86 line \d+|97)\n")
 # What `lispd check` prints of it.
@@ -71,20 +73,25 @@ def script_lines(text):
     return f"{configuration}\n---\n", script.splitlines(keepends=True)
 
 
-def is_taken_again(folder, at, text, printed, place):
-    """Whether a command that was refused memory is given again and then prints its line, and all that follows does."""
+def is_taken_again(folder, at, text, printed, place, refusal):
+    """Whether a command that was refused memory is given again and then prints its line, and all that follows does. (A router whose
+    start was refused behind a lost store has used the key of that start: it is restarted, and then stands as if it had started.)"""
     head, script = script_lines(text)
     commands = [number for number, line in enumerate(script) if line.strip() and not line.startswith("#")]
     lines = printed.splitlines(keepends=True)
     # (a command may print several lines: its place is found by what the commands before it print)
     for number in commands:
-        again = (head + "".join(script[:number + 1] + script[number:])).encode()
+        repeated, line = script[number], lines[place]
+        if repeated.startswith("lose ") and (unstarted := UNSTARTED.match(refusal)):
+            _, router, _, *records = repeated.split()
+            repeated, line = " ".join(["restart", router, "0", *records]) + "\n", f"restarted {unstarted[1]}\n"
+        again = (head + "".join(script[:number + 1] + [repeated] + script[number + 1:])).encode()
         if not plays_front(head + "".join(script[:number]), lines[:place]):
             continue
         for later in range(at, at + MORE):
             _, status, output, _ = failing(folder, "growth", later, ["play", "-"], again)
             told = output.splitlines(keepends=True)
-            if status == 0 and told[:place] + told[place + 1:] == lines and TOLD.match(told[place]):
+            if status == 0 and told[:place] + told[place + 1:] == [*lines[:place], line, *lines[place + 1:]] and TOLD.match(told[place]):
                 return True
     return False
 
@@ -106,7 +113,7 @@ def refuse_growth(folder, schedule):
         elif place is None:
             is_right = status == 0 and output == printed
         else:
-            is_right = status == 0 and TOLD.match(told[place]) and is_taken_again(folder, at, text, printed, place)
+            is_right = status == 0 and TOLD.match(told[place]) and is_taken_again(folder, at, text, printed, place, told[place])
         if not is_right:
             wrong(schedule.name, "growth", at, ended)
 

@@ -2,9 +2,11 @@
 """fuzz.py PROGRAM SEED COUNT
 Plays COUNT schedules drawn from SEED, SEED + 1 and so on: configurations, scripts and bytes in their grammar and near it.
 Each is played twice, and once more while a growth of memory is refused. Checked is what can be told without knowing the answers:
-the same output twice and whole lines; a Map-Server accepts no nonce twice and none after a higher one over its whole life;
-what a router counts was accepted; rows are listed in order; a text with a fault prints nothing but the fault. Prints the seed
+the same output twice and whole lines; a Map-Server accepts no nonce twice and none after a higher one over its whole life, and a
+router sends none so under one key, though its store was lost; what a router counts was accepted; it sends and counts under its
+present key, and takes none that it may not; rows are listed in order; a text with a fault prints nothing but the fault. Prints the seed
 of each schedule that fails, which is left in out/fuzz-SEED.schedule, and ends with 1 where one does."""
+import collections
 import concurrent.futures
 import ipaddress
 import os
@@ -20,6 +22,9 @@ LIMIT = 20
 GROWTHS = 600
 FAULT = re.compile(r"lispd: fault (?:2[0-3]|74|96|8[0-5] line \d+)\n")
 REFUSED_MEMORY = re.compile(r"lispd: fault (?:24|75|76|86 line \d+|97)\n")
+SENT = re.compile(r"sent (\S+) \S+ key (\d+) nonce (\d+)")
+KEYED = re.compile(r"(rotated|emptied) (\S+) key (\d+)")
+UNSTARTED = re.compile(r"refused (\S+) 3[56]\b")
 ACCEPTED = re.compile(r"accepted (\S+) (\S+) key (\d+) nonce (\d+)")
 COUNTED = re.compile(r"counted (\S+) (\S+) key (\d+) nonce (\d+)")
 NUMBERS = [0, 1, 2, 7, 255, 256, 65535, 2**31, 2**32 - 1, 2**32, 2**62, 2**63 - 1, 2**63, 2**64 - 1, 2**64]
@@ -35,13 +40,13 @@ class Network:
     def __init__(self, draw):
         self.draw = draw
         self.servers = [f"s{place}" for place in range(draw.randint(1, 3))]
-        self.routers = {}
-        sites = {f"{place + 1:016x}": draw.sample(range(256), draw.randint(1, 2)) for place in range(draw.randint(1, 2))}
+        self.routers, self.keys = {}, {}
+        sites = {f"{place + 1:016x}": draw.sample(range(256), draw.randint(1, 4)) for place in range(draw.randint(1, 2))}
         self.text = "".join(self.site(name, keys) for name, keys in sites.items())
         self.text += "".join(f'[[server]]\nname = "{name}"\naddress = "127.0.1.{place}"\n' for place, name in enumerate(self.servers))
         for place in range(draw.randint(1, 3)):
             site = draw.choice(list(sites))
-            self.text += self.router(place, site, draw.choice(sites[site]))
+            self.text += self.router(place, site, sites[site])
 
     def site(self, name, keys):
         return (f'[[site]]\nid = "{name}"\n'
@@ -49,15 +54,15 @@ class Network:
                 + '[[site.prefix]]\neid = "10.1.0.0/16"\nmore_specifics = true\n[[site.prefix]]\neid = "2001:db8:0:0:0:0:0:0/32"\n'
                 + "more_specifics = true\n")
 
-    def router(self, place, site, key):
+    def router(self, place, site, keys):
         draw, name = self.draw, f"r{place}"
         listed = draw.sample(self.servers, draw.randint(1, len(self.servers)))
-        self.routers[name] = listed
+        self.routers[name], self.keys[name] = listed, keys
         flags = "".join(f"{flag} = true\n" for flag in ("proxy", "use_ttl") if draw.random() < 0.5)
         block = f"nonce_block = {draw.choice([1, 2, 8, 1024])}\n" if draw.random() < 0.5 else ""
         records = ", ".join(f'"{it}"' for it in self.records())
         names = ", ".join(f'"{it}"' for it in listed)
-        return (f'[[router]]\nname = "{name}"\naddress = "127.0.2.{place}"\nsite = "{site}"\nxtr = "{place + 1:032x}"\nkey = {key}\n'
+        return (f'[[router]]\nname = "{name}"\naddress = "127.0.2.{place}"\nsite = "{site}"\nxtr = "{place + 1:032x}"\nkey = {draw.choice(keys)}\n'
                 f"servers = [{names}]\n{flags}{block}records = [{records}]\n")
 
     def hex(self, least, most):
@@ -81,9 +86,10 @@ def command(network, draw, sent):
     """A command, and how many datagrams there may be then."""
     server, router = draw.choice(network.servers), draw.choice(list(network.routers))
     fails = draw.choice(["", "", "", " doubt", " loadfails"])
-    word = draw.choice(["send"] * 4 + ["deliver"] * 6 + ["tick"] * 2 + ["change", "junk", "restart", "restart", "notice", "resend", "hold", "acks",
-                                                                        "ask", "due"])
+    word = draw.choice(["send"] * 4 + ["deliver"] * 6 + ["tick"] * 2 + ["change", "junk", "restart", "restart", "rotate", "rotate", "lose", "notice",
+                                                                        "resend", "hold", "acks", "ask", "due"])
     number = draw.randint(0, sent) if draw.random() < 0.9 else draw.choice(NUMBERS)
+    key = draw.choice(network.keys[router]) if draw.random() < 0.9 else draw.randint(0, 256)
     node = draw.choice([server, router])
     return {
         "send": f"send {router} {draw.choice(network.routers[router])}{' doubt' if fails == ' doubt' else ''}",
@@ -93,6 +99,8 @@ def command(network, draw, sent):
         "junk": f"junk {node} 127.0.{draw.randint(1, 2)}.{draw.randint(0, 3)} {network.hex(0, 90) or '-'}",
         "restart": f"restart {server} {draw.randint(0, 2)}" if draw.random() < 0.5 else
                    f"restart {router} {draw.randint(0, 2)} {' '.join(network.records()) or 'empty'}",
+        "rotate": f"rotate {router} {key}{' loadfails' if fails == ' loadfails' else ''}",
+        "lose": f"lose {router} {key}" if draw.random() < 0.5 else f"lose {router} {key} {' '.join(network.records()) or 'empty'}",
         "notice": f"notice {server} {router}{fails}",
         "resend": f"resend {server} {router}",
         "hold": f"hold {server}",
@@ -135,9 +143,36 @@ def row_order(line):
     return router, prefix.version, prefix.network.network_address.packed, prefix.network.prefixlen
 
 
+class Keys:
+    """Which keys a router used, as far as its lines tell."""
+
+    def __init__(self):
+        self.present, self.used, self.lost, self.last = None, set(), set(), {}
+
+    def takes(self, word, key):
+        """Whether it may go over to the key, or start under it behind a lost store."""
+        may = key not in (self.lost | {self.present} if word == "rotated" else self.used)
+        self.lost = self.lost if word == "rotated" else set(self.used)
+        self.present = key
+        self.used.add(key)
+        return may
+
+    def has(self, key):
+        """Whether the key is its present one."""
+        may = key == self.present if self.present is not None else key not in self.lost
+        self.present = key
+        self.used.add(key)
+        return may
+
+    def sends(self, key, nonce):
+        may = self.has(key) and nonce > self.last.get(key, 0)
+        self.last[key] = nonce
+        return may
+
+
 def wrong_line(output):
     """The first line that can't follow those before it, or None."""
-    last, accepted, rows = {}, set(), []
+    last, accepted, rows, keys = {}, set(), [], collections.defaultdict(Keys)
     for line in output.splitlines():
         if it := ACCEPTED.match(line):
             server, router, key, nonce = it.groups()
@@ -147,8 +182,17 @@ def wrong_line(output):
             accepted.add(it.groups())
         elif it := COUNTED.match(line):
             router, server, key, nonce = it.groups()
-            if (server, router, key, nonce) not in accepted:
+            if (server, router, key, nonce) not in accepted or not keys[router].has(key):
                 return line
+        elif it := SENT.match(line):
+            if not keys[it[1]].sends(it[2], int(it[3])):
+                return line
+        elif it := KEYED.match(line):
+            if not keys[it[2]].takes(it[1], it[3]):
+                return line
+        elif it := UNSTARTED.match(line):
+            # (behind a lost store its key may be another now)
+            keys[it[1]].present = None
         rows = [*rows, line] if line.startswith("row ") else []
         if len(rows) > 1 and row_order(rows[-2]) >= row_order(rows[-1]):
             return line

@@ -20,7 +20,7 @@ use Rattle.lisp_model.specs.Trace.{EventValue, Step, Opening, router_at, is_serv
 use Rattle.lisp_model.specs.Counted.{acked}
 use Rattle.lisp_model.specs.declared.line.Line.{Line}
 use Rattle.lisp_model.specs.declared.world_fault.WorldFault.{WorldFault}
-use Rattle.lisp_model.specs.declared.world_fault.WorldFault.TheVariants.{NoNode, WrongKind, NoDatagram, Clock, Repeated, OutOfMemory, Start}
+use Rattle.lisp_model.specs.declared.world_fault.WorldFault.TheVariants.{NoNode, WrongKind, UnknownKey, KeyUsed, NoDatagram, Clock, Repeated, OutOfMemory, Start}
 use Rattle.lisp_refinement.specs.World.{WorldState, ServerNodeState, RouterNodeState, RouterCoreState, Up, Down}
 use Rattle.lisp_refinement.specs.Nodes.{server_at, up_in, etr_at}
 use Rattle.lisp_refinement.specs.Stands.{Stands, StandsForCore, StandsForEtr}
@@ -67,6 +67,8 @@ module _ (n : ℕ) (stores : List MemoryStoreState) (made : stores ≡ replicate
       by (Start _ (starts.Store faults.Damaged)) may twice = absurd may
       by NoNode may twice = absurd may
       by WrongKind may twice = absurd may
+      by UnknownKey may twice = absurd may
+      by KeyUsed may twice = absurd may
       by NoDatagram may twice = absurd may
       by Clock may twice = absurd may
 

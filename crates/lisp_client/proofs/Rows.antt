@@ -82,6 +82,11 @@ gives_none (events.Restart router pick (Some db)) node none = by (router == node
     by : (b : Bool) → (router == node) ≡ b → b ≡ false
     by true same = absurd (none.1 pick db (ap (λ (n : ℕ). events.Restart n pick (Some db)) ((Decides-eqb router node).0 same)))
     by false other = refl
+gives_none (events.Lose router key (Some db)) node none = by (router == node) refl
+  where
+    by : (b : Bool) → (router == node) ≡ b → b ≡ false
+    by true same = absurd (none.2 key db (ap (λ (n : ℕ). events.Lose n key (Some db)) ((Decides-eqb router node).0 same)))
+    by false other = refl
 gives_none _ node none = refl
 
 -- no step with a place between two gives one

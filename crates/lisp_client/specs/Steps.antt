@@ -65,6 +65,7 @@ pub record IsSentIn (o : Opening) (T : List Step) (server : ℕ) (row : RowValue
 abbrev pub GivesNoDatabase : EventValue → ℕ → Type 0
 GivesNoDatabase event node = ((db : List MapRecordValue) → event ≢ events.Change node db)
     × ((pick : ℕ) (db : List MapRecordValue) → event ≢ events.Restart node pick (Some db))
+    × ((key : ℕ) (db : List MapRecordValue) → event ≢ events.Lose node key (Some db))
 
 -- no event of a step between the two gives the router a database; each step is named by those before it
 abbrev pub UnchangedBetween : List Step → ℕ → List Step → List Step → Type 0

@@ -1,4 +1,5 @@
 pub mod TimerLaws
 pub mod SafeLaws
+pub mod Rounds
 pub mod Refusals
 pub mod HearingLaws

@@ -83,6 +83,7 @@ unfolding due_after
 rounds_keep_time = record {
   start = λ now. record { due = refl; sends = refl; renewal = tt };
   begin = λ now r. record { due = refl; sends = refl; renewal = tt };
+  rotate = λ now r. record { due = refl; sends = refl; renewal = tt };
   send = λ r begin moments nonce now keeps. record {
     due = ap (λ k. now + gap k) keeps.sends ∙ ap (λ g. now + g) (gap_min (length moments));
     sends = ap (λ k. min (k + 1) 6) keeps.sends ∙ sends_min (length moments);

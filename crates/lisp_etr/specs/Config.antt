@@ -15,6 +15,14 @@ pub record EtrConfigValue : Type 0 where
   pub use_ttl : Bool
   pub nonce_block : ℕ
 
+-- what its nonces under a key are kept for
+abbrev pub sent_pair_under : EtrConfigValue → ℕ → Pair
+sent_pair_under c key_id = record { kind = Sent; router = c.me; key = key_id }
+
 -- what its nonces are kept for
 abbrev pub sent_pair : EtrConfigValue → Pair
-sent_pair c = record { kind = Sent; router = c.me; key = c.key_id }
+sent_pair c = sent_pair_under c c.key_id
+
+-- the same with another key
+abbrev pub with_key : EtrConfigValue → ℕ → List ℕ → EtrConfigValue
+with_key c key_id secret = record c { key_id = key_id; secret = secret }

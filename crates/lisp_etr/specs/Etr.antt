@@ -1,9 +1,9 @@
 -- What a router is (RFC 9301 section 8.2).
 use Rattle.std.specs.Prelude.{ℕ, List, length, map, replicate}
 use Rattle.lisp_records.specs.Record.{MapRecordValue}
-use Rattle.lisp_etr.specs.Config.{EtrConfigValue}
+use Rattle.lisp_etr.specs.Config.{EtrConfigValue, with_key}
 use Rattle.lisp_etr.specs.declared.round.Round.{Round}
-use Rattle.lisp_etr.specs.Round.{first_round, new_round}
+use Rattle.lisp_etr.specs.Round.{first_round, new_round, rotated_round}
 
 -- its configuration; what it registers; its last nonce; what the last save that was done has saved, 0
 -- before; and how it stands with each of its Map-Servers
@@ -21,3 +21,13 @@ etr_started config database last now = record { config = config; database = data
 -- a router that registers another database from a time on
 abbrev pub etr_changed : EtrState → List MapRecordValue → ℕ → EtrState
 etr_changed e database now = record e { database = database; rounds = map (new_round now) e.rounds }
+
+-- a router that goes over to another key at a time, with its last nonce under it
+abbrev pub etr_rotated : EtrState → ℕ → List ℕ → ℕ → ℕ → EtrState
+etr_rotated e key_id secret last now = record {
+  config = with_key e.config key_id secret;
+  database = e.database;
+  last = last;
+  safe = 0;
+  rounds = map (rotated_round now) e.rounds;
+}

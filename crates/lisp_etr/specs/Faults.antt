@@ -6,6 +6,8 @@ use Rattle.lisp_messages.specs.declared.fault.ReadFault.{ReadFault}
 use Rattle.lisp_messages.specs.declared.fault.ReadFault.TheVariants as reads
 use Rattle.lisp_etr.specs.declared.start_fault.StartFault.{StartFault}
 use Rattle.lisp_etr.specs.declared.start_fault.StartFault.TheVariants as starts
+use Rattle.lisp_etr.specs.declared.rotate_fault.RotateFault.{RotateFault}
+use Rattle.lisp_etr.specs.declared.rotate_fault.RotateFault.TheVariants as rotates
 use Rattle.lisp_etr.specs.declared.send_fault.SendFault.{SendFault}
 use Rattle.lisp_etr.specs.declared.send_fault.SendFault.TheVariants as sends
 use Rattle.lisp_etr.specs.declared.notify_fault.NotifyFault.{NotifyFault}
@@ -14,6 +16,10 @@ use Rattle.lisp_etr.specs.declared.notify_fault.NotifyFault.TheVariants as notif
 abbrev pub start_fault_number : StartFault → ℕ
 start_fault_number (starts.Store _) = 35
 start_fault_number starts.OutOfMemory = 36
+
+abbrev pub rotate_fault_number : RotateFault → ℕ
+rotate_fault_number rotates.SameKey = 37
+rotate_fault_number (rotates.Store _) = 38
 
 abbrev pub send_fault_number : SendFault → ℕ
 send_fault_number sends.NoServer = 40

@@ -4,6 +4,7 @@ pub mod Round
 pub mod Faults
 pub mod Etr
 pub mod Starting
+pub mod Rotating
 pub mod Sending
 pub mod Saving
 pub mod Hearing

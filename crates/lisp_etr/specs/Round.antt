@@ -13,6 +13,10 @@ first_round now = record { due = now; sends = 0; renewal = 0; latest = 0; acked 
 abbrev pub new_round : ℕ → Round → Round
 new_round now r = record r { due = now; sends = 0 }
 
+-- a new round is due now, under another key: no Map-Register went out under it
+abbrev pub rotated_round : ℕ → Round → Round
+rotated_round now r = record r { due = now; sends = 0; latest = 0 }
+
 -- a Map-Register went out; from six on, sends stays six
 abbrev pub round_after_send : ℕ → ℕ → Round → Round
 round_after_send nonce now r = record r { due = now + gap r.sends; sends = min (r.sends + 1) 6; renewal = now + minute; latest = nonce }
@@ -34,11 +38,12 @@ pub record KeepsRoundTime (r : Round) (begin : ℕ) (moments : List ℕ) : Type 
   pub sends : r.sends ≡ min (length moments) 6
   pub renewal : IsRenewal r.renewal moments
 
--- a round begins at the start, at each change of the database, and a minute after a send of a round
+-- a round begins at the start, at each change of the database or the key, and a minute after a send of a round
 -- that is acknowledged; a send goes on with it
 pub record KeepsTime : Type 0 where
   pub start : (now : ℕ) → KeepsRoundTime (first_round now) now []
   pub begin : (now : ℕ) (r : Round) → KeepsRoundTime (new_round now r) now []
+  pub rotate : (now : ℕ) (r : Round) → KeepsRoundTime (rotated_round now r) now []
   pub send : (r : Round) (begin : ℕ) (moments : List ℕ) (nonce now : ℕ) → KeepsRoundTime r begin moments
       → KeepsRoundTime (round_after_send nonce now r) begin (now ∷ moments)
   pub renew : (r : Round) (begin last : ℕ) (before : List ℕ) (key : ℕ) → KeepsRoundTime r begin (last ∷ before)

@@ -1,7 +1,7 @@
 //! The configuration of a router.
 
 ghost use Rattle.std.specs.Prelude.{◌≡◌};
-ghost use Rattle.lisp_etr.specs.Config.{sent_pair};
+ghost use Rattle.lisp_etr.specs.Config.{sent_pair, sent_pair_under, with_key};
 
 use crate::servers::Servers;
 use lisp_hmac::Key;
@@ -42,10 +42,25 @@ impl<A: Allocator> EtrConfig<A> {
     pub(crate) fn pair(&self) -> Pair
         ensures { result ≡ sent_pair self.now }
     {
+        self.pair_under(self.key_id)
+    }
+
+    /// What its nonces under a key are kept for.
+    pub(crate) fn pair_under(&self, key_id: u8) -> Pair
+        ensures { result ≡ sent_pair_under self.now key_id }
+    {
         Pair {
             kind: PairKind::Sent,
             router: self.me,
-            key: self.key_id,
+            key: key_id,
         }
+    }
+
+    /// Registers under this key from now on.
+    pub(crate) fn set_key(&mut self, key_id: u8, key: Key)
+        ensures { self.new ≡ with_key self.old key_id key }
+    {
+        self.key_id = key_id;
+        self.key = key;
     }
 }

@@ -9,6 +9,7 @@ ghost use Rattle.lisp_records.specs.Moment.{max_moment};
 ghost use Rattle.lisp_etr.specs.Round.{acked_at};
 ghost use Rattle.lisp_etr.specs.Faults.{store_out_of_memory, device_failed};
 ghost use Rattle.lisp_etr.specs.Etr.{etr_started, etr_changed};
+ghost use Rattle.lisp_etr.specs.Rotating.{RotatesTo, GoesOnIfHonest, RefusesSameKey, IsOfFullStore as IsOfFullStoreToRotate, SameIfFull as SameIfFullToRotate, FailsAsArmed as FailsToRotateAsArmed, FailsByDevice as FailsToRotateByDevice};
 ghost use Rattle.lisp_etr.specs.Sending.{EtrSends, next_datagram, next_register, NoServerAt, NoNonceFor};
 ghost use Rattle.lisp_etr.specs.Hearing.{Gives, AnswerFits, counted_in, seen_at, etr_after, TakesMemoryIfOut, RefusesBadHead, notice_from};
 ghost use Rattle.lisp_etr.specs.declared.start_fault.StartFault.{StartFault};
@@ -21,11 +22,13 @@ ghost use Rattle.lisp_etr.specs.Saving.{SafeIfHonest, SettlesIfHonest, LeavesIfH
 use crate::config::EtrConfig;
 use crate::hearing::hear;
 use crate::notify_fault::NotifyFault;
-use crate::round::{Round, begin_all};
+use crate::rotate_fault::{RotateFault, RotateRefused};
+use crate::round::{Round, begin_all, rotate_all};
 use crate::seen::Seen;
 use crate::send_fault::SendFault;
 use crate::sending::{datagram, keep_block};
 use crate::start_fault::{StartFault, StartRefused};
+use lisp_hmac::Key;
 use lisp_memory::{FallibleCopies, Memory};
 use lisp_messages::{MapNotify, write_notify_under};
 use lisp_nonces::{FIRST_NOTICE_NONCE, LAST_ROUTER_NONCE, NonceStore};
@@ -119,6 +122,54 @@ impl<A: Memory + Copy> Etr<A> {
     {
         self.database = database;
         begin_all(&mut self.rounds, now);
+    }
+
+    /// Registers under another key of its site from a time on, in ms: its last nonce is the one that the store
+    /// keeps for that key, 0 where it keeps none; all its Map-Servers are due, and what they were sent under the
+    /// former key is no longer counted. What they acknowledged before stays. Takes no memory.
+    ///
+    /// It refuses in this order, changes nothing then, and gives back the key: `SameKey`, `Store`.
+    pub fn rotate<S: NonceStore>(
+        &mut self,
+        key_id: u8,
+        key: Key,
+        store: &mut S,
+        now: u64,
+    ) -> Result<(), RotateRefused>
+        ensures rotated { OnOk result (RotatesTo self.old self.new key_id key now) }
+        ensures last { OnOk result (GoesOnIfHonest self.old self.new key_id (S.seen store.old)) }
+
+        // The refusals, in their order.
+        ensures same_key { RefusesSameKey key result ↔ (key_id ≡ self.old.config.key_id) }
+        ensures back { IfErr result (λ refused. refused.key ≡ key) }
+        ensures err { OnErr result (self.new ≡ self.old) }
+
+        // Loading changes no list, and the key that it has isn't asked for.
+        ensures same { KeepsListsIfHonest (S.seen store.old) (S.seen store.new) }
+        ensures unasked { key_id ≡ self.old.config.key_id → S.seen store.new ≡ S.seen store.old }
+        ensures store_memory { IfErr result (λ refused. IsOfFullStoreToRotate refused → S.may_refuse) }
+        ensures refused { IfErr result (SameIfFullToRotate (S.seen store.old) (S.seen store.new)) }
+        ensures loads { OnOk result (MayLoad (S.seen store.old)) }
+        ensures load_fails { IfErr result (FailsToRotateAsArmed (S.seen store.old)) }
+        ensures cause { IfErr result (FailsToRotateByDevice (S.seen store.old) (S.seen store.new)) }
+        ensures proceeds { Proceeds (S.seen store.old) (S.seen store.new) }
+    {
+        if key_id == self.config.key_id {
+            let fault = RotateFault::SameKey;
+            return Err(RotateRefused { fault, key });
+        }
+        let last = match store.load(&self.config.pair_under(key_id)) {
+            Ok(last) => last,
+            Err(fault) => {
+                let fault = RotateFault::Store(fault);
+                return Err(RotateRefused { fault, key });
+            }
+        };
+        self.config.set_key(key_id, key);
+        self.last = last.unwrap_or(0);
+        self.safe = 0;
+        rotate_all(&mut self.rounds, now);
+        Ok(())
     }
 
     /// The least number, from 0 on, of a Map-Server that is due at a time, in ms; `None` where none is. Takes

@@ -3,7 +3,7 @@
 ghost use Rattle.std.specs.Prelude.{◌≡◌, ◌≤◌, ℕ, map};
 ghost use Rattle.lisp_records.specs.Moment.{max_moment};
 ghost use Rattle.lisp_etr.specs.Timers.{gap};
-ghost use Rattle.lisp_etr.specs.Round.{first_round, new_round, round_after_send, round_after_count};
+ghost use Rattle.lisp_etr.specs.Round.{first_round, new_round, rotated_round, round_after_send, round_after_count};
 
 /// A minute, in ms.
 const MINUTE: u64 = 60_000;
@@ -20,7 +20,7 @@ pub(crate) struct Round {
     pub(crate) sends: u8,
     /// When the next round is due once the last send is acknowledged; 0 before the first send.
     pub(crate) renewal: u64,
-    /// The nonce of the last send; 0 where there was none.
+    /// The nonce of the last send under the present key; 0 where there was none.
     pub(crate) latest: u64,
     /// The Key ID and the nonce of the last send that was acknowledged.
     pub(crate) acked: Option<(u8, u64)>,
@@ -46,6 +46,14 @@ impl Round {
     {
         self.due = now;
         self.sends = 0;
+    }
+
+    /// A new round under another key, due now: no Map-Register went out under it.
+    pub(crate) fn rotate(&mut self, now: u64)
+        ensures { self.new ≡ rotated_round now self.old }
+    {
+        self.begin(now);
+        self.latest = 0;
     }
 
     /// A Map-Register goes out under a nonce, at a time, in ms, of at most 2^62.
@@ -77,6 +85,15 @@ pub(crate) fn begin_all(rounds: &mut [Round], now: u64)
 {
     for round in rounds.iter_mut() {
         round.begin(now);
+    }
+}
+
+/// A new round with each Map-Server under another key, due now.
+pub(crate) fn rotate_all(rounds: &mut [Round], now: u64)
+    ensures { rounds.new ≡ map (rotated_round now) rounds.old }
+{
+    for round in rounds.iter_mut() {
+        round.rotate(now);
     }
 }
 

@@ -10,6 +10,7 @@ use Rattle.lisp_nonces.specs.declared.fault.StoreFault.{StoreFault}
 use Rattle.lisp_etr.specs.declared.send_fault.SendFault.TheVariants as sends
 use Rattle.lisp_etr.specs.declared.notify_fault.NotifyFault.TheVariants as notifies
 use Rattle.lisp_etr.specs.declared.start_fault.StartFault.TheVariants as starts
+use Rattle.lisp_etr.specs.declared.rotate_fault.RotateFault.TheVariants as rotates
 use Rattle.lisp_admission.specs.declared.notice_fault.NoticeFault.TheVariants as notices
 use Rattle.lisp_admission.specs.declared.refused.Refused.{Refused}
 use Rattle.lisp_admission.specs.declared.refused.Refused.TheVariants as refused
@@ -48,4 +49,5 @@ carried_words (refusals.Receive why) = refused_words why
 carried_words (refusals.Notice (notices.StoreLoad fault)) = store_words fault
 carried_words (refusals.Notice (notices.StoreSave fault)) = store_words fault
 carried_words (refusals.Start (starts.Store fault)) = store_words fault
+carried_words (refusals.Rotate (rotates.Store fault)) = store_words fault
 carried_words _ = []

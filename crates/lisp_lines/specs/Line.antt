@@ -14,7 +14,10 @@ use Rattle.lisp_lines.specs.Carried.{carried_words}
 abbrev pub pair_text : List ℕ → List ℕ → List ℕ
 pair_text one other = one ++ codes " " ++ other
 
--- a Key ID and a nonce
+-- a Key ID; and with a nonce
+abbrev pub key_text : ℕ → List ℕ
+key_text key = codes " key " ++ decimal key
+
 abbrev pub keyed_text : ℕ → ℕ → List ℕ
 keyed_text key nonce = codes " key " ++ decimal key ++ codes " nonce " ++ decimal nonce
 
@@ -33,6 +36,8 @@ line_words c place (lines.Noticed router server nonce datagram) = codes "noticed
 line_words c place (lines.Nowhere datagram) = codes "nowhere " ++ decimal datagram
 line_words c place (lines.Ticked ms now) = codes "tick " ++ decimal ms ++ codes " now " ++ decimal now
 line_words c place (lines.Restarted node) = codes "restarted " ++ node_name c node
+line_words c place (lines.Rotated router key) = codes "rotated " ++ node_name c router ++ key_text key
+line_words c place (lines.Emptied router key) = codes "emptied " ++ node_name c router ++ key_text key
 line_words c place (lines.Notice server router key nonce datagram) = codes "notice " ++ pair_text (node_name c server) (node_name c router) ++ keyed_text key nonce ++ datagram_text place (Some datagram)
 line_words c place (lines.Resent server router datagram) = codes "resent " ++ pair_text (node_name c server) (node_name c router) ++ datagram_text place (Some datagram)
 line_words c place (lines.Down router) = codes "down " ++ node_name c router

@@ -8,7 +8,7 @@ use Rattle.lisp_model.specs.declared.line.Line.{Line}
 use Rattle.lisp_model.specs.declared.line.Line.TheVariants as lines
 use Rattle.lisp_lines.specs.Name.{node_name, router_name}
 use Rattle.lisp_lines.specs.Carried.{carried_words}
-use Rattle.lisp_lines.specs.Line.{pair_text, keyed_text}
+use Rattle.lisp_lines.specs.Line.{pair_text, key_text, keyed_text}
 
 -- the first word
 abbrev pub verb : Line → List ℕ
@@ -21,6 +21,8 @@ verb (lines.Noticed _ _ _ _) = codes "noticed"
 verb (lines.Nowhere _) = codes "nowhere"
 verb (lines.Ticked _ _) = codes "tick"
 verb (lines.Restarted _) = codes "restarted"
+verb (lines.Rotated _ _) = codes "rotated"
+verb (lines.Emptied _ _) = codes "emptied"
 verb (lines.Notice _ _ _ _ _) = codes "notice"
 verb (lines.Resent _ _ _) = codes "resent"
 verb (lines.Down _) = codes "down"
@@ -35,6 +37,8 @@ nodes_text c (lines.Done server router _) = codes " " ++ pair_text (node_name c 
 nodes_text c (lines.Counted router server _ _) = codes " " ++ pair_text (node_name c router) (node_name c server)
 nodes_text c (lines.Noticed router server _ _) = codes " " ++ pair_text (node_name c router) (node_name c server)
 nodes_text c (lines.Restarted node) = codes " " ++ node_name c node
+nodes_text c (lines.Rotated router _) = codes " " ++ node_name c router
+nodes_text c (lines.Emptied router _) = codes " " ++ node_name c router
 nodes_text c (lines.Notice server router _ _ _) = codes " " ++ pair_text (node_name c server) (node_name c router)
 nodes_text c (lines.Resent server router _) = codes " " ++ pair_text (node_name c server) (node_name c router)
 nodes_text c (lines.Down router) = codes " " ++ node_name c router
@@ -55,6 +59,8 @@ details_text (lines.Counted _ _ key nonce) = keyed_text key nonce
 details_text (lines.Noticed _ _ nonce _) = codes " nonce " ++ decimal nonce
 details_text (lines.Nowhere datagram) = codes " " ++ decimal datagram
 details_text (lines.Ticked ms now) = codes " " ++ decimal ms ++ codes " now " ++ decimal now
+details_text (lines.Rotated _ key) = key_text key
+details_text (lines.Emptied _ key) = key_text key
 details_text (lines.Notice _ _ key nonce _) = keyed_text key nonce
 details_text (lines.Refused _ what) = refusal_text what
 details_text _ = []

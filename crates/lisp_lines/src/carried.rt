@@ -5,7 +5,7 @@ ghost use Rattle.lisp_lines.specs.Carried.{record_words, read_words, carried_wor
 ghost use Rattle.lisp_lines.specs.Front.{Adds, AddsFront};
 
 use crate::append::put_number;
-use lisp_etr::{NotifyFault, SendFault, StartFault};
+use lisp_etr::{NotifyFault, RotateFault, SendFault, StartFault};
 use lisp_memory::Memory;
 use lisp_messages::ReadFault;
 use lisp_model::Refusal;
@@ -30,7 +30,8 @@ pub fn put_carried<A: Memory>(text: &mut String<A>, refusal: &Refusal) -> Result
         Refusal::Receive(Refused::StoreLoad(fault) | Refused::StoreSave(fault))
         | Refusal::Send(SendFault::Store(fault))
         | Refusal::Notice(NoticeFault::StoreLoad(fault) | NoticeFault::StoreSave(fault))
-        | Refusal::Start(StartFault::Store(fault)) => {
+        | Refusal::Start(StartFault::Store(fault))
+        | Refusal::Rotate(RotateFault::Store(fault)) => {
             put_number(text, " store ", u64::from(fault.number()))
         }
         _ => Ok(()),

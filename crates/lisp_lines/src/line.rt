@@ -2,7 +2,7 @@
 
 ghost use Rattle.std.specs.Prelude.{◌≡◌, ◌++◌, codes, OnErr};
 ghost use Rattle.lisp_lines.specs.Front.{Adds, AddsFront, GivesText};
-ghost use Rattle.lisp_lines.specs.Line.{pair_text, keyed_text, datagram_text, line_words, line_text};
+ghost use Rattle.lisp_lines.specs.Line.{pair_text, key_text, keyed_text, datagram_text, line_words, line_text};
 ghost use Rattle.lisp_lines.specs.Parts.{verb, nodes_text, refusal_text, details_text, datagram_of};
 
 use crate::append::put_number;
@@ -63,6 +63,8 @@ fn verb(line: &Line) -> &'static str
         Line::Nowhere { .. } => "nowhere",
         Line::Ticked { .. } => "tick",
         Line::Restarted { .. } => "restarted",
+        Line::Rotated { .. } => "rotated",
+        Line::Emptied { .. } => "emptied",
         Line::Notice { .. } => "notice",
         Line::Resent { .. } => "resent",
         Line::Down { .. } => "down",
@@ -82,6 +84,8 @@ fn put_nodes<A: Memory, E: Allocator>(
     match *line {
         Line::Changed { router: node, .. }
         | Line::Restarted { node }
+        | Line::Rotated { router: node, .. }
+        | Line::Emptied { router: node, .. }
         | Line::Down { router: node }
         | Line::Refused { node, .. } => put_node(text, node_name(config, node)),
         Line::Sent { router, server, .. }
@@ -122,6 +126,7 @@ fn put_details<A: Memory>(text: &mut String<A>, line: &Line) -> Result<(), Alloc
         ),
         Line::Nowhere { datagram } => text.try_write(format_args!(" {datagram}")),
         Line::Ticked { ms, now } => text.try_write(format_args!(" {ms} now {now}")),
+        Line::Rotated { key, .. } | Line::Emptied { key, .. } => put_key(text, *key),
         Line::Refused { what, .. } => put_refusal(text, what),
         Line::Restarted { .. } | Line::Resent { .. } | Line::Down { .. } => Ok(()),
     }
@@ -183,6 +188,15 @@ fn put_pair<A: Memory>(text: &mut String<A>, one: &str, other: &str) -> Result<(
     text.try_write(format_args!(" {one} {other}"))
 }
 
+// Appends a Key ID. Out of memory, it leaves a front of it.
+fn put_key<A: Memory>(text: &mut String<A>, key: u8) -> Result<(), AllocError>
+    ensures text { Adds result text.old text.new (key_text key) }
+    ensures front { AddsFront result text.old text.new (key_text key) }
+    ensures memory { OnErr result A.may_refuse }
+{
+    put_number(text, " key ", u64::from(key))
+}
+
 /// Appends a Key ID and a nonce. Out of memory, it leaves a front of them.
 #[tactic(auto, using(crate::proofs::Appends::steps))]
 pub(crate) fn put_keyed<A: Memory>(
@@ -194,6 +208,6 @@ pub(crate) fn put_keyed<A: Memory>(
     ensures front { AddsFront result text.old text.new (keyed_text key nonce) }
     ensures memory { OnErr result A.may_refuse }
 {
-    put_number(text, " key ", u64::from(key))?;
+    put_key(text, key)?;
     put_number(text, " nonce ", nonce)
 }

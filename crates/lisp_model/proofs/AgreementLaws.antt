@@ -34,6 +34,8 @@ sent_by_router o T actor after (events.Deliver _ _) r s k n g row = absurd row.a
 sent_by_router o T actor after (events.Junk _ _ _) r s k n g row = absurd row.arrives
 sent_by_router o T actor after (events.Tick _) r s k n g row = absurd row
 sent_by_router o T actor after (events.Restart _ _ _) r s k n g row = absurd row
+sent_by_router o T actor after (events.Rotate _ _ _) r s k n g row = absurd row
+sent_by_router o T actor after (events.Lose _ _ _) r s k n g row = absurd row
 sent_by_router o T actor after (events.Notice _ _ _) r s k n g row = absurd row
 sent_by_router o T actor after (events.Resend _ _) r s k n g row = absurd row
 

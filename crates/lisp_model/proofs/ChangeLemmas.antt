@@ -17,6 +17,7 @@ use Rattle.lisp_model.proofs.ListLemmas.{head_or_tail, in_none}
 given_none : (e : EventValue) (line : Line) (r : ℕ) (old : List MapRecordValue) → gives_database e r ≡ false → database_after e line r old ≡ old
 given_none (events.Change router db) (lines.Changed _ _) r old none = ap (λ b. if b then db else old) none
 given_none (events.Restart node pick (Some db)) line r old none = ap (λ b. if b then db else old) none
+given_none (events.Lose node key (Some db)) line r old none = ap (λ b. if b then db else old) none
 given_none e line r old none = refl
 
 -- a Map-Register that goes out gives nothing
@@ -27,6 +28,8 @@ sent_none o T actor after (events.Deliver _ _) router server key nonce datagram 
 sent_none o T actor after (events.Junk _ _ _) router server key nonce datagram r row = absurd row.arrives
 sent_none o T actor after (events.Tick _) router server key nonce datagram r row = absurd row
 sent_none o T actor after (events.Restart _ _ _) router server key nonce datagram r row = absurd row
+sent_none o T actor after (events.Rotate _ _ _) router server key nonce datagram r row = absurd row
+sent_none o T actor after (events.Lose _ _ _) router server key nonce datagram r row = absurd row
 sent_none o T actor after (events.Notice _ _ _) router server key nonce datagram r row = absurd row
 sent_none o T actor after (events.Resend _ _) router server key nonce datagram r row = absurd row
 

@@ -27,6 +27,10 @@ use Rattle.lisp_model.proofs.OriginLaws.{were_sent}
 use Rattle.lisp_model.proofs.Origins.{ReadsBack, all_from}
 use Rattle.lisp_model.proofs.ReplyOrigins.{IsEntry, entry_is, server_of_sent, IsReply, stays_accepted, all_known}
 
+none_or_before : (P : Type 0) (old : ℕ) → (old ≡ 0) ⊎ P → (b : Bool) → ((if b then 0 else old) ≡ 0) ⊎ P
+none_or_before P old before true = inl refl
+none_or_before P old before false = before
+
 -- a Map-Register goes to a server, so that nothing is the latest to another node
 latest_case : (o : Opening) (T : List Step) (s : Step) (line : Line) → MayCome (context_of o T s) s.event line → (r k : ℕ) (old : ℕ) → (old ≡ 0) ⊎ (is_server o.config k ≡ true) → (latest_nonce_after line r k old ≡ 0) ⊎ (is_server o.config k ≡ true)
 latest_case o T s (lines.Sent router server key nonce datagram) row r k old before = at (router == r && server == k) refl
@@ -34,11 +38,9 @@ latest_case o T s (lines.Sent router server key nonce datagram) row r k old befo
     at : (b : Bool) → (router == r && server == k) ≡ b → ((if b then nonce else old) ≡ 0) ⊎ (is_server o.config k ≡ true)
     at true is = inr (subst (λ (n : ℕ). is_server o.config n ≡ true) ((Decides-eqb server k).0 (and_parts (router == r) (server == k) is).1) (server_of_sent o T s.actor s.shown s.event router server key nonce datagram row))
     at false is = before
-latest_case o T s (lines.Restarted node) row r k old before = at (node == r)
-  where
-    at : (b : Bool) → ((if b then 0 else old) ≡ 0) ⊎ (is_server o.config k ≡ true)
-    at true = inl refl
-    at false = before
+latest_case o T s (lines.Restarted node) row r k old before = none_or_before (is_server o.config k ≡ true) old before (node == r)
+latest_case o T s (lines.Rotated node _) row r k old before = none_or_before (is_server o.config k ≡ true) old before (node == r)
+latest_case o T s (lines.Emptied node _) row r k old before = none_or_before (is_server o.config k ≡ true) old before (node == r)
 latest_case o T s _ row r k old before = before
 
 latest_to : (o : Opening) (T : List Step) → LegalTrace o T → (r k : ℕ) → (latest_nonce T r k ≡ 0) ⊎ (is_server o.config k ≡ true)

@@ -5,6 +5,8 @@ pub mod Arrivals
 pub mod Steps
 pub mod LegalRows
 pub mod Story
+pub mod Rotations
+pub mod KeyMeanings
 pub mod NearMisses
 pub mod BrokenPromises
 pub mod Premises

@@ -1,5 +1,5 @@
 -- A node's step leaves the parts of the other nodes.
-use Rattle.std.proofs.Common.{◌≡◌, ℕ, ◌+◌, Bool, true, false, List, [], ◌++◌, Option, Some, None, refl, sym, ap, ◌∙◌, true≢false, arith}
+use Rattle.std.proofs.Common.{◌≡◌, ℕ, ◌+◌, Bool, true, false, List, [], ◌∷◌, ◌++◌, Option, Some, None, refl, sym, ap, ◌∙◌, true≢false, arith}
 use Rattle.std.specs.Prelude.{◌≢◌, ◌==◌, ◌&&◌, if◌then◌else◌}
 use Rattle.std.proofs.lemmas.Bool.Decides.{Decides-eqb}
 use Rattle.lisp_records.specs.Record.{MapRecordValue}
@@ -9,7 +9,8 @@ use Rattle.lisp_model.specs.declared.line.Line.{Line}
 use Rattle.lisp_model.specs.declared.line.Line.TheVariants as lines
 use Rattle.lisp_model.specs.declared.refusal.Refusal.TheVariants as refusals
 use Rattle.lisp_admission.specs.declared.refused.Refused.TheVariants as refuseds
-use Rattle.lisp_model.specs.Trace.{EventValue, Step, Opening, shown_store, clock, time_of, up_after, database_after}
+use Rattle.lisp_model.specs.Trace.{EventValue, Step, Opening, shown_store, clock, time_of, up_after, key_after, database_after}
+use Rattle.lisp_model.specs.Keys.{keys_since_loss_after, keys_before_loss_after}
 use Rattle.lisp_model.specs.Held.{Acceptance}
 use Rattle.lisp_model.specs.Timers.{RoundTimes, Notice, round_after, notices_after, last_notice_after}
 use Rattle.lisp_model.specs.Bag.{Arrival, arrival_of, junk_arrival, since_start_after}
@@ -61,24 +62,38 @@ by_actor t (events.Junk to from bytes) line row = arrives_by t (junk_arrival fro
 by_actor t (events.Tick ms) (lines.Ticked passed now) row = tt
 by_actor t (events.Restart node pick db) (lines.Restarted named) row = row.names ∙ sym row.acts
 by_actor t (events.Restart node pick db) (lines.Refused named (refusals.Start fault)) row = row.names ∙ sym row.acts
+by_actor t (events.Rotate router key fate) (lines.Rotated named under) row = row.names ∙ sym row.acts.acts
+by_actor t (events.Rotate router key fate) (lines.Down named) row = row.1.names ∙ sym row.1.acts.acts
+by_actor t (events.Rotate router key fate) (lines.Refused named (refusals.Rotate why)) row = row.0 ∙ sym row.1.acts
+by_actor t (events.Lose router key db) (lines.Emptied named under) row = row.names ∙ sym row.lost.acts
+by_actor t (events.Lose router key db) (lines.Refused named (refusals.Start fault)) row = row.names ∙ sym row.lost.acts
 by_actor t (events.Notice server router fate) (lines.Notice s r key nonce datagram) row = row.0 ∙ sym row.2.acts.acts
 by_actor t (events.Notice server router fate) (lines.Refused named (refusals.Notice why)) row = row.0 ∙ sym row.1.acts
 by_actor t (events.Resend server router) (lines.Resent s r datagram) row = row.0 ∙ sym row.2.acts.acts
 by_actor t (events.Resend server router) (lines.Refused named (refusals.Notice why)) row = row.0 ∙ sym row.1.acts
 by_actor t _ _ row = absurd row
 
--- and so does its event, where it gives a database
+-- and so does its event, where it gives a database or a key
 abbrev pub GivenBy : EventValue → Line → ℕ → Type 0
 GivenBy (events.Change router _) (lines.Changed _ _) node = router ≡ node
 GivenBy (events.Restart named _ _) _ node = named ≡ node
+GivenBy (events.Rotate router _ _) _ node = router ≡ node
+GivenBy (events.Lose router _ _) _ node = router ≡ node
 GivenBy _ _ node = Unit {0}
 
 pub given_by : (t : Context) (e : EventValue) (line : Line) → MayCome t e line → GivenBy e line t.node
 given_by t (events.Change router db) (lines.Changed named records) row = sym row.acts.acts
 given_by t (events.Restart node pick db) (lines.Restarted named) row = sym row.acts
 given_by t (events.Restart node pick db) (lines.Refused named (refusals.Start fault)) row = sym row.acts
+given_by t (events.Rotate router key fate) (lines.Rotated named under) row = sym row.acts.acts
+given_by t (events.Rotate router key fate) (lines.Down named) row = sym row.1.acts.acts
+given_by t (events.Rotate router key fate) (lines.Refused named (refusals.Rotate why)) row = sym row.1.acts
+given_by t (events.Lose router key db) (lines.Emptied named under) row = sym row.lost.acts
+given_by t (events.Lose router key db) (lines.Refused named (refusals.Start fault)) row = sym row.lost.acts
 given_by t (events.Change router db) _ row = tt
 given_by t (events.Restart node pick db) _ row = absurd row
+given_by t (events.Rotate router key fate) _ row = absurd row
+given_by t (events.Lose router key db) _ row = absurd row
 given_by t _ _ row = tt
 
 module _ (node k : ℕ) (other : k ≢ node) where
@@ -114,25 +129,48 @@ module _ (node k : ℕ) (other : k ≢ node) where
   pub up_other : (e : EventValue) (line : Line) → IsBy line node → (old : Bool) → up_after e line k old ≡ old
   up_other (events.Restart _ _ _) (lines.Refused named _) is old = unless named k false old (differs named is)
   up_other (events.Restart _ _ _) (lines.Restarted named) is old = unless named k true old (differs named is)
+  up_other (events.Lose _ _ _) (lines.Refused named _) is old = unless named k false old (differs named is)
+  up_other (events.Lose _ _ _) (lines.Emptied named _) is old = unless named k true old (differs named is)
   up_other _ _ is old = refl
 
   pub database_other : (e : EventValue) (line : Line) → GivenBy e line node → (old : List MapRecordValue) → database_after e line k old ≡ old
   database_other (events.Change router db) (lines.Changed _ _) is old = unless router k db old (differs router is)
   database_other (events.Restart named _ (Some db)) _ is old = unless named k db old (differs named is)
+  database_other (events.Lose named _ (Some db)) _ is old = unless named k db old (differs named is)
   database_other _ _ is old = refl
+
+  pub key_other : (e : EventValue) (line : Line) → GivenBy e line node → (old : ℕ) → key_after e line k old ≡ old
+  key_other (events.Rotate router key _) (lines.Rotated _ _) is old = unless router k key old (differs router is)
+  key_other (events.Lose router key _) _ is old = unless router k key old (differs router is)
+  key_other _ _ is old = refl
+
+  pub since_loss_other : (e : EventValue) (line : Line) → GivenBy e line node → (old : List ℕ) → keys_since_loss_after e line k old ≡ old
+  since_loss_other (events.Rotate router key _) (lines.Rotated _ _) is old = unless router k (key ∷ old) old (differs router is)
+  since_loss_other (events.Lose router key _) _ is old = unless router k (key ∷ []) old (differs router is)
+  since_loss_other _ _ is old = refl
+
+  pub before_loss_other : (e : EventValue) (line : Line) → GivenBy e line node → (since old : List ℕ) → keys_before_loss_after e k since old ≡ old
+  before_loss_other (events.Lose router key _) _ is since old = unless router k (since ++ old) old (differs router is)
+  before_loss_other _ _ is since old = refl
 
   pub last_sent_other : (line : Line) → IsBy line node → (old : Option ℕ) → last_sent_after line k old ≡ old
   last_sent_other (lines.Sent router _ _ nonce _) is old = unless router k (Some nonce) old (differs router is)
   last_sent_other (lines.Restarted named) is old = unless named k None old (differs named is)
+  last_sent_other (lines.Rotated named _) is old = unless named k None old (differs named is)
+  last_sent_other (lines.Emptied named _) is old = unless named k None old (differs named is)
   last_sent_other _ is old = refl
 
   pub start_values_other : (line : Line) → IsBy line node → (new old : List (Option ℕ)) → start_values_after line new k old ≡ old
   start_values_other (lines.Restarted named) is new old = unless named k new old (differs named is)
+  start_values_other (lines.Rotated named _) is new old = unless named k new old (differs named is)
+  start_values_other (lines.Emptied named _) is new old = unless named k new old (differs named is)
   start_values_other _ is new old = refl
 
   pub round_other : (line : Line) → IsBy line node → (now server : ℕ) (old : RoundTimes) → round_after line now k server old ≡ old
   round_other (lines.Changed router _) is now server old = unless router k _ old (differs router is)
   round_other (lines.Restarted named) is now server old = unless named k _ old (differs named is)
+  round_other (lines.Rotated named _) is now server old = unless named k _ old (differs named is)
+  round_other (lines.Emptied named _) is now server old = unless named k _ old (differs named is)
   round_other (lines.Sent router s _ _ _) is now server old = unless_both router k s server _ old (differs router is)
   round_other (lines.Counted router s _ _) is now server old = unless_both router k s server _ old (differs router is)
   round_other _ is now server old = refl
@@ -140,11 +178,14 @@ module _ (node k : ℕ) (other : k ≢ node) where
   pub latest_other : (line : Line) → IsBy line node → (server old : ℕ) → latest_nonce_after line k server old ≡ old
   latest_other (lines.Sent router s _ nonce _) is server old = unless_both router k s server nonce old (differs router is)
   latest_other (lines.Restarted named) is server old = unless named k 0 old (differs named is)
+  latest_other (lines.Rotated named _) is server old = unless named k 0 old (differs named is)
+  latest_other (lines.Emptied named _) is server old = unless named k 0 old (differs named is)
   latest_other _ is server old = refl
 
   pub acked_other : (line : Line) → IsBy line node → (server : ℕ) (old : Option (ℕ × ℕ)) → acked_after line k server old ≡ old
   acked_other (lines.Counted router s key nonce) is server old = unless_both router k s server _ old (differs router is)
   acked_other (lines.Restarted named) is server old = unless named k None old (differs named is)
+  acked_other (lines.Emptied named _) is server old = unless named k None old (differs named is)
   acked_other _ is server old = refl
 
 clock_stays : (e : EventValue) → is_timeless e ≡ true → (now : ℕ) → now + time_of e ≡ now
@@ -167,6 +208,9 @@ leaves_others o T s l =
       router = λ k kind other. record {
         shown = unless s.actor k s.shown (shown_store o T k) (differs s.actor k other s.actor refl);
         is_up = up_other s.actor k other s.event s.line by _;
+        key = key_other s.actor k other s.event s.line given _;
+        keys_since_loss = since_loss_other s.actor k other s.event s.line given _;
+        keys_before_loss = before_loss_other s.actor k other s.event s.line given _ _;
         database = database_other s.actor k other s.event s.line given _;
         last_sent = last_sent_other s.actor k other s.line by _;
         start_values = start_values_other s.actor k other s.line by _ _;

@@ -118,6 +118,8 @@ announces o T actor after (events.Deliver _ _) server router key nonce datagram 
 announces o T actor after (events.Junk _ _ _) server router key nonce datagram row = absurd row.arrives
 announces o T actor after (events.Tick _) server router key nonce datagram row = absurd row
 announces o T actor after (events.Restart _ _ _) server router key nonce datagram row = absurd row
+announces o T actor after (events.Rotate _ _ _) server router key nonce datagram row = absurd row
+announces o T actor after (events.Lose _ _ _) server router key nonce datagram row = absurd row
 announces o T actor after (events.Resend _ _) server router key nonce datagram row = absurd row
 
 module _ (o : Opening) (distinct : AllPairs (λ a b. a ≢ b) (addresses o.config)) (reads : ReadsBack) where

@@ -8,6 +8,8 @@ use Rattle.std.proofs.lemmas.List.Elements.{Contains-append_cases}
 use Rattle.lisp_nonces.specs.declared.pair.Pair.{Pair}
 use Rattle.lisp_nonces.specs.declared.pair.PairKind.TheVariants as kinds
 use Rattle.lisp_nonces.specs.Kept.{Kept, kept_at, number, InDoubt, NoneBelow}
+use Rattle.lisp_etr.specs.declared.rotate_fault.RotateFault.{RotateFault}
+use Rattle.lisp_etr.specs.declared.rotate_fault.RotateFault.TheVariants as rotates
 use Rattle.lisp_etr.specs.declared.send_fault.SendFault.{SendFault}
 use Rattle.lisp_etr.specs.declared.send_fault.SendFault.TheVariants as sends
 use Rattle.lisp_admission.specs.declared.refused.Refused.{Refused}
@@ -27,6 +29,7 @@ use Rattle.lisp_model.specs.Context.{Context, values, values_after, Same, IsBase
 use Rattle.lisp_model.specs.Sending.{RefusesToSend}
 use Rattle.lisp_model.specs.Receiving.{RefusesMessage}
 use Rattle.lisp_model.specs.Notifying.{RefusesNotice, RefusesToResend}
+use Rattle.lisp_model.specs.Rotating.{RefusesToRotate}
 use Rattle.lisp_model.specs.Legal.{MayCome, Arrives, Legal, LegalTrace, context_of}
 use Rattle.lisp_model.specs.Promises.{Falls, notice_nonces, notice_nonces_after, NoticeNoncesRise}
 use Rattle.lisp_model.proofs.ListLemmas.{head_or_tail, in_none}
@@ -126,6 +129,10 @@ module _ (t : Context) (its : is_server t.opening.config t.node ≡ true) (nonce
   sends_safe router server sends.OutOfMemory row = quiet row.4
   sends_safe router server (sends.Store fault) row = stays (row.1.fails.others notice_pair (not_sent _ refl))
 
+  rotates_safe : (router key : ℕ) (why : RotateFault) → RefusesToRotate t router key why → Stays
+  rotates_safe router key rotates.SameKey row = quiet row.1
+  rotates_safe router key (rotates.Store fault) row = quiet row.1.same
+
   message_safe : (a : Arrival) (why : Refused) → RefusesMessage t a why → Stays
   message_safe a (refuseds.StoreLoad fault) row = quiet row.fails.same
   message_safe a (refuseds.Replay saved) row = quiet row.same
@@ -176,6 +183,11 @@ module _ (t : Context) (its : is_server t.opening.config t.node ≡ true) (nonce
   row_safe (events.Tick ms) (lines.Ticked passed now) row = stays (ap (λ (s : ShownStore). kept_at s.kept notice_pair) row.idle.same)
   row_safe (events.Restart node pick db) (lines.Restarted named) row = restart_line named (row.names ∙ sym row.acts) (forgets nonces (last_notice t.past t.node) (values t notice_pair) safe (values_after t notice_pair) (row.narrows notice_pair).each)
   row_safe (events.Restart node pick db) (lines.Refused named (refusals.Start fault)) row = absurd (not_both t.opening.config node row.kind (ap (is_server t.opening.config) (sym row.acts) ∙ its))
+  row_safe (events.Rotate router key fate) (lines.Rotated named under) row = quiet row.same
+  row_safe (events.Rotate router key fate) (lines.Down named) row = quiet row.1.same
+  row_safe (events.Rotate router key fate) (lines.Refused named (refusals.Rotate why)) row = rotates_safe router key why row.3
+  row_safe (events.Lose router key db) (lines.Emptied named under) row = absurd (not_both t.opening.config router row.lost.kind (ap (is_server t.opening.config) (sym row.lost.acts) ∙ its))
+  row_safe (events.Lose router key db) (lines.Refused named (refusals.Start fault)) row = absurd (not_both t.opening.config router row.lost.kind (ap (is_server t.opening.config) (sym row.lost.acts) ∙ its))
   row_safe (events.Notice server router fate) (lines.Notice s r key nonce datagram) row =
       let told : NoticeSafe (nonce_after row.2.base ∷ nonces) (Some (nonce_after row.2.base)) (values_after t notice_pair) = tells nonces (last_notice t.past t.node) (values t notice_pair) safe row.2.base row.2.counts (values_after t notice_pair) (subst (λ (n : ℕ). NoneBelow n (values_after t notice_pair)) row.2.next row.2.saves.none_below) in
       notice_line s nonce (row.0 ∙ sym row.2.acts.acts) (subst (λ (n : ℕ). NoticeSafe (n ∷ nonces) (Some n) (values_after t notice_pair)) (sym row.2.next) told)

@@ -13,7 +13,7 @@ use Rattle.lisp_etr.specs.Sending.{map_register_of}
 use Rattle.lisp_model.specs.declared.event.Event.TheVariants as events
 use Rattle.lisp_model.specs.declared.line.Line.{Line}
 use Rattle.lisp_model.specs.declared.line.Line.TheVariants as lines
-use Rattle.lisp_model.specs.Trace.{EventValue, Step, Opening, ShownStore, addresses, address_at, node_at, router_at, etr_config_of, database, is_server, clock}
+use Rattle.lisp_model.specs.Trace.{EventValue, Step, Opening, ShownStore, addresses, address_at, node_at, router_at, key as key_of, etr_config, etr_config_of, database, is_server, clock}
 use Rattle.lisp_model.specs.History.{SentRegister, sent_registers_in, history, message_of}
 use Rattle.lisp_model.specs.Held.{Acceptance, heard_last}
 use Rattle.lisp_model.specs.Timers.{Notice, notice_to}
@@ -54,11 +54,11 @@ module _ (o : Opening) (T : List Step) where
       new : (j : Item) → j ≡ register_item o T r s nonce → j.message ≡ Registers m → IsFrom o (sent_registers_in o T (lines.Sent r s key nonce datagram) ++ history o T) j m
       new j same says =
           let item : register_item o T r s nonce ≡ j = sym same in
-          let said : Registers (map_register_of (etr_config_of o.config (router_at o.config r)) (database o T r) nonce) ≡ Registers m = ap (λ (x : Item). x.message) item ∙ says in
-          let message : map_register_of (etr_config_of o.config (router_at o.config r)) (database o T r) nonce ≡ m = cc in
-          let under : key ≡ (router_at o.config r).key_id = row.2.under ∙ ap (λ (n : ℕ). (router_at o.config n).key_id) (sym row.0) in
+          let said : Registers (map_register_of (etr_config o T r) (database o T r) nonce) ≡ Registers m = ap (λ (x : Item). x.message) item ∙ says in
+          let message : map_register_of (etr_config o T r) (database o T r) nonce ≡ m = cc in
+          let under : key ≡ key_of o T r = row.2.under ∙ ap (λ (n : ℕ). key_of o T n) (sym row.0) in
           let keyed : map_register_of (record (etr_config_of o.config (router_at o.config r)) { key_id = key }) (database o T r) nonce ≡ m = ap (λ (k : ℕ). map_register_of (record (etr_config_of o.config (router_at o.config r)) { key_id = k }) (database o T r) nonce) under ∙ message in
-          let fits : IsMapRegister (map_register_of (etr_config_of o.config (router_at o.config r)) (database o T r) nonce) = subst (λ (n : ℕ). IsMapRegister (map_register_of (etr_config_of o.config (router_at o.config n)) (database o T n) nonce)) (sym row.0) row.2.message in
+          let fits : IsMapRegister (map_register_of (etr_config o T r) (database o T r) nonce) = subst (λ (n : ℕ). IsMapRegister (map_register_of (etr_config o T n) (database o T n) nonce)) (sym row.0) row.2.message in
           record {
             entry = record { router = r; key = key; nonce = nonce; server = s; database = database o T r; position = length T };
             sent = at_head _ (history o T);
@@ -77,6 +77,8 @@ module _ (o : Opening) (T : List Step) where
   posts node after (events.Junk _ _ _) (lines.Sent r s key nonce datagram) row old a i has m is = absurd row.arrives
   posts node after (events.Tick _) (lines.Sent r s key nonce datagram) row old a i has m is = absurd row
   posts node after (events.Restart _ _ _) (lines.Sent r s key nonce datagram) row old a i has m is = absurd row
+  posts node after (events.Rotate _ _ _) (lines.Sent r s key nonce datagram) row old a i has m is = absurd row
+  posts node after (events.Lose _ _ _) (lines.Sent r s key nonce datagram) row old a i has m is = absurd row
   posts node after (events.Notice _ _ _) (lines.Sent r s key nonce datagram) row old a i has m is = absurd row
   posts node after (events.Resend _ _) (lines.Sent r s key nonce datagram) row old a i has m is = absurd row
   posts node after e (lines.Accepted server router key nonce None) row old a i has m is = absurd (in_none i has)
@@ -191,10 +193,12 @@ module _ (o : Opening) (T : List Step) (distinct : AllPairs (λ a b. a ≢ b) (a
           where
             noise_clash : {f : ReadFault} {said : MessageValue} → ◌≡◌ {A = Result MessageValue ReadFault} (Err f) (Ok said) → ⊥
             noise_clash e = absurd cc
-        at (inr (inr forged)) = absurd (true≢false (sym known.authentic ∙ forged known.secret (subst (λ b. Contains (if b then flat_map (λ s. map (λ k. k.secret) s.keys) o.config.sites else (etr_config_of o.config (router_at o.config to)).secret ∷ []) known.secret) (sym at_server) known.known)))
+        at (inr (inr forged)) = absurd (true≢false (sym known.authentic ∙ forged known.secret (subst (λ b. Contains (if b then flat_map (λ s. map (λ k. k.secret) s.keys) o.config.sites else (etr_config o T to).secret ∷ []) known.secret) (sym at_server) known.known)))
     arrived (events.Change _ _) after harmless row x has = absurd row
     arrived (events.Send _ _ _) after harmless row x has = absurd row
     arrived (events.Tick _) after harmless row x has = absurd row
     arrived (events.Restart _ _ _) after harmless row x has = absurd row
+    arrived (events.Rotate _ _ _) after harmless row x has = absurd row
+    arrived (events.Lose _ _ _) after harmless row x has = absurd row
     arrived (events.Notice _ _ _) after harmless row x has = absurd row
     arrived (events.Resend _ _) after harmless row x has = absurd row

@@ -48,6 +48,8 @@ sent_entry o T actor after (events.Deliver _ _) r s k n g row = absurd row.arriv
 sent_entry o T actor after (events.Junk _ _ _) r s k n g row = absurd row.arrives
 sent_entry o T actor after (events.Tick _) r s k n g row = absurd row
 sent_entry o T actor after (events.Restart _ _ _) r s k n g row = absurd row
+sent_entry o T actor after (events.Rotate _ _ _) r s k n g row = absurd row
+sent_entry o T actor after (events.Lose _ _ _) r s k n g row = absurd row
 sent_entry o T actor after (events.Notice _ _ _) r s k n g row = absurd row
 sent_entry o T actor after (events.Resend _ _) r s k n g row = absurd row
 
@@ -187,6 +189,8 @@ module _ (o : Opening) (T : List Step) (reads : ReadsBack) (all : AllFrom o (his
   posts node after (events.Junk _ _ _) (lines.Notice server router key nonce datagram) harmless row low i has n is = absurd row.arrives
   posts node after (events.Tick _) (lines.Notice server router key nonce datagram) harmless row low i has n is = absurd row
   posts node after (events.Restart _ _ _) (lines.Notice server router key nonce datagram) harmless row low i has n is = absurd row
+  posts node after (events.Rotate _ _ _) (lines.Notice server router key nonce datagram) harmless row low i has n is = absurd row
+  posts node after (events.Lose _ _ _) (lines.Notice server router key nonce datagram) harmless row low i has n is = absurd row
   posts node after (events.Resend _ _) (lines.Notice server router key nonce datagram) harmless row low i has n is = absurd row
   posts node after e (lines.Resent server router datagram) harmless row low i has n is = at (notice_to o T server (router_at o.config router).me) (in_option (option_and_then (λ n. slice_get (bag o T) n.datagram) (notice_to o T server (router_at o.config router).me)) i has)
     where

@@ -9,6 +9,8 @@ use Rattle.lisp_nonces.specs.declared.pair.PairKind.TheVariants as kinds
 use Rattle.lisp_nonces.specs.Pair.{pair_cmp}
 use Rattle.lisp_nonces.specs.Kept.{Kept, kept_at, InDoubt}
 use Rattle.lisp_messages.specs.Message.{MapRegisterValue, Registers}
+use Rattle.lisp_etr.specs.declared.rotate_fault.RotateFault.{RotateFault}
+use Rattle.lisp_etr.specs.declared.rotate_fault.RotateFault.TheVariants as rotates
 use Rattle.lisp_etr.specs.declared.send_fault.SendFault.{SendFault}
 use Rattle.lisp_etr.specs.declared.send_fault.SendFault.TheVariants as sends
 use Rattle.lisp_admission.specs.declared.refused.Refused.{Refused}
@@ -28,6 +30,7 @@ use Rattle.lisp_model.specs.Context.{Context, values, values_after, Same, SameOt
 use Rattle.lisp_model.specs.Sending.{RefusesToSend}
 use Rattle.lisp_model.specs.Receiving.{IsFresh, RefusesMessage}
 use Rattle.lisp_model.specs.Notifying.{RefusesNotice, RefusesToResend}
+use Rattle.lisp_model.specs.Rotating.{RefusesToRotate}
 use Rattle.lisp_model.specs.Legal.{MayCome, Arrives}
 use Rattle.lisp_model.proofs.HearingLemmas.{not_both}
 use Rattle.lisp_model.proofs.KeptLemmas.{pair_itself, pair_same}
@@ -73,6 +76,10 @@ module _ (t : Context) (its : is_server t.opening.config t.node ≡ true) (q : P
   sends_safe router server sends.NonceSpent row = quiet row.2
   sends_safe router server sends.OutOfMemory row = quiet row.4
   sends_safe router server (sends.Store fault) row = stays (row.1.fails.others q (not_sent _ refl))
+
+  rotates_safe : (router key : ℕ) (why : RotateFault) → RefusesToRotate t router key why → Safe q acc (since_start t.opening t.past t.node) old (values_after t q)
+  rotates_safe router key rotates.SameKey row = quiet row.1
+  rotates_safe router key (rotates.Store fault) row = quiet row.1.same
 
   tells_safe : (router : ℕ) (why : NoticeFault) → RefusesNotice t router why → Safe q acc (since_start t.opening t.past t.node) old (values_after t q)
   tells_safe router announcements.NotRegistered row = quiet row.1
@@ -155,6 +162,11 @@ module _ (t : Context) (its : is_server t.opening.config t.node ≡ true) (q : P
   row_safe (events.Tick ms) (lines.Ticked passed now) row = stays (ap (λ (s : ShownStore). kept_at s.kept q) row.idle.same)
   row_safe (events.Restart node pick db) (lines.Restarted named) row = restart_line named (row.names ∙ sym row.acts) (safe_restarts q acc (since_start t.opening t.past t.node) old (values t q) safe (values_after t q) (row.narrows q).each)
   row_safe (events.Restart node pick db) (lines.Refused named (refusals.Start fault)) row = absurd (not_both t.opening.config node row.kind (ap (is_server t.opening.config) (sym row.acts) ∙ its))
+  row_safe (events.Rotate router key fate) (lines.Rotated named under) row = quiet row.same
+  row_safe (events.Rotate router key fate) (lines.Down named) row = quiet row.1.same
+  row_safe (events.Rotate router key fate) (lines.Refused named (refusals.Rotate why)) row = rotates_safe router key why row.3
+  row_safe (events.Lose router key db) (lines.Emptied named under) row = absurd (not_both t.opening.config router row.lost.kind (ap (is_server t.opening.config) (sym row.lost.acts) ∙ its))
+  row_safe (events.Lose router key db) (lines.Refused named (refusals.Start fault)) row = absurd (not_both t.opening.config router row.lost.kind (ap (is_server t.opening.config) (sym row.lost.acts) ∙ its))
   row_safe (events.Notice server router fate) (lines.Notice s r key nonce datagram) row = stays (row.2.saves.others q not_notice)
   row_safe (events.Notice server router fate) (lines.Refused named (refusals.Notice why)) row = tells_safe router why row.3
   row_safe (events.Resend server router) (lines.Resent s r datagram) row = quiet row.2.same

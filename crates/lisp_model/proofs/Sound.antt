@@ -1,98 +1,252 @@
--- No router uses a nonce twice.
+-- No router uses a nonce twice under one key.
 use Rattle.std.proofs.Common.{◌≡◌, ℕ, ◌<◌, ◌≤◌, Bool, true, false, List, [], ◌∷◌, ◌++◌, length, Option, Some, None, refl, sym, ap, subst, inl, inr, ◌∙◌, arith}
 use Rattle.std.specs.Prelude.{◌≢◌, ◌⊎◌, ◌==◌, if◌then◌else◌}
 use Rattle.std.specs.List.{Contains}
-use Rattle.std.proofs.lemmas.List.Elements.{Contains-append_cases}
+use Rattle.std.proofs.lemmas.List.Elements.{Contains-append_cases, Contains-append_left}
 use Rattle.std.proofs.lemmas.Bool.Decides.{Decides-eqb}
-use Rattle.lisp_nonces.specs.Kept.{kept_at, number, InDoubt}
+use Rattle.lisp_records.specs.Record.{MapRecordValue}
+use Rattle.lisp_nonces.specs.Kept.{Kept, kept_at, number, InDoubt}
+use Rattle.lisp_model.specs.declared.event.Event.TheVariants as events
 use Rattle.lisp_model.specs.declared.line.Line.{Line}
 use Rattle.lisp_model.specs.declared.line.Line.TheVariants as lines
 use Rattle.lisp_model.specs.declared.refusal.Refusal.TheVariants as refusals
-use Rattle.lisp_model.specs.Trace.{EventValue, Step, Opening, shown_store, database}
+use Rattle.lisp_model.specs.Trace.{EventValue, Step, Opening, key as key_of, key_after, shown_store, database}
+use Rattle.lisp_model.specs.Keys.{keys_since_loss, keys_since_loss_after, keys_before_loss, keys_before_loss_after}
 use Rattle.lisp_model.specs.History.{SentRegister, sent_registers_in, history}
 use Rattle.lisp_model.specs.Context.{Context, values_after, IsBase}
 use Rattle.lisp_model.specs.Sending.{CountsFrom, IsSent, pair_at, last_sent, last_sent_after, start_values, start_values_after}
+use Rattle.lisp_model.specs.Rotating.{IsRotated, IsLost}
 use Rattle.lisp_model.specs.Legal.{MayCome, Legal, LegalTrace, context_of}
 use Rattle.lisp_model.proofs.KeptLemmas.{only_value}
-use Rattle.lisp_model.proofs.ListLemmas.{head_or_tail, in_none}
+use Rattle.lisp_model.proofs.ListLemmas.{at_head, head_or_tail, in_none, in_tail}
 use Rattle.lisp_model.proofs.HeardLines.{IsBy}
-use Rattle.lisp_model.proofs.Locality.{by_actor, same_number, other_number, last_sent_other, start_values_other}
-use Rattle.lisp_model.proofs.OwnValues.{own_values, own_values_after, Stays, Leaves, leaves}
+use Rattle.lisp_model.proofs.Locality.{by_actor, given_by, same_number, other_number, key_other, since_loss_other, before_loss_other, last_sent_other, start_values_other}
+use Rattle.lisp_model.proofs.OwnValues.{pair_under, key_values, key_values_after, own_key, own_values, own_values_after, SameAt, Doubts, Stays, Leaves, leaves, not_own}
 
--- no number that the store keeps, or that the next one counts from, is below the nonce of an entry
-pub record Sound (r : ℕ) (entries : List SentRegister) (last : Option ℕ) (start kept : List (Option ℕ)) : Type 0 where
-  pub floor : (e : SentRegister) → Contains entries e → e.router ≡ r → (v : Option ℕ) → Contains kept v → e.nonce ≤ number v
-  pub below : (base : Option ℕ) → IsBase last start base → (e : SentRegister) → Contains entries e → e.router ≡ r → e.nonce ≤ number base
+-- a router's key; the keys that it used since its store was lost, and before; the nonce of its last entry; what its store
+-- kept at its start; and what the store keeps
+record Keyed : Type 0 where
+  key : ℕ
+  since : List ℕ
+  before : List ℕ
+  last : Option ℕ
+  start : List (Option ℕ)
+  kept : Kept
 
-module _ (t : Context) (was : Sound t.node (history t.opening t.past) (last_sent t.past t.node) (start_values t.opening t.past t.node) (own_values t)) where
+abbrev keyed_at : Opening → List Step → ℕ → Keyed
+keyed_at o T r = record { key = key_of o T r; since = keys_since_loss o T r; before = keys_before_loss o T r; last = last_sent T r; start = start_values o T r; kept = (shown_store o T r).kept }
+
+-- each entry of the router is under a key that it used. No number that the store keeps for a key that was used since the
+-- loss is below the nonce of an entry under that key; nor is one that the next nonce counts from, for the present key
+record Sound (o : Opening) (r : ℕ) (entries : List SentRegister) (k : Keyed) : Type 0 where
+  floor : (key : ℕ) → Contains k.since key → (e : SentRegister) → Contains entries e → e.router ≡ r → e.key ≡ key → (v : Option ℕ) → Contains (kept_at k.kept (pair_under o r key)) v → e.nonce ≤ number v
+  below : (base : Option ℕ) → IsBase k.last k.start base → (e : SentRegister) → Contains entries e → e.router ≡ r → e.key ≡ k.key → e.nonce ≤ number base
+  used : (e : SentRegister) → Contains entries e → e.router ≡ r → Contains (k.since ++ k.before) e.key
+  here : Contains k.since k.key
+
+-- before a step, and after it
+abbrev keyed : Context → Keyed
+keyed t = record { key = own_key t; since = keys_since_loss t.opening t.past t.node; before = keys_before_loss t.opening t.past t.node; last = last_sent t.past t.node; start = start_values t.opening t.past t.node; kept = t.before.kept }
+
+abbrev keyed_after : Context → EventValue → Line → Keyed
+keyed_after t e line = record {
+  key = key_after e line t.node (own_key t);
+  since = keys_since_loss_after e line t.node (keys_since_loss t.opening t.past t.node);
+  before = keys_before_loss_after e t.node (keys_since_loss t.opening t.past t.node) (keys_before_loss t.opening t.past t.node);
+  last = last_sent_after line t.node (last_sent t.past t.node);
+  start = start_values_after line (key_values_after t (key_after e line t.node (own_key t))) t.node (start_values t.opening t.past t.node);
+  kept = t.after.kept;
+}
+
+module _ (t : Context) (was : Sound t.opening t.node (history t.opening t.past) (keyed t)) where
+  abbrev Then : Keyed → Type 0
+  Then k = Sound t.opening t.node (history t.opening t.past) k
+
   abbrev Still : Type 0
-  Still = Sound t.node (history t.opening t.past) (last_sent t.past t.node) (start_values t.opening t.past t.node) (own_values_after t)
+  Still = Then (record (keyed t) { kept = t.after.kept })
 
-  narrower : ((v : Option ℕ) → Contains (own_values_after t) v → Contains (own_values t) v) → Still
-  narrower each = record { floor = λ e has its v in_it. was.floor e has its v (each v in_it); below = was.below }
+  narrower : ((key : ℕ) (v : Option ℕ) → Contains (key_values_after t key) v → Contains (key_values t key) v) → Still
+  narrower each = record { floor = λ key is e has its under v in_it. was.floor key is e has its under v (each key v in_it); below = was.below; used = was.used; here = was.here }
 
-  stays : own_values_after t ≡ own_values t → Still
-  stays e = narrower (λ v has. subst (λ (vs : List (Option ℕ)). Contains vs v) e has)
+  same_in : (key : ℕ) → SameAt t key → (v : Option ℕ) → Contains (key_values_after t key) v → Contains (key_values t key) v
+  same_in key same v has = subst (λ (vs : List (Option ℕ)). Contains vs v) same has
 
-  doubts : (base : Option ℕ) → IsBase (last_sent t.past t.node) (start_values t.opening t.past t.node) base → (nonce : ℕ) → number base < nonce → InDoubt (own_values t) (own_values_after t) nonce → Still
-  doubts base counts nonce above (inl same) = stays same
-  doubts base counts nonce above (inr more) = record {
-    floor = λ e has its v in_it. at e has its v (Contains-append_cases (own_values t) (Some nonce ∷ []) v (subst (λ (vs : List (Option ℕ)). Contains vs v) more in_it));
-    below = was.below;
-  }
-    where
-      at : (e : SentRegister) → Contains (history t.opening t.past) e → e.router ≡ t.node → (v : Option ℕ) → Contains (own_values t) v ⊎ Contains (Some nonce ∷ []) v → e.nonce ≤ number v
-      at e has its v (inl old) = was.floor e has its v old
-      at e has its v (inr one) = let low = was.below base counts e has its in subst (λ (w : Option ℕ). e.nonce ≤ number w) (sym (only_value (Some nonce) v one)) (omega (arith, low, above))
+  -- a nonce is in doubt: it is above those of the entries under the router's key
+  module _ (saved : Doubts t) where
+    own_floor : InDoubt (own_values t) (own_values_after t) saved.nonce → (e : SentRegister) → Contains (history t.opening t.past) e → e.router ≡ t.node → e.key ≡ own_key t → (v : Option ℕ) → Contains (own_values_after t) v → e.nonce ≤ number v
+    own_floor (inl same) e has its under v in_it = was.floor (own_key t) was.here e has its under v (same_in (own_key t) same v in_it)
+    own_floor (inr more) e has its under v in_it = at (Contains-append_cases (own_values t) (Some saved.nonce ∷ []) v (subst (λ (vs : List (Option ℕ)). Contains vs v) more in_it))
+      where
+        at : Contains (own_values t) v ⊎ Contains (Some saved.nonce ∷ []) v → e.nonce ≤ number v
+        at (inl old) = was.floor (own_key t) was.here e has its under v old
+        at (inr one) = let low = was.below saved.base saved.counts e has its under in let above = saved.above in subst (λ (w : Option ℕ). e.nonce ≤ number w) (sym (only_value (Some saved.nonce) v one)) (omega (arith, low, above))
+
+    doubts : Still
+    doubts = record { floor = λ key is e has its under v in_it. at key is e has its under v in_it (key == own_key t) refl; below = was.below; used = was.used; here = was.here }
+      where
+        at : (key : ℕ) → Contains (keys_since_loss t.opening t.past t.node) key → (e : SentRegister) → Contains (history t.opening t.past) e → e.router ≡ t.node → e.key ≡ key → (v : Option ℕ) → Contains (key_values_after t key) v → (b : Bool) → (key == own_key t) ≡ b → e.nonce ≤ number v
+        at key is e has its under v in_it true same =
+            let own : key ≡ own_key t = (Decides-eqb key (own_key t)).0 same in
+            own_floor saved.doubt e has its (under ∙ own) v (subst (λ (k : ℕ). Contains (key_values_after t k) v) own in_it)
+        at key is e has its under v in_it false other = was.floor key is e has its under v (same_in key (saved.others key (differs key other)) v in_it)
+          where
+            differs : (k : ℕ) → (k == own_key t) ≡ false → k ≢ own_key t
+            differs k other own = let clash : true ≡ false = sym ((Decides-eqb k (own_key t)).1 own) ∙ other in absurd cc
 
   still : Stays t → Still
-  still (inl same) = stays same
-  still (inr saved) = doubts saved.base saved.counts saved.nonce saved.above saved.doubt
+  still (inl same) = narrower (λ key. same_in key (same key))
+  still (inr saved) = doubts saved
 
-  abbrev After : Line → Type 0
-  After line = Sound t.node (sent_registers_in t.opening t.past line ++ history t.opening t.past) (last_sent_after line t.node (last_sent t.past t.node)) (start_values_after line (own_values_after t) t.node (start_values t.opening t.past t.node)) (own_values_after t)
+  abbrev After : EventValue → Line → Type 0
+  After e line = Sound t.opening t.node (sent_registers_in t.opening t.past line ++ history t.opening t.past) (keyed_after t e line)
 
-  -- every entry of the router has a lower nonce than the next one
-  pub sent_above : (router server key nonce datagram : ℕ) → IsSent t router server key nonce datagram → (f : SentRegister) → Contains (history t.opening t.past) f → f.router ≡ router → f.nonce < nonce
-  sent_above router server key nonce datagram row f has its =
-      let low = was.below row.base (subst (λ (n : ℕ). CountsFrom t.opening t.past n row.base) (sym row.acts.acts) row.counts) f has (its ∙ sym row.acts.acts) in
+  names_node : (named router : ℕ) → named ≡ router → t.node ≡ router → (named == t.node) ≡ true
+  names_node named router names acts = ap (λ x. x == t.node) (names ∙ sym acts) ∙ same_number t.node
+
+  -- every entry of the router under its key has a lower nonce than the next one
+  sent_above : (router server key nonce datagram : ℕ) → IsSent t router server key nonce datagram → (f : SentRegister) → Contains (history t.opening t.past) f → f.router ≡ router → f.key ≡ key → f.nonce < nonce
+  sent_above router server key nonce datagram row f has its under =
+      let low = was.below row.base (subst (λ (n : ℕ). CountsFrom t.opening t.past n row.base) (sym row.acts.acts) row.counts) f has (its ∙ sym row.acts.acts) (under ∙ row.under ∙ ap (key_of t.opening t.past) (sym row.acts.acts)) in
       let next = row.next in
       omega (arith, low, next)
 
-  sends_on : (r s key nonce datagram router server : ℕ) → r ≡ router → IsSent t router server key nonce datagram → After (lines.Sent r s key nonce datagram)
-  sends_on r s key nonce datagram router server names row = subst (λ b. Sound t.node (sent_registers_in t.opening t.past (lines.Sent r s key nonce datagram) ++ history t.opening t.past) (if b then Some nonce else last_sent t.past t.node) (start_values t.opening t.past t.node) (own_values_after t))
-      (sym (ap (λ x. x == t.node) (names ∙ sym row.acts.acts) ∙ same_number t.node)) (record {
-        floor = λ e has its v in_it. let low = at_most e has its in let high = row.saves.none_below v (subst (λ (n : ℕ). Contains (values_after t (pair_at t.opening t.past n)) v) row.acts.acts in_it) in omega (arith, low, high);
-        below = λ base is e has its. subst (λ (b : Option ℕ). e.nonce ≤ number b) (sym is) (at_most e has its);
-      })
-    where
-      at_most_of : (e one : SentRegister) → one.nonce ≡ nonce → e.router ≡ t.node → (e ≡ one) ⊎ Contains (history t.opening t.past) e → e.nonce ≤ nonce
-      at_most_of e one is its (inl same) = let same_nonce = ap (λ (x : SentRegister). x.nonce) same in omega (arith, same_nonce, is)
-      at_most_of e one is its (inr has) = let low = sent_above router server key nonce datagram row e has (its ∙ row.acts.acts) in omega (arith, low)
+  -- a Map-Register went out
+  module _ (r s key nonce datagram router server : ℕ) (names : r ≡ router) (row : IsSent t router server key nonce datagram) where
+    abbrev one : SentRegister
+    one = record { router = r; key = key; nonce = nonce; server = s; database = database t.opening t.past r; position = length t.past }
 
-      at_most : (e : SentRegister) → Contains (sent_registers_in t.opening t.past (lines.Sent r s key nonce datagram) ++ history t.opening t.past) e → e.router ≡ t.node → e.nonce ≤ nonce
-      at_most e has its = at_most_of e _ refl its (head_or_tail _ (history t.opening t.past) e has)
+    own : key ≡ own_key t
+    own = row.under ∙ ap (key_of t.opening t.past) (sym row.acts.acts)
 
-  restarts_on : (named : ℕ) → named ≡ t.node → ((v : Option ℕ) → Contains (own_values_after t) v → Contains (own_values t) v) → After (lines.Restarted named)
-  restarts_on named is each = subst (λ b. Sound t.node (history t.opening t.past) (if b then None else last_sent t.past t.node) (if b then own_values_after t else start_values t.opening t.past t.node) (own_values_after t))
-      (sym (ap (λ x. x == t.node) is ∙ same_number t.node)) (record { floor = (narrower each).floor; below = λ base has e in_it its. was.floor e in_it its base (each base has) })
+    at_most : (e : SentRegister) → Contains (one ∷ history t.opening t.past) e → e.router ≡ t.node → e.key ≡ own_key t → e.nonce ≤ nonce
+    at_most e has its under = at (head_or_tail one (history t.opening t.past) e has)
+      where
+        at : (e ≡ one) ⊎ Contains (history t.opening t.past) e → e.nonce ≤ nonce
+        at (inl same) = let number = ap (λ (x : SentRegister). x.nonce) same in omega (arith, number)
+        at (inr old) = let low = sent_above router server key nonce datagram row e old (its ∙ row.acts.acts) (under ∙ sym own) in omega (arith, low)
 
-  after : (line : Line) → Leaves t line → After line
-  after (lines.Sent r s key nonce datagram) left = sends_on r s key nonce datagram left.0 left.1 left.2 left.3
-  after (lines.Restarted named) left = restarts_on named left.0 left.1.each
-  after (lines.Refused named (refusals.Start fault)) left = narrower left.1.each
-  after _ left = still left
+    sent_floor : (k : ℕ) → Contains (keys_since_loss t.opening t.past t.node) k → (e : SentRegister) → Contains (one ∷ history t.opening t.past) e → e.router ≡ t.node → e.key ≡ k → (v : Option ℕ) → Contains (key_values_after t k) v → (b : Bool) → (k == own_key t) ≡ b → e.nonce ≤ number v
+    sent_floor k is e has its under v in_it true same =
+        let mine : k ≡ own_key t = (Decides-eqb k (own_key t)).0 same in
+        let low = at_most e has its (under ∙ mine) in
+        let high = row.saves.none_below v (subst (λ (n : ℕ). Contains (values_after t (pair_at t.opening t.past n)) v) row.acts.acts (subst (λ (x : ℕ). Contains (key_values_after t x) v) mine in_it)) in
+        omega (arith, low, high)
+    sent_floor k is e has its under v in_it false other = at (head_or_tail one (history t.opening t.past) e has)
+      where
+        differs : k ≢ own_key t
+        differs mine = let clash : true ≡ false = sym ((Decides-eqb k (own_key t)).1 mine) ∙ other in absurd cc
+
+        at : (e ≡ one) ⊎ Contains (history t.opening t.past) e → e.nonce ≤ number v
+        at (inl same) = absurd (differs (sym under ∙ ap (λ (x : SentRegister). x.key) same ∙ own))
+        at (inr old) = was.floor k is e old its under v (same_in k (row.saves.others (pair_under t.opening t.node k) (not_own t router row.acts.acts k differs)) v in_it)
+
+    sent_used : (e : SentRegister) → (e ≡ one) ⊎ Contains (history t.opening t.past) e → e.router ≡ t.node → Contains (keys_since_loss t.opening t.past t.node ++ keys_before_loss t.opening t.past t.node) e.key
+    sent_used e (inl same) its = Contains-append_left (keys_since_loss t.opening t.past t.node) (keys_before_loss t.opening t.past t.node) e.key (subst (λ (k : ℕ). Contains (keys_since_loss t.opening t.past t.node) k) (sym (ap (λ (x : SentRegister). x.key) same ∙ own)) was.here)
+    sent_used e (inr old) its = was.used e old its
+
+    sends_on : Sound t.opening t.node (one ∷ history t.opening t.past) (record (keyed t) { last = if r == t.node then Some nonce else last_sent t.past t.node; kept = t.after.kept })
+    sends_on = subst (λ (b : Bool). Sound t.opening t.node (one ∷ history t.opening t.past) (record (keyed t) { last = if b then Some nonce else last_sent t.past t.node; kept = t.after.kept })) (sym (names_node r router names row.acts.acts)) (record {
+      floor = λ k is e has its under v in_it. sent_floor k is e has its under v in_it (k == own_key t) refl;
+      below = λ base is e has its under. subst (λ (b : Option ℕ). e.nonce ≤ number b) (sym is) (at_most e has its under);
+      used = λ e has its. sent_used e (head_or_tail one (history t.opening t.past) e has) its;
+      here = was.here;
+    })
+
+  -- the router started again
+  restarts_on : (named : ℕ) → named ≡ t.node → ((key : ℕ) (v : Option ℕ) → Contains (key_values_after t key) v → Contains (key_values t key) v)
+      → Then (record (keyed t) { last = if named == t.node then None else last_sent t.past t.node; start = if named == t.node then own_values_after t else start_values t.opening t.past t.node; kept = t.after.kept })
+  restarts_on named is each = subst (λ (b : Bool). Then (record (keyed t) { last = if b then None else last_sent t.past t.node; start = if b then own_values_after t else start_values t.opening t.past t.node; kept = t.after.kept }))
+      (sym (ap (λ x. x == t.node) is ∙ same_number t.node))
+      (record { floor = (narrower each).floor; below = λ base has e in_it its under. was.floor (own_key t) was.here e in_it its under base (each (own_key t) base has); used = was.used; here = was.here })
+
+  -- it went over to another key
+  module _ (router key named under : ℕ) (row : IsRotated t router key named under) where
+    same_after : (k : ℕ) → SameAt t k
+    same_after k = ap (λ (x : Kept). kept_at x (pair_under t.opening t.node k)) row.same
+
+    new_floor : (e : SentRegister) → Contains (history t.opening t.past) e → e.router ≡ t.node → e.key ≡ key → (v : Option ℕ) → Contains (key_values_after t key) v → e.nonce ≤ number v
+    new_floor e has its is v in_it = at (Contains-append_cases (keys_since_loss t.opening t.past t.node) (keys_before_loss t.opening t.past t.node) e.key (was.used e has its))
+      where
+        at : Contains (keys_since_loss t.opening t.past t.node) e.key ⊎ Contains (keys_before_loss t.opening t.past t.node) e.key → e.nonce ≤ number v
+        at (inl in_since) = was.floor key (subst (λ (k : ℕ). Contains (keys_since_loss t.opening t.past t.node) k) is in_since) e has its is v (same_in key (same_after key) v in_it)
+        at (inr in_before) = absurd (row.may.unused (subst (λ (n : ℕ). Contains (keys_before_loss t.opening t.past n) key) row.acts.acts (subst (λ (k : ℕ). Contains (keys_before_loss t.opening t.past t.node) k) is in_before)))
+
+    abbrev rotated : Bool → Bool → Keyed
+    rotated a b = record {
+      key = if a then key else own_key t;
+      since = if a then key ∷ keys_since_loss t.opening t.past t.node else keys_since_loss t.opening t.past t.node;
+      before = keys_before_loss t.opening t.past t.node;
+      last = if b then None else last_sent t.past t.node;
+      start = if b then key_values_after t (if a then key else own_key t) else start_values t.opening t.past t.node;
+      kept = t.after.kept;
+    }
+
+    rotates_on : Then (rotated (router == t.node) (named == t.node))
+    rotates_on = subst (λ (a : Bool). Then (rotated a (named == t.node))) (sym (names_node router router refl row.acts.acts))
+        (subst (λ (b : Bool). Then (rotated true b)) (sym (names_node named router row.names row.acts.acts)) (record {
+          floor = λ k is e has its of v in_it. at k e has its of v in_it (head_or_tail key (keys_since_loss t.opening t.past t.node) k is);
+          below = λ base has e in_it its of. new_floor e in_it its of base has;
+          used = λ e has its. in_tail key (keys_since_loss t.opening t.past t.node ++ keys_before_loss t.opening t.past t.node) e.key (was.used e has its);
+          here = at_head key (keys_since_loss t.opening t.past t.node);
+        }))
+      where
+        at : (k : ℕ) → (e : SentRegister) → Contains (history t.opening t.past) e → e.router ≡ t.node → e.key ≡ k → (v : Option ℕ) → Contains (key_values_after t k) v → (k ≡ key) ⊎ Contains (keys_since_loss t.opening t.past t.node) k → e.nonce ≤ number v
+        at k e has its of v in_it (inl same) = new_floor e has its (of ∙ same) v (subst (λ (x : ℕ). Contains (key_values_after t x) v) same in_it)
+        at k e has its of v in_it (inr old) = was.floor k old e has its of v (same_in k (same_after k) v in_it)
+
+  -- its store was lost: no entry is under its new key
+  module _ (router key : ℕ) (db : Option (List MapRecordValue)) (row : IsLost t router key db) where
+    none_under : (e : SentRegister) → Contains (history t.opening t.past) e → e.router ≡ t.node → e.key ≡ key → ⊥
+    none_under e has its is = row.may.unused (subst (λ (n : ℕ). Contains (keys_since_loss t.opening t.past n ++ keys_before_loss t.opening t.past n) key) row.acts
+        (subst (λ (k : ℕ). Contains (keys_since_loss t.opening t.past t.node ++ keys_before_loss t.opening t.past t.node) k) is (was.used e has its)))
+
+    abbrev lost : Bool → Option ℕ → List (Option ℕ) → Keyed
+    lost a last start = record {
+      key = if a then key else own_key t;
+      since = if a then key ∷ [] else keys_since_loss t.opening t.past t.node;
+      before = if a then keys_since_loss t.opening t.past t.node ++ keys_before_loss t.opening t.past t.node else keys_before_loss t.opening t.past t.node;
+      last = last;
+      start = start;
+      kept = t.after.kept;
+    }
+
+    loses_on : (last : Option ℕ) (start : List (Option ℕ)) → Then (lost (router == t.node) last start)
+    loses_on last start = subst (λ (a : Bool). Then (lost a last start)) (sym (names_node router router refl row.acts)) (record {
+      floor = λ k is e has its of v in_it. absurd (none_under e has its (of ∙ only (head_or_tail key [] k is)));
+      below = λ base counts e has its of. absurd (none_under e has its of);
+      used = λ e has its. in_tail key (keys_since_loss t.opening t.past t.node ++ keys_before_loss t.opening t.past t.node) e.key (was.used e has its);
+      here = at_head key [];
+    })
+      where
+        only : {k : ℕ} → (k ≡ key) ⊎ Contains [] k → k ≡ key
+        only (inl same) = same
+        only {k} (inr none) = absurd (in_none k none)
+
+  after : (line : Line) (e : EventValue) → MayCome t e line → Leaves t line e → After e line
+  after (lines.Sent r s key nonce datagram) (events.Send router server fate) row left = sends_on r s key nonce datagram router server left.0 left.1
+  after (lines.Sent _ _ _ _ _) _ row left = absurd left
+  after (lines.Restarted named) (events.Restart _ _ _) row left = restarts_on named left.0 (λ key. (left.1 key).each)
+  after (lines.Restarted _) _ row left = absurd left
+  after (lines.Rotated named under) (events.Rotate router key _) row left = rotates_on router key named under left
+  after (lines.Rotated _ _) _ row left = absurd left
+  after (lines.Emptied named under) (events.Lose router key db) row left = loses_on router key db left.lost _ _
+  after (lines.Emptied _ _) _ row left = absurd left
+  after (lines.Refused named (refusals.Start fault)) (events.Restart _ _ _) row left = narrower (λ key. (left.1 key).each)
+  after (lines.Refused named (refusals.Start fault)) (events.Lose router key db) row left = loses_on router key db left.1 _ _
+  after (lines.Refused _ (refusals.Start fault)) _ row left = absurd left
+  after _ (events.Lose _ _ _) row left = absurd row
+  after _ _ row left = still left
 
   -- any legal step of the node
-  pub row_sound : (e : EventValue) (line : Line) → MayCome t e line → After line
-  row_sound e line row = after line (leaves t e line row)
+  row_sound : (e : EventValue) (line : Line) → MayCome t e line → After e line
+  row_sound e line row = after line e row (leaves t e line row)
 
 module _ (o : Opening) where
   abbrev SoundAt : List Step → ℕ → Type 0
-  SoundAt T r = Sound r (history o T) (last_sent T r) (start_values o T r) (kept_at (shown_store o T r).kept (pair_at o T r))
+  SoundAt T r = Sound o r (history o T) (keyed_at o T r)
 
   sound_actor : (T : List Step) (s : Step) → Legal o T s → SoundAt T s.actor → SoundAt (s ∷ T) s.actor
-  sound_actor T s l old = subst (λ b. Sound s.actor (history o (s ∷ T)) (last_sent (s ∷ T) s.actor) (start_values o (s ∷ T) s.actor) (kept_at (if b then s.shown else shown_store o T s.actor).kept (pair_at o T s.actor))) (sym (same_number s.actor))
+  sound_actor T s l old = subst (λ (b : Bool). Sound o s.actor (history o (s ∷ T)) (record (keyed_at o (s ∷ T) s.actor) { kept = (if b then s.shown else shown_store o T s.actor).kept })) (sym (same_number s.actor))
       (row_sound (context_of o T s) old s.event s.line l.row)
 
   -- an entry of another router is an old one
@@ -104,13 +258,29 @@ module _ (o : Opening) where
       at (inr old) = old
   old_entry T _ node r differ is e has its = has
 
-  sound_other : (T : List Step) (s : Step) (r : ℕ) → r ≢ s.actor → Legal o T s → SoundAt T r → SoundAt (s ∷ T) r
-  sound_other T s r differ l old =
-      let by = by_actor (context_of o T s) s.event s.line l.row in
-      subst (λ (last : Option ℕ). Sound r (history o (s ∷ T)) last (start_values o (s ∷ T) r) (kept_at (shown_store o (s ∷ T) r).kept (pair_at o T r))) (sym (last_sent_other s.actor r differ s.line by (last_sent T r)))
-      (subst (λ (start : List (Option ℕ)). Sound r (history o (s ∷ T)) (last_sent T r) start (kept_at (shown_store o (s ∷ T) r).kept (pair_at o T r))) (sym (start_values_other s.actor r differ s.line by (kept_at s.shown.kept (pair_at o T r)) (start_values o T r)))
-      (subst (λ b. Sound r (history o (s ∷ T)) (last_sent T r) (start_values o T r) (kept_at (if b then s.shown else shown_store o T r).kept (pair_at o T r))) (sym (other_number s.actor r (λ e. differ (sym e))))
-      (record { floor = λ e has its. old.floor e (old_entry T s.line s.actor r differ by e has its) its; below = λ base counts e has its. old.below base counts e (old_entry T s.line s.actor r differ by e has its) its })))
+  module _ (T : List Step) (s : Step) (r : ℕ) (differ : r ≢ s.actor) (l : Legal o T s) where
+    by : IsBy s.line s.actor
+    by = by_actor (context_of o T s) s.event s.line l.row
+
+    -- a router that doesn't act
+    keyed_other : keyed_at o (s ∷ T) r ≡ keyed_at o T r
+    keyed_other =
+        let given = given_by (context_of o T s) s.event s.line l.row in
+        let key_is = key_other s.actor r differ s.event s.line given (key_of o T r) in
+        let since_is = since_loss_other s.actor r differ s.event s.line given (keys_since_loss o T r) in
+        let before_is = before_loss_other s.actor r differ s.event s.line given (keys_since_loss o T r) (keys_before_loss o T r) in
+        let last_is = last_sent_other s.actor r differ s.line by (last_sent T r) in
+        let start_is = start_values_other s.actor r differ s.line by (kept_at s.shown.kept (pair_under o r (key_of o (s ∷ T) r))) (start_values o T r) in
+        let kept_is = ap (λ (b : Bool). (if b then s.shown else shown_store o T r).kept) (other_number s.actor r (λ e. differ (sym e))) in
+        (λ i. record { key = key_is i; since = since_is i; before = before_is i; last = last_is i; start = start_is i; kept = kept_is i })
+
+    sound_other : SoundAt T r → SoundAt (s ∷ T) r
+    sound_other old = subst (Sound o r (history o (s ∷ T))) (sym keyed_other) (record {
+      floor = λ key is e has its. old.floor key is e (old_entry T s.line s.actor r differ by e has its) its;
+      below = λ base counts e has its. old.below base counts e (old_entry T s.line s.actor r differ by e has its) its;
+      used = λ e has its. old.used e (old_entry T s.line s.actor r differ by e has its) its;
+      here = old.here;
+    })
 
   sound_step : (T : List Step) (s : Step) (r : ℕ) (b : Bool) → (s.actor == r) ≡ b → Legal o T s → ((n : ℕ) → SoundAt T n) → SoundAt (s ∷ T) r
   sound_step T s r true e l old = subst (SoundAt (s ∷ T)) ((Decides-eqb s.actor r).0 e) (sound_actor T s l (old s.actor))
@@ -119,8 +289,8 @@ module _ (o : Opening) where
       not_same : r ≡ s.actor → ⊥
       not_same same = let clash : true ≡ false = sym (same_number s.actor) ∙ ap (λ n. s.actor == n) (sym same) ∙ e in absurd cc
 
-  pub sound : (T : List Step) → LegalTrace o T → (r : ℕ) → SoundAt T r
-  sound [] legal r = record { floor = λ e has. absurd (in_none e has); below = λ base counts e has. absurd (in_none e has) }
+  sound : (T : List Step) → LegalTrace o T → (r : ℕ) → SoundAt T r
+  sound [] legal r = record { floor = λ key is e has. absurd (in_none e has); below = λ base counts e has. absurd (in_none e has); used = λ e has. absurd (in_none e has); here = at_head _ [] }
   sound (s ∷ T) legal r = sound_step T s r (s.actor == r) refl legal.0 (sound T legal.1)
 
   -- entries of one router, key and nonce are one
@@ -137,11 +307,12 @@ module _ (o : Opening) where
       at (inr in_e) (inr in_f) = old e f in_e in_f router key nonce
 
   unique_row : (T : List Step) (s : Step) → Legal o T s → SoundAt T s.actor → Unique (history o T) → Unique (history o (s ∷ T))
-  unique_row T s l safe old = by s.line (leaves (context_of o T s) s.event s.line l.row)
+  unique_row T s l safe old = at s.line s.event (leaves (context_of o T s) s.event s.line l.row)
     where
-      by : (line : Line) → Leaves (context_of o T s) line → Unique (sent_registers_in o T line ++ history o T)
-      by (lines.Sent r server key nonce datagram) left = new_unique _ (history o T) old (λ f has its under. sent_above (context_of o T s) safe left.0 left.1 key nonce datagram left.3 f has (its ∙ left.2))
-      by _ left = old
+      at : (line : Line) (e : EventValue) → Leaves (context_of o T s) line e → Unique (sent_registers_in o T line ++ history o T)
+      at (lines.Sent r to key nonce datagram) (events.Send router server fate) left = new_unique _ (history o T) old (λ f has its under. sent_above (context_of o T s) safe router server key nonce datagram left.1 f has (its ∙ left.0) under)
+      at (lines.Sent _ _ _ _ _) _ left = absurd left
+      at _ _ left = old
 
   pub unique : (T : List Step) → LegalTrace o T → Unique (history o T)
   unique [] legal = λ e f has. absurd (in_none e has)

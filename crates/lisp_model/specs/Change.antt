@@ -8,6 +8,7 @@ use Rattle.lisp_model.specs.History.{SentRegister}
 abbrev pub gives_database : EventValue → ℕ → Bool
 gives_database (events.Change router _) r = router == r
 gives_database (events.Restart node _ (Some _)) r = node == r
+gives_database (events.Lose node _ (Some _)) r = node == r
 gives_database _ r = false
 
 -- no step with a place between the two does, the first step having place 0

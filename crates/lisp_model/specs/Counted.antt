@@ -20,10 +20,13 @@ server_from c router from = find (λ s. addr_eq (address_at c s) from) (router_a
 abbrev pub notify_at : Opening → List Step → ℕ → Arrival → Result ServerNotify NotifyFault
 notify_at o T router a = checked_notify (etr_config o T router) a.bytes a.read (server_from o.config router a.from)
 
--- the nonce of a router's last Map-Register to a server since its start, 0 where there is none
+-- the nonce of a router's last Map-Register to a server since its start, or since it went over to its key; 0 where
+-- there is none
 abbrev pub latest_nonce_after : Line → ℕ → ℕ → ℕ → ℕ
 latest_nonce_after (lines.Sent router server _ nonce _) r s old = if router == r && server == s then nonce else old
 latest_nonce_after (lines.Restarted node) r s old = if node == r then 0 else old
+latest_nonce_after (lines.Rotated node _) r s old = if node == r then 0 else old
+latest_nonce_after (lines.Emptied node _) r s old = if node == r then 0 else old
 latest_nonce_after _ r s old = old
 
 abbrev pub latest_nonce : List Step → ℕ → ℕ → ℕ
@@ -45,6 +48,7 @@ abbrev pub acked_after : Line → ℕ → ℕ → Option (ℕ × ℕ) → Option
 acked_after (lines.Counted router server key nonce) r s old =
     if router == r && server == s then Some (key, nonce) else old
 acked_after (lines.Restarted node) r s old = if node == r then None else old
+acked_after (lines.Emptied node _) r s old = if node == r then None else old
 acked_after _ r s old = old
 
 abbrev pub acked : List Step → ℕ → ℕ → Option (ℕ × ℕ)

@@ -16,7 +16,8 @@ use Rattle.lisp_model.specs.Context.{Context, IsAtRouter, Same}
 abbrev pub refused_with : Context → NotifyFault → Line
 refused_with t fault = lines.Refused t.node (refusals.Notify fault)
 
--- a nonce of the routers: it counts where it is that of the last Map-Register to that server since the start
+-- a nonce of the routers: it counts where it is that of the last Map-Register to that server since the start, or
+-- since the router went over to its key
 abbrev pub counted_line : Context → ServerNotify → ℕ → Line
 counted_line t h last =
     if is_latest h.message.nonce last

@@ -1,18 +1,17 @@
 -- Legal step: what may come of an event after a trace. One row for each line; anything else is illegal.
-use Rattle.std.specs.Prelude.{◌≡◌, ◌≤◌, ◌⊎◌, ℕ, ◌+◌, true, false, List, [], ◌∷◌, slice_get, Option, Some, None, Ok}
-use Rattle.lisp_records.specs.Database.{database_of}
+use Rattle.std.specs.Prelude.{◌≡◌, ◌≤◌, ℕ, ◌+◌, true, false, List, [], ◌∷◌, slice_get, Some, None}
 use Rattle.lisp_records.specs.Moment.{max_moment}
-use Rattle.lisp_records.specs.Record.{MapRecordValue}
-use Rattle.lisp_etr.specs.declared.start_fault.StartFault.{StartFault}
-use Rattle.lisp_etr.specs.declared.start_fault.StartFault.TheVariants.{Store, OutOfMemory}
 use Rattle.lisp_model.specs.declared.event.Event.TheVariants as events
 use Rattle.lisp_model.specs.declared.line.Line.{Line}
 use Rattle.lisp_model.specs.declared.line.Line.TheVariants as lines
 use Rattle.lisp_model.specs.declared.refusal.Refusal.TheVariants as refusals
 use Rattle.lisp_model.specs.Trace.{EventValue, Step, Opening, shown_store, clock, fate_of, node_at, is_server, is_router}
+use Rattle.lisp_model.specs.Keys.{MayRotate}
 use Rattle.lisp_model.specs.Bag.{Item, Arrival, arrival_of, junk_arrival, bag}
-use Rattle.lisp_model.specs.Context.{Context, IsAtServer, IsAtRouter, Same, HasCause, Restarts, Picks, IsAtNoNode}
+use Rattle.lisp_model.specs.Context.{Context, IsAtServer, IsAtRouter, Same, IsAtNoNode}
 use Rattle.lisp_model.specs.Sending.{IsChanged, IsSent, RefusesToSend}
+use Rattle.lisp_model.specs.Restarting.{IsRestarted, IsNotStarted}
+use Rattle.lisp_model.specs.Rotating.{IsRotated, RefusesToRotate, IsEmptied, IsNotStartedUnder}
 use Rattle.lisp_model.specs.Receiving.{IsAccepted, IsDone, RefusesMessage}
 use Rattle.lisp_model.specs.Hearing.{Hears}
 use Rattle.lisp_model.specs.Notifying.{IsNotice, IsResent, RefusesNotice, RefusesToResend}
@@ -61,35 +60,6 @@ pub record IsTicked (t : Context) (ms passed now : ℕ) : Type 0 where
   pub bound : now ≤ max_moment
   pub idle : IsAtNoNode t
 
--- what a router is given is a database
-abbrev pub Fits : Option (List MapRecordValue) → Type 0
-Fits None = Unit {0}
-Fits (Some db) = database_of db ≡ Ok db
-
--- a node starts again: a server without a database, or a router
-pub record IsRestarted (t : Context) (node pick : ℕ) (db : Option (List MapRecordValue)) (named : ℕ) : Type 0 where
-  pub names : named ≡ node
-  pub acts : t.node ≡ node
-  pub kind : ((is_server t.opening.config node ≡ true) × (db ≡ None)) ⊎ (is_router t.opening.config node ≡ true)
-  pub fits : Fits db
-  pub narrows : Restarts t
-  pub picks : Picks t pick
-
--- a router doesn't start
-abbrev pub StartCause : Context → StartFault → Type 0
-StartCause t (Store fault) = HasCause t fault
-StartCause t OutOfMemory = Unit {0}
-
-pub record IsNotStarted (t : Context) (node pick : ℕ) (db : Option (List MapRecordValue)) (named : ℕ)
-    (fault : StartFault) : Type 0 where
-  pub names : named ≡ node
-  pub acts : t.node ≡ node
-  pub kind : is_router t.opening.config node ≡ true
-  pub fits : Fits db
-  pub narrows : Restarts t
-  pub picks : Picks t pick
-  pub cause : StartCause t fault
-
 -- what may come of an event: one row for each line
 abbrev pub MayCome : Context → EventValue → Line → Type 0
 MayCome t (events.Change router db) (lines.Changed named records) = IsChanged t router db named records
@@ -108,6 +78,14 @@ MayCome t (events.Tick ms) (lines.Ticked passed now) = IsTicked t ms passed now
 MayCome t (events.Restart node pick db) (lines.Restarted named) = IsRestarted t node pick db named
 MayCome t (events.Restart node pick db) (lines.Refused named (refusals.Start fault)) =
     IsNotStarted t node pick db named fault
+MayCome t (events.Rotate router key _) (lines.Rotated named under) = IsRotated t router key named under
+MayCome t (events.Rotate router key _) (lines.Down named) =
+    MayRotate t.opening t.past router key × IsDown t router named
+MayCome t (events.Rotate router key _) (lines.Refused named (refusals.Rotate why)) =
+    (named ≡ router) × IsAtRouter t router true × MayRotate t.opening t.past router key × RefusesToRotate t router key why
+MayCome t (events.Lose router key db) (lines.Emptied named under) = IsEmptied t router key db named under
+MayCome t (events.Lose router key db) (lines.Refused named (refusals.Start fault)) =
+    IsNotStartedUnder t router key db named fault
 MayCome t (events.Notice server router _) (lines.Notice s r key nonce datagram) =
     (s ≡ server) × (r ≡ router) × IsNotice t server router key nonce datagram
 MayCome t (events.Notice server router _) (lines.Refused named (refusals.Notice why)) =

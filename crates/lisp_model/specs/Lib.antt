@@ -1,6 +1,7 @@
 pub mod Story
 pub mod Faults
 pub mod Trace
+pub mod Keys
 pub mod History
 pub mod Held
 pub mod Timers
@@ -9,6 +10,8 @@ pub mod Accepted
 pub mod Counted
 pub mod Context
 pub mod Sending
+pub mod Restarting
+pub mod Rotating
 pub mod Receiving
 pub mod Hearing
 pub mod Notifying

@@ -2,6 +2,7 @@
 use Rattle.std.specs.Prelude.{◌≡◌, Bool, true, false}
 use Rattle.lisp_nonces.specs.declared.fault.StoreFault.TheVariants as stores
 use Rattle.lisp_etr.specs.declared.notify_fault.NotifyFault.TheVariants as notifies
+use Rattle.lisp_etr.specs.declared.rotate_fault.RotateFault.TheVariants as rotates
 use Rattle.lisp_etr.specs.declared.send_fault.SendFault.TheVariants as sends
 use Rattle.lisp_etr.specs.declared.start_fault.StartFault.TheVariants as starts
 use Rattle.lisp_admission.specs.declared.notice_fault.NoticeFault.TheVariants as notices
@@ -28,6 +29,7 @@ is_store_memory (refusals.Receive (refuseds.StoreSave stores.OutOfMemory)) = tru
 is_store_memory (refusals.Notice (notices.StoreLoad stores.OutOfMemory)) = true
 is_store_memory (refusals.Notice (notices.StoreSave stores.OutOfMemory)) = true
 is_store_memory (refusals.Start (starts.Store stores.OutOfMemory)) = true
+is_store_memory (refusals.Rotate (rotates.Store stores.OutOfMemory)) = true
 is_store_memory _ = false
 
 -- a line says out of memory only where the node's memory, or its store, may refuse

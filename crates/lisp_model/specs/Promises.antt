@@ -14,7 +14,7 @@ use Rattle.lisp_admission.specs.declared.refused.Refused.TheVariants.{Replay}
 use Rattle.lisp_model.specs.declared.event.Event.TheVariants as events
 use Rattle.lisp_model.specs.declared.line.Line.TheVariants as lines
 use Rattle.lisp_model.specs.declared.refusal.Refusal.TheVariants.{Receive}
-use Rattle.lisp_model.specs.Trace.{EventValue, Step, Opening, shown_store, clock, is_up, is_server, is_router, database, address_at, router_at}
+use Rattle.lisp_model.specs.Trace.{EventValue, Step, Opening, shown_store, clock, is_up, is_server, is_router, key, database, address_at, router_at}
 use Rattle.lisp_model.specs.History.{SentRegister, message_of, record_in, history}
 use Rattle.lisp_model.specs.Held.{Acceptance, held_row}
 use Rattle.lisp_model.specs.Timers.{round, Notice, notices, last_notice}
@@ -22,6 +22,7 @@ use Rattle.lisp_model.specs.Bag.{Item, since_start, bag}
 use Rattle.lisp_model.specs.Accepted.{acceptances, acceptances_in_step, nonces_of, tried_nonces}
 use Rattle.lisp_model.specs.Counted.{latest_nonce, counted_nonces, acked}
 use Rattle.lisp_model.specs.Sending.{last_sent, start_values}
+use Rattle.lisp_model.specs.Keys.{keys_since_loss, keys_before_loss}
 use Rattle.lisp_model.specs.Change.{NoChange}
 
 -- each number is above all that come behind it
@@ -55,6 +56,9 @@ pub record SameServer (o : Opening) (T U : List Step) (server : ℕ) : Type 0 wh
 pub record SameRouter (o : Opening) (T U : List Step) (router : ℕ) : Type 0 where
   pub shown : shown_store o U router ≡ shown_store o T router
   pub is_up : is_up U router ≡ is_up T router
+  pub key : key o U router ≡ key o T router
+  pub keys_since_loss : keys_since_loss o U router ≡ keys_since_loss o T router
+  pub keys_before_loss : keys_before_loss o U router ≡ keys_before_loss o T router
   pub database : database o U router ≡ database o T router
   pub last_sent : last_sent U router ≡ last_sent T router
   pub start_values : start_values o U router ≡ start_values o T router

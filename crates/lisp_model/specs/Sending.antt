@@ -20,19 +20,23 @@ use Rattle.lisp_model.specs.Context.{Context, IsAtRouter, Same, Saves, SaveFails
 abbrev pub pair_at : Opening → List Step → ℕ → Pair
 pair_at o T router = sent_pair (etr_config o T router)
 
--- the nonce of a router's last entry since its start
+-- the nonce of a router's last entry since its start, or since it went over to its key
 abbrev pub last_sent_after : Line → ℕ → Option ℕ → Option ℕ
 last_sent_after (lines.Sent router _ _ nonce _) r old = if router == r then Some nonce else old
 last_sent_after (lines.Restarted node) r old = if node == r then None else old
+last_sent_after (lines.Rotated node _) r old = if node == r then None else old
+last_sent_after (lines.Emptied node _) r old = if node == r then None else old
 last_sent_after _ r old = old
 
 abbrev pub last_sent : List Step → ℕ → Option ℕ
 last_sent [] r = None
 last_sent (s ∷ T) r = last_sent_after s.line r (last_sent T r)
 
--- what its store kept for the pair at that start
+-- what its store kept for its pair then
 abbrev pub start_values_after : Line → List (Option ℕ) → ℕ → List (Option ℕ) → List (Option ℕ)
 start_values_after (lines.Restarted node) new r old = if node == r then new else old
+start_values_after (lines.Rotated node _) new r old = if node == r then new else old
+start_values_after (lines.Emptied node _) new r old = if node == r then new else old
 start_values_after _ new r old = old
 
 abbrev pub start_values : Opening → List Step → ℕ → List (Option ℕ)

@@ -19,7 +19,7 @@
 -- Sending, Receiving, Hearing, Notifying (what may come of each event), Legal (all of them: the table of legal steps);
 -- Bag, Held, Counted, Timers (what is in flight, held, counted, due); then Clean (nobody outside knows a secret) and
 -- Promises (what is promised of every legal trace).
-use Rattle.std.specs.Prelude.{ℕ, List, [], ◌∷◌, Option, Some, None, true, false}
+use Rattle.std.specs.Prelude.{ℕ, List, [], ◌∷◌, Some, None, true, false}
 use Rattle.std.specs.FinMap.{empty, insert}
 use Rattle.lisp_records.specs.declared.address.Addr.{Addr}
 use Rattle.lisp_records.specs.declared.address.Addr.TheVariants.{V4}

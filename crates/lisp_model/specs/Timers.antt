@@ -17,7 +17,7 @@ pub record RoundTimes : Type 0 where
   pub begin : ℕ
   pub moments : List ℕ
 
--- a new round begins at the start and at a change; and a minute after the last send that is counted
+-- a new round begins at the start and at a change of the database or the key; and a minute after the last send that is counted
 abbrev pub with_renewal : RoundTimes → List ℕ → RoundTimes
 with_renewal old [] = old
 with_renewal old (last ∷ _) = record { begin = last + minute; moments = [] }
@@ -25,6 +25,8 @@ with_renewal old (last ∷ _) = record { begin = last + minute; moments = [] }
 abbrev pub round_after : Line → ℕ → ℕ → ℕ → RoundTimes → RoundTimes
 round_after (lines.Changed router _) now r s old = if router == r then record { begin = now; moments = [] } else old
 round_after (lines.Restarted node) now r s old = if node == r then record { begin = now; moments = [] } else old
+round_after (lines.Rotated node _) now r s old = if node == r then record { begin = now; moments = [] } else old
+round_after (lines.Emptied node _) now r s old = if node == r then record { begin = now; moments = [] } else old
 round_after (lines.Sent router server _ _ _) now r s old =
     if router == r && server == s then record old { moments = now ∷ old.moments } else old
 round_after (lines.Counted router server _ _) now r s old =

@@ -31,6 +31,8 @@ event_value (events.Deliver k fate) = events.Deliver k fate
 event_value (events.Junk to from bytes) = events.Junk to from bytes
 event_value (events.Tick ms) = events.Tick ms
 event_value (events.Restart node pick db) = events.Restart node pick db
+event_value (events.Rotate router key fate) = events.Rotate router key fate
+event_value (events.Lose router key db) = events.Lose router key db
 event_value (events.Notice server router fate) = events.Notice server router fate
 event_value (events.Resend server router) = events.Resend server router
 
@@ -77,13 +79,28 @@ router_at c node = slice_index_or c.routers (node - length c.servers) (record { 
 abbrev pub secret_at : List SiteValue → ℕ → ℕ → List ℕ
 secret_at sites site key = unwrap_or (known_secret sites site key) []
 
+-- a router's settings under a key of its site
+abbrev pub etr_config_under : ConfigValue → RouterEntryValue → ℕ → EtrConfigValue
+etr_config_under c r key = record { me = r.me; key_id = key; secret = secret_at c.sites r.me.site key; servers = map (address_at c) r.servers; proxy = r.proxy; use_ttl = r.use_ttl; nonce_block = r.nonce_block }
+
 -- what a router is configured with
 abbrev pub etr_config_of : ConfigValue → RouterEntryValue → EtrConfigValue
-etr_config_of c r = record { me = r.me; key_id = r.key_id; secret = secret_at c.sites r.me.site r.key_id; servers = map (address_at c) r.servers; proxy = r.proxy; use_ttl = r.use_ttl; nonce_block = r.nonce_block }
+etr_config_of c r = etr_config_under c r r.key_id
 
--- a router's key, secret and the rest of its settings after a trace: those of the configuration
+-- the key of a router: the last one that it went over to, or that it was to start under once its store was lost
+abbrev pub key_after : EventValue → Line → ℕ → ℕ → ℕ
+key_after (events.Rotate router key _) (lines.Rotated _ _) r old = if router == r then key else old
+key_after (events.Lose router key _) _ r old = if router == r then key else old
+key_after _ _ r old = old
+
+-- at first the configured one
+abbrev pub key : Opening → List Step → ℕ → ℕ
+key o [] r = (router_at o.config r).key_id
+key o (s ∷ T) r = key_after s.event s.line r (key o T r)
+
+-- a router's key, its secret, and the rest of its settings after a trace
 abbrev pub etr_config : Opening → List Step → ℕ → EtrConfigValue
-etr_config o T r = etr_config_of o.config (router_at o.config r)
+etr_config o T r = etr_config_under o.config (router_at o.config r) (key o T r)
 
 -- the server is one of those that the router registers with
 abbrev pub is_listed : ConfigValue → ℕ → ℕ → Bool
@@ -99,6 +116,7 @@ abbrev pub fate_of : EventValue → Fate
 fate_of (events.Send router server fate) = fate
 fate_of (events.Deliver k fate) = fate
 fate_of (events.Notice server router fate) = fate
+fate_of (events.Rotate router key fate) = fate
 fate_of _ = Done
 
 -- the moment, in ms: the sum of the ticks
@@ -110,10 +128,12 @@ abbrev pub clock : List Step → ℕ
 clock [] = 0
 clock (s ∷ T) = clock T + time_of s.event
 
--- a router is down after a restart that was refused, until one succeeds
+-- a router is down after a restart that was refused, also one after its store was lost, until one succeeds
 abbrev pub up_after : EventValue → Line → ℕ → Bool → Bool
 up_after (events.Restart _ _ _) (lines.Refused node _) r old = if node == r then false else old
 up_after (events.Restart _ _ _) (lines.Restarted node) r old = if node == r then true else old
+up_after (events.Lose _ _ _) (lines.Refused node _) r old = if node == r then false else old
+up_after (events.Lose _ _ _) (lines.Emptied node _) r old = if node == r then true else old
 up_after _ _ r old = old
 
 abbrev pub is_up : List Step → ℕ → Bool
@@ -125,6 +145,7 @@ is_up (s ∷ T) r = up_after s.event s.line r (is_up T r)
 abbrev pub database_after : EventValue → Line → ℕ → List MapRecordValue → List MapRecordValue
 database_after (events.Change router db) (lines.Changed _ _) r old = if router == r then db else old
 database_after (events.Restart node _ (Some db)) _ r old = if node == r then db else old
+database_after (events.Lose node _ (Some db)) _ r old = if node == r then db else old
 database_after _ _ r old = old
 
 abbrev pub database : Opening → List Step → ℕ → List MapRecordValue

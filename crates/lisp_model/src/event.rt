@@ -51,6 +51,24 @@ pub enum Event<A: Allocator = Global> {
         /// What a router registers from now on, where that is another database.
         db: Option<Database<A>>,
     },
+    /// A router goes over to another key of its site.
+    Rotate {
+        /// The router.
+        router: usize,
+        /// The Key ID that it registers under from now on.
+        key: u8,
+        /// What becomes of the store's calls.
+        fate: Fate,
+    },
+    /// A router stops, its store loses what it kept, and the router starts again under another key.
+    Lose {
+        /// The router.
+        router: usize,
+        /// The Key ID that it registers under from now on.
+        key: u8,
+        /// What the router registers from now on, where that is another database.
+        db: Option<Database<A>>,
+    },
     /// A Map-Server sends a router an unsolicited Map-Notify (notice) of what it holds of it.
     Notice {
         /// The Map-Server.

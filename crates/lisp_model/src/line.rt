@@ -87,6 +87,20 @@ pub enum Line {
         /// The node.
         node: usize,
     },
+    /// A router went over to another key.
+    Rotated {
+        /// The router.
+        router: usize,
+        /// The Key ID.
+        key: u8,
+    },
+    /// A router started again, under another key, after its store lost what it kept.
+    Emptied {
+        /// The router.
+        router: usize,
+        /// The Key ID.
+        key: u8,
+    },
     /// A Map-Server sent a notice.
     Notice {
         /// The Map-Server.

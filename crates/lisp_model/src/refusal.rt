@@ -4,7 +4,7 @@ ghost use Rattle.std.specs.Prelude.{◌≡◌};
 ghost use Rattle.lisp_model.specs.Faults.{refusal_number};
 
 use lisp_admission::{NoticeFault, Refused};
-use lisp_etr::{NotifyFault, SendFault, StartFault};
+use lisp_etr::{NotifyFault, RotateFault, SendFault, StartFault};
 
 /// Why a node refused an event.
 #[derive(Clone, Copy, Debug, PartialEq, Eq)]
@@ -19,6 +19,8 @@ pub enum Refusal {
     Notice(NoticeFault),
     /// A router didn't start: it is down.
     Start(StartFault),
+    /// A router keeps its key.
+    Rotate(RotateFault),
 }
 
 impl Refusal {
@@ -32,6 +34,7 @@ impl Refusal {
             Refusal::Receive(refused) => refused.number(),
             Refusal::Notice(fault) => fault.number(),
             Refusal::Start(fault) => fault.number(),
+            Refusal::Rotate(fault) => fault.number(),
         }
     }
 }

@@ -18,6 +18,12 @@ pub enum WorldFault {
     /// A router where a Map-Server is meant, or the other way round; or a database for a Map-Server.
     #[error("the node is of the wrong kind")]
     WrongKind,
+    /// The router's site has no such key.
+    #[error("the router's site has no such key")]
+    UnknownKey,
+    /// The router used the key before: it may not go over to it after its store was lost.
+    #[error("the router used the key before")]
+    KeyUsed,
     /// No datagram has the number.
     #[error("there is no such datagram")]
     NoDatagram,
@@ -42,7 +48,7 @@ pub enum WorldFault {
 
 impl WorldFault {
     /// The number that operators see: `NoNode` 70, `WrongKind` 71, `NoDatagram` 72, `Clock` 73,
-    /// `Repeated` 74, `OutOfMemory` 75, `Start` 76.
+    /// `Repeated` 74, `OutOfMemory` 75, `Start` 76, `KeyUsed` 77, `UnknownKey` 78.
     pub const fn number(&self) -> u16
         ensures { result ≡ world_fault_number self.now }
     {
@@ -54,6 +60,8 @@ impl WorldFault {
             WorldFault::Repeated => 74,
             WorldFault::OutOfMemory => 75,
             WorldFault::Start { .. } => 76,
+            WorldFault::KeyUsed => 77,
+            WorldFault::UnknownKey => 78,
         }
     }
 }

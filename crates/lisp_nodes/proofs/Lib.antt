@@ -1,3 +1,4 @@
+pub mod KeyLists
 pub mod NodeCalls
 pub mod RouterCalls
 pub mod ServerCalls

@@ -1,23 +1,17 @@
 -- What the contracts of a router's calls come to, as a turn of a network wants it.
-use Rattle.std.proofs.Common.{◌≡◌, ℕ, ◌<◌, ◌≤◌, Bool, true, false, List, length, Result, Ok, Err, inl, inr, arith, ◌⊎◌, refl, ap, subst}
-use Rattle.std.specs.Prelude.{◌↔◌, ◌≢◌, ◌==◌, ◌/◌, slice_index, IsErrAnd, IsErrOf, nat_lt, drop, if◌then◌else◌}
-use Rattle.lisp_records.specs.Reading.{number_at}
-use Rattle.lisp_records.specs.Result.{◌>>=◌}
-use Rattle.lisp_messages.specs.declared.kind.Kind.{Kind}
-use Rattle.lisp_messages.specs.declared.kind.Kind.TheVariants as kinds
+use Rattle.std.proofs.Common.{◌≡◌, ℕ, ◌<◌, ◌≤◌, Bool, true, false, true≢false, List, length, Result, Ok, Err, inl, inr, arith, ◌⊎◌, refl, sym, ap}
+use Rattle.std.specs.Prelude.{◌↔◌, ◌≢◌, IsErrAnd}
 use Rattle.lisp_nonces.specs.Store.{StoreState, Proceeds}
 use Rattle.std.proofs.lemmas.Bool.{cases_lt}
-use Rattle.lisp_messages.specs.Reading.{HasHead, kind_at, after, require, kind_of}
-use Rattle.lisp_messages.specs.declared.fault.ReadFault.{ReadFault}
-use Rattle.lisp_messages.specs.declared.fault.ReadFault.TheVariants as reads
 use Rattle.lisp_etr.specs.Etr.{EtrState}
-use Rattle.lisp_etr.specs.Faults.{fault_of_read}
 use Rattle.lisp_etr.specs.Sending.{last_nonce}
-use Rattle.lisp_etr.specs.declared.notify_fault.NotifyFault.{NotifyFault}
-use Rattle.lisp_etr.specs.declared.notify_fault.NotifyFault.TheVariants as notify_faults
 use Rattle.lisp_etr.specs.declared.send_fault.SendFault.{SendFault}
 use Rattle.lisp_etr.specs.declared.send_fault.SendFault.TheVariants.{NoServer, NonceSpent, OutOfMemory, Store}
-use Rattle.lisp_refinement.specs.Calls.{IsSendFaultOf}
+use Rattle.lisp_etr.specs.Rotating.{RefusesSameKey, FailsAsArmed, FailsByDevice}
+use Rattle.lisp_etr.specs.declared.rotate_fault.RotateFault.{RotateFault}
+use Rattle.lisp_etr.specs.declared.rotate_fault.RotateFault.TheVariants as rotate_faults
+use Rattle.lisp_etr.specs.declared.rotate_fault.RotateRefused.{RotateRefused}
+use Rattle.lisp_refinement.specs.Calls.{IsSendFaultOf, IsRotateFaultOf}
 
 -- a call that isn't refused as `NoServer` is for a Map-Server that is there
 pub server_there : {X : Type 0} (r : Result X SendFault) (count place : ℕ) → r ≢ Err NoServer → ((r ≡ Err NoServer) ↔ (count ≤ place)) → place < count
@@ -50,6 +44,31 @@ module _ (X : Type 0) (e : EtrState) (place : ℕ) where
   why_not_sent (Store f) none spent =
       let there : place < length e.config.servers = server_there (refused_as (Store f)) _ _ (λ clash. absurd cc) none in
       (there, nonce_left (refused_as (Store f)) _ _ _ (λ clash. absurd cc) there spent)
+
+-- why a router didn't go over to a key
+abbrev is_same_key : RotateFault → Bool
+is_same_key rotate_faults.SameKey = true
+is_same_key (rotate_faults.Store fault) = false
+
+abbrev names_same_key : Result (Unit {0}) RotateRefused → Bool
+names_same_key (Ok done) = false
+names_same_key (Err refused) = is_same_key refused.fault
+
+module _ (e : EtrState) (key_id : ℕ) (secret : List ℕ) (armed called : StoreState) where
+  abbrev pub kept_by : RotateFault → List ℕ → RotateRefused
+  kept_by fault given = record { fault = fault; key = given }
+
+  abbrev pub keeps_key : RotateFault → List ℕ → Result (Unit {0}) RotateRefused
+  keeps_key fault given = Err (kept_by fault given)
+
+  pub why_not_rotated : (fault : RotateFault) (given : List ℕ) → given ≡ secret
+      → (RefusesSameKey secret (keeps_key fault given) ↔ (key_id ≡ e.config.key_id)) → (key_id ≡ e.config.key_id → called ≡ armed)
+      → FailsAsArmed armed (kept_by fault given) → FailsByDevice armed called (kept_by fault given) → IsRotateFaultOf e key_id armed called fault
+  why_not_rotated rotate_faults.SameKey given back same unasked fails device =
+      let is = same.0 (ap (keeps_key rotate_faults.SameKey) back) in
+      (is, unasked is)
+  why_not_rotated (rotate_faults.Store f) given back same unasked fails device =
+      (λ is. absurd (true≢false (sym (ap names_same_key (same.1 is)))), device f refl, fails f refl)
 
 -- a store that wasn't used
 pub unused : (store : StoreState) → Proceeds store store

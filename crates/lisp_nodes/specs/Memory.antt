@@ -3,6 +3,8 @@ use Rattle.std.specs.Prelude.{Option, Result, IfSome, IsErrOf}
 use Rattle.lisp_nonces.specs.declared.fault.StoreFault.TheVariants as faults
 use Rattle.lisp_etr.specs.declared.send_fault.SendFault.{SendFault}
 use Rattle.lisp_etr.specs.declared.send_fault.SendFault.TheVariants as send_faults
+use Rattle.lisp_etr.specs.declared.rotate_fault.RotateFault.{RotateFault}
+use Rattle.lisp_etr.specs.declared.rotate_fault.RotateFault.TheVariants as rotate_faults
 use Rattle.lisp_etr.specs.declared.start_fault.StartFault.{StartFault}
 use Rattle.lisp_etr.specs.declared.start_fault.StartFault.TheVariants as start_faults
 use Rattle.lisp_admission.specs.declared.refused.Refused.{Refused}
@@ -27,9 +29,12 @@ no_store_memory_to_load_notice = notice_faults.StoreLoad faults.OutOfMemory
 abbrev pub no_store_memory_to_save_notice : NoticeFault
 no_store_memory_to_save_notice = notice_faults.StoreSave faults.OutOfMemory
 
--- the store of a router: for the nonce of a Map-Register to send, and at its start
+-- the store of a router: for the nonce of a Map-Register to send, for the last nonce under another key, and at its start
 abbrev pub no_store_memory_to_send : SendFault
 no_store_memory_to_send = send_faults.Store faults.OutOfMemory
+
+abbrev pub no_store_memory_to_rotate : RotateFault
+no_store_memory_to_rotate = rotate_faults.Store faults.OutOfMemory
 
 abbrev pub no_store_memory_to_start : StartFault
 no_store_memory_to_start = start_faults.Store faults.OutOfMemory

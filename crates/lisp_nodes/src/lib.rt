@@ -7,6 +7,7 @@ mod datagram;
 mod router_core;
 mod router_node;
 mod server_node;
+mod used_keys;
 
 pub use arrival::{Arrival, hear, post_reply, router_hears, server_hears};
 pub use datagram::{Datagram, post, post_message};

@@ -6,16 +6,21 @@ ghost use Rattle.lisp_records.specs.Moment.{max_moment};
 ghost use Rattle.lisp_etr.specs.declared.notify_fault.NotifyFault.{NotifyFault};
 ghost use Rattle.lisp_etr.specs.declared.send_fault.SendFault.{SendFault};
 ghost use Rattle.lisp_etr.specs.declared.start_fault.StartFault.{StartFault};
-ghost use Rattle.lisp_refinement.specs.Calls.{config_of, database_of, NodeStarts, NodeRestarts};
-ghost use Rattle.lisp_nodes.specs.Cores.{core_of, down_over};
-ghost use Rattle.lisp_nodes.specs.Memory.{RefusesOnlyIf, no_store_memory_to_send, no_store_memory_to_start};
-ghost use Rattle.lisp_refinement.specs.Events.{changed_node, is_up, place_of, NodeSends, NodeHears};
+ghost use Rattle.lisp_refinement.specs.Calls.{config_of, database_of, NodeStarts, NodeRestarts, NodeLoses};
+ghost use Rattle.lisp_refinement.specs.World.{is_used};
+ghost use Rattle.lisp_nodes.specs.Cores.{core_of, down_over, stopped_under};
+ghost use Rattle.lisp_nodes.specs.Memory.{RefusesOnlyIf, no_store_memory_to_send, no_store_memory_to_rotate, no_store_memory_to_start};
+ghost use Rattle.lisp_refinement.specs.Events.{changed_node, is_up, place_of, NodeSends, NodeHears, NodeRotates};
 ghost use Rattle.lisp_refinement.specs.Nodes.{up_in};
 
 use crate::arming::arm;
 use crate::router_core::RouterCore;
+use crate::used_keys::UsedKeys;
 use core::mem::replace_with;
-use lisp_etr::{Etr, EtrConfig, NotifyFault, Seen, SendFault, StartFault, StartRefused};
+use lisp_etr::{
+    Etr, EtrConfig, NotifyFault, RotateFault, Seen, SendFault, StartFault, StartRefused,
+};
+use lisp_hmac::Key;
 use lisp_memory::Memory;
 use lisp_nonces::{Fate, WorldStore};
 use lisp_policy::Places;
@@ -30,6 +35,7 @@ pub struct RouterNode<S: WorldStore, A: Allocator = Global> {
     // The key that it registers under.
     key_id: u8,
     servers: Places<A>,
+    used: UsedKeys,
     core: RouterCore<A>,
     store: S,
 }
@@ -57,7 +63,7 @@ impl<S: WorldStore, A: Allocator> Model for RouterNode<S, A> {
 
     ghost coded = { Prim.hlevel (codes, kept_code) };
 
-    ghost view = { λ n. record { me = n.me; servers = n.servers; core = core_of n.core; store = S.seen n.store } };
+    ghost view = { λ n. record { me = n.me; servers = n.servers; used = n.used; core = core_of n.core; store = S.seen n.store } };
 
     ghost invariant = { λ n. n.key_id ≡ (config_of (core_of n.core)).key_id };
 }
@@ -77,6 +83,7 @@ impl<S: WorldStore, A: Allocator> RouterNode<S, A> {
             me: config.me,
             key_id: config.key_id,
             servers,
+            used: UsedKeys::of(config.key_id),
             core: RouterCore::Down { config, database },
             store,
         }
@@ -95,6 +102,21 @@ impl<S: WorldStore, A: Allocator> RouterNode<S, A> {
         ensures key { result.1 ≡ (config_of self.now.core).key_id }
     {
         (self.servers.as_slice(), self.key_id)
+    }
+
+    /// Whether it was started under a key or went over to it since its store was lost last, a start that was refused
+    /// counting. Takes no memory.
+    pub fn used_since_loss(&self, key: u8) -> bool
+        ensures { result ≡ is_used self.now.used.since_loss key }
+    {
+        self.used.since_loss(key)
+    }
+
+    /// Whether it was or did before its store was lost last. Takes no memory.
+    pub fn used_before_loss(&self, key: u8) -> bool
+        ensures { result ≡ is_used self.now.used.before_loss key }
+    {
+        self.used.before_loss(key)
     }
 
     /// The router where it is up; `None` where it is down. Takes no memory.
@@ -152,6 +174,37 @@ impl<S: WorldStore, A: Memory + Copy> RouterNode<S, A> {
         })
     }
 
+    /// It registers under another key of its site from a moment on, in ms, its store armed with the fate for the call and
+    /// with `Done` after it: the key counts as used from then on; or it keeps its key, and says why. `None` where it is
+    /// down, and it is left unchanged. Takes no memory.
+    pub fn rotate(
+        &mut self,
+        key_id: u8,
+        key: Key,
+        fate: Fate,
+        now: u64,
+    ) -> Option<Result<(), RotateFault>>
+        ensures up { IfSome result (NodeRotates self.old self.new key_id key fate now) }
+        ensures down { result ≡ None → (is_up self.old.core ≡ false) × (self.new ≡ self.old) }
+        ensures store_memory { RefusesOnlyIf result no_store_memory_to_rotate S.may_refuse }
+    {
+        let etr = match &mut self.core {
+            RouterCore::Up(etr) => etr,
+            RouterCore::Down { .. } => return None,
+        };
+        arm(&mut self.store, fate);
+        let answer = etr.rotate(key_id, key, &mut self.store, now);
+        arm(&mut self.store, Fate::Done);
+        Some(match answer {
+            Ok(()) => {
+                self.key_id = key_id;
+                self.used.add(key_id);
+                Ok(())
+            }
+            Err(refused) => Err(refused.fault),
+        })
+    }
+
     /// It receives bytes from an address at a time, in ms, its store armed with the fate; `None` where it is down.
     pub(crate) fn receive(
         &mut self,
@@ -184,10 +237,57 @@ impl<S: WorldStore, A: Memory + Copy> RouterNode<S, A> {
         replace_with(self, how, RouterNode::start)
     }
 
-    /// It starts over its store; or it is down and says why. Who it is, its configuration and its Map-Servers stay.
+    /// It stops, its store loses what it kept, and it starts again under another key; or it is down and says why. The key
+    /// counts as used either way.
+    pub fn lose(&mut self, key_id: u8, key: Key, how: Start<A>) -> Result<(), StartFault>
+        ensures loses { NodeLoses self.old self.new key_id key how.db how.now result }
+        ensures memory { IsErrOf result StartFault.OutOfMemory → A.may_refuse }
+        ensures store_memory { IsErrOf result no_store_memory_to_start → S.may_refuse }
+    {
+        self.store.lose();
+        self.used.lose(key_id);
+        replace_with(self, (key_id, key), RouterNode::stop_under);
+        replace_with(self, how, RouterNode::start)
+    }
+
+    // It stops, and has another key to start under.
+    fn stop_under(self, other: (u8, Key)) -> (RouterNode<S, A>, ())
+        ensures { result.0 ≡ stopped_under self other.0 other.1 }
+    {
+        let (key_id, key) = other;
+        let RouterNode {
+            me,
+            servers,
+            used,
+            core,
+            store,
+            ..
+        } = self;
+        let (config, database) = stopped(core);
+        let config = EtrConfig {
+            key_id,
+            key,
+            ..config
+        };
+        (
+            RouterNode {
+                me,
+                key_id,
+                servers,
+                used,
+                core: RouterCore::Down { config, database },
+                store,
+            },
+            (),
+        )
+    }
+
+    /// It starts over its store; or it is down and says why. Who it is, its configuration, its Map-Servers and the keys
+    /// that it used stay.
     pub fn start(self, how: Start<A>) -> (RouterNode<S, A>, Result<(), StartFault>)
         ensures me { result.0.me ≡ self.me }
         ensures servers { result.0.servers ≡ self.servers }
+        ensures used { result.0.used ≡ self.used }
         ensures starts { NodeStarts self result.0 how.db how.now result.1 }
         ensures memory { IsErrOf result.1 StartFault.OutOfMemory → A.may_refuse }
         ensures store_memory { IsErrOf result.1 no_store_memory_to_start → S.may_refuse }
@@ -197,6 +297,7 @@ impl<S: WorldStore, A: Memory + Copy> RouterNode<S, A> {
             me,
             key_id,
             servers,
+            used,
             core,
             mut store,
         } = self;
@@ -217,6 +318,7 @@ impl<S: WorldStore, A: Memory + Copy> RouterNode<S, A> {
                 me,
                 key_id,
                 servers,
+                used,
                 core,
                 store,
             },

@@ -62,6 +62,10 @@ has_value vs nonce = list_any (λ v. option_eq v nonce) vs
 abbrev pub with_value : List (Option ℕ) → ℕ → List (Option ℕ)
 with_value vs nonce = if has_value vs nonce then vs else vs ++ Some nonce ∷ []
 
+-- some value may be kept for each pair
+abbrev pub KeepsSome : Kept → Type 0
+KeepsSome kept = (q : Pair) → (v : Option ℕ) × Contains (kept_at kept q) v
+
 -- the member at a place, or the last
 abbrev pub picked : List (Option ℕ) → ℕ → Option ℕ
 picked vs pick = slice_index_or vs (min pick (length vs - 1)) None

@@ -6,7 +6,7 @@ use Rattle.lisp_nonces.specs.declared.fate.Fate.TheVariants.{Done}
 use Rattle.lisp_nonces.specs.declared.fault.StoreFault.{StoreFault}
 use Rattle.lisp_nonces.specs.declared.fault.StoreFault.TheVariants.{Device, OutOfMemory}
 use Rattle.lisp_nonces.specs.declared.pair.Pair.{Pair}
-use Rattle.lisp_nonces.specs.Kept.{kept_at, with_value, SameElsewhere, PairInDoubt, NarrowsEach, PicksEach}
+use Rattle.lisp_nonces.specs.Kept.{kept_at, with_value, SameElsewhere, PairInDoubt, NarrowsEach, PicksEach, KeepsSome}
 use Rattle.lisp_nonces.specs.Store.{StoreState, Rose, MayFailLoad}
 
 -- of an honest store, a load that is answered gives a value that may be kept for the pair
@@ -61,6 +61,10 @@ NarrowsIfHonest before after = IsTrue before.is_honest → NarrowsEach before.ke
 -- of an obedient store, a restart leaves of each pair's values the one at a place, or the last
 abbrev pub PicksIfObedient : StoreState → StoreState → ℕ → Type 0
 PicksIfObedient before after pick = IsTrue before.is_obedient → PicksEach before.kept after.kept pick
+
+-- of an honest store that was lost, some value may be kept for each pair: any
+abbrev pub KeepsSomeIfHonest : StoreState → Type 0
+KeepsSomeIfHonest after = IsTrue after.is_honest → KeepsSome after.kept
 
 -- where neither memory nor a store's memory is ever refused
 abbrev pub Unrefused : Type 0 → Type 0 → Type 0 → Type 0

@@ -2,7 +2,8 @@
 
 ghost use Rattle.std.specs.Prelude.{◌≡◌, ◌≢◌, ◌↔◌, ◌<◌, ◌≤◌, [], ◌∷◌, Some, None, Ok, Err, IsTrue, IfOk, IfErr, OnOk, OnErr, IsErrOf, All, length, map, slice_index_or};
 ghost use Rattle.std.specs.List.{Contains, position};
-ghost use Rattle.lisp_nonces.specs.Kept.{kept_at, with_value, picked, SameElsewhere, PairInDoubt, NarrowsEach, PicksEach};
+ghost use Rattle.lisp_nonces.specs.Kept.{kept_at, with_value, picked, SameElsewhere, PairInDoubt, NarrowsEach, PicksEach, KeepsSome};
+ghost use Rattle.std.specs.FinMap.{empty};
 ghost use Rattle.lisp_nonces.specs.Store.{StoreState, Proceeds, MayLoad, MaySave};
 ghost use Rattle.lisp_nonces.specs.Memory.{MemoryStoreState, memory_state, failed_once, saved, loaded, after_load, save_answer, faults_after_save, empty_memory, SeenAsBefore, DeviceFailed, HasMemory, SavesByFate, IsArmedToDoubt, KeepsToo};
 ghost use Rattle.lisp_nonces.specs.Entries.{kept_of, is_of, narrowed, HasValues, KeepsOtherEntries};
@@ -217,6 +218,19 @@ impl<A: Memory + Copy> WorldStore for MemoryStore<A> {
         ensures proceeds { Proceeds (memory_state self.old) (memory_state self.new) }
     {
         narrow(&mut self.entries, pick);
+    }
+
+    /// Nothing is kept of any pair. Takes no memory.
+    #[tactic(auto, unfolding(crate::specs::Entries::kept_of))]
+    fn lose(&mut self)
+        // Exactly.
+        ensures exactly { self.new ≡ record self.old { kept = empty } }
+
+        // What every store promises.
+        ensures some { KeepsSome self.new.kept }
+        ensures proceeds { Proceeds (memory_state self.old) (memory_state self.new) }
+    {
+        self.entries.clear();
     }
 }
 

@@ -3,7 +3,7 @@
 ghost use Rattle.std.specs.Prelude.{◌≡◌, ◌≢◌, Err, IfErr, OnOk, IsErrOf};
 ghost use Rattle.lisp_nonces.specs.Store.{StoreState, Rose, Proceeds, MayLoad, MaySave, MayFailSave};
 ghost use Rattle.lisp_nonces.specs.declared.fault.StoreFault.{StoreFault};
-ghost use Rattle.lisp_nonces.specs.Promises.{LoadsIfHonest, KeepsListsIfHonest, KeepsOthersIfHonest, SavesIfHonest, DoubtsIfHonest, KeepsTooIfObedient, IsOfDevice, LoadFailsAsArmed, SameObedience, ShowsFateIfObedient, QuietIfObedient, NarrowsIfHonest, PicksIfObedient};
+ghost use Rattle.lisp_nonces.specs.Promises.{LoadsIfHonest, KeepsListsIfHonest, KeepsOthersIfHonest, SavesIfHonest, DoubtsIfHonest, KeepsTooIfObedient, IsOfDevice, LoadFailsAsArmed, SameObedience, ShowsFateIfObedient, QuietIfObedient, NarrowsIfHonest, PicksIfObedient, KeepsSomeIfHonest};
 
 use crate::fate::Fate;
 use crate::fault::StoreFault;
@@ -76,5 +76,11 @@ pub trait WorldStore: NonceStore {
 
         // Of an obedient store the one at place `pick` is left, or the last.
         ensures picks { PicksIfObedient (Self.seen self.old) (Self.seen self.new) pick }
+        ensures proceeds { Proceeds (Self.seen self.old) (Self.seen self.new) };
+
+    /// The store after what it kept was lost, as when a disk is replaced: of each pair anything may be kept
+    /// then, or nothing.
+    fn lose(&mut self)
+        ensures some { KeepsSomeIfHonest (Self.seen self.new) }
         ensures proceeds { Proceeds (Self.seen self.old) (Self.seen self.new) };
 }

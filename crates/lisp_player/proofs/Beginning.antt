@@ -166,6 +166,8 @@ module _ (may : Type 0) (c : ConfigValue) where
       by whys.WrongKind calm repeated twice = absurd calm
       by whys.NoDatagram calm repeated twice = absurd calm
       by whys.Clock calm repeated twice = absurd calm
+      by whys.UnknownKey calm repeated twice = absurd calm
+      by whys.KeyUsed calm repeated twice = absurd calm
 
 -- so none is made of the input
 pub not_made : (may : Type 0) (input : List ℕ) (c : ConfigValue) (orders : List CommandValue) → schedule_of input ≡ Ok (c, orders)
@@ -177,6 +179,8 @@ not_made may input c orders is whys.NoNode (none, calm) = absurd calm
 not_made may input c orders is whys.WrongKind (none, calm) = absurd calm
 not_made may input c orders is whys.NoDatagram (none, calm) = absurd calm
 not_made may input c orders is whys.Clock (none, calm) = absurd calm
+not_made may input c orders is whys.UnknownKey (none, calm) = absurd calm
+not_made may input c orders is whys.KeyUsed (none, calm) = absurd calm
 
 -- commands were played from the beginning, or those before one
 module _ (A M : Type 0) (c : ConfigValue) (orders : List CommandValue) (w new : WorldState) (before after : Option (List ℕ)) (distinct : repeats c ≡ false) (begun : Begins c w) where

@@ -107,6 +107,7 @@ RouterGoes old o T s place k n = ((s.actor ≡ k) × Shows n.store s.shown × St
 
 -- what a step in no time makes of the network
 record Goes (old new : WorldState) (o : Opening) (T : List Step) (s : Step) (more : List DatagramValue) : Type 0 where
+  pub sites : new.sites ≡ old.sites
   pub addresses : new.addresses ≡ old.addresses
   pub clock : new.clock ≡ old.clock
   pub bag : new.bag ≡ old.bag ++ more
@@ -153,6 +154,7 @@ module _ (old new : WorldState) (o : Opening) (T : List Step) (s : Step) (more :
   -- steps and stores stand
   steps_go : StandsInSteps new o (s ∷ T)
   steps_go = record {
+    sites = goes.sites ∙ stand.steps.sites;
     addresses = goes.addresses ∙ stand.steps.addresses;
     network = stand.steps.network;
     legal = (legal, stand.steps.legal);
@@ -191,6 +193,7 @@ pub server_acts : (old new : WorldState) (node : ℕ) (more : List DatagramValue
     → Stands old o T → s.actor ≡ node → is_timeless s.event ≡ true → Legal o T s → Adds o T s more → Shows acts.after.store s.shown
     → StandsForServer o (s ∷ T) node acts.after → Stands new o (s ∷ T)
 server_acts old new node more acts o T s stand actor timeless legal adds shows part = goes_on old new o T s more stand timeless legal adds (record {
+  sites = ap (λ (w : WorldState). w.sites) acts.left;
   addresses = ap (λ (w : WorldState). w.addresses) acts.left;
   clock = ap (λ (w : WorldState). w.clock) acts.left;
   bag = ap (λ (w : WorldState). w.bag) acts.left;
@@ -212,6 +215,7 @@ pub router_acts : (old new : WorldState) (node : ℕ) (more : List DatagramValue
     → Stands old o T → s.actor ≡ node → is_timeless s.event ≡ true → Legal o T s → Adds o T s more → Shows acts.after.store s.shown
     → StandsForRouter o (s ∷ T) node acts.after → Stands new o (s ∷ T)
 router_acts old new node more acts o T s stand actor timeless legal adds shows part = goes_on old new o T s more stand timeless legal adds (record {
+  sites = ap (λ (w : WorldState). w.sites) acts.left;
   addresses = ap (λ (w : WorldState). w.addresses) acts.left;
   clock = ap (λ (w : WorldState). w.clock) acts.left;
   bag = ap (λ (w : WorldState). w.bag) acts.left;
@@ -236,6 +240,7 @@ router_acts old new node more acts o T s stand actor timeless legal adds shows p
 pub nobody_acts : (w : WorldState) (o : Opening) (T : List Step) (s : Step) → Stands w o T → is_timeless s.event ≡ true
     → is_server o.config s.actor ≡ false → is_router o.config s.actor ≡ false → Legal o T s → Adds o T s [] → Stands w o (s ∷ T)
 nobody_acts w o T s stand timeless server router legal adds = goes_on w w o T s [] stand timeless legal adds (record {
+  sites = refl;
   addresses = refl;
   clock = refl;
   bag = sym (append-nil w.bag);

@@ -50,7 +50,7 @@ module _ (old new : WorldState) (router : ℕ) (db : List MapRecordValue) (line 
       → StandsForCore o (change o T router db l ∷ T) router (changed_core db old.clock changes.acts.before.core) → Stands new o (change o T router db line ∷ T)
   stands_with l says legal adds core = subst (λ (x : Line). Stands new o (change o T router db x ∷ T)) (sym (changes.said ∙ says))
       (router_acts old new router [] changes.acts o T (change o T router db l) stand refl refl legal (adds_none o T (change o T router db l) adds) shows
-      (subst (λ (n : RouterNodeState). StandsForRouter o (change o T router db l ∷ T) router n) (sym changes.changes) (record { me = stood.me; servers = stood.servers; core = core })))
+      (subst (λ (n : RouterNodeState). StandsForRouter o (change o T router db l ∷ T) router n) (sym changes.changes) (record { me = stood.me; servers = stood.servers; used = record { since_loss = stood.used.since_loss; before_loss = stood.used.before_loss }; core = core })))
 
   -- a router that is up
   module _ (e : EtrState) (part : StandsForEtr o T router e) where

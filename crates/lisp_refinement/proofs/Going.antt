@@ -8,6 +8,7 @@ use Rattle.lisp_records.specs.Address.{PrefixValue}
 use Rattle.lisp_records.specs.Router.{router_eq}
 use Rattle.lisp_records.specs.Row.{RowValue}
 use Rattle.lisp_nonces.specs.Kept.{kept_at, NoneBelow}
+use Rattle.lisp_etr.specs.Config.{EtrConfigValue, sent_pair}
 use Rattle.lisp_etr.specs.Etr.{EtrState}
 use Rattle.lisp_etr.specs.Round.{KeepsRoundTime}
 use Rattle.lisp_etr.specs.declared.round.Round.{Round}
@@ -17,16 +18,16 @@ use Rattle.lisp_admission.specs.Pairs.{notice_pair}
 use Rattle.lisp_server.specs.LastNonces.{nonce_at}
 use Rattle.lisp_server.specs.Contacts.{contact_at}
 use Rattle.lisp_server.specs.Notices.{StandingNoticeValue, notice_at}
-use Rattle.lisp_model.specs.Trace.{ShownStore, Step, Opening, clock}
+use Rattle.lisp_model.specs.Trace.{ShownStore, Step, Opening, router_at, etr_config_under, etr_config, clock}
 use Rattle.lisp_model.specs.Held.{Acceptance, last_of, heard_last, held_row}
 use Rattle.lisp_model.specs.Timers.{RoundTimes, Notice, notice_to}
 use Rattle.lisp_model.specs.Bag.{Item, bag, since_start}
-use Rattle.lisp_model.specs.Sending.{CountsFrom, pair_at}
+use Rattle.lisp_model.specs.Sending.{CountsFrom}
 use Rattle.lisp_model.specs.Context.{IsBase}
 use Rattle.lisp_model.specs.Promises.{SameServer, SameRouter}
 use Rattle.lisp_model.proofs.Locality.{same_number}
-use Rattle.lisp_refinement.specs.World.{ServerNodeState, RouterCoreState, Up, Down, RouterNodeState}
-use Rattle.lisp_refinement.specs.Stands.{StandsForRound, StandsForEtr, StandsForCore, StandsForRouter, SameNotice, StandsForServer}
+use Rattle.lisp_refinement.specs.World.{ServerNodeState, RouterCoreState, Up, Down, UsedKeysState, RouterNodeState}
+use Rattle.lisp_refinement.specs.Stands.{StandsForRound, StandsForEtr, StandsForCore, Lists, StandsForKeys, StandsForRouter, SameNotice, StandsForServer}
 use Rattle.lisp_refinement.proofs.Gets.{get_before}
 
 -- what a step says of the node that it names
@@ -103,14 +104,25 @@ module _ (o : Opening) (T U : List Step) (k : ℕ) (same : SameRouter o T U k) w
   pub counts_stay : (base : Option ℕ) → CountsFrom o T k base → CountsFrom o U k base
   counts_stay base counts = subst (λ (p : Option ℕ × List (Option ℕ)). IsBase p.0 p.1 base) (λ i. (sym same.last_sent i, sym same.start_values i)) counts
 
+  -- its configuration stays, since its key does
+  config_stays : etr_config o U k ≡ etr_config o T k
+  config_stays = ap (etr_config_under o.config (router_at o.config k)) same.key
+
+  -- and no other key was used
+  keys_stay : (used : UsedKeysState) → StandsForKeys o T k used → StandsForKeys o U k used
+  keys_stay used stand = record {
+    since_loss = subst (Lists used.since_loss) (sym same.keys_since_loss) stand.since_loss;
+    before_loss = subst (Lists used.before_loss) (sym same.keys_before_loss) stand.before_loss;
+  }
+
   -- all of it while it is up
   pub etr_stays : (e : EtrState) → StandsForEtr o T k e → StandsForEtr o U k e
   etr_stays e stand = record {
     up = same.is_up ∙ stand.up;
-    config = stand.config;
+    config = stand.config ∙ sym config_stays;
     database = stand.database ∙ sym same.database;
     last = (stand.last.0, counts_stay stand.last.0 stand.last.1, stand.last.2);
-    safe = subst (λ (x : ShownStore). NoneBelow e.safe (kept_at x.kept (pair_at o T k))) (sym same.shown) stand.safe;
+    safe = subst (λ (p : ShownStore × EtrConfigValue). NoneBelow e.safe (kept_at p.0.kept (sent_pair p.1))) (λ i. (sym same.shown i, sym config_stays i)) stand.safe;
     count = stand.count;
     rounds = λ i server r lists has. round_stays server r (stand.rounds i server r lists has);
   }
@@ -118,8 +130,8 @@ module _ (o : Opening) (T U : List Step) (k : ℕ) (same : SameRouter o T U k) w
   -- up or down
   core_stays : (core : RouterCoreState) → StandsForCore o T k core → StandsForCore o U k core
   core_stays (Up e) stand = etr_stays e stand
-  core_stays (Down config db) stand = (same.is_up ∙ stand.0, stand.1, stand.2 ∙ sym same.database)
+  core_stays (Down config db) stand = (same.is_up ∙ stand.0, stand.1 ∙ sym config_stays, stand.2 ∙ sym same.database)
 
   -- and with its name and its list
   pub router_stays : (n : RouterNodeState) → StandsForRouter o T k n → StandsForRouter o U k n
-  router_stays n stand = record { me = stand.me; servers = stand.servers; core = core_stays n.core stand.core }
+  router_stays n stand = record { me = stand.me; servers = stand.servers; used = keys_stay n.used stand.used; core = core_stays n.core stand.core }

@@ -42,6 +42,12 @@ notices_in : (o : Opening) (T : List Step) → IsNetwork o.config → LegalTrace
 notices_in o [] network legal clean = tt
 notices_in o (s ∷ T) network legal clean = (clean_laws.done_was_noticed o T s network legal clean, notices_in o T network legal.1 clean.1)
 
+-- a router that starts has counted nothing yet
+started_last : (b : Bool) (key nonce : ℕ) (old : Option (ℕ × ℕ)) (all : List (ℕ × ℕ)) → (old ≡ Some (key, nonce) → Contains all (key, nonce))
+    → (if b then None else old) ≡ Some (key, nonce) → Contains all (key, nonce)
+started_last true key nonce old all before last = absurd (none_is_some last)
+started_last false key nonce old all before last = before last
+
 -- what was counted last was counted
 counted_last : (router server key nonce : ℕ) (line : Line) (old : Option (ℕ × ℕ)) (all : List (ℕ × ℕ))
     → (old ≡ Some (key, nonce) → Contains all (key, nonce))
@@ -57,11 +63,8 @@ counted_last router server key nonce (lines.Counted r s k n) old all before last
     by : (b : Bool) → (if b then Some (k, n) else old) ≡ Some (key, nonce) → Contains (if b then (k, n) ∷ all else all) (key, nonce)
     by true last = (0, omega arith, same_some (k, n) (key, nonce) last)
     by false last = before last
-counted_last router server key nonce (lines.Restarted node) old all before last = by (node == router) last
-  where
-    by : (b : Bool) → (if b then None else old) ≡ Some (key, nonce) → Contains all (key, nonce)
-    by true last = absurd (none_is_some last)
-    by false last = before last
+counted_last router server key nonce (lines.Restarted node) old all before last = started_last (node == router) key nonce old all before last
+counted_last router server key nonce (lines.Emptied node under) old all before last = started_last (node == router) key nonce old all before last
 counted_last router server key nonce _ old all before last = before last
 
 was_counted : (T : List Step) (router server key nonce : ℕ) → acked T router server ≡ Some (key, nonce) → Contains (counted_nonces T router server) (key, nonce)

@@ -18,7 +18,7 @@ use Rattle.lisp_messages.specs.Written.{written, written_notify}
 use Rattle.lisp_nonces.specs.declared.fate.Fate.{Fate}
 use Rattle.lisp_nonces.specs.Kept.{kept_at, NoneBelow}
 use Rattle.lisp_nonces.specs.Store.{StoreState}
-use Rattle.lisp_etr.specs.Config.{EtrConfigValue}
+use Rattle.lisp_etr.specs.Config.{EtrConfigValue, sent_pair}
 use Rattle.lisp_etr.specs.Etr.{EtrState}
 use Rattle.lisp_etr.specs.Hearing.{Gives, ServerNotify, AnswerFits, HearsNotice, TakesMemory, ack_of, checked_notify, server_at, notify_from as heard_of, first_notice, round_at, is_latest, notice_in, counted_in, seen_in, seen_at, etr_after as left_after}
 use Rattle.lisp_etr.specs.Round.{first_round, round_after_count}
@@ -30,17 +30,18 @@ use Rattle.lisp_etr.specs.declared.seen.Seen.TheVariants.{Counted}
 use Rattle.lisp_model.specs.declared.event.Event.TheVariants as events
 use Rattle.lisp_model.specs.declared.line.Line.{Line}
 use Rattle.lisp_model.specs.declared.line.Line.TheVariants as lines
-use Rattle.lisp_model.specs.Trace.{EventValue, ShownStore, Step, Opening, fate_of, address_at, is_router, router_at, etr_config, database, shown_store, is_up, up_after, database_after}
+use Rattle.lisp_model.specs.Trace.{EventValue, ShownStore, Step, Opening, fate_of, address_at, is_router, router_at, etr_config_under, etr_config, key, key_after, database, shown_store, is_up, up_after, database_after}
+use Rattle.lisp_model.specs.Keys.{keys_since_loss, keys_since_loss_after, keys_before_loss, keys_before_loss_after}
 use Rattle.lisp_model.specs.Bag.{Arrival, bytes_of, as_notify, ack_item, arrival_in, items_added, past, bag}
 use Rattle.lisp_model.specs.Counted.{server_from, notify_at, latest_nonce}
 use Rattle.lisp_model.specs.Hearing.{refused_with, counted_line, line_of, IsToAnswer, Hears}
 use Rattle.lisp_model.specs.Legal.{Arrives}
-use Rattle.lisp_model.specs.Sending.{pair_at, last_sent, start_values}
+use Rattle.lisp_model.specs.Sending.{last_sent, start_values}
 use Rattle.lisp_model.specs.Context.{Context, IsBase}
-use Rattle.lisp_refinement.specs.World.{DatagramValue, RouterNodeState, RouterCoreState, Up, Down, WorldState}
+use Rattle.lisp_refinement.specs.World.{DatagramValue, UsedKeysState, RouterNodeState, RouterCoreState, Up, Down, WorldState}
 use Rattle.lisp_refinement.specs.Calls.{CoreHears as HearsAs, UsesStore}
 use Rattle.lisp_refinement.specs.Events.{address_of, server_number, router_line, acknowledges, UpRouterHears, RouterHears, ArrivesAtRouter}
-use Rattle.lisp_refinement.specs.Stands.{Shows, Carries, StandsForRound, StandsForEtr, StandsForCore, StandsForRouter, Stands}
+use Rattle.lisp_refinement.specs.Stands.{Shows, Carries, StandsForRound, StandsForEtr, StandsForCore, Lists, StandsForKeys, StandsForRouter, Stands}
 use Rattle.lisp_refinement.proofs.Acting.{adds_none, adds_one, Shown-in, uses_shown, address_is}
 use Rattle.lisp_refinement.proofs.HeardAlike.{Both, SameHeard, Alike, alike}
 use Rattle.lisp_refinement.proofs.Places.{Placed, first_place, position_map}
@@ -64,6 +65,35 @@ same_database : (event : EventValue) → IsArrival event → (line : Line) (r : 
 same_database (events.Deliver k fate) is line r old = refl
 same_database (events.Junk to from bytes) is line r old = refl
 same_database _ is line r old = absurd is
+
+-- nor another key
+same_key : (event : EventValue) → IsArrival event → (line : Line) (r old : ℕ) → key_after event line r old ≡ old
+same_key (events.Deliver k fate) is line r old = refl
+same_key (events.Junk to from bytes) is line r old = refl
+same_key _ is line r old = absurd is
+
+-- and no key was used
+same_since_loss : (event : EventValue) → IsArrival event → (line : Line) (r : ℕ) (old : List ℕ) → keys_since_loss_after event line r old ≡ old
+same_since_loss (events.Deliver k fate) is line r old = refl
+same_since_loss (events.Junk to from bytes) is line r old = refl
+same_since_loss _ is line r old = absurd is
+
+-- nor was its store lost
+same_before_loss : (event : EventValue) → IsArrival event → (r : ℕ) (since old : List ℕ) → keys_before_loss_after event r since old ≡ old
+same_before_loss (events.Deliver k fate) is r since old = refl
+same_before_loss (events.Junk to from bytes) is r since old = refl
+same_before_loss _ is r since old = absurd is
+
+-- what is kept of a router's configuration and its keys
+module _ (o : Opening) (T : List Step) (event : EventValue) (arrival : IsArrival event) (node : ℕ) (s : ShownStore) (line : Line) where
+  config_heard : etr_config o (step_of event node s line ∷ T) node ≡ etr_config o T node
+  config_heard = ap (etr_config_under o.config (router_at o.config node)) (same_key event arrival line node (key o T node))
+
+  keys_heard : (used : UsedKeysState) → StandsForKeys o T node used → StandsForKeys o (step_of event node s line ∷ T) node used
+  keys_heard used stood = record {
+    since_loss = subst (Lists used.since_loss) (sym (same_since_loss event arrival line node (keys_since_loss o T node))) stood.since_loss;
+    before_loss = subst (Lists used.before_loss) (sym (same_before_loss event arrival node (keys_since_loss o T node) (keys_before_loss o T node))) stood.before_loss;
+  }
 
 -- an answer is what is expected, or out of memory
 given : {X : Type 0} (answer expected : Result X NotifyFault) → Gives (λ x. x) answer expected → (answer ≡ expected) ⊎ (answer ≡ Err faults.OutOfMemory)
@@ -134,17 +164,18 @@ module _ (A : Type 0) (old : WorldState) (o : Opening) (T : List Step) (stand : 
       → ((i k : ℕ) (r : Round) → slice_get servers i ≡ Some k → slice_get rounds i ≡ Some r → StandsForRound (step line ∷ T) node k r) → StandsForEtr o (step line ∷ T) node (record e { rounds = rounds })
   goes_on line rounds last start count each = record {
     up = same_up event arrival line node (is_up T node) ∙ own.up;
-    config = own.config;
+    config = own.config ∙ sym (config_heard o T event arrival node (shown_store o T node) line);
     database = own.database ∙ sym (same_database event arrival line node (database o T node));
     last = (own.last.0, subst (λ (p : Option ℕ × List (Option ℕ)). IsBase p.0 p.1 own.last.0) {x = (last_sent T node, start_values o T node)} {y = (last_sent (step line ∷ T) node, start_values o (step line ∷ T) node)} (λ i. (sym last i, sym start i)) own.last.1, own.last.2);
-    safe = subst (λ (x : ShownStore). NoneBelow e.safe (kept_at x.kept (pair_at o T node))) (sym (shown_now o T event node (shown_store o T node) line)) own.safe;
+    safe = subst (λ (p : ShownStore × EtrConfigValue). NoneBelow e.safe (kept_at p.0.kept (sent_pair p.1)))
+        (λ i. (sym (shown_now o T event node (shown_store o T node) line) i, sym (config_heard o T event arrival node (shown_store o T node) line) i)) own.safe;
     count = count ∙ own.count;
     rounds = each;
   }
 
   -- the node around it
   router_part : (line : Line) (etr : EtrState) → StandsForEtr o (step line ∷ T) node etr → StandsForRouter o (step line ∷ T) node (record before { core = Up etr; store = store })
-  router_part line etr core = record { me = part.me; servers = part.servers; core = core }
+  router_part line etr core = record { me = part.me; servers = part.servers; used = keys_heard o T event arrival node (shown_store o T node) line before.used part.used; core = core }
 
   -- it is refused
   refuses : (fault : NotifyFault) → (refused_with turn fault ≡ line_of turn (notify_at o T node a)) ⊎ (HasHead a.bytes × (HasRecords a.bytes ⊎ IsToAnswer turn a) × (refused_with turn fault ≡ refused_with turn faults.OutOfMemory)) → ComesBy (Err fault)
@@ -352,8 +383,9 @@ module _ (A : Type 0) (old new : WorldState) (o : Opening) (T : List Step) (stan
     part = record {
       me = part_here.me;
       servers = part_here.servers;
+      used = keys_heard o T event arrival node (shown_store o T node) (lines.Down node) arrived.acts.before.used part_here.used;
       core = subst (λ (c : RouterCoreState). StandsForCore o (step_of event node (shown_store o T node) (lines.Down node) ∷ T) node c) (sym is)
-          (same_up event arrival (lines.Down node) node (is_up T node) ∙ core.0, core.1, core.2 ∙ sym (same_database event arrival (lines.Down node) node (database o T node)));
+          (same_up event arrival (lines.Down node) node (is_up T node) ∙ core.0, core.1 ∙ sym (config_heard o T event arrival node (shown_store o T node) (lines.Down node)), core.2 ∙ sym (same_database event arrival (lines.Down node) node (database o T node)));
     };
   })
 

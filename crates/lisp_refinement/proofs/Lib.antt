@@ -7,7 +7,11 @@ pub mod RouterEvents
 pub mod RouterRounds
 pub mod Ticking
 pub mod Changing
+pub mod UsedKeys
+pub mod Starting
 pub mod Restarting
+pub mod Losing
+pub mod Rotating
 pub mod Sending
 pub mod HeardAlike
 pub mod Hearing

@@ -40,7 +40,7 @@ use Rattle.lisp_model.proofs.Locality.{same_number}
 use Rattle.lisp_refinement.specs.World.{DatagramValue, RouterNodeState, RouterCoreState, Up, Down, WorldState}
 use Rattle.lisp_refinement.specs.Calls.{CoreSends, IsSendFaultOf, CoreRefusesToSend, CoreAnswersSend}
 use Rattle.lisp_refinement.specs.Events.{address_of, place_of, SaysSendAnswer, UpRouterSends, RouterSends, NetworkSends}
-use Rattle.lisp_refinement.specs.Stands.{shown_by, Shows, Carries, StandsForRound, StandsForEtr, StandsForCore, StandsForRouter, Stands, StandsAfter}
+use Rattle.lisp_refinement.specs.Stands.{shown_by, Shows, Carries, StandsForRound, StandsForEtr, StandsForCore, StandsForKeys, StandsForRouter, Stands, StandsAfter}
 use Rattle.lisp_refinement.proofs.Acting.{adds_none, adds_one, by_fate, Shown-in, uses_shown, address_is}
 use Rattle.lisp_refinement.proofs.Heads.{head_written}
 use Rattle.lisp_refinement.proofs.Places.{Placed, first_place, any_found}
@@ -121,6 +121,10 @@ module _ (old : WorldState) (o : Opening) (T : List Step) (stand : Stands old o 
 
   safe_now : (n : ℕ) (line : Line) → NoneBelow n (values_after turn (pair_at o T router)) → NoneBelow n (kept_at (shown_store o (step_of event router after_it line ∷ T) router).kept (pair_at o T router))
   safe_now n line none = subst (λ (x : ShownStore). NoneBelow n (kept_at x.kept (pair_at o T router))) (sym (shown_now o T event router after_it line)) none
+
+  -- its keys are those that it used before
+  used_now : (line : Line) → StandsForKeys o (step_of event router after_it line ∷ T) router before.used
+  used_now line = record { since_loss = part.used.since_loss; before_loss = part.used.before_loss }
 
   -- a Map-Register went out
   module _ (bytes : List ℕ) (call : CoreSends e etr armed called place old.clock bytes) where
@@ -217,7 +221,7 @@ module _ (old : WorldState) (o : Opening) (T : List Step) (stand : Stands old o 
       obedient = uses.obedient;
       adds = adds_one o T (step_of event router after_it said) datagram (register_item o T router server (e.last + 1)) refl sent_carries;
       shows = uses.after;
-      part = record { me = part.me; servers = part.servers; core = sent_core };
+      part = record { me = part.me; servers = part.servers; used = used_now said; core = sent_core };
     }
 
     -- what its line says is what stands in the datagram
@@ -320,7 +324,7 @@ module _ (old : WorldState) (o : Opening) (T : List Step) (stand : Stands old o 
       obedient = uses.obedient;
       adds = adds_none o T (step_of event router after_it refused) refl;
       shows = uses.after;
-      part = record { me = part.me; servers = part.servers; core = subst (λ (x : EtrState). StandsForEtr o (step_of event router after_it refused ∷ T) router x) (sym call.err) refused_core };
+      part = record { me = part.me; servers = part.servers; used = used_now refused; core = subst (λ (x : EtrState). StandsForEtr o (step_of event router after_it refused ∷ T) router x) (sym call.err) refused_core };
     }
 
 -- what comes of the event at a router, up or down
@@ -357,7 +361,7 @@ module _ (old new : WorldState) (router server : ℕ) (fate : Fate) (line : Line
     obedient = refl;
     adds = adds_none o T _ refl;
     shows = shows_here;
-    part = record { me = part_here.me; servers = part_here.servers; core = subst (λ (c : RouterCoreState). StandsForCore o (step_of (events.Send router server fate) router (shown_store o T router) (lines.Down router) ∷ T) router c) (sym is) core };
+    part = record { me = part_here.me; servers = part_here.servers; used = record { since_loss = part_here.used.since_loss; before_loss = part_here.used.before_loss }; core = subst (λ (c : RouterCoreState). StandsForCore o (step_of (events.Send router server fate) router (shown_store o T router) (lines.Down router) ∷ T) router c) (sym is) core };
   }))
 
   module _ (e : EtrState) (own : StandsForEtr o T router e) where

@@ -1,4 +1,4 @@
--- A network that makes a turn stands for the trace followed by the event.
+-- A network that took an event stands for the trace followed by it.
 use Rattle.std.proofs.Common.{◌≡◌, ℕ, List, Option, Some, None, inl, inr, refl, sym, subst}
 use Rattle.lisp_records.specs.declared.address.Addr.{Addr}
 use Rattle.lisp_records.specs.Record.{MapRecordValue}
@@ -6,15 +6,17 @@ use Rattle.lisp_nonces.specs.declared.fate.Fate.{Fate}
 use Rattle.lisp_nonces.specs.declared.fate.Fate.TheVariants.{Done}
 use Rattle.lisp_model.specs.declared.event.Event.TheVariants as events
 use Rattle.lisp_model.specs.declared.line.Line.{Line}
-use Rattle.lisp_model.specs.Legal.{Fits}
+use Rattle.lisp_model.specs.Restarting.{Fits}
 use Rattle.lisp_model.specs.Trace.{EventValue}
 use Rattle.lisp_refinement.specs.World.{WorldState}
 use Rattle.lisp_refinement.specs.Events.{node_with, Arrives, ArrivesWhere, NetworkDelivers, NetworkRestarts}
 use Rattle.lisp_refinement.specs.Stands.{StandsAfter}
 use Rattle.lisp_refinement.specs.Taking.{NetworkTakes}
 use Rattle.lisp_refinement.proofs.Changing.{change_stands}
+use Rattle.lisp_refinement.proofs.Losing.{lose_stands}
 use Rattle.lisp_refinement.proofs.Noticing.{notice_stands}
 use Rattle.lisp_refinement.proofs.Resending.{resend_stands}
+use Rattle.lisp_refinement.proofs.Rotating.{rotate_stands}
 use Rattle.lisp_refinement.proofs.Sending.{send_stands}
 use Rattle.lisp_refinement.proofs.Ticking.{tick_stands}
 use Rattle.lisp_refinement.proofs.ServerArrivals.{deliver_to_server_stands, junk_to_server_stands, nowhere_stands}
@@ -43,12 +45,14 @@ restarts_stand old new node pick db line fits (inl (none, turn)) =
 restarts_stand old new node pick db line fits (inr turn) = restart_router_stands old new node pick db line fits turn
 
 -- whatever the event
-pub turns_stand : (A : Type 0) (old new : WorldState) (event : EventValue) (line : Line) → NetworkTakes A old new event line → StandsAfter old new event line
-turns_stand A old new (events.Change router db) line turn = change_stands old new router db line turn
-turns_stand A old new (events.Send router server fate) line turn = send_stands old new router server fate line turn
-turns_stand A old new (events.Deliver k fate) line turn = delivers_stand A old new k fate line turn
-turns_stand A old new (events.Junk to from bytes) line turn = junk_stands A old new to from bytes line turn
-turns_stand A old new (events.Tick ms) line turn = tick_stands old new ms line turn
-turns_stand A old new (events.Restart node pick db) line (fits, turn) = restarts_stand old new node pick db line fits turn
-turns_stand A old new (events.Notice server router fate) line turn = notice_stands old new server router fate line turn
-turns_stand A old new (events.Resend server router) line turn = resend_stands old new server router line turn
+pub taking_agrees : (A : Type 0) (old new : WorldState) (event : EventValue) (line : Line) → NetworkTakes A old new event line → StandsAfter old new event line
+taking_agrees A old new (events.Change router db) line turn = change_stands old new router db line turn
+taking_agrees A old new (events.Send router server fate) line turn = send_stands old new router server fate line turn
+taking_agrees A old new (events.Deliver k fate) line turn = delivers_stand A old new k fate line turn
+taking_agrees A old new (events.Junk to from bytes) line turn = junk_stands A old new to from bytes line turn
+taking_agrees A old new (events.Tick ms) line turn = tick_stands old new ms line turn
+taking_agrees A old new (events.Restart node pick db) line (fits, turn) = restarts_stand old new node pick db line fits turn
+taking_agrees A old new (events.Rotate router key fate) line turn = rotate_stands old new router key fate line turn
+taking_agrees A old new (events.Lose router key db) line (fits, turn) = lose_stands old new router key db line fits turn
+taking_agrees A old new (events.Notice server router fate) line turn = notice_stands old new server router fate line turn
+taking_agrees A old new (events.Resend server router) line turn = resend_stands old new server router line turn

@@ -144,6 +144,7 @@ module _ (old new : WorldState) (ms : ℕ) (line : Line) (ticks : NetworkTicks o
   -- steps and stores stand
   steps_tick : StandsInSteps new o next
   steps_tick = record {
+    sites = ap (λ (w : WorldState). w.sites) ticks.left ∙ stand.steps.sites;
     addresses = ap (λ (w : WorldState). w.addresses) ticks.left ∙ stand.steps.addresses;
     network = stand.steps.network;
     legal = (tick_legal old ms ticks.bound o T stand, stand.steps.legal);

@@ -13,9 +13,10 @@ use Rattle.lisp_nonces.specs.declared.fault.StoreFault.{StoreFault}
 use Rattle.lisp_nonces.specs.declared.fault.StoreFault.TheVariants as faults
 use Rattle.lisp_nonces.specs.declared.pair.Pair.{Pair}
 use Rattle.lisp_nonces.specs.Kept.{kept_at, with_value, picked, IsKept, NoneBelow, SameElsewhere, Narrows}
-use Rattle.lisp_nonces.specs.Store.{StoreState, Rose, Proceeds, MaySave, MayFailSave}
-use Rattle.lisp_etr.specs.Config.{EtrConfigValue, sent_pair}
-use Rattle.lisp_etr.specs.Etr.{EtrState, etr_started}
+use Rattle.lisp_nonces.specs.Store.{StoreState, Rose, Proceeds, MayLoad, MaySave, MayFailSave}
+use Rattle.lisp_nonces.specs.Promises.{KeepsListsIfHonest, KeepsSomeIfHonest, IsOfDevice, LoadFailsAsArmed}
+use Rattle.lisp_etr.specs.Config.{EtrConfigValue, sent_pair, sent_pair_under, with_key}
+use Rattle.lisp_etr.specs.Etr.{EtrState, etr_started, etr_rotated}
 use Rattle.lisp_etr.specs.Hearing.{Gives, AnswerFits, TakesMemory, seen_at, etr_after}
 use Rattle.lisp_etr.specs.Sending.{last_nonce, map_register_of, datagram_of, block_end, EtrSends, Settles, LeavesPair}
 use Rattle.lisp_etr.specs.declared.notify_fault.NotifyFault.{NotifyFault}
@@ -23,6 +24,8 @@ use Rattle.lisp_etr.specs.declared.notify_fault.NotifyFault.TheVariants as notif
 use Rattle.lisp_etr.specs.declared.seen.Seen.{Seen}
 use Rattle.lisp_etr.specs.declared.send_fault.SendFault.{SendFault}
 use Rattle.lisp_etr.specs.declared.send_fault.SendFault.TheVariants.{NoServer, NonceSpent, Store}
+use Rattle.lisp_etr.specs.declared.rotate_fault.RotateFault.{RotateFault}
+use Rattle.lisp_etr.specs.declared.rotate_fault.RotateFault.TheVariants as rotate_faults
 use Rattle.lisp_etr.specs.declared.start_fault.StartFault.{StartFault}
 use Rattle.lisp_etr.specs.declared.start_fault.StartFault.TheVariants as start_faults
 use Rattle.lisp_admission.specs.declared.refused.Refused.{Refused}
@@ -32,7 +35,7 @@ use Rattle.lisp_lookup.specs.Table.{OneEach}
 use Rattle.lisp_server.specs.declared.took.Took.{Took}
 use Rattle.lisp_server.specs.Receiving.{ServerTakes, ServerRefuses}
 use Rattle.lisp_server.specs.SendNotice.{Announces, RefusesNotice}
-use Rattle.lisp_refinement.specs.World.{ServerNodeState, RouterNodeState, RouterCoreState, Up, Down}
+use Rattle.lisp_refinement.specs.World.{ServerNodeState, RouterNodeState, RouterCoreState, Up, Down, UsesKeyAfterLoss}
 
 -- a store was armed with a fate, which an obedient one shows, and nothing else changed; with `Done` that one fails no
 -- more
@@ -126,6 +129,36 @@ pub record CoreAnswersSendOver (old new : EtrState) (before etr_after : StoreSta
   pub uses : UsesStore before fate armed called etr_after
   pub call : CoreAnswersSend old new armed called place now answer
 
+-- a router that is up went over to another key: its last nonce under it is one that may be kept for it
+pub record CoreRotates (old new : EtrState) (key_id : ℕ) (secret : List ℕ) (armed called : StoreState) (now : ℕ)
+    : Type 0 where
+  pub other : key_id ≢ old.config.key_id
+  pub rotates : new ≡ etr_rotated old key_id secret new.last now
+  pub last : IsTrue armed.is_honest → IsKept (kept_at armed.kept (sent_pair_under old.config key_id)) new.last
+  pub loads : MayLoad armed
+
+-- why it didn't: the first reason that applies
+abbrev pub IsRotateFaultOf : EtrState → ℕ → StoreState → StoreState → RotateFault → Type 0
+IsRotateFaultOf e key_id armed called rotate_faults.SameKey = (key_id ≡ e.config.key_id) × (called ≡ armed)
+IsRotateFaultOf e key_id armed called (rotate_faults.Store fault) =
+    (key_id ≢ e.config.key_id) × IsOfDevice armed called fault × LoadFailsAsArmed armed fault
+
+abbrev pub CoreAnswersRotate : EtrState → EtrState → ℕ → List ℕ → StoreState → StoreState → ℕ
+    → Result (Unit {0}) RotateFault → Type 0
+CoreAnswersRotate old new key_id secret armed called now (Ok done) =
+    CoreRotates old new key_id secret armed called now
+CoreAnswersRotate old new key_id secret armed called now (Err fault) =
+    (new ≡ old) × IsRotateFaultOf old key_id armed called fault
+
+-- its store used in that
+pub record CoreAnswersRotateOver (old new : EtrState) (before etr_after : StoreState) (key_id : ℕ) (secret : List ℕ)
+    (fate : Fate) (now : ℕ) (answer : Result (Unit {0}) RotateFault) : Type 0 where
+  pub armed : StoreState
+  pub called : StoreState
+  pub uses : UsesStore before fate armed called etr_after
+  pub call : CoreAnswersRotate old new key_id secret armed called now answer
+  pub same : KeepsListsIfHonest armed called
+
 -- a router that is up received bytes from an address
 pub record CoreHears {A : Type 0} (old new : EtrState) (from : Addr) (bytes : List ℕ)
     (answer : Result (Seen A) NotifyFault) : Type 0 where
@@ -167,6 +200,11 @@ pub record StoreRestarts (old new : StoreState) (pick : ℕ) : Type 0 where
   pub picks : IsTrue old.is_obedient → (q : Pair) → kept_at new.kept q ≡ picked (kept_at old.kept q) pick ∷ []
   pub proceeds : Proceeds old new
 
+-- a store after what it kept was lost: some value may be kept for each pair
+pub record StoreLoses (old new : StoreState) : Type 0 where
+  pub some : KeepsSomeIfHonest new
+  pub proceeds : Proceeds old new
+
 -- what a router is configured with, and what it registers
 abbrev pub config_of : RouterCoreState → EtrConfigValue
 config_of (Up e) = e.config
@@ -188,6 +226,18 @@ pub record NodeRestarts (old new : RouterNodeState) (pick : ℕ) (db : Option (L
     (answer : Result (Unit {0}) StartFault) : Type 0 where
   pub me : new.me ≡ old.me
   pub servers : new.servers ≡ old.servers
+  pub used : new.used ≡ old.used
   pub crashed : StoreState
   pub crashes : StoreRestarts old.store crashed pick
   pub starts : NodeStarts (record old { store = crashed }) new db now answer
+
+-- a router stopped, its store was lost, and it started again under another key, with another database where one is given
+pub record NodeLoses (old new : RouterNodeState) (key_id : ℕ) (secret : List ℕ) (db : Option (List MapRecordValue))
+    (now : ℕ) (answer : Result (Unit {0}) StartFault) : Type 0 where
+  pub me : new.me ≡ old.me
+  pub servers : new.servers ≡ old.servers
+  pub used : UsesKeyAfterLoss old.used new.used key_id
+  pub lost : StoreState
+  pub loses : StoreLoses old.store lost
+  pub starts : CoreAnswersStartOver (with_key (config_of old.core) key_id secret)
+      (unwrap_or db (database_of old.core)) now lost new.store new.core answer

@@ -18,7 +18,9 @@ use Rattle.lisp_etr.specs.declared.notify_fault.NotifyFault.{NotifyFault}
 use Rattle.lisp_etr.specs.declared.seen.Seen.{Seen}
 use Rattle.lisp_etr.specs.declared.seen.Seen.TheVariants.{Counted, Notice}
 use Rattle.lisp_etr.specs.declared.send_fault.SendFault.{SendFault}
+use Rattle.lisp_etr.specs.declared.rotate_fault.RotateFault.{RotateFault}
 use Rattle.lisp_etr.specs.declared.start_fault.StartFault.{StartFault}
+use Rattle.lisp_admission.specs.Checks.{secret_at as known_secret}
 use Rattle.lisp_admission.specs.declared.refused.Refused.{Refused}
 use Rattle.lisp_admission.specs.declared.notice_fault.NoticeFault.{NoticeFault}
 use Rattle.lisp_lookup.specs.Table.{Expires}
@@ -28,9 +30,9 @@ use Rattle.lisp_server.specs.Notices.{Resends, RefusesResend}
 use Rattle.lisp_model.specs.declared.line.Line.{Line}
 use Rattle.lisp_model.specs.declared.line.Line.TheVariants as lines
 use Rattle.lisp_model.specs.declared.refusal.Refusal.TheVariants as refusals
-use Rattle.lisp_refinement.specs.World.{DatagramValue, ServerNodeState, RouterNodeState, RouterCoreState, Up, Down, WorldState}
+use Rattle.lisp_refinement.specs.World.{DatagramValue, ServerNodeState, RouterNodeState, RouterCoreState, Up, Down, UsedKeysState, key_count, is_used, UsesKey, WorldState}
 use Rattle.lisp_refinement.specs.Nodes.{fresh_server}
-use Rattle.lisp_refinement.specs.Calls.{UsesStore, CoreAnswersSendOver, CoreHears, NodeReceives, NodeNotifies, StoreRestarts, NodeRestarts}
+use Rattle.lisp_refinement.specs.Calls.{UsesStore, CoreAnswersSendOver, CoreAnswersRotateOver, CoreHears, NodeReceives, NodeNotifies, StoreRestarts, NodeRestarts, NodeLoses}
 
 -- the address of a node, and the first node with an address
 abbrev pub address_of : WorldState → ℕ → Addr
@@ -250,6 +252,64 @@ pub record NetworkRestartsRouter (old new : WorldState) (node pick : ℕ) (db : 
 abbrev pub NetworkRestarts : WorldState → WorldState → ℕ → ℕ → Option (List MapRecordValue) → Line → Type 0
 NetworkRestarts old new node pick db line =
     ((db ≡ None) × NetworkRestartsServer old new node pick line) ⊎ NetworkRestartsRouter old new node pick db line
+
+-- a router that is up was asked to go over to a key; where it did, the key is a used one
+abbrev pub UsesKeyIfOk : UsedKeysState → UsedKeysState → ℕ → Result (Unit {0}) RotateFault → Type 0
+UsesKeyIfOk old new key (Ok done) = UsesKey old new key
+UsesKeyIfOk old new key (Err fault) = new ≡ old
+
+pub record NodeRotates (before after : RouterNodeState) (key : ℕ) (secret : List ℕ) (fate : Fate) (now : ℕ)
+    (answer : Result (Unit {0}) RotateFault) : Type 0 where
+  pub etr : EtrState
+  pub was : before.core ≡ Up etr
+  pub left : EtrState
+  pub is : after ≡ record before { used = after.used; core = Up left; store = after.store }
+  pub used : UsesKeyIfOk before.used after.used key answer
+  pub call : CoreAnswersRotateOver etr left before.store after.store key secret fate now answer
+
+abbrev pub rotate_line : ℕ → ℕ → Result (Unit {0}) RotateFault → Line
+rotate_line router key (Ok done) = lines.Rotated router key
+rotate_line router key (Err fault) = lines.Refused router (refusals.Rotate fault)
+
+pub record UpRouterRotates (router key : ℕ) (secret : List ℕ) (fate : Fate) (now : ℕ) (before after : RouterNodeState)
+    (line : Line) : Type 0 where
+  pub answer : Result (Unit {0}) RotateFault
+  pub rotates : NodeRotates before after key secret fate now answer
+  pub said : line ≡ rotate_line router key answer
+
+abbrev pub RouterRotates : ℕ → ℕ → List ℕ → Fate → ℕ → RouterNodeState → RouterNodeState → RouterCoreState → Line → Type 0
+RouterRotates router key secret fate now before after (Up e) line =
+    UpRouterRotates router key secret fate now before after line
+RouterRotates router key secret fate now before after (Down config database) line =
+    (after ≡ before) × (line ≡ lines.Down router)
+
+-- a key of a router's site, and its secret
+pub record IsKeyOf (w : WorldState) (node : RouterNodeState) (key : ℕ) : Type 0 where
+  pub bound : key < key_count
+  pub secret : List ℕ
+  pub known : known_secret w.sites node.me.site key ≡ Some secret
+
+-- a router goes over to a key of its site that it didn't use before its store was lost last
+pub record NetworkRotates (old new : WorldState) (router key : ℕ) (fate : Fate) (line : Line) : Type 0 where
+  pub acts : RouterActs old new router []
+  pub of : IsKeyOf old acts.before key
+  pub unused : is_used acts.before.used.before_loss key ≡ false
+  pub rotates : RouterRotates router key of.secret fate old.clock acts.before acts.after acts.before.core line
+
+abbrev pub loss_line : ℕ → ℕ → Result (Unit {0}) StartFault → Line
+loss_line router key (Ok done) = lines.Emptied router key
+loss_line router key (Err fault) = lines.Refused router (refusals.Start fault)
+
+-- a router's store is lost, and it starts under a key of its site that it never used; or it is down
+pub record NetworkLoses (old new : WorldState) (router key : ℕ) (db : Option (List MapRecordValue)) (line : Line)
+    : Type 0 where
+  pub acts : RouterActs old new router []
+  pub of : IsKeyOf old acts.before key
+  pub unused_since : is_used acts.before.used.since_loss key ≡ false
+  pub unused_before : is_used acts.before.used.before_loss key ≡ false
+  pub answer : Result (Unit {0}) StartFault
+  pub loses : NodeLoses acts.before acts.after key of.secret db old.clock answer
+  pub said : line ≡ loss_line router key answer
 
 -- a Map-Server sends a router a notice
 abbrev pub SaysNoticeAnswer : WorldState → ℕ → ℕ → Result (Addr × List ℕ) NoticeFault → Line → List DatagramValue

@@ -1,5 +1,6 @@
 -- What a network stands for a trace means.
-use Rattle.std.specs.Prelude.{◌≡◌, ◌≢◌, ℕ, ◌+◌, ◌≤◌, IsTrue, true, false, List, ◌∷◌, length, slice_get, Option, Some, None}
+use Rattle.std.specs.Prelude.{◌≡◌, ◌≢◌, ◌↔◌, ℕ, ◌+◌, ◌<◌, ◌≤◌, IsTrue, Bool, true, false, List, ◌∷◌, length, slice_get, Option, Some, None}
+use Rattle.std.specs.List.{Contains}
 use Rattle.std.specs.Option.{option_map, option_and_then}
 use Rattle.lisp_records.specs.declared.router.RouterId.{RouterId}
 use Rattle.lisp_records.specs.Address.{PrefixValue}
@@ -19,6 +20,7 @@ use Rattle.lisp_server.specs.Receiving.{contact_of}
 use Rattle.lisp_admission.specs.Pairs.{notice_pair}
 use Rattle.lisp_server.specs.Notices.{StandingNoticeValue, notice_at}
 use Rattle.lisp_model.specs.Trace.{ShownStore, EventValue, Step, Opening, addresses, router_at, etr_config, address_at, shown_store, clock, is_up, database}
+use Rattle.lisp_model.specs.Keys.{keys_since_loss, keys_before_loss}
 use Rattle.lisp_model.specs.declared.line.Line.{Line}
 use Rattle.lisp_model.specs.Held.{last_of, heard_last, held_row}
 use Rattle.lisp_model.specs.Timers.{round, Notice, notice_to, last_notice}
@@ -27,7 +29,7 @@ use Rattle.lisp_model.specs.Counted.{latest_nonce, acked}
 use Rattle.lisp_model.specs.Sending.{pair_at, CountsFrom}
 use Rattle.lisp_model.specs.Legal.{LegalTrace}
 use Rattle.lisp_model.specs.Network.{IsNetwork}
-use Rattle.lisp_refinement.specs.World.{DatagramValue, ServerNodeState, RouterCoreState, Up, Down, RouterNodeState, WorldState}
+use Rattle.lisp_refinement.specs.World.{DatagramValue, ServerNodeState, RouterCoreState, Up, Down, UsedKeysState, key_count, is_used, RouterNodeState, WorldState}
 
 -- what a store shows of itself
 abbrev pub shown_by : StoreState → ShownStore
@@ -42,6 +44,7 @@ pub record Shows (store : StoreState) (s : ShownStore) : Type 0 where
 
 -- what is kept of the configuration, steps and stores
 pub record StandsInSteps (w : WorldState) (o : Opening) (T : List Step) : Type 0 where
+  pub sites : w.sites ≡ o.config.sites
   pub addresses : w.addresses ≡ addresses o.config
   pub network : IsNetwork o.config
   pub legal : LegalTrace o T
@@ -87,10 +90,19 @@ StandsForCore o T router (Up e) = StandsForEtr o T router e
 StandsForCore o T router (Down config db) =
     (is_up T router ≡ false) × (config ≡ etr_config o T router) × (db ≡ database o T router)
 
+-- the keys that a router used
+abbrev pub Lists : List Bool → List ℕ → Type 0
+Lists used keys = (key : ℕ) → key < key_count → (is_used used key ≡ true) ↔ Contains keys key
+
+pub record StandsForKeys (o : Opening) (T : List Step) (router : ℕ) (used : UsedKeysState) : Type 0 where
+  pub since_loss : Lists used.since_loss (keys_since_loss o T router)
+  pub before_loss : Lists used.before_loss (keys_before_loss o T router)
+
 -- a router
 pub record StandsForRouter (o : Opening) (T : List Step) (router : ℕ) (n : RouterNodeState) : Type 0 where
   pub me : n.me ≡ (router_at o.config router).me
   pub servers : n.servers ≡ (router_at o.config router).servers
+  pub used : StandsForKeys o T router n.used
   pub core : StandsForCore o T router n.core
 
 -- a notice as a server keeps it

@@ -2,10 +2,10 @@
 use Rattle.lisp_nonces.specs.declared.fate.Fate.TheVariants.{Done}
 use Rattle.lisp_model.specs.declared.event.Event.TheVariants as events
 use Rattle.lisp_model.specs.declared.line.Line.{Line}
-use Rattle.lisp_model.specs.Legal.{Fits}
+use Rattle.lisp_model.specs.Restarting.{Fits}
 use Rattle.lisp_model.specs.Trace.{EventValue}
 use Rattle.lisp_refinement.specs.World.{WorldState}
-use Rattle.lisp_refinement.specs.Events.{Arrives, NetworkChanges, NetworkDelivers, NetworkNotifies, NetworkResends, NetworkRestarts, NetworkSends, NetworkTicks}
+use Rattle.lisp_refinement.specs.Events.{Arrives, NetworkChanges, NetworkDelivers, NetworkLoses, NetworkNotifies, NetworkResends, NetworkRestarts, NetworkRotates, NetworkSends, NetworkTicks}
 use Rattle.lisp_refinement.specs.Stands.{StandsAfter}
 
 -- what an event makes of a network, and its line
@@ -16,6 +16,8 @@ NetworkTakes A old new (events.Deliver k fate) line = NetworkDelivers A old new 
 NetworkTakes A old new (events.Junk to from bytes) line = Arrives A old new to Done from bytes line
 NetworkTakes A old new (events.Tick ms) line = NetworkTicks old new ms line
 NetworkTakes A old new (events.Restart node pick db) line = Fits db × NetworkRestarts old new node pick db line
+NetworkTakes A old new (events.Rotate router key fate) line = NetworkRotates old new router key fate line
+NetworkTakes A old new (events.Lose router key db) line = Fits db × NetworkLoses old new router key db line
 NetworkTakes A old new (events.Notice server router fate) line = NetworkNotifies old new server router fate line
 NetworkTakes A old new (events.Resend server router) line = NetworkResends old new server router line
 

@@ -1,4 +1,4 @@
-//! A network that stands for a trace, and makes a turn, stands for the trace followed by that step: the function's
+//! A network that stands for a trace, and takes an event, stands for the trace followed by that step: the function's
 //! contract is this law, and its body is empty.
 
 ghost use Rattle.lisp_refinement.specs.World.{WorldState};
@@ -8,8 +8,9 @@ use std::alloc::Allocator;
 
 /// Whatever the event: time passes, and each Map-Server drops its dead rows; a router is given another database, or
 /// sends a Map-Register; a datagram that was sent, or bytes from outside, arrive at a node, or nowhere; a node stops,
-/// its store crashes, and it starts again, a router may be down then; or a Map-Server sends a router an unsolicited
-/// Map-Notify (notice), or sends one again that is due (RFC 9301 sections 5.6, 5.7 and 8.2).
-pub fn turns_stand<A: Allocator>()
+/// its store crashes, and it starts again, a router may be down then; a router goes over to another key of its site;
+/// a router's store is lost, and it starts under a key that it never used, or is down then; or a Map-Server sends a
+/// router an unsolicited Map-Notify (notice), or sends one again that is due (RFC 9301 sections 5.6, 5.7 and 8.2).
+pub fn taking_agrees<A: Allocator>()
     ensures { (old new : WorldState) → TakingAgrees A old new }
 {}

@@ -19,6 +19,10 @@ faults_of_a_router_that_starts = 36 ∷ 35 ∷ []
 abbrev pub faults_of_a_router_that_sends : List ℕ
 faults_of_a_router_that_sends = 40 ∷ 41 ∷ 48 ∷ 42 ∷ []
 
+-- faults of a router that changes its key
+abbrev pub faults_of_a_router_that_changes_its_key : List ℕ
+faults_of_a_router_that_changes_its_key = 37 ∷ 38 ∷ []
+
 -- refusals of a router
 abbrev pub refusals_of_a_router : List ℕ
 refusals_of_a_router = 43 ∷ 44 ∷ 45 ∷ 46 ∷ 47 ∷ 48 ∷ []
@@ -45,7 +49,7 @@ faults_of_a_store_of_nonces = 30 ∷ 31 ∷ 32 ∷ []
 
 -- faults of a network
 abbrev pub faults_of_a_network : List ℕ
-faults_of_a_network = 70 ∷ 71 ∷ 72 ∷ 73 ∷ 74 ∷ 75 ∷ 76 ∷ []
+faults_of_a_network = 70 ∷ 71 ∷ 78 ∷ 77 ∷ 72 ∷ 73 ∷ 74 ∷ 75 ∷ 76 ∷ []
 
 -- faults of a script
 abbrev pub faults_of_a_script : List ℕ
@@ -65,6 +69,7 @@ numbers = refusals_of_a_message
     ∷ faults_of_a_notice
     ∷ faults_of_a_router_that_starts
     ∷ faults_of_a_router_that_sends
+    ∷ faults_of_a_router_that_changes_its_key
     ∷ refusals_of_a_router
     ∷ why_bytes_are_not_a_message
     ∷ why_bytes_are_not_a_record

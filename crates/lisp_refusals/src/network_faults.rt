@@ -5,9 +5,9 @@ use crate::row::{Row, STATUS_HEADER, Section};
 /// What keeps a network from being made, or from taking an event.
 pub(crate) const NETWORK_FAULTS: Section = Section {
     title: "Faults of a network",
-    introduction: "What keeps a network from being made (74, 75, 76) ends the program. What keeps it from taking an event, found in the order of
-the numbers up to 73, then 75, is the line `fault N` of `lispd play` and `lispd loop`, which go on. 70 and 71 are for NAME of
-`lispd server` and `lispd router`, and for callers of the libraries: the names in a script are checked before.",
+    introduction: "What keeps a network from being made (74, 75, 76) ends the program. What keeps it from taking an event, found in this order
+up to 73, then 75, is the line `fault N` of `lispd play` and `lispd loop`, which go on. 70 and 71 are for NAME of `lispd server`
+and `lispd router`, and for callers of the libraries: the names in a script are checked before.",
     header: STATUS_HEADER,
     rows: &[
         Row {
@@ -25,6 +25,22 @@ the numbers up to 73, then 75, is the line `fault N` of `lispd play` and `lispd 
             meaning: "a router where a Map-Server is meant, or the other way round; or a database for a Map-Server",
             status: "2",
             remedy: "name a node of the other kind, or run the other program",
+        },
+        Row {
+            number: 78,
+            carried: "",
+            name: "UnknownKey",
+            meaning: "the router's site has no such key",
+            status: "none: it goes on",
+            remedy: "name a key of its site, or give the site the key",
+        },
+        Row {
+            number: 77,
+            carried: "",
+            name: "KeyUsed",
+            meaning: "the router went over to the key, or was started under it, even where the start failed: ever, for `lose`; before its last `lose`, for `rotate`",
+            status: "none: it goes on",
+            remedy: "name a key of its site that the router never used, or give the site one: old messages under a used key could be taken for new",
         },
         Row {
             number: 72,
@@ -105,7 +121,7 @@ printed on standard output.",
             number: 83,
             carried: "line L",
             name: "Number",
-            meaning: "no decimal number of 1 to 20 digits, of at most 2^64 - 1",
+            meaning: "no decimal number of 1 to 20 digits, of at most 2^64 - 1; or of at most 255, for a Key ID",
             status: "2",
             remedy: "give one",
         },

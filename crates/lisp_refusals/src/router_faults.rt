@@ -6,7 +6,7 @@ use crate::row::{HEADER, Row, Section};
 pub(crate) const START_FAULTS: Section = Section {
     title: "Faults of a router that starts",
     introduction: "They end `lispd router`, with status 1. In `lispd play` and `lispd loop` they keep a network from being made (76), and
-`restart` prints them as `refused NAME N`: the router is down then, and `send` and `deliver` say so. 36 comes first.",
+`restart` and `lose` print them as `refused NAME N`: the router is down then, and `send` and `deliver` say so. 36 comes first.",
     header: HEADER,
     rows: &[
         Row {
@@ -70,6 +70,32 @@ router is unchanged; `lispd router` tries again in its next turn.",
     ],
 };
 
+/// What keeps a router from going over to another key.
+pub(crate) const ROTATE_FAULTS: Section = Section {
+    title: "Faults of a router that changes its key",
+    introduction: "What keeps a router from going over to another key of its site: `refused NAME N`, behind `rotate`. 37 comes first. The router
+is unchanged.",
+    header: HEADER,
+    rows: &[
+        Row {
+            number: 37,
+            carried: "",
+            name: "SameKey",
+            meaning: "the router has this key already",
+            status: "",
+            remedy: "nothing; or name another key of its site",
+        },
+        Row {
+            number: 38,
+            carried: "store F",
+            name: "Store",
+            meaning: "the last nonce under the new key can't be loaded from the store; F is a fault of a store",
+            status: "",
+            remedy: "`lispd explain F` says what to do; then change the key again",
+        },
+    ],
+};
+
 /// What a router refuses.
 pub(crate) const ROUTER_REFUSALS: Section = Section {
     title: "Refusals of a router",
@@ -99,7 +125,7 @@ place of any answer except a fault of the first 32 bytes. The router is unchange
             name: "WrongKey",
             meaning: "the Key ID is not the router's",
             status: "",
-            remedy: "give both the same key",
+            remedy: "give both the same key; nothing, if the router's key was just changed: a late answer",
         },
         Row {
             number: 46,
@@ -113,7 +139,7 @@ place of any answer except a fault of the first 32 bytes. The router is unchange
             number: 47,
             carried: "latest N",
             name: "Stale",
-            meaning: "the nonce is below 2^63 and is not N, that of the last Map-Register to that Map-Server; N is 0 if none was sent since the start",
+            meaning: "the nonce is below 2^63 and is not N, that of the last Map-Register to that Map-Server; N is 0 if none was sent since the start, or since the key was changed",
             status: "",
             remedy: "nothing, if it is rare: a late answer",
         },

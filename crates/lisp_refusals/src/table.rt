@@ -1,14 +1,14 @@
 //! The whole table.
 
 ghost use Rattle.std.specs.Prelude.{◌≡◌};
-ghost use Rattle.lisp_refusals.specs.Numbers.{section_numbers, HasNumbers, refusals_of_a_message, faults_of_a_notice, faults_of_a_router_that_starts, faults_of_a_router_that_sends, refusals_of_a_router, why_bytes_are_not_a_message, why_bytes_are_not_a_record, faults_of_a_configuration, faults_of_a_database, faults_of_a_store_of_nonces, faults_of_a_network, faults_of_a_script, refusals_of_a_socket, faults_of_the_program};
+ghost use Rattle.lisp_refusals.specs.Numbers.{section_numbers, HasNumbers, refusals_of_a_message, faults_of_a_notice, faults_of_a_router_that_starts, faults_of_a_router_that_sends, faults_of_a_router_that_changes_its_key, refusals_of_a_router, why_bytes_are_not_a_message, why_bytes_are_not_a_record, faults_of_a_configuration, faults_of_a_database, faults_of_a_store_of_nonces, faults_of_a_network, faults_of_a_script, refusals_of_a_socket, faults_of_the_program};
 
 use crate::configuration_faults::{CONFIGURATION_FAULTS, DATABASE_FAULTS};
 use crate::message_faults::{MESSAGE_FAULTS, RECORD_FAULTS};
 use crate::network_faults::{NETWORK_FAULTS, SCRIPT_FAULTS};
 use crate::notice_faults::{NOTICE_FAULTS, STORE_FAULTS};
 use crate::program_faults::{PROGRAM_FAULTS, SOCKET_FAULTS};
-use crate::router_faults::{ROUTER_REFUSALS, SEND_FAULTS, START_FAULTS};
+use crate::router_faults::{ROTATE_FAULTS, ROUTER_REFUSALS, SEND_FAULTS, START_FAULTS};
 use crate::row::Section;
 use crate::server_refusals::SERVER_REFUSALS;
 
@@ -32,7 +32,7 @@ pub(crate) fn opening() -> &'static str {
 
 /// The sections, in the order of the document.
 #[tactic(auto, unfolding(crate::specs::Numbers::numbers))]
-pub(crate) fn sections() -> [Section; 14]
+pub(crate) fn sections() -> [Section; 15]
     ensures { HasNumbers result }
 {
     [
@@ -40,6 +40,7 @@ pub(crate) fn sections() -> [Section; 14]
         notice_faults(),
         start_faults(),
         send_faults(),
+        rotate_faults(),
         router_refusals(),
         message_faults(),
         record_faults(),
@@ -75,6 +76,12 @@ fn send_faults() -> Section
     ensures { section_numbers result ≡ faults_of_a_router_that_sends }
 {
     SEND_FAULTS
+}
+
+fn rotate_faults() -> Section
+    ensures { section_numbers result ≡ faults_of_a_router_that_changes_its_key }
+{
+    ROTATE_FAULTS
 }
 
 fn router_refusals() -> Section

@@ -10,7 +10,7 @@ use Rattle.lisp_script.specs.declared.fault.ScriptWhat.{ScriptWhat}
 use Rattle.lisp_script.specs.Fault.{Gives}
 use Rattle.lisp_script.specs.Command.{CommandValue}
 use Rattle.lisp_script.specs.Words.{texts}
-use Rattle.lisp_script.specs.Spelling.{change_of, restart_with, spelt}
+use Rattle.lisp_script.specs.Spelling.{change_of, restart_with, lose_with, spelt}
 use Rattle.lisp_script.proofs.Faults.{reads_gives}
 
 pub one : (words : List (Bor (List ℕ))) (d : Bor (List ℕ)) → 1 ≤ length words → length words < 2 → texts words ≡ (get_or words 0 d).now ∷ []
@@ -32,20 +32,22 @@ three (a ∷ b ∷ e ∷ []) d some few = refl
 three (a ∷ b ∷ e ∷ f ∷ words) d some few = absurd (omega arith)
 
 -- more words than any verb takes that no records follow
-too_many : (c : ConfigValue) (verb : Verb) (a b e f : List ℕ) (words : List (List ℕ)) → verb ≢ verbs.Change → verb ≢ verbs.Restart → spelt c verb (a ∷ b ∷ e ∷ f ∷ words) ≡ Err Count
+too_many : (c : ConfigValue) (verb : Verb) (a b e f : List ℕ) (words : List (List ℕ)) → verb ≢ verbs.Change → verb ≢ verbs.Restart → verb ≢ verbs.Lose → spelt c verb (a ∷ b ∷ e ∷ f ∷ words) ≡ Err Count
 unfolding spelt
-too_many c verbs.Change a b e f words change restart = absurd (change refl)
-too_many c verbs.Send a b e f words change restart = refl
-too_many c verbs.Deliver a b e f words change restart = refl
-too_many c verbs.Junk a b e f words change restart = refl
-too_many c verbs.Tick a b e f words change restart = refl
-too_many c verbs.Restart a b e f words change restart = absurd (restart refl)
-too_many c verbs.Notice a b e f words change restart = refl
-too_many c verbs.Resend a b e f words change restart = refl
-too_many c verbs.Hold a b e f words change restart = refl
-too_many c verbs.Acks a b e f words change restart = refl
-too_many c verbs.Ask a b e f words change restart = refl
-too_many c verbs.Due a b e f words change restart = refl
+too_many c verbs.Change a b e f words change restart lose = absurd (change refl)
+too_many c verbs.Send a b e f words change restart lose = refl
+too_many c verbs.Deliver a b e f words change restart lose = refl
+too_many c verbs.Junk a b e f words change restart lose = refl
+too_many c verbs.Tick a b e f words change restart lose = refl
+too_many c verbs.Restart a b e f words change restart lose = absurd (restart refl)
+too_many c verbs.Rotate a b e f words change restart lose = refl
+too_many c verbs.Lose a b e f words change restart lose = absurd (lose refl)
+too_many c verbs.Notice a b e f words change restart lose = refl
+too_many c verbs.Resend a b e f words change restart lose = refl
+too_many c verbs.Hold a b e f words change restart lose = refl
+too_many c verbs.Acks a b e f words change restart lose = refl
+too_many c verbs.Ask a b e f words change restart lose = refl
+too_many c verbs.Due a b e f words change restart lose = refl
 
 -- no word behind a verb
 too_few : (c : ConfigValue) (verb : Verb) → spelt c verb [] ≡ Err Count
@@ -56,6 +58,8 @@ too_few c verbs.Deliver = refl
 too_few c verbs.Junk = refl
 too_few c verbs.Tick = refl
 too_few c verbs.Restart = refl
+too_few c verbs.Rotate = refl
+too_few c verbs.Lose = refl
 too_few c verbs.Notice = refl
 too_few c verbs.Resend = refl
 too_few c verbs.Hold = refl
@@ -64,12 +68,12 @@ too_few c verbs.Ask = refl
 too_few c verbs.Due = refl
 
 -- a number of words that no verb takes that no records follow
-pub miscounted : (c : ConfigValue) (verb : Verb) (words : List (Bor (List ℕ))) → (1 ≤ length words → 4 ≤ length words) → verb ≢ verbs.Change → verb ≢ verbs.Restart → spelt c verb (texts words) ≡ Err Count
-miscounted c verb [] many change restart = too_few c verb
-miscounted c verb (a ∷ []) many change restart = absurd (omega (arith, many))
-miscounted c verb (a ∷ b ∷ []) many change restart = absurd (omega (arith, many))
-miscounted c verb (a ∷ b ∷ e ∷ []) many change restart = absurd (omega (arith, many))
-miscounted c verb (a ∷ b ∷ e ∷ f ∷ words) many change restart = too_many c verb a.now b.now e.now f.now (texts words) change restart
+pub miscounted : (c : ConfigValue) (verb : Verb) (words : List (Bor (List ℕ))) → (1 ≤ length words → 4 ≤ length words) → verb ≢ verbs.Change → verb ≢ verbs.Restart → verb ≢ verbs.Lose → spelt c verb (texts words) ≡ Err Count
+miscounted c verb [] many change restart lose = too_few c verb
+miscounted c verb (a ∷ []) many change restart lose = absurd (omega (arith, many))
+miscounted c verb (a ∷ b ∷ []) many change restart lose = absurd (omega (arith, many))
+miscounted c verb (a ∷ b ∷ e ∷ []) many change restart lose = absurd (omega (arith, many))
+miscounted c verb (a ∷ b ∷ e ∷ f ∷ words) many change restart lose = too_many c verb a.now b.now e.now f.now (texts words) change restart lose
 
 -- a definition at the texts of one word, and of two
 pub by_one : {X Y : Type 0} (May : Type 0) (view : X → Y) (result : Result X ScriptWhat) (f : List (List ℕ) → Result Y ScriptWhat) (words : List (Bor (List ℕ))) (d : Bor (List ℕ)) → 1 ≤ length words → length words < 2
@@ -120,3 +124,18 @@ restart_more May view result c [] d some is = absurd (omega arith)
 restart_more May view result c (a ∷ []) d some is = absurd (omega arith)
 restart_more May view result c (a ∷ b ∷ []) d some is = absurd (omega arith)
 restart_more May view result c (a ∷ b ∷ e ∷ words) d some is = rw (behind_two a b (e ∷ words)) at is
+
+-- the same for a lost store
+pub lose_none : (c : ConfigValue) (words : List (Bor (List ℕ))) → length words < 2 → spelt c verbs.Lose (texts words) ≡ Err Count
+unfolding spelt
+lose_none c [] few = refl
+lose_none c (a ∷ []) few = refl
+lose_none c (a ∷ b ∷ words) few = absurd (omega arith)
+
+pub lose_more : {X : Type 0} (May : Type 0) (view : X → CommandValue) (result : Result X ScriptWhat) (c : ConfigValue) (words : List (Bor (List ℕ))) (d : Bor (List ℕ)) → 3 ≤ length words
+    → Gives May view result (lose_with c (get_or words 0 d).now (get_or words 1 d).now (texts (take (length words - 2) (drop 2 words)))) → Gives May view result (spelt c verbs.Lose (texts words))
+unfolding spelt
+lose_more May view result c [] d some is = absurd (omega arith)
+lose_more May view result c (a ∷ []) d some is = absurd (omega arith)
+lose_more May view result c (a ∷ b ∷ []) d some is = absurd (omega arith)
+lose_more May view result c (a ∷ b ∷ e ∷ words) d some is = rw (behind_two a b (e ∷ words)) at is

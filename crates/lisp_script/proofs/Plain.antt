@@ -10,8 +10,8 @@ use Rattle.lisp_script.specs.declared.fault.ScriptWhat.{ScriptWhat}
 use Rattle.lisp_script.specs.declared.fault.ScriptWhat.TheVariants as whats
 use Rattle.lisp_script.specs.declared.verb.Verb.{Verb}
 use Rattle.lisp_script.specs.declared.verb.Verb.TheVariants as verbs
-use Rattle.lisp_script.specs.Spelling.{verb_of, change_of, send_of, deliver_of, notice_of, given_to, restart_of, restart_with, spelt, command_of, is_comment, in_words, in_line}
-use Rattle.lisp_script.specs.Words.{words_of, is_word, node_of, server_of, router_of, number_in, address_in, or_fault, bytes_in, doubt_in, fate_in, records_in, some_records, database_in}
+use Rattle.lisp_script.specs.Spelling.{verb_of, change_of, send_of, deliver_of, notice_of, given_to, restart_of, restart_with, rotate_of, lose_of, lose_with, spelt, command_of, is_comment, in_words, in_line}
+use Rattle.lisp_script.specs.Words.{words_of, is_word, node_of, server_of, router_of, number_in, as_key, key_in, address_in, or_fault, bytes_in, doubt_in, load_fails_in, fate_in, records_in, some_records, database_in}
 
 -- a value, or a fault that isn't of memory
 abbrev Plain : {X : Type 0} → Result X ScriptWhat → Type 0
@@ -71,6 +71,12 @@ router c w = or_plain _ _ name
 numeral : (w : List ℕ) → Plain (number_in w)
 numeral w = or_plain _ _ number
 
+key_number : (n : ℕ) → Plain (as_key n)
+key_number n = either (nat_lt n 256) (Ok n) (Err whats.Number) tt number
+
+key : (w : List ℕ) → Plain (key_in w)
+key w = then _ _ (numeral w) key_number
+
 address : (w : List ℕ) → Plain (address_in w)
 address w = or_plain _ _ entry
 
@@ -79,6 +85,9 @@ bytes w = either (is_word w (codes "-")) (Ok []) _ tt (fault_plain whats.Hex (de
 
 doubt : (w : List ℕ) → Plain (doubt_in w)
 doubt w = either (is_word w (codes "doubt")) (Ok fates.Doubt) (Err whats.Word) tt word
+
+load_fails : (w : List ℕ) → Plain (load_fails_in w)
+load_fails w = either (is_word w (codes "loadfails")) (Ok fates.LoadFails) (Err whats.Word) tt word
 
 fate : (w : List ℕ) → Plain (fate_in w)
 fate w = either (is_word w (codes "loadfails")) (Ok fates.LoadFails) _ tt (doubt w)
@@ -127,6 +136,18 @@ restart_given : (c : ConfigValue) (n p : List ℕ) (ws : List (List ℕ)) → Pl
 unfolding restart_with
 restart_given c n p ws = then _ _ (node c n) (λ node. then _ _ (numeral p) (λ pick. then _ _ (given c node) (λ router. then _ _ (database ws) (λ db. tt))))
 
+rotate : (c : ConfigValue) (r k : List ℕ) (becomes : Result Fate ScriptWhat) → Plain becomes → Plain (rotate_of c r k becomes)
+unfolding rotate_of
+rotate c r k becomes plain = then _ _ (router c r) (λ router. then _ _ (key k) (λ key. then _ _ plain (λ fate. tt)))
+
+lose : (c : ConfigValue) (r k : List ℕ) → Plain (lose_of c r k)
+unfolding lose_of
+lose c r k = then _ _ (router c r) (λ router. then _ _ (key k) (λ key. tt))
+
+lose_given : (c : ConfigValue) (r k : List ℕ) (ws : List (List ℕ)) → Plain (lose_with c r k ws)
+unfolding lose_with
+lose_given c r k ws = then _ _ (router c r) (λ router. then _ _ (key k) (λ key. then _ _ (database ws) (λ db. tt)))
+
 spelt_plain : (c : ConfigValue) (verb : Verb) (ws : List (List ℕ)) → Plain (spelt c verb ws)
 unfolding spelt
 spelt_plain c verbs.Change [] = count
@@ -153,6 +174,15 @@ spelt_plain c verbs.Restart [] = count
 spelt_plain c verbs.Restart (a ∷ []) = count
 spelt_plain c verbs.Restart (n ∷ p ∷ []) = restart c n p
 spelt_plain c verbs.Restart (n ∷ p ∷ w ∷ ws) = restart_given c n p (w ∷ ws)
+spelt_plain c verbs.Rotate [] = count
+spelt_plain c verbs.Rotate (a ∷ []) = count
+spelt_plain c verbs.Rotate (r ∷ k ∷ []) = rotate c r k _ tt
+spelt_plain c verbs.Rotate (r ∷ k ∷ w ∷ []) = rotate c r k _ (load_fails w)
+spelt_plain c verbs.Rotate (a ∷ b ∷ d ∷ e ∷ ws) = count
+spelt_plain c verbs.Lose [] = count
+spelt_plain c verbs.Lose (a ∷ []) = count
+spelt_plain c verbs.Lose (r ∷ k ∷ []) = lose c r k
+spelt_plain c verbs.Lose (r ∷ k ∷ w ∷ ws) = lose_given c r k (w ∷ ws)
 spelt_plain c verbs.Notice [] = count
 spelt_plain c verbs.Notice (a ∷ []) = count
 spelt_plain c verbs.Notice (s ∷ r ∷ []) = notice c s r _ tt

@@ -17,8 +17,8 @@ differs name word other = refuted (is_word name word) (bytes_eq-Decides name wor
 
 -- no verb is another word
 pub unknown : (word : List ℕ) → word ≢ codes "change" → word ≢ codes "send" → word ≢ codes "deliver" → word ≢ codes "junk" → word ≢ codes "tick" → word ≢ codes "restart"
-    → word ≢ codes "notice" → word ≢ codes "resend" → word ≢ codes "hold" → word ≢ codes "acks" → word ≢ codes "ask" → word ≢ codes "due" → verb_of word ≡ Err Word
-unknown word change send deliver junk tick restart notice resend hold acks ask due =
+    → word ≢ codes "rotate" → word ≢ codes "lose" → word ≢ codes "notice" → word ≢ codes "resend" → word ≢ codes "hold" → word ≢ codes "acks" → word ≢ codes "ask" → word ≢ codes "due" → verb_of word ≡ Err Word
+unknown word change send deliver junk tick restart rotate lose notice resend hold acks ask due =
     rw (
       differs _ word change,
       differs _ word send,
@@ -26,6 +26,8 @@ unknown word change send deliver junk tick restart notice resend hold acks ask d
       differs _ word junk,
       differs _ word tick,
       differs _ word restart,
+      differs _ word rotate,
+      differs _ word lose,
       differs _ word notice,
       differs _ word resend,
       differs _ word hold,

@@ -12,7 +12,7 @@ use Rattle.lisp_script.specs.declared.fault.ScriptFault.{ScriptFault}
 use Rattle.lisp_script.specs.Command.{CommandValue, command_value}
 use Rattle.lisp_script.specs.Fault.{Gives}
 use Rattle.lisp_script.specs.Words.{texts}
-use Rattle.lisp_script.specs.Spelling.{spelt, restart_with, with_line, with_words, script_of, IsReached}
+use Rattle.lisp_script.specs.Spelling.{spelt, restart_with, lose_with, with_line, with_words, script_of, IsReached}
 
 -- a command is what a definition gives; memory runs out only where it may
 abbrev pub GivesCommand : {A : Type 0} → Type 0 → Result (Command A) ScriptWhat → Result CommandValue ScriptWhat → Type 0
@@ -22,13 +22,17 @@ GivesCommand may result read = Gives may command_value result read
 abbrev pub GivesRestart : {A : Type 0} → Type 0 → ConfigValue → List ℕ → List ℕ → List (Bor (List ℕ)) → Result (Command A) ScriptWhat → Type 0
 GivesRestart may c name pick records result = GivesCommand may result (restart_with c name pick (texts records))
 
+-- one that starts a router so after its store was lost
+abbrev pub GivesLose : {A : Type 0} → Type 0 → ConfigValue → List ℕ → List ℕ → List (Bor (List ℕ)) → Result (Command A) ScriptWhat → Type 0
+GivesLose may c name id records result = GivesCommand may result (lose_with c name id (texts records))
+
 -- the command that a verb, which no records follow, and its words spell
 abbrev pub Spells : {A : Type 0} → Type 0 → ConfigValue → Verb → List (List ℕ) → Result (Command A) ScriptWhat → Type 0
-Spells may c verb words result = verb ≢ verbs.Change → verb ≢ verbs.Restart → GivesCommand may result (spelt c verb words)
+Spells may c verb words result = verb ≢ verbs.Change → verb ≢ verbs.Restart → verb ≢ verbs.Lose → GivesCommand may result (spelt c verb words)
 
 -- one that takes no memory
 abbrev pub SpellsPlainly : {A : Type 0} → ConfigValue → Verb → List (List ℕ) → Result (Command A) ScriptWhat → Type 0
-SpellsPlainly c verb words result = verb ≢ verbs.Change → verb ≢ verbs.Restart → Reads command_value result (spelt c verb words)
+SpellsPlainly c verb words result = verb ≢ verbs.Change → verb ≢ verbs.Restart → verb ≢ verbs.Lose → Reads command_value result (spelt c verb words)
 
 -- the command of a line, or of words, was appended to commands, where there is one
 abbrev pub AddsLine : {A X Z : Type 0} → Type 0 → ConfigValue → List ℕ → Vec (Command A) Z → Vec (Command A) Z → Result X ScriptWhat → Type 0

@@ -16,14 +16,14 @@ use Rattle.lisp_script.specs.declared.fault.ScriptWhat.{ScriptWhat}
 use Rattle.lisp_script.specs.declared.fault.ScriptWhat.TheVariants as whats
 use Rattle.lisp_script.specs.declared.fault.ScriptFault.{ScriptFault}
 use Rattle.lisp_script.specs.Command.{CommandValue}
-use Rattle.lisp_script.specs.Words.{words_of, is_word, node_of, server_of, router_of, number_in, address_in, bytes_in, doubt_in, fate_in, database_in}
+use Rattle.lisp_script.specs.Words.{words_of, is_word, node_of, server_of, router_of, number_in, key_in, address_in, bytes_in, doubt_in, load_fails_in, fate_in, database_in}
 
 -- the first words
 abbrev pub first_words : List (List ℕ × Verb)
 first_words =
     (codes "change", verbs.Change) ∷ (codes "send", verbs.Send) ∷ (codes "deliver", verbs.Deliver) ∷ (codes "junk", verbs.Junk)
-    ∷ (codes "tick", verbs.Tick) ∷ (codes "restart", verbs.Restart) ∷ (codes "notice", verbs.Notice) ∷ (codes "resend", verbs.Resend)
-    ∷ (codes "hold", verbs.Hold) ∷ (codes "acks", verbs.Acks) ∷ (codes "ask", verbs.Ask) ∷ (codes "due", verbs.Due) ∷ []
+    ∷ (codes "tick", verbs.Tick) ∷ (codes "restart", verbs.Restart) ∷ (codes "rotate", verbs.Rotate) ∷ (codes "lose", verbs.Lose)
+    ∷ (codes "notice", verbs.Notice) ∷ (codes "resend", verbs.Resend) ∷ (codes "hold", verbs.Hold) ∷ (codes "acks", verbs.Acks) ∷ (codes "ask", verbs.Ask) ∷ (codes "due", verbs.Due) ∷ []
 
 abbrev pub verb_of : List ℕ → Result Verb ScriptWhat
 verb_of word = ok_or (option_map (λ p. p.1) (find (λ p. is_word p.0 word) first_words)) whats.Word
@@ -78,6 +78,29 @@ restart_with c n p records = do
   db ← database_in records
   Ok (Act (events.Restart router pick (Some db)))
 
+-- rotate R K
+unfoldable pub rotate_of : ConfigValue → List ℕ → List ℕ → Result Fate ScriptWhat → Result CommandValue ScriptWhat
+rotate_of c r k becomes = do
+  router ← router_of c r
+  key ← key_in k
+  fate ← becomes
+  Ok (Act (events.Rotate router key fate))
+
+-- lose R K
+unfoldable pub lose_of : ConfigValue → List ℕ → List ℕ → Result CommandValue ScriptWhat
+lose_of c r k = do
+  router ← router_of c r
+  key ← key_in k
+  Ok (Act (events.Lose router key None))
+
+-- lose R K, with a database
+unfoldable pub lose_with : ConfigValue → List ℕ → List ℕ → List (List ℕ) → Result CommandValue ScriptWhat
+lose_with c r k records = do
+  router ← router_of c r
+  key ← key_in k
+  db ← database_in records
+  Ok (Act (events.Lose router key (Some db)))
+
 -- a line of the table for each form of a command: what its words stand for
 unfoldable pub spelt : ConfigValue → Verb → List (List ℕ) → Result CommandValue ScriptWhat
 spelt c verbs.Change (r ∷ first ∷ more) = change_of c r (first ∷ more)
@@ -95,6 +118,10 @@ spelt c verbs.Tick (m ∷ []) = do
   Ok (Act (events.Tick ms))
 spelt c verbs.Restart (n ∷ p ∷ []) = restart_of c n p
 spelt c verbs.Restart (n ∷ p ∷ first ∷ more) = restart_with c n p (first ∷ more)
+spelt c verbs.Rotate (r ∷ k ∷ []) = rotate_of c r k (Ok Done)
+spelt c verbs.Rotate (r ∷ k ∷ fate ∷ []) = rotate_of c r k (load_fails_in fate)
+spelt c verbs.Lose (r ∷ k ∷ []) = lose_of c r k
+spelt c verbs.Lose (r ∷ k ∷ first ∷ more) = lose_with c r k (first ∷ more)
 spelt c verbs.Notice (s ∷ r ∷ []) = notice_of c s r (Ok Done)
 spelt c verbs.Notice (s ∷ r ∷ fate ∷ []) = notice_of c s r (fate_in fate)
 spelt c verbs.Resend (s ∷ r ∷ []) = do

@@ -39,10 +39,20 @@ server_of c word = ok_or (position (λ s. is_word s.name word) c.servers) Name
 unfoldable pub router_of : ConfigValue → List ℕ → Result ℕ ScriptWhat
 router_of c word = ok_or (option_map (λ i. length c.servers + i) (position (λ r. is_word r.name word) c.routers)) Name
 
--- a decimal number, an address
+-- a decimal number
 abbrev pub number_in : List ℕ → Result ℕ ScriptWhat
 number_in word = ok_or (number_of word) Number
 
+-- a Key ID: a number of at most 255
+abbrev pub as_key : ℕ → Result ℕ ScriptWhat
+as_key number = if nat_lt number 256 then Ok number else Err Number
+
+abbrev pub key_in : List ℕ → Result ℕ ScriptWhat
+key_in word = do
+  number ← number_in word
+  as_key number
+
+-- an address
 abbrev pub address_in : List ℕ → Result Addr ScriptWhat
 address_in word = ok_or (address_of word) Record
 
@@ -54,9 +64,12 @@ or_fault what (Err e) = Err what
 abbrev pub bytes_in : List ℕ → Result (List ℕ) ScriptWhat
 bytes_in word = if is_word word (codes "-") then Ok [] else or_fault Hex (decode_of word)
 
--- what becomes of a save; and of a load or a save
+-- what becomes of a save; of a load; and of a load or a save
 abbrev pub doubt_in : List ℕ → Result Fate ScriptWhat
 doubt_in word = if is_word word (codes "doubt") then Ok Doubt else Err Word
+
+abbrev pub load_fails_in : List ℕ → Result Fate ScriptWhat
+load_fails_in word = if is_word word (codes "loadfails") then Ok LoadFails else Err Word
 
 abbrev pub fate_in : List ℕ → Result Fate ScriptWhat
 fate_in word = if is_word word (codes "loadfails") then Ok LoadFails else doubt_in word

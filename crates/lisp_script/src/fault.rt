@@ -20,8 +20,8 @@ pub enum ScriptWhat {
     /// No node has the name, or it is of the wrong kind; or records for a Map-Server.
     #[error("no node of the right kind has this name")]
     Name,
-    /// A word that is no decimal number of 1 to 20 digits, of at most 2^64 - 1.
-    #[error("a decimal number is meant")]
+    /// A word that is no decimal number of 1 to 20 digits, of at most 2^64 - 1; or of at most 255, for a Key ID.
+    #[error("a decimal number is meant, of at most 255 for a Key ID")]
     Number,
     /// Words that are no records of a database, or no address.
     #[error("records of different prefixes, the word empty, or an address are meant")]

@@ -4,14 +4,16 @@ ghost use Rattle.std.specs.Prelude.{◌≡◌, [], ◌∷◌};
 ghost use Rattle.lisp_records.specs.Result.{Reads};
 ghost use Rattle.lisp_script.specs.Command.{command_value};
 ghost use Rattle.lisp_script.specs.Words.{texts};
-ghost use Rattle.lisp_script.specs.Spelling.{change_of, send_of, deliver_of, restart_of, notice_of, given_to, spelt, command_of};
-ghost use Rattle.lisp_script.specs.Answers.{GivesCommand, GivesRestart, Spells, SpellsPlainly};
+ghost use Rattle.lisp_script.specs.Spelling.{change_of, send_of, deliver_of, restart_of, rotate_of, lose_of, notice_of, given_to, spelt, command_of};
+ghost use Rattle.lisp_script.specs.Answers.{GivesCommand, GivesRestart, GivesLose, Spells, SpellsPlainly};
 ghost use Rattle.lisp_script.specs.declared.verb.Verb.TheVariants as verbs;
 
 use crate::command::Command;
 use crate::fault::ScriptWhat;
 use crate::verb::Verb;
-use crate::words::{address, bytes, database, doubt, fate, node, number, router, server};
+use crate::words::{
+    address, bytes, database, doubt, fate, key, load_fails, node, number, router, server,
+};
 use lisp_memory::Memory;
 use lisp_model::Event;
 use lisp_nonces::Fate;
@@ -30,6 +32,7 @@ pub(crate) fn command<A: Memory + Copy, E: Allocator>(
     match Verb::from_word(word)? {
         Verb::Change => change(alloc, config, words),
         Verb::Restart => restart(alloc, config, words),
+        Verb::Lose => lose(alloc, config, words),
         verb => counted(alloc, config, verb, words),
     }
 }
@@ -83,6 +86,7 @@ fn with_two<A: Allocator, E: Allocator>(
     match verb {
         Verb::Send => sent(config, first, second, Ok(Fate::Done)),
         Verb::Deliver => delivered(first, fate(second)),
+        Verb::Rotate => rotated(config, first, second, Ok(Fate::Done)),
         Verb::Notice => noticed(config, first, second, Ok(Fate::Done)),
         Verb::Resend => {
             let server = server(config, first)?;
@@ -118,6 +122,7 @@ fn with_three<A: Memory + Copy, E: Allocator>(
             let bytes = bytes(alloc, third)?;
             Ok(Command::Act(Event::Junk { to, from, bytes }))
         }
+        Verb::Rotate => rotated(config, first, second, load_fails(third)),
         Verb::Notice => noticed(config, first, second, fate(third)),
         _ => Err(ScriptWhat::Count),
     }
@@ -149,6 +154,21 @@ fn restart<A: Memory + Copy, E: Allocator>(
         [] | [_] => Err(ScriptWhat::Count),
         [node, pick] => restarted(config, node, pick),
         [node, pick, records @ ..] => restarted_with(alloc, config, node, pick, records),
+    }
+}
+
+// lose R K, and perhaps with a database
+fn lose<A: Memory + Copy, E: Allocator>(
+    alloc: A,
+    config: &Config<E>,
+    words: &[&str],
+) -> Result<Command<A>, ScriptWhat>
+    ensures { GivesCommand A.may_refuse result (spelt config.now verbs.Lose (texts words.now)) }
+{
+    match words {
+        [] | [_] => Err(ScriptWhat::Count),
+        [router, key] => emptied(config, router, key),
+        [router, key, records @ ..] => emptied_with(alloc, config, router, key, records),
     }
 }
 
@@ -245,6 +265,57 @@ fn given_to<E: Allocator>(config: &Config<E>, node: usize) -> Result<usize, Scri
     } else {
         Ok(node)
     }
+}
+
+// rotate R K, and what becomes of the load
+#[tactic(auto, unfolding(crate::specs::Spelling::rotate_of))]
+fn rotated<A: Allocator, E: Allocator>(
+    config: &Config<E>,
+    name: &str,
+    id: &str,
+    becomes: Result<Fate, ScriptWhat>,
+) -> Result<Command<A>, ScriptWhat>
+    ensures { Reads command_value result (rotate_of config.now name.now id.now becomes) }
+{
+    let router = router(config, name)?;
+    let key = key(id)?;
+    let fate = becomes?;
+    Ok(Command::Act(Event::Rotate { router, key, fate }))
+}
+
+// A router starts under another key, after its store was lost.
+#[tactic(auto, unfolding(crate::specs::Spelling::lose_of))]
+fn emptied<A: Allocator, E: Allocator>(
+    config: &Config<E>,
+    name: &str,
+    id: &str,
+) -> Result<Command<A>, ScriptWhat>
+    ensures { Reads command_value result (lose_of config.now name.now id.now) }
+{
+    let router = router(config, name)?;
+    let key = key(id)?;
+    Ok(Command::Act(Event::Lose {
+        router,
+        key,
+        db: None,
+    }))
+}
+
+// A router starts so with another database.
+#[tactic(auto, unfolding(crate::specs::Spelling::lose_with))]
+fn emptied_with<A: Memory + Copy, E: Allocator>(
+    alloc: A,
+    config: &Config<E>,
+    name: &str,
+    id: &str,
+    records: &[&str],
+) -> Result<Command<A>, ScriptWhat>
+    ensures { GivesLose A.may_refuse config.now name.now id.now records.now result }
+{
+    let router = router(config, name)?;
+    let key = key(id)?;
+    let db = Some(database(alloc, records)?);
+    Ok(Command::Act(Event::Lose { router, key, db }))
 }
 
 // notice S R, and what becomes of a load or a save

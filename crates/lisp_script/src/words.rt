@@ -2,7 +2,7 @@
 
 ghost use Rattle.std.specs.Prelude.{◌≡◌, ◌≢◌, [], position, IfOk, OnErr};
 ghost use Rattle.lisp_script.specs.Fault.{Gives};
-ghost use Rattle.lisp_script.specs.Words.{texts, words_of, is_word, node_of, server_of, router_of, number_in, address_in, bytes_in, doubt_in, fate_in, records_in, some_records, database_in};
+ghost use Rattle.lisp_script.specs.Words.{texts, words_of, is_word, node_of, server_of, router_of, number_in, key_in, address_in, bytes_in, doubt_in, load_fails_in, fate_in, records_in, some_records, database_in};
 ghost use Rattle.lisp_script.specs.declared.fault.ScriptWhat.TheVariants.{Memory};
 
 use crate::fault::ScriptWhat;
@@ -80,6 +80,18 @@ pub(crate) fn number(word: &str) -> Result<u64, ScriptWhat>
     number_from_text(word).ok_or(ScriptWhat::Number)
 }
 
+/// A Key ID: a number of at most 255.
+pub(crate) fn key(word: &str) -> Result<u8, ScriptWhat>
+    ensures { result ≡ key_in word.now }
+{
+    let number = number(word)?;
+    if number < 256 {
+        Ok(number as u8)
+    } else {
+        Err(ScriptWhat::Number)
+    }
+}
+
 /// An address.
 pub(crate) fn address(word: &str) -> Result<Addr, ScriptWhat>
     ensures { result ≡ address_in word.now }
@@ -112,14 +124,24 @@ pub(crate) fn doubt(word: &str) -> Result<Fate, ScriptWhat>
     }
 }
 
-/// What becomes of a load, or of a save.
-pub(crate) fn fate(word: &str) -> Result<Fate, ScriptWhat>
-    ensures { result ≡ fate_in word.now }
+/// What becomes of a load.
+pub(crate) fn load_fails(word: &str) -> Result<Fate, ScriptWhat>
+    ensures { result ≡ load_fails_in word.now }
 {
     if word == "loadfails" {
         Ok(Fate::LoadFails)
     } else {
-        doubt(word)
+        Err(ScriptWhat::Word)
+    }
+}
+
+/// What becomes of a load, or of a save.
+pub(crate) fn fate(word: &str) -> Result<Fate, ScriptWhat>
+    ensures { result ≡ fate_in word.now }
+{
+    match load_fails(word) {
+        Ok(fate) => Ok(fate),
+        Err(_) => doubt(word),
     }
 }
 

@@ -4,6 +4,7 @@ use Rattle.lisp_nonces.specs.declared.fault.StoreFault.{StoreFault}
 use Rattle.lisp_nonces.specs.declared.fault.StoreFault.TheVariants.{Device}
 use Rattle.lisp_nonces.specs.declared.fate.Fate.{Fate}
 use Rattle.lisp_nonces.specs.declared.pair.Pair.{Pair}
+use Rattle.std.specs.FinMap.{empty}
 use Rattle.lisp_nonces.specs.Kept.{kept_at, PairInDoubt}
 use Rattle.lisp_nonces.specs.Memory.{MemoryStoreState, loaded, after_load, saved, save_answer, faults_after_save, failed_once}
 use Rattle.lisp_nonces.specs.Store.{StoreState, Rose}
@@ -41,6 +42,10 @@ memory_counted f = if fails f then failed_once f.memory else f.memory
 -- the store in memory is armed, and the turn stays
 abbrev pub failing_armed : FailingState → Fate → FailingState
 failing_armed f fate = record { memory = record f.memory { fate = fate }; turn = f.turn }
+
+-- the store in memory keeps nothing of any pair, and the turn stays
+abbrev pub failing_lost : FailingState → FailingState
+failing_lost f = record { memory = record f.memory { kept = empty }; turn = f.turn }
 
 -- what a load and a save answer
 abbrev pub failing_load : FailingState → Pair → Result (Option ℕ) StoreFault

@@ -78,6 +78,9 @@ impl<R: Files + AllocGlobal> WorldStore for FileStore<R> {
 
     /// Does nothing: the files are what a crash left.
     fn restart(&mut self, _pick: u64) {}
+
+    /// Does nothing: the files are what is left of the disk.
+    fn lose(&mut self) {}
 }
 
 impl<R: Files + AllocGlobal> FileStore<R> {

@@ -13,6 +13,9 @@ id = '0000000000000001'
 [[site.key]]
 id = 1
 secret = '736563726574'
+[[site.key]]
+id = 2
+secret = '6e6577'
 [[site.prefix]]
 eid = '10.1.0.0/16'
 [[server]]

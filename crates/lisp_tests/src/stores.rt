@@ -13,7 +13,8 @@ use std::alloc::{AllocError, Global};
 use std::io::Write;
 use std::process::Abort;
 
-/// A registration, a repeat, both restarts, a later registration, a notice and one after a restart.
+/// A registration, a repeat, both restarts, a later registration, a notice and one after a restart; then a registration
+/// under another key.
 const SCRIPT: &str = "\
 send r1 s1
 deliver 0
@@ -31,6 +32,9 @@ restart s1 0
 send r1 s1
 deliver 6
 notice s1 r1
+rotate r1 2
+send r1 s1
+deliver 9
 ";
 
 /// What the commands print.
@@ -51,11 +55,16 @@ restarted s1
 sent r1 s1 key 1 nonce 3 datagram 6
 accepted s1 r1 key 1 nonce 3 datagram 7
 notice s1 r1 key 1 nonce 9223372036854775809 datagram 8
+rotated r1 key 2
+sent r1 s1 key 2 nonce 1 datagram 9
+accepted s1 r1 key 2 nonce 1 datagram 10
 ";
 
-/// What each node says of a load or save that failed: when it starts, sends, receives, or sends a notice.
-const REFUSED: [&str; 6] = [
+/// What each node says of a load or save that failed: when it starts, goes over to another key, sends, receives, or sends a
+/// notice.
+const REFUSED: [&str; 7] = [
     "refused r1 35 store 30\n",
+    "refused r1 38 store 30\n",
     "refused r1 42 store 30\n",
     "refused s1 56 store 30\n",
     "refused s1 59 store 30\n",
@@ -73,9 +82,9 @@ const PAIR: Pair = Pair {
     key: 1,
 };
 
-/// How often the Map-Server loads or saves here, and the router: at its start, for a Map-Register or a notice, unless the
-/// nonce before is known. A nonce that is loaded for a message that is refused stays unknown.
-const CALLS: [u64; 2] = [11, 5];
+/// How often the Map-Server loads or saves here, and the router: at its start or a change of its key, for a Map-Register or
+/// a notice, unless the nonce before is known. A nonce that is loaded for a message that is refused stays unknown.
+const CALLS: [u64; 2] = [13, 7];
 
 /// The router's load at its first start.
 const FIRST_LOAD: (usize, u64) = (1, 1);

@@ -13,7 +13,7 @@ use Rattle.lisp_nonces.specs.Store.{StoreState, Proceeds}
 use Rattle.lisp_model.specs.declared.line.Line.{Line}
 use Rattle.lisp_refinement.specs.World.{DatagramValue, ServerNodeState, RouterNodeState, RouterCoreState, Up, Down, WorldState}
 use Rattle.lisp_refinement.specs.Calls.{UsesStore}
-use Rattle.lisp_refinement.specs.Events.{ServerActs, RouterActs, ExpiresEach, NetworkTicks, NetworkChanges, RouterSends, NetworkSends, RouterHears, Arrives, ArrivesWhere, NetworkDelivers, NetworkRestarts, NetworkNotifies, NetworkResends, node_with}
+use Rattle.lisp_refinement.specs.Events.{ServerActs, RouterActs, ExpiresEach, NetworkTicks, NetworkChanges, RouterSends, NetworkSends, RouterHears, Arrives, ArrivesWhere, NetworkDelivers, NetworkRestarts, NetworkNotifies, NetworkResends, NetworkRotates, NetworkLoses, RouterRotates, node_with}
 use Rattle.lisp_world.specs.Quiet.{stores_of, IsCalm, AllCalm, failures, KeepsCalm}
 use Rattle.lisp_refinement.proofs.Gets.{AtSet, get_set, get_before}
 
@@ -209,6 +209,24 @@ restarts_calm old new node pick db line (inr router) = router_keeps old new node
     (both_keep router.acts.before.store router.restarts.crashed router.acts.after.store Done
     (proceeds_keeps router.acts.before.store router.restarts.crashed Done router.restarts.crashes.proceeds)
     (proceeds_keeps router.restarts.crashed router.acts.after.store Done router.restarts.starts.proceeds))
+
+-- a router that is asked to go over to a key uses its store if it is up
+rotate_keeps : (router key : ℕ) (secret : List ℕ) (fate : Fate) (now : ℕ) (before after : RouterNodeState) (core : RouterCoreState) (line : Line)
+    → RouterRotates router key secret fate now before after core line → KeepsStore before.store after.store fate
+rotate_keeps router key secret fate now before after (Up e) line up = uses_keeps before.store up.rotates.call.armed up.rotates.call.called after.store fate up.rotates.call.uses
+rotate_keeps router key secret fate now before after (Down config database) line rotates =
+    same_store before.store after.store fate (ap (λ (n : RouterNodeState). n.store) rotates.0)
+
+pub rotates_calm : (old new : WorldState) (router key : ℕ) (fate : Fate) (line : Line) → NetworkRotates old new router key fate line → KeepsCalm old new fate
+rotates_calm old new router key fate line rotates = router_keeps old new router [] fate rotates.acts
+    (rotate_keeps router key rotates.of.secret fate old.clock rotates.acts.before rotates.acts.after rotates.acts.before.core line rotates.rotates)
+
+-- a router's store is lost, and it starts again
+pub loses_calm : (old new : WorldState) (router key : ℕ) (db : Option (List MapRecordValue)) (line : Line) → NetworkLoses old new router key db line → KeepsCalm old new Done
+loses_calm old new router key db line loses = router_keeps old new router [] Done loses.acts
+    (both_keep loses.acts.before.store loses.loses.lost loses.acts.after.store Done
+    (proceeds_keeps loses.acts.before.store loses.loses.lost Done loses.loses.loses.proceeds)
+    (proceeds_keeps loses.loses.lost loses.acts.after.store Done loses.loses.starts.proceeds))
 
 -- a Map-Server sends a notice
 pub notices_calm : (old new : WorldState) (server router : ℕ) (fate : Fate) (line : Line) → NetworkNotifies old new server router fate line → KeepsCalm old new fate

@@ -25,6 +25,7 @@ use Rattle.lisp_world.specs.Quiet.{AllHonest, AllCalm, stores_of, failures}
 use Rattle.lisp_refinement.specs.Stands.{shown_by, Shows, StandsForRound, StandsForEtr, StandsForCore, StandsForServer, StandsForRouter, Stands}
 use Rattle.lisp_refinement.proofs.Gets.{none_is_some, same_some, get_before, get_replicate, get_mapped}
 use Rattle.lisp_nodes.proofs.NodeCalls.{unused}
+use Rattle.lisp_world.proofs.FirstKeys.{first_keys}
 use Rattle.lisp_refinement.proofs.Restarting.{no_row, no_nonce, no_notice}
 
 module _ {X : Type 0} where
@@ -62,6 +63,7 @@ pub record GoesOn (old new : StoreState) : Type 0 where
 
 -- a network whose nodes are those of a configuration over stores, and whose routers have started
 pub record IsMade (c : ConfigValue) (stores : List StoreState) (w : WorldState) : Type 0 where
+  pub sites_are : w.sites ≡ c.sites
   pub addresses_are : w.addresses ≡ addresses c
   pub moment : w.clock ≡ 0
   pub empty_bag : w.bag ≡ []
@@ -217,12 +219,14 @@ module _ (c : ConfigValue) (stores : List StoreState) (w : WorldState) (count : 
       router_part = record {
         me = its.has_started.me ∙ ap (λ (r : RouterEntryValue). r.me) (sym entry_is);
         servers = its.has_started.servers ∙ ap (λ (r : RouterEntryValue). r.servers) (sym entry_is);
+        used = first_keys o node its.entry.key_id n.used its.has_started.used (ap (λ (r : RouterEntryValue). r.key_id) (sym entry_is));
         core = subst (λ (x : RouterCoreState). StandsForCore o [] node x) (sym starts.up) etr_part;
       }
 
     pub made_stands : Stands w o []
     made_stands = record {
       steps = record {
+        sites = made.sites_are;
         addresses = made.addresses_are;
         network = network;
         legal = tt;

@@ -5,24 +5,26 @@ use Rattle.lisp_records.specs.declared.address.Addr.{Addr}
 use Rattle.lisp_records.specs.Record.{MapRecordValue}
 use Rattle.lisp_nonces.specs.declared.fate.Fate.{Fate}
 use Rattle.lisp_nonces.specs.declared.fate.Fate.TheVariants.{Done}
-use Rattle.lisp_model.specs.Legal.{Fits}
+use Rattle.lisp_model.specs.Restarting.{Fits}
 use Rattle.lisp_model.specs.Memory.{MayTell}
 use Rattle.lisp_model.specs.declared.event.Event.TheVariants as events
 use Rattle.lisp_model.specs.declared.line.Line.{Line}
 use Rattle.lisp_model.specs.declared.line.Line.TheVariants as lines
 use Rattle.lisp_model.specs.declared.world_fault.WorldFault.{WorldFault}
 use Rattle.lisp_refinement.specs.World.{DatagramValue, RouterCoreState, Up, Down, ServerNodeState, RouterNodeState, WorldState}
-use Rattle.lisp_refinement.specs.Events.{address_of, change_line, node_with, datagram_to, Arrives, NetworkChanges, NetworkDelivers, NetworkNotifies, NetworkResends, NetworkRestarts, NetworkSends, NetworkTicks}
+use Rattle.lisp_refinement.specs.Events.{address_of, change_line, node_with, datagram_to, Arrives, NetworkChanges, NetworkDelivers, NetworkNotifies, NetworkLoses, NetworkResends, NetworkRestarts, NetworkRotates, NetworkSends, NetworkTicks}
 use Rattle.lisp_refinement.proofs.Changing.{change_stands}
+use Rattle.lisp_refinement.proofs.Losing.{lose_stands}
 use Rattle.lisp_refinement.proofs.Noticing.{notice_stands}
 use Rattle.lisp_refinement.proofs.Resending.{resend_stands}
+use Rattle.lisp_refinement.proofs.Rotating.{rotate_stands}
 use Rattle.lisp_refinement.proofs.Sending.{send_stands}
 use Rattle.lisp_refinement.proofs.Ticking.{tick_stands}
 use Rattle.lisp_refinement.proofs.Taking.{delivers_stand, junk_stands, restarts_stand}
-use Rattle.lisp_world.specs.Faults.{datagram_fault, node_fault, pair_fault, refusal_of, restart_fault, router_fault, tick_fault}
+use Rattle.lisp_world.specs.Faults.{datagram_fault, node_fault, pair_fault, refusal_of, restart_fault, router_fault, router_key_fault, tick_fault, used_before_loss, used_ever}
 use Rattle.lisp_world.specs.Taking.{TookEvent}
 use Rattle.lisp_world.proofs.Arrivals.{arrived, datagram_there, delivered, read_again, read_still, same_world}
-use Rattle.lisp_world.proofs.Calm.{ticks_calm, changes_calm, sends_calm, delivers_calm, arrives_calm, restarts_calm, notices_calm, resends_calm}
+use Rattle.lisp_world.proofs.Calm.{ticks_calm, changes_calm, sends_calm, delivers_calm, arrives_calm, restarts_calm, rotates_calm, loses_calm, notices_calm, resends_calm}
 
 -- a check of a router's number and a Map-Server's passed: what is known of them, with the network as the call has it, and as it
 -- is seen
@@ -109,6 +111,24 @@ module _ (node_may store_may : Type 0) (old new : WorldState) where
     possible = sym possible;
     stands = restarts_stand old new node pick db line fits turn;
     calm = restarts_calm old new node pick db line turn;
+    tells = tells;
+  }
+
+  pub rotates_taken : (router key : ℕ) (fate : Fate) (line : Line) → router_key_fault old router key (used_before_loss key) ≡ None → NetworkRotates old new router key fate line → MayTell node_may store_may line
+      → TookEvent node_may store_may old new (events.Rotate router key fate) line
+  rotates_taken router key fate line possible turn tells = record {
+    possible = possible;
+    stands = rotate_stands old new router key fate line turn;
+    calm = rotates_calm old new router key fate line turn;
+    tells = tells;
+  }
+
+  pub loses_taken : (router key : ℕ) (db : Option (List MapRecordValue)) (line : Line) → router_key_fault old router key (used_ever key) ≡ None → Fits db → NetworkLoses old new router key db line → MayTell node_may store_may line
+      → TookEvent node_may store_may old new (events.Lose router key db) line
+  loses_taken router key db line possible fits turn tells = record {
+    possible = possible;
+    stands = lose_stands old new router key db line fits turn;
+    calm = loses_calm old new router key db line turn;
     tells = tells;
   }
 

@@ -5,6 +5,8 @@ use Rattle.lisp_records.specs.declared.address.Addr.{Addr}
 use Rattle.lisp_records.specs.declared.router.RouterId.{RouterId}
 use Rattle.lisp_nonces.specs.declared.fault.StoreFault.{StoreFault}
 use Rattle.lisp_nonces.specs.declared.fault.StoreFault.TheVariants as stores
+use Rattle.lisp_etr.specs.declared.rotate_fault.RotateFault.{RotateFault}
+use Rattle.lisp_etr.specs.declared.rotate_fault.RotateFault.TheVariants as rotates
 use Rattle.lisp_etr.specs.declared.send_fault.SendFault.{SendFault}
 use Rattle.lisp_etr.specs.declared.send_fault.SendFault.TheVariants as sends
 use Rattle.lisp_etr.specs.declared.start_fault.StartFault.{StartFault}
@@ -17,8 +19,8 @@ use Rattle.lisp_model.specs.declared.line.Line.TheVariants as lines
 use Rattle.lisp_model.specs.declared.refusal.Refusal.TheVariants as refusals
 use Rattle.lisp_model.specs.Memory.{MayTell, is_store_memory}
 use Rattle.lisp_refinement.specs.World.{DatagramValue, ServerNodeState, WorldState}
-use Rattle.lisp_refinement.specs.Events.{NodeResends, SaysNoticeAnswer, SaysResendAnswer}
-use Rattle.lisp_world.specs.Asked.{SaysAsked}
+use Rattle.lisp_refinement.specs.Events.{NodeResends, SaysNoticeAnswer, SaysResendAnswer, loss_line}
+use Rattle.lisp_world.specs.Asked.{SaysAsked, asked_rotate_line}
 
 module _ (node_may store_may : Type 0) (node : ℕ) where
   -- of a Map-Register
@@ -48,6 +50,27 @@ module _ (node_may store_may : Type 0) (node : ℕ) where
       → MayTell node_may store_may (lines.Refused node (refusals.Start fault))
   start_tells starts.OutOfMemory may store = (λ out. may refl, λ out. absurd cc)
   start_tells (starts.Store fault) may store = (λ out. absurd cc, in_store_started fault (λ is. store (ap starts.Store is)))
+
+  -- of a router that keeps its key; one that is down says so
+  in_store_rotated : (fault : StoreFault) → (fault ≡ stores.OutOfMemory → store_may) → is_store_memory (refusals.Rotate (rotates.Store fault)) ≡ true → store_may
+  in_store_rotated stores.OutOfMemory may out = may refl
+  in_store_rotated _ may out = absurd cc
+
+  rotate_tells : (fault : RotateFault) → (fault ≡ rotates.Store stores.OutOfMemory → store_may) → MayTell node_may store_may (lines.Refused node (refusals.Rotate fault))
+  rotate_tells (rotates.Store fault) may = (λ out. absurd cc, in_store_rotated fault (λ is. may (ap rotates.Store is)))
+  rotate_tells _ may = (λ out. absurd cc, λ out. absurd cc)
+
+  pub rotated_tells : (key : ℕ) (answer : Option (Result (Unit {0}) RotateFault)) → IfSome answer (λ a. a ≡ Err (rotates.Store stores.OutOfMemory) → store_may)
+      → MayTell node_may store_may (asked_rotate_line node key answer)
+  rotated_tells key (Some (Ok done)) may = tt
+  rotated_tells key (Some (Err fault)) may = rotate_tells fault (λ is. may (ap Err is))
+  rotated_tells key None may = tt
+
+  -- of a start once the store was lost
+  pub lost_tells : (key : ℕ) (answer : Result (Unit {0}) StartFault) → (answer ≡ Err starts.OutOfMemory → node_may) → (answer ≡ Err (starts.Store stores.OutOfMemory) → store_may)
+      → MayTell node_may store_may (loss_line node key answer)
+  lost_tells key (Ok done) may store = tt
+  lost_tells key (Err fault) may store = start_tells fault (λ is. may (ap Err is)) (λ is. store (ap Err is))
 
   -- of a notice
   in_store_loaded : (fault : StoreFault) → (fault ≡ stores.OutOfMemory → store_may) → is_store_memory (refusals.Notice (notices.StoreLoad fault)) ≡ true → store_may

@@ -1,9 +1,12 @@
 -- A network's faults: what keeps it from taking an event.
-use Rattle.std.specs.Prelude.{◌≡◌, ◌<◌, ℕ, ◌+◌, ◌&&◌, ◌||◌, nat_le, nat_lt, not, is_some, Bool, length, Option, Some, None, Result, Ok, Err, IfErr, if◌then◌else◌}
+use Rattle.std.specs.Prelude.{◌≡◌, ◌<◌, ℕ, ◌+◌, ◌&&◌, ◌||◌, nat_le, nat_lt, not, is_none, is_some, Bool, List, length, slice_get, Option, Some, None, Result, Ok, Err, IfErr, if◌then◌else◌}
+use Rattle.std.specs.Option.{option_or, option_and_then}
 use Rattle.lisp_records.specs.Moment.{max_moment}
+use Rattle.lisp_admission.specs.Checks.{secret_at as known_secret}
 use Rattle.lisp_model.specs.Trace.{EventValue}
 use Rattle.lisp_model.specs.declared.event.Event.TheVariants as events
-use Rattle.lisp_refinement.specs.World.{WorldState}
+use Rattle.lisp_refinement.specs.World.{UsedKeysState, is_used, RouterNodeState, WorldState}
+use Rattle.lisp_refinement.specs.Nodes.{router_at}
 use Rattle.lisp_model.specs.declared.world_fault.WorldFault.{WorldFault}
 use Rattle.lisp_model.specs.declared.world_fault.WorldFault.TheVariants as faults
 
@@ -18,7 +21,22 @@ is_server w node = nat_lt node (length w.servers)
 abbrev pub IsRouterPlace : WorldState → ℕ → ℕ → Type 0
 IsRouterPlace w router place = (router ≡ length w.servers + place) × (place < length w.routers)
 
--- the fault of an event: of one node; of a router; of a router and a Map-Server; of a restart; of a datagram; of time
+-- a router used the key since its store was lost last, or before; only before
+abbrev pub used_ever : ℕ → UsedKeysState → Bool
+used_ever key used = is_used used.since_loss key || is_used used.before_loss key
+
+abbrev pub used_before_loss : ℕ → UsedKeysState → Bool
+used_before_loss key used = is_used used.before_loss key
+
+-- a router's site has no such key, or the router used it
+abbrev pub key_fault : WorldState → ℕ → (UsedKeysState → Bool) → RouterNodeState → Option WorldFault
+key_fault w key was_used node =
+    if is_none (known_secret w.sites node.me.site key) then Some faults.UnknownKey
+    else if was_used node.used then Some faults.KeyUsed
+    else None
+
+-- the fault of an event: of one node; of a router; of a router and a key; of a router and a Map-Server; of a restart; of a
+-- datagram; of time
 abbrev pub node_fault : WorldState → ℕ → Option WorldFault
 node_fault w node = if is_missing w node then Some faults.NoNode else None
 
@@ -27,6 +45,22 @@ router_fault w router =
     if is_missing w router then Some faults.NoNode
     else if is_server w router then Some faults.WrongKind
     else None
+
+abbrev pub router_key_fault : WorldState → ℕ → ℕ → (UsedKeysState → Bool) → Option WorldFault
+router_key_fault w router key was_used =
+    option_or (router_fault w router) (option_and_then (key_fault w key was_used) (router_at w router))
+
+-- the place of a router whose site has a key, and its secret
+pub record IsPlaceWithKey (w : WorldState) (router key place : ℕ) (secret : List ℕ) : Type 0 where
+  pub is_place : IsRouterPlace w router place
+  pub none : router_fault w router ≡ None
+  pub node : RouterNodeState
+  pub there : slice_get w.routers place ≡ Some node
+  pub known : known_secret w.sites node.me.site key ≡ Some secret
+
+-- there is none, whatever keys a router used
+abbrev pub RefusesKey : WorldState → ℕ → ℕ → WorldFault → Type 0
+RefusesKey w router key why = (was_used : UsedKeysState → Bool) → router_key_fault w router key was_used ≡ Some why
 
 abbrev pub pair_fault : WorldState → ℕ → ℕ → Option WorldFault
 pair_fault w router server =
@@ -53,6 +87,8 @@ fault_of w (events.Deliver k fate) = datagram_fault w k
 fault_of w (events.Junk to from bytes) = node_fault w to
 fault_of w (events.Tick ms) = tick_fault w ms
 fault_of w (events.Restart node pick db) = restart_fault w node db
+fault_of w (events.Rotate router key fate) = router_key_fault w router key (used_before_loss key)
+fault_of w (events.Lose router key db) = router_key_fault w router key (used_ever key)
 fault_of w (events.Notice server router fate) = pair_fault w router server
 fault_of w (events.Resend server router) = pair_fault w router server
 

@@ -76,6 +76,7 @@ AreMade c seen stores servers routers = AreNodes c (map seen stores) servers rou
 pub record HasStarted (old new : RouterNodeState) : Type 0 where
   pub me : new.me ≡ old.me
   pub servers : new.servers ≡ old.servers
+  pub used : new.used ≡ old.used
   pub starts : NodeStarts old new None 0 (Ok tt)
 
 -- so did each router

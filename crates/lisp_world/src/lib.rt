@@ -5,12 +5,14 @@
 mod change;
 mod deliver;
 mod junk;
+mod lose;
 mod new;
 mod nodes;
 mod notice;
 mod resend;
 mod restart;
 mod room;
+mod rotate;
 mod run;
 mod send;
 mod step;

@@ -61,10 +61,12 @@ impl<S: WorldStore, A: Memory + Copy> World<S, A> {
             return Err(WorldFault::Repeated);
         }
         let addresses = addresses(alloc, config)?;
+        let sites = config.sites().copy(alloc)?;
         let (servers, mut routers) = nodes(alloc, config, &addresses, stores)?;
         start_all(alloc, &mut routers, servers.len())?;
         Ok(World {
             alloc,
+            sites,
             addresses,
             clock: 0,
             bag: Vec::new(alloc),

@@ -1,10 +1,12 @@
 //! The nodes of a network by their numbers and addresses.
 
-ghost use Rattle.std.specs.Prelude.{◌≡◌, ◌<◌, IfOk, length, slice_index_or};
-ghost use Rattle.lisp_world.specs.Faults.{is_missing, is_server, IsRouterPlace, node_fault, router_fault, pair_fault, refusal_of};
+ghost use Rattle.std.specs.Prelude.{◌≡◌, ◌<◌, IfOk, IfErr, length, slice_index_or};
+ghost use Rattle.lisp_world.specs.Faults.{is_missing, is_server, IsRouterPlace, IsPlaceWithKey, node_fault, router_fault, pair_fault, RefusesKey, refusal_of};
 ghost use Rattle.lisp_refinement.specs.Events.{address_of, node_with};
 
 use crate::world::World;
+use lisp_admission::key_at;
+use lisp_hmac::Key;
 use lisp_model::WorldFault;
 use lisp_nonces::WorldStore;
 use lisp_records::Addr;
@@ -62,6 +64,19 @@ impl<S: WorldStore, A: Allocator> World<S, A> {
             return Err(WorldFault::WrongKind);
         }
         Ok(router - self.servers.len())
+    }
+
+    // The place of a router among the routers, and a key of its site.
+    pub(crate) fn place_and_key(&self, router: usize, key: u8) -> Result<(usize, Key), WorldFault>
+        ensures found { IfOk result (λ x. IsPlaceWithKey self.now router key x.0 x.1) }
+        ensures fault { IfErr result (RefusesKey self.now router key) }
+    {
+        let place = self.router_place(router)?;
+        let me = self.routers[place].me();
+        match key_at(&self.sites, me.site, key) {
+            Some(found) => Ok((place, found.copy())),
+            None => Err(WorldFault::UnknownKey),
+        }
     }
 
     // The place of a router among the routers, beside a Map-Server.

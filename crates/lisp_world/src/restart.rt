@@ -2,7 +2,7 @@
 
 ghost use Rattle.std.specs.Prelude.{◌≡◌, ◌≤◌, ◌<◌, None, true, IfOk, OnOk, OnErr, length};
 ghost use Rattle.lisp_model.specs.Memory.{MayTell};
-ghost use Rattle.lisp_model.specs.Legal.{Fits};
+ghost use Rattle.lisp_model.specs.Restarting.{Fits};
 ghost use Rattle.lisp_model.specs.declared.event.Event.TheVariants.{Restart};
 ghost use Rattle.lisp_world.specs.Faults.{is_server, refusal_of, restart_fault};
 ghost use Rattle.lisp_world.specs.Taking.{Takes};
@@ -83,7 +83,7 @@ impl<S: WorldStore, A: Memory + Copy> World<S, A> {
 }
 
 // A database in other memory, where there is one.
-fn copied<A: Memory + Copy, E: Allocator>(
+pub(crate) fn copied<A: Memory + Copy, E: Allocator>(
     alloc: A,
     db: &Option<Database<E>>,
 ) -> Result<Option<Database<A>>, AllocError>

@@ -20,8 +20,9 @@ impl<S: WorldStore, A: Memory + Copy> World<S, A> {
     /// fate for the one call that is made, and with `Done` after it; a node's refusal is a line.
     ///
     /// What keeps it from taking the event is found before the call, in this order, and changes nothing:
-    /// `NoNode`, `WrongKind`, `NoDatagram`, `Clock` (the moment would be above 2^62 ms), `OutOfMemory` (for a
-    /// datagram or a database; every other event takes no memory).
+    /// `NoNode`, `WrongKind`, `UnknownKey` (the router's site has no such key), `KeyUsed` (a rotation to a key that the
+    /// router used before its store was lost last, or a loss with one that it ever used), `NoDatagram`, `Clock` (the
+    /// moment would be above 2^62 ms), `OutOfMemory` (for a datagram or a database; every other event takes no memory).
     pub fn step<E: Allocator>(&mut self, event: &Event<E>) -> Result<Line, WorldFault>
         // It stands for each trace that it stood for, followed by this event with its line.
         ensures stands { IfOk result (StandsAfter self.old self.new (event_value event.now)) }
@@ -54,6 +55,8 @@ impl<S: WorldStore, A: Memory + Copy> World<S, A> {
             Event::Junk { to, from, bytes } => self.junk(*to, *from, bytes.as_slice()),
             Event::Tick(ms) => self.tick(*ms),
             Event::Restart { node, pick, db } => self.restart(*node, *pick, db),
+            Event::Rotate { router, key, fate } => self.rotate(*router, *key, *fate),
+            Event::Lose { router, key, db } => self.lose(*router, *key, db),
             Event::Notice {
                 server,
                 router,

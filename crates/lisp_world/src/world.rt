@@ -9,6 +9,7 @@ use lisp_nodes::{Datagram, RouterNode, ServerNode};
 use lisp_nonces::WorldStore;
 use lisp_records::Addr;
 use lisp_server::Server;
+use lisp_sites::Sites;
 use std::alloc::{Allocator, Global};
 use std::marker::Model;
 
@@ -17,6 +18,8 @@ use std::marker::Model;
 #[derive(Drop)]
 pub struct World<S: WorldStore, A: Allocator = Global> {
     pub(crate) alloc: A,
+    // Those of the configuration, which have the keys that a router may go over to.
+    pub(crate) sites: Sites<A>,
     // Of the nodes, by their numbers.
     pub(crate) addresses: Vec<Addr, A>,
     pub(crate) clock: u64,
@@ -37,7 +40,7 @@ impl<S: WorldStore, A: Allocator> Model for World<S, A> {
 
     ghost coded = { Prim.hlevel (codes, nonces_code, kept_code) };
 
-    ghost view = { λ w. record { addresses = w.addresses.items; clock = w.clock; bag = w.bag.items; servers = w.servers.items; routers = w.routers.items } };
+    ghost view = { λ w. record { sites = w.sites; addresses = w.addresses.items; clock = w.clock; bag = w.bag.items; servers = w.servers.items; routers = w.routers.items } };
 
     ghost invariant = { λ w. (w.clock ≤ max_moment) × (length w.addresses.items ≡ length w.servers.items + length w.routers.items) };
 }

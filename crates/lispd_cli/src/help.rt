@@ -28,11 +28,14 @@ pub(crate) const PLAY_FORM: &str =
   junk NODE ADDRESS HEX          bytes from outside arrive at the node
   tick MS                        time passes
   restart NODE PICK [RECORD ..]  the node crashes and starts; its store keeps value PICK of those in doubt
+  rotate ROUTER KEY              the router goes over to another key of its site
+  lose ROUTER KEY [RECORD ..]    its store loses what it kept; it crashes and starts under a key that it never used
   notice SERVER ROUTER           the Map-Server sends an unsolicited Map-Notify
   resend SERVER ROUTER           and sends it again
   hold SERVER, acks ROUTER, ask SERVER ADDRESS, due NODE
                                  what the node holds, counted, answers, has to send
-`send` and `notice` may end in `doubt`, `deliver` and `notice` in `doubt` or `loadfails`: the node's store fails.
+`send` and `notice` may end in `doubt`, `deliver` and `notice` in `doubt` or `loadfails`, `rotate` in `loadfails`: the node's
+store fails.
 
 Example:
   lispd play examples/schedules/01-exchange.schedule";

@@ -1,5 +1,5 @@
 -- What arrives in the small network: its messages fit, are read back, and pass the checks.
-use Rattle.std.proofs.Common.{Bool, Err, List, None, Ok, Option, Some, [], ap, arith, refl, rules, subst, sym, true, ℕ, ◌∷◌, ◌≡◌}
+use Rattle.std.proofs.Common.{Bool, Err, List, None, Ok, Option, Some, [], ap, arith, refl, rules, subst, sym, true, ℕ, ◌∙◌, ◌∷◌, ◌≡◌}
 use Rattle.std.specs.Prelude.{ok_or, ◌<◌, ◌^◌}
 use Rattle.lisp_hmac.proofs.TagLemmas.{length-tag}
 use Rattle.lisp_records.specs.Address.{masked}
@@ -21,7 +21,7 @@ use Rattle.lisp_admission.specs.Checks.{first_not_allowed, secret_under}
 use Rattle.lisp_admission.specs.Pairs.{notice_pair}
 use Rattle.lisp_model.specs.Bag.{Item, arrival_of, bytes_of, junk_arrival}
 use Rattle.lisp_model.specs.Counted.{notify_at, server_from}
-use Rattle.lisp_model.specs.Trace.{Step}
+use Rattle.lisp_model.specs.Trace.{Step, etr_config_under, key, router_at}
 use Rattle.lisp_model.specs.Story.{got_from, local_at, mapping, network, opening, secret, site, wide}
 use Rattle.lisp_model.proofs.Examples.Samples.{heard_of, registers, told}
 use Rattle.lisp_model.proofs.Examples.Traces.{foreign}
@@ -40,16 +40,18 @@ wide_record ttl low = (omega arith, (record { ttl = low; act = omega arith; vers
 
 -- a Map-Register of the first router passes the checks
 pub admitted : (i : Item) (db : List MapRecordValue) (nonce : ℕ) → i.secret ≡ secret → first_not_allowed site db ≡ None → secret_under network.sites (bytes_of i) (registers db nonce) ≡ Ok secret
-admitted i db nonce key allowed = passes network.sites (bytes_of i) (registers db nonce) site secret refl refl (subst (λ (s : List ℕ). is_authentic (bytes_of i) s ≡ true) key (item_authentic i)) refl allowed
+admitted i db nonce its allowed = passes network.sites (bytes_of i) (registers db nonce) site secret refl refl (subst (λ (s : List ℕ). is_authentic (bytes_of i) s ≡ true) its (item_authentic i)) refl allowed
 
 passed : (s : Option ℕ) (server nonce : ℕ) (records : List MapRecordValue) (b : Bool) → s ≡ Some server → b ≡ true
     → ok_or s NotMine >>= (λ n. check b BadAuth >>= λ _. Ok (heard_of n nonce records)) ≡ Ok (heard_of server nonce records)
 passed s server nonce records b from tag = rw (from, tag) refl
 
 -- from a server it passes the checks of the first router
-pub hears : (from to : Addr) (nonce : ℕ) (records : List MapRecordValue) (server : ℕ) → server_from network 2 from ≡ Some server → (T : List Step) → notify_at opening T 2 (arrival_of (told from to nonce records)) ≡ Ok (heard_of server nonce records)
+pub hears : (from to : Addr) (nonce : ℕ) (records : List MapRecordValue) (server : ℕ) → server_from network 2 from ≡ Some server → (T : List Step) → key opening T 2 ≡ 1 → notify_at opening T 2 (arrival_of (told from to nonce records)) ≡ Ok (heard_of server nonce records)
 unfolding checked_notify
-hears from to nonce records server is T = passed _ server nonce records _ is (item_authentic (told from to nonce records))
+hears from to nonce records server is T under =
+    ap (λ (k : ℕ). checked_notify (etr_config_under network (router_at network 2) k) (bytes_of (told from to nonce records)) (arrival_of (told from to nonce records)).read (server_from network 2 from)) under
+    ∙ passed _ server nonce records _ is (item_authentic (told from to nonce records))
 
 -- what was sent is read back
 pub item_reads : (i : Item) → IsMessage i.message → message_at (bytes_of i) ≡ Ok i.message

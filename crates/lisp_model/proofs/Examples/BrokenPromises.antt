@@ -40,6 +40,7 @@ use Rattle.lisp_model.proofs.Examples.Arrivals.{admitted, hears, registers_read}
 use Rattle.lisp_model.proofs.Examples.NearMisses.Common.{never}
 use Rattle.lisp_model.specs.Story.{at, blank, counts, got_from, keeps, local_at, mapping, network, one, one_counted, one_sent, one_taken, opening, replays, secret, sends, sent_by, step, takes, two, wide}
 use Rattle.lisp_model.proofs.Examples.Samples.{answered, arrived, ends, heard_of, notices, one_left, refuses, registers, row_of, tells, ticks, told_to}
+use Rattle.lisp_model.proofs.Examples.Rotations.{loses, rotating, sends_under, started, takes_under}
 use Rattle.lisp_model.proofs.Examples.Traces.{answered_elsewhere, both_heard, both_sent, both_taken, first_entry, first_told, foreign, foreign_sent, newer_taken, registered_again, restarted, sent_twice, short, was_noticed}
 use Rattle.lisp_model.proofs.ItemLemmas.{item_authentic}
 use Rattle.lisp_model.proofs.KeptLemmas.{kept_at-empty, only_value, set_here}
@@ -145,6 +146,19 @@ latest_by_another leaves = let latest : ◌≡◌ {A = ℕ} 1 0 = (leaves.router
 acked_by_another : LeavesOthers opening one_taken (step (events.Deliver 1 fates.Done) (lines.Counted 2 0 1 1) 3 blank) → ⊥
 acked_by_another leaves = let clash : ◌≡◌ {A = Option (ℕ × ℕ)} (Some (1, 1)) None = (leaves.router 2 refl (λ e. absurd (omega (arith, e)))).acked 0 in absurd cc
 
+-- another one's key, the keys that it used since its store was lost, and before; what it counts from then
+rotated_by_another : LeavesOthers rotating started (step (events.Rotate 2 2 fates.Done) (lines.Rotated 2 2) 3 blank) → ⊥
+rotated_by_another leaves = let key : ◌≡◌ {A = ℕ} 2 1 = (leaves.router 2 refl (λ e. absurd (omega (arith, e)))).key in absurd (omega (arith, key))
+
+used_by_another : LeavesOthers rotating started (step (events.Rotate 2 2 fates.Done) (lines.Rotated 2 2) 3 blank) → ⊥
+used_by_another leaves = let clash : ◌≡◌ {A = List ℕ} (2 ∷ 1 ∷ []) (1 ∷ []) = (leaves.router 2 refl (λ e. absurd (omega (arith, e)))).keys_since_loss in absurd cc
+
+lost_by_another : LeavesOthers rotating started (step (events.Lose 2 3 None) (lines.Emptied 2 3) 3 blank) → ⊥
+lost_by_another leaves = let clash : ◌≡◌ {A = List ℕ} (1 ∷ []) [] = (leaves.router 2 refl (λ e. absurd (omega (arith, e)))).keys_before_loss in absurd cc
+
+counts_anew_by_another : LeavesOthers rotating started (step (events.Rotate 2 2 fates.Done) (lines.Rotated 2 2) 3 blank) → ⊥
+counts_anew_by_another leaves = let clash : ◌≡◌ {A = Option ℕ} None (Some 1) = (leaves.router 2 refl (λ e. absurd (omega (arith, e)))).last_sent in absurd cc
+
 -- what is accepted was sent: to another Map-Server; with other records; twice under one nonce
 abbrev taken_elsewhere : List Step
 taken_elsewhere = takes one_sent 0 1 1 1 ∷ one_sent
@@ -212,6 +226,34 @@ nonce_sent_twice all = by (all 0 (arrived (mapping wide 1440 ∷ []) 1) (at_head
         at (inr later) =
             let is = only_first e later in
             servers e of.only (ap (λ (x : SentRegister). x.router) is) (ap (λ (x : SentRegister). x.key) is) (ap (λ (x : SentRegister). x.nonce) is)
+
+-- once its store was lost, a router goes on under the key that it used, from the first nonce
+abbrev sent_after_loss : List Step
+sent_after_loss = sends_under (loses started 1 ∷ started) 1 1 1 ∷ loses started 1 ∷ started
+
+abbrev third_alike : SentRegister
+third_alike = record first_entry { position = 2 }
+
+nonce_sent_after_a_loss : AcceptedWasSent rotating (takes_under sent_after_loss 0 1 1 2 ∷ sent_after_loss) → ⊥
+nonce_sent_after_a_loss all = by (all 0 (arrived (mapping wide 1440 ∷ []) 1) (at_head (arrived (mapping wide 1440 ∷ []) 1) []))
+  where
+    both : List SentRegister
+    both = third_alike ∷ first_entry ∷ []
+
+    positions : (f : SentRegister) → ((g : SentRegister) → Contains both g → g.router ≡ f.router → g.key ≡ f.key → g.nonce ≡ f.nonce → g ≡ f) → f.router ≡ 2 → f.key ≡ 1 → f.nonce ≡ 1 → ⊥
+    positions f only router key nonce =
+        let same : third_alike ≡ first_entry = only third_alike (0, omega arith, refl) (sym router) (sym key) (sym nonce) ∙ sym (only first_entry (1, omega arith, refl) (sym router) (sym key) (sym nonce)) in
+        let position : ◌≡◌ {A = ℕ} 2 0 = ap (λ (e : SentRegister). e.position) same in
+        absurd (omega (arith, position))
+
+    by : (e : SentRegister) × IsOf rotating (takes_under sent_after_loss 0 1 1 2 ∷ sent_after_loss) 0 (arrived (mapping wide 1440 ∷ []) 1) e → ⊥
+    by (e, of) = at (head_or_tail third_alike (first_entry ∷ []) e of.sent)
+      where
+        at : (e ≡ third_alike) ⊎ Contains (first_entry ∷ []) e → ⊥
+        at (inl is) = positions e of.only (ap (λ (x : SentRegister). x.router) is) (ap (λ (x : SentRegister). x.key) is) (ap (λ (x : SentRegister). x.nonce) is)
+        at (inr later) =
+            let is = only_first e later in
+            positions e of.only (ap (λ (x : SentRegister). x.router) is) (ap (λ (x : SentRegister). x.key) is) (ap (λ (x : SentRegister). x.nonce) is)
 
 -- what is held was sent: to another Map-Server; with another record
 held_elsewhere : HeldWasSent opening taken_elsewhere → ⊥
@@ -383,10 +425,10 @@ not_ended must = not_done (must.done _ _ _ refl refl refl refl refl (item_authen
 
 -- a router calls the reply to its last Map-Register stale, and a notice
 not_counted : Must IsExcused opening one_taken (refuses one_taken (events.Deliver 1 fates.Done) 2 (refusals.Notify (notify_faults.Stale 1))) → ⊥
-not_counted must = not_done (must.counted _ (heard_of 0 1 (mapping wide 1440 ∷ [])) refl refl refl (hears (local_at 11) (local_at 21) 1 (mapping wide 1440 ∷ []) 0 refl one_taken) (omega arith) refl)
+not_counted must = not_done (must.counted _ (heard_of 0 1 (mapping wide 1440 ∷ [])) refl refl refl (hears (local_at 11) (local_at 21) 1 (mapping wide 1440 ∷ []) 0 refl one_taken refl) (omega arith) refl)
 
 not_noticed_yet : Must IsExcused opening first_told (refuses first_told (events.Deliver 2 fates.Done) 2 (refusals.Notify (notify_faults.Stale 1))) → ⊥
-not_noticed_yet must = not_done (must.noticed _ (heard_of 0 (2 ^ 63) (mapping wide 1440 ∷ [])) refl refl refl (hears (local_at 11) (local_at 21) (2 ^ 63) (mapping wide 1440 ∷ []) 0 refl first_told) (omega arith))
+not_noticed_yet must = not_done (must.noticed _ (heard_of 0 (2 ^ 63) (mapping wide 1440 ∷ [])) refl refl refl (hears (local_at 11) (local_at 21) (2 ^ 63) (mapping wide 1440 ∷ []) 0 refl first_told refl) (omega arith))
 
 -- after a restart the next nonce is called a replay
 abbrev sent_after_restart : List Step
@@ -408,10 +450,10 @@ not_down must = not_done (must.send 2 0 fates.Done refl refl refl none_spent)
 
 -- the reply to the last Map-Register to a Map-Server is stale, since another one was sent to another Map-Server
 not_counted_of_each : Must IsExcused opening both_taken (refuses both_taken (events.Deliver 2 fates.Done) 2 (refusals.Notify (notify_faults.Stale 2))) → ⊥
-not_counted_of_each must = not_done (must.counted _ (heard_of 0 1 (mapping wide 1440 ∷ [])) refl refl refl (hears (local_at 11) (local_at 21) 1 (mapping wide 1440 ∷ []) 0 refl both_taken) (omega arith) refl)
+not_counted_of_each must = not_done (must.counted _ (heard_of 0 1 (mapping wide 1440 ∷ [])) refl refl refl (hears (local_at 11) (local_at 21) 1 (mapping wide 1440 ∷ []) 0 refl both_taken refl) (omega arith) refl)
 
 not_counted_of_the_other : Must IsExcused opening both_taken (refuses both_taken (events.Deliver 3 fates.Done) 2 (refusals.Notify (notify_faults.Stale 1))) → ⊥
-not_counted_of_the_other must = not_done (must.counted _ (heard_of 1 2 (mapping wide 1440 ∷ [])) refl refl refl (hears (local_at 12) (local_at 21) 2 (mapping wide 1440 ∷ []) 1 refl both_taken) (omega arith) refl)
+not_counted_of_the_other must = not_done (must.counted _ (heard_of 1 2 (mapping wide 1440 ∷ [])) refl refl refl (hears (local_at 12) (local_at 21) 2 (mapping wide 1440 ∷ []) 1 refl both_taken refl) (omega arith) refl)
 
 -- no excuse: a store's fault though no device failed; memory, where it can't be refused
 unfailed : (0 < 0) ⊎ (◌≡◌ {A = ℕ} 0 (2 ^ 64 - 1)) → ⊥

@@ -203,8 +203,8 @@ asked_of_a_notice : fate_of (events.Notice 0 2 fates.Doubt) ≡ fates.Doubt
 asked_of_a_notice = refl
 
 -- the numbers of what a network doesn't take
-numbers : map world_fault_number (world_faults.NoNode ∷ world_faults.WrongKind ∷ world_faults.NoDatagram ∷ world_faults.Clock ∷ world_faults.Repeated ∷ world_faults.OutOfMemory ∷ world_faults.Start 2 start_faults.OutOfMemory ∷ [])
-    ≡ 70 ∷ 71 ∷ 72 ∷ 73 ∷ 74 ∷ 75 ∷ 76 ∷ []
+numbers : map world_fault_number (world_faults.NoNode ∷ world_faults.WrongKind ∷ world_faults.NoDatagram ∷ world_faults.Clock ∷ world_faults.Repeated ∷ world_faults.OutOfMemory ∷ world_faults.Start 2 start_faults.OutOfMemory ∷ world_faults.KeyUsed ∷ world_faults.UnknownKey ∷ [])
+    ≡ 70 ∷ 71 ∷ 72 ∷ 73 ∷ 74 ∷ 75 ∷ 76 ∷ 77 ∷ 78 ∷ []
 numbers = refl
 
 -- a router's settings are those of its configuration

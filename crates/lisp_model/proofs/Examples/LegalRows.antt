@@ -37,13 +37,13 @@ use Rattle.lisp_model.proofs.KeptLemmas.{empty_full, insert_full, only_value, se
 use Rattle.lisp_model.proofs.ContextLemmas.{doubted_end, doubted_new, doubted_old, fresh_value, other_value, set_value}
 
 pub one_sent_legal : LegalTrace opening one_sent
-one_sent_legal = (sends_legal [] 0 1 0 None refl refl refl (fresh_value (sent_by one)) refl (omega arith) (wide_record 1440 (omega arith)) refl, tt)
+one_sent_legal = (sends_legal [] 0 1 0 None refl refl refl refl (fresh_value (sent_by one)) refl (omega arith) (wide_record 1440 (omega arith)) refl, tt)
 
 pub one_taken_legal : LegalTrace opening one_taken
 one_taken_legal = (takes_legal one_sent 0 0 1 1 _ _ None refl refl refl refl refl refl (fresh_value (got_from one)) tt refl, one_sent_legal)
 
 pub acceptance : LegalTrace opening one_counted
-acceptance = (counts_legal one_taken 1 0 1 _ _ refl refl refl (omega arith) refl, one_taken_legal)
+acceptance = (counts_legal one_taken 1 0 1 _ _ refl refl refl refl (omega arith) refl, one_taken_legal)
 
 -- the datagram arrives again
 pub replay : LegalTrace opening (replays one_taken 0 0 1 ∷ one_taken)
@@ -55,7 +55,7 @@ short_database = refl
 
 two_sent_legal : LegalTrace opening two_sent
 two_sent_legal = (
-  sends_legal (changes one_sent short ∷ one_sent) 0 2 1 (Some 1) refl refl refl refl refl (omega arith) (wide_record 60 (omega arith)) refl,
+  sends_legal (changes one_sent short ∷ one_sent) 0 2 1 (Some 1) refl refl refl refl refl refl (omega arith) (wide_record 60 (omega arith)) refl,
   (
     changes_legal one_sent short short_database refl,
     one_sent_legal,
@@ -81,11 +81,11 @@ restart_holds_nothing : held_row (since_start opening restarted 0) one wide 0 �
 restart_holds_nothing = refl
 
 doubted_legal : LegalTrace opening doubted
-doubted_legal = (doubts_send_legal one_sent 0 (Some 1) refl refl refl refl (omega arith) refl, one_sent_legal)
+doubted_legal = (doubts_send_legal one_sent 0 (Some 1) refl refl refl refl refl (omega arith) refl, one_sent_legal)
 
 pub doubtful_send : LegalTrace opening (sends forgot 0 2 1 ∷ forgot)
 doubtful_send = (
-  sends_legal forgot 0 2 1 (Some 1) refl refl refl (set_value _ _ _) refl (omega arith) (wide_record 1440 (omega arith)) refl,
+  sends_legal forgot 0 2 1 (Some 1) refl refl refl refl (set_value _ _ _) refl (omega arith) (wide_record 1440 (omega arith)) refl,
   (
     restarts_to_legal doubted 2 (sent_by one) (Some 1) (inr refl) (doubted_old _ _ 2 (Some 1) (set_value _ _ _)) (insert_full _ _ _ (set_full _ _ _ empty_full) (Some 2, doubted_end _ 2)) refl,
     doubted_legal,
@@ -94,7 +94,7 @@ doubtful_send = (
 
 pub doubtful_send_kept : LegalTrace opening (sends kept_it 0 3 1 ∷ kept_it)
 doubtful_send_kept = (
-  sends_legal kept_it 0 3 1 (Some 2) refl refl refl (set_value _ _ _) refl (omega arith) (wide_record 1440 (omega arith)) refl,
+  sends_legal kept_it 0 3 1 (Some 2) refl refl refl refl (set_value _ _ _) refl (omega arith) (wide_record 1440 (omega arith)) refl,
   (
     restarts_to_legal doubted 2 (sent_by one) (Some 2) (inr refl) (doubted_new _ _ 2) (insert_full _ _ _ (set_full _ _ _ empty_full) (Some 2, doubted_end _ 2)) refl,
     doubted_legal,
@@ -146,7 +146,7 @@ two_servers = (
   (
     takes_legal both_sent 0 0 1 2 _ _ None refl refl refl refl refl refl (fresh_value (got_from one)) tt refl,
     (
-      sends_legal one_sent 1 2 1 (Some 1) refl refl refl refl refl (omega arith) (wide_record 1440 (omega arith)) refl,
+      sends_legal one_sent 1 2 1 (Some 1) refl refl refl refl refl refl (omega arith) (wide_record 1440 (omega arith)) refl,
       one_sent_legal,
     ),
   ),
@@ -161,7 +161,7 @@ waited_legal = (ticks_legal first_told 3000 3000 refl (omega arith), first_told_
 was_noticed_legal : LegalTrace opening was_noticed
 unfolding due_after
 was_noticed_legal = (
-  notices_legal told_again 3 (2 ^ 63) 4 _ refl refl (omega arith) refl,
+  notices_legal told_again 3 (2 ^ 63) 4 _ refl refl refl (omega arith) refl,
   (
     repeats_legal waited 3 refl refl,
     waited_legal,
@@ -179,7 +179,7 @@ pub older_notice_ended : LegalTrace opening (refuses older_noticed (events.Deliv
 older_notice_ended = (
   record { faults = omega arith; obedient = refl; row = record { item = answered (2 ^ 63) (mapping wide 1440 ∷ []); sent = refl; there = refl; arrives = (record { kind = refl; acts = refl }, (refl, refl)) } },
   (
-    notices_legal told_anew 2 (2 ^ 63) 4 _ refl refl (omega arith) refl,
+    notices_legal told_anew 2 (2 ^ 63) 4 _ refl refl refl (omega arith) refl,
     (tells_legal first_told (2 ^ 63 + 1) 3 _ (Some (2 ^ 63)) refl refl refl refl refl (omega arith) refl, first_told_legal),
   ),
 )
@@ -193,10 +193,10 @@ stale = (
       item = told (local_at 11) (local_at 21) 1 (mapping wide 1440 ∷ []);
       sent = refl;
       there = refl;
-      arrives = record { acts = record { kind = refl; acts = refl; state = refl }; same = refl; comes = inl (rw (hears (local_at 11) (local_at 21) 1 (mapping wide 1440 ∷ []) 0 refl sent_twice) refl) };
+      arrives = record { acts = record { kind = refl; acts = refl; state = refl }; same = refl; comes = inl (rw (hears (local_at 11) (local_at 21) 1 (mapping wide 1440 ∷ []) 0 refl sent_twice refl) refl) };
     };
   },
-  (sends_legal one_taken 0 2 2 (Some 1) refl refl refl refl refl (omega arith) (wide_record 1440 (omega arith)) refl, one_taken_legal),
+  (sends_legal one_taken 0 2 2 (Some 1) refl refl refl refl refl refl (omega arith) (wide_record 1440 (omega arith)) refl, one_taken_legal),
 )
 
 -- a router sends to a server that it isn't told
@@ -224,7 +224,7 @@ unfolding written repeats_in masked
 foreign_database = refl
 
 pub foreign_sent_legal : LegalTrace opening foreign_sent
-foreign_sent_legal = (sends_legal (changes [] foreign ∷ []) 0 1 0 None refl refl refl (fresh_value (sent_by one)) refl (omega arith) foreign_fits refl, (changes_legal [] foreign foreign_database refl, tt))
+foreign_sent_legal = (sends_legal (changes [] foreign ∷ []) 0 1 0 None refl refl refl refl (fresh_value (sent_by one)) refl (omega arith) foreign_fits refl, (changes_legal [] foreign foreign_database refl, tt))
 
 pub foreign_refused : LegalTrace opening (refuses foreign_sent (events.Deliver 0 fates.Done) 0 (refusals.Receive (refuseds.NotAllowed 1)) ∷ foreign_sent)
 foreign_refused = (refuses_record foreign_sent 0 0 1 1 _ _ refl refl refl refl refl strange_refused, foreign_sent_legal)
@@ -238,7 +238,7 @@ nothing_to_tell = (record { faults = omega arith; obedient = refl; row = (refl, 
 pub registered_again_legal : LegalTrace opening registered_again
 registered_again_legal = (
   takes_legal sent_after 3 0 2 4 _ _ (Some 1) refl refl refl refl refl refl (other_value _ notice_pair (got_from one) _ (Some 1) (λ e. absurd (kinds_differ (sym e))) (set_value _ _ _)) (omega arith) refl,
-  (sends_legal told_and_gone 0 2 3 (Some 1) refl refl refl refl refl (omega arith) (wide_record 1440 (omega arith)) refl, told_and_gone_legal),
+  (sends_legal told_and_gone 0 2 3 (Some 1) refl refl refl refl refl refl (omega arith) (wide_record 1440 (omega arith)) refl, told_and_gone_legal),
 )
 
 pub notices_go_on : LegalTrace opening (tells registered_again (2 ^ 63 + 1) 5 ∷ registered_again)
@@ -249,7 +249,7 @@ not_started_legal = (record { faults = omega arith; obedient = refl; row = recor
 
 pub down_and_up : LegalTrace opening (sends (restarts (is_down ∷ not_started) 2 ∷ is_down ∷ not_started) 0 2 1 ∷ restarts (is_down ∷ not_started) 2 ∷ is_down ∷ not_started)
 down_and_up = (
-  sends_legal (restarts (is_down ∷ not_started) 2 ∷ is_down ∷ not_started) 0 2 1 (Some 1) refl refl refl (set_value _ _ _) refl (omega arith) (wide_record 1440 (omega arith)) refl,
+  sends_legal (restarts (is_down ∷ not_started) 2 ∷ is_down ∷ not_started) 0 2 1 (Some 1) refl refl refl refl (set_value _ _ _) refl (omega arith) (wide_record 1440 (omega arith)) refl,
   (
     restarts_legal (is_down ∷ not_started) 2 (inr refl) (set_full _ _ _ empty_full) refl,
     (record { faults = omega arith; obedient = refl; row = record { acts = record { kind = refl; acts = refl; state = refl }; names = refl; same = refl } }, not_started_legal),
@@ -275,7 +275,7 @@ lost = record {
 
 -- each Map-Server's reply counts, though a Map-Register went to the other one since
 pub counted_of_each : Legal opening both_taken (counts both_taken 2 0 1)
-counted_of_each = counts_legal both_taken 2 0 1 _ _ refl refl refl (omega arith) refl
+counted_of_each = counts_legal both_taken 2 0 1 _ _ refl refl refl refl (omega arith) refl
 
 -- the clock goes to its end; the last nonce of the routers counts; nonces are spent, and those of notices
 pub to_the_end : Legal opening [] (ticks [] max_moment max_moment)
@@ -285,7 +285,7 @@ abbrev last_taken : List Step
 last_taken = step (events.Deliver 0 fates.Done) (lines.Accepted 0 one 1 last_nonce (Some 1)) 0 blank ∷ step (events.Send 2 0 fates.Done) (lines.Sent 2 0 1 last_nonce 0) 2 blank ∷ []
 
 pub last_counts : Legal opening last_taken (counts last_taken 1 0 last_nonce)
-last_counts = counts_legal last_taken 1 0 last_nonce _ _ refl refl refl (omega arith) refl
+last_counts = counts_legal last_taken 1 0 last_nonce _ _ refl refl refl refl (omega arith) refl
 
 pub spent_told : Legal spent [] (step (events.Send 2 0 fates.Done) (lines.Refused 2 (refusals.Send send_faults.NonceSpent)) 2 (keeps blank (sent_by one) (2 ^ 63 - 1)))
 spent_told = record { faults = omega arith; obedient = refl; row = (refl, refl, record { kind = refl; acts = refl; state = refl }, (refl, (Some (2 ^ 63 - 1), set_value _ _ _, omega arith), refl)) }

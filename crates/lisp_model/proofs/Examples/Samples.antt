@@ -1,6 +1,6 @@
 -- Steps, messages and stores of the small network of the story, beside those that the story has.
 use Rattle.std.proofs.Common.{List, None, Option, Some, [], false, true, ℕ, ◌-◌, ◌^◌, ◌∷◌}
-use Rattle.std.specs.FinMap.{empty, insert}
+use Rattle.std.specs.FinMap.{insert}
 use Rattle.std.specs.Prelude.{length, ◌++◌, ◌+◌}
 use Rattle.lisp_records.specs.Address.{PrefixValue}
 use Rattle.lisp_records.specs.Record.{MapRecordValue}
@@ -8,7 +8,6 @@ use Rattle.lisp_records.specs.Row.{RowValue}
 use Rattle.lisp_records.specs.declared.address.Addr.{Addr}
 use Rattle.lisp_records.specs.declared.address.Addr.TheVariants.{V4}
 use Rattle.lisp_records.specs.declared.router.RouterId.{RouterId}
-use Rattle.lisp_policy.specs.Configuration.{ConfigValue}
 use Rattle.lisp_nonces.specs.Kept.{kept_at}
 use Rattle.lisp_nonces.specs.declared.fate.Fate.TheVariants as fates
 use Rattle.lisp_nonces.specs.declared.fault.StoreFault.TheVariants as stores
@@ -23,9 +22,8 @@ use Rattle.lisp_model.specs.Bag.{Item}
 use Rattle.lisp_model.specs.Held.{Acceptance}
 use Rattle.lisp_model.specs.Story.{at, blank, got_from, keeps, local_at, network, one, opening, secret, sent_by, site, step}
 use Rattle.lisp_model.specs.Timers.{Notice}
-use Rattle.lisp_model.specs.Trace.{EventValue, Opening, ShownStore, Step, router_at, etr_config_of, shown_store}
+use Rattle.lisp_model.specs.Trace.{EventValue, Opening, ShownStore, Step, router_at, etr_config_of}
 use Rattle.lisp_model.specs.declared.event.Event.TheVariants as events
-use Rattle.lisp_model.specs.declared.line.Line.{Line}
 use Rattle.lisp_model.specs.declared.line.Line.TheVariants as lines
 use Rattle.lisp_model.specs.declared.refusal.Refusal.{Refusal}
 use Rattle.lisp_model.specs.declared.refusal.Refusal.TheVariants as refusals

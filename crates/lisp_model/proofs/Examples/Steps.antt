@@ -13,9 +13,9 @@ use Rattle.lisp_nonces.specs.declared.fate.Fate.TheVariants as fates
 use Rattle.lisp_nonces.specs.declared.fault.StoreFault.TheVariants as stores
 use Rattle.lisp_nonces.specs.declared.pair.Pair.{Pair}
 use Rattle.lisp_messages.specs.Authentic.{is_authentic}
-use Rattle.lisp_messages.specs.Message.{AreRecords, Registers, MessageValue}
+use Rattle.lisp_messages.specs.Message.{AreRecords, IsMapRegister, Registers, MessageValue}
 use Rattle.lisp_etr.specs.Hearing.{first_notice, is_latest}
-use Rattle.lisp_etr.specs.Sending.{block_end, last_nonce}
+use Rattle.lisp_etr.specs.Sending.{block_end, last_nonce, map_register_of}
 use Rattle.lisp_admission.specs.Checks.{first_not_allowed}
 use Rattle.lisp_admission.specs.Nonces.{IsBelow, nonce_after}
 use Rattle.lisp_admission.specs.Pairs.{notice_pair}
@@ -27,9 +27,10 @@ use Rattle.lisp_model.specs.Legal.{Legal, context_of}
 use Rattle.lisp_model.specs.Receiving.{FailsCheck, awaiting}
 use Rattle.lisp_model.specs.Sending.{CountsFrom}
 use Rattle.lisp_model.specs.Timers.{Notice, due, is_due, last_notice, notice_to}
-use Rattle.lisp_model.specs.Trace.{Step, clock, database, is_listed, is_router, is_server, is_up, node_at}
+use Rattle.lisp_model.specs.Trace.{Step, clock, database, etr_config_under, key as key_of, router_at, is_listed, is_router, is_server, is_up, node_at}
 use Rattle.lisp_model.specs.Context.{IsBase, SaveFails, Saves}
 use Rattle.lisp_model.specs.declared.event.Event.TheVariants as events
+use Rattle.lisp_model.specs.declared.line.Line.TheVariants as lines
 use Rattle.lisp_model.specs.declared.refusal.Refusal.TheVariants as refusals
 use Rattle.lisp_model.proofs.Examples.Arrivals.{admitted, fits, hears}
 use Rattle.lisp_model.specs.Story.{at, counts, got_from, local_at, mapping, network, one, opening, replays, restarts, secret, sends, sent_by, site, takes, wide}
@@ -39,12 +40,12 @@ use Rattle.lisp_model.proofs.KeptLemmas.{IsFull, narrows, set_here, set_others, 
 use Rattle.lisp_model.proofs.ContextLemmas.{in_doubt, saved}
 
 -- a router that saves each nonce by itself
-block_of_one : (nonce : ℕ) → nonce ≤ last_nonce → block_end nonce 1 ≡ nonce
+pub block_of_one : (nonce : ℕ) → nonce ≤ last_nonce → block_end nonce 1 ≡ nonce
 block_of_one nonce low = omega (arith, low)
 
-pub sends_legal : (T : List Step) (server nonce datagram : ℕ) (base : Option ℕ) → is_up T 2 ≡ true → is_server network server ≡ true → is_listed network 2 server ≡ true → CountsFrom opening T 2 base → nonce ≡ number base + 1 → nonce < 2 ^ 63
+pub sends_legal : (T : List Step) (server nonce datagram : ℕ) (base : Option ℕ) → key_of opening T 2 ≡ 1 → is_up T 2 ≡ true → is_server network server ≡ true → is_listed network 2 server ≡ true → CountsFrom opening T 2 base → nonce ≡ number base + 1 → nonce < 2 ^ 63
     → AreRecords (database opening T 2) → datagram ≡ length (bag opening T) → Legal opening T (sends T server nonce datagram)
-sends_legal T server nonce datagram base up kind listed counts next low records place = record {
+sends_legal T server nonce datagram base key up kind listed counted next low records place = record {
   faults = omega arith;
   obedient = refl;
   row = (
@@ -54,14 +55,14 @@ sends_legal T server nonce datagram base up kind listed counts next low records 
       acts = record { kind = refl; acts = refl; state = up };
       kind = kind;
       listed = listed;
-      under = refl;
+      under = sym key;
       base = base;
-      counts = counts;
+      counts = counted;
       next = next;
       within = omega (arith, low);
-      message = fits (database opening T 2) nonce (omega (arith, low)) records;
+      message = subst (λ (k : ℕ). IsMapRegister (map_register_of (etr_config_under network (router_at network 2) k) (database opening T 2) nonce)) (sym key) (fits (database opening T 2) nonce (omega (arith, low)) records);
       place = place;
-      saves = subst (Saves _ (sent_by one) nonce) (sym (block_of_one nonce (omega (arith, low)))) (saved _ (sent_by one) nonce (λ obeys clash. absurd cc) refl);
+      saves = subst (λ (k : ℕ). Saves (context_of opening T (sends T server nonce datagram)) (record (sent_by one) { key = k }) nonce (block_end nonce 1)) (sym key) (subst (Saves (context_of opening T (sends T server nonce datagram)) (sent_by one) nonce) (sym (block_of_one nonce (omega (arith, low)))) (saved _ (sent_by one) nonce (λ obeys clash. absurd cc) refl));
     },
   );
 }
@@ -124,16 +125,16 @@ not_above m n low = at (nat_le m n) refl
     at false is = is
     at true is = let above = leb-true m n is in absurd (omega (arith, low, above))
 
-pub counts_legal : (T : List Step) (k server nonce : ℕ) (from : Addr) (records : List MapRecordValue) → is_up T 2 ≡ true → slice_get (bag opening T) k ≡ Some (told from (local_at 21) nonce records)
+pub counts_legal : (T : List Step) (k server nonce : ℕ) (from : Addr) (records : List MapRecordValue) → key_of opening T 2 ≡ 1 → is_up T 2 ≡ true → slice_get (bag opening T) k ≡ Some (told from (local_at 21) nonce records)
     → server_from network 2 from ≡ Some server → nonce < first_notice → is_latest nonce (latest_nonce T 2 server) ≡ true → Legal opening T (counts T k server nonce)
-counts_legal T k server nonce from records up sent is low last = record {
+counts_legal T k server nonce from records key up sent is low last = record {
   faults = omega arith;
   obedient = refl;
   row = record {
     item = told from (local_at 21) nonce records;
     sent = sent;
     there = refl;
-    arrives = record { acts = record { kind = refl; acts = refl; state = up }; same = refl; comes = inl (rw (hears from (local_at 21) nonce records server is T, not_above first_notice nonce low, last) refl) };
+    arrives = record { acts = record { kind = refl; acts = refl; state = up }; same = refl; comes = inl (rw (hears from (local_at 21) nonce records server is T key, not_above first_notice nonce low, last) (ap (λ (k : ℕ). lines.Counted 2 server k nonce) (sym key))) };
   };
 }
 
@@ -143,12 +144,12 @@ changes_legal T db fits up = record { faults = omega arith; obedient = refl; row
 pub ticks_legal : (T : List Step) (ms now : ℕ) → now ≡ clock T + ms → now ≤ max_moment → Legal opening T (ticks T ms now)
 ticks_legal T ms now is low = record { faults = omega arith; obedient = refl; row = record { names = refl; clock = is; bound = low; idle = record { server = refl; router = refl; same = refl } } }
 
-pub doubts_send_legal : (T : List Step) (server : ℕ) (base : Option ℕ) → is_up T 2 ≡ true → is_server network server ≡ true → is_listed network 2 server ≡ true → CountsFrom opening T 2 base → number base < last_nonce → (at T 2).is_obedient ≡ false
+pub doubts_send_legal : (T : List Step) (server : ℕ) (base : Option ℕ) → key_of opening T 2 ≡ 1 → is_up T 2 ≡ true → is_server network server ≡ true → is_listed network 2 server ≡ true → CountsFrom opening T 2 base → number base < last_nonce → (at T 2).is_obedient ≡ false
     → Legal opening T (doubts_send T server (number base + 1))
-doubts_send_legal T server base up kind listed counted left unbound = record {
+doubts_send_legal T server base key up kind listed counted left unbound = record {
   faults = omega arith;
   obedient = refl;
-  row = (refl, kind, record { kind = refl; acts = refl; state = up }, (listed, record { base = base; counts = counted; left = left; fails = subst (λ (n : ℕ). SaveFails (context_of opening T (doubts_send T server (number base + 1))) (sent_by one) n stores.Device) (sym (block_of_one (number base + 1) (omega (arith, left)))) (in_doubt (context_of opening T (doubts_send T server (number base + 1))) (sent_by one) (number base + 1) unbound refl (omega arith)) }));
+  row = (refl, kind, record { kind = refl; acts = refl; state = up }, (listed, record { base = base; counts = counted; left = left; fails = subst (λ (k : ℕ). SaveFails (context_of opening T (doubts_send T server (number base + 1))) (record (sent_by one) { key = k }) (block_end (number base + 1) 1) stores.Device) (sym key) (subst (λ (n : ℕ). SaveFails (context_of opening T (doubts_send T server (number base + 1))) (sent_by one) n stores.Device) (sym (block_of_one (number base + 1) (omega (arith, left)))) (in_doubt (context_of opening T (doubts_send T server (number base + 1))) (sent_by one) (number base + 1) unbound refl (omega arith))) }));
 }
 
 pub doubts_take_legal : (T : List Step) (k server nonce : ℕ) (i : Item) (db : List MapRecordValue) (base : Option ℕ) → slice_get (bag opening T) k ≡ Some i → node_at network i.to ≡ Some server → is_server network server ≡ true
@@ -260,15 +261,15 @@ tells_legal T nonce datagram last base held_row notify_at key counts next bound 
 pub repeats_legal : (T : List Step) (datagram : ℕ) → is_due (notice_to opening T 0 one) (clock T) ≡ true → datagram ≡ length (bag opening T) → Legal opening T (repeats T datagram)
 repeats_legal T datagram due place = record { faults = omega arith; obedient = refl; row = (refl, refl, record { acts = record { kind = refl; acts = refl }; kind = refl; due = due; place = place; same = refl }) }
 
-pub notices_legal : (T : List Step) (k nonce datagram : ℕ) (records : List MapRecordValue) → is_up T 2 ≡ true → slice_get (bag opening T) k ≡ Some (told (local_at 11) (local_at 21) nonce records) → first_notice ≤ nonce → datagram ≡ length (bag opening T) → Legal opening T (notices T k nonce datagram)
-notices_legal T k nonce datagram records up sent high place = record {
+pub notices_legal : (T : List Step) (k nonce datagram : ℕ) (records : List MapRecordValue) → key_of opening T 2 ≡ 1 → is_up T 2 ≡ true → slice_get (bag opening T) k ≡ Some (told (local_at 11) (local_at 21) nonce records) → first_notice ≤ nonce → datagram ≡ length (bag opening T) → Legal opening T (notices T k nonce datagram)
+notices_legal T k nonce datagram records key up sent high place = record {
   faults = omega arith;
   obedient = refl;
   row = record {
     item = told (local_at 11) (local_at 21) nonce records;
     sent = sent;
     there = refl;
-    arrives = record { acts = record { kind = refl; acts = refl; state = up }; same = refl; comes = inl (rw (hears (local_at 11) (local_at 21) nonce records 0 refl T, le-leb first_notice nonce high, place) refl) };
+    arrives = record { acts = record { kind = refl; acts = refl; state = up }; same = refl; comes = inl (rw (hears (local_at 11) (local_at 21) nonce records 0 refl T key, le-leb first_notice nonce high, place) refl) };
   };
 }
 

@@ -1,5 +1,5 @@
 -- The story is a legal trace.
-use Rattle.std.proofs.Common.{rules, List, Some, [], arith, inl, refl, ◌∷◌}
+use Rattle.std.proofs.Common.{Some, arith, inl, refl}
 use Rattle.lisp_model.specs.Legal.{LegalTrace}
 use Rattle.lisp_model.specs.Story.{one_counted, opening, replay_refused, server_restarted, six_steps}
 use Rattle.lisp_model.proofs.Examples.Arrivals.{wide_record}
@@ -15,4 +15,4 @@ replay_legal : LegalTrace opening replay_refused
 replay_legal = (replays_legal server_restarted 0 0 1 1 _ _ refl refl refl refl refl refl (set_value _ _ _) (omega arith), restarted_legal)
 
 pub six_steps_legal : LegalTrace opening six_steps
-six_steps_legal = (sends_legal replay_refused 0 2 2 (Some 1) refl refl refl refl refl (omega arith) (wide_record 1440 (omega arith)) refl, replay_legal)
+six_steps_legal = (sends_legal replay_refused 0 2 2 (Some 1) refl refl refl refl refl refl (omega arith) (wide_record 1440 (omega arith)) refl, replay_legal)

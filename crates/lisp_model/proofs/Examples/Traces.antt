@@ -14,7 +14,7 @@ use Rattle.lisp_model.specs.Trace.{Step, clock}
 use Rattle.lisp_model.specs.declared.event.Event.TheVariants as events
 use Rattle.lisp_model.specs.declared.line.Line.TheVariants as lines
 use Rattle.lisp_model.specs.declared.refusal.Refusal.TheVariants as refusals
-use Rattle.lisp_model.specs.Story.{at, blank, counts, got_from, keeps, local_at, mapping, narrow, one, one_counted, one_sent, one_taken, opening, restarts, sends, sent_by, step, takes, two, wide}
+use Rattle.lisp_model.specs.Story.{at, blank, got_from, keeps, local_at, mapping, narrow, one, one_counted, one_sent, one_taken, opening, restarts, sends, sent_by, step, takes, two, wide}
 use Rattle.lisp_model.proofs.Examples.Samples.{changes, doubts_send, doubts_take, ends, failed, notices, repeats, restarts_to, strange, tells, ticks}
 
 -- an older datagram arrives after a newer one

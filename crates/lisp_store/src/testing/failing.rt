@@ -2,10 +2,10 @@
 
 ghost use Rattle.std.specs.Prelude.{◌≡◌, ◌-◌, [], ◌∷◌, Some, Ok, Err, IfOk, IfErr, OnOk, OnErr, IsErrOf, IsTrue, ◌≢◌, if◌then◌else◌};
 ghost use Rattle.std.specs.List.{Contains};
-ghost use Rattle.lisp_nonces.specs.Kept.{kept_at, SameElsewhere, PicksEach, NarrowsEach};
+ghost use Rattle.lisp_nonces.specs.Kept.{kept_at, SameElsewhere, PicksEach, NarrowsEach, KeepsSome};
 ghost use Rattle.lisp_nonces.specs.Store.{Proceeds};
 ghost use Rattle.lisp_nonces.specs.Memory.{MemoryStoreState, failed_once, empty_memory, HasMemory};
-ghost use Rattle.lisp_store.specs.Failing.{FailingState, failing_state, fails, failing_load, failing_after_load, failing_save, failing_faults, SeenAsBefore, DeviceFailed, FailsByDevice, memory_counted, failing_armed, SavesUnlessFailing, LeavesInDoubt};
+ghost use Rattle.lisp_store.specs.Failing.{FailingState, failing_state, fails, failing_load, failing_after_load, failing_save, failing_faults, SeenAsBefore, DeviceFailed, FailsByDevice, memory_counted, failing_armed, failing_lost, SavesUnlessFailing, LeavesInDoubt};
 ghost use Rattle.lisp_nonces.specs.declared.fault.StoreFault.{StoreFault};
 
 use lisp_memory::Memory;
@@ -131,5 +131,17 @@ impl<A: Memory + Copy> WorldStore for Failing<A> {
         ensures proceeds { Proceeds (failing_state self.old) (failing_state self.new) }
     {
         self.memory.restart(pick);
+    }
+
+    /// Loses what the store in memory kept.
+    fn lose(&mut self)
+        // Exactly.
+        ensures exactly { self.new ≡ failing_lost self.old }
+
+        // What every store promises.
+        ensures some { KeepsSome self.new.memory.kept }
+        ensures proceeds { Proceeds (failing_state self.old) (failing_state self.new) }
+    {
+        self.memory.lose();
     }
 }

@@ -68,4 +68,9 @@ impl<A: Allocator> WorldStore for Liar<A> {
     fn restart(&mut self, _pick: u64)
         ensures same { self.new ≡ self.old }
     {}
+
+    /// Does nothing.
+    fn lose(&mut self)
+        ensures same { self.new ≡ self.old }
+    {}
 }

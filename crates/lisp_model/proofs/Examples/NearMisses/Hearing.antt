@@ -25,7 +25,7 @@ use Rattle.lisp_model.proofs.HeardLines.{comes_to}
 counted_from_other : Legal opening one_taken (counts one_taken 1 1 1) → ⊥
 counted_from_other l =
     let item : told (local_at 11) (local_at 21) 1 (mapping wide 1440 ∷ []) ≡ l.row.item = cc in
-    by (comes_to _ (arrival_of l.row.item) (heard_of 0 1 (mapping wide 1440 ∷ [])) (subst (λ (i : Item). notify_at opening one_taken 2 (arrival_of i) ≡ Ok (heard_of 0 1 (mapping wide 1440 ∷ []))) item (hears (local_at 11) (local_at 21) 1 (mapping wide 1440 ∷ []) 0 refl one_taken)) _ l.row.arrives)
+    by (comes_to _ (arrival_of l.row.item) (heard_of 0 1 (mapping wide 1440 ∷ [])) (subst (λ (i : Item). notify_at opening one_taken 2 (arrival_of i) ≡ Ok (heard_of 0 1 (mapping wide 1440 ∷ []))) item (hears (local_at 11) (local_at 21) 1 (mapping wide 1440 ∷ []) 0 refl one_taken refl)) _ l.row.arrives)
   where
     by : (lines.Counted 2 1 1 1 ≡ lines.Counted 2 0 1 1) ⊎ (lines.Counted 2 1 1 1 ≡ lines.Refused 2 (refusals.Notify notify_faults.OutOfMemory)) → ⊥
     by (inl is) = let server : ◌≡◌ {A = ℕ} 1 0 = cc in absurd (omega (arith, server))
@@ -35,7 +35,7 @@ counted_from_other l =
 counted_stale : Legal opening sent_twice (counts sent_twice 1 0 1) → ⊥
 counted_stale l =
     let item : told (local_at 11) (local_at 21) 1 (mapping wide 1440 ∷ []) ≡ l.row.item = cc in
-    by (comes_to _ (arrival_of l.row.item) (heard_of 0 1 (mapping wide 1440 ∷ [])) (subst (λ (i : Item). notify_at opening sent_twice 2 (arrival_of i) ≡ Ok (heard_of 0 1 (mapping wide 1440 ∷ []))) item (hears (local_at 11) (local_at 21) 1 (mapping wide 1440 ∷ []) 0 refl sent_twice)) _ l.row.arrives)
+    by (comes_to _ (arrival_of l.row.item) (heard_of 0 1 (mapping wide 1440 ∷ [])) (subst (λ (i : Item). notify_at opening sent_twice 2 (arrival_of i) ≡ Ok (heard_of 0 1 (mapping wide 1440 ∷ []))) item (hears (local_at 11) (local_at 21) 1 (mapping wide 1440 ∷ []) 0 refl sent_twice refl)) _ l.row.arrives)
   where
     by : (lines.Counted 2 0 1 1 ≡ lines.Refused 2 (refusals.Notify (notify_faults.Stale 2))) ⊎ (lines.Counted 2 0 1 1 ≡ lines.Refused 2 (refusals.Notify notify_faults.OutOfMemory)) → ⊥
     by (inl is) = absurd cc
@@ -45,7 +45,7 @@ counted_stale l =
 noticed_elsewhere : Legal opening told_again (notices told_again 3 (2 ^ 63) 5) → ⊥
 noticed_elsewhere l =
     let item : told (local_at 11) (local_at 21) (2 ^ 63) (mapping wide 1440 ∷ []) ≡ l.row.item = cc in
-    by (comes_to _ (arrival_of l.row.item) (heard_of 0 (2 ^ 63) (mapping wide 1440 ∷ [])) (subst (λ (i : Item). notify_at opening told_again 2 (arrival_of i) ≡ Ok (heard_of 0 (2 ^ 63) (mapping wide 1440 ∷ []))) item (hears (local_at 11) (local_at 21) (2 ^ 63) (mapping wide 1440 ∷ []) 0 refl told_again)) _ l.row.arrives)
+    by (comes_to _ (arrival_of l.row.item) (heard_of 0 (2 ^ 63) (mapping wide 1440 ∷ [])) (subst (λ (i : Item). notify_at opening told_again 2 (arrival_of i) ≡ Ok (heard_of 0 (2 ^ 63) (mapping wide 1440 ∷ []))) item (hears (local_at 11) (local_at 21) (2 ^ 63) (mapping wide 1440 ∷ []) 0 refl told_again refl)) _ l.row.arrives)
   where
     by : (lines.Noticed 2 0 (2 ^ 63) 5 ≡ lines.Noticed 2 0 (2 ^ 63) 4) ⊎ (lines.Noticed 2 0 (2 ^ 63) 5 ≡ lines.Refused 2 (refusals.Notify notify_faults.OutOfMemory)) → ⊥
     by (inl is) = let place : ◌≡◌ {A = ℕ} 5 4 = cc in absurd (omega (arith, place))

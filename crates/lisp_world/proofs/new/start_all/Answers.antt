@@ -1,4 +1,4 @@
-use Rattle.std.proofs.Common.{◌+◌, ◌<◌, length, Err, arith, refl, sym, ap, subst}
+use Rattle.std.proofs.Common.{◌<◌, length, arith, refl, sym, subst}
 use borrow.Author.Rules.{scaled_Fits}
 use Rattle.lisp_refinement.specs.World.{RouterNodeState}
 use Rattle.lisp_world.specs.Making.{HasStarted, IsUnstarted}

@@ -7,7 +7,8 @@ returns-clause-restarts g c =
     (record {
       me = e.0;
       servers = e.1.0;
+      used = e.1.1.0;
       crashed = g.S.NonceStore.seen c.restart.new.self;
       crashes = record { narrows = c.restart.ensures.narrows; picks = c.restart.ensures.picks; proceeds = c.restart.ensures.proceeds };
-      starts = e.1.1.0;
+      starts = e.1.1.1.0;
     })

@@ -5,7 +5,7 @@ use Rattle.lisp_script.proofs.verb.Verb.from_word.Goals as goal
 pub returns-in_default : goal.returns-in_default
 returns-in_default c =
     let other = c.in_default in
-    sym (unknown c.args.word.now other.not-change other.not-send other.not-deliver other.not-junk other.not-tick other.not-restart other.not-notice other.not-resend other.not-hold other.not-acks other.not-ask other.not-due)
+    sym (unknown c.args.word.now other.not-change other.not-send other.not-deliver other.not-junk other.not-tick other.not-restart other.not-rotate other.not-lose other.not-notice other.not-resend other.not-hold other.not-acks other.not-ask other.not-due)
 
 pub returns-in-change : goal.returns-in-change
 returns-in-change c = rw c.in-change.is refl
@@ -24,6 +24,12 @@ returns-in-tick c = rw c.in-tick.is refl
 
 pub returns-in-restart : goal.returns-in-restart
 returns-in-restart c = rw c.in-restart.is refl
+
+pub returns-in-rotate : goal.returns-in-rotate
+returns-in-rotate c = rw c.in-rotate.is refl
+
+pub returns-in-lose : goal.returns-in-lose
+returns-in-lose c = rw c.in-lose.is refl
 
 pub returns-in-notice : goal.returns-in-notice
 returns-in-notice c = rw c.in-notice.is refl

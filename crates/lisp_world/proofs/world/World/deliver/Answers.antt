@@ -44,7 +44,7 @@ invariant_of-self-4 g c =
 pub returns : goal.returns
 returns g c =
     let inside = c.self.inside in
-    let w : WorldState = record { addresses = inside.addresses.items; clock = inside.clock; bag = inside.bag.items; servers = inside.servers.items; routers = inside.routers.items } in
+    let w : WorldState = record { sites = inside.sites; addresses = inside.addresses.items; clock = inside.clock; bag = inside.bag.items; servers = inside.servers.items; routers = inside.routers.items } in
     let possible = no_datagram_fault _ _ c.self.view_is c.args.k _ _ c.in_ok-with_room.ensures.room.0 c.check_datagram-checked.ensures in
     let long = ap length c.with_room.ensures.same in
     let count : length inside.bag.items ≡ c.len.result = omega (arith, c.len.ensures, long, c.with_room.new.bag.ok.0) in

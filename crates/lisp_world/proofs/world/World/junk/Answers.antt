@@ -27,7 +27,7 @@ invariant_of-self-3 g c =
 pub returns : goal.returns
 returns g c =
     let inside = c.self.inside in
-    let w : WorldState = record { addresses = inside.addresses.items; clock = inside.clock; bag = inside.bag.items; servers = inside.servers.items; routers = inside.routers.items } in
+    let w : WorldState = record { sites = inside.sites; addresses = inside.addresses.items; clock = inside.clock; bag = inside.bag.items; servers = inside.servers.items; routers = inside.routers.items } in
     let count : length inside.bag.items ≡ c.len.result = omega (arith, c.len.ensures, c.make_room.ensures.len, inside.bag.ok.0) in
     let servers = ap length c.deref_mut.ensures.value in
     let routers = ap length c.deref_mut-2.ensures.value in

@@ -57,6 +57,7 @@ module _ (g : _) (c : goal.After-new g) where
   -- the network
   abbrev world : WorldState
   world = record {
+    sites = c.in_ok-sites.sites;
     addresses = c.in_ok-addresses.addresses.items;
     clock = 0;
     bag = c.new.result.items;
@@ -67,6 +68,7 @@ module _ (g : _) (c : goal.After-new g) where
   -- its nodes are those of the configuration
   made : IsMade c.args.config.now stores world
   made = record {
+    sites_are = c.in_ok-sites.ensures.equal ∙ c.sites.ensures;
     addresses_are = c.in_ok-addresses.ensures.addresses;
     moment = refl;
     empty_bag = c.new.ensures.items;
@@ -108,6 +110,9 @@ returns-then-repeats-clause-repeated g c = (λ is. sym c.repeats.ensures.exact �
 pub returns-in_err-addresses-clause-repeated : goal.returns-in_err-addresses-clause-repeated
 returns-in_err-addresses-clause-repeated g c = unrepeated _ _ (sym c.repeats.ensures.exact ∙ c.if-repeats.false) (memory_alone _ c.from_residual.ensures.1)
 
+pub returns-in_err-sites-clause-repeated : goal.returns-in_err-sites-clause-repeated
+returns-in_err-sites-clause-repeated g c = unrepeated _ _ (sym c.repeats.ensures.exact ∙ c.if-repeats.false) (memory_alone _ c.from_residual-in_err-sites.ensures.1)
+
 pub returns-in_err-servers-clause-repeated : goal.returns-in_err-servers-clause-repeated
 returns-in_err-servers-clause-repeated g c = unrepeated _ _ (sym c.repeats.ensures.exact ∙ c.if-repeats.false) (memory_alone _ c.from_residual-in_err-servers.ensures.1)
 
@@ -148,11 +153,20 @@ returns-then-repeats-clause-store_memory g c = λ node. repeated_no_start node _
 pub returns-in_err-addresses-clause-memory : goal.returns-in_err-addresses-clause-memory
 returns-in_err-addresses-clause-memory g c = λ is. c.in_err-addresses.ensures.memory
 
+pub returns-in_err-sites-clause-memory : goal.returns-in_err-sites-clause-memory
+returns-in_err-sites-clause-memory g c = λ is. c.in_err-sites.ensures.memory
+
 pub returns-in_err-addresses-clause-start_memory : goal.returns-in_err-addresses-clause-start_memory
 returns-in_err-addresses-clause-start_memory g c = λ node. memory_no_start _ node _ c.from_residual.ensures.1
 
+pub returns-in_err-sites-clause-start_memory : goal.returns-in_err-sites-clause-start_memory
+returns-in_err-sites-clause-start_memory g c = λ node. memory_no_start _ node _ c.from_residual-in_err-sites.ensures.1
+
 pub returns-in_err-addresses-clause-store_memory : goal.returns-in_err-addresses-clause-store_memory
 returns-in_err-addresses-clause-store_memory g c = λ node. memory_no_start _ node _ c.from_residual.ensures.1
+
+pub returns-in_err-sites-clause-store_memory : goal.returns-in_err-sites-clause-store_memory
+returns-in_err-sites-clause-store_memory g c = λ node. memory_no_start _ node _ c.from_residual-in_err-sites.ensures.1
 
 pub returns-in_err-servers-clause-memory : goal.returns-in_err-servers-clause-memory
 returns-in_err-servers-clause-memory g c = λ is. c.in_err-servers.ensures.memory
@@ -169,6 +183,9 @@ returns-then-repeats-clause-faults g c = sym c.repeats.ensures.exact ∙ c.if-re
 
 pub returns-in_err-addresses-clause-faults : goal.returns-in_err-addresses-clause-faults
 returns-in_err-addresses-clause-faults g c = memory_fault _ _ c.from_residual.ensures.1 c.in_err-addresses.ensures.memory
+
+pub returns-in_err-sites-clause-faults : goal.returns-in_err-sites-clause-faults
+returns-in_err-sites-clause-faults g c = memory_fault _ _ c.from_residual-in_err-sites.ensures.1 c.in_err-sites.ensures.memory
 
 pub returns-in_err-servers-clause-faults : goal.returns-in_err-servers-clause-faults
 returns-in_err-servers-clause-faults g c = memory_fault _ _ c.from_residual-in_err-servers.ensures.1 c.in_err-servers.ensures.memory
@@ -188,6 +205,10 @@ returns-then-repeats-clause-calm_faults g c calm below = tt
 pub returns-in_err-addresses-clause-calm_faults : goal.returns-in_err-addresses-clause-calm_faults
 returns-in_err-addresses-clause-calm_faults g c calm below =
     calm_fault c.args.config.now (map g.S.NonceStore.seen c.args.stores.items) g.A.Memory.may_refuse g.S.NonceStore.may_refuse calm below c.from_residual.result (returns-in_err-addresses-clause-faults g c)
+
+pub returns-in_err-sites-clause-calm_faults : goal.returns-in_err-sites-clause-calm_faults
+returns-in_err-sites-clause-calm_faults g c calm below =
+    calm_fault c.args.config.now (map g.S.NonceStore.seen c.args.stores.items) g.A.Memory.may_refuse g.S.NonceStore.may_refuse calm below c.from_residual-in_err-sites.result (returns-in_err-sites-clause-faults g c)
 
 pub returns-in_err-servers-clause-calm_faults : goal.returns-in_err-servers-clause-calm_faults
 returns-in_err-servers-clause-calm_faults g c calm below =

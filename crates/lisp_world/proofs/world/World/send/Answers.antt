@@ -19,7 +19,7 @@ returns g c =
     let there = router_there _ _ c.self.view_is c.args.server c.args.router _ _ found c.place_beside-place.ensures.place in
     let server = server_there _ _ c.self.view_is c.args.server c.args.router _ _ found c.place_beside-place.ensures.server in
     let inside = c.self.inside in
-    let w : WorldState = record { addresses = inside.addresses.items; clock = inside.clock; bag = inside.bag.items; servers = inside.servers.items; routers = inside.routers.items } in
+    let w : WorldState = record { sites = inside.sites; addresses = inside.addresses.items; clock = inside.clock; bag = inside.bag.items; servers = inside.servers.items; routers = inside.routers.items } in
     let e = c.send-answer.ensures in
     let told = c.send_line.ensures w c.with_room.ensures.same c.address-from.ensures c.address-to.ensures in
     rw (← c.self.view_is)

@@ -15,6 +15,12 @@ returns-in-Junk g c = rw (c.in-Junk.is, ← c.as_slice.ensures) c.junk.ensures
 pub returns-in-Restart : goal.returns-in-Restart
 returns-in-Restart g c = rw c.in-Restart.is c.restart.ensures
 
+pub returns-in-Rotate : goal.returns-in-Rotate
+returns-in-Rotate g c = rw c.in-Rotate.is c.rotate.ensures
+
+pub returns-in-Lose : goal.returns-in-Lose
+returns-in-Lose g c = rw c.in-Lose.is c.lose.ensures
+
 pub returns-in-Notice : goal.returns-in-Notice
 returns-in-Notice g c = rw c.in-Notice.is c.notice.ensures
 

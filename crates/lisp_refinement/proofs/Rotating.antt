@@ -1,0 +1,259 @@
+-- A router goes over to another key, refuses to, or is down.
+use Rattle.std.proofs.Common.{◌≡◌, ℕ, ◌-◌, ◌<◌, ◌^◌, true, List, [], ◌∷◌, length, map, Option, Some, None, Result, Ok, Err, refl, sym, ap, subst, ◌∙◌, arith}
+use Rattle.std.specs.Prelude.{◌≢◌, ◌⊎◌, slice_get}
+use Rattle.std.specs.List.{Contains}
+use Rattle.std.proofs.lemmas.List.{length-map}
+use Rattle.lisp_records.specs.Record.{MapRecordValue}
+use Rattle.lisp_nonces.specs.declared.fate.Fate.{Fate}
+use Rattle.lisp_nonces.specs.declared.fate.Fate.TheVariants.{LoadFails as FailedLoads}
+use Rattle.lisp_nonces.specs.Kept.{Kept, kept_at, NoneBelow}
+use Rattle.lisp_nonces.specs.Store.{StoreState, Rose as Rises}
+use Rattle.lisp_nonces.specs.Promises.{KeepsListsIfHonest}
+use Rattle.lisp_etr.specs.Config.{EtrConfigValue, sent_pair_under, with_key}
+use Rattle.lisp_etr.specs.Etr.{EtrState}
+use Rattle.lisp_etr.specs.Round.{rotated_round}
+use Rattle.lisp_etr.specs.declared.rotate_fault.RotateFault.{RotateFault}
+use Rattle.lisp_etr.specs.declared.rotate_fault.RotateFault.TheVariants.{SameKey, Store}
+use Rattle.lisp_etr.specs.declared.round.Round.{Round}
+use Rattle.lisp_etr.proofs.TimerLaws.{rounds_keep_time}
+use Rattle.lisp_model.specs.declared.event.Event.TheVariants as events
+use Rattle.lisp_model.specs.declared.line.Line.{Line}
+use Rattle.lisp_model.specs.declared.line.Line.TheVariants as lines
+use Rattle.lisp_model.specs.declared.refusal.Refusal.TheVariants as refusals
+use Rattle.lisp_model.specs.Trace.{EventValue, ShownStore, Step, Opening, is_router, router_at, etr_config_under, etr_config, key as key_at, shown_store}
+use Rattle.lisp_model.specs.Keys.{keys_since_loss, keys_before_loss, MayRotate}
+use Rattle.lisp_model.specs.Timers.{round}
+use Rattle.lisp_model.specs.Context.{Context, Same, Rose}
+use Rattle.lisp_model.specs.Counted.{latest_nonce}
+use Rattle.lisp_model.specs.Sending.{pair_at, last_sent, start_values, CountsFrom}
+use Rattle.lisp_model.specs.Rotating.{IsRotated, RefusesToRotate}
+use Rattle.lisp_model.specs.Legal.{MayCome}
+use Rattle.lisp_refinement.specs.World.{RouterNodeState, RouterCoreState, Up, Down, UsedKeysState, UsesKey, WorldState}
+use Rattle.lisp_refinement.specs.Calls.{CoreRotates, IsRotateFaultOf, CoreAnswersRotate}
+use Rattle.lisp_refinement.specs.Events.{UsesKeyIfOk, rotate_line, UpRouterRotates, RouterRotates, NetworkRotates}
+use Rattle.lisp_refinement.specs.Stands.{shown_by, Shows, StandsForRound, StandsForEtr, StandsForCore, Lists, StandsForKeys, StandsForRouter, Stands, StandsAfter}
+use Rattle.lisp_refinement.proofs.Gets.{get_mapped}
+use Rattle.lisp_refinement.proofs.Going.{here}
+use Rattle.lisp_refinement.proofs.Acting.{adds_none, Shown-in, uses_shown, by_fate}
+use Rattle.lisp_refinement.proofs.RouterEvents.{step_of, turn_at, shown_now, RouterStep, moved, acts_router, acts_part, acts_shows, stands_by}
+use Rattle.lisp_refinement.proofs.Starting.{BeginsAnew, counts_anew, round_anew}
+use Rattle.lisp_refinement.proofs.UsedKeys.{lists_more, config_under, may_rotate}
+
+module _ (old new : WorldState) (router key : ℕ) (fate : Fate) (line : Line) (rotates : NetworkRotates old new router key fate line) (o : Opening) (T : List Step) (stand : Stands old o T) where
+  -- the router before, and afterwards
+  abbrev before : RouterNodeState
+  before = rotates.acts.before
+
+  abbrev after : RouterNodeState
+  after = rotates.acts.after
+
+  -- the event
+  abbrev event : EventValue
+  event = events.Rotate router key fate
+
+  -- it is a router; it and its store are what the trace says, and it may go over to the key
+  kind : is_router o.config router ≡ true
+  kind = acts_router old new router [] rotates.acts o T stand
+
+  part : StandsForRouter o T router before
+  part = acts_part old new router [] rotates.acts o T stand
+
+  shows : Shows before.store (shown_store o T router)
+  shows = acts_shows old new router [] rotates.acts o T stand
+
+  may : MayRotate o T router key
+  may = may_rotate old o T stand router before part key rotates.of rotates.unused
+
+  -- the network stands for the trace with the step
+  abbrev Rotated-after : Type 0
+  Rotated-after = (actor : ℕ) × (s : ShownStore) × Stands new o (step_of event actor s line ∷ T)
+
+  -- with the step of the router it does
+  ends : (s : ShownStore) → RouterStep o T event router s (MayCome (turn_at o T router fate s) event) line [] after → Rotated-after
+  ends s step = (router, s, stands_by old new router [] rotates.acts o T stand event s line refl step)
+
+  -- the router is down
+  rotates_down : (config : EtrConfigValue) (db : List MapRecordValue) → before.core ≡ Down config db → StandsForCore o T router (Down config db) → (after ≡ before) × (line ≡ lines.Down router) → Rotated-after
+  rotates_down config db is core at = ends (shown_store o T router) (moved o T event router (shown_store o T router) (MayCome (turn_at o T router fate (shown_store o T router)) event) line (lines.Down router) [] [] after before at.1 refl at.0 (record {
+    row = (may, record { acts = record { kind = kind; acts = refl; state = core.0 }; names = refl; same = refl });
+    count = omega arith;
+    obedient = refl;
+    adds = adds_none o T _ refl;
+    shows = shows;
+    part = record {
+      me = part.me;
+      servers = part.servers;
+      used = record { since_loss = part.used.since_loss; before_loss = part.used.before_loss };
+      core = subst (λ (c : RouterCoreState). StandsForCore o (step_of event router (shown_store o T router) (lines.Down router) ∷ T) router c) (sym is) core;
+    };
+  }))
+
+  -- the router is up
+  module _ (e left : EtrState) (own : StandsForEtr o T router e) (armed called : StoreState) (uses : Shown-in fate armed called after.store (shown_store o T router)) (same : KeepsListsIfHonest armed called) where
+    -- the step as the router sees it
+    abbrev turn : Context
+    turn = turn_at o T router fate (shown_by called)
+
+    -- no list changed
+    unmoved : Same turn
+    unmoved = same uses.armed_shows.honest ∙ uses.armed_shows.kept
+
+    -- its key is what the trace says
+    key_is : e.config.key_id ≡ key_at o T router
+    key_is = ap (λ (c : EtrConfigValue). c.key_id) own.config
+
+    -- it went over to the key
+    module _ (used : UsesKey before.used after.used key) (call : CoreRotates e left key rotates.of.secret armed called old.clock) where
+      -- the trace with the step
+      abbrev later : List Step
+      later = step_of event router (shown_by called) (lines.Rotated router key) ∷ T
+
+      -- the row of the line
+      row : IsRotated turn router key router key
+      row = record {
+        acts = record { kind = kind; acts = refl; state = own.up };
+        names = refl;
+        to = refl;
+        may = may;
+        other = λ is. call.other (is ∙ sym key_is);
+        loads = by_fate (λ x. x ≢ FailedLoads) fate armed (shown_store o T router) uses.armed_shows uses.fated call.loads;
+        same = unmoved;
+      }
+
+      -- its configuration under the key is what the trace says
+      settled : with_key e.config key rotates.of.secret ≡ etr_config o later router
+      settled = config_under old o T stand router before part key rotates.of e.config own.config
+          ∙ sym (ap (etr_config_under o.config (router_at o.config router)) (here router key (key_at o T router)))
+
+      -- it begins anew
+      begins : BeginsAnew o T later router called.kept
+      begins = record {
+        last = here router None (last_sent T router);
+        values = here router _ (start_values o T router);
+        rounds = λ server. here router _ (round T router server);
+        latest = λ server. here router 0 (latest_nonce T router server);
+      }
+
+      -- it counts from a value that is kept for the new pair
+      counts : (base : Option ℕ) → Contains (kept_at armed.kept (sent_pair_under e.config key)) base → CountsFrom o later router base
+      counts base has = counts_anew o T later router called.kept begins (with_key e.config key rotates.of.secret) settled base
+          (subst (λ (k : Kept). Contains (kept_at k (sent_pair_under e.config key)) base) (sym (same uses.armed_shows.honest)) has)
+
+      -- the key is one more that was used
+      keys : StandsForKeys o later router after.used
+      keys = record {
+        since_loss = subst (Lists after.used.since_loss) (sym (here router (key ∷ keys_since_loss o T router) (keys_since_loss o T router)))
+            (lists_more before.used.since_loss after.used.since_loss (keys_since_loss o T router) key part.used.since_loss used.since_loss);
+        before_loss = subst (λ xs. Lists xs (keys_before_loss o T router)) (sym used.before_loss) part.used.before_loss;
+      }
+
+      -- each of its rounds has just begun, and what was acknowledged stays
+      round_stands : (i server : ℕ) (r : Round) → slice_get (router_at o.config router).servers i ≡ Some server → slice_get (map (rotated_round old.clock) e.rounds) i ≡ Some r → StandsForRound later router server r
+      round_stands i server r lists has = let was = get_mapped (rotated_round old.clock) e.rounds i r has in
+          subst (λ (x : Round). StandsForRound later router server x) was.2
+          (round_anew o T later router called.kept begins server old.clock (rotated_round old.clock was.0) stand.bag.moment (rounds_keep_time.rotate old.clock was.0) refl (own.rounds i server was.0 lists was.1).acked)
+
+      -- the router stands
+      rotated_core : StandsForEtr o later router left
+      rotated_core = record {
+        up = own.up;
+        config = ap (λ (x : EtrState). x.config) call.rotates ∙ settled;
+        database = ap (λ (x : EtrState). x.database) call.rotates ∙ own.database;
+        last = (let is = call.last uses.armed_shows.honest in (is.0, counts is.0 is.1, is.2));
+        safe = λ v has. omega (arith, ap (λ (x : EtrState). x.safe) call.rotates);
+        count = ap (λ (x : EtrState). length x.rounds) call.rotates ∙ length-map e.rounds (rotated_round old.clock) ∙ own.count;
+        rounds = λ i server r lists has. round_stands i server r lists (ap (λ (x : EtrState). slice_get x.rounds i) (sym call.rotates) ∙ has);
+      }
+
+      -- its step
+      rotated_step : RouterStep o T event router (shown_by called) (MayCome turn event) (lines.Rotated router key) [] (record before { used = after.used; core = Up left; store = after.store })
+      rotated_step = record {
+        row = row;
+        count = uses.count;
+        obedient = uses.obedient;
+        adds = adds_none o T _ refl;
+        shows = uses.after;
+        part = record { me = part.me; servers = part.servers; used = keys; core = rotated_core };
+      }
+
+    -- it was refused
+    module _ (fault : RotateFault) (used : after.used ≡ before.used) (as_it_was : left ≡ e) (why : IsRotateFaultOf e key armed called fault) where
+      -- the line, and the trace with the step
+      abbrev refused : Line
+      refused = lines.Refused router (refusals.Rotate fault)
+
+      abbrev with_refusal : List Step
+      with_refusal = step_of event router (shown_by called) refused ∷ T
+
+      -- a device failed
+      rose : Rises armed called → Rose turn
+      rose is = subst (λ (n : ℕ). (n < called.faults) ⊎ (called.faults ≡ 2 ^ 64 - 1)) uses.armed_shows.faults is
+
+      -- each refusal has its row
+      refusal : (f : RotateFault) → IsRotateFaultOf e key armed called f → RefusesToRotate turn router key f
+      refusal SameKey is = (is.0 ∙ key_is, unmoved)
+      refusal (Store f) is = (
+        λ own_key. is.0 (own_key ∙ sym key_is),
+        record {
+          same = unmoved;
+          cause = λ other. rose (is.1 other);
+          may = λ other. by_fate (λ x. x ≡ FailedLoads) fate armed (shown_store o T router) uses.armed_shows uses.fated (is.2 other);
+        },
+      )
+
+      -- the router stands as it did
+      refused_core : StandsForEtr o with_refusal router e
+      refused_core = record {
+        up = own.up;
+        config = own.config;
+        database = own.database;
+        last = own.last;
+        safe = subst (λ (x : ShownStore). NoneBelow e.safe (kept_at x.kept (pair_at o T router))) (sym (shown_now o T event router (shown_by called) refused))
+            (subst (λ (k : Kept). NoneBelow e.safe (kept_at k (pair_at o T router))) (sym unmoved) own.safe);
+        count = own.count;
+        rounds = λ i k r listed is. (let was = own.rounds i k r listed is in record { keeps = was.keeps; latest = was.latest; acked = was.acked });
+      }
+
+      -- with the keys that it used
+      keys_stay : StandsForKeys o with_refusal router after.used
+      keys_stay = record {
+        since_loss = subst (λ (x : UsedKeysState). Lists x.since_loss (keys_since_loss o T router)) (sym used) part.used.since_loss;
+        before_loss = subst (λ (x : UsedKeysState). Lists x.before_loss (keys_before_loss o T router)) (sym used) part.used.before_loss;
+      }
+
+      -- its step
+      refused_step : RouterStep o T event router (shown_by called) (MayCome turn event) refused [] (record before { used = after.used; core = Up left; store = after.store })
+      refused_step = record {
+        row = (refl, record { kind = kind; acts = refl; state = own.up }, may, refusal fault why);
+        count = uses.count;
+        obedient = uses.obedient;
+        adds = adds_none o T _ refl;
+        shows = uses.after;
+        part = record { me = part.me; servers = part.servers; used = keys_stay; core = subst (λ (x : EtrState). StandsForEtr o with_refusal router x) (sym as_it_was) refused_core };
+      }
+
+    -- it did, or refused to
+    answered : after ≡ record before { used = after.used; core = Up left; store = after.store } → (answer : Result (Unit {0}) RotateFault) → line ≡ rotate_line router key answer → UsesKeyIfOk before.used after.used key answer
+        → CoreAnswersRotate e left key rotates.of.secret armed called old.clock answer → Rotated-after
+    answered is (Ok done) said used call = ends (shown_by called) (moved o T event router (shown_by called) (MayCome turn event) line _ [] [] after _ said refl is (rotated_step used call))
+    answered is (Err fault) said used call = ends (shown_by called) (moved o T event router (shown_by called) (MayCome turn event) line _ [] [] after _ said refl is (refused_step fault used call.0 call.1))
+
+  -- it is up
+  rotates_up : UpRouterRotates router key rotates.of.secret fate old.clock before after line → Rotated-after
+  rotates_up up =
+      let r = up.rotates in
+      answered r.etr r.left (subst (λ (core : RouterCoreState). StandsForCore o T router core) r.was part.core) r.call.armed r.call.called
+      (uses_shown before.store r.call.armed r.call.called after.store fate (shown_store o T router) shows r.call.uses) r.call.same r.is up.answer up.said r.used r.call.call
+
+  -- up or down
+  rotates_at : (core : RouterCoreState) → before.core ≡ core → StandsForCore o T router core → RouterRotates router key rotates.of.secret fate old.clock before after core line → Rotated-after
+  rotates_at (Up e) is own at = rotates_up at
+  rotates_at (Down config db) is core at = rotates_down config db is core at
+
+  -- whichever it is
+  rotates_stand : Rotated-after
+  rotates_stand = rotates_at before.core refl part.core rotates.rotates
+
+-- a router goes over to another key, refuses to, or is down, and the network stands for the trace with that step
+pub rotate_stands : (old new : WorldState) (router key : ℕ) (fate : Fate) (line : Line) → NetworkRotates old new router key fate line → StandsAfter old new (events.Rotate router key fate) line
+rotate_stands old new router key fate line rotates o T stand = rotates_stand old new router key fate line rotates o T stand
