@@ -27,7 +27,7 @@ use Rattle.lisp_model.specs.Context.{IsBase}
 use Rattle.lisp_model.specs.Promises.{SameServer, SameRouter}
 use Rattle.lisp_model.proofs.Locality.{same_number}
 use Rattle.lisp_refinement.specs.World.{ServerNodeState, RouterCoreState, Up, Down, UsedKeysState, RouterNodeState}
-use Rattle.lisp_refinement.specs.Stands.{StandsForRound, StandsForEtr, StandsForCore, Lists, StandsForKeys, StandsForRouter, SameNotice, StandsForServer}
+use Rattle.lisp_refinement.specs.Stands.{StandsForRound, StandsForEtr, StandsForCore, Marks, StandsForKeys, StandsForRouter, SameNotice, StandsForServer}
 use Rattle.lisp_refinement.proofs.Gets.{get_before}
 
 -- what a step says of the node that it names
@@ -111,8 +111,8 @@ module _ (o : Opening) (T U : List Step) (k : ℕ) (same : SameRouter o T U k) w
   -- and no other key was used
   keys_stay : (used : UsedKeysState) → StandsForKeys o T k used → StandsForKeys o U k used
   keys_stay used stand = record {
-    since_loss = subst (Lists used.since_loss) (sym same.keys_since_loss) stand.since_loss;
-    before_loss = subst (Lists used.before_loss) (sym same.keys_before_loss) stand.before_loss;
+    since_loss = subst (Marks used.since_loss) (sym same.keys_since_loss) stand.since_loss;
+    before_loss = subst (Marks used.before_loss) (sym same.keys_before_loss) stand.before_loss;
   }
 
   -- all of it while it is up

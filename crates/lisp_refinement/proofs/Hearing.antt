@@ -41,7 +41,7 @@ use Rattle.lisp_model.specs.Context.{Context, IsBase}
 use Rattle.lisp_refinement.specs.World.{DatagramValue, UsedKeysState, RouterNodeState, RouterCoreState, Up, Down, WorldState}
 use Rattle.lisp_refinement.specs.Calls.{CoreHears as HearsAs, UsesStore}
 use Rattle.lisp_refinement.specs.Events.{address_of, server_number, router_line, acknowledges, UpRouterHears, RouterHears, ArrivesAtRouter}
-use Rattle.lisp_refinement.specs.Stands.{Shows, Carries, StandsForRound, StandsForEtr, StandsForCore, Lists, StandsForKeys, StandsForRouter, Stands}
+use Rattle.lisp_refinement.specs.Stands.{Shows, Carries, StandsForRound, StandsForEtr, StandsForCore, Marks, StandsForKeys, StandsForRouter, Stands}
 use Rattle.lisp_refinement.proofs.Acting.{adds_none, adds_one, Shown-in, uses_shown, address_is}
 use Rattle.lisp_refinement.proofs.HeardAlike.{Both, SameHeard, Alike, alike}
 use Rattle.lisp_refinement.proofs.Places.{Placed, first_place, position_map}
@@ -91,8 +91,8 @@ module _ (o : Opening) (T : List Step) (event : EventValue) (arrival : IsArrival
 
   keys_heard : (used : UsedKeysState) → StandsForKeys o T node used → StandsForKeys o (step_of event node s line ∷ T) node used
   keys_heard used stood = record {
-    since_loss = subst (Lists used.since_loss) (sym (same_since_loss event arrival line node (keys_since_loss o T node))) stood.since_loss;
-    before_loss = subst (Lists used.before_loss) (sym (same_before_loss event arrival node (keys_since_loss o T node) (keys_before_loss o T node))) stood.before_loss;
+    since_loss = subst (Marks used.since_loss) (sym (same_since_loss event arrival line node (keys_since_loss o T node))) stood.since_loss;
+    before_loss = subst (Marks used.before_loss) (sym (same_before_loss event arrival node (keys_since_loss o T node) (keys_before_loss o T node))) stood.before_loss;
   }
 
 -- an answer is what is expected, or out of memory

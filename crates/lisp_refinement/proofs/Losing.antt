@@ -21,7 +21,7 @@ use Rattle.lisp_model.specs.Rotating.{IsLost}
 use Rattle.lisp_refinement.specs.World.{RouterNodeState, WorldState}
 use Rattle.lisp_refinement.specs.Calls.{config_of, database_of}
 use Rattle.lisp_refinement.specs.Events.{NetworkLoses, loss_line}
-use Rattle.lisp_refinement.specs.Stands.{shown_by, Lists, StandsForKeys, StandsForRouter, Stands, StandsAfter}
+use Rattle.lisp_refinement.specs.Stands.{shown_by, Marks, StandsForKeys, StandsForRouter, Stands, StandsAfter}
 use Rattle.lisp_refinement.proofs.Going.{here}
 use Rattle.lisp_refinement.proofs.RouterEvents.{step_of, turn_at, acts_router, acts_part}
 use Rattle.lisp_refinement.proofs.Starting.{config_known, database_known, answer_line, StartsBy, become_honest, loaded, start_stands}
@@ -89,8 +89,8 @@ module _ (old new : WorldState) (node key : ℕ) (db : Option (List MapRecordVal
   -- the key is the only one since, and all others were used before
   keys : (l : Line) → StandsForKeys o (step l ∷ T) node after.used
   keys l = record {
-    since_loss = subst (Lists after.used.since_loss) (sym (here node (key ∷ []) (keys_since_loss o T node))) (lists_one after.used.since_loss key loses.loses.used.since_loss);
-    before_loss = subst (Lists after.used.before_loss) (sym (here node (keys_since_loss o T node ++ keys_before_loss o T node) (keys_before_loss o T node)))
+    since_loss = subst (Marks after.used.since_loss) (sym (here node (key ∷ []) (keys_since_loss o T node))) (lists_one after.used.since_loss key loses.loses.used.since_loss);
+    before_loss = subst (Marks after.used.before_loss) (sym (here node (keys_since_loss o T node ++ keys_before_loss o T node) (keys_before_loss o T node)))
         (lists_both before.used.since_loss before.used.before_loss after.used.before_loss (keys_since_loss o T node) (keys_before_loss o T node) stood.used.since_loss stood.used.before_loss loses.loses.used.before_loss);
   }
 

@@ -36,7 +36,7 @@ use Rattle.lisp_model.specs.Restarting.{Fits}
 use Rattle.lisp_refinement.specs.World.{UsedKeysState, RouterNodeState, WorldState}
 use Rattle.lisp_refinement.specs.Calls.{StoreRestarts as Crashes, config_of, database_of}
 use Rattle.lisp_refinement.specs.Events.{NetworkRestartsServer, NetworkRestartsRouter, start_line}
-use Rattle.lisp_refinement.specs.Stands.{shown_by, Shows, StandsForServer, Lists, StandsForRouter, SameNotice, Stands, StandsAfter}
+use Rattle.lisp_refinement.specs.Stands.{shown_by, Shows, StandsForServer, Marks, StandsForRouter, SameNotice, Stands, StandsAfter}
 use Rattle.lisp_refinement.proofs.Gets.{none_is_some}
 use Rattle.lisp_refinement.proofs.Going.{here}
 use Rattle.lisp_refinement.proofs.Acting.{adds_none, server_is, server_acts}
@@ -192,8 +192,8 @@ module _ (old new : WorldState) (node pick : ℕ) (db : Option (List MapRecordVa
     settled = λ l. config_known o T node before.core stood.core;
     given = λ l. given_case l db;
     keys = λ l. record {
-      since_loss = subst (λ (used : UsedKeysState). Lists used.since_loss (keys_since_loss o T node)) (sym restarts.restarts.used) stood.used.since_loss;
-      before_loss = subst (λ (used : UsedKeysState). Lists used.before_loss (keys_before_loss o T node)) (sym restarts.restarts.used) stood.used.before_loss;
+      since_loss = subst (λ (used : UsedKeysState). Marks used.since_loss (keys_since_loss o T node)) (sym restarts.restarts.used) stood.used.since_loss;
+      before_loss = subst (λ (used : UsedKeysState). Marks used.before_loss (keys_before_loss o T node)) (sym restarts.restarts.used) stood.used.before_loss;
     };
     up = here node true (is_up T node);
     begins = record {

@@ -31,7 +31,7 @@ use Rattle.lisp_model.specs.Legal.{MayCome}
 use Rattle.lisp_refinement.specs.World.{RouterNodeState, RouterCoreState, Up, Down, UsedKeysState, UsesKey, WorldState}
 use Rattle.lisp_refinement.specs.Calls.{CoreRotates, IsRotateFaultOf, CoreAnswersRotate}
 use Rattle.lisp_refinement.specs.Events.{UsesKeyIfOk, rotate_line, UpRouterRotates, RouterRotates, NetworkRotates}
-use Rattle.lisp_refinement.specs.Stands.{shown_by, Shows, StandsForRound, StandsForEtr, StandsForCore, Lists, StandsForKeys, StandsForRouter, Stands, StandsAfter}
+use Rattle.lisp_refinement.specs.Stands.{shown_by, Shows, StandsForRound, StandsForEtr, StandsForCore, Marks, StandsForKeys, StandsForRouter, Stands, StandsAfter}
 use Rattle.lisp_refinement.proofs.Gets.{get_mapped}
 use Rattle.lisp_refinement.proofs.Going.{here}
 use Rattle.lisp_refinement.proofs.Acting.{adds_none, Shown-in, uses_shown, by_fate}
@@ -142,9 +142,9 @@ module _ (old new : WorldState) (router key : ℕ) (fate : Fate) (line : Line) (
       -- the key is one more that was used
       keys : StandsForKeys o later router after.used
       keys = record {
-        since_loss = subst (Lists after.used.since_loss) (sym (here router (key ∷ keys_since_loss o T router) (keys_since_loss o T router)))
+        since_loss = subst (Marks after.used.since_loss) (sym (here router (key ∷ keys_since_loss o T router) (keys_since_loss o T router)))
             (lists_more before.used.since_loss after.used.since_loss (keys_since_loss o T router) key part.used.since_loss used.since_loss);
-        before_loss = subst (λ xs. Lists xs (keys_before_loss o T router)) (sym used.before_loss) part.used.before_loss;
+        before_loss = subst (λ xs. Marks xs (keys_before_loss o T router)) (sym used.before_loss) part.used.before_loss;
       }
 
       -- each of its rounds has just begun, and what was acknowledged stays
@@ -217,8 +217,8 @@ module _ (old new : WorldState) (router key : ℕ) (fate : Fate) (line : Line) (
       -- with the keys that it used
       keys_stay : StandsForKeys o with_refusal router after.used
       keys_stay = record {
-        since_loss = subst (λ (x : UsedKeysState). Lists x.since_loss (keys_since_loss o T router)) (sym used) part.used.since_loss;
-        before_loss = subst (λ (x : UsedKeysState). Lists x.before_loss (keys_before_loss o T router)) (sym used) part.used.before_loss;
+        since_loss = subst (λ (x : UsedKeysState). Marks x.since_loss (keys_since_loss o T router)) (sym used) part.used.since_loss;
+        before_loss = subst (λ (x : UsedKeysState). Marks x.before_loss (keys_before_loss o T router)) (sym used) part.used.before_loss;
       }
 
       -- its step

@@ -13,15 +13,15 @@ use Rattle.lisp_model.specs.Keys.{KnowsKey, keys_since_loss, keys_before_loss, M
 use Rattle.lisp_model.proofs.ListLemmas.{at_head, in_tail, head_or_tail, in_none}
 use Rattle.lisp_refinement.specs.World.{key_count, is_used, RouterNodeState, WorldState}
 use Rattle.lisp_refinement.specs.Events.{IsKeyOf}
-use Rattle.lisp_refinement.specs.Stands.{Lists, StandsForRouter, Stands}
+use Rattle.lisp_refinement.specs.Stands.{Marks, StandsForRouter, Stands}
 use Rattle.lisp_refinement.proofs.Gets.{none_is_some}
 
 -- a key that isn't used isn't listed
-pub unlisted : (used : List Bool) (keys : List ℕ) (key : ℕ) → Lists used keys → key < key_count → is_used used key ≡ false → Contains keys key → ⊥
+pub unlisted : (used : List Bool) (keys : List ℕ) (key : ℕ) → Marks used keys → key < key_count → is_used used key ≡ false → Contains keys key → ⊥
 unlisted used keys key lists bound unused has = true≢false (sym ((lists key bound).1 has) ∙ unused)
 
 -- one key more
-pub lists_more : (old new : List Bool) (keys : List ℕ) (key : ℕ) → Lists old keys → ((k : ℕ) → k < key_count → is_used new k ≡ (k == key || is_used old k)) → Lists new (key ∷ keys)
+pub lists_more : (old new : List Bool) (keys : List ℕ) (key : ℕ) → Marks old keys → ((k : ℕ) → k < key_count → is_used new k ≡ (k == key || is_used old k)) → Marks new (key ∷ keys)
 lists_more old new keys key lists more k bound = (λ used. to (or_cases (k == key) (is_used old k) (sym (more k bound) ∙ used)), λ has. more k bound ∙ from (head_or_tail key keys k has))
   where
     to : ((k == key) ≡ true) ⊎ (is_used old k ≡ true) → Contains (key ∷ keys) k
@@ -33,7 +33,7 @@ lists_more old new keys key lists more k bound = (λ used. to (or_cases (k == ke
     from (inr has) = or_right (k == key) (is_used old k) ((lists k bound).1 has)
 
 -- one alone
-pub lists_one : (new : List Bool) (key : ℕ) → ((k : ℕ) → k < key_count → is_used new k ≡ (k == key)) → Lists new (key ∷ [])
+pub lists_one : (new : List Bool) (key : ℕ) → ((k : ℕ) → k < key_count → is_used new k ≡ (k == key)) → Marks new (key ∷ [])
 lists_one new key one k bound = (λ used. subst (Contains (key ∷ [])) (sym ((Decides-eqb k key).0 (sym (one k bound) ∙ used))) (at_head key []), λ has. one k bound ∙ from (head_or_tail key [] k has))
   where
     from : (k ≡ key) ⊎ Contains [] k → (k == key) ≡ true
@@ -41,7 +41,7 @@ lists_one new key one k bound = (λ used. subst (Contains (key ∷ [])) (sym ((D
     from (inr none) = absurd (in_none k none)
 
 -- those of two lists
-pub lists_both : (some others new : List Bool) (xs ys : List ℕ) → Lists some xs → Lists others ys → ((k : ℕ) → k < key_count → is_used new k ≡ (is_used some k || is_used others k)) → Lists new (xs ++ ys)
+pub lists_both : (some others new : List Bool) (xs ys : List ℕ) → Marks some xs → Marks others ys → ((k : ℕ) → k < key_count → is_used new k ≡ (is_used some k || is_used others k)) → Marks new (xs ++ ys)
 lists_both some others new xs ys in_some in_others both k bound = (λ used. to (or_cases (is_used some k) (is_used others k) (sym (both k bound) ∙ used)), λ has. both k bound ∙ from (Contains-append_cases xs ys k has))
   where
     to : (is_used some k ≡ true) ⊎ (is_used others k ≡ true) → Contains (xs ++ ys) k

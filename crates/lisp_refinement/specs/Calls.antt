@@ -122,11 +122,11 @@ CoreAnswersSend old new armed called place now (Ok bytes) = CoreSends old new ar
 CoreAnswersSend old new armed called place now (Err fault) = CoreRefusesToSend old new armed called place fault
 
 -- its store used in that
-pub record CoreAnswersSendOver (old new : EtrState) (before etr_after : StoreState) (fate : Fate) (place now : ℕ)
+pub record CoreAnswersSendOver (old new : EtrState) (before after : StoreState) (fate : Fate) (place now : ℕ)
     (answer : Result (List ℕ) SendFault) : Type 0 where
   pub armed : StoreState
   pub called : StoreState
-  pub uses : UsesStore before fate armed called etr_after
+  pub uses : UsesStore before fate armed called after
   pub call : CoreAnswersSend old new armed called place now answer
 
 -- a router that is up went over to another key: its last nonce under it is one that may be kept for it
@@ -151,11 +151,11 @@ CoreAnswersRotate old new key_id secret armed called now (Err fault) =
     (new ≡ old) × IsRotateFaultOf old key_id armed called fault
 
 -- its store used in that
-pub record CoreAnswersRotateOver (old new : EtrState) (before etr_after : StoreState) (key_id : ℕ) (secret : List ℕ)
+pub record CoreAnswersRotateOver (old new : EtrState) (before after : StoreState) (key_id : ℕ) (secret : List ℕ)
     (fate : Fate) (now : ℕ) (answer : Result (Unit {0}) RotateFault) : Type 0 where
   pub armed : StoreState
   pub called : StoreState
-  pub uses : UsesStore before fate armed called etr_after
+  pub uses : UsesStore before fate armed called after
   pub call : CoreAnswersRotate old new key_id secret armed called now answer
   pub same : KeepsListsIfHonest armed called
 
@@ -169,30 +169,30 @@ pub record CoreHears {A : Type 0} (old new : EtrState) (from : Addr) (bytes : Li
 
 -- a router starts, or doesn't and is down
 pub record CoreStarts (config : EtrConfigValue) (database : List MapRecordValue) (now : ℕ)
-    (before etr_after : StoreState) (core : RouterCoreState) : Type 0 where
+    (before after : StoreState) (core : RouterCoreState) : Type 0 where
   pub etr : EtrState
   pub up : core ≡ Up etr
   pub starts : etr ≡ etr_started config database etr.last now
   pub last : IsTrue before.is_honest → IsKept (kept_at before.kept (sent_pair config)) etr.last
 
-pub record CoreRefusesToStart (config : EtrConfigValue) (database : List MapRecordValue) (before etr_after : StoreState)
+pub record CoreRefusesToStart (config : EtrConfigValue) (database : List MapRecordValue) (before after : StoreState)
     (core : RouterCoreState) (fault : StartFault) : Type 0 where
   pub down : core ≡ Down config database
-  pub cause : (f : StoreFault) → fault ≡ start_faults.Store f → f ≢ faults.OutOfMemory → Rose before etr_after
+  pub cause : (f : StoreFault) → fault ≡ start_faults.Store f → f ≢ faults.OutOfMemory → Rose before after
 
 abbrev pub CoreAnswersStart : EtrConfigValue → List MapRecordValue → ℕ → StoreState → StoreState → RouterCoreState
     → Result (Unit {0}) StartFault → Type 0
-CoreAnswersStart config database now before etr_after core (Ok done) =
-    CoreStarts config database now before etr_after core
-CoreAnswersStart config database now before etr_after core (Err fault) =
-    CoreRefusesToStart config database before etr_after core fault
+CoreAnswersStart config database now before after core (Ok done) =
+    CoreStarts config database now before after core
+CoreAnswersStart config database now before after core (Err fault) =
+    CoreRefusesToStart config database before after core fault
 
 -- a router starts over its store
 pub record CoreAnswersStartOver (config : EtrConfigValue) (database : List MapRecordValue) (now : ℕ)
-    (before etr_after : StoreState) (core : RouterCoreState) (answer : Result (Unit {0}) StartFault) : Type 0 where
-  pub starts : CoreAnswersStart config database now before etr_after core answer
-  pub same : IsTrue before.is_honest → etr_after.kept ≡ before.kept
-  pub proceeds : Proceeds before etr_after
+    (before after : StoreState) (core : RouterCoreState) (answer : Result (Unit {0}) StartFault) : Type 0 where
+  pub starts : CoreAnswersStart config database now before after core answer
+  pub same : IsTrue before.is_honest → after.kept ≡ before.kept
+  pub proceeds : Proceeds before after
 
 -- a store after a crash: of an obedient one the value at a place is left, or the last
 pub record StoreRestarts (old new : StoreState) (pick : ℕ) : Type 0 where

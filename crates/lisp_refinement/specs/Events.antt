@@ -1,4 +1,4 @@
--- Turns: what an event makes of the network, by the call of the node that acts.
+-- What an event makes of the network, by the call of the node that acts.
 use Rattle.std.specs.Prelude.{◌≡◌, ◌⊎◌, ℕ, ◌+◌, ◌<◌, ◌≤◌, ◌==◌, Bool, true, false, List, [], ◌∷◌, ◌++◌, length, map, position, slice_get, slice_set, slice_index_or, Option, Some, None, Result, Ok, Err}
 use Rattle.std.specs.Option.{option_map, option_to_list, unwrap_or}
 use Rattle.lisp_records.specs.Database.{database_of as checked_database}

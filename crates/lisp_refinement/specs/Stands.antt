@@ -90,13 +90,13 @@ StandsForCore o T router (Up e) = StandsForEtr o T router e
 StandsForCore o T router (Down config db) =
     (is_up T router ≡ false) × (config ≡ etr_config o T router) × (db ≡ database o T router)
 
--- the keys that a router used
-abbrev pub Lists : List Bool → List ℕ → Type 0
-Lists used keys = (key : ℕ) → key < key_count → (is_used used key ≡ true) ↔ Contains keys key
+-- the flags of these keys are set, and no other
+abbrev pub Marks : List Bool → List ℕ → Type 0
+Marks used keys = (key : ℕ) → key < key_count → (is_used used key ≡ true) ↔ Contains keys key
 
 pub record StandsForKeys (o : Opening) (T : List Step) (router : ℕ) (used : UsedKeysState) : Type 0 where
-  pub since_loss : Lists used.since_loss (keys_since_loss o T router)
-  pub before_loss : Lists used.before_loss (keys_before_loss o T router)
+  pub since_loss : Marks used.since_loss (keys_since_loss o T router)
+  pub before_loss : Marks used.before_loss (keys_before_loss o T router)
 
 -- a router
 pub record StandsForRouter (o : Opening) (T : List Step) (router : ℕ) (n : RouterNodeState) : Type 0 where
