@@ -144,6 +144,27 @@ expect 'a number explained' 0 '*' '' explain 57
 expect 'a number of nothing' 2 '' 'lispd: fault 98' explain 69
 expect 'no number' 2 '' 'lispd: fault 98' explain x
 
+# changes COUNT LOCATORS: a schedule that gives r1 so many records, each with these locators.
+changes() {
+    cat $configuration
+    awk -v count="$1" -v locators="$2" 'BEGIN {
+        printf "---\nchange r1"
+        for (i = 0; i < count; i++) printf " 10.1.%d.%d/32=1%s", i / 256, i % 256, locators
+        print ""
+    }'
+}
+
+# Five records of 255 locators are a part.
+locators=$(printf '+192.0.2.1%.0s' $(seq 255))
+changes 1024 '' > ../out/schedule
+expect 'a database of 1,024 records' 0 'change r1 records 1024' '' play ../out/schedule
+changes 1025 '' > ../out/schedule
+expect 'a database of 1,025 records' 2 '' 'lispd: fault 84 line 1' play ../out/schedule
+changes 80 "$locators" > ../out/schedule
+expect 'a database of 16 parts' 0 'change r1 records 80' '' play ../out/schedule
+changes 81 "$locators" > ../out/schedule
+expect 'a database of 17 parts' 2 '' 'lispd: fault 84 line 1' play ../out/schedule
+
 ./changed.py "$program" || failed=1
 ./rows.py "$program" || failed=1
 ./failing.py "$program" || failed=1

@@ -1,11 +1,12 @@
 #!/usr/bin/env -S python3 -B
 """fuzz.py PROGRAM SEED COUNT
 Plays COUNT schedules drawn from SEED, SEED + 1 and so on: configurations, scripts and bytes in their grammar and near it.
-Each is played twice, and once more while a growth of memory is refused. Checked is what can be told without knowing the answers:
-the same output twice and whole lines; a Map-Server accepts no nonce twice and none after a higher one over its whole life, and a
-router sends none so under one key, though its store was lost; what a router counts was accepted; it sends and counts under its
-present key, and takes none that it may not; rows are listed in order; a text with a fault prints nothing but the fault. Prints the seed
-of each schedule that fails, which is left in out/fuzz-SEED.schedule, and ends with 1 where one does."""
+One in ten has large databases, of up to 1,024 records in up to 16 parts. Each is played twice, and once more while a growth of memory
+is refused. Checked is what can be told without knowing the answers: the same output twice and whole lines; a Map-Server accepts no
+nonce twice and none after a higher one over its whole life, and a router sends none so under one key over all parts, though its store
+was lost; what a router counts was accepted, and is of the part that it was sent of; what it lists as counted was counted of that part;
+it sends and counts under its present key, and takes none that it may not; rows are listed in order; a text with a fault prints nothing
+but the fault. Prints the seed of each schedule that fails, which is left in out/fuzz-SEED.schedule, and ends with 1 where one does."""
 import collections
 import concurrent.futures
 import ipaddress
@@ -22,11 +23,13 @@ LIMIT = 20
 GROWTHS = 600
 FAULT = re.compile(r"lispd: fault (?:2[0-3]|74|96|8[0-5] line \d+)\n")
 REFUSED_MEMORY = re.compile(r"lispd: fault (?:24|75|76|86 line \d+|97)\n")
-SENT = re.compile(r"sent (\S+) \S+ key (\d+) nonce (\d+)")
+PART = r"(?: part ([1-9]\d*))?"
+SENT = re.compile(r"sent (\S+) (\S+) key (\d+) nonce (\d+) datagram \d+" + PART)
 KEYED = re.compile(r"(rotated|emptied) (\S+) key (\d+)")
 UNSTARTED = re.compile(r"refused (\S+) 3[56]\b")
 ACCEPTED = re.compile(r"accepted (\S+) (\S+) key (\d+) nonce (\d+)")
-COUNTED = re.compile(r"counted (\S+) (\S+) key (\d+) nonce (\d+)")
+COUNTED = re.compile(r"counted (\S+) (\S+) key (\d+) nonce (\d+)" + PART)
+ACKS = re.compile(r"acks (\S+) (\S+)(?: none|" + PART + r" key (\d+) nonce (\d+))")
 NUMBERS = [0, 1, 2, 7, 255, 256, 65535, 2**31, 2**32 - 1, 2**32, 2**62, 2**63 - 1, 2**63, 2**64 - 1, 2**64]
 STEPS = [0, 1, 999, 1000, 20_000, 59_999, 60_000, 180_000, 2**62]
 DIGITS = "0123456789abcdef"
@@ -39,6 +42,7 @@ class Network:
 
     def __init__(self, draw):
         self.draw = draw
+        self.large = draw.random() < 0.1
         self.servers = [f"s{place}" for place in range(draw.randint(1, 3))]
         self.routers, self.keys = {}, {}
         sites = {f"{place + 1:016x}": draw.sample(range(256), draw.randint(1, 4)) for place in range(draw.randint(1, 2))}
@@ -77,9 +81,21 @@ class Network:
     def records(self):
         """Records of prefixes that differ, mostly."""
         draw = self.draw
+        if self.large and draw.random() < 0.5:
+            return self.many_records()
         prefixes = dict.fromkeys(self.prefix() for _ in range(draw.randint(0, 4)))
         return [f"{it}={draw.choice([0, 1, 2, 1440, 2**31, 2**32 - 1])}{''.join(f'+192.0.2.{at}' for at in range(draw.randint(0, 3)))}"
                 for it in prefixes]
+
+    def many_records(self):
+        """Records of several parts: many of them, or some of so many locators that five are a part. Seldom they are too many."""
+        draw = self.draw
+        count, locators = draw.choice([(draw.randint(254, 257), 0), (draw.randint(256, 1024), 0), (draw.randint(256, 1024), 2), (1024, 0),
+                                       (draw.randint(4, 20), 255)])
+        if draw.random() < 0.02:
+            count, locators = 1025, 0
+        shown, ttl = "+192.0.2.1" * locators, draw.choice([0, 1, 1440])
+        return [f"10.1.{it >> 8}.{it & 255}/32={ttl}{shown}" for it in draw.sample(range(2**16), count)]
 
 
 def command(network, draw, sent):
@@ -91,16 +107,18 @@ def command(network, draw, sent):
     number = draw.randint(0, sent) if draw.random() < 0.9 else draw.choice(NUMBERS)
     key = draw.choice(network.keys[router]) if draw.random() < 0.9 else draw.randint(0, 256)
     node = draw.choice([server, router])
+    records = " ".join(network.records()) or "empty" if word in ("change", "restart", "lose") else ""
+    part = f" part {draw.choice([0, 1, 1, 2, 3, 4, 5, 15, 16])}" if draw.random() < (0.6 if network.large else 0.1) else ""
     return {
-        "send": f"send {router} {draw.choice(network.routers[router])}{' doubt' if fails == ' doubt' else ''}",
+        "send": f"send {router} {draw.choice(network.routers[router])}{part}{' doubt' if fails == ' doubt' else ''}",
         "deliver": f"deliver {number}{fails}",
         "tick": f"tick {draw.choice(STEPS)}",
-        "change": f"change {router} {' '.join(network.records()) or 'empty'}",
+        "change": f"change {router} {records}",
         "junk": f"junk {node} 127.0.{draw.randint(1, 2)}.{draw.randint(0, 3)} {network.hex(0, 90) or '-'}",
         "restart": f"restart {server} {draw.randint(0, 2)}" if draw.random() < 0.5 else
-                   f"restart {router} {draw.randint(0, 2)} {' '.join(network.records()) or 'empty'}",
+                   f"restart {router} {draw.randint(0, 2)} {records}",
         "rotate": f"rotate {router} {key}{' loadfails' if fails == ' loadfails' else ''}",
-        "lose": f"lose {router} {key}" if draw.random() < 0.5 else f"lose {router} {key} {' '.join(network.records()) or 'empty'}",
+        "lose": f"lose {router} {key}" if draw.random() < 0.5 else f"lose {router} {key} {records}",
         "notice": f"notice {server} {router}{fails}",
         "resend": f"resend {server} {router}",
         "hold": f"hold {server}",
@@ -172,7 +190,7 @@ class Keys:
 
 def wrong_line(output):
     """The first line that can't follow those before it, or None."""
-    last, accepted, rows, keys = {}, set(), [], collections.defaultdict(Keys)
+    last, accepted, parts, counted, rows, keys = {}, set(), {}, set(), [], collections.defaultdict(Keys)
     for line in output.splitlines():
         if it := ACCEPTED.match(line):
             server, router, key, nonce = it.groups()
@@ -180,13 +198,21 @@ def wrong_line(output):
                 return line
             last[server, router, key] = int(nonce)
             accepted.add(it.groups())
-        elif it := COUNTED.match(line):
-            router, server, key, nonce = it.groups()
-            if (server, router, key, nonce) not in accepted or not keys[router].has(key):
+        elif it := COUNTED.fullmatch(line):
+            router, server, key, nonce, part = it.groups("0")
+            if (server, router, key, nonce) not in accepted or parts.get((router, server, key, nonce)) != part or not keys[router].has(key):
                 return line
-        elif it := SENT.match(line):
-            if not keys[it[1]].sends(it[2], int(it[3])):
+            counted.add((router, server, part, key, nonce))
+        elif it := SENT.fullmatch(line):
+            router, server, key, nonce, part = it.groups("0")
+            if not keys[router].sends(key, int(nonce)):
                 return line
+            parts[router, server, key, nonce] = part
+        elif it := ACKS.fullmatch(line):
+            if it[4] and it.groups("0") not in counted:
+                return line
+        elif line.startswith(("counted ", "sent ", "acks ")):
+            return line
         elif it := KEYED.match(line):
             if not keys[it[2]].takes(it[1], it[3]):
                 return line

@@ -1,11 +1,13 @@
-//! Measures the codec and the tag, registrations and lookups at a Map-Server whose store lies in memory, the reading of a
-//! configuration, and how often a router saves, if there is a word; with no word nothing is measured. `make bench` runs it.
+//! Measures the codec and the tag, registrations and lookups at a Map-Server whose store lies in memory, a large database in
+//! its parts, the reading of a configuration, and how often a router saves, if there is a word; with no word nothing is
+//! measured. `make bench` runs it.
 #![tactic(auto)]
 
 mod codec;
 mod configuration;
 mod lookups;
 mod network;
+mod parts;
 mod registers;
 mod saves;
 mod stopwatch;
@@ -27,6 +29,7 @@ fn run<R: Env + Print + Clock + AllocGlobal>(rt: &R) -> Option<()> {
     }
     codec::measure(rt)?;
     network::measure(rt)?;
+    parts::measure(rt)?;
     configuration::measure(rt)?;
     saves::measure(rt)
 }

@@ -63,7 +63,7 @@ fn send_all<S: NonceStore>(alloc: Global, nonce_block: u16, store: &mut S) -> Op
 
 fn send_each<S: NonceStore>(router: &mut Etr, store: &mut S) -> Option<()> {
     for _ in 0..SENDS {
-        router.send(store, 0, 0).ok()?;
+        router.send(store, 0, 0, 0).ok()?;
     }
     Some(())
 }

@@ -5,9 +5,9 @@ use Rattle.std.specs.List.{Contains}
 use Rattle.lisp_messages.specs.Message.{MapRegisterValue}
 use Rattle.lisp_admission.specs.Pairs.{router_of}
 use Rattle.lisp_model.specs.declared.line.Line.TheVariants as lines
-use Rattle.lisp_model.specs.Trace.{Step, Opening, router_at}
+use Rattle.lisp_model.specs.Trace.{Step, Opening, address_at, router_at}
 use Rattle.lisp_model.specs.Held.{Acceptance}
-use Rattle.lisp_model.specs.Counted.{counted_nonces, counted_nonces_after}
+use Rattle.lisp_model.specs.Counted.{Acknowledged, counted_nonces, counted_nonces_after}
 use Rattle.lisp_model.specs.declared.line.Line.{Line}
 use Rattle.lisp_model.specs.Legal.{LegalTrace}
 use Rattle.lisp_model.specs.Network.{IsNetwork}
@@ -16,7 +16,7 @@ use Rattle.lisp_model.specs.Promises as schedules
 use Rattle.lisp_refinement.specs.Headline.{OfEachStep}
 use Rattle.lisp_model.proofs.Locality.{same_number}
 use Rattle.lisp_model.proofs.ListLemmas.{at_head, in_tail}
-use Rattle.lisp_client.specs.Steps.{IsIn, WasSent}
+use Rattle.lisp_client.specs.Steps.{IsIn}
 use Rattle.lisp_client.specs.Promised.{AcceptedWereSent, CountedWasAccepted, CountedWereAccepted, DoneWasNoticed}
 use Rattle.lisp_client.proofs.Steps.{goes_up, each_at}
 use Rattle.lisp_client.proofs.Arrivals.{taken_of}
@@ -33,8 +33,8 @@ accepted_were_sent o T sent t before there server router key nonce reply is a =
 
 module _ (o : Opening) (T : List Step) (legal : LegalTrace o T) (network : IsNetwork o.config) (sent : AcceptedWasSent o T) where
   -- so was what a router counted
-  pub counted : (node server key nonce : ℕ) → WasAccepted o T node server key nonce → CountedWasAccepted o T node server key nonce
-  counted node server key nonce was =
+  pub counted : (node server part key nonce : ℕ) → WasAccepted o T node server part key nonce → CountedWasAccepted o T node server part key nonce
+  counted node server part key nonce was =
       let x = was.acceptance in
       let t = was_accepted o server x T legal was.taken in
       let a = t.how.taken.arrived in
@@ -43,14 +43,14 @@ module _ (o : Opening) (T : List Step) (legal : LegalTrace o T) (network : IsNet
       let e = found.0 in
       let w = was_entered o T e found.1.sent in
       let v = was_entered o T was.entry was.sent in
-      let me : (router_at o.config node).me ≡ router_of x.message = ap (λ (k : ℕ). (router_at o.config k).me) (sym was.who) ∙ sym (ap router_of was.message) in
+      let me : (router_at o.config was.entry.router).me ≡ router_of x.message = sym (ap router_of was.message) in
       let under : key ≡ x.message.key_id = sym was.under ∙ sym (ap (λ (m : MapRegisterValue). m.key_id) was.message) in
       let number : nonce ≡ x.message.nonce = sym was.number ∙ sym (ap (λ (m : MapRegisterValue). m.nonce) was.message) in
-      let its : e.router ≡ node = one_router o.config network.routers e.router was.entry.router
-      (router_sends o T legal w.step w.before w.there e.router e.server e.key e.nonce w.datagram w.line)
-      (router_sends o T legal v.step v.before v.there was.entry.router was.entry.server was.entry.key was.entry.nonce v.datagram v.line)
-      (sym (ap router_of found.1.message) ∙ ap router_of was.message) ∙ was.who in
-      record {
+      let its : e.router ≡ was.entry.router = one_router o.config network.routers e.router was.entry.router
+      (router_sends o T legal w.step w.before w.there e.router e.server e.part e.key e.nonce w.datagram w.line)
+      (router_sends o T legal v.step v.before v.there was.entry.router was.entry.server was.entry.part was.entry.key was.entry.nonce v.datagram v.line)
+      (sym (ap router_of found.1.message) ∙ ap router_of was.message) in
+      subst (λ (k : ℕ). CountedWasAccepted o T k server part key nonce) was.who (record {
         accepting = t.step;
         before_accepting = t.before;
         there = t.there;
@@ -65,37 +65,42 @@ module _ (o : Opening) (T : List Step) (legal : LegalTrace o T) (network : IsNet
           under = a.under ∙ sym under;
           number = a.number ∙ sym number;
         };
-        sending = w.step;
-        before_sending = w.before;
-        sent = subst (λ (k : ℕ). WasSent o T server a.message a.arrival.from k w.step w.before) its (was_sent o T server a.message a.arrival.from e found.1.whom
-            (ap (λ (y : Acceptance). y.message) (sym only) ∙ found.1.message) (ap (λ (y : Acceptance). y.from) (sym only) ∙ found.1.from) w);
-      }
+        sending = v.step;
+        before_sending = v.before;
+        sent = was_sent o T server a.message a.arrival.from was.entry was.whom (ap (λ (y : Acceptance). y.message) (sym only) ∙ was.message)
+            (ap (λ (y : Acceptance). y.from) (sym only) ∙ found.1.from ∙ ap (address_at o.config) its) v;
+        of = was.of;
+      })
 
 -- a count stays counted
-stays_counted : (line : Line) (node server : ℕ) (old : List (ℕ × ℕ)) (x : ℕ × ℕ) → Contains old x → Contains (counted_nonces_after line node server old) x
-stays_counted (lines.Counted router other key nonce) node server old x has = by (router == node && other == server)
+stays_counted : (line : Line) (node server : ℕ) (old : List Acknowledged) (x : Acknowledged) → Contains old x → Contains (counted_nonces_after line node server old) x
+stays_counted (lines.Counted router other part key nonce) node server old x has = by (router == node && other == server)
   where
-    by : (b : Bool) → Contains (if b then (key, nonce) ∷ old else old) x
-    by true = in_tail (key, nonce) old x has
+    by : (b : Bool) → Contains (if b then record { part = part; key = key; nonce = nonce } ∷ old else old) x
+    by true = in_tail (record { part = part; key = key; nonce = nonce }) old x has
     by false = has
 stays_counted _ node server old x has = has
 
 -- and each line of a count adds what it counts
-counts_in : (T : List Step) (s : Step) (before : List Step) → IsIn T s before → (node server key nonce : ℕ) → s.line ≡ lines.Counted node server key nonce → Contains (counted_nonces T node server) (key, nonce)
-counts_in T s before there node server key nonce is =
-    goes_up (λ (U : List Step). Contains (counted_nonces U node server) (key, nonce)) (λ y U has. stays_counted y.line node server (counted_nonces U node server) (key, nonce) has) T s before there
-    (subst (λ (xs : List (ℕ × ℕ)). Contains xs (key, nonce)) (sym adds) (at_head (key, nonce) (counted_nonces before node server)))
+counts_in : (T : List Step) (s : Step) (before : List Step) → IsIn T s before → (node server part key nonce : ℕ) → s.line ≡ lines.Counted node server part key nonce
+    → Contains (counted_nonces T node server) (record { part = part; key = key; nonce = nonce })
+counts_in T s before there node server part key nonce is =
+    goes_up (λ (U : List Step). Contains (counted_nonces U node server) its) (λ y U has. stays_counted y.line node server (counted_nonces U node server) its has) T s before there
+    (subst (λ (xs : List Acknowledged). Contains xs its) (sym adds) (at_head its (counted_nonces before node server)))
   where
-    adds : counted_nonces (s ∷ before) node server ≡ (key, nonce) ∷ counted_nonces before node server
+    its : Acknowledged
+    its = record { part = part; key = key; nonce = nonce }
+
+    adds : counted_nonces (s ∷ before) node server ≡ its ∷ counted_nonces before node server
     adds =
         ap (λ (line : Line). counted_nonces_after line node server (counted_nonces before node server)) is
-        ∙ ap (λ (b : Bool). if b && server == server then (key, nonce) ∷ counted_nonces before node server else counted_nonces before node server) (same_number node)
-        ∙ ap (λ (b : Bool). if b then (key, nonce) ∷ counted_nonces before node server else counted_nonces before node server) (same_number server)
+        ∙ ap (λ (b : Bool). if b && server == server then its ∷ counted_nonces before node server else counted_nonces before node server) (same_number node)
+        ∙ ap (λ (b : Bool). if b then its ∷ counted_nonces before node server else counted_nonces before node server) (same_number server)
 
 -- so each that a router counted was accepted
 pub counted_were_accepted : (o : Opening) (T : List Step) → LegalTrace o T → IsNetwork o.config → AcceptedWasSent o T → schedules.CountedWasAccepted o T → CountedWereAccepted o T
-counted_were_accepted o T legal network sent all s before there node server key nonce is =
-    counted o T legal network sent node server key nonce (all node server key nonce (counts_in T s before there node server key nonce is))
+counted_were_accepted o T legal network sent all s before there node server part key nonce is =
+    counted o T legal network sent node server part key nonce (all node server (record { part = part; key = key; nonce = nonce }) (counts_in T s before there node server part key nonce is))
 
 -- what is done was noticed
 pub done_was_noticed : (o : Opening) (T : List Step) → OfEachStep (schedules.DoneWasNoticed o) T → DoneWasNoticed o T

@@ -1,10 +1,10 @@
 -- From the network's contracts to the client's.
-use Rattle.std.proofs.Common.{◌≡◌, ℕ, zero, suc, ◌+◌, ◌-◌, ◌^◌, ◌<◌, ◌≤◌, nat_lt, nat_le, ◌&&◌, Bool, true, false, List, [], ◌∷◌, ◌++◌, length, replicate, take, Option, Some, None, Ok, Err, map, refl, sym, ap, subst, ◌∙◌, inl, inr, ◌⊎◌, arith}
+use Rattle.std.proofs.Common.{Bor, ◌≡◌, ℕ, zero, suc, ◌+◌, ◌-◌, ◌^◌, ◌<◌, ◌≤◌, nat_lt, nat_le, ◌&&◌, Bool, true, false, List, [], ◌∷◌, ◌++◌, length, get_or, replicate, take, Option, Some, None, Ok, Err, map, refl, sym, ap, subst, ◌∙◌, inl, inr, ◌⊎◌, arith}
 use Rattle.std.proofs.lemmas.Bool.{ltb-true, ltb-false, leb-true}
-use Rattle.std.proofs.lemmas.List.{append-nil}
-use Rattle.std.proofs.lemmas.Option.{slice_get_within}
-use Rattle.std.specs.Prelude.{Result, IfOk, IfSome, IfNone, OnErr, slice_get, IsTrue, if◌then◌else◌}
-use Rattle.std.specs.Option.{option_map, option_and_then}
+use Rattle.std.proofs.lemmas.List.{append-nil, get_or_past}
+use Rattle.std.proofs.lemmas.Option.{get_or_from_slice_get, slice_get_read, slice_get_within, unwrap_or-slice_get}
+use Rattle.std.specs.Prelude.{Result, IfOk, IfSome, IfNone, OnErr, is_some, slice_get, IsTrue, if◌then◌else◌}
+use Rattle.std.specs.Option.{option_copied, option_flatten, option_map, option_and_then, unwrap_or}
 use Rattle.std.specs.Result.{result_ok}
 use Rattle.lisp_nonces.specs.Memory.{MemoryStoreState, memory_state}
 use Rattle.lisp_nonces.specs.declared.fault.StoreFault.TheVariants as faults
@@ -12,18 +12,20 @@ use Rattle.lisp_policy.specs.Configuration.{ConfigValue}
 use Rattle.lisp_records.specs.Row.{RowValue}
 use Rattle.lisp_lookup.specs.Table.{IsHeld}
 use Rattle.lisp_etr.specs.Etr.{EtrState}
-use Rattle.lisp_etr.specs.declared.round.Round.{Round}
+use Rattle.lisp_etr.specs.Rounds.{acked_at}
+use Rattle.lisp_etr.specs.declared.rounds.Rounds.{Rounds}
 use Rattle.lisp_etr.specs.declared.start_fault.StartFault.TheVariants as starts
 use Rattle.lisp_server.specs.Server.{ServerState}
 use Rattle.lisp_model.specs.History.{SentRegister}
 use Rattle.lisp_model.specs.Trace.{EventValue, Step, Opening, router_at, is_server, is_router, is_up}
 use Rattle.lisp_model.specs.Counted.{acked}
+use Rattle.lisp_model.specs.Numbers.{part_numbers}
 use Rattle.lisp_model.specs.declared.line.Line.{Line}
 use Rattle.lisp_model.specs.declared.world_fault.WorldFault.{WorldFault}
 use Rattle.lisp_model.specs.declared.world_fault.WorldFault.TheVariants.{NoNode, WrongKind, UnknownKey, KeyUsed, NoDatagram, Clock, Repeated, OutOfMemory, Start}
 use Rattle.lisp_refinement.specs.World.{WorldState, ServerNodeState, RouterNodeState, RouterCoreState, Up, Down}
 use Rattle.lisp_refinement.specs.Nodes.{server_at, up_in, etr_at}
-use Rattle.lisp_refinement.specs.Stands.{Stands, StandsForCore, StandsForEtr}
+use Rattle.lisp_refinement.specs.Stands.{Stands, StandsForCore, StandsForEtr, StandsForRounds}
 use Rattle.lisp_refinement.specs.Headline.{Lists, IsSentRow, OverClean, Promises}
 use Rattle.lisp_world.specs.Faults.{fault_of}
 use Rattle.lisp_world.specs.Making.{AllBelowEnd, IsCalmFault}
@@ -31,9 +33,10 @@ use Rattle.lisp_world.specs.Quiet.{AllHonest, AllCalm, IsCalm, stores_of}
 use Rattle.lisp_world.specs.Openings.{opening, repeats, lists_of}
 use Rattle.lisp_world.specs.Runs.{RunsOn, StopsAt}
 use Rattle.lisp_refinement.proofs.Gets.{none_is_some, same_some, get_within}
+use Rattle.lisp_refinement.proofs.PartLists.{list_by_parts}
 use Rattle.lisp_client.specs.declared.question.Question.{Question}
 use Rattle.lisp_client.specs.Promised.{WasRegistered}
-use Rattle.lisp_client.specs.Answers.{HasRun, IsPromised, IsPromisedOverClean, IsNotThere, HasNotRun, IsUntold, counted_at}
+use Rattle.lisp_client.specs.Answers.{HasRun, IsPromised, IsPromisedOverClean, IsNotThere, HasNotRun, IsUntold, counted_of, counted_at}
 use Rattle.lisp_client.specs.Stores.{fresh}
 use Rattle.lisp_client.proofs.Stores.{each_fresh, nothing_kept}
 use Rattle.lisp_client.proofs.Rises.{nonces_rise, notice_nonces_rise}
@@ -115,6 +118,30 @@ router_bounds c router is = by (nat_le (length c.servers) router) (nat_lt router
     by true false least most holds = absurd cc
     by false b least most holds = absurd cc
 
+-- what is read of a part is what was counted of it
+pub part_read : (counted : List (Option (ℕ × ℕ))) (part : ℕ) (r : Option (Bor (Option (ℕ × ℕ)))) → is_some r ≡ nat_lt part (length counted) → IfSome r (λ x. x.now ≡ get_or counted part x.now)
+    → option_flatten (option_copied r) ≡ counted_of counted part
+part_read counted part (Some x) there read =
+    sym (get_or_from_slice_get counted part x.now None (slice_get_read counted (length counted) part x.now refl (ltb-true part (length counted) (sym there)) read))
+part_read counted part None past read = sym (get_or_past counted part None (ltb-false part (length counted) (sym past)))
+
+-- what was counted of a part stands at its place
+counted_there : (counted : List (Option (ℕ × ℕ))) (part : ℕ) (x : ℕ × ℕ) → counted_of counted part ≡ Some x → slice_get counted part ≡ Some (Some x)
+counted_there counted part x is = by (slice_get counted part) refl
+  where
+    by : (found : Option (Option (ℕ × ℕ))) → slice_get counted part ≡ found → found ≡ Some (Some x)
+    by (Some y) at = ap Some (sym (get_or_from_slice_get counted part y None at) ∙ is)
+    by None at = absurd (none_is_some (sym (ap (λ (found : Option (Option (ℕ × ℕ))). unwrap_or found None) at) ∙ unwrap_or-slice_get counted part None ∙ is))
+
+-- what a router counted of a part from a Map-Server, if it has it in its list
+abbrev counted_of_rounds : ℕ → Option Rounds → Option (ℕ × ℕ)
+counted_of_rounds part found = counted_of (unwrap_or (option_map (λ (rs : Rounds). rs.acked) found) []) part
+
+-- part by part a router counted what the trace counts
+counts_part : (T : List Step) (router server : ℕ) (rs : Rounds) → StandsForRounds T router server rs → (part : ℕ) → counted_of rs.acked part ≡ counted_of (map (acked T router server) part_numbers) part
+counts_part T router server rs stands part =
+    ap (λ (counted : List (Option (ℕ × ℕ))). counted_of counted part) (list_by_parts (acked T router server) rs.acked stands.acked_parts stands.acked)
+
 -- of two lists of one length, what is behind the end of one is behind that of the other
 both_past : {X Y : Type 0} (xs : List X) (ys : List Y) (k : ℕ) → length xs ≡ length ys → slice_get ys k ≡ None → slice_get xs k ≡ None
 both_past [] ys k count past = refl
@@ -153,19 +180,20 @@ module _ (w : WorldState) (o : Opening) (T : List Step) (stand : Stands w o T) w
 
   -- counted what the trace counts, from each Map-Server of its list, and nothing behind its end
   pub counts_so : (router : ℕ) (etr : EtrState) → etr_at w router ≡ Some etr → (k : ℕ)
-      → option_and_then (λ (r : Round). r.acked) (slice_get etr.rounds k) ≡ counted_at o.config T router k
-  counts_so router etr is_up k = by (slice_get (router_at o.config router).servers k) refl
+      → (part : ℕ) → counted_of (acked_at etr.rounds k) part ≡ counted_at o.config T router k part
+  counts_so router etr is_up k part = by (slice_get (router_at o.config router).servers k) refl
     where
-      part : StandsForEtr o T router etr
-      part = up_part router etr is_up
+      its_part : StandsForEtr o T router etr
+      its_part = up_part router etr is_up
 
-      by : (found : Option ℕ) → slice_get (router_at o.config router).servers k ≡ found → option_and_then (λ (r : Round). r.acked) (slice_get etr.rounds k) ≡ option_and_then (acked T router) found
-      by None past = ap (option_and_then (λ (r : Round). r.acked)) (both_past etr.rounds (router_at o.config router).servers k part.count past)
+      by : (found : Option ℕ) → slice_get (router_at o.config router).servers k ≡ found
+          → counted_of_rounds part (slice_get etr.rounds k) ≡ option_and_then (λ (server : ℕ). counted_of (map (acked T router server) part_numbers) part) found
+      by None past = ap (counted_of_rounds part) (both_past etr.rounds (router_at o.config router).servers k its_part.count past) ∙ get_or_past [] part None (omega arith)
       by (Some server) listed =
           let low = slice_get_within (router_at o.config router).servers k server listed in
-          let count = part.count in
+          let count = its_part.count in
           let its = get_within etr.rounds k (omega (arith, low, count)) in
-          ap (option_and_then (λ (r : Round). r.acked)) its.1 ∙ (part.rounds k server its.0 listed its.1).acked
+          ap (counted_of_rounds part) its.1 ∙ counts_part T router server its.0 (its_part.rounds k server its.0 listed its.1) part
 
   -- one that isn't up has no number of a router, or is down
   pub router_missing : (router : ℕ) → etr_at w router ≡ None → (is_router o.config router ≡ false) ⊎ (is_up T router ≡ false)
@@ -215,7 +243,7 @@ lists w server listed core now serves clock holds = record { core = core; runnin
 -- what its nodes told is as promised
 module _ (c : ConfigValue) (events : List EventValue) (w : WorldState) (ran : HasRun c events w) (question : Question) where
   module _ (listed listed_by_other : List RowValue) (one : Lists w question.server listed) (other : Lists w question.other listed_by_other)
-      (etr : EtrState) (is_up : etr_at w question.router ≡ Some etr) (counted : Option (ℕ × ℕ)) (told : counted ≡ option_and_then (λ round. round.acked) (slice_get etr.rounds question.place)) where
+      (etr : EtrState) (is_up : etr_at w question.router ≡ Some etr) (counted : Option (ℕ × ℕ)) (told : counted ≡ counted_of (acked_at etr.rounds question.place) question.part) where
     over_clean : OverClean w ran.opening ran.trace → IsPromisedOverClean ran.opening ran.trace question listed listed_by_other counted
     over_clean promised =
         let legal = ran.stands.steps.legal in
@@ -226,8 +254,9 @@ module _ (c : ConfigValue) (events : List EventValue) (w : WorldState) (ran : Ha
           registered_at_other = λ row has. row_registered question.other row (promised.listed_was_sent question.other listed_by_other other row has);
           agree = agree w ran.opening ran.trace legal network promised.listed_was_sent promised.listed_agree question.server question.other listed listed_by_other one other;
           counted_was_accepted = λ key nonce server is_place is.
-              was_counted ran.opening ran.trace legal network promised.accepted_was_sent question.router server key nonce
-              (promised.counts_are_accepted question.router question.place key nonce server is_place (record { core = etr; running = is_up; counted = sym told ∙ is }));
+              was_counted ran.opening ran.trace legal network promised.accepted_was_sent question.router server question.part key nonce
+              (promised.counts_are_accepted question.router question.place question.part key nonce server is_place
+              (record { core = etr; running = is_up; counted = counted_there (acked_at etr.rounds question.place) question.part (key, nonce) (sym told ∙ is) }));
           counted_were_accepted = counted_were_accepted ran.opening ran.trace legal network promised.accepted_was_sent promised.counted_was_accepted;
           done = done_was_noticed ran.opening ran.trace promised.done_was_noticed;
         }
@@ -247,8 +276,8 @@ module _ (c : ConfigValue) (events : List EventValue) (w : WorldState) (ran : Ha
           events_are = ran.events_are;
           held = headline.listed_is_held question.server listed one;
           held_by_other = headline.listed_is_held question.other listed_by_other other;
-          counts = subst (λ (d : ConfigValue). counted ≡ counted_at d ran.trace question.router question.place) ran.config
-              (told ∙ counts_so w ran.opening ran.trace ran.stands question.router etr is_up question.place);
+          counts = subst (λ (d : ConfigValue). counted ≡ counted_at d ran.trace question.router question.place question.part) ran.config
+              (told ∙ counts_so w ran.opening ran.trace ran.stands question.router etr is_up question.place question.part);
           nonces_rise = nonces_rise ran.opening ran.trace ran.stands.steps.legal headline.nonces_rise;
           replays_are_tried = replays_are_tried ran.opening ran.nothing_kept ran.trace headline.replays_are_tried;
           notice_nonces_rise = notice_nonces_rise ran.trace headline.notice_nonces_rise;

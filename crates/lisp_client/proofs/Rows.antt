@@ -2,6 +2,7 @@
 use Rattle.std.proofs.Common.{◌≡◌, ℕ, ◌<◌, Bool, true, false, List, length, Some, refl, sym, ap, subst, inl, inr, ◌∙◌}
 use Rattle.std.specs.Prelude.{◌==◌}
 use Rattle.std.proofs.lemmas.Bool.Decides.{Decides-eqb}
+use Rattle.lisp_records.specs.Database.{record_for}
 use Rattle.lisp_records.specs.Record.{MapRecordValue}
 use Rattle.lisp_records.specs.Row.{RowValue}
 use Rattle.lisp_admission.specs.Pairs.{router_of}
@@ -10,7 +11,7 @@ use Rattle.lisp_model.specs.declared.event.Event.TheVariants as events
 use Rattle.lisp_model.specs.declared.line.Line.TheVariants as lines
 use Rattle.lisp_model.specs.Trace.{EventValue, Step, Opening}
 use Rattle.lisp_model.specs.Held.{Acceptance}
-use Rattle.lisp_model.specs.History.{SentRegister, record_for}
+use Rattle.lisp_model.specs.History.{SentRegister}
 use Rattle.lisp_model.specs.Change.{gives_database, Keeps, NoChange}
 use Rattle.lisp_model.specs.Legal.{LegalTrace}
 use Rattle.lisp_model.specs.Network.{IsNetwork}
@@ -104,13 +105,13 @@ keeps T node one other none = (λ place s low high is. forth place s low high (p
 module _ (o : Opening) (T : List Step) (legal : LegalTrace o T) (network : IsNetwork o.config) where
   -- the entry of a row is that of each step in which its router sent it
   pub same_entry : (server : ℕ) (row : RowValue) (e : SentRegister) → IsSentRow o T server row e → (node : ℕ) (s : Step) (before : List Step) (at : IsSentIn o T server row node s before)
-      → entry_of o before node server row.key row.nonce ≡ e
+      → entry_of o before node server at.part row.key row.nonce ≡ e
   same_entry server row e sent node s before at =
       let w = was_entered o T e sent.sent in
       let number = one_router o.config network.routers node e.router
-      (router_sends o T legal s before at.there node server row.key row.nonce at.datagram at.line)
-      (router_sends o T legal w.step w.before w.there e.router e.server e.key e.nonce w.datagram w.line) (at.who ∙ sent.of.router) in
-      sent.made.message.only (entry_of o before node server row.key row.nonce) (enters o T s before at.there node server row.key row.nonce at.datagram at.line) number sent.of.key sent.of.nonce
+      (router_sends o T legal s before at.there node server at.part row.key row.nonce at.datagram at.line)
+      (router_sends o T legal w.step w.before w.there e.router e.server e.part e.key e.nonce w.datagram w.line) (at.who ∙ sent.of.router) in
+      sent.made.message.only (entry_of o before node server at.part row.key row.nonce) (enters o T s before at.there node server at.part row.key row.nonce at.datagram at.line) number sent.of.key sent.of.nonce
 
 -- rows that were sent with no change between agree
 pub agree : (w : WorldState) (o : Opening) (T : List Step) → LegalTrace o T → IsNetwork o.config → ListedWasSent w o T → ListedAgree w o T
@@ -121,6 +122,6 @@ agree w o T legal network were_sent equal one other listed listed_by_other lists
     let same_g = same_entry o T legal network one g row_g.0 row_g.1 node s before_s sent_g in
     let same_h = same_entry o T legal network other h row_h.0 row_h.1 node t before_t sent_h in
     let both = keeps T node before_s before_t none in
-    let no_change : NoChange T (entry_of o before_s node one g.key g.nonce) (entry_of o before_t node other h.key h.nonce) = record { router = refl; later = both.0; earlier = both.1 } in
+    let no_change : NoChange T (entry_of o before_s node one sent_g.part g.key g.nonce) (entry_of o before_t node other sent_h.part h.key h.nonce) = record { router = refl; later = both.0; earlier = both.1 } in
     equal one other listed listed_by_other lists lists_other g h has_g has_h router eid row_g.0 row_h.0 row_g.1 row_h.1
-    (subst (λ (e : SentRegister). NoChange T row_g.0 e) same_h (subst (λ (d : SentRegister). NoChange T d (entry_of o before_t node other h.key h.nonce)) same_g no_change))
+    (subst (λ (e : SentRegister). NoChange T row_g.0 e) same_h (subst (λ (d : SentRegister). NoChange T d (entry_of o before_t node other sent_h.part h.key h.nonce)) same_g no_change))

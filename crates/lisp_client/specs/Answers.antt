@@ -1,5 +1,5 @@
 -- What a client is promised of the answers that it got, and why it may have got none.
-use Rattle.std.specs.Prelude.{◌≡◌, ◌⊎◌, ℕ, true, false, List, [], map, reverse, take, slice_get, Option, Some}
+use Rattle.std.specs.Prelude.{◌≡◌, ◌⊎◌, ℕ, true, false, List, [], map, reverse, take, slice_get, slice_index_or, Option, Some, None}
 use Rattle.std.specs.FinMap.{empty}
 use Rattle.std.specs.List.{Contains}
 use Rattle.std.specs.Option.{option_and_then}
@@ -8,6 +8,7 @@ use Rattle.lisp_policy.specs.Configuration.{ConfigValue}
 use Rattle.lisp_model.specs.declared.event.Event.{Event}
 use Rattle.lisp_model.specs.Trace.{EventValue, event_value, Step, Opening, shown_store, router_at, clock, is_server, is_router, is_up}
 use Rattle.lisp_model.specs.Counted.{acked}
+use Rattle.lisp_model.specs.Numbers.{part_numbers}
 use Rattle.lisp_model.specs.Held.{rows}
 use Rattle.lisp_model.specs.Bag.{since_start}
 use Rattle.lisp_model.specs.Clean.{Clean}
@@ -33,9 +34,15 @@ pub record HasRun (c : ConfigValue) (events : List EventValue) (w : WorldState) 
   pub stands : Stands w opening trace
   pub promises : Promises w
 
--- what a trace counts last from the Map-Server at a place of a router's list; nothing behind the list's end
-abbrev pub counted_at : ConfigValue → List Step → ℕ → ℕ → Option (ℕ × ℕ)
-counted_at c T router place = option_and_then (acked T router) (slice_get (router_at c router).servers place)
+-- what a trace counts last of a part from the Map-Server at a place of a router's list; nothing behind the list's end,
+-- nor of a part that no database may have
+abbrev pub counted_of : List (Option (ℕ × ℕ)) → ℕ → Option (ℕ × ℕ)
+counted_of counted part = slice_index_or counted part None
+
+abbrev pub counted_at : ConfigValue → List Step → ℕ → ℕ → ℕ → Option (ℕ × ℕ)
+counted_at c T router place part =
+    option_and_then (λ server. counted_of (map (acked T router server) part_numbers) part)
+    (slice_get (router_at c router).servers place)
 
 -- where nobody outside knows a secret
 pub record IsPromisedOverClean (o : Opening) (T : List Step) (question : Question)
@@ -46,7 +53,7 @@ pub record IsPromisedOverClean (o : Opening) (T : List Step) (question : Questio
   pub agree : RowsAgree o T question.server question.other listed listed_by_other
   pub counted_was_accepted : (key nonce server : ℕ)
       → slice_get (router_at o.config question.router).servers question.place ≡ Some server
-      → counted ≡ Some (key, nonce) → CountedWasAccepted o T question.router server key nonce
+      → counted ≡ Some (key, nonce) → CountedWasAccepted o T question.router server question.part key nonce
   pub counted_were_accepted : CountedWereAccepted o T
   pub done : DoneWasNoticed o T
 
@@ -62,7 +69,7 @@ pub record IsPromised (c : ConfigValue) (events : List EventValue) (question : Q
   pub events_are : map (λ s. s.event) trace ≡ reverse events
   pub held : listed ≡ rows (since_start opening trace question.server) (clock trace)
   pub held_by_other : listed_by_other ≡ rows (since_start opening trace question.other) (clock trace)
-  pub counts : counted ≡ counted_at c trace question.router question.place
+  pub counts : counted ≡ counted_at c trace question.router question.place question.part
   pub nonces_rise : NoncesRise trace
   pub replays_are_tried : ReplaysAreTried opening trace
   pub notice_nonces_rise : NoticeNoncesRise trace

@@ -3,13 +3,13 @@
 use Rattle.std.specs.Prelude.{◌≡◌, ℕ, ◌<◌, List, Option, Some}
 use Rattle.std.specs.List.{Contains}
 use Rattle.lisp_records.specs.declared.router.RouterId.{RouterId}
+use Rattle.lisp_records.specs.Database.{record_for}
 use Rattle.lisp_records.specs.Row.{RowValue}
 use Rattle.lisp_admission.specs.declared.refused.Refused.TheVariants.{Replay, StoreSave}
 use Rattle.lisp_model.specs.declared.line.Line.{Line}
 use Rattle.lisp_model.specs.declared.line.Line.TheVariants as lines
 use Rattle.lisp_model.specs.declared.refusal.Refusal.TheVariants.{Receive}
 use Rattle.lisp_model.specs.Trace.{Step, Opening, database, router_at}
-use Rattle.lisp_model.specs.History.{record_for}
 use Rattle.lisp_client.specs.Steps.{IsIn, Arrives, WasSent, IsAcceptedIn, IsSentIn, UnchangedBetween}
 
 -- of two Map-Registers of a router under a key that a Map-Server accepted, the later one has the greater nonce,
@@ -69,8 +69,8 @@ RowsAgree o T one other listed listed_by_other = (g h : RowValue) → Contains l
     → IsSentIn o T one g node s before_s → IsSentIn o T other h node t before_t
     → UnchangedBetween T node before_s before_t → g.mapping ≡ h.mapping
 
--- what a router counted was sent to the Map-Server, which accepted it
-pub record CountedWasAccepted (o : Opening) (T : List Step) (node server key nonce : ℕ) : Type 0 where
+-- what a router counted of a part was sent of that part to the Map-Server, which accepted it
+pub record CountedWasAccepted (o : Opening) (T : List Step) (node server part key nonce : ℕ) : Type 0 where
   pub accepting : Step
   pub before_accepting : List Step
   pub there : IsIn T accepting before_accepting
@@ -80,12 +80,13 @@ pub record CountedWasAccepted (o : Opening) (T : List Step) (node server key non
   pub sending : Step
   pub before_sending : List Step
   pub sent : WasSent o T server arrived.message arrived.arrival.from node sending before_sending
+  pub of : sent.part ≡ part
 
 -- so was each that a router ever counted
 abbrev pub CountedWereAccepted : Opening → List Step → Type 0
 CountedWereAccepted o T = (s : Step) (before : List Step) → IsIn T s before
-    → (node server key nonce : ℕ) → s.line ≡ lines.Counted node server key nonce
-    → CountedWasAccepted o T node server key nonce
+    → (node server part key nonce : ℕ) → s.line ≡ lines.Counted node server part key nonce
+    → CountedWasAccepted o T node server part key nonce
 
 -- a notice that is done was noticed before by the router that it was for, with that nonce, from that Map-Server
 pub record WasNoticed (o : Opening) (T : List Step) (server nonce : ℕ) (router : RouterId) : Type 0 where

@@ -2,6 +2,7 @@
 -- one first.
 use Rattle.std.specs.Prelude.{◌≡◌, ◌≢◌, ◌⊎◌, ℕ, ◌<◌, List, ◌∷◌, ◌++◌, length, Option, Some, Ok}
 use Rattle.std.specs.List.{Contains}
+use Rattle.lisp_records.specs.Parts.{part_at}
 use Rattle.lisp_records.specs.declared.address.Addr.{Addr}
 use Rattle.lisp_records.specs.declared.router.RouterId.{RouterId}
 use Rattle.lisp_records.specs.Record.{MapRecordValue}
@@ -30,17 +31,18 @@ pub record Arrives (o : Opening) (s : Step) (before : List Step) (router : Route
   pub under : message.key_id ≡ key
   pub number : message.nonce ≡ nonce
 
--- a Map-Register was sent in the step: by that router, from its address, to that Map-Server; its records are the
--- database that the router had then
+-- a Map-Register was sent in the step: by that router, from its address, to that Map-Server; its records are those of a
+-- part of the database that the router had then
 pub record WasSent (o : Opening) (T : List Step) (server : ℕ) (message : MapRegisterValue) (from : Addr) (node : ℕ)
     (s : Step) (before : List Step) : Type 0 where
   pub there : IsIn T s before
+  pub part : ℕ
   pub datagram : ℕ
-  pub line : s.line ≡ lines.Sent node server message.key_id message.nonce datagram
+  pub line : s.line ≡ lines.Sent node server part message.key_id message.nonce datagram
   pub source : from ≡ address_at o.config node
   pub message_is : message
       ≡ map_register_of (record (etr_config_of o.config (router_at o.config node)) { key_id = message.key_id })
-      (database o before node) message.nonce
+      (part_at (database o before node) part) message.nonce
 
 -- what a row was accepted in: a step since the Map-Server's last restart in which a Map-Register arrived, and the row
 -- was made of it
@@ -58,8 +60,9 @@ pub record IsSentIn (o : Opening) (T : List Step) (server : ℕ) (row : RowValue
     (before : List Step) : Type 0 where
   pub there : IsIn T s before
   pub who : (router_at o.config node).me ≡ row.router
+  pub part : ℕ
   pub datagram : ℕ
-  pub line : s.line ≡ lines.Sent node server row.key row.nonce datagram
+  pub line : s.line ≡ lines.Sent node server part row.key row.nonce datagram
 
 -- the event gives the router no database
 abbrev pub GivesNoDatabase : EventValue → ℕ → Type 0

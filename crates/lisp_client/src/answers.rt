@@ -10,7 +10,7 @@ pub struct Answers<A: Allocator = Global> {
     pub rows: Vec<Row<A>, A>,
     /// The rows that the other one holds, in the same order.
     pub other_rows: Vec<Row<A>, A>,
-    /// The Key ID and nonce of the last Map-Register that the router counted as acknowledged by the Map-Server at the
-    /// place of its list.
+    /// The Key ID and nonce of the last Map-Register of the part that the router counted as acknowledged by the Map-Server
+    /// at the place of its list.
     pub counted: Option<(u8, u64)>,
 }

@@ -15,7 +15,7 @@ use lisp_world::World;
 use std::alloc::{AllocError, Allocator};
 
 /// Makes a network over stores in memory that keep nothing yet, lets the events happen, and asks two Map-Servers what they
-/// hold and one router what it counted last from the Map-Server at a place of its list. `None` if two nodes of the
+/// hold and one router what it counted last of a part from the Map-Server at a place of its list. `None` if two nodes of the
 /// configuration are alike, an event isn't taken, a Map-Server's number isn't one, the router's isn't that of one that is up,
 /// or memory runs out.
 pub fn ask<A: Memory + Copy, E: Allocator, F: Allocator>(
@@ -39,7 +39,8 @@ fn heard<A: Memory + Copy>(
     ensures told { IfSome result (HearsPromised world.now question) }
     ensures untold { IfNone result (HearsNothing A.may_refuse world.now question) }
 {
-    let counted = world.router(question.router)?.acked(question.place);
+    let acked = world.router(question.router)?.acked(question.place);
+    let counted = acked.get(question.part).copied().flatten();
     let rows = world.server(question.server)?.held(world.clock()).ok()?;
     let other_rows = world.server(question.other)?.held(world.clock()).ok()?;
     Some(Answers {

@@ -12,4 +12,6 @@ pub struct Question {
     pub router: usize,
     /// The place of a Map-Server in the router's list.
     pub place: usize,
+    /// A part of the router's database, from 0 on.
+    pub part: usize,
 }

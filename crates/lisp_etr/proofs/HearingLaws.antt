@@ -9,10 +9,10 @@ use Rattle.lisp_messages.specs.declared.fault.ReadFault.{ReadFault}
 use Rattle.lisp_etr.specs.Config.{EtrConfigValue}
 use Rattle.lisp_records.specs.Result.{◌>>=◌}
 use Rattle.lisp_etr.specs.Etr.{EtrState}
-use Rattle.lisp_etr.specs.Hearing.{Gives, ServerNotify, notify_in, notify_read, server_at, checked_notify, first_notice, notice_in, counted_in, seen_in, AnswerFits, is_latest, round_at}
-use Rattle.lisp_etr.specs.declared.round.Round.{Round}
+use Rattle.lisp_etr.specs.Hearing.{Gives, ServerNotify, notify_in, notify_read, server_at, checked_notify, first_notice, notice_in, counted_as, counted_in, seen_in, AnswerFits}
+use Rattle.lisp_etr.specs.Rounds.{latest_of, part_with, rounds_at}
+use Rattle.lisp_etr.specs.declared.rounds.Rounds.{Rounds}
 use Rattle.lisp_etr.specs.declared.seen.Seen.{Seen}
-use Rattle.lisp_etr.specs.declared.seen.Seen.TheVariants.{Counted}
 use Rattle.lisp_etr.specs.declared.notify_fault.NotifyFault.{NotifyFault}
 use Rattle.lisp_etr.specs.declared.notify_fault.NotifyFault.TheVariants as faults
 
@@ -51,9 +51,9 @@ is_out _ = false
 pub not_out : {X P : Type 0} (answer : Result X NotifyFault) → is_out answer ≡ false → answer ≡ Err faults.OutOfMemory → P
 not_out answer other out = absurd (true≢false (sym (ap is_out out) ∙ other))
 
-either_fits : (A : Type 0) (server nonce key latest : ℕ) (same : Bool) → IfOk {T = Seen A} {E = NotifyFault} (cond same (Ok (Counted server nonce)) (Err (faults.Stale latest))) (λ s. AnswerFits key s)
-either_fits A server nonce key latest true = tt
-either_fits A server nonce key latest false = tt
+either_fits : (A : Type 0) (server nonce key : ℕ) (latest : List ℕ) (part : Option ℕ) → IfOk {T = Seen A} {E = NotifyFault} (counted_as server nonce latest part) (λ s. AnswerFits key s)
+either_fits A server nonce key latest (Some part) = tt
+either_fits A server nonce key latest None = tt
 
 no_memory : {P : Type 0} (m : MapNotifyValue) (ack : Bool) → cond ack (Err faults.NotMine) (Ok m) ≡ Err faults.OutOfMemory → P
 no_memory m true out = not_out (Err faults.NotMine) refl out
@@ -65,8 +65,8 @@ never_out (Registers m) out = not_out {X = MapNotifyValue} (Err faults.NotMine) 
 never_out (Notifies m) out = no_memory m m.ack out
 
 -- an acknowledgement has no answer
-pub counted_fits : {A : Type 0} (seen : Result (Seen A) NotifyFault) (rounds : List Round) (server nonce key : ℕ) → seen ≡ counted_in rounds server nonce → IfOk seen (λ s. AnswerFits key s)
-counted_fits {A} seen rounds server nonce key is = subst (λ (r : Result (Seen A) NotifyFault). IfOk r (λ s. AnswerFits key s)) (sym is) (either_fits A server nonce key (round_at rounds server).latest (is_latest nonce (round_at rounds server).latest))
+pub counted_fits : {A : Type 0} (seen : Result (Seen A) NotifyFault) (all : List Rounds) (server nonce key : ℕ) → seen ≡ counted_in all server nonce → IfOk seen (λ s. AnswerFits key s)
+counted_fits {A} seen all server nonce key is = subst (λ (r : Result (Seen A) NotifyFault). IfOk r (λ s. AnswerFits key s)) (sym is) (either_fits A server nonce key (latest_of (rounds_at all server)) (part_with nonce (latest_of (rounds_at all server))))
 
 module _ (c : EtrConfigValue) (bytes : List ℕ) (read : Result MessageValue ReadFault) (from : Option ℕ) where
   pub unread : {X : Type 0} (view : X → ServerNotify) (fault : NotifyFault) → Gives {X = MapNotifyValue} (λ m. m) (Err fault) (notify_read read) → Gives view (Err fault) (checked_notify c bytes read from)

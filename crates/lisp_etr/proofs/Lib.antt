@@ -1,5 +1,6 @@
 pub mod TimerLaws
 pub mod SafeLaws
-pub mod Rounds
+pub mod WrittenOver
 pub mod Refusals
+pub mod RoundsLaws
 pub mod HearingLaws

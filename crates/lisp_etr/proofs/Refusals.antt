@@ -1,12 +1,12 @@
 -- What a send and a start answer, and what they don't.
-use Rattle.std.proofs.Common.{◌≡◌, ◌≢◌, ◌↔◌, ℕ, Bool, true, false, Result, Ok, Err, IfErr, refl, sym, ap, subst, true≢false}
+use Rattle.std.proofs.Common.{◌≡◌, ◌≢◌, ℕ, Bool, true, false, Result, Ok, Err, refl, ap, true≢false}
 use Rattle.lisp_nonces.specs.declared.fault.StoreFault.{StoreFault}
 use Rattle.lisp_nonces.specs.declared.fault.StoreFault.TheVariants.{Device, Damaged}
 use Rattle.lisp_nonces.specs.declared.fault.StoreFault.TheVariants as full
 use Rattle.lisp_etr.specs.declared.start_fault.StartFault.{StartFault}
 use Rattle.lisp_etr.specs.declared.start_fault.StartFault.TheVariants as starts
 use Rattle.lisp_etr.specs.declared.send_fault.SendFault.{SendFault}
-use Rattle.lisp_etr.specs.declared.send_fault.SendFault.TheVariants.{NoServer, NonceSpent, Store, OutOfMemory}
+use Rattle.lisp_etr.specs.declared.send_fault.SendFault.TheVariants.{NoServer, NoPart, NonceSpent, Store, OutOfMemory}
 
 -- the kind of an answer
 abbrev pub kind : {X : Type 0} → Result X SendFault → ℕ
@@ -15,14 +15,11 @@ kind (Err NoServer) = 1
 kind (Err NonceSpent) = 2
 kind (Err (Store fault)) = 3
 kind (Err OutOfMemory) = 4
+kind (Err NoPart) = 5
 
 -- answers of two kinds are not equal
 pub apart : {X P : Type 0} (one other : Result X SendFault) → kind one ≢ kind other → one ≡ other → P
 apart one other differ same = absurd (differ (ap kind same))
-
--- a refusal which isn't the answer, and whose reason doesn't hold
-pub neither : {X P : Type 0} (one other : Result X SendFault) → kind one ≢ kind other → (P → ⊥) → (one ≡ other) ↔ P
-neither one other differ not = (apart one other differ, λ holds. absurd (not holds))
 
 -- the store's fault in an answer
 stored : {X : Type 0} → StoreFault → Result X SendFault → StoreFault
@@ -32,9 +29,6 @@ stored none _ = none
 pub store_fault : {X : Type 0} {a b : StoreFault} → ◌≡◌ {A = Result X SendFault} (Err (Store a)) (Err (Store b)) → a ≡ b
 unfolding stored
 store_fault {a = a} same = ap (stored a) same
-
-pub told : {X : Type 0} (answer : Result X SendFault) (fault : SendFault) (P : SendFault → Type 0) → answer ≡ Err fault → P fault → IfErr answer P
-told answer fault P is holds = subst (λ (r : Result _ SendFault). IfErr r P) (sym is) holds
 
 -- the store's fault at a start
 stored_start : StoreFault → StartFault → StoreFault

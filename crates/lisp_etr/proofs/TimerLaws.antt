@@ -70,13 +70,13 @@ sends_min n = here (cases_lt n 6)
 sends_some : (n k : ℕ) → k ≡ min (suc n) 6 → (k == 0) ≡ false
 sends_some n k is = ne_eqb k 0 (λ none. let some : 1 ≤ min (suc n) 6 = le-min (omega arith) (omega arith) in absurd (omega (arith, is, none, some)))
 
-renewed : (r : Round) (begin : ℕ) (key : ℕ) → (r.sends == 0) ≡ false → r.renewal ≡ begin → KeepsRoundTime (round_after_count key r) begin []
+renewed : (r : Round) (begin : ℕ) → (r.sends == 0) ≡ false → r.renewal ≡ begin → KeepsRoundTime (round_after_count r) begin []
 unfolding due_after
-renewed r begin key some is = rw some (record { due = is; sends = refl; renewal = tt })
+renewed r begin some is = rw some (record { due = is; sends = refl; renewal = tt })
 
-idle : (r : Round) (begin : ℕ) (key : ℕ) → (r.sends == 0) ≡ true → KeepsRoundTime r begin [] → KeepsRoundTime (round_after_count key r) begin []
+idle : (r : Round) (begin : ℕ) → (r.sends == 0) ≡ true → KeepsRoundTime r begin [] → KeepsRoundTime (round_after_count r) begin []
 unfolding due_after
-idle r begin key none keeps = rw none (record { due = keeps.due; sends = keeps.sends; renewal = tt })
+idle r begin none keeps = rw none (record { due = keeps.due; sends = keeps.sends; renewal = tt })
 
 pub rounds_keep_time : KeepsTime
 unfolding due_after
@@ -89,6 +89,6 @@ rounds_keep_time = record {
     sends = ap (λ k. min (k + 1) 6) keeps.sends ∙ sends_min (length moments);
     renewal = refl;
   };
-  renew = λ r begin last before key keeps. renewed r (last + minute) key (sends_some (length before) r.sends keeps.sends) keeps.renewal;
-  idle = λ r begin key keeps. idle r begin key (ap (λ k. k == 0) keeps.sends) keeps;
+  renew = λ r begin last before keeps. renewed r (last + minute) (sends_some (length before) r.sends keeps.sends) keeps.renewal;
+  idle = λ r begin keeps. idle r begin (ap (λ k. k == 0) keeps.sends) keeps;
 }

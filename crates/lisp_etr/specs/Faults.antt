@@ -26,6 +26,7 @@ send_fault_number sends.NoServer = 40
 send_fault_number sends.NonceSpent = 41
 send_fault_number (sends.Store _) = 42
 send_fault_number sends.OutOfMemory = 48
+send_fault_number sends.NoPart = 49
 
 abbrev pub notify_fault_number : NotifyFault → ℕ
 notify_fault_number (notifies.Read _) = 43
@@ -52,6 +53,7 @@ device_failed = sends.Store stores.Device
 abbrev pub IsOfSave : SendFault → Type 0
 IsOfSave fault = (f : StoreFault) × (fault ≡ sends.Store f) × (f ≢ stores.Damaged)
 
--- why a send is refused, where memory isn't: no such Map-Server, no nonce left, or a device that failed
+-- why a send is refused, where memory isn't: no such Map-Server or part, no nonce left, or a device that failed
 abbrev pub IsSendReason : SendFault → Type 0
-IsSendReason fault = (fault ≡ sends.NoServer) ⊎ (fault ≡ sends.NonceSpent) ⊎ (fault ≡ device_failed)
+IsSendReason fault =
+    (fault ≡ sends.NoServer) ⊎ (fault ≡ sends.NoPart) ⊎ (fault ≡ sends.NonceSpent) ⊎ (fault ≡ device_failed)

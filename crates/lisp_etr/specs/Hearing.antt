@@ -1,5 +1,5 @@
 -- Counted: what a router makes of a message (RFC 9301 sections 5.7 and 8.2).
-use Rattle.std.specs.Prelude.{◌≡◌, ◌≤◌, ◌⊎◌, ℕ, ◌^◌, ◌==◌, ◌&&◌, nat_le, Bool, true, not, List, Option, Result, Ok, Err, position, ok_or, slice_set, slice_index_or, if◌then◌else◌}
+use Rattle.std.specs.Prelude.{◌≡◌, ◌≤◌, ◌⊎◌, ℕ, ◌^◌, ◌==◌, nat_le, Bool, true, List, Option, Some, None, Result, Ok, Err, position, ok_or, slice_set, if◌then◌else◌}
 use Rattle.lisp_records.specs.declared.address.Addr.{Addr}
 use Rattle.lisp_records.specs.Address.{addr_eq}
 use Rattle.lisp_records.specs.Result.{◌>>=◌}
@@ -10,12 +10,12 @@ use Rattle.lisp_messages.specs.Written.{written_notify}
 use Rattle.lisp_messages.specs.Reading.{HasHead, HasRecords, kind_at, message_at}
 use Rattle.lisp_etr.specs.declared.notify_fault.NotifyFault.{NotifyFault}
 use Rattle.lisp_etr.specs.declared.notify_fault.NotifyFault.TheVariants.{Read, NotMine, WrongKey, BadAuth, Stale, OutOfMemory}
-use Rattle.lisp_etr.specs.declared.round.Round.{Round}
+use Rattle.lisp_etr.specs.declared.rounds.Rounds.{Rounds}
 use Rattle.lisp_etr.specs.declared.seen.Seen.{Seen}
 use Rattle.lisp_etr.specs.declared.seen.Seen.TheVariants.{Counted, Notice}
 use Rattle.lisp_etr.specs.Faults.{fault_of_read}
 use Rattle.lisp_etr.specs.Config.{EtrConfigValue}
-use Rattle.lisp_etr.specs.Round.{first_round, round_after_count}
+use Rattle.lisp_etr.specs.Rounds.{rounds_at, rounds_after_count, latest_of, part_with, greatest}
 use Rattle.lisp_etr.specs.Etr.{EtrState}
 
 -- a result, seen by view, is what is expected, except that out of memory may come in its place
@@ -92,17 +92,9 @@ TakesMemoryIfOut c from bytes answer = answer ≡ Err OutOfMemory → TakesMemor
 abbrev pub ack_of : MapNotifyValue → MapNotifyValue
 ack_of m = record m { ack = true }
 
--- how the router stands with a Map-Server
-abbrev pub round_at : List Round → ℕ → Round
-round_at rounds server = slice_index_or rounds server (first_round 0)
-
--- the nonce is that of the last Map-Register; no nonce is 0
-abbrev pub is_latest : ℕ → ℕ → Bool
-is_latest nonce latest = not (nonce == 0) && (nonce == latest)
-
 -- the Map-Notify-Ack that answers a notice fits the format
 abbrev pub AnswerFits : {A : Type 0} → ℕ → Seen A → Type 0
-AnswerFits key (Counted server nonce) = Unit {0}
+AnswerFits key (Counted server part nonce) = Unit {0}
 AnswerFits key (Notice server nonce records answer) = IsMapNotify (record { ack = true; nonce = nonce; key_id = key; records = records })
 
 -- a notice with its answer
@@ -113,9 +105,14 @@ notice_in c h = Notice h.server h.message.nonce h.message.records (signed c.secr
 abbrev pub notice_from : {A : Type 0} → EtrConfigValue → ℕ → MapNotifyValue → Seen A
 notice_from c server notify = notice_in c (record { server = server; message = notify })
 
--- a Map-Server acknowledges a Map-Register by its nonce: the last one to it, and no other
-abbrev pub counted_in : {A : Type 0} → List Round → ℕ → ℕ → Result (Seen A) NotifyFault
-counted_in rounds server nonce = if is_latest nonce (round_at rounds server).latest then Ok (Counted server nonce) else Err (Stale (round_at rounds server).latest)
+-- a Map-Server acknowledges a Map-Register by its nonce: the last one of a part to it, and no other
+abbrev pub counted_as : {A : Type 0} → ℕ → ℕ → List ℕ → Option ℕ → Result (Seen A) NotifyFault
+counted_as server nonce latest (Some part) = Ok (Counted server part nonce)
+counted_as server nonce latest None = Err (Stale (greatest latest))
+
+abbrev pub counted_in : {A : Type 0} → List Rounds → ℕ → ℕ → Result (Seen A) NotifyFault
+counted_in all server nonce =
+    counted_as server nonce (latest_of (rounds_at all server)) (part_with nonce (latest_of (rounds_at all server)))
 
 -- what is seen in a Map-Notify
 unfoldable pub seen_in : {A : Type 0} → EtrState → ServerNotify → Result (Seen A) NotifyFault
@@ -127,5 +124,5 @@ seen_at e from bytes = notify_from e.config from bytes >>= seen_in e
 
 -- the router afterwards: only an acknowledgement changes it
 abbrev pub etr_after : {A : Type 0} → EtrState → Result (Seen A) NotifyFault → EtrState
-etr_after e (Ok (Counted server nonce)) = record e { rounds = slice_set e.rounds server (round_after_count e.config.key_id (round_at e.rounds server)) }
+etr_after e (Ok (Counted server part nonce)) = record e { rounds = slice_set e.rounds server (rounds_after_count e.config.key_id part (rounds_at e.rounds server)) }
 etr_after e _ = e

@@ -1,6 +1,7 @@
 pub mod Config
 pub mod Timers
 pub mod Round
+pub mod Rounds
 pub mod Faults
 pub mod Etr
 pub mod Starting

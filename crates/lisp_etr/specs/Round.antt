@@ -1,13 +1,13 @@
--- How a router stands with one of its Map-Servers, and what changes that (RFC 9301 section 8.2).
-use Rattle.std.specs.Prelude.{◌≡◌, ℕ, ◌+◌, ◌==◌, min, List, [], ◌∷◌, length, slice_get, Option, Some, None, if◌then◌else◌}
-use Rattle.std.specs.Option.{option_and_then}
+-- A round of a router's Map-Registers of one part of its database to one of its Map-Servers, and what changes it (RFC
+-- 9301 section 8.2).
+use Rattle.std.specs.Prelude.{◌≡◌, ℕ, ◌+◌, ◌==◌, min, List, [], ◌∷◌, length, if◌then◌else◌}
 use Rattle.lisp_etr.specs.declared.round.Round.{Round}
 use Rattle.lisp_records.specs.Moment.{minute}
 use Rattle.lisp_etr.specs.Timers.{gap, due_after}
 
 -- the router starts
 abbrev pub first_round : ℕ → Round
-first_round now = record { due = now; sends = 0; renewal = 0; latest = 0; acked = None }
+first_round now = record { due = now; sends = 0; renewal = 0; latest = 0 }
 
 -- a new round is due now
 abbrev pub new_round : ℕ → Round → Round
@@ -22,10 +22,8 @@ abbrev pub round_after_send : ℕ → ℕ → Round → Round
 round_after_send nonce now r = record r { due = now + gap r.sends; sends = min (r.sends + 1) 6; renewal = now + minute; latest = nonce }
 
 -- the last send was acknowledged: where it is of this round, a new round is due a minute after it
-abbrev pub round_after_count : ℕ → Round → Round
-round_after_count key r = if r.sends == 0
-    then record r { acked = Some (key, r.latest) }
-    else record r { due = r.renewal; sends = 0; acked = Some (key, r.latest) }
+abbrev pub round_after_count : Round → Round
+round_after_count r = if r.sends == 0 then r else record r { due = r.renewal; sends = 0 }
 
 -- after a send the next round would be due a minute later
 abbrev pub IsRenewal : ℕ → List ℕ → Type 0
@@ -46,10 +44,6 @@ pub record KeepsTime : Type 0 where
   pub rotate : (now : ℕ) (r : Round) → KeepsRoundTime (rotated_round now r) now []
   pub send : (r : Round) (begin : ℕ) (moments : List ℕ) (nonce now : ℕ) → KeepsRoundTime r begin moments
       → KeepsRoundTime (round_after_send nonce now r) begin (now ∷ moments)
-  pub renew : (r : Round) (begin last : ℕ) (before : List ℕ) (key : ℕ) → KeepsRoundTime r begin (last ∷ before)
-      → KeepsRoundTime (round_after_count key r) (last + minute) []
-  pub idle : (r : Round) (begin key : ℕ) → KeepsRoundTime r begin [] → KeepsRoundTime (round_after_count key r) begin []
-
--- the Key ID and the nonce of the last Map-Register to a Map-Server that was acknowledged
-abbrev pub acked_at : List Round → ℕ → Option (ℕ × ℕ)
-acked_at rounds server = option_and_then (λ round. round.acked) (slice_get rounds server)
+  pub renew : (r : Round) (begin last : ℕ) (before : List ℕ) → KeepsRoundTime r begin (last ∷ before)
+      → KeepsRoundTime (round_after_count r) (last + minute) []
+  pub idle : (r : Round) (begin : ℕ) → KeepsRoundTime r begin [] → KeepsRoundTime (round_after_count r) begin []

@@ -1,5 +1,6 @@
 -- What a send makes of a router's store: what it keeps for the router's pair, and for the others (RFC 9301 section 5.6).
 use Rattle.std.specs.Prelude.{◌≡◌, ◌≢◌, ℕ, ◌+◌, ◌<◌, List, [], ◌∷◌, length, Option, Some, Result, IsTrue, IsOk, IfOk, OnOk, OnErr, IsErrOf}
+use Rattle.lisp_records.specs.Parts.{part_count}
 use Rattle.lisp_nonces.specs.Kept.{kept_at, with_value, NoneBelow}
 use Rattle.lisp_nonces.specs.Store.{StoreState, Rose}
 use Rattle.lisp_nonces.specs.Promises.{KeepsOthersIfHonest}
@@ -70,7 +71,8 @@ NeedsSave e = e.safe < e.last + 1
 abbrev pub SameUnlessDevice : StoreState → StoreState → SendFault → Type 0
 SameUnlessDevice before after fault = fault ≢ device_failed → after ≡ before
 
--- a Map-Register to a Map-Server goes out while a nonce is left, unless a device failed in between
-abbrev pub SendsUnlessFailed : {X E : Type 0} → EtrState → ℕ → StoreState → StoreState → Result X E → Type 0
-SendsUnlessFailed e server before after answer =
-    server < length e.config.servers → e.last < last_nonce → ¬ (Rose before after) → IsOk answer
+-- a Map-Register of a part to a Map-Server goes out while a nonce is left, unless a device failed in between
+abbrev pub SendsUnlessFailed : {X E : Type 0} → EtrState → ℕ → ℕ → StoreState → StoreState → Result X E → Type 0
+SendsUnlessFailed e server part before after answer =
+    server < length e.config.servers → part < part_count e.database → e.last < last_nonce → ¬ (Rose before after)
+    → IsOk answer

@@ -1,16 +1,18 @@
 //! The site router.
 
-ghost use Rattle.std.specs.Prelude.{◌≡◌, ◌≢◌, ◌↔◌, ◌≤◌, ◌<◌, ◌+◌, ℕ, List, Ok, Err, IfOk, IfErr, IfSome, OnOk, OnErr, IsErrOf, length, nat_le, position};
+ghost use Rattle.std.specs.Prelude.{◌≡◌, ◌≢◌, ◌↔◌, ◌≤◌, ◌<◌, ◌+◌, ℕ, List, Ok, Err, IfOk, IfErr, IfSome, OnOk, OnErr, IsErrOf, length};
 ghost use Rattle.lisp_nonces.specs.Store.{Rose, Proceeds, MayLoad, MaySave, MayFailSave};
 ghost use Rattle.lisp_nonces.specs.declared.fault.StoreFault.{StoreFault};
 ghost use Rattle.lisp_messages.specs.Message.{IsMapRegister};
 ghost use Rattle.lisp_etr.specs.Config.{EtrConfigValue};
+ghost use Rattle.lisp_records.specs.Database.{database_of};
 ghost use Rattle.lisp_records.specs.Moment.{max_moment};
-ghost use Rattle.lisp_etr.specs.Round.{acked_at};
+ghost use Rattle.lisp_records.specs.Parts.{part_count};
+ghost use Rattle.lisp_etr.specs.Rounds.{acked_at};
 ghost use Rattle.lisp_etr.specs.Faults.{store_out_of_memory, device_failed};
-ghost use Rattle.lisp_etr.specs.Etr.{etr_started, etr_changed};
+ghost use Rattle.lisp_etr.specs.Etr.{etr_started, etr_changed, due_at};
 ghost use Rattle.lisp_etr.specs.Rotating.{RotatesTo, GoesOnIfHonest, RefusesSameKey, IsOfFullStore as IsOfFullStoreToRotate, SameIfFull as SameIfFullToRotate, FailsAsArmed as FailsToRotateAsArmed, FailsByDevice as FailsToRotateByDevice};
-ghost use Rattle.lisp_etr.specs.Sending.{EtrSends, next_datagram, next_register, NoServerAt, NoNonceFor};
+ghost use Rattle.lisp_etr.specs.Sending.{EtrSends, next_datagram, next_register, NoServerAt, NoPartFor, NoNonceFor};
 ghost use Rattle.lisp_etr.specs.Hearing.{Gives, AnswerFits, counted_in, seen_at, etr_after, TakesMemoryIfOut, RefusesBadHead, notice_from};
 ghost use Rattle.lisp_etr.specs.declared.start_fault.StartFault.{StartFault};
 ghost use Rattle.lisp_etr.specs.declared.send_fault.SendFault.{SendFault};
@@ -23,7 +25,7 @@ use crate::config::EtrConfig;
 use crate::hearing::hear;
 use crate::notify_fault::NotifyFault;
 use crate::rotate_fault::{RotateFault, RotateRefused};
-use crate::round::{Round, begin_all, rotate_all};
+use crate::rounds::{Rounds, begin_all, first_due, rotate_all};
 use crate::seen::Seen;
 use crate::send_fault::SendFault;
 use crate::sending::{datagram, keep_block};
@@ -45,7 +47,7 @@ pub struct Etr<A: Allocator = Global> {
     last: u64,
     // What the last save that was done has saved, 0 before: after a restart the store has no less. No nonce above it is sent.
     safe: u64,
-    rounds: Vec<Round, A>,
+    rounds: Vec<Rounds, A>,
 }
 
 impl<A: Allocator> Model for Etr<A> {
@@ -83,8 +85,8 @@ impl<A: Memory + Copy> Etr<A> {
         ensures cause { IfErr result (FailsByDevice (S.seen store.old) (S.seen store.new)) }
         ensures proceeds { Proceeds (S.seen store.old) (S.seen store.new) }
     {
-        let round = Round::start(now);
-        let Ok(rounds) = Vec::try_for_each(alloc, round, config.servers.as_slice()) else {
+        let rounds = Rounds::start(now);
+        let Ok(rounds) = Vec::try_for_each(alloc, rounds, config.servers.as_slice()) else {
             return Err(StartRefused {
                 fault: StartFault::OutOfMemory,
                 config,
@@ -116,7 +118,7 @@ impl<A: Memory + Copy> Etr<A> {
         (self.config, self.database)
     }
 
-    /// Registers this database from a time on, in ms: all its Map-Servers are due. Takes no memory.
+    /// Registers this database from a time on, in ms: all its parts are due at all its Map-Servers. Takes no memory.
     pub fn change(&mut self, database: Database<A>, now: u64)
         ensures { self.new ≡ etr_changed self.old database now }
     {
@@ -172,36 +174,43 @@ impl<A: Memory + Copy> Etr<A> {
         Ok(())
     }
 
-    /// The least number, from 0 on, of a Map-Server that is due at a time, in ms; `None` where none is. Takes
-    /// no memory.
-    pub fn due(&self, now: u64) -> Option<usize>
-        ensures due { result ≡ position (λ round. nat_le round.due now) self.now.rounds }
-        ensures server { IfSome result (λ server. server < length self.now.config.servers) }
+    /// The least number, from 0 on, of a Map-Server that is due at a time, in ms, and of the parts of the present
+    /// database the least that is due there; `None` where none is. Takes no memory.
+    pub fn due(&self, now: u64) -> Option<(usize, usize)>
+        ensures due { result ≡ due_at self.now now }
+        ensures server { IfSome result (λ due. due.0 < length self.now.config.servers) }
+        ensures part { IfSome result (λ due. due.1 < part_count self.now.database) }
     {
-        self.rounds.iter().position(|round| round.due <= now)
+        let parts = self.database.parts();
+        let server = first_due(&self.rounds, parts, now)?;
+        let part = self.rounds[server].due(parts, now)?;
+        Some((server, part))
     }
 
-    /// A Map-Register to a Map-Server, by its number, at a time, in ms, of at most 2^62: of the present
-    /// database, under the nonce after the last (RFC 9301 sections 5.6 and 8.2). Before that it saves the end of a
+    /// A Map-Register to a Map-Server, by its number, at a time, in ms, of at most 2^62: of a part of the present
+    /// database, from 0 on, under the nonce after the last (RFC 9301 sections 5.6 and 8.2). Before that it saves the end of a
     /// block of nonces which begins with this one, unless it did so with an earlier nonce of the block.
     ///
-    /// It refuses in this order: `NoServer`, `NonceSpent` (the last nonce is 2^63 - 1 or more),
+    /// It refuses in this order: `NoServer`, `NoPart`, `NonceSpent` (the last nonce is 2^63 - 1 or more),
     /// `OutOfMemory`, `Store`. A refusal changes nothing here; at `Store(Device)` it is open whether the store
     /// keeps the end of the block.
     pub fn send<S: NonceStore>(
         &mut self,
         store: &mut S,
         server: usize,
+        part: usize,
         now: u64,
     ) -> Result<Vec<u8, A>, SendFault>
         requires { now ≤ max_moment }
-        ensures datagram { IfOk result (λ bytes. bytes.items ≡ next_datagram self.old) }
-        ensures known { OnOk result (IsMapRegister (next_register self.old)) }
-        ensures sends { OnOk result (EtrSends self.old self.new server now) }
+        ensures datagram { IfOk result (λ bytes. bytes.items ≡ next_datagram self.old part) }
+        ensures known { OnOk result (IsMapRegister (next_register self.old part)) }
+        ensures fits { OnOk result (database_of self.old.database ≡ Ok self.old.database) }
+        ensures sends { OnOk result (EtrSends self.old self.new server part now) }
 
         // The refusals, in their order.
         ensures no_server { (result ≡ Err SendFault.NoServer) ↔ NoServerAt self.old server }
-        ensures spent { (result ≡ Err SendFault.NonceSpent) ↔ NoNonceFor self.old server }
+        ensures no_part { (result ≡ Err SendFault.NoPart) ↔ NoPartFor self.old server part }
+        ensures spent { (result ≡ Err SendFault.NonceSpent) ↔ NoNonceFor self.old server part }
         ensures memory { IsErrOf result SendFault.OutOfMemory → A.may_refuse }
         ensures store_memory { IsErrOf result store_out_of_memory → S.may_refuse }
         ensures err { OnErr result (self.new ≡ self.old) }
@@ -233,14 +242,18 @@ impl<A: Memory + Copy> Etr<A> {
         if server >= self.rounds.len() {
             return Err(SendFault::NoServer);
         }
+        if part >= self.database.parts() {
+            return Err(SendFault::NoPart);
+        }
         if self.last >= LAST_ROUTER_NONCE {
             return Err(SendFault::NonceSpent);
         }
         let nonce = self.last + 1;
-        let datagram = datagram(self.alloc, &self.config, &self.database, nonce)?;
+        let records = self.database.part_records(part, self.alloc)?;
+        let datagram = datagram(self.alloc, &self.config, records, nonce)?;
         self.safe = keep_block(store, &self.config, nonce, self.safe)?;
         self.last = nonce;
-        self.rounds[server].send(nonce, now);
+        self.rounds[server].send(part, nonce, now);
         Ok(datagram)
     }
 
@@ -250,7 +263,7 @@ impl<A: Memory + Copy> Etr<A> {
     ///
     /// It refuses in this order: `Read` (the bytes spell no message), `NotMine` (no Map-Notify, or from
     /// no Map-Server of this router), `WrongKey`, `BadAuth`, `Stale` (the nonce is below 2^63 and isn't
-    /// that of the last Map-Register to that Map-Server). `OutOfMemory` may come in place of any answer past
+    /// that of the last Map-Register of any part to that Map-Server). `OutOfMemory` may come in place of any answer past
     /// the first 32 bytes where the message has records, and in place of a notice. A refusal changes nothing.
     #[tactic(auto, unfolding(crate::specs::Hearing::seen_in))]
     pub fn receive(&mut self, from: Addr, bytes: &[u8], _now: u64) -> Result<Seen<A>, NotifyFault>
@@ -292,32 +305,36 @@ impl<A: Memory + Copy> Etr<A> {
         })
     }
 
-    // The acknowledgement of the last Map-Register to a Map-Server.
+    // The acknowledgement of the last Map-Register of a part to a Map-Server.
     fn count(&mut self, server: usize, nonce: u64) -> Result<Seen<A>, NotifyFault>
         requires { server < length self.old.config.servers }
         ensures answer { result ≡ counted_in self.old.rounds server nonce }
         ensures plain { ¬ (IsErrOf result NotifyFault.OutOfMemory) }
         ensures after { self.new ≡ etr_after self.old result }
     {
-        let round = &mut self.rounds[server];
-        if nonce == 0 || nonce != round.latest {
+        let rounds = &mut self.rounds[server];
+        let Some(part) = rounds.part_with(nonce) else {
             return Err(NotifyFault::Stale {
-                latest: round.latest,
+                latest: rounds.latest(),
             });
-        }
-        round.count(self.config.key_id);
-        Ok(Seen::Counted { server, nonce })
+        };
+        rounds.count(self.config.key_id, part);
+        Ok(Seen::Counted {
+            server,
+            part,
+            nonce,
+        })
     }
 
-    /// The Key ID and the nonce of the last Map-Register to a Map-Server, by its number, that was
-    /// acknowledged since the start; `None` where none was, or where there is no such Map-Server. Takes no
-    /// memory.
-    pub fn acked(&self, server: usize) -> Option<(u8, u64)>
-        ensures { result ≡ acked_at self.now.rounds server }
+    /// For each of 16 parts, the Key ID and the nonce of the last Map-Register to a Map-Server, by its number, that was
+    /// acknowledged since the start, `None` where none was; nothing where there is no such Map-Server. A part that the
+    /// present database doesn't have keeps what was acknowledged of it before. Takes no memory.
+    pub fn acked(&self, server: usize) -> &[Option<(u8, u64)>]
+        ensures { result.now ≡ acked_at self.now.rounds server }
     {
         match self.rounds.get(server) {
-            Some(round) => round.acked,
-            None => None,
+            Some(rounds) => &rounds.acked,
+            None => &[],
         }
     }
 

@@ -38,19 +38,20 @@ pub fn blocks_are_bounds()
 {}
 
 /// Over memory and a store that are never refused memory, a send is refused only where there is no such
-/// Map-Server, the nonces are spent, or the device failed.
+/// Map-Server or part, the nonces are spent, or the device failed.
 pub fn sends_exactly<S: NonceStore, A: Memory + Copy>(
     router: &mut Etr<A>,
     store: &mut S,
     server: usize,
+    part: usize,
     now: u64,
 ) -> Result<Vec<u8, A>, SendFault>
     requires { now ≤ max_moment }
     ensures refusals { Unrefused A.may_refuse S.may_refuse (IfErr result IsSendReason) }
     ensures sent { Unrefused A.may_refuse S.may_refuse
-        (SendsUnlessFailed router.old server (S.seen store.old) (S.seen store.new) result) }
+        (SendsUnlessFailed router.old server part (S.seen store.old) (S.seen store.new) result) }
 {
-    router.send(store, server, now)
+    router.send(store, server, part, now)
 }
 
 /// Over memory that is never refused, a router answers exactly what there is to answer to bytes from an

@@ -10,6 +10,7 @@ pub mod laws;
 mod notify_fault;
 mod rotate_fault;
 mod round;
+mod rounds;
 mod seen;
 mod send_fault;
 mod sending;

@@ -24,10 +24,10 @@ pub enum NotifyFault {
     /// Authentication Data that isn't the tag under the router's secret.
     #[error("the Authentication Data is wrong")]
     BadAuth,
-    /// A nonce below 2^63 that isn't that of the last Map-Register to that Map-Server.
+    /// A nonce below 2^63 that isn't that of the last Map-Register of any part to that Map-Server.
     #[error("the last Map-Register had nonce {latest}")]
     Stale {
-        /// The nonce of that Map-Register; 0 where none was sent since the start.
+        /// The greatest nonce of those Map-Registers; 0 where none was sent since the start.
         latest: u64,
     },
     /// No memory to read the message or to build the answer.

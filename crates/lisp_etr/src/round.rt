@@ -1,6 +1,6 @@
-//! A router's rounds of Map-Registers to one of its Map-Servers (RFC 9301 section 8.2).
+//! A router's rounds of Map-Registers of one part of its database to one of its Map-Servers (RFC 9301 section 8.2).
 
-ghost use Rattle.std.specs.Prelude.{◌≡◌, ◌≤◌, ℕ, map};
+ghost use Rattle.std.specs.Prelude.{◌≡◌, ◌≤◌};
 ghost use Rattle.lisp_records.specs.Moment.{max_moment};
 ghost use Rattle.lisp_etr.specs.Timers.{gap};
 ghost use Rattle.lisp_etr.specs.Round.{first_round, new_round, rotated_round, round_after_send, round_after_count};
@@ -11,7 +11,7 @@ const MINUTE: u64 = 60_000;
 /// From so many sends on a round's gaps are the same.
 const MOST_SENDS: u8 = 6;
 
-/// How a router stands with one of its Map-Servers. Times are in ms.
+/// The Map-Registers of one part to one Map-Server. Times are in ms.
 #[derive(Clone, Copy, Drop)]
 pub(crate) struct Round {
     /// When the next Map-Register is due.
@@ -22,8 +22,6 @@ pub(crate) struct Round {
     pub(crate) renewal: u64,
     /// The nonce of the last send under the present key; 0 where there was none.
     pub(crate) latest: u64,
-    /// The Key ID and the nonce of the last send that was acknowledged.
-    pub(crate) acked: Option<(u8, u64)>,
 }
 
 impl Round {
@@ -36,7 +34,6 @@ impl Round {
             sends: 0,
             renewal: 0,
             latest: 0,
-            acked: None,
         }
     }
 
@@ -68,32 +65,13 @@ impl Round {
     }
 
     /// The last send is acknowledged.
-    pub(crate) fn count(&mut self, key: u8)
-        ensures { self.new ≡ round_after_count key self.old }
+    pub(crate) fn count(&mut self)
+        ensures { self.new ≡ round_after_count self.old }
     {
         if self.sends > 0 {
             self.due = self.renewal;
             self.sends = 0;
         }
-        self.acked = Some((key, self.latest));
-    }
-}
-
-/// A new round with each Map-Server, due now.
-pub(crate) fn begin_all(rounds: &mut [Round], now: u64)
-    ensures { rounds.new ≡ map (new_round now) rounds.old }
-{
-    for round in rounds.iter_mut() {
-        round.begin(now);
-    }
-}
-
-/// A new round with each Map-Server under another key, due now.
-pub(crate) fn rotate_all(rounds: &mut [Round], now: u64)
-    ensures { rounds.new ≡ map (rotated_round now) rounds.old }
-{
-    for round in rounds.iter_mut() {
-        round.rotate(now);
     }
 }
 

@@ -6,10 +6,12 @@ use std::alloc::{Allocator, Global};
 /// A Map-Notify that a router takes (RFC 9301 section 5.7).
 #[derive(Debug, Drop)]
 pub enum Seen<A: Allocator = Global> {
-    /// A Map-Server acknowledges the router's last Map-Register to it.
+    /// A Map-Server acknowledges the router's last Map-Register of a part of its database to it.
     Counted {
         /// The number of the Map-Server.
         server: usize,
+        /// The part, which the present database may no longer have.
+        part: usize,
         /// The nonce of that Map-Register.
         nonce: u64,
     },

@@ -14,6 +14,9 @@ pub enum SendFault {
     /// No Map-Server has that number.
     #[error("there is no such Map-Server")]
     NoServer,
+    /// The database has no part of that number.
+    #[error("the database has no such part")]
+    NoPart,
     /// The last nonce is 2^63 - 1 or more: the router needs a new key.
     #[error("the nonces are spent")]
     NonceSpent,
@@ -26,7 +29,7 @@ pub enum SendFault {
 }
 
 impl SendFault {
-    /// The number that operators see: `NoServer` 40, `NonceSpent` 41, `Store` 42, `OutOfMemory` 48.
+    /// The number that operators see: `NoServer` 40, `NonceSpent` 41, `Store` 42, `OutOfMemory` 48, `NoPart` 49.
     pub const fn number(&self) -> u16
         ensures { result ≡ send_fault_number self.now }
     {
@@ -35,6 +38,7 @@ impl SendFault {
             SendFault::NonceSpent => 41,
             SendFault::Store(_) => 42,
             SendFault::OutOfMemory => 48,
+            SendFault::NoPart => 49,
         }
     }
 }

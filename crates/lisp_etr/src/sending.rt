@@ -1,6 +1,6 @@
 //! The Map-Registers of a router.
 
-ghost use Rattle.std.specs.Prelude.{◌≡◌, ◌<◌, ◌≤◌, IfOk, IfErr, IsErrOf, OnErr, OnOk};
+ghost use Rattle.std.specs.Prelude.{◌≡◌, ◌<◌, ◌≤◌, length, IfOk, IfErr, IsErrOf, OnErr, OnOk};
 ghost use Rattle.lisp_nonces.specs.Store.{Rose, Proceeds, MaySave, MayFailSave};
 ghost use Rattle.lisp_messages.specs.Message.{IsMapRegister};
 ghost use Rattle.lisp_etr.specs.Sending.{last_nonce, map_register_of, block_end, safe_after, IsDatagram};
@@ -12,18 +12,19 @@ use crate::send_fault::SendFault;
 use lisp_memory::Memory;
 use lisp_messages::{MapRegister, write_register_under};
 use lisp_nonces::{LAST_ROUTER_NONCE, MAX_NONCE_BLOCK, NonceStore};
-use lisp_records::Database;
+use lisp_records::Records;
 use std::alloc::{AllocError, Allocator};
 
-/// The bytes of the Map-Register of a database under a nonce (RFC 9301 section 5.6).
+/// The bytes of the Map-Register of these records under a nonce (RFC 9301 section 5.6).
 pub(crate) fn datagram<A: Memory + Copy>(
     alloc: A,
     config: &EtrConfig<A>,
-    database: &Database<A>,
+    records: Records<A>,
     nonce: u64,
 ) -> Result<Vec<u8, A>, AllocError>
-    ensures written { IfOk result (λ bytes. IsDatagram config.now database.now nonce bytes.items) }
-    ensures known { OnOk result (IsMapRegister (map_register_of config.now database.now nonce)) }
+    requires { length records < 256 }
+    ensures written { IfOk result (λ bytes. IsDatagram config.now records nonce bytes.items) }
+    ensures known { OnOk result (IsMapRegister (map_register_of config.now records nonce)) }
     ensures memory { OnErr result A.may_refuse }
 {
     let register = MapRegister {
@@ -35,7 +36,7 @@ pub(crate) fn datagram<A: Memory + Copy>(
         want_notify: true,
         nonce,
         key_id: config.key_id,
-        records: database.to_records(alloc)?,
+        records,
         xtr: config.me.xtr,
         site: config.me.site,
     };

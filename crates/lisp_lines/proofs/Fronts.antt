@@ -6,7 +6,7 @@ use Rattle.std.proofs.lemmas.Fmt.{decimal_step, decimal_digit}
 use Rattle.lisp_lines.specs.Front.{LeavesFront}
 
 -- two texts were appended
-both : (old mid new a b : List ℕ) → mid ≡ old ++ a → new ≡ mid ++ b → new ≡ old ++ (a ++ b)
+pub both : (old mid new a b : List ℕ) → mid ≡ old ++ a → new ≡ mid ++ b → new ≡ old ++ (a ++ b)
 both old mid new a b one other = other ∙ ap (λ t. t ++ b) one ∙ append_assoc old a b
 
 -- nothing was
@@ -48,6 +48,26 @@ module _ (old a b c d : List ℕ) where
 
   pub four : (mid next last new : List ℕ) → mid ≡ old ++ a → next ≡ mid ++ b → last ≡ next ++ c → new ≡ last ++ d → new ≡ old ++ (a ++ b ++ c ++ d)
   four mid next last new one other third fourth = both old last new (a ++ b ++ c) d (both old next last (a ++ b) c (both old mid next a b one other) third) fourth
+
+-- of five
+module _ (old a b c d e : List ℕ) where
+  pub five_1 : (new : List ℕ) → LeavesFront old new a → LeavesFront old new (a ++ b ++ c ++ d ++ e)
+  five_1 new leaves = two_1 old (a ++ b ++ c ++ d) e new (four_1 old a b c d new leaves)
+
+  pub five_2 : (mid new : List ℕ) → mid ≡ old ++ a → LeavesFront mid new b → LeavesFront old new (a ++ b ++ c ++ d ++ e)
+  five_2 mid new one leaves = two_1 old (a ++ b ++ c ++ d) e new (four_2 old a b c d mid new one leaves)
+
+  pub five_3 : (mid next new : List ℕ) → mid ≡ old ++ a → next ≡ mid ++ b → LeavesFront next new c → LeavesFront old new (a ++ b ++ c ++ d ++ e)
+  five_3 mid next new one other leaves = two_1 old (a ++ b ++ c ++ d) e new (four_3 old a b c d mid next new one other leaves)
+
+  pub five_4 : (mid next last new : List ℕ) → mid ≡ old ++ a → next ≡ mid ++ b → last ≡ next ++ c → LeavesFront last new d → LeavesFront old new (a ++ b ++ c ++ d ++ e)
+  five_4 mid next last new one other third leaves = two_1 old (a ++ b ++ c ++ d) e new (four_4 old a b c d mid next last new one other third leaves)
+
+  pub five_5 : (mid next last end new : List ℕ) → mid ≡ old ++ a → next ≡ mid ++ b → last ≡ next ++ c → end ≡ last ++ d → LeavesFront end new e → LeavesFront old new (a ++ b ++ c ++ d ++ e)
+  five_5 mid next last end new one other third fourth leaves = two_2 old (a ++ b ++ c ++ d) e end new (four old a b c d mid next last end one other third fourth) leaves
+
+  pub five : (mid next last end new : List ℕ) → mid ≡ old ++ a → next ≡ mid ++ b → last ≡ next ++ c → end ≡ last ++ d → new ≡ end ++ e → new ≡ old ++ (a ++ b ++ c ++ d ++ e)
+  five mid next last end new one other third fourth fifth = both old end new (a ++ b ++ c ++ d) e (four old a b c d mid next last end one other third fourth) fifth
 
 -- the text of a number below 10 is its digit
 pub one_digit : (n : ℕ) (old new : List ℕ) → n < 10 → new ≡ old ++ (48 + n) ∷ [] → new ≡ old ++ decimal n

@@ -1,3 +1,4 @@
+pub mod Acks
 pub mod Appends
 pub mod Fronts
 pub mod Parts

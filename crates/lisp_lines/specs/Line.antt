@@ -1,5 +1,5 @@
 -- The text of the line of each event.
-use Rattle.std.specs.Prelude.{ℕ, List, [], ◌∷◌, ◌++◌, codes, Option, Some}
+use Rattle.std.specs.Prelude.{ℕ, ◌==◌, List, [], ◌∷◌, ◌++◌, codes, Option, Some, if◌then◌else◌}
 use Rattle.std.specs.Fmt.{decimal}
 use Rattle.lisp_policy.specs.Configuration.{ConfigValue}
 use Rattle.lisp_model.specs.Faults.{refusal_number}
@@ -26,12 +26,16 @@ abbrev pub datagram_text : DatagramPlace → Option ℕ → List ℕ
 datagram_text Shown (Some datagram) = codes " datagram " ++ decimal datagram
 datagram_text _ _ = []
 
+-- a part of a database, where it isn't the first
+abbrev pub part_text : ℕ → List ℕ
+part_text part = if part == 0 then [] else codes " part " ++ decimal part
+
 abbrev pub line_words : ConfigValue → DatagramPlace → Line → List ℕ
 line_words c place (lines.Changed router records) = codes "change " ++ node_name c router ++ codes " records " ++ decimal records
-line_words c place (lines.Sent router server key nonce datagram) = codes "sent " ++ pair_text (node_name c router) (node_name c server) ++ keyed_text key nonce ++ datagram_text place (Some datagram)
+line_words c place (lines.Sent router server part key nonce datagram) = codes "sent " ++ pair_text (node_name c router) (node_name c server) ++ keyed_text key nonce ++ datagram_text place (Some datagram) ++ part_text part
 line_words c place (lines.Accepted server router key nonce datagram) = codes "accepted " ++ pair_text (node_name c server) (router_name c router) ++ keyed_text key nonce ++ datagram_text place datagram
 line_words c place (lines.Done server router nonce) = codes "done " ++ pair_text (node_name c server) (router_name c router) ++ codes " nonce " ++ decimal nonce
-line_words c place (lines.Counted router server key nonce) = codes "counted " ++ pair_text (node_name c router) (node_name c server) ++ keyed_text key nonce
+line_words c place (lines.Counted router server part key nonce) = codes "counted " ++ pair_text (node_name c router) (node_name c server) ++ keyed_text key nonce ++ part_text part
 line_words c place (lines.Noticed router server nonce datagram) = codes "noticed " ++ pair_text (node_name c router) (node_name c server) ++ codes " nonce " ++ decimal nonce ++ datagram_text place (Some datagram)
 line_words c place (lines.Nowhere datagram) = codes "nowhere " ++ decimal datagram
 line_words c place (lines.Ticked ms now) = codes "tick " ++ decimal ms ++ codes " now " ++ decimal now

@@ -1,5 +1,5 @@
 -- The text of what is asked of a node.
-use Rattle.std.specs.Prelude.{ℕ, ◌-◌, List, [], ◌∷◌, ◌++◌, length, codes, Option, Some, None}
+use Rattle.std.specs.Prelude.{ℕ, ◌+◌, ◌-◌, ◌==◌, List, [], ◌∷◌, ◌++◌, length, codes, Option, Some, None, if◌then◌else◌}
 use Rattle.std.specs.Fmt.{decimal}
 use Rattle.std.specs.List.{flat_map}
 use Rattle.lisp_records.specs.declared.address.Addr.{Addr}
@@ -10,7 +10,7 @@ use Rattle.lisp_lookup.specs.declared.answer.Answer.TheVariants.{NoSite, NotRegi
 use Rattle.lisp_policy.specs.Configuration.{ConfigValue}
 use Rattle.lisp_texts.specs.Written.{addr_text, record_text}
 use Rattle.lisp_lines.specs.Name.{node_name, router_name}
-use Rattle.lisp_lines.specs.Line.{pair_text, keyed_text}
+use Rattle.lisp_lines.specs.Line.{pair_text, keyed_text, part_text}
 
 -- the rows that a Map-Server holds at a moment: how many, then each with its age in ms
 abbrev pub row_text : ConfigValue → ℕ → RowValue → List ℕ
@@ -27,8 +27,23 @@ abbrev pub counted_words : Option (ℕ × ℕ) → List ℕ
 counted_words None = codes " none"
 counted_words (Some pair) = keyed_text pair.0 pair.1
 
-abbrev pub ack_text : ConfigValue → ℕ → ℕ → Option (ℕ × ℕ) → List ℕ
-ack_text c router server counted = codes "acks " ++ pair_text (node_name c router) (node_name c server) ++ counted_words counted ++ 10 ∷ []
+-- of a part of its database
+abbrev pub ack_line : ConfigValue → ℕ → ℕ → ℕ → Option (ℕ × ℕ) → List ℕ
+ack_line c router server part counted = codes "acks " ++ pair_text (node_name c router) (node_name c server) ++ part_text part ++ counted_words counted ++ 10 ∷ []
+
+-- of the first part always, of another one where something was counted
+abbrev pub ack_of_part : ConfigValue → ℕ → ℕ → ℕ → Option (ℕ × ℕ) → List ℕ
+ack_of_part c router server part None = if part == 0 then ack_line c router server part None else []
+ack_of_part c router server part (Some pair) = ack_line c router server part (Some pair)
+
+-- of these parts, from a number on
+abbrev pub acks_from : ConfigValue → ℕ → ℕ → ℕ → List (Option (ℕ × ℕ)) → List ℕ
+acks_from c router server part [] = []
+acks_from c router server part (counted ∷ more) = ack_of_part c router server part counted ++ acks_from c router server (part + 1) more
+
+-- of all parts
+abbrev pub ack_text : ConfigValue → ℕ → ℕ → List (Option (ℕ × ℕ)) → List ℕ
+ack_text c router server counted = acks_from c router server 0 counted
 
 -- who answers for an address: the negative answers with their minutes
 abbrev pub answer_words : {A : Type 0} → Answer A → List ℕ
@@ -44,9 +59,10 @@ ask_text c server addr answer = codes "ask " ++ node_name c server ++ codes " " 
 abbrev pub due_text : ConfigValue → ℕ → List ℕ → List ℕ
 due_text c node whom = codes "due " ++ pair_text (node_name c node) whom ++ 10 ∷ []
 
-abbrev pub due_server : ConfigValue → Option ℕ → List ℕ
+-- a Map-Server, and the part of the router's database that is due there
+abbrev pub due_server : ConfigValue → Option (ℕ × ℕ) → List ℕ
 due_server c None = codes "none"
-due_server c (Some server) = node_name c server
+due_server c (Some due) = node_name c due.0 ++ part_text due.1
 
 abbrev pub due_router : ConfigValue → Option RouterId → List ℕ
 due_router c None = codes "none"

@@ -12,5 +12,5 @@ mod writing;
 pub use carried::put_carried;
 pub use datagram_place::DatagramPlace;
 pub use line::line_text;
-pub use query::{ask_text, due_router_text, due_server_text, hold_text, put_ack};
+pub use query::{ask_text, due_router_text, due_server_text, hold_text, put_acks};
 pub use writing::{write_line, write_text};

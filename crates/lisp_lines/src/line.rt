@@ -2,8 +2,8 @@
 
 ghost use Rattle.std.specs.Prelude.{◌≡◌, ◌++◌, codes, OnErr};
 ghost use Rattle.lisp_lines.specs.Front.{Adds, AddsFront, GivesText};
-ghost use Rattle.lisp_lines.specs.Line.{pair_text, key_text, keyed_text, datagram_text, line_words, line_text};
-ghost use Rattle.lisp_lines.specs.Parts.{verb, nodes_text, refusal_text, details_text, datagram_of};
+ghost use Rattle.lisp_lines.specs.Line.{pair_text, key_text, keyed_text, datagram_text, part_text, line_words, line_text};
+ghost use Rattle.lisp_lines.specs.Parts.{verb, nodes_text, refusal_text, details_text, datagram_of, part_of};
 
 use crate::append::put_number;
 use crate::carried::put_carried;
@@ -31,8 +31,8 @@ pub fn line_text<A: Memory, E: Allocator>(
     Ok(text)
 }
 
-// Appends the words of a line: its verb, its nodes, what else it tells, and the place of its datagram. Out of memory,
-// it may leave a part of them.
+// Appends the words of a line: its verb, its nodes, what else it tells, the place of its datagram, and the part of a
+// database. Out of memory, it may leave a front of them.
 #[tactic(auto, using(crate::proofs::Parts::steps))]
 fn put_line<A: Memory, E: Allocator>(
     text: &mut String<A>,
@@ -46,7 +46,8 @@ fn put_line<A: Memory, E: Allocator>(
     text.try_write(verb(line))?;
     put_nodes(text, config, line)?;
     put_details(text, line)?;
-    put_datagram(text, place, datagram(line))
+    put_datagram(text, place, datagram(line))?;
+    put_part(text, part(line))
 }
 
 // The first word of a line.
@@ -146,6 +147,16 @@ fn datagram(line: &Line) -> Option<usize>
     }
 }
 
+// The part of a router's database that a line is about; 0 of other lines.
+fn part(line: &Line) -> usize
+    ensures { result ≡ part_of line.now }
+{
+    match line {
+        Line::Sent { part, .. } | Line::Counted { part, .. } => *part,
+        _ => 0,
+    }
+}
+
 // Appends the place of a datagram, where there is one and it is shown. Out of memory, it may leave a part of it.
 fn put_datagram<A: Memory>(
     text: &mut String<A>,
@@ -195,6 +206,18 @@ fn put_key<A: Memory>(text: &mut String<A>, key: u8) -> Result<(), AllocError>
     ensures memory { OnErr result A.may_refuse }
 {
     put_number(text, " key ", u64::from(key))
+}
+
+/// Appends the part of a database, where it isn't the first. Out of memory, it leaves a front of it.
+pub(crate) fn put_part<A: Memory>(text: &mut String<A>, part: usize) -> Result<(), AllocError>
+    ensures text { Adds result text.old text.new (part_text part) }
+    ensures front { AddsFront result text.old text.new (part_text part) }
+    ensures memory { OnErr result A.may_refuse }
+{
+    if part == 0 {
+        return Ok(());
+    }
+    put_number(text, " part ", part as u64)
 }
 
 /// Appends a Key ID and a nonce. Out of memory, it leaves a front of them.

@@ -1,13 +1,14 @@
 //! The text of what is asked of a node.
 
 ghost use Rattle.std.specs.Prelude.{◌++◌, ◌∷◌, [], codes, OnErr};
+ghost use Rattle.std.specs.Fmt.{decimal};
 ghost use Rattle.lisp_lines.specs.Front.{Adds, AddsFront, GivesText};
-ghost use Rattle.lisp_lines.specs.Query.{row_text, hold_head, hold_text, counted_words, ack_text, answer_words, ask_text, due_text, due_server, due_router};
+ghost use Rattle.lisp_lines.specs.Query.{row_text, hold_head, hold_text, counted_words, ack_line, ack_of_part, ack_text, answer_words, ask_text, due_text, due_server, due_router};
 ghost use Rattle.lisp_lines.specs.Line.{pair_text};
 ghost use Rattle.lisp_texts.specs.Written.{addr_text};
 
 use crate::append::put_words;
-use crate::line::put_keyed;
+use crate::line::{put_keyed, put_part};
 use crate::name::{node_name, router_name};
 use lisp_lookup::Answer;
 use lisp_memory::{FallibleString, Memory};
@@ -63,22 +64,63 @@ fn put_row<A: Memory + Copy, E: Allocator, F: Allocator>(
     text.try_write(format_args!("row {router} {record} key {key} nonce {nonce} age {age}\n"))
 }
 
-/// Appends the line of what a router counted last from a Map-Server: its Key ID and nonce. Out of memory, it leaves a
-/// front of it.
-pub fn put_ack<A: Memory, E: Allocator>(
+/// Appends a line for each part that a router counted last from a Map-Server, from 0 on: its Key ID and nonce; for the
+/// first part also where nothing was counted. Out of memory, it leaves a front of them.
+pub fn put_acks<A: Memory, E: Allocator>(
     text: &mut String<A>,
     config: &Config<E>,
     router: usize,
     server: usize,
+    counted: &[Option<(u8, u64)>],
+) -> Result<(), AllocError>
+    ensures text { Adds result text.old text.new (ack_text config.now router server counted.now) }
+    ensures front { AddsFront result text.old text.new (ack_text config.now router server counted.now) }
+    ensures memory { OnErr result A.may_refuse }
+{
+    for (part, pair) in counted.iter().enumerate() {
+        put_ack(text, config, router, server, part, *pair)?;
+    }
+    Ok(())
+}
+
+// Appends the line of a part, if it has one: of the first always, of another one where something was counted. Out of
+// memory, it leaves a front of it.
+fn put_ack<A: Memory, E: Allocator>(
+    text: &mut String<A>,
+    config: &Config<E>,
+    router: usize,
+    server: usize,
+    part: usize,
     counted: Option<(u8, u64)>,
 ) -> Result<(), AllocError>
-    ensures text { Adds result text.old text.new (ack_text config.now router server counted) }
-    ensures front { AddsFront result text.old text.new (ack_text config.now router server counted) }
+    ensures text { Adds result text.old text.new (ack_of_part config.now router server part counted) }
+    ensures front { AddsFront result text.old text.new (ack_of_part config.now router server part counted) }
+    ensures memory { OnErr result A.may_refuse }
+{
+    if part == 0 || counted.is_some() {
+        put_ack_line(text, config, router, server, part, counted)
+    } else {
+        Ok(())
+    }
+}
+
+// Appends the line of what was counted of a part. Out of memory, it leaves a front of it.
+fn put_ack_line<A: Memory, E: Allocator>(
+    text: &mut String<A>,
+    config: &Config<E>,
+    router: usize,
+    server: usize,
+    part: usize,
+    counted: Option<(u8, u64)>,
+) -> Result<(), AllocError>
+    ensures text { Adds result text.old text.new (ack_line config.now router server part counted) }
+    ensures front { AddsFront result text.old text.new (ack_line config.now router server part counted) }
     ensures memory { OnErr result A.may_refuse }
 {
     let (router, server) = (node_name(config, router), node_name(config, server));
     put_words(text, "acks ")?;
     put_pair(text, router, server)?;
+    put_part(text, part)?;
     put_counted(text, counted)?;
     put_words(text, "\n")
 }
@@ -149,19 +191,20 @@ fn answer_text<A: Memory + Copy, F: Allocator>(
     }
 }
 
-/// Which Map-Server is due to a router.
+/// Which Map-Server is due to a router, and of which part of its database.
 pub fn due_server_text<A: Memory, E: Allocator>(
     alloc: A,
     config: &Config<E>,
     router: usize,
-    server: Option<usize>,
+    due: Option<(usize, usize)>,
 ) -> Result<String<A>, AllocError>
-    ensures text { GivesText result (due_text config.now router (due_server config.now server)) }
+    ensures text { GivesText result (due_text config.now router (due_server config.now due)) }
     ensures memory { OnErr result A.may_refuse }
 {
     let router = node_name(config, router);
-    match server {
-        Some(server) => due_text(alloc, router, node_name(config, server)),
+    match due {
+        Some((server, 0)) => due_text(alloc, router, node_name(config, server)),
+        Some((server, part)) => due_part_text(alloc, router, node_name(config, server), part),
         None => due_text(alloc, router, NONE),
     }
 }
@@ -189,4 +232,18 @@ fn due_text<A: Memory>(alloc: A, node: &str, whom: &str) -> Result<String<A>, Al
     ensures memory { OnErr result A.may_refuse }
 {
     String::try_format(alloc, format_args!("due {node} {whom}\n"))
+}
+
+// Which Map-Server is due to a router, of a part that isn't the first.
+fn due_part_text<A: Memory>(
+    alloc: A,
+    router: &str,
+    server: &str,
+    part: usize,
+) -> Result<String<A>, AllocError>
+    ensures text { GivesText result
+        (codes "due " ++ pair_text router.now (server.now ++ codes " part " ++ decimal part) ++ 10 ∷ []) }
+    ensures memory { OnErr result A.may_refuse }
+{
+    String::try_format(alloc, format_args!("due {router} {server} part {part}\n"))
 }

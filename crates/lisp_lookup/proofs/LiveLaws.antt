@@ -1,24 +1,22 @@
 -- The records of a router's live rows: going through the rows, and what they make.
-use Rattle.std.proofs.Common.{◌≡◌, ◌≢◌, ℕ, suc, ◌+◌, ◌<◌, ◌≤◌, ◌⊎◌, inl, inr, Bool, true, false, true≢false, cond, ◌&&◌, nat_lt, List, [], ◌∷◌, ◌++◌, length, map, take, take_all, drop, slice_index_or, Option, Some, None, Ok, Err, refl, sym, ap, ◌∙◌, subst, arith}
+use Rattle.std.proofs.Common.{◌≡◌, ◌≢◌, ℕ, suc, ◌+◌, ◌<◌, ◌≤◌, ◌⊎◌, inl, inr, Bool, true, false, true≢false, cond, ◌&&◌, nat_le, List, [], ◌∷◌, ◌++◌, length, map, take, take_all, drop, slice_index_or, Option, Some, None, refl, sym, ap, ◌∙◌, subst, arith}
 use Rattle.std.specs.List.{All, AllPairs, Contains, filter}
 use Rattle.std.specs.List.Sorted.{IsPermutation, IsSortedByKey}
 use Rattle.std.specs.Ordering.{is_lt}
 use Rattle.std.proofs.Math.Seq.{take-suc}
 use Rattle.std.proofs.lemmas.List.Sorted.{ranks_by, sorted_far}
-use Rattle.std.proofs.lemmas.Bool.{ltb-true, lt-ltb}
+use Rattle.std.proofs.lemmas.Bool.{leb-true, le-leb}
 use Rattle.std.proofs.lemmas.List.{append-nil, take-append-drop, map-append, length-append, length-map, get_or-map}
 use Rattle.std.proofs.lemmas.List.Kept.{AllPairs-filter}
 use Rattle.std.proofs.lemmas.List.Elements.{filter-append, filter_more, filter_passes}
 use Rattle.std.proofs.lemmas.List.Sums.{sum_by-append}
-use Rattle.lisp_records.proofs.DatabaseLaws.{distinct_prefixes}
 use Rattle.lisp_records.proofs.RouterLaws.{router_eq-Decides}
-use Rattle.lisp_records.specs.declared.database.DatabaseFault.TheVariants.{TooLarge}
 use Rattle.lisp_records.specs.declared.router.RouterId.{RouterId}
 use Rattle.lisp_records.specs.Address.{PrefixValue, prefix_cmp}
 use Rattle.lisp_records.specs.Record.{MapRecordValue}
 use Rattle.lisp_records.specs.Row.{RowValue}
 use Rattle.lisp_records.specs.Written.{written}
-use Rattle.lisp_records.specs.Database.{size, database_of, repeats}
+use Rattle.lisp_records.specs.Parts.{size, fits_message}
 use Rattle.lisp_lookup.specs.Table.{is_row_of, row_key, row_at, OneEach}
 use Rattle.lisp_lookup.specs.Records.{is_live_of, live_of, ByPrefix}
 use Rattle.lisp_policy.proofs.Found.{not_true}
@@ -83,15 +81,6 @@ apart (x ∷ xs) router one its = λ i j d before lt same. (
     let router = its i x earlier ∙ sym (its j x within) in
     one i j x before within (λ k. (router k, eid k)))
 
--- their prefixes by themselves
-prefixes : (ms : List MapRecordValue) → AllPairs (λ a b. a.eid ≢ b.eid) ms → AllPairs (λ a b. a ≢ b) (map (λ m. m.eid) ms)
-prefixes [] one = λ i j d before lt same. absurd (omega (arith, lt))
-prefixes (m ∷ ms) one = λ i j d before lt same. (
-    let records : List MapRecordValue = m ∷ ms in
-    let within : j < length records = omega (arith, lt, length-map records (λ (m : MapRecordValue). m.eid)) in
-    let own = λ (k : ℕ) (lt : k < length records). get_or-map (λ m. m.eid) records k m d lt in
-    one i j m before within (sym (own i (omega (arith, before, within))) ∙ same ∙ own j within))
-
 first_of : (a b : Bool) → (a && b) ≡ true → a ≡ true
 first_of true b t = refl
 first_of false b t = absurd (true≢false (sym t))
@@ -102,30 +91,27 @@ its_router rows router now i d lt = (router_eq-Decides (slice_index_or (filter (
 differ : (rows : List RowValue) (router : RouterId) (now : ℕ) → OneEach rows → AllPairs (λ a b. a.eid ≢ b.eid) (live_of rows router now)
 differ rows router now one = apart (filter (is_live_of router now) rows) router (AllPairs-filter (λ a b. row_key a ≢ row_key b) (is_live_of router now) rows one) (its_router rows router now)
 
-no_repeats : (rows : List RowValue) (router : RouterId) (now : ℕ) → OneEach rows → repeats (live_of rows router now) ≡ false
-no_repeats rows router now one = (distinct_prefixes (live_of rows router now)).1 (prefixes (live_of rows router now) (differ rows router now one))
+not_leb : (a b : ℕ) → b < a → nat_le a b ≡ false
+not_leb a b above = not_true (nat_le a b) (λ t. let le = leb-true a b t in omega (arith, le, above))
 
-large : (ms : List MapRecordValue) → repeats ms ≡ false → (255 < length ms) ⊎ (16384 < size ms) → database_of ms ≡ Err TooLarge
-large ms distinct over = many (nat_lt 255 (length ms)) refl over
+large : (ms : List MapRecordValue) → (255 < length ms) ⊎ (16384 < size ms) → fits_message ms ≡ false
+large ms (inl many) = rw (not_leb (length ms) 255 many) refl
+large ms (inr long) = rw (not_leb (size ms) 16384 long) (either_way (nat_le (length ms) 255))
   where
-    many : (b : Bool) → nat_lt 255 (length ms) ≡ b → (255 < length ms) ⊎ (16384 < size ms) → database_of ms ≡ Err TooLarge
-    many true is over = rw is refl
-    many false is (inl long) = absurd (true≢false (sym (lt-ltb 255 (length ms) long) ∙ is))
-    many false is (inr over) = rw (is, distinct, lt-ltb 16384 (size ms) over) refl
+    either_way : (b : Bool) → (b && false) ≡ false
+    either_way true = refl
+    either_way false = refl
 
-fitting : (ms : List MapRecordValue) → repeats ms ≡ false → length ms ≤ 255 → size ms ≤ 16384 → database_of ms ≡ Ok ms
-fitting ms distinct few small = rw (not_ltb 255 (length ms) few, distinct, not_ltb 16384 (size ms) small) refl
-  where
-    not_ltb : (a b : ℕ) → b ≤ a → nat_lt a b ≡ false
-    not_ltb a b le = not_true (nat_lt a b) (λ t. absurd (let lt = ltb-true a b t in omega (arith, lt, le)))
+fitting : (ms : List MapRecordValue) → length ms ≤ 255 → size ms ≤ 16384 → fits_message ms ≡ true
+fitting ms few small = rw (le-leb (length ms) 255 few, le-leb (size ms) 16384 small) refl
 
 -- the first so many rows are all
 pub counts_all : (rows : List RowValue) (i : ℕ) (router : RouterId) (now count bytes : ℕ) → length rows ≤ i → Counts (take i rows) router now count bytes → Counts rows router now count bytes
 counts_all rows i router now count bytes past counts = subst (λ (l : List RowValue). Counts l router now count bytes) (take_all i rows past) counts
 
 -- too many of the first rows are too many of all
-pub too_large : (rows : List RowValue) (k : ℕ) (router : RouterId) (now count bytes : ℕ) → OneEach rows → Counts (take k rows) router now count bytes → (255 < count) ⊎ (16384 < bytes) → database_of (live_of rows router now) ≡ Err TooLarge
-too_large rows k router now count bytes one counts over = large (live_of rows router now) (no_repeats rows router now one) (all over)
+pub too_large : (rows : List RowValue) (k : ℕ) (router : RouterId) (now count bytes : ℕ) → Counts (take k rows) router now count bytes → (255 < count) ⊎ (16384 < bytes) → fits_message (live_of rows router now) ≡ false
+too_large rows k router now count bytes counts over = large (live_of rows router now) (all over)
   where
     split : live_of rows router now ≡ live_of (take k rows) router now ++ live_of (drop k rows) router now
     split = ap (λ (l : List RowValue). live_of l router now) (sym (take-append-drop k rows)) ∙ live_both (take k rows) (drop k rows) router now
@@ -134,9 +120,9 @@ too_large rows k router now count bytes one counts over = large (live_of rows ro
     all (inl many) = inl (let longer = ap length split ∙ length-append (live_of (take k rows) router now) (live_of (drop k rows) router now) in omega (arith, many, counts.records, longer))
     all (inr long) = inr (let larger = ap size split ∙ sum_by-append (λ m. length (written m)) (live_of (take k rows) router now) (live_of (drop k rows) router now) in omega (arith, long, counts.written, larger))
 
--- few and short records are a database
-pub fits : (rows : List RowValue) (router : RouterId) (now count bytes : ℕ) → OneEach rows → Counts rows router now count bytes → count ≤ 255 → bytes ≤ 16384 → database_of (live_of rows router now) ≡ Ok (live_of rows router now)
-fits rows router now count bytes one counts few small = fitting (live_of rows router now) (no_repeats rows router now one) (omega (arith, few, counts.records)) (omega (arith, small, counts.written))
+-- one message can carry few and short records
+pub fits : (rows : List RowValue) (router : RouterId) (now count bytes : ℕ) → Counts rows router now count bytes → count ≤ 255 → bytes ≤ 16384 → fits_message (live_of rows router now) ≡ true
+fits rows router now count bytes counts few small = fitting (live_of rows router now) (omega (arith, few, counts.records)) (omega (arith, small, counts.written))
 
 -- the records in their order by prefix
 pub by_prefix : (rows : List RowValue) (router : RouterId) (now : ℕ) (records : List MapRecordValue) → OneEach rows → IsPermutation (live_of rows router now) records → IsSortedByKey (λ m. m.eid) prefix_cmp records → ByPrefix (live_of rows router now) records

@@ -1,12 +1,11 @@
 -- What a Map-Server can tell a router: the records of its live rows (RFC 9301 section 5.7).
-use Rattle.std.specs.Prelude.{◌≡◌, ℕ, Bool, ◌&&◌, List, map, length, Ok, Err}
+use Rattle.std.specs.Prelude.{◌≡◌, ℕ, Bool, ◌&&◌, List, map, length}
 use Rattle.std.specs.List.{AllPairs, filter}
 use Rattle.std.specs.List.Sorted.{IsPermutation}
 use Rattle.std.specs.declared.cmp.Ordering.TheVariants.{Less}
-use Rattle.lisp_records.specs.declared.database.DatabaseFault.{DatabaseFault}
 use Rattle.lisp_records.specs.declared.router.RouterId.{RouterId}
 use Rattle.lisp_records.specs.Address.{prefix_cmp}
-use Rattle.lisp_records.specs.Database.{database_of}
+use Rattle.lisp_records.specs.Parts.{fits_message}
 use Rattle.lisp_records.specs.Record.{MapRecordValue}
 use Rattle.lisp_records.specs.Router.{router_eq}
 use Rattle.lisp_records.specs.Row.{RowValue, is_alive}
@@ -32,10 +31,6 @@ ListsLive rows router now listed = ByPrefix (live_of rows router now) listed
 abbrev pub live_count : List RowValue → RouterId → ℕ → ℕ
 live_count rows router now = length (live_of rows router now)
 
--- the router's live records are a Database
-abbrev pub LiveFit : List RowValue → RouterId → ℕ → Type 0
-LiveFit rows router now = database_of (live_of rows router now) ≡ Ok (live_of rows router now)
-
--- the router's live records are no Database, and why not
-abbrev pub LiveRefused : List RowValue → RouterId → ℕ → DatabaseFault → Type 0
-LiveRefused rows router now fault = database_of (live_of rows router now) ≡ Err fault
+-- one message can carry the router's live records
+abbrev pub live_fit : List RowValue → RouterId → ℕ → Bool
+live_fit rows router now = fits_message (live_of rows router now)

@@ -1,23 +1,21 @@
 //! The records of one router that are alive.
 
-ghost use Rattle.std.specs.Prelude.{◌≡◌, [], IsOk, IfOk, IfErr, OnErr};
-ghost use Rattle.lisp_lookup.specs.Table.{OneEach};
-ghost use Rattle.lisp_lookup.specs.Records.{is_live_of, live_of, live_count, LiveFit, LiveRefused};
+ghost use Rattle.std.specs.Prelude.{◌≡◌, [], None, true, false, IsOk, IfOk, IfSome, OnErr};
+ghost use Rattle.lisp_lookup.specs.Records.{is_live_of, live_of, live_count, live_fit};
 
 use lisp_memory::{FallibleVec, Memory};
-use lisp_records::{DatabaseFault, MAX_RECORDS, MAX_SIZE, MapRecord, RouterId, Row};
+use lisp_records::{MAX_RECORDS, MAX_SIZE, MapRecord, RouterId, Row};
 use std::alloc::{AllocError, Allocator};
 
-/// How many records of a router are alive at a moment, in ms; `TooLarge` where they are no Database.
+/// How many records of a router are alive at a moment, in ms; `None` where one message can't carry them.
 pub(crate) fn count_live<A: Allocator>(
     rows: &[Row<A>],
     router: &RouterId,
     now: u64,
-) -> Result<usize, DatabaseFault>
-    requires { OneEach rows.now }
-    ensures fits { IfOk result (λ count. LiveFit rows.now router.now now) }
-    ensures count { IfOk result (λ count. count ≡ live_count rows.now router.now now) }
-    ensures refused { IfErr result (λ fault. LiveRefused rows.now router.now now fault) }
+) -> Option<usize>
+    ensures fits { IfSome result (λ count. live_fit rows.now router.now now ≡ true) }
+    ensures count { IfSome result (λ count. count ≡ live_count rows.now router.now now) }
+    ensures too_large { result ≡ None → live_fit rows.now router.now now ≡ false }
 {
     let mut count = 0;
     let mut size = 0;
@@ -27,10 +25,10 @@ pub(crate) fn count_live<A: Allocator>(
             size += row.mapping.written_len();
         }
         if count > MAX_RECORDS || size > MAX_SIZE {
-            return Err(DatabaseFault::TooLarge);
+            return None;
         }
     }
-    Ok(count)
+    Some(count)
 }
 
 /// Copies of the records of a router that are alive at a moment, in ms, in memory of `alloc`.

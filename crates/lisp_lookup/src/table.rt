@@ -1,13 +1,13 @@
 //! The rows that a Map-Server holds.
 
-ghost use Rattle.std.specs.Prelude.{◌≡◌, ◌+◌, ◌-◌, ◌*◌, ◌^◌, ◌≤◌, ◌<◌, [], length, nat_le, slice_get, IsOk, IfOk, IfErr, OnOk, OnErr};
+ghost use Rattle.std.specs.Prelude.{◌≡◌, ◌+◌, ◌-◌, ◌*◌, ◌^◌, ◌≤◌, ◌<◌, [], None, true, false, length, nat_le, slice_get, IsOk, IfOk, IfSome, OnOk, OnErr};
 ghost use Rattle.std.specs.Option.{option_map};
 ghost use Rattle.std.specs.List.{filter};
 ghost use Rattle.lisp_records.specs.Moment.{max_moment};
 ghost use Rattle.lisp_records.specs.Row.{is_alive};
 ghost use Rattle.lisp_lookup.specs.Table.{OneEach, Sets, Expires, row_cmp, IsHeld, count_lesser};
 ghost use Rattle.lisp_lookup.specs.Answer.{Answers};
-ghost use Rattle.lisp_lookup.specs.Records.{live_of, live_count, ListsLive, LiveFit, LiveRefused};
+ghost use Rattle.lisp_lookup.specs.Records.{live_of, live_count, live_fit, ListsLive};
 
 use crate::answer::Answer;
 use crate::best::best;
@@ -19,7 +19,7 @@ use crate::probe::Probe;
 use crate::steps::Steps;
 use lisp_memory::{FallibleDeque, FallibleVec, Memory};
 use lisp_policy::Sites;
-use lisp_records::{Addr, DatabaseFault, MapRecord, Prefix, RouterId, Row};
+use lisp_records::{Addr, MapRecord, Prefix, RouterId, Row};
 use std::alloc::{AllocError, Allocator, Global};
 use std::cmp::Ordering;
 use std::collections::VecDeque;
@@ -118,12 +118,12 @@ impl<A: Allocator + Copy> Table<A> {
         find(&rows, &Probe::Prefix(*prefix), steps)
     }
 
-    /// How many records of a router are alive at a moment, in ms; `TooLarge` where they are too many, or too
-    /// long, for a Database. Takes no memory.
-    pub fn count_live(&self, router: &RouterId, now: u64) -> Result<usize, DatabaseFault>
-        ensures fits { IfOk result (λ count. LiveFit self.now.rows router.now now) }
-        ensures count { IfOk result (λ count. count ≡ live_count self.now.rows router.now now) }
-        ensures refused { IfErr result (λ fault. LiveRefused self.now.rows router.now now fault) }
+    /// How many records of a router are alive at a moment, in ms; `None` where they are too many, or too long, for
+    /// one message. Takes no memory.
+    pub fn count_live(&self, router: &RouterId, now: u64) -> Option<usize>
+        ensures fits { IfSome result (λ count. live_fit self.now.rows router.now now ≡ true) }
+        ensures count { IfSome result (λ count. count ≡ live_count self.now.rows router.now now) }
+        ensures too_large { result ≡ None → live_fit self.now.rows router.now now ≡ false }
         ensures one_each { OneEach self.now.rows }
     {
         count_live(&self.items, router, now)

@@ -88,9 +88,9 @@ module _ (o : Opening) (T : List Step) (reads : ReadsBack) (all : AllFrom o (his
       }
 
   posts : (s : Step) (line : Line) → s.line ≡ line → IsHarmless o T s.event → MayCome (context_of o T s) s.event line → AllAnswers o (s ∷ T) (items_added o T (past o T) (arrival_in (bag o T) s.event) line)
-  posts s (lines.Sent r k key nonce datagram) line harmless row i has n is ack = at (head_or_tail (register_item o T r k nonce) [] i has)
+  posts s (lines.Sent r k part key nonce datagram) line harmless row i has n is ack = at (head_or_tail (register_item o T r k part nonce) [] i has)
     where
-      at : (i ≡ register_item o T r k nonce) ⊎ Contains [] i → IsAnswer o (s ∷ T) i n
+      at : (i ≡ register_item o T r k part nonce) ⊎ Contains [] i → IsAnswer o (s ∷ T) i n
       at (inl same) = absurd (said_clash (sym (ap (λ (x : Item). x.message) same) ∙ is))
       at (inr no_more) = absurd (in_none i no_more)
   posts s (lines.Accepted server router key nonce None) line harmless row i has n is ack = absurd (in_none i has)

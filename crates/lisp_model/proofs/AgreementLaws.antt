@@ -1,51 +1,28 @@
 -- Over clean traces servers that hold a prefix of a router from entries with no change between hold equal records.
-use Rattle.std.proofs.Common.{◌≡◌, ℕ, ◌+◌, ◌-◌, ◌<◌, ◌≤◌, true, List, [], ◌∷◌, length, Some, sym, ap, subst, inl, inr, ◌∙◌, arith}
+use Rattle.std.proofs.Common.{◌≡◌, ℕ, ◌+◌, ◌-◌, ◌<◌, ◌≤◌, true, List, length, Some, sym, ap, subst, inl, inr, ◌∙◌, arith}
 use Rattle.std.specs.Prelude.{◌≢◌, ◌⊎◌, nat_lt, nat_le}
 use Rattle.std.specs.List.{AllPairs, Contains}
 use Rattle.std.proofs.lemmas.Bool.{and_parts, ltb-true, leb-true, cases_lt}
 use Rattle.lisp_records.specs.declared.router.RouterId.{RouterId}
 use Rattle.lisp_records.specs.Address.{PrefixValue}
+use Rattle.lisp_records.specs.Database.{record_for}
 use Rattle.lisp_records.specs.Record.{MapRecordValue}
 use Rattle.lisp_records.specs.Row.{RowValue}
 use Rattle.lisp_policy.specs.Configuration.{ConfigValue}
-use Rattle.lisp_model.specs.declared.event.Event.TheVariants as events
-use Rattle.lisp_model.specs.declared.line.Line.{Line}
-use Rattle.lisp_model.specs.declared.line.Line.TheVariants as lines
-use Rattle.lisp_model.specs.Trace.{EventValue, Step, Opening, ShownStore, is_router, router_at, clock}
-use Rattle.lisp_model.specs.History.{SentRegister, record_for, record_in, history}
+use Rattle.lisp_model.specs.Trace.{Step, Opening, is_router, router_at, clock}
+use Rattle.lisp_model.specs.History.{SentRegister, record_in, history}
 use Rattle.lisp_model.specs.Held.{held_row}
 use Rattle.lisp_model.specs.Bag.{since_start}
 use Rattle.lisp_model.specs.Change.{NoChange, Keeps}
 use Rattle.lisp_model.specs.Clean.{Clean}
-use Rattle.lisp_model.specs.Legal.{MayCome, LegalTrace, context_of}
+use Rattle.lisp_model.specs.Legal.{LegalTrace}
 use Rattle.lisp_model.specs.Promises.{HeldAgree, IsRowOf}
 use Rattle.lisp_model.specs.Network.{IsNetwork}
-use Rattle.lisp_model.proofs.ChangeLemmas.{IsNew, new_or_old, same_database, one_place}
+use Rattle.lisp_model.proofs.ChangeLemmas.{same_database, one_place}
 use Rattle.lisp_model.proofs.HeldLaws.{held_was_sent}
-use Rattle.lisp_model.proofs.ListLemmas.{in_none}
 use Rattle.lisp_model.proofs.Origins.{ReadsBack}
+use Rattle.lisp_model.proofs.ReplyOrigins.{entry_is}
 use Rattle.lisp_model.proofs.Sound.{unique}
-
--- entries are those of routers
-sent_by_router : (o : Opening) (T : List Step) (actor : ℕ) (after : ShownStore) (e : EventValue) (r s k n g : ℕ) → MayCome (context_of o T (record { event = e; line = lines.Sent r s k n g; actor = actor; shown = after })) e (lines.Sent r s k n g) → is_router o.config r ≡ true
-sent_by_router o T actor after (events.Send router server fate) r s k n g row = ap (is_router o.config) row.0 ∙ row.2.acts.kind
-sent_by_router o T actor after (events.Change _ _) r s k n g row = absurd row
-sent_by_router o T actor after (events.Deliver _ _) r s k n g row = absurd row.arrives
-sent_by_router o T actor after (events.Junk _ _ _) r s k n g row = absurd row.arrives
-sent_by_router o T actor after (events.Tick _) r s k n g row = absurd row
-sent_by_router o T actor after (events.Restart _ _ _) r s k n g row = absurd row
-sent_by_router o T actor after (events.Rotate _ _ _) r s k n g row = absurd row
-sent_by_router o T actor after (events.Lose _ _ _) r s k n g row = absurd row
-sent_by_router o T actor after (events.Notice _ _ _) r s k n g row = absurd row
-sent_by_router o T actor after (events.Resend _ _) r s k n g row = absurd row
-
-entry_router : (o : Opening) (T : List Step) → LegalTrace o T → (d : SentRegister) → Contains (history o T) d → is_router o.config d.router ≡ true
-entry_router o [] legal d has = absurd (in_none d has)
-entry_router o (s ∷ T) legal d has = at (new_or_old o T s.line d has) (entry_router o T legal.1 d)
-  where
-    at : IsNew o T s.line d ⊎ Contains (history o T) d → (Contains (history o T) d → is_router o.config d.router ≡ true) → is_router o.config d.router ≡ true
-    at (inl new) later = ap (λ (x : SentRegister). is_router o.config x.router) new.is ∙ sent_by_router o T s.actor s.shown s.event new.router new.server new.key new.nonce new.datagram (subst (λ (line : Line). MayCome (context_of o T s) s.event line) new.sent legal.0.row)
-    at (inr old) later = later old
 
 -- one identity is one router's
 one_router : (c : ConfigValue) → AllPairs (λ a b. a.me ≢ b.me) c.routers → (i j : ℕ) → is_router c i ≡ true → is_router c j ≡ true → (router_at c i).me ≡ (router_at c j).me → i ≡ j
@@ -65,7 +42,7 @@ module _ (o : Opening) (distinct : IsNetwork o.config) (reads : ReadsBack) (T : 
   record_of k router eid g is_held d has row =
       let f = held_was_sent o distinct reads T legal clean k router eid g is_held in
       let me : (router_at o.config d.router).me ≡ (router_at o.config f.0.router).me = sym row.router ∙ f.3.router in
-      let number : d.router ≡ f.0.router = one_router o.config distinct.routers d.router f.0.router (entry_router o T legal d has) (entry_router o T legal f.0 f.1) me in
+      let number : d.router ≡ f.0.router = one_router o.config distinct.routers d.router f.0.router (entry_is o T legal d has).kind (entry_is o T legal f.0 f.1).kind me in
       let same : d ≡ f.0 = unique o T legal f.0 d f.1 has number (sym row.key ∙ f.3.key) (sym row.nonce ∙ f.3.nonce) in
       ap (λ (x : SentRegister). record_in x eid) same ∙ f.4
 

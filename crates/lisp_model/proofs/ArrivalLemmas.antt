@@ -54,7 +54,7 @@ noise_clash e = absurd cc
 abbrev pub IsOfArrival : Line → Type 0
 IsOfArrival (lines.Accepted _ _ _ _ _) = Unit {0}
 IsOfArrival (lines.Done _ _ _) = Unit {0}
-IsOfArrival (lines.Counted _ _ _ _) = Unit {0}
+IsOfArrival (lines.Counted _ _ _ _ _) = Unit {0}
 IsOfArrival (lines.Noticed _ _ _ _) = Unit {0}
 IsOfArrival _ = ⊥
 
@@ -95,6 +95,6 @@ module _ (o : Opening) (T : List Step) (reads : ReadsBack) (all : AllFrom o (his
       at m read secret known authentic (inr (inr forged)) = absurd (true≢false (sym authentic ∙ forged secret (subst (λ (k : ℕ). Contains (secrets_of o T k) secret) row.acts known)))
   comes _ (lines.Accepted _ _ _ _ _) after arriving harmless row = absurd row
   comes _ (lines.Done _ _ _) after arriving harmless row = absurd row
-  comes _ (lines.Counted _ _ _ _) after arriving harmless row = absurd row
+  comes _ (lines.Counted _ _ _ _ _) after arriving harmless row = absurd row
   comes _ (lines.Noticed _ _ _ _) after arriving harmless row = absurd row
   comes _ _ after arriving harmless row = absurd arriving

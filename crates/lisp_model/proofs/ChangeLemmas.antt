@@ -21,17 +21,17 @@ given_none (events.Lose node key (Some db)) line r old none = ap (λ b. if b the
 given_none e line r old none = refl
 
 -- a Map-Register that goes out gives nothing
-sent_none : (o : Opening) (T : List Step) (actor : ℕ) (after : ShownStore) (e : EventValue) (router server key nonce datagram r : ℕ) → MayCome (context_of o T (record { event = e; line = lines.Sent router server key nonce datagram; actor = actor; shown = after })) e (lines.Sent router server key nonce datagram) → gives_database e r ≡ false
-sent_none o T actor after (events.Send _ _ _) router server key nonce datagram r row = refl
-sent_none o T actor after (events.Change _ _) router server key nonce datagram r row = absurd row
-sent_none o T actor after (events.Deliver _ _) router server key nonce datagram r row = absurd row.arrives
-sent_none o T actor after (events.Junk _ _ _) router server key nonce datagram r row = absurd row.arrives
-sent_none o T actor after (events.Tick _) router server key nonce datagram r row = absurd row
-sent_none o T actor after (events.Restart _ _ _) router server key nonce datagram r row = absurd row
-sent_none o T actor after (events.Rotate _ _ _) router server key nonce datagram r row = absurd row
-sent_none o T actor after (events.Lose _ _ _) router server key nonce datagram r row = absurd row
-sent_none o T actor after (events.Notice _ _ _) router server key nonce datagram r row = absurd row
-sent_none o T actor after (events.Resend _ _) router server key nonce datagram r row = absurd row
+sent_none : (o : Opening) (T : List Step) (actor : ℕ) (after : ShownStore) (e : EventValue) (router server part key nonce datagram r : ℕ) → MayCome (context_of o T (record { event = e; line = lines.Sent router server part key nonce datagram; actor = actor; shown = after })) e (lines.Sent router server part key nonce datagram) → gives_database e r ≡ false
+sent_none o T actor after (events.Send _ _ _ _) router server part key nonce datagram r row = refl
+sent_none o T actor after (events.Change _ _) router server part key nonce datagram r row = absurd row
+sent_none o T actor after (events.Deliver _ _) router server part key nonce datagram r row = absurd row.arrives
+sent_none o T actor after (events.Junk _ _ _) router server part key nonce datagram r row = absurd row.arrives
+sent_none o T actor after (events.Tick _) router server part key nonce datagram r row = absurd row
+sent_none o T actor after (events.Restart _ _ _) router server part key nonce datagram r row = absurd row
+sent_none o T actor after (events.Rotate _ _ _) router server part key nonce datagram r row = absurd row
+sent_none o T actor after (events.Lose _ _ _) router server part key nonce datagram r row = absurd row
+sent_none o T actor after (events.Notice _ _ _) router server part key nonce datagram r row = absurd row
+sent_none o T actor after (events.Resend _ _) router server part key nonce datagram r row = absurd row
 
 -- places in a list with one more element at its end
 module _ {X : Type 0} where
@@ -58,17 +58,18 @@ module _ (s : Step) (T : List Step) where
 pub record IsNew (o : Opening) (T : List Step) (line : Line) (d : SentRegister) : Type 0 where
   pub router : ℕ
   pub server : ℕ
+  pub part : ℕ
   pub key : ℕ
   pub nonce : ℕ
   pub datagram : ℕ
-  pub sent : line ≡ lines.Sent router server key nonce datagram
-  pub is : d ≡ record { router = router; key = key; nonce = nonce; server = server; database = database o T router; position = length T }
+  pub sent : line ≡ lines.Sent router server part key nonce datagram
+  pub is : d ≡ record { router = router; key = key; nonce = nonce; server = server; database = database o T router; part = part; position = length T }
 
 pub new_or_old : (o : Opening) (T : List Step) (line : Line) (d : SentRegister) → Contains (sent_registers_in o T line ++ history o T) d → IsNew o T line d ⊎ Contains (history o T) d
-new_or_old o T (lines.Sent router server key nonce datagram) d has = at (head_or_tail _ (history o T) d has)
+new_or_old o T (lines.Sent router server part key nonce datagram) d has = at (head_or_tail _ (history o T) d has)
   where
-    at : (d ≡ record { router = router; key = key; nonce = nonce; server = server; database = database o T router; position = length T }) ⊎ Contains (history o T) d → IsNew o T (lines.Sent router server key nonce datagram) d ⊎ Contains (history o T) d
-    at (inl e) = inl (record { router = router; server = server; key = key; nonce = nonce; datagram = datagram; sent = refl; is = e })
+    at : (d ≡ record { router = router; key = key; nonce = nonce; server = server; database = database o T router; part = part; position = length T }) ⊎ Contains (history o T) d → IsNew o T (lines.Sent router server part key nonce datagram) d ⊎ Contains (history o T) d
+    at (inl e) = inl (record { router = router; server = server; part = part; key = key; nonce = nonce; datagram = datagram; sent = refl; is = e })
     at (inr old) = inr old
 new_or_old o T _ d has = inr has
 
@@ -89,7 +90,7 @@ module _ (o : Opening) where
   nothing_before s T r p none place x low high is = none place x low (omega (arith, high)) (earlier_place s T place high ∙ is)
 
   new_sent : (T : List Step) (s : Step) → Legal o T s → (d : SentRegister) → (new : IsNew o T s.line d) → gives_database s.event d.router ≡ false
-  new_sent T s l d new = sent_none o T s.actor s.shown s.event new.router new.server new.key new.nonce new.datagram d.router (subst (λ (line : Line). MayCome (context_of o T s) s.event line) new.sent l.row)
+  new_sent T s l d new = sent_none o T s.actor s.shown s.event new.router new.server new.part new.key new.nonce new.datagram d.router (subst (λ (line : Line). MayCome (context_of o T s) s.event line) new.sent l.row)
 
   kept_since : (T : List Step) → LegalTrace o T → (d : SentRegister) → Contains (history o T) d → NothingAfter T d.router d.position → d.database ≡ database o T d.router
   kept_since [] legal d has none = absurd (in_none d has)
@@ -122,12 +123,13 @@ module _ (o : Opening) where
     where
       both : (x : IsNew o T s.line d) (y : IsNew o T s.line e) → d ≡ e
       both x y =
-          let line : lines.Sent x.router x.server x.key x.nonce x.datagram ≡ lines.Sent y.router y.server y.key y.nonce y.datagram = sym x.sent ∙ y.sent in
+          let line : lines.Sent x.router x.server x.part x.key x.nonce x.datagram ≡ lines.Sent y.router y.server y.part y.key y.nonce y.datagram = sym x.sent ∙ y.sent in
           let r : x.router ≡ y.router = cc in
           let k : x.key ≡ y.key = cc in
           let n : x.nonce ≡ y.nonce = cc in
           let t : x.server ≡ y.server = cc in
-          x.is ∙ (λ i. record { router = r i; key = k i; nonce = n i; server = t i; database = database o T (r i); position = length T }) ∙ sym y.is
+          let p : x.part ≡ y.part = cc in
+          x.is ∙ (λ i. record { router = r i; key = k i; nonce = n i; server = t i; database = database o T (r i); part = p i; position = length T }) ∙ sym y.is
 
       at : IsNew o T s.line d ⊎ Contains (history o T) d → IsNew o T s.line e ⊎ Contains (history o T) e → (Contains (history o T) d → Contains (history o T) e → d.position ≡ e.position → d ≡ e) → d.position ≡ e.position → d ≡ e
       at (inl new) (inl other) later same = both new other

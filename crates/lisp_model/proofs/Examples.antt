@@ -2,6 +2,7 @@
 pub mod Samples
 pub mod Traces
 pub mod Arrivals
+pub mod Wholes
 pub mod Steps
 pub mod LegalRows
 pub mod Story
@@ -12,6 +13,9 @@ pub mod BrokenPromises
 pub mod Premises
 pub mod Answers
 pub mod Meanings
+pub mod PartMeanings
+pub mod TwoParts
+pub mod LargeDatabases
 pub mod Indices
 pub mod Networks
 pub mod MemoryLines

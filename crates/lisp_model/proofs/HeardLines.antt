@@ -1,17 +1,18 @@
 -- What the lines of a router that hears a message say.
-use Rattle.std.proofs.Common.{◌≡◌, ℕ, ◌<◌, ◌≤◌, Bool, true, false, length, Ok, Err, refl, sym, ap, inl, inr, ◌∙◌, subst, true≢false, arith}
+use Rattle.std.proofs.Common.{◌≡◌, ℕ, ◌<◌, ◌≤◌, Bool, true, false, length, Option, Some, None, Ok, Err, refl, sym, ap, inl, inr, ◌∙◌, subst, true≢false, arith}
 use Rattle.std.specs.Prelude.{◌⊎◌, nat_le, Result, if◌then◌else◌}
 use Rattle.std.proofs.lemmas.Bool.{leb-true, le-leb}
 use Rattle.lisp_etr.specs.declared.notify_fault.NotifyFault.{NotifyFault}
-use Rattle.lisp_etr.specs.declared.notify_fault.NotifyFault.TheVariants.{Stale, OutOfMemory}
-use Rattle.lisp_etr.specs.Hearing.{ServerNotify, first_notice, is_latest}
+use Rattle.lisp_etr.specs.declared.notify_fault.NotifyFault.TheVariants.{OutOfMemory}
+use Rattle.lisp_etr.specs.Hearing.{ServerNotify, first_notice}
+use Rattle.lisp_etr.specs.Rounds.{part_with}
 use Rattle.lisp_messages.specs.Reading.{HasHead, HasRecords}
 use Rattle.lisp_model.specs.declared.line.Line.{Line}
 use Rattle.lisp_model.specs.declared.line.Line.TheVariants as lines
 use Rattle.lisp_model.specs.Trace.{etr_config}
 use Rattle.lisp_model.specs.Bag.{Arrival, bag}
-use Rattle.lisp_model.specs.Counted.{notify_at, latest_nonce}
-use Rattle.lisp_model.specs.Hearing.{Hears, IsToAnswer, refused_with, heard_line, line_of}
+use Rattle.lisp_model.specs.Counted.{notify_at, latest_nonces}
+use Rattle.lisp_model.specs.Hearing.{Hears, IsToAnswer, refused_with, counted_line, heard_line, line_of}
 use Rattle.lisp_model.specs.Context.{Context}
 
 -- a Map-Notify that passes all checks
@@ -19,7 +20,7 @@ abbrev pub Passes : Context → Arrival → ServerNotify → Type 0
 Passes t a h = notify_at t.opening t.past t.node a ≡ Ok h
 
 -- it counted
-pub record IsCounted (t : Context) (a : Arrival) (router server key nonce : ℕ) : Type 0 where
+pub record IsCounted (t : Context) (a : Arrival) (router server part key nonce : ℕ) : Type 0 where
   pub acts : t.node ≡ router
   pub what : ServerNotify
   pub hears : Passes t a what
@@ -27,7 +28,7 @@ pub record IsCounted (t : Context) (a : Arrival) (router server key nonce : ℕ)
   pub under : key ≡ (etr_config t.opening t.past t.node).key_id
   pub number : nonce ≡ what.message.nonce
   pub low : nonce < first_notice
-  pub latest : is_latest nonce (latest_nonce t.past router server) ≡ true
+  pub latest : part_with nonce (latest_nonces t.past router server) ≡ Some part
 
 -- it was a notice
 pub record IsNoticed (t : Context) (a : Arrival) (router server nonce datagram : ℕ) : Type 0 where
@@ -45,10 +46,10 @@ below n is = let not_above : ¬ (first_notice ≤ n) = λ above. true≢false (s
 -- the line tells of that node, if of any
 abbrev pub IsBy : Line → ℕ → Type 0
 IsBy (lines.Changed router _) node = router ≡ node
-IsBy (lines.Sent router _ _ _ _) node = router ≡ node
+IsBy (lines.Sent router _ _ _ _ _) node = router ≡ node
 IsBy (lines.Accepted server _ _ _ _) node = server ≡ node
 IsBy (lines.Done server _ _) node = server ≡ node
-IsBy (lines.Counted router _ _ _) node = router ≡ node
+IsBy (lines.Counted router _ _ _ _) node = router ≡ node
 IsBy (lines.Noticed router _ _ _) node = router ≡ node
 IsBy (lines.Nowhere _) node = Unit {0}
 IsBy (lines.Ticked _ _) node = Unit {0}
@@ -61,14 +62,15 @@ IsBy (lines.Down router) node = router ≡ node
 IsBy (lines.Refused named _) node = named ≡ node
 
 module _ (t : Context) (a : Arrival) where
-  module _ (router server key nonce : ℕ) where
-    counted_by : (h : ServerNotify) → Passes t a h → (b c : Bool) → nat_le first_notice h.message.nonce ≡ b → is_latest h.message.nonce (latest_nonce t.past t.node h.server) ≡ c
-        → lines.Counted router server key nonce ≡ (if b then lines.Noticed t.node h.server h.message.nonce (length (bag t.opening t.past)) else (if c then lines.Counted t.node h.server (etr_config t.opening t.past t.node).key_id h.message.nonce else refused_with t (Stale (latest_nonce t.past t.node h.server)))) → IsCounted t a router server key nonce
-    counted_by h hears true c high last is = absurd cc
-    counted_by h hears false false low last is = absurd cc
-    counted_by h hears false true low last is =
+  module _ (router server part key nonce : ℕ) where
+    counted_by : (h : ServerNotify) → Passes t a h → (b : Bool) (x : Option ℕ) → nat_le first_notice h.message.nonce ≡ b → part_with h.message.nonce (latest_nonces t.past t.node h.server) ≡ x
+        → lines.Counted router server part key nonce ≡ (if b then lines.Noticed t.node h.server h.message.nonce (length (bag t.opening t.past)) else counted_line t h (latest_nonces t.past t.node h.server) x) → IsCounted t a router server part key nonce
+    counted_by h hears true x high last is = absurd cc
+    counted_by h hears false None low last is = absurd cc
+    counted_by h hears false (Some p) low last is =
         let who : router ≡ t.node = cc in
         let whose : server ≡ h.server = cc in
+        let of : part ≡ p = cc in
         let under : key ≡ (etr_config t.opening t.past t.node).key_id = cc in
         let number : nonce ≡ h.message.nonce = cc in
         record {
@@ -79,26 +81,26 @@ module _ (t : Context) (a : Arrival) where
           under = under;
           number = number;
           low = (let under_it = below h.message.nonce low in omega (arith, number, under_it));
-          latest = (λ i. is_latest (number i) (latest_nonce t.past (who i) (whose i))) ∙ last;
+          latest = (λ i. part_with (number i) (latest_nonces t.past (who i) (whose i))) ∙ last ∙ ap Some (sym of);
         }
 
-    pub counted_of : Hears t a (lines.Counted router server key nonce) → IsCounted t a router server key nonce
+    pub counted_of : Hears t a (lines.Counted router server part key nonce) → IsCounted t a router server part key nonce
     counted_of hears = at hears.comes
       where
-        by : (r : Result ServerNotify NotifyFault) → notify_at t.opening t.past t.node a ≡ r → lines.Counted router server key nonce ≡ line_of t r → IsCounted t a router server key nonce
+        by : (r : Result ServerNotify NotifyFault) → notify_at t.opening t.past t.node a ≡ r → lines.Counted router server part key nonce ≡ line_of t r → IsCounted t a router server part key nonce
         by (Err fault) e is = absurd cc
-        by (Ok h) e is = counted_by h e (nat_le first_notice h.message.nonce) (is_latest h.message.nonce (latest_nonce t.past t.node h.server)) refl refl is
+        by (Ok h) e is = counted_by h e (nat_le first_notice h.message.nonce) (part_with h.message.nonce (latest_nonces t.past t.node h.server)) refl refl is
 
-        at : (lines.Counted router server key nonce ≡ line_of t (notify_at t.opening t.past t.node a)) ⊎ (HasHead a.bytes × (HasRecords a.bytes ⊎ IsToAnswer t a) × (lines.Counted router server key nonce ≡ refused_with t OutOfMemory)) → IsCounted t a router server key nonce
+        at : (lines.Counted router server part key nonce ≡ line_of t (notify_at t.opening t.past t.node a)) ⊎ (HasHead a.bytes × (HasRecords a.bytes ⊎ IsToAnswer t a) × (lines.Counted router server part key nonce ≡ refused_with t OutOfMemory)) → IsCounted t a router server part key nonce
         at (inl is) = by (notify_at t.opening t.past t.node a) refl is
-        at (inr out) = absurd (let is : lines.Counted router server key nonce ≡ refused_with t OutOfMemory = out.2 in cc)
+        at (inr out) = absurd (let is : lines.Counted router server part key nonce ≡ refused_with t OutOfMemory = out.2 in cc)
 
   module _ (router server nonce datagram : ℕ) where
-    noticed_by : (h : ServerNotify) → Passes t a h → (b c : Bool) → nat_le first_notice h.message.nonce ≡ b
-        → lines.Noticed router server nonce datagram ≡ (if b then lines.Noticed t.node h.server h.message.nonce (length (bag t.opening t.past)) else (if c then lines.Counted t.node h.server (etr_config t.opening t.past t.node).key_id h.message.nonce else refused_with t (Stale (latest_nonce t.past t.node h.server)))) → IsNoticed t a router server nonce datagram
-    noticed_by h hears false false low is = absurd cc
-    noticed_by h hears false true low is = absurd cc
-    noticed_by h hears true c high is =
+    noticed_by : (h : ServerNotify) → Passes t a h → (b : Bool) (x : Option ℕ) → nat_le first_notice h.message.nonce ≡ b
+        → lines.Noticed router server nonce datagram ≡ (if b then lines.Noticed t.node h.server h.message.nonce (length (bag t.opening t.past)) else counted_line t h (latest_nonces t.past t.node h.server) x) → IsNoticed t a router server nonce datagram
+    noticed_by h hears false None low is = absurd cc
+    noticed_by h hears false (Some p) low is = absurd cc
+    noticed_by h hears true x high is =
         let who : router ≡ t.node = cc in
         let whose : server ≡ h.server = cc in
         let number : nonce ≡ h.message.nonce = cc in
@@ -118,7 +120,7 @@ module _ (t : Context) (a : Arrival) where
       where
         by : (r : Result ServerNotify NotifyFault) → notify_at t.opening t.past t.node a ≡ r → lines.Noticed router server nonce datagram ≡ line_of t r → IsNoticed t a router server nonce datagram
         by (Err fault) e is = absurd cc
-        by (Ok h) e is = noticed_by h e (nat_le first_notice h.message.nonce) (is_latest h.message.nonce (latest_nonce t.past t.node h.server)) refl is
+        by (Ok h) e is = noticed_by h e (nat_le first_notice h.message.nonce) (part_with h.message.nonce (latest_nonces t.past t.node h.server)) refl is
 
         at : (lines.Noticed router server nonce datagram ≡ line_of t (notify_at t.opening t.past t.node a)) ⊎ (HasHead a.bytes × (HasRecords a.bytes ⊎ IsToAnswer t a) × (lines.Noticed router server nonce datagram ≡ refused_with t OutOfMemory)) → IsNoticed t a router server nonce datagram
         at (inl is) = by (notify_at t.opening t.past t.node a) refl is
@@ -136,14 +138,14 @@ module _ (t : Context) (a : Arrival) where
   pub heard_by : (line : Line) → Hears t a line → IsBy line t.node
   heard_by line hears = at hears.comes
     where
-      by : (h : ServerNotify) (b c : Bool) → IsBy (if b then lines.Noticed t.node h.server h.message.nonce (length (bag t.opening t.past)) else (if c then lines.Counted t.node h.server (etr_config t.opening t.past t.node).key_id h.message.nonce else refused_with t (Stale (latest_nonce t.past t.node h.server)))) t.node
-      by h true c = refl
-      by h false true = refl
-      by h false false = refl
+      by : (h : ServerNotify) (b : Bool) (x : Option ℕ) → IsBy (if b then lines.Noticed t.node h.server h.message.nonce (length (bag t.opening t.past)) else counted_line t h (latest_nonces t.past t.node h.server) x) t.node
+      by h true x = refl
+      by h false (Some p) = refl
+      by h false None = refl
 
       by_itself : (r : Result ServerNotify NotifyFault) → IsBy (line_of t r) t.node
       by_itself (Err fault) = refl
-      by_itself (Ok h) = by h (nat_le first_notice h.message.nonce) (is_latest h.message.nonce (latest_nonce t.past t.node h.server))
+      by_itself (Ok h) = by h (nat_le first_notice h.message.nonce) (part_with h.message.nonce (latest_nonces t.past t.node h.server))
 
       at : (line ≡ line_of t (notify_at t.opening t.past t.node a)) ⊎ (HasHead a.bytes × (HasRecords a.bytes ⊎ IsToAnswer t a) × (line ≡ refused_with t OutOfMemory)) → IsBy line t.node
       at (inl is) = subst (λ (l : Line). IsBy l t.node) (sym is) (by_itself (notify_at t.opening t.past t.node a))

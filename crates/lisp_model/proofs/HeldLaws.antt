@@ -5,13 +5,14 @@ use Rattle.std.specs.List.{Contains, find}
 use Rattle.std.proofs.lemmas.List.Elements.{Contains-append_cases, Contains-append_left, Contains-append_right}
 use Rattle.lisp_records.specs.Address.{prefix_eq}
 use Rattle.lisp_records.specs.Router.{router_eq}
+use Rattle.lisp_records.proofs.PartLaws.{part_look_up}
 use Rattle.lisp_records.specs.Row.{RowValue}
 use Rattle.lisp_admission.specs.Pairs.{router_of}
 use Rattle.lisp_admission.specs.AcceptedRows.{row_value}
 use Rattle.lisp_model.specs.declared.line.Line.{Line}
 use Rattle.lisp_model.specs.declared.line.Line.TheVariants as lines
 use Rattle.lisp_model.specs.Trace.{Step, Opening, clock}
-use Rattle.lisp_model.specs.History.{record_for}
+use Rattle.lisp_records.specs.Database.{record_for}
 use Rattle.lisp_model.specs.Held.{Acceptance}
 use Rattle.lisp_model.specs.Bag.{since_start, since_start_after}
 use Rattle.lisp_model.specs.Accepted.{acceptances, acceptances_after, acceptances_in_step}
@@ -23,6 +24,7 @@ use Rattle.lisp_model.proofs.Agreement.{held_found}
 use Rattle.lisp_model.proofs.ListLemmas.{in_none}
 use Rattle.lisp_model.proofs.OriginLaws.{accepted_was_sent}
 use Rattle.lisp_model.proofs.Origins.{ReadsBack}
+use Rattle.lisp_model.proofs.ReplyOrigins.{entry_is}
 
 -- what was accepted since the start was accepted
 within : (line : Line) (new new_since old : List Acceptance) (k : ℕ) (x : Acceptance) → (Contains new_since x → Contains old x) → Contains (since_start_after line new k new_since) x → Contains (acceptances_after line new k old) x
@@ -74,7 +76,7 @@ module _ (o : Opening) (distinct : IsNetwork o.config) (reads : ReadsBack) (T : 
           key = ap (λ (z : RowValue). z.key) x.is ∙ ap (λ m. m.key_id) w.message;
           nonce = ap (λ (z : RowValue). z.nonce) x.is ∙ ap (λ m. m.nonce) w.message;
         },
-        ap (λ m. record_for m.records eid) (sym w.message) ∙ has ∙ ap Some (sym (ap (λ (z : RowValue). z.mapping) x.is)),
+        part_look_up found.0.database found.0.part eid h.mapping (entry_is o T legal found.0 w.sent).fits (ap (λ m. record_for m.records eid) (sym w.message) ∙ has ∙ ap Some (sym (ap (λ (z : RowValue). z.mapping) x.is))),
         record {
           acceptance = x.acceptance;
           taken = x.taken;

@@ -24,7 +24,10 @@ pub mod HeadLemmas
 pub mod ArrivalLemmas
 pub mod HearingLemmas
 pub mod ReplyOrigins
+pub mod PartNumbers
+pub mod LatestLaws
 pub mod CountedLaws
+pub mod AbsentLaws
 pub mod AcknowledgementOrigins
 pub mod NoticeOrigins
 pub mod DoneLaws

@@ -36,13 +36,13 @@ same_number a = (Decides-eqb a a).1 refl
 pub unless : {X : Type 0} (a b : ℕ) (x y : X) → a ≢ b → (if a == b then x else y) ≡ y
 unless a b x y differ = ap (λ t. if t then x else y) (other_number a b differ)
 
-pub unless_both : {X : Type 0} (a b c d : ℕ) (x y : X) → a ≢ b → (if a == b && c == d then x else y) ≡ y
-unless_both a b c d x y differ = ap (λ t. if t && c == d then x else y) (other_number a b differ)
+pub unless_all : {X : Type 0} (a b : ℕ) (q r : Bool) (x y : X) → a ≢ b → (if a == b && q && r then x else y) ≡ y
+unless_all a b q r x y differ = ap (λ t. if t && q && r then x else y) (other_number a b differ)
 
 arrives_by : (t : Context) (a : Arrival) (line : Line) → Arrives t a line → IsBy line t.node
 arrives_by t a (lines.Accepted server router key nonce datagram) row = sym row.acts.acts
 arrives_by t a (lines.Done server router nonce) row = sym row.acts.acts
-arrives_by t a (lines.Counted router server key nonce) row = heard_by t a _ row
+arrives_by t a (lines.Counted router server part key nonce) row = heard_by t a _ row
 arrives_by t a (lines.Noticed router server nonce datagram) row = heard_by t a _ row
 arrives_by t a (lines.Down router) row = sym row.acts.acts
 arrives_by t a (lines.Refused node (refusals.Receive why)) row = sym row.0.acts
@@ -53,9 +53,9 @@ arrives_by t a _ row = absurd row
 pub by_actor : (t : Context) (e : EventValue) (line : Line) → MayCome t e line → IsBy line t.node
 by_actor t (events.Change router db) (lines.Changed named records) row = row.names ∙ sym row.acts.acts
 by_actor t (events.Change router db) (lines.Down named) row = row.names ∙ sym row.acts.acts
-by_actor t (events.Send router server fate) (lines.Sent r s key nonce datagram) row = row.0 ∙ sym row.2.acts.acts
-by_actor t (events.Send router server fate) (lines.Down named) row = row.1.names ∙ sym row.1.acts.acts
-by_actor t (events.Send router server fate) (lines.Refused named (refusals.Send why)) row = row.0 ∙ sym row.2.acts
+by_actor t (events.Send router server part fate) (lines.Sent r s p key nonce datagram) row = row.0 ∙ sym row.3.acts.acts
+by_actor t (events.Send router server part fate) (lines.Down named) row = row.1.names ∙ sym row.1.acts.acts
+by_actor t (events.Send router server part fate) (lines.Refused named (refusals.Send why)) row = row.0 ∙ sym row.2.acts
 by_actor t (events.Deliver k fate) (lines.Nowhere datagram) row = tt
 by_actor t (events.Deliver k fate) line row = arrives_by t (arrival_of row.item) line row.arrives
 by_actor t (events.Junk to from bytes) line row = arrives_by t (junk_arrival from bytes) line row.arrives
@@ -154,7 +154,7 @@ module _ (node k : ℕ) (other : k ≢ node) where
   before_loss_other _ _ is since old = refl
 
   pub last_sent_other : (line : Line) → IsBy line node → (old : Option ℕ) → last_sent_after line k old ≡ old
-  last_sent_other (lines.Sent router _ _ nonce _) is old = unless router k (Some nonce) old (differs router is)
+  last_sent_other (lines.Sent router _ part _ nonce _) is old = unless router k (Some nonce) old (differs router is)
   last_sent_other (lines.Restarted named) is old = unless named k None old (differs named is)
   last_sent_other (lines.Rotated named _) is old = unless named k None old (differs named is)
   last_sent_other (lines.Emptied named _) is old = unless named k None old (differs named is)
@@ -166,27 +166,27 @@ module _ (node k : ℕ) (other : k ≢ node) where
   start_values_other (lines.Emptied named _) is new old = unless named k new old (differs named is)
   start_values_other _ is new old = refl
 
-  pub round_other : (line : Line) → IsBy line node → (now server : ℕ) (old : RoundTimes) → round_after line now k server old ≡ old
-  round_other (lines.Changed router _) is now server old = unless router k _ old (differs router is)
-  round_other (lines.Restarted named) is now server old = unless named k _ old (differs named is)
-  round_other (lines.Rotated named _) is now server old = unless named k _ old (differs named is)
-  round_other (lines.Emptied named _) is now server old = unless named k _ old (differs named is)
-  round_other (lines.Sent router s _ _ _) is now server old = unless_both router k s server _ old (differs router is)
-  round_other (lines.Counted router s _ _) is now server old = unless_both router k s server _ old (differs router is)
-  round_other _ is now server old = refl
+  pub round_other : (line : Line) → IsBy line node → (now server part : ℕ) (old : RoundTimes) → round_after line now k server part old ≡ old
+  round_other (lines.Changed router _) is now server part old = unless router k _ old (differs router is)
+  round_other (lines.Restarted named) is now server part old = unless named k _ old (differs named is)
+  round_other (lines.Rotated named _) is now server part old = unless named k _ old (differs named is)
+  round_other (lines.Emptied named _) is now server part old = unless named k _ old (differs named is)
+  round_other (lines.Sent router s p _ _ _) is now server part old = unless_all router k (s == server) (p == part) _ old (differs router is)
+  round_other (lines.Counted router s p _ _) is now server part old = unless_all router k (s == server) (p == part) _ old (differs router is)
+  round_other _ is now server part old = refl
 
-  pub latest_other : (line : Line) → IsBy line node → (server old : ℕ) → latest_nonce_after line k server old ≡ old
-  latest_other (lines.Sent router s _ nonce _) is server old = unless_both router k s server nonce old (differs router is)
-  latest_other (lines.Restarted named) is server old = unless named k 0 old (differs named is)
-  latest_other (lines.Rotated named _) is server old = unless named k 0 old (differs named is)
-  latest_other (lines.Emptied named _) is server old = unless named k 0 old (differs named is)
-  latest_other _ is server old = refl
+  pub latest_other : (line : Line) → IsBy line node → (server part old : ℕ) → latest_nonce_after line k server part old ≡ old
+  latest_other (lines.Sent router s p _ nonce _) is server part old = unless_all router k (s == server) (p == part) nonce old (differs router is)
+  latest_other (lines.Restarted named) is server part old = unless named k 0 old (differs named is)
+  latest_other (lines.Rotated named _) is server part old = unless named k 0 old (differs named is)
+  latest_other (lines.Emptied named _) is server part old = unless named k 0 old (differs named is)
+  latest_other _ is server part old = refl
 
-  pub acked_other : (line : Line) → IsBy line node → (server : ℕ) (old : Option (ℕ × ℕ)) → acked_after line k server old ≡ old
-  acked_other (lines.Counted router s key nonce) is server old = unless_both router k s server _ old (differs router is)
-  acked_other (lines.Restarted named) is server old = unless named k None old (differs named is)
-  acked_other (lines.Emptied named _) is server old = unless named k None old (differs named is)
-  acked_other _ is server old = refl
+  pub acked_other : (line : Line) → IsBy line node → (server part : ℕ) (old : Option (ℕ × ℕ)) → acked_after line k server part old ≡ old
+  acked_other (lines.Counted router s p key nonce) is server part old = unless_all router k (s == server) (p == part) _ old (differs router is)
+  acked_other (lines.Restarted named) is server part old = unless named k None old (differs named is)
+  acked_other (lines.Emptied named _) is server part old = unless named k None old (differs named is)
+  acked_other _ is server part old = refl
 
 clock_stays : (e : EventValue) → is_timeless e ≡ true → (now : ℕ) → now + time_of e ≡ now
 clock_stays (events.Tick ms) e now = absurd (true≢false (sym e))
@@ -214,9 +214,9 @@ leaves_others o T s l =
         database = database_other s.actor k other s.event s.line given _;
         last_sent = last_sent_other s.actor k other s.line by _;
         start_values = start_values_other s.actor k other s.line by _ _;
-        round = λ server. round_other s.actor k other s.line by _ server _;
-        latest = λ server. latest_other s.actor k other s.line by server _;
-        acked = λ server. acked_other s.actor k other s.line by server _;
+        round = λ server part. round_other s.actor k other s.line by _ server part _;
+        latest = λ server part. latest_other s.actor k other s.line by server part _;
+        acked = λ server part. acked_other s.actor k other s.line by server part _;
       };
       time = λ timeless. clock_stays s.event timeless (clock T);
       sent = (_, refl);

@@ -23,10 +23,10 @@ use Rattle.lisp_model.proofs.MustLaws.{must}
 excused_by : (One Other : Excuse) (o : Opening) (T : List Step) (s : Step) → (One (context_of o T s) s.line → Other (context_of o T s) s.line)
     → Must One o T s → Must Other o T s
 excused_by One Other o T s gives must = record {
-  send = λ router server fate is up listed below. ⊎_map (λ e. e) gives (must.send router server fate is up listed below);
+  send = λ router server part fate is up listed there below. ⊎_map (λ e. e) gives (must.send router server part fate is up listed there below);
   accept = λ a m is kind admits above. ⊎_map (λ e. e) gives (must.accept a m is kind admits above);
   done = λ a m n is kind read ack waits tag. ⊎_map (λ e. e) gives (must.done a m n is kind read ack waits tag);
-  counted = λ a h is kind up passes low last. ⊎_map (λ e. e) gives (must.counted a h is kind up passes low last);
+  counted = λ a h part is kind up passes low within last. ⊎_map (λ e. e) gives (must.counted a h part is kind up passes low within last);
   noticed = λ a h is kind up passes high. ⊎_map (λ e. e) gives (must.noticed a h is kind up passes high);
 }
 

@@ -1,9 +1,11 @@
 -- What meets its conditions is sent, accepted or done.
 use Rattle.lisp_etr.specs.declared.notify_fault.NotifyFault.TheVariants as notifies
-use Rattle.lisp_etr.specs.Hearing.{ServerNotify, first_notice, is_latest}
+use Rattle.lisp_etr.specs.Hearing.{ServerNotify, first_notice}
+use Rattle.lisp_etr.specs.Rounds.{is_latest}
+use Rattle.lisp_records.specs.Parts.{most_parts}
 use Rattle.lisp_etr.specs.Sending.{last_nonce}
-use Rattle.lisp_model.specs.Counted.{latest_nonce}
-use Rattle.lisp_model.specs.Hearing.{Hears, refused_with, counted_line, heard_line}
+use Rattle.lisp_model.specs.Counted.{latest_nonce, latest_nonces}
+use Rattle.lisp_model.specs.Hearing.{Hears, refused_with, counted_line, counted_or_stale, heard_line}
 use Rattle.lisp_model.specs.Must.{is_counted, is_noticed}
 use Rattle.std.proofs.Common.{◌≡◌, ℕ, ◌+◌, ◌<◌, ◌≤◌, Bool, true, false, List, length, Option, Some, None, Ok, Err, refl, sym, ap, subst, inl, inr, ◌∙◌, true≢false, arith}
 use Rattle.std.specs.Prelude.{◌⊎◌, nat_lt, nat_le, slice_get, Result, if◌then◌else◌}
@@ -28,12 +30,13 @@ use Rattle.lisp_model.specs.Trace.{EventValue, Step, Opening, is_up, is_server, 
 use Rattle.lisp_model.specs.Timers.{Notice}
 use Rattle.lisp_model.specs.Bag.{Item, Arrival, arrival_of, arrival_in, junk_arrival, bag}
 use Rattle.lisp_model.specs.Context.{Context, values, IsBase}
-use Rattle.lisp_model.specs.Sending.{CountsFrom, pair_at, last_sent, start_values, RefusesToSend}
+use Rattle.lisp_model.specs.Sending.{CountsFrom, HasPart, pair_at, last_sent, start_values, RefusesToSend}
 use Rattle.lisp_model.specs.Receiving.{Admits, last_in, awaiting, has_tag_for, RefusesMessage, RefusesAck, FailsNotify, FailsCheck}
 use Rattle.lisp_model.specs.Legal.{MayCome, Arrives, Legal, LegalTrace, context_of}
 use Rattle.lisp_model.specs.Must.{Must, MustSend, IsExcused, IsAbove, is_sent, is_accepted, is_done}
 use Rattle.lisp_model.proofs.HeardLines.{Passes, comes_to}
 use Rattle.lisp_model.proofs.MustLemmas.{Reached, reached}
+use Rattle.lisp_model.proofs.PartNumbers.{counts_for_some}
 
 -- no node is of both kinds
 apart : (c : ConfigValue) (node : ℕ) → is_server c node ≡ true → is_router c node ≡ true → ⊥
@@ -45,9 +48,10 @@ apart c node server router =
 
 -- a refusal to send for its nonces needs a value as great
 module _ (t : Context) (reached_here : is_up t.past t.node ≡ true → Reached (values t (pair_at t.opening t.past t.node)) (last_sent t.past t.node) (start_values t.opening t.past t.node)) where
-  module _ (router server : ℕ) (up : is_up t.past router ≡ true) (listed : is_listed t.opening.config router server ≡ true) (below : (v : Option ℕ) → Contains (values t (pair_at t.opening t.past router)) v → number v < last_nonce) where
-    sends_or_excused : (named : ℕ) (why : SendFault) → t.node ≡ router → RefusesToSend t router server why → IsExcused t (lines.Refused named (refusals.Send why))
+  module _ (router server part : ℕ) (up : is_up t.past router ≡ true) (listed : is_listed t.opening.config router server ≡ true) (there : HasPart t router part) (below : (v : Option ℕ) → Contains (values t (pair_at t.opening t.past router)) v → number v < last_nonce) where
+    sends_or_excused : (named : ℕ) (why : SendFault) → t.node ≡ router → RefusesToSend t router server part why → IsExcused t (lines.Refused named (refusals.Send why))
     sends_or_excused named sends.NoServer is row = absurd (true≢false (sym listed ∙ row.0))
+    sends_or_excused named sends.NoPart is row = let none = row.1 in absurd (omega (arith, none, there))
     sends_or_excused named sends.NonceSpent is row =
         let found = reached_here (ap (is_up t.past) is ∙ up) row.1.0 (subst (λ (n : ℕ). CountsFrom t.opening t.past n row.1.0) (sym is) row.1.1) in
         let low = below found.0 (subst (λ (n : ℕ). Contains (values t (pair_at t.opening t.past n)) found.0) is found.1) in
@@ -57,14 +61,14 @@ module _ (t : Context) (reached_here : is_up t.past t.node ≡ true → Reached 
     sends_or_excused named sends.OutOfMemory is row = λ other. absurd (other refl)
     sends_or_excused named (sends.Store fault) is row = row.1.fails.cause
 
-    sends_row : (fate : Fate) (line : Line) → MayCome t (events.Send router server fate) line → (is_sent line ≡ true) ⊎ IsExcused t line
-    sends_row fate (lines.Sent r s key nonce datagram) row = inl refl
+    sends_row : (fate : Fate) (line : Line) → MayCome t (events.Send router server part fate) line → (is_sent line ≡ true) ⊎ IsExcused t line
+    sends_row fate (lines.Sent r s p key nonce datagram) row = inl refl
     sends_row fate (lines.Down named) row = absurd (true≢false (sym up ∙ row.1.acts.state))
     sends_row fate (lines.Refused named (refusals.Send why)) row = inr (sends_or_excused named why row.2.acts row.3)
     sends_row fate _ row = absurd row
 
   must_send : (e : EventValue) (line : Line) → MayCome t e line → MustSend IsExcused t e line
-  must_send e line row router server fate is up listed below = sends_row router server up listed below fate line (subst (λ (x : EventValue). MayCome t x line) is row)
+  must_send e line row router server part fate is up listed there below = sends_row router server part up listed there below fate line (subst (λ (x : EventValue). MayCome t x line) is row)
 
 -- a Map-Register that passes all checks with a fresh nonce
 module _ (t : Context) (kind : is_server t.opening.config t.node ≡ true) (a : Arrival) where
@@ -97,7 +101,7 @@ module _ (t : Context) (kind : is_server t.opening.config t.node ≡ true) (a : 
     pub accept_arrives : (line : Line) → Arrives t a line → (is_accepted line ≡ true) ⊎ IsExcused t line
     accept_arrives (lines.Accepted server router key nonce datagram) row = inl refl
     accept_arrives (lines.Done server router nonce) row = absurd (is_no_notify row.message row.read)
-    accept_arrives (lines.Counted router server key nonce) row = absurd (apart t.opening.config t.node kind row.acts.kind)
+    accept_arrives (lines.Counted router server part key nonce) row = absurd (apart t.opening.config t.node kind row.acts.kind)
     accept_arrives (lines.Noticed router server nonce datagram) row = absurd (apart t.opening.config t.node kind row.acts.kind)
     accept_arrives (lines.Down router) row = absurd (apart t.opening.config t.node kind (ap (is_router t.opening.config) row.acts.acts ∙ row.acts.kind))
     accept_arrives (lines.Refused node (refusals.Receive why)) row = inr (accept_or_excused node why row.1)
@@ -133,7 +137,7 @@ module _ (t : Context) (kind : is_server t.opening.config t.node ≡ true) (a : 
     pub end_arrives : (line : Line) → Arrives t a line → (is_done line ≡ true) ⊎ IsExcused t line
     end_arrives (lines.Accepted server router key nonce datagram) row = absurd (is_no_register row.message row.admits.read)
     end_arrives (lines.Done server router nonce) row = inl refl
-    end_arrives (lines.Counted router server key nonce) row = absurd (apart t.opening.config t.node kind row.acts.kind)
+    end_arrives (lines.Counted router server part key nonce) row = absurd (apart t.opening.config t.node kind row.acts.kind)
     end_arrives (lines.Noticed router server nonce datagram) row = absurd (apart t.opening.config t.node kind row.acts.kind)
     end_arrives (lines.Down router) row = absurd (apart t.opening.config t.node kind (ap (is_router t.opening.config) row.acts.acts ∙ row.acts.kind))
     end_arrives (lines.Refused node (refusals.Receive why)) row = inr (end_or_excused node why row.1)
@@ -170,19 +174,19 @@ module _ (t : Context) (kind : is_router t.opening.config t.node ≡ true) (up :
   heard_arrives : (is_kind : Line → Bool) → is_kind (heard_line t h) ≡ true → (line : Line) → Arrives t a line → (is_kind line ≡ true) ⊎ IsExcused t line
   heard_arrives is_kind due (lines.Accepted server router key nonce datagram) row = absurd (no_server server row.acts.kind row.acts.acts)
   heard_arrives is_kind due (lines.Done server router nonce) row = absurd (no_server server row.acts.kind row.acts.acts)
-  heard_arrives is_kind due (lines.Counted router server key nonce) row = by_kind is_kind due _ row
+  heard_arrives is_kind due (lines.Counted router server part key nonce) row = by_kind is_kind due _ row
   heard_arrives is_kind due (lines.Noticed router server nonce datagram) row = by_kind is_kind due _ row
   heard_arrives is_kind due (lines.Down router) row = absurd (true≢false (sym up ∙ ap (is_up t.past) row.acts.acts ∙ row.acts.state))
   heard_arrives is_kind due (lines.Refused node (refusals.Receive why)) row = absurd (no_server node row.0.kind row.0.acts)
   heard_arrives is_kind due (lines.Refused node (refusals.Notify why)) row = by_kind is_kind due _ row
   heard_arrives is_kind due _ row = absurd row
 
-  counts : h.message.nonce < first_notice → is_latest h.message.nonce (latest_nonce t.past t.node h.server) ≡ true → is_counted (heard_line t h) ≡ true
-  counts low last = at (nat_le first_notice h.message.nonce) refl
+  counts : h.message.nonce < first_notice → (part : ℕ) → part < most_parts → is_latest h.message.nonce (latest_nonce t.past t.node h.server part) ≡ true → is_counted (heard_line t h) ≡ true
+  counts low part within last = at (nat_le first_notice h.message.nonce) refl
     where
-      at : (b : Bool) → nat_le first_notice h.message.nonce ≡ b → is_counted (if b then lines.Noticed t.node h.server h.message.nonce (length (bag t.opening t.past)) else counted_line t h (latest_nonce t.past t.node h.server)) ≡ true
+      at : (b : Bool) → nat_le first_notice h.message.nonce ≡ b → is_counted (if b then lines.Noticed t.node h.server h.message.nonce (length (bag t.opening t.past)) else counted_or_stale t h (latest_nonces t.past t.node h.server)) ≡ true
       at true high = let above = leb-true first_notice h.message.nonce high in absurd (omega (arith, low, above))
-      at false _ = rw last refl
+      at false _ = ap (λ (x : Option ℕ). is_counted (counted_line t h (latest_nonces t.past t.node h.server) x)) (counts_for_some t.past t.node h.server h.message.nonce part within last).1
 
   notices : first_notice ≤ h.message.nonce → is_noticed (heard_line t h) ≡ true
   notices high = rw (le-leb first_notice h.message.nonce high) refl
@@ -207,6 +211,6 @@ must o T s legal l = record {
   send = must_send (context_of o T s) (reached o T legal s.actor) s.event s.line l.row;
   accept = λ a m is kind admits above. accept_arrives (context_of o T s) kind a m admits above s.line (arrived (context_of o T s) kind a s.event s.line is l.row);
   done = λ a m n is kind read ack waits tag. end_arrives (context_of o T s) kind a m n read ack waits tag s.line (arrived (context_of o T s) kind a s.event s.line is l.row);
-  counted = λ a h is kind up passes low last. heard_arrives (context_of o T s) kind up a h passes is_counted (counts (context_of o T s) kind up a h passes low last) s.line (arrived_there (context_of o T s) kind a s.event s.line is l.row);
+  counted = λ a h part is kind up passes low within last. heard_arrives (context_of o T s) kind up a h passes is_counted (counts (context_of o T s) kind up a h passes low part within last) s.line (arrived_there (context_of o T s) kind a s.event s.line is l.row);
   noticed = λ a h is kind up passes high. heard_arrives (context_of o T s) kind up a h passes is_noticed (notices (context_of o T s) kind up a h passes high) s.line (arrived_there (context_of o T s) kind a s.event s.line is l.row);
 }

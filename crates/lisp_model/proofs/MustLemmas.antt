@@ -71,8 +71,8 @@ module _ (t : Context) (was : is_up t.past t.node ≡ true → Reached (own_valu
   down_now named is = ap (λ b. if b then false else is_up t.past t.node) (ap (λ s. s == t.node) is ∙ same_number t.node)
 
   after : (line : Line) (e : EventValue) → MayCome t e line → Leaves t line e → After e line
-  after (lines.Sent r s key nonce datagram) (events.Send router server fate) row left = λ up. sent_reached r nonce (left.0 ∙ sym left.1.acts.acts) (saves_reached router nonce left.1.acts.acts left.1.acts.state left.1.base left.1.counts _ left.1.saves)
-  after (lines.Sent _ _ _ _ _) _ row left = absurd left
+  after (lines.Sent r s p key nonce datagram) (events.Send router server part fate) row left = λ up. sent_reached r nonce (left.0 ∙ sym left.1.acts.acts) (saves_reached router nonce left.1.acts.acts left.1.acts.state left.1.base left.1.counts _ left.1.saves)
+  after (lines.Sent _ _ _ _ _ _) _ row left = absurd left
   after (lines.Restarted named) (events.Restart _ _ _) row left = λ up. starts_reached named left.0 _ (last_sent t.past t.node)
   after (lines.Restarted _) _ row left = absurd left
   after (lines.Rotated named under) (events.Rotate _ _ _) row left = λ up. starts_reached named (left.names ∙ sym left.acts.acts) _ (last_sent t.past t.node)

@@ -113,7 +113,7 @@ pub record Announces (o : Opening) (T : List Step) (server router key datagram :
 announces : (o : Opening) (T : List Step) (actor : ℕ) (after : ShownStore) (e : EventValue) (server router key nonce datagram : ℕ) → MayCome (context_of o T (record { event = e; line = lines.Notice server router key nonce datagram; actor = actor; shown = after })) e (lines.Notice server router key nonce datagram) → Announces o T server router key datagram
 announces o T actor after (events.Notice s r fate) server router key nonce datagram row = record { last = row.2.last; heard = (λ i. heard_last (router_at o.config (row.1 i)).me (since_start o T (row.0 i))) ∙ row.2.heard; under = row.2.under; place = row.2.place }
 announces o T actor after (events.Change _ _) server router key nonce datagram row = absurd row
-announces o T actor after (events.Send _ _ _) server router key nonce datagram row = absurd row
+announces o T actor after (events.Send _ _ _ _) server router key nonce datagram row = absurd row
 announces o T actor after (events.Deliver _ _) server router key nonce datagram row = absurd row.arrives
 announces o T actor after (events.Junk _ _ _) server router key nonce datagram row = absurd row.arrives
 announces o T actor after (events.Tick _) server router key nonce datagram row = absurd row

@@ -123,11 +123,12 @@ module _ (t : Context) (its : is_server t.opening.config t.node ≡ true) (nonce
   quiet : Same t → Stays
   quiet same = stays (ap (λ (k : Kept). kept_at k notice_pair) same)
 
-  sends_safe : (router server : ℕ) (why : SendFault) → RefusesToSend t router server why → Stays
-  sends_safe router server sends.NoServer row = quiet row.1
-  sends_safe router server sends.NonceSpent row = quiet row.2
-  sends_safe router server sends.OutOfMemory row = quiet row.4
-  sends_safe router server (sends.Store fault) row = stays (row.1.fails.others notice_pair (not_sent _ refl))
+  sends_safe : (router server part : ℕ) (why : SendFault) → RefusesToSend t router server part why → Stays
+  sends_safe router server part sends.NoServer row = quiet row.1
+  sends_safe router server part sends.NoPart row = quiet row.2
+  sends_safe router server part sends.NonceSpent row = quiet row.2
+  sends_safe router server part sends.OutOfMemory row = quiet row.4
+  sends_safe router server part (sends.Store fault) row = stays (row.1.fails.others notice_pair (not_sent _ refl))
 
   rotates_safe : (router key : ℕ) (why : RotateFault) → RefusesToRotate t router key why → Stays
   rotates_safe router key rotates.SameKey row = quiet row.1
@@ -142,7 +143,7 @@ module _ (t : Context) (its : is_server t.opening.config t.node ≡ true) (nonce
 
   tells_safe : (router : ℕ) (why : NoticeFault) → RefusesNotice t router why → Stays
   tells_safe router announcements.NotRegistered row = quiet row.1
-  tells_safe router announcements.TooLarge row = quiet row.3
+  tells_safe router announcements.TooLarge row = quiet row.2
   tells_safe router (announcements.StoreLoad fault) row = quiet row.2.same
   tells_safe router announcements.NonceSpent row = quiet row.5
   tells_safe router announcements.OutOfMemory row = quiet row.2
@@ -157,7 +158,7 @@ module _ (t : Context) (its : is_server t.opening.config t.node ≡ true) (nonce
   arrives_safe : (a : Arrival) (line : Line) → Arrives t a line → After line
   arrives_safe a (lines.Accepted server router key nonce datagram) row = stays (row.others notice_pair (not_received _ refl))
   arrives_safe a (lines.Done server router nonce) row = quiet row.same
-  arrives_safe a (lines.Counted router server key nonce) row = quiet row.same
+  arrives_safe a (lines.Counted router server part key nonce) row = quiet row.same
   arrives_safe a (lines.Noticed router server nonce datagram) row = quiet row.same
   arrives_safe a (lines.Down router) row = quiet row.same
   arrives_safe a (lines.Refused node (refusals.Receive why)) row = message_safe a why row.1
@@ -174,9 +175,9 @@ module _ (t : Context) (its : is_server t.opening.config t.node ≡ true) (nonce
   row_safe : (e : EventValue) (line : Line) → MayCome t e line → After line
   row_safe (events.Change router db) (lines.Changed named records) row = quiet row.same
   row_safe (events.Change router db) (lines.Down named) row = quiet row.same
-  row_safe (events.Send router server fate) (lines.Sent r s key nonce datagram) row = stays (row.2.saves.others notice_pair (not_sent _ refl))
-  row_safe (events.Send router server fate) (lines.Down named) row = quiet row.1.same
-  row_safe (events.Send router server fate) (lines.Refused named (refusals.Send why)) row = sends_safe router server why row.3
+  row_safe (events.Send router server part fate) (lines.Sent r s p key nonce datagram) row = stays (row.3.saves.others notice_pair (not_sent _ refl))
+  row_safe (events.Send router server part fate) (lines.Down named) row = quiet row.1.same
+  row_safe (events.Send router server part fate) (lines.Refused named (refusals.Send why)) row = sends_safe router server part why row.3
   row_safe (events.Deliver k fate) (lines.Nowhere datagram) row = stays (ap (λ (s : ShownStore). kept_at s.kept notice_pair) row.idle.same)
   row_safe (events.Deliver k fate) line row = arrives_safe (arrival_of row.item) line row.arrives
   row_safe (events.Junk to from bytes) line row = arrives_safe (junk_arrival from bytes) line row.arrives

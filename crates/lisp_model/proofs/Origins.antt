@@ -6,6 +6,7 @@ use Rattle.std.specs.Option.{option_map, option_and_then}
 use Rattle.std.proofs.lemmas.List.Elements.{Contains-append_cases, Contains-append_right}
 use Rattle.lisp_records.specs.declared.address.Addr.{Addr}
 use Rattle.lisp_records.specs.declared.router.RouterId.{RouterId}
+use Rattle.lisp_records.specs.Parts.{part_at}
 use Rattle.lisp_messages.specs.declared.fault.ReadFault.{ReadFault}
 use Rattle.lisp_messages.specs.Message.{MessageValue, MapRegisterValue, MapNotifyValue, IsMapRegister, IsMessage, Registers, Notifies}
 use Rattle.lisp_messages.specs.Reading.{message_at}
@@ -49,38 +50,38 @@ module _ (o : Opening) (T : List Step) where
   -- no other line posts a Map-Register that wasn't there
   posts : (node : ℕ) (after : ShownStore) (e : EventValue) (line : Line) → MayCome (context_of o T (record { event = e; line = line; actor = node; shown = after })) e line → AllFrom o (history o T) (bag o T)
       → (a : Option Arrival) → AllFrom o (sent_registers_in o T line ++ history o T) (items_added o T (past o T) a line)
-  posts node after (events.Send router server fate) (lines.Sent r s key nonce datagram) row old a i has m is = at (head_or_tail (register_item o T r s nonce) [] i has)
+  posts node after (events.Send router server part fate) (lines.Sent r s p key nonce datagram) row old a i has m is = at (head_or_tail (register_item o T r s p nonce) [] i has)
     where
-      new : (j : Item) → j ≡ register_item o T r s nonce → j.message ≡ Registers m → IsFrom o (sent_registers_in o T (lines.Sent r s key nonce datagram) ++ history o T) j m
+      new : (j : Item) → j ≡ register_item o T r s p nonce → j.message ≡ Registers m → IsFrom o (sent_registers_in o T (lines.Sent r s p key nonce datagram) ++ history o T) j m
       new j same says =
-          let item : register_item o T r s nonce ≡ j = sym same in
-          let said : Registers (map_register_of (etr_config o T r) (database o T r) nonce) ≡ Registers m = ap (λ (x : Item). x.message) item ∙ says in
-          let message : map_register_of (etr_config o T r) (database o T r) nonce ≡ m = cc in
-          let under : key ≡ key_of o T r = row.2.under ∙ ap (λ (n : ℕ). key_of o T n) (sym row.0) in
-          let keyed : map_register_of (record (etr_config_of o.config (router_at o.config r)) { key_id = key }) (database o T r) nonce ≡ m = ap (λ (k : ℕ). map_register_of (record (etr_config_of o.config (router_at o.config r)) { key_id = k }) (database o T r) nonce) under ∙ message in
-          let fits : IsMapRegister (map_register_of (etr_config o T r) (database o T r) nonce) = subst (λ (n : ℕ). IsMapRegister (map_register_of (etr_config o T n) (database o T n) nonce)) (sym row.0) row.2.message in
+          let item : register_item o T r s p nonce ≡ j = sym same in
+          let said : Registers (map_register_of (etr_config o T r) (part_at (database o T r) p) nonce) ≡ Registers m = ap (λ (x : Item). x.message) item ∙ says in
+          let message : map_register_of (etr_config o T r) (part_at (database o T r) p) nonce ≡ m = cc in
+          let under : key ≡ key_of o T r = row.3.under ∙ ap (λ (n : ℕ). key_of o T n) (sym row.0) in
+          let keyed : map_register_of (record (etr_config_of o.config (router_at o.config r)) { key_id = key }) (part_at (database o T r) p) nonce ≡ m = ap (λ (k : ℕ). map_register_of (record (etr_config_of o.config (router_at o.config r)) { key_id = k }) (part_at (database o T r) p) nonce) under ∙ message in
+          let fits : IsMapRegister (map_register_of (etr_config o T r) (part_at (database o T r) p) nonce) = subst (λ (n : ℕ). IsMapRegister (map_register_of (etr_config o T n) (part_at (database o T n) p) nonce)) (sym row.0) (subst (λ (x : ℕ). IsMapRegister (map_register_of (etr_config o T router) (part_at (database o T router) x) nonce)) (sym row.2) row.3.message) in
           record {
-            entry = record { router = r; key = key; nonce = nonce; server = s; database = database o T r; position = length T };
+            entry = record { router = r; key = key; nonce = nonce; server = s; database = database o T r; part = p; position = length T };
             sent = at_head _ (history o T);
             from = ap (λ (x : Item). x.from) same;
             to = ap (λ (x : Item). x.to) same;
-            kind = ap (is_server o.config) row.1 ∙ row.2.kind;
+            kind = ap (is_server o.config) row.1 ∙ row.3.kind;
             message = sym keyed;
             fits = subst IsMapRegister message fits;
           }
 
-      at : (i ≡ register_item o T r s nonce) ⊎ Contains [] i → IsFrom o (sent_registers_in o T (lines.Sent r s key nonce datagram) ++ history o T) i m
+      at : (i ≡ register_item o T r s p nonce) ⊎ Contains [] i → IsFrom o (sent_registers_in o T (lines.Sent r s p key nonce datagram) ++ history o T) i m
       at (inl same) = new i same is
       at (inr no_more) = absurd (in_none i no_more)
-  posts node after (events.Change _ _) (lines.Sent r s key nonce datagram) row old a i has m is = absurd row
-  posts node after (events.Deliver _ _) (lines.Sent r s key nonce datagram) row old a i has m is = absurd row.arrives
-  posts node after (events.Junk _ _ _) (lines.Sent r s key nonce datagram) row old a i has m is = absurd row.arrives
-  posts node after (events.Tick _) (lines.Sent r s key nonce datagram) row old a i has m is = absurd row
-  posts node after (events.Restart _ _ _) (lines.Sent r s key nonce datagram) row old a i has m is = absurd row
-  posts node after (events.Rotate _ _ _) (lines.Sent r s key nonce datagram) row old a i has m is = absurd row
-  posts node after (events.Lose _ _ _) (lines.Sent r s key nonce datagram) row old a i has m is = absurd row
-  posts node after (events.Notice _ _ _) (lines.Sent r s key nonce datagram) row old a i has m is = absurd row
-  posts node after (events.Resend _ _) (lines.Sent r s key nonce datagram) row old a i has m is = absurd row
+  posts node after (events.Change _ _) (lines.Sent r s p key nonce datagram) row old a i has m is = absurd row
+  posts node after (events.Deliver _ _) (lines.Sent r s p key nonce datagram) row old a i has m is = absurd row.arrives
+  posts node after (events.Junk _ _ _) (lines.Sent r s p key nonce datagram) row old a i has m is = absurd row.arrives
+  posts node after (events.Tick _) (lines.Sent r s p key nonce datagram) row old a i has m is = absurd row
+  posts node after (events.Restart _ _ _) (lines.Sent r s p key nonce datagram) row old a i has m is = absurd row
+  posts node after (events.Rotate _ _ _) (lines.Sent r s p key nonce datagram) row old a i has m is = absurd row
+  posts node after (events.Lose _ _ _) (lines.Sent r s p key nonce datagram) row old a i has m is = absurd row
+  posts node after (events.Notice _ _ _) (lines.Sent r s p key nonce datagram) row old a i has m is = absurd row
+  posts node after (events.Resend _ _) (lines.Sent r s p key nonce datagram) row old a i has m is = absurd row
   posts node after e (lines.Accepted server router key nonce None) row old a i has m is = absurd (in_none i has)
   posts node after e (lines.Accepted server router key nonce (Some datagram)) row old a i has m is = let found = from_map (reply_item o.config server) (acceptances_in a (clock T)) i has in absurd (said_clash (sym (ap (λ (x : Item). x.message) found.2) ∙ is))
   posts node after e (lines.Noticed router server nonce datagram) row old None i has m is = absurd (in_none i has)
@@ -195,7 +196,7 @@ module _ (o : Opening) (T : List Step) (distinct : AllPairs (λ a b. a ≢ b) (a
             noise_clash e = absurd cc
         at (inr (inr forged)) = absurd (true≢false (sym known.authentic ∙ forged known.secret (subst (λ b. Contains (if b then flat_map (λ s. map (λ k. k.secret) s.keys) o.config.sites else (etr_config o T to).secret ∷ []) known.secret) (sym at_server) known.known)))
     arrived (events.Change _ _) after harmless row x has = absurd row
-    arrived (events.Send _ _ _) after harmless row x has = absurd row
+    arrived (events.Send _ _ _ _) after harmless row x has = absurd row
     arrived (events.Tick _) after harmless row x has = absurd row
     arrived (events.Restart _ _ _) after harmless row x has = absurd row
     arrived (events.Rotate _ _ _) after harmless row x has = absurd row

@@ -79,8 +79,8 @@ NarrowsKeys t = (key : ℕ) → Narrows (key_values t key) (key_values_after t k
 -- what each line leaves: a Map-Register was sent; a restart, which may be refused; another key; a lost store, after which
 -- the start may be refused; else the values stay
 abbrev pub Leaves : Context → Line → EventValue → Type 0
-Leaves t (lines.Sent r s key nonce datagram) (events.Send router server _) = (r ≡ router) × IsSent t router server key nonce datagram
-Leaves t (lines.Sent _ _ _ _ _) _ = ⊥
+Leaves t (lines.Sent r s p key nonce datagram) (events.Send router server part _) = (r ≡ router) × IsSent t router server part key nonce datagram
+Leaves t (lines.Sent _ _ _ _ _ _) _ = ⊥
 Leaves t (lines.Restarted named) (events.Restart _ _ _) = (named ≡ t.node) × NarrowsKeys t
 Leaves t (lines.Restarted _) _ = ⊥
 Leaves t (lines.Rotated named under) (events.Rotate router key _) = IsRotated t router key named under
@@ -115,11 +115,12 @@ module _ (t : Context) where
   idle : t.after ≡ t.before → Stays t
   idle same = quiet (ap (λ (s : ShownStore). s.kept) same)
 
-  send_refused : (router server : ℕ) (why : SendFault) → t.node ≡ router → RefusesToSend t router server why → Stays t
-  send_refused router server sends.NoServer is row = quiet row.1
-  send_refused router server sends.NonceSpent is row = quiet row.2
-  send_refused router server sends.OutOfMemory is row = quiet row.4
-  send_refused router server (sends.Store fault) is row = inr (record {
+  send_refused : (router server part : ℕ) (why : SendFault) → t.node ≡ router → RefusesToSend t router server part why → Stays t
+  send_refused router server part sends.NoServer is row = quiet row.1
+  send_refused router server part sends.NoPart is row = quiet row.2
+  send_refused router server part sends.NonceSpent is row = quiet row.2
+  send_refused router server part sends.OutOfMemory is row = quiet row.4
+  send_refused router server part (sends.Store fault) is row = inr (record {
     base = row.1.base;
     counts = subst (λ (n : ℕ). CountsFrom t.opening t.past n row.1.base) (sym is) row.1.counts;
     nonce = block_end (number row.1.base + 1) (etr_config t.opening t.past router).nonce_block;
@@ -137,7 +138,7 @@ module _ (t : Context) where
 
   notice_refused : (router : ℕ) (why : NoticeFault) → RefusesNotice t router why → Stays t
   notice_refused router notices.NotRegistered row = quiet row.1
-  notice_refused router notices.TooLarge row = quiet row.3
+  notice_refused router notices.TooLarge row = quiet row.2
   notice_refused router (notices.StoreLoad fault) row = quiet row.2.same
   notice_refused router notices.NonceSpent row = quiet row.5
   notice_refused router notices.OutOfMemory row = quiet row.2
@@ -156,7 +157,7 @@ module _ (t : Context) where
   arrival_leaves : (a : Arrival) (line : Line) → Arrives t a line → (e : EventValue) → Leaves t line e
   arrival_leaves a (lines.Accepted server router key nonce datagram) row e = inl (λ k. row.others (pair_under t.opening t.node k) (not_received k _ refl))
   arrival_leaves a (lines.Done server router nonce) row e = quiet row.same
-  arrival_leaves a (lines.Counted router server key nonce) row e = quiet row.same
+  arrival_leaves a (lines.Counted router server part key nonce) row e = quiet row.same
   arrival_leaves a (lines.Noticed router server nonce datagram) row e = quiet row.same
   arrival_leaves a (lines.Down router) row e = quiet row.same
   arrival_leaves a (lines.Refused node (refusals.Receive why)) row e = message_refused a why row.1
@@ -167,9 +168,9 @@ module _ (t : Context) where
   pub leaves : (e : EventValue) (line : Line) → MayCome t e line → Leaves t line e
   leaves (events.Change router db) (lines.Changed named records) row = quiet row.same
   leaves (events.Change router db) (lines.Down named) row = quiet row.same
-  leaves (events.Send router server fate) (lines.Sent r s key nonce datagram) row = (row.0, row.2)
-  leaves (events.Send router server fate) (lines.Down named) row = quiet row.1.same
-  leaves (events.Send router server fate) (lines.Refused named (refusals.Send why)) row = send_refused router server why row.2.acts row.3
+  leaves (events.Send router server part fate) (lines.Sent r s p key nonce datagram) row = (row.0, row.3)
+  leaves (events.Send router server part fate) (lines.Down named) row = quiet row.1.same
+  leaves (events.Send router server part fate) (lines.Refused named (refusals.Send why)) row = send_refused router server part why row.2.acts row.3
   leaves (events.Deliver k fate) (lines.Nowhere datagram) row = idle row.idle.same
   leaves (events.Deliver k fate) line row = arrival_leaves (arrival_of row.item) line row.arrives (events.Deliver k fate)
   leaves (events.Junk to from bytes) line row = arrival_leaves (junk_arrival from bytes) line row.arrives (events.Junk to from bytes)

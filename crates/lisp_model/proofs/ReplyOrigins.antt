@@ -4,6 +4,7 @@ use Rattle.std.specs.Prelude.{◌≢◌, ◌⊎◌, ◌==◌, if◌then◌else�
 use Rattle.std.specs.List.{AllPairs, Contains}
 use Rattle.std.specs.Option.{option_map, option_and_then, option_to_list}
 use Rattle.std.proofs.lemmas.List.Elements.{Contains-append_cases, Contains-append_left, Contains-append_right}
+use Rattle.lisp_records.specs.Database.{database_of}
 use Rattle.lisp_messages.specs.declared.fault.ReadFault.{ReadFault}
 use Rattle.lisp_messages.specs.Message.{MessageValue, MapRegisterValue, MapNotifyValue, Registers, Notifies}
 use Rattle.lisp_etr.specs.Hearing.{first_notice, ack_of}
@@ -12,7 +13,7 @@ use Rattle.lisp_admission.specs.Nonces.{nonce_after}
 use Rattle.lisp_model.specs.declared.event.Event.TheVariants as events
 use Rattle.lisp_model.specs.declared.line.Line.{Line}
 use Rattle.lisp_model.specs.declared.line.Line.TheVariants as lines
-use Rattle.lisp_model.specs.Trace.{EventValue, Step, Opening, ShownStore, addresses, is_server, is_router, router_at, clock}
+use Rattle.lisp_model.specs.Trace.{EventValue, Step, Opening, ShownStore, addresses, is_server, is_router, router_at, clock, database}
 use Rattle.lisp_model.specs.History.{SentRegister, history}
 use Rattle.lisp_model.specs.Held.{Acceptance, heard_last}
 use Rattle.lisp_model.specs.Timers.{Notice, notice_to}
@@ -32,29 +33,28 @@ use Rattle.lisp_model.proofs.Locality.{same_number}
 use Rattle.lisp_model.proofs.OriginLaws.{were_sent}
 use Rattle.lisp_model.proofs.Origins.{ReadsBack, AllFrom, all_from}
 
--- an entry is a router's, with a nonce of a router
+-- an entry is a router's and goes to a server, with a nonce of a router; and its database is one
 pub record IsEntry (o : Opening) (e : SentRegister) : Type 0 where
   pub kind : is_router o.config e.router ≡ true
   pub low : e.nonce < first_notice
+  pub to : is_server o.config e.server ≡ true
+  pub fits : database_of e.database ≡ Ok e.database
 
 below_first : {n : ℕ} → n ≤ last_nonce → n < first_notice
 below_first within = omega (arith, within)
 
-sent_entry : (o : Opening) (T : List Step) (actor : ℕ) (after : ShownStore) (e : EventValue) (r s k n g : ℕ) → MayCome (context_of o T (record { event = e; line = lines.Sent r s k n g; actor = actor; shown = after })) e (lines.Sent r s k n g)
-    → (is_router o.config r ≡ true) × (n < first_notice) × (is_server o.config s ≡ true)
-sent_entry o T actor after (events.Send router server fate) r s k n g row = (ap (is_router o.config) row.0 ∙ row.2.acts.kind, below_first row.2.within, ap (is_server o.config) row.1 ∙ row.2.kind)
-sent_entry o T actor after (events.Change _ _) r s k n g row = absurd row
-sent_entry o T actor after (events.Deliver _ _) r s k n g row = absurd row.arrives
-sent_entry o T actor after (events.Junk _ _ _) r s k n g row = absurd row.arrives
-sent_entry o T actor after (events.Tick _) r s k n g row = absurd row
-sent_entry o T actor after (events.Restart _ _ _) r s k n g row = absurd row
-sent_entry o T actor after (events.Rotate _ _ _) r s k n g row = absurd row
-sent_entry o T actor after (events.Lose _ _ _) r s k n g row = absurd row
-sent_entry o T actor after (events.Notice _ _ _) r s k n g row = absurd row
-sent_entry o T actor after (events.Resend _ _) r s k n g row = absurd row
-
-pub server_of_sent : (o : Opening) (T : List Step) (actor : ℕ) (after : ShownStore) (e : EventValue) (r s k n g : ℕ) → MayCome (context_of o T (record { event = e; line = lines.Sent r s k n g; actor = actor; shown = after })) e (lines.Sent r s k n g) → is_server o.config s ≡ true
-server_of_sent o T actor after e r s k n g row = (sent_entry o T actor after e r s k n g row).2
+sent_entry : (o : Opening) (T : List Step) (actor : ℕ) (after : ShownStore) (e : EventValue) (r s part k n g : ℕ) → MayCome (context_of o T (record { event = e; line = lines.Sent r s part k n g; actor = actor; shown = after })) e (lines.Sent r s part k n g)
+    → (is_router o.config r ≡ true) × (n < first_notice) × (is_server o.config s ≡ true) × (database_of (database o T r) ≡ Ok (database o T r))
+sent_entry o T actor after (events.Send router server _ fate) r s part k n g row = (ap (is_router o.config) row.0 ∙ row.3.acts.kind, below_first row.3.within, ap (is_server o.config) row.1 ∙ row.3.kind, subst (λ (n : ℕ). database_of (database o T n) ≡ Ok (database o T n)) (sym row.0) row.3.fits)
+sent_entry o T actor after (events.Change _ _) r s part k n g row = absurd row
+sent_entry o T actor after (events.Deliver _ _) r s part k n g row = absurd row.arrives
+sent_entry o T actor after (events.Junk _ _ _) r s part k n g row = absurd row.arrives
+sent_entry o T actor after (events.Tick _) r s part k n g row = absurd row
+sent_entry o T actor after (events.Restart _ _ _) r s part k n g row = absurd row
+sent_entry o T actor after (events.Rotate _ _ _) r s part k n g row = absurd row
+sent_entry o T actor after (events.Lose _ _ _) r s part k n g row = absurd row
+sent_entry o T actor after (events.Notice _ _ _) r s part k n g row = absurd row
+sent_entry o T actor after (events.Resend _ _) r s part k n g row = absurd row
 
 pub entry_is : (o : Opening) (T : List Step) → LegalTrace o T → (d : SentRegister) → Contains (history o T) d → IsEntry o d
 entry_is o [] legal d has = absurd (in_none d has)
@@ -62,8 +62,8 @@ entry_is o (s ∷ T) legal d has = at (new_or_old o T s.line d has) (entry_is o 
   where
     at : IsNew o T s.line d ⊎ Contains (history o T) d → (Contains (history o T) d → IsEntry o d) → IsEntry o d
     at (inl new) later =
-        let row = sent_entry o T s.actor s.shown s.event new.router new.server new.key new.nonce new.datagram (subst (λ (line : Line). MayCome (context_of o T s) s.event line) new.sent legal.0.row) in
-        subst (IsEntry o) (sym new.is) (record { kind = row.0; low = row.1 })
+        let row = sent_entry o T s.actor s.shown s.event new.router new.server new.part new.key new.nonce new.datagram (subst (λ (line : Line). MayCome (context_of o T s) s.event line) new.sent legal.0.row) in
+        subst (IsEntry o) (sym new.is) (record { kind = row.0; low = row.1; to = row.2; fits = row.3 })
     at (inr old) later = later old
 
 -- the reply to a Map-Register that a server accepted
@@ -150,9 +150,9 @@ module _ (o : Opening) (T : List Step) (reads : ReadsBack) (all : AllFrom o (his
   -- the step posts it
   posts : (node : ℕ) (after : ShownStore) (e : EventValue) (line : Line) → IsHarmless o T e → MayCome (context_of o T (record { event = e; line = line; actor = node; shown = after })) e line → IsLow (Kept e line)
       → AllKnown o (Kept e line) (items_added o T (past o T) (arrival_in (bag o T) e) line)
-  posts node after e (lines.Sent r s key nonce datagram) harmless row low i has n is = at (head_or_tail (register_item o T r s nonce) [] i has)
+  posts node after e (lines.Sent r s part key nonce datagram) harmless row low i has n is = at (head_or_tail (register_item o T r s part nonce) [] i has)
     where
-      at : (i ≡ register_item o T r s nonce) ⊎ Contains [] i → IsKnown o (acceptances o T) i n
+      at : (i ≡ register_item o T r s part nonce) ⊎ Contains [] i → IsKnown o (acceptances o T) i n
       at (inl same) = absurd (said_clash (sym (ap (λ (x : Item). x.message) same) ∙ is))
       at (inr no_more) = absurd (in_none i no_more)
   posts node after e (lines.Accepted server router key nonce None) harmless row low i has n is = absurd (in_none i has)
@@ -184,7 +184,7 @@ module _ (o : Opening) (T : List Step) (reads : ReadsBack) (all : AllFrom o (his
       let high = nonce_high row.2.base in
       record { below = omega (arith, number, bound); reply = λ plain under. absurd (omega (arith, number, under, next, high)) }
   posts node after (events.Change _ _) (lines.Notice server router key nonce datagram) harmless row low i has n is = absurd row
-  posts node after (events.Send _ _ _) (lines.Notice server router key nonce datagram) harmless row low i has n is = absurd row
+  posts node after (events.Send _ _ _ _) (lines.Notice server router key nonce datagram) harmless row low i has n is = absurd row
   posts node after (events.Deliver _ _) (lines.Notice server router key nonce datagram) harmless row low i has n is = absurd row.arrives
   posts node after (events.Junk _ _ _) (lines.Notice server router key nonce datagram) harmless row low i has n is = absurd row.arrives
   posts node after (events.Tick _) (lines.Notice server router key nonce datagram) harmless row low i has n is = absurd row

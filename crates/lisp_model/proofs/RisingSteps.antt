@@ -71,11 +71,12 @@ module _ (t : Context) (its : is_server t.opening.config t.node ≡ true) (q : P
   quiet : Same t → Safe q acc (since_start t.opening t.past t.node) old (values_after t q)
   quiet same = stays (ap (λ (k : Kept). kept_at k q) same)
 
-  sends_safe : (router server : ℕ) (why : SendFault) → RefusesToSend t router server why → Safe q acc (since_start t.opening t.past t.node) old (values_after t q)
-  sends_safe router server sends.NoServer row = quiet row.1
-  sends_safe router server sends.NonceSpent row = quiet row.2
-  sends_safe router server sends.OutOfMemory row = quiet row.4
-  sends_safe router server (sends.Store fault) row = stays (row.1.fails.others q (not_sent _ refl))
+  sends_safe : (router server part : ℕ) (why : SendFault) → RefusesToSend t router server part why → Safe q acc (since_start t.opening t.past t.node) old (values_after t q)
+  sends_safe router server part sends.NoServer row = quiet row.1
+  sends_safe router server part sends.NoPart row = quiet row.2
+  sends_safe router server part sends.NonceSpent row = quiet row.2
+  sends_safe router server part sends.OutOfMemory row = quiet row.4
+  sends_safe router server part (sends.Store fault) row = stays (row.1.fails.others q (not_sent _ refl))
 
   rotates_safe : (router key : ℕ) (why : RotateFault) → RefusesToRotate t router key why → Safe q acc (since_start t.opening t.past t.node) old (values_after t q)
   rotates_safe router key rotates.SameKey row = quiet row.1
@@ -83,7 +84,7 @@ module _ (t : Context) (its : is_server t.opening.config t.node ≡ true) (q : P
 
   tells_safe : (router : ℕ) (why : NoticeFault) → RefusesNotice t router why → Safe q acc (since_start t.opening t.past t.node) old (values_after t q)
   tells_safe router announcements.NotRegistered row = quiet row.1
-  tells_safe router announcements.TooLarge row = quiet row.3
+  tells_safe router announcements.TooLarge row = quiet row.2
   tells_safe router (announcements.StoreLoad fault) row = quiet row.2.same
   tells_safe router announcements.NonceSpent row = quiet row.5
   tells_safe router announcements.OutOfMemory row = quiet row.2
@@ -139,7 +140,7 @@ module _ (t : Context) (its : is_server t.opening.config t.node ≡ true) (q : P
   arrives_safe a now (lines.Accepted server router key nonce datagram) row = accept_line server (acceptances_in (Some a) now) row.acts.acts (subst (λ (new : List Acceptance). Safe q (new ++ acc) (new ++ since_start t.opening t.past t.node) (nonces_of q new ++ old) (values_after t q)) (sym (taken_one a now row.message row.admits.read))
       (takes_safe a row.message row.admits.read row.fresh now row.kept row.others (eq_by_cmp pair_cmp q (pair_of row.message)) refl))
   arrives_safe a now (lines.Done server router nonce) row = quiet row.same
-  arrives_safe a now (lines.Counted router server key nonce) row = quiet row.same
+  arrives_safe a now (lines.Counted router server part key nonce) row = quiet row.same
   arrives_safe a now (lines.Noticed router server nonce datagram) row = quiet row.same
   arrives_safe a now (lines.Down router) row = quiet row.same
   arrives_safe a now (lines.Refused node (refusals.Receive why)) row = message_safe a now node why row.0.acts row.1
@@ -153,9 +154,9 @@ module _ (t : Context) (its : is_server t.opening.config t.node ≡ true) (q : P
   pub row_safe : (e : EventValue) (line : Line) → MayCome t e line → After (acceptances_in (arrival_in (bag t.opening t.past) e) (clock t.past)) line
   row_safe (events.Change router db) (lines.Changed named records) row = quiet row.same
   row_safe (events.Change router db) (lines.Down named) row = quiet row.same
-  row_safe (events.Send router server fate) (lines.Sent r s key nonce datagram) row = stays (row.2.saves.others q (not_sent _ refl))
-  row_safe (events.Send router server fate) (lines.Down named) row = quiet row.1.same
-  row_safe (events.Send router server fate) (lines.Refused named (refusals.Send why)) row = sends_safe router server why row.3
+  row_safe (events.Send router server part fate) (lines.Sent r s p key nonce datagram) row = stays (row.3.saves.others q (not_sent _ refl))
+  row_safe (events.Send router server part fate) (lines.Down named) row = quiet row.1.same
+  row_safe (events.Send router server part fate) (lines.Refused named (refusals.Send why)) row = sends_safe router server part why row.3
   row_safe (events.Deliver k fate) (lines.Nowhere datagram) row = stays (ap (λ (s : ShownStore). kept_at s.kept q) row.idle.same)
   row_safe (events.Deliver k fate) line row = subst (λ (a : Option Arrival). After (acceptances_in a (clock t.past)) line) (sym (ap (option_map arrival_of) row.sent)) (arrives_safe (arrival_of row.item) (clock t.past) line row.arrives)
   row_safe (events.Junk to from bytes) line row = arrives_safe (junk_arrival from bytes) (clock t.past) line row.arrives

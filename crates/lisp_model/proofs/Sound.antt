@@ -104,16 +104,16 @@ module _ (t : Context) (was : Sound t.opening t.node (history t.opening t.past) 
   names_node named router names acts = ap (λ x. x == t.node) (names ∙ sym acts) ∙ same_number t.node
 
   -- every entry of the router under its key has a lower nonce than the next one
-  sent_above : (router server key nonce datagram : ℕ) → IsSent t router server key nonce datagram → (f : SentRegister) → Contains (history t.opening t.past) f → f.router ≡ router → f.key ≡ key → f.nonce < nonce
-  sent_above router server key nonce datagram row f has its under =
+  sent_above : (router server part key nonce datagram : ℕ) → IsSent t router server part key nonce datagram → (f : SentRegister) → Contains (history t.opening t.past) f → f.router ≡ router → f.key ≡ key → f.nonce < nonce
+  sent_above router server part key nonce datagram row f has its under =
       let low = was.below row.base (subst (λ (n : ℕ). CountsFrom t.opening t.past n row.base) (sym row.acts.acts) row.counts) f has (its ∙ sym row.acts.acts) (under ∙ row.under ∙ ap (key_of t.opening t.past) (sym row.acts.acts)) in
       let next = row.next in
       omega (arith, low, next)
 
   -- a Map-Register went out
-  module _ (r s key nonce datagram router server : ℕ) (names : r ≡ router) (row : IsSent t router server key nonce datagram) where
+  module _ (r s p key nonce datagram router server part : ℕ) (names : r ≡ router) (row : IsSent t router server part key nonce datagram) where
     abbrev one : SentRegister
-    one = record { router = r; key = key; nonce = nonce; server = s; database = database t.opening t.past r; position = length t.past }
+    one = record { router = r; key = key; nonce = nonce; server = s; database = database t.opening t.past r; part = p; position = length t.past }
 
     own : key ≡ own_key t
     own = row.under ∙ ap (key_of t.opening t.past) (sym row.acts.acts)
@@ -123,7 +123,7 @@ module _ (t : Context) (was : Sound t.opening t.node (history t.opening t.past) 
       where
         at : (e ≡ one) ⊎ Contains (history t.opening t.past) e → e.nonce ≤ nonce
         at (inl same) = let number = ap (λ (x : SentRegister). x.nonce) same in omega (arith, number)
-        at (inr old) = let low = sent_above router server key nonce datagram row e old (its ∙ row.acts.acts) (under ∙ sym own) in omega (arith, low)
+        at (inr old) = let low = sent_above router server part key nonce datagram row e old (its ∙ row.acts.acts) (under ∙ sym own) in omega (arith, low)
 
     sent_floor : (k : ℕ) → Contains (keys_since_loss t.opening t.past t.node) k → (e : SentRegister) → Contains (one ∷ history t.opening t.past) e → e.router ≡ t.node → e.key ≡ k → (v : Option ℕ) → Contains (key_values_after t k) v → (b : Bool) → (k == own_key t) ≡ b → e.nonce ≤ number v
     sent_floor k is e has its under v in_it true same =
@@ -223,8 +223,8 @@ module _ (t : Context) (was : Sound t.opening t.node (history t.opening t.past) 
         only {k} (inr none) = absurd (in_none k none)
 
   after : (line : Line) (e : EventValue) → MayCome t e line → Leaves t line e → After e line
-  after (lines.Sent r s key nonce datagram) (events.Send router server fate) row left = sends_on r s key nonce datagram router server left.0 left.1
-  after (lines.Sent _ _ _ _ _) _ row left = absurd left
+  after (lines.Sent r s p key nonce datagram) (events.Send router server part fate) row left = sends_on r s p key nonce datagram router server part left.0 left.1
+  after (lines.Sent _ _ _ _ _ _) _ row left = absurd left
   after (lines.Restarted named) (events.Restart _ _ _) row left = restarts_on named left.0 (λ key. (left.1 key).each)
   after (lines.Restarted _) _ row left = absurd left
   after (lines.Rotated named under) (events.Rotate router key _) row left = rotates_on router key named under left
@@ -251,9 +251,9 @@ module _ (o : Opening) where
 
   -- an entry of another router is an old one
   old_entry : (T : List Step) (line : Line) (node r : ℕ) → r ≢ node → IsBy line node → (e : SentRegister) → Contains (sent_registers_in o T line ++ history o T) e → e.router ≡ r → Contains (history o T) e
-  old_entry T (lines.Sent router server key nonce datagram) node r differ is e has its = at (head_or_tail _ (history o T) e has)
+  old_entry T (lines.Sent router server part key nonce datagram) node r differ is e has its = at (head_or_tail _ (history o T) e has)
     where
-      at : (e ≡ record { router = router; key = key; nonce = nonce; server = server; database = database o T router; position = length T }) ⊎ Contains (history o T) e → Contains (history o T) e
+      at : (e ≡ record { router = router; key = key; nonce = nonce; server = server; database = database o T router; part = part; position = length T }) ⊎ Contains (history o T) e → Contains (history o T) e
       at (inl same) = absurd (differ (sym its ∙ ap (λ (x : SentRegister). x.router) same ∙ is))
       at (inr old) = old
   old_entry T _ node r differ is e has its = has
@@ -310,8 +310,8 @@ module _ (o : Opening) where
   unique_row T s l safe old = at s.line s.event (leaves (context_of o T s) s.event s.line l.row)
     where
       at : (line : Line) (e : EventValue) → Leaves (context_of o T s) line e → Unique (sent_registers_in o T line ++ history o T)
-      at (lines.Sent r to key nonce datagram) (events.Send router server fate) left = new_unique _ (history o T) old (λ f has its under. sent_above (context_of o T s) safe router server key nonce datagram left.1 f has (its ∙ left.0) under)
-      at (lines.Sent _ _ _ _ _) _ left = absurd left
+      at (lines.Sent r to p key nonce datagram) (events.Send router server part fate) left = new_unique _ (history o T) old (λ f has its under. sent_above (context_of o T s) safe router server part key nonce datagram left.1 f has (its ∙ left.0) under)
+      at (lines.Sent _ _ _ _ _ _) _ left = absurd left
       at _ _ left = old
 
   pub unique : (T : List Step) → LegalTrace o T → Unique (history o T)

@@ -2,6 +2,7 @@
 use Rattle.std.specs.Prelude.{ℕ, ◌==◌, List, [], ◌∷◌, ◌++◌, slice_get, map, Option, Some, None, Result, Ok, if◌then◌else◌, false}
 use Rattle.std.specs.Option.{option_map, option_and_then, option_to_list}
 use Rattle.lisp_records.specs.declared.address.Addr.{Addr}
+use Rattle.lisp_records.specs.Parts.{part_at}
 use Rattle.lisp_policy.specs.Configuration.{ConfigValue}
 use Rattle.lisp_messages.specs.declared.fault.ReadFault.{ReadFault}
 use Rattle.lisp_messages.specs.Message.{MessageValue, MapRegisterValue, MapNotifyValue, Registers, Notifies}
@@ -63,13 +64,13 @@ acceptances_in a now =
     option_to_list (option_and_then (λ b. option_map (λ m. record { message = m; from = b.from; moment = now })
     (as_register b.read)) a)
 
--- the item of a Map-Register
-abbrev pub register_item : Opening → List Step → ℕ → ℕ → ℕ → Item
-register_item o T router server nonce = record {
+-- the item of a Map-Register of a part of the router's database
+abbrev pub register_item : Opening → List Step → ℕ → ℕ → ℕ → ℕ → Item
+register_item o T router server part nonce = record {
   from = address_at o.config router;
   to = address_at o.config server;
   secret = (etr_config o T router).secret;
-  message = Registers (map_register_of (etr_config o T router) (database o T router) nonce);
+  message = Registers (map_register_of (etr_config o T router) (part_at (database o T router) part) nonce);
 }
 
 -- the item of the Map-Notify that answers a Map-Register: with its nonce, key and records, to its source
@@ -107,7 +108,7 @@ pub record Past : Type 0 where
 
 -- what a line with a datagram number adds to the bag
 abbrev pub items_added : Opening → List Step → Past → Option Arrival → Line → List Item
-items_added o T p a (lines.Sent router server _ nonce _) = register_item o T router server nonce ∷ []
+items_added o T p a (lines.Sent router server part _ nonce _) = register_item o T router server part nonce ∷ []
 items_added o T p a (lines.Accepted server _ _ _ (Some _)) =
     map (reply_item o.config server) (acceptances_in a (clock T))
 items_added o T p (Some a) (lines.Noticed router _ _ _) =

@@ -26,7 +26,7 @@ pub record IsDown (t : Context) (router named : ℕ) : Type 0 where
 abbrev pub Arrives : Context → Arrival → Line → Type 0
 Arrives t a (lines.Accepted server router key nonce datagram) = IsAccepted t a server router key nonce datagram
 Arrives t a (lines.Done server router nonce) = IsDone t a server router nonce
-Arrives t a (lines.Counted router server key nonce) = Hears t a (lines.Counted router server key nonce)
+Arrives t a (lines.Counted router server part key nonce) = Hears t a (lines.Counted router server part key nonce)
 Arrives t a (lines.Noticed router server nonce datagram) = Hears t a (lines.Noticed router server nonce datagram)
 Arrives t a (lines.Down router) = IsDown t router router
 Arrives t a (lines.Refused node (refusals.Receive why)) = IsAtServer t node × RefusesMessage t a why
@@ -64,13 +64,13 @@ pub record IsTicked (t : Context) (ms passed now : ℕ) : Type 0 where
 abbrev pub MayCome : Context → EventValue → Line → Type 0
 MayCome t (events.Change router db) (lines.Changed named records) = IsChanged t router db named records
 MayCome t (events.Change router db) (lines.Down named) = IsDown t router named
-MayCome t (events.Send router server _) (lines.Sent r s key nonce datagram) =
-    (r ≡ router) × (s ≡ server) × IsSent t router server key nonce datagram
-MayCome t (events.Send router server _) (lines.Down named) =
+MayCome t (events.Send router server part _) (lines.Sent r s p key nonce datagram) =
+    (r ≡ router) × (s ≡ server) × (p ≡ part) × IsSent t router server part key nonce datagram
+MayCome t (events.Send router server part _) (lines.Down named) =
     (is_server t.opening.config server ≡ true) × IsDown t router named
-MayCome t (events.Send router server _) (lines.Refused named (refusals.Send why)) =
+MayCome t (events.Send router server part _) (lines.Refused named (refusals.Send why)) =
     (named ≡ router) × (is_server t.opening.config server ≡ true) × IsAtRouter t router true
-    × RefusesToSend t router server why
+    × RefusesToSend t router server part why
 MayCome t (events.Deliver k _) (lines.Nowhere datagram) = IsNowhere t k datagram
 MayCome t (events.Deliver k _) line = IsDelivered t k line
 MayCome t (events.Junk to from bytes) line = IsJunk t to (junk_arrival from bytes) line

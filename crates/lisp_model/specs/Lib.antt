@@ -2,6 +2,7 @@ pub mod Story
 pub mod Faults
 pub mod Trace
 pub mod Keys
+pub mod Numbers
 pub mod History
 pub mod Held
 pub mod Timers

@@ -8,7 +8,9 @@ use Rattle.lisp_nonces.specs.declared.fault.StoreFault.TheVariants as stores
 use Rattle.lisp_nonces.specs.declared.fate.Fate.{Fate}
 use Rattle.lisp_nonces.specs.Kept.{number}
 use Rattle.lisp_messages.specs.Message.{MapRegisterValue, MapNotifyValue, Notifies}
-use Rattle.lisp_etr.specs.Hearing.{ServerNotify, first_notice, is_latest}
+use Rattle.lisp_records.specs.Parts.{most_parts}
+use Rattle.lisp_etr.specs.Hearing.{ServerNotify, first_notice}
+use Rattle.lisp_etr.specs.Rounds.{is_latest}
 use Rattle.lisp_etr.specs.Sending.{last_nonce}
 use Rattle.lisp_etr.specs.declared.notify_fault.NotifyFault.TheVariants as notifies
 use Rattle.lisp_etr.specs.declared.send_fault.SendFault.TheVariants as sends
@@ -25,7 +27,7 @@ use Rattle.lisp_model.specs.Timers.{Notice}
 use Rattle.lisp_model.specs.Bag.{Arrival, arrival_in, bag}
 use Rattle.lisp_model.specs.Counted.{latest_nonce, notify_at}
 use Rattle.lisp_model.specs.Context.{Context, HasCause, values}
-use Rattle.lisp_model.specs.Sending.{pair_at}
+use Rattle.lisp_model.specs.Sending.{pair_at, HasPart}
 use Rattle.lisp_model.specs.Receiving.{Admits, last_in, awaiting, has_tag_for}
 use Rattle.lisp_model.specs.Legal.{context_of}
 
@@ -57,7 +59,7 @@ abbrev pub DeviceFailed : Excuse
 DeviceFailed t line = IsRefusedFor (λ fault. (fault ≢ stores.OutOfMemory) × HasCause t fault) line
 
 abbrev pub is_sent : Line → Bool
-is_sent (lines.Sent _ _ _ _ _) = true
+is_sent (lines.Sent _ _ _ _ _ _) = true
 is_sent _ = false
 
 abbrev pub is_accepted : Line → Bool
@@ -73,10 +75,11 @@ abbrev pub IsAbove : Option ℕ → List (Option ℕ) → ℕ → Type 0
 IsAbove (Some last) kept nonce = last < nonce
 IsAbove None kept nonce = (v : Option ℕ) → Contains kept v → IsBelow v nonce
 
--- a router that is up sends to a server of its list, where every value that is kept is below 2^63 - 1
+-- a router that is up sends a part of its database to a server of its list, where every value that is kept is below
+-- 2^63 - 1
 abbrev pub MustSend : Excuse → Context → EventValue → Line → Type 0
-MustSend Excused t event line = (router server : ℕ) (fate : Fate) → event ≡ events.Send router server fate
-    → is_up t.past router ≡ true → is_listed t.opening.config router server ≡ true
+MustSend Excused t event line = (router server part : ℕ) (fate : Fate) → event ≡ events.Send router server part fate
+    → is_up t.past router ≡ true → is_listed t.opening.config router server ≡ true → HasPart t router part
     → ((v : Option ℕ) → Contains (values t (pair_at t.opening t.past router)) v → number v < last_nonce)
     → (is_sent line ≡ true) ⊎ Excused t line
 
@@ -94,20 +97,20 @@ MustEnd Excused t event line = (a : Arrival) (m : MapNotifyValue) (n : Notice)
     → (is_done line ≡ true) ⊎ Excused t line
 
 abbrev pub is_counted : Line → Bool
-is_counted (lines.Counted _ _ _ _) = true
+is_counted (lines.Counted _ _ _ _ _) = true
 is_counted _ = false
 
 abbrev pub is_noticed : Line → Bool
 is_noticed (lines.Noticed _ _ _ _) = true
 is_noticed _ = false
 
--- a router that is up counts a Map-Notify for its last Map-Register to that server, and answers a notice
+-- a router that is up counts a Map-Notify for its last Map-Register of some part to that server, and answers a notice
 abbrev pub MustCount : Excuse → Context → EventValue → Line → Type 0
-MustCount Excused t event line = (a : Arrival) (h : ServerNotify)
+MustCount Excused t event line = (a : Arrival) (h : ServerNotify) (part : ℕ)
     → arrival_in (bag t.opening t.past) event ≡ Some a → is_router t.opening.config t.node ≡ true
     → is_up t.past t.node ≡ true
     → notify_at t.opening t.past t.node a ≡ Ok h → h.message.nonce < first_notice
-    → is_latest h.message.nonce (latest_nonce t.past t.node h.server) ≡ true
+    → part < most_parts → is_latest h.message.nonce (latest_nonce t.past t.node h.server part) ≡ true
     → (is_counted line ≡ true) ⊎ Excused t line
 
 abbrev pub MustNotice : Excuse → Context → EventValue → Line → Type 0

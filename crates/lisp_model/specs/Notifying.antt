@@ -1,8 +1,7 @@
 -- Legal steps of a server that sends a notice (RFC 9301 section 5.7).
-use Rattle.std.specs.Prelude.{◌≡◌, ◌≢◌, ◌<◌, ◌≤◌, ℕ, ◌-◌, ◌^◌, true, false, List, [], length, Option, Some, None, Ok, Err}
-use Rattle.lisp_records.specs.Database.{database_of}
+use Rattle.std.specs.Prelude.{◌≡◌, ◌≢◌, ◌<◌, ◌≤◌, ℕ, ◌-◌, ◌^◌, true, false, List, [], length, Option, Some, None}
+use Rattle.lisp_records.specs.Parts.{fits_message}
 use Rattle.lisp_records.specs.Record.{MapRecordValue}
-use Rattle.lisp_records.specs.declared.database.DatabaseFault.{DatabaseFault}
 use Rattle.lisp_nonces.specs.Kept.{number}
 use Rattle.lisp_admission.specs.declared.notice_fault.NoticeFault.{NoticeFault}
 use Rattle.lisp_admission.specs.declared.notice_fault.NoticeFault.TheVariants.{NotRegistered, TooLarge, StoreLoad, NonceSpent, OutOfMemory, StoreSave, NotDue}
@@ -22,7 +21,7 @@ notice_records t router =
 -- there are some, and they fit one message
 pub record CanNotify (t : Context) (router : ℕ) : Type 0 where
   pub some : notice_records t router ≢ []
-  pub fits : database_of (notice_records t router) ≡ Ok (notice_records t router)
+  pub fits : fits_message (notice_records t router) ≡ true
 
 -- the numbers that the nonce of a notice may count from
 abbrev pub NoticesFrom : Context → Option ℕ → Type 0
@@ -65,8 +64,7 @@ pub record HasNonce (t : Context) (router : ℕ) (base : Option ℕ) : Type 0 wh
 abbrev pub RefusesNotice : Context → ℕ → NoticeFault → Type 0
 RefusesNotice t router NotRegistered = (notice_records t router ≡ []) × Same t
 RefusesNotice t router TooLarge =
-    (notice_records t router ≢ []) × (fault : DatabaseFault) × (database_of (notice_records t router) ≡ Err fault)
-    × Same t
+    (notice_records t router ≢ []) × (fits_message (notice_records t router) ≡ false) × Same t
 RefusesNotice t router (StoreLoad fault) = CanNotify t router × (last_notice t.past t.node ≡ None) × LoadFails t fault
 RefusesNotice t router NonceSpent =
     CanNotify t router × (base : Option ℕ) × NoticesFrom t base × Loads t (last_notice t.past t.node)

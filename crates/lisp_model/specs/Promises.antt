@@ -1,9 +1,10 @@
 -- What every legal trace promises; and what a clean one of a network promises too: of nodes with distinct
 -- addresses, and routers with distinct identities that list servers.
-use Rattle.std.specs.Prelude.{◌≡◌, ◌≢◌, ℕ, ◌<◌, Bool, true, false, List, [], ◌∷◌, ◌++◌, Some, ◌==◌, if◌then◌else◌}
+use Rattle.std.specs.Prelude.{◌≡◌, ◌≢◌, ℕ, ◌<◌, ◌≤◌, Bool, true, false, List, [], ◌∷◌, ◌++◌, Some, ◌==◌, if◌then◌else◌}
 use Rattle.std.specs.List.{Contains}
 use Rattle.lisp_model.specs.declared.line.Line.{Line}
 use Rattle.lisp_records.specs.Address.{PrefixValue}
+use Rattle.lisp_records.specs.Parts.{part_count}
 use Rattle.lisp_records.specs.Row.{RowValue}
 use Rattle.lisp_records.specs.declared.router.RouterId.{RouterId}
 use Rattle.lisp_policy.specs.Configuration.{ConfigValue}
@@ -20,7 +21,7 @@ use Rattle.lisp_model.specs.Held.{Acceptance, held_row}
 use Rattle.lisp_model.specs.Timers.{round, Notice, notices, last_notice}
 use Rattle.lisp_model.specs.Bag.{Item, since_start, bag}
 use Rattle.lisp_model.specs.Accepted.{acceptances, acceptances_in_step, nonces_of, tried_nonces}
-use Rattle.lisp_model.specs.Counted.{latest_nonce, counted_nonces, acked}
+use Rattle.lisp_model.specs.Counted.{latest_nonce, Acknowledged, counted_nonces, acked}
 use Rattle.lisp_model.specs.Sending.{last_sent, start_values}
 use Rattle.lisp_model.specs.Keys.{keys_since_loss, keys_before_loss}
 use Rattle.lisp_model.specs.Change.{NoChange}
@@ -62,9 +63,9 @@ pub record SameRouter (o : Opening) (T U : List Step) (router : ℕ) : Type 0 wh
   pub database : database o U router ≡ database o T router
   pub last_sent : last_sent U router ≡ last_sent T router
   pub start_values : start_values o U router ≡ start_values o T router
-  pub round : (server : ℕ) → round U router server ≡ round T router server
-  pub latest : (server : ℕ) → latest_nonce U router server ≡ latest_nonce T router server
-  pub acked : (server : ℕ) → acked U router server ≡ acked T router server
+  pub round : (server part : ℕ) → round U router server part ≡ round T router server part
+  pub latest : (server part : ℕ) → latest_nonce U router server part ≡ latest_nonce T router server part
+  pub acked : (server part : ℕ) → acked U router server part ≡ acked T router server part
 
 -- a step leaves the part of each node that doesn't act as it was; the clock moves in a tick alone, and the
 -- datagrams that were sent stay
@@ -117,11 +118,12 @@ HeldAgree o T = (one other : ℕ) (router : RouterId) (eid : PrefixValue) (g h :
     → g.mapping ≡ h.mapping
 
 -- a counted nonce is that of an entry that the server accepted
-pub record WasAccepted (o : Opening) (T : List Step) (router server key nonce : ℕ) : Type 0 where
+pub record WasAccepted (o : Opening) (T : List Step) (router server part key nonce : ℕ) : Type 0 where
   pub entry : SentRegister
   pub sent : Contains (history o T) entry
   pub who : entry.router ≡ router
   pub whom : entry.server ≡ server
+  pub of : entry.part ≡ part
   pub under : entry.key ≡ key
   pub number : entry.nonce ≡ nonce
   pub acceptance : Acceptance
@@ -129,8 +131,14 @@ pub record WasAccepted (o : Opening) (T : List Step) (router server key nonce : 
   pub message : acceptance.message ≡ message_of o.config entry
 
 abbrev pub CountedWasAccepted : Opening → List Step → Type 0
-CountedWasAccepted o T = (router server key nonce : ℕ) → Contains (counted_nonces T router server) (key, nonce)
-    → WasAccepted o T router server key nonce
+CountedWasAccepted o T = (router server : ℕ) (counted : Acknowledged) → Contains (counted_nonces T router server) counted
+    → WasAccepted o T router server counted.part counted.key counted.nonce
+
+-- a part that the database of a router that is up doesn't have has no sends in its round, so that a Map-Notify that
+-- counts for it moves no timer
+abbrev pub AbsentPartsRest : Opening → List Step → Type 0
+AbsentPartsRest o T = (router server part : ℕ) → is_up T router ≡ true → part_count (database o T router) ≤ part
+    → (round T router server part).moments ≡ []
 
 -- a notice that is done was noticed before
 abbrev pub DoneWasNoticed : Opening → List Step → Step → Type 0

@@ -110,7 +110,7 @@ at T node = shown_store opening T node
 
 -- the first router sends, and its store keeps the nonce
 abbrev pub sends : List Step → ℕ → ℕ → ℕ → Step
-sends T server nonce datagram = step (events.Send 2 server fates.Done) (lines.Sent 2 server 1 nonce datagram) 2 (keeps (at T 2) (sent_by one) nonce)
+sends T server nonce datagram = step (events.Send 2 server 0 fates.Done) (lines.Sent 2 server 0 1 nonce datagram) 2 (keeps (at T 2) (sent_by one) nonce)
 
 -- a datagram of it arrives at a server, which accepts it and replies, or which knows a number that isn't below
 abbrev pub takes : List Step → ℕ → ℕ → ℕ → ℕ → Step
@@ -121,7 +121,7 @@ replays T k server saved = step (events.Deliver k fates.Done) (lines.Refused ser
 
 -- a reply arrives at the first router
 abbrev pub counts : List Step → ℕ → ℕ → ℕ → Step
-counts T k server nonce = step (events.Deliver k fates.Done) (lines.Counted 2 server 1 nonce) 2 (at T 2)
+counts T k server nonce = step (events.Deliver k fates.Done) (lines.Counted 2 server 0 1 nonce) 2 (at T 2)
 
 abbrev pub restarts : List Step → ℕ → Step
 restarts T node = step (events.Restart node 0 None) (lines.Restarted node) node (at T node)

@@ -1,17 +1,19 @@
 -- Timers: when a router's Map-Registers and a server's notices are due (RFC 9301 sections 5.7 and 8.2).
-use Rattle.std.specs.Prelude.{ℕ, ◌+◌, ◌==◌, ◌&&◌, Bool, false, not, List, [], ◌∷◌, map, Option, Some, None, if◌then◌else◌}
+use Rattle.std.specs.Prelude.{ℕ, ◌+◌, ◌==◌, ◌&&◌, nat_le, Bool, false, not, List, [], ◌∷◌, map, position, take, Option, Some, None, if◌then◌else◌}
 use Rattle.std.specs.List.{find, filter}
 use Rattle.lisp_records.specs.declared.router.RouterId.{RouterId}
 use Rattle.lisp_records.specs.Moment.{minute}
+use Rattle.lisp_records.specs.Parts.{part_count}
 use Rattle.lisp_records.specs.Router.{router_eq}
 use Rattle.lisp_policy.specs.Configuration.{ConfigValue}
 use Rattle.lisp_etr.specs.Timers.{due_after}
 use Rattle.lisp_admission.specs.NoticeTimer.{due_after as notice_due_after, has_come}
 use Rattle.lisp_model.specs.declared.line.Line.{Line}
 use Rattle.lisp_model.specs.declared.line.Line.TheVariants as lines
-use Rattle.lisp_model.specs.Trace.{Step, Opening, clock, router_at}
+use Rattle.lisp_model.specs.Trace.{Step, Opening, clock, database, router_at}
+use Rattle.lisp_model.specs.Numbers.{part_numbers}
 
--- a round of a router's Map-Registers to one server: when the first is due, and the moments of those that
+-- a round of a router's Map-Registers of one part to one server: when the first is due, and the moments of those that
 -- were sent, the last one first
 pub record RoundTimes : Type 0 where
   pub begin : ℕ
@@ -22,24 +24,29 @@ abbrev pub with_renewal : RoundTimes → List ℕ → RoundTimes
 with_renewal old [] = old
 with_renewal old (last ∷ _) = record { begin = last + minute; moments = [] }
 
-abbrev pub round_after : Line → ℕ → ℕ → ℕ → RoundTimes → RoundTimes
-round_after (lines.Changed router _) now r s old = if router == r then record { begin = now; moments = [] } else old
-round_after (lines.Restarted node) now r s old = if node == r then record { begin = now; moments = [] } else old
-round_after (lines.Rotated node _) now r s old = if node == r then record { begin = now; moments = [] } else old
-round_after (lines.Emptied node _) now r s old = if node == r then record { begin = now; moments = [] } else old
-round_after (lines.Sent router server _ _ _) now r s old =
-    if router == r && server == s then record old { moments = now ∷ old.moments } else old
-round_after (lines.Counted router server _ _) now r s old =
-    if router == r && server == s then with_renewal old old.moments else old
-round_after _ now r s old = old
+abbrev pub round_after : Line → ℕ → ℕ → ℕ → ℕ → RoundTimes → RoundTimes
+round_after (lines.Changed router _) now r s p old = if router == r then record { begin = now; moments = [] } else old
+round_after (lines.Restarted node) now r s p old = if node == r then record { begin = now; moments = [] } else old
+round_after (lines.Rotated node _) now r s p old = if node == r then record { begin = now; moments = [] } else old
+round_after (lines.Emptied node _) now r s p old = if node == r then record { begin = now; moments = [] } else old
+round_after (lines.Sent router server part _ _ _) now r s p old =
+    if router == r && server == s && part == p then record old { moments = now ∷ old.moments } else old
+round_after (lines.Counted router server part _ _) now r s p old =
+    if router == r && server == s && part == p then with_renewal old old.moments else old
+round_after _ now r s p old = old
 
-abbrev pub round : List Step → ℕ → ℕ → RoundTimes
-round [] r s = record { begin = 0; moments = [] }
-round (s ∷ T) r server = round_after s.line (clock T) r server (round T r server)
+abbrev pub round : List Step → ℕ → ℕ → ℕ → RoundTimes
+round [] r server part = record { begin = 0; moments = [] }
+round (s ∷ T) r server part = round_after s.line (clock T) r server part (round T r server part)
 
--- when the next Map-Register to a server is due
-abbrev pub due : List Step → ℕ → ℕ → ℕ
-due T r server = due_after (round T r server).begin (round T r server).moments
+-- when the next Map-Register of a part to a server is due
+abbrev pub due : List Step → ℕ → ℕ → ℕ → ℕ
+due T r server part = due_after (round T r server part).begin (round T r server part).moments
+
+-- the first part of a router's database that is due at a server
+abbrev pub due_part : Opening → List Step → ℕ → ℕ → Option ℕ
+due_part o T r server =
+    position (λ part. nat_le (due T r server part) (clock T)) (take (part_count (database o T r)) part_numbers)
 
 -- a notice that stands: for which router, under which key and nonce; the datagram that carried it first;
 -- and the moments of its sendings, the last one first

@@ -26,7 +26,7 @@ EventValue = Event (Unit {0})
 
 abbrev pub event_value : {A : Type 0} → Event A → EventValue
 event_value (events.Change router db) = events.Change router db
-event_value (events.Send router server fate) = events.Send router server fate
+event_value (events.Send router server part fate) = events.Send router server part fate
 event_value (events.Deliver k fate) = events.Deliver k fate
 event_value (events.Junk to from bytes) = events.Junk to from bytes
 event_value (events.Tick ms) = events.Tick ms
@@ -113,7 +113,7 @@ shown_store o (s ∷ T) node = if s.actor == node then s.shown else shown_store 
 
 -- what becomes of the calls that an event makes of a store
 abbrev pub fate_of : EventValue → Fate
-fate_of (events.Send router server fate) = fate
+fate_of (events.Send router server part fate) = fate
 fate_of (events.Deliver k fate) = fate
 fate_of (events.Notice server router fate) = fate
 fate_of (events.Rotate router key fate) = fate

@@ -15,12 +15,14 @@ pub enum Event<A: Allocator = Global> {
         /// What it registers from now on.
         db: Database<A>,
     },
-    /// A router sends a Map-Register to a Map-Server.
+    /// A router sends a Map-Register of a part of its database to a Map-Server.
     Send {
         /// The router.
         router: usize,
         /// The Map-Server.
         server: usize,
+        /// The part, from 0 on.
+        part: usize,
         /// What becomes of the store's calls.
         fate: Fate,
     },

@@ -7,7 +7,7 @@ ghost use Rattle.lisp_model.specs.Legal.{Legal, LegalTrace};
 ghost use Rattle.lisp_model.specs.Must.{Must, IsExcused, DeviceFailed};
 ghost use Rattle.lisp_model.specs.Memory.{MayTell};
 ghost use Rattle.lisp_model.specs.OverTraces.{OfLegalTraces, OfLegalSteps, OfCleanTraces, OfCleanSteps};
-ghost use Rattle.lisp_model.specs.Promises.{NoncesRise, ReplaysAreTried, NoticeNoncesRise, NoticesDiffer, LeavesOthers, AcceptedWasSent, HeldWasSent, HeldAgree, CountedWasAccepted, DoneWasNoticed};
+ghost use Rattle.lisp_model.specs.Promises.{NoncesRise, ReplaysAreTried, NoticeNoncesRise, NoticesDiffer, LeavesOthers, AcceptedWasSent, HeldWasSent, HeldAgree, CountedWasAccepted, AbsentPartsRest, DoneWasNoticed};
 ghost use Rattle.lisp_model.specs.Bag.{bag, since_start};
 ghost use Rattle.lisp_model.specs.Counted.{acked};
 ghost use Rattle.lisp_model.specs.Story.{opening, one_taken, one_counted, server_restarted, six_steps, first_row};
@@ -17,7 +17,7 @@ ghost use Rattle.lisp_model.specs.Story.{opening, one_taken, one_counted, server
 pub fn story()
     ensures legal { LegalTrace opening six_steps }
     ensures row { rows (since_start opening one_taken 0) 0 ≡ first_row ∷ [] }
-    ensures counted { acked one_counted 2 0 ≡ Some (1, 1) }
+    ensures counted { acked one_counted 2 0 0 ≡ Some (1, 1) }
     ensures forgotten { rows (since_start opening server_restarted 0) 0 ≡ [] }
     ensures sent { length (bag opening six_steps) ≡ 3 }
 {}
@@ -93,11 +93,18 @@ pub fn held_records_agree()
     ensures { OfCleanTraces HeldAgree }
 {}
 
-/// Over a clean trace each nonce that a router counts is that of a Map-Register that it sent to that Map-Server,
-/// under its key, and that the Map-Server accepted.
+/// Over a clean trace each nonce that a router counts for a part is that of a Map-Register of that part that it sent to
+/// that Map-Server, under its key, and that the Map-Server accepted.
 #[tactic(auto, using(crate::proofs::CleanLaws::counted_was_accepted))]
 pub fn counted_messages_were_accepted()
     ensures { OfCleanTraces CountedWasAccepted }
+{}
+
+/// A part that the database of a router that is up doesn't have has no sends in its round, so that a Map-Notify that
+/// counts for it moves no timer.
+#[tactic(auto, using(crate::proofs::AbsentLaws::absent_parts_rest))]
+pub fn absent_parts_rest()
+    ensures { OfLegalTraces AbsentPartsRest }
 {}
 
 /// Over a clean trace a notice that is done was noticed by its router before.

@@ -13,12 +13,14 @@ pub enum Line {
         /// How many records the database has.
         records: usize,
     },
-    /// A router sent a Map-Register.
+    /// A router sent a Map-Register of a part of its database.
     Sent {
         /// The router.
         router: usize,
         /// The Map-Server.
         server: usize,
+        /// The part, from 0 on.
+        part: usize,
         /// The Key ID.
         key: u8,
         /// The nonce.
@@ -48,12 +50,14 @@ pub enum Line {
         /// The nonce of the notice.
         nonce: u64,
     },
-    /// A router's last Map-Register to a Map-Server was acknowledged.
+    /// A router's last Map-Register of a part of its database to a Map-Server was acknowledged.
     Counted {
         /// The router.
         router: usize,
         /// The Map-Server.
         server: usize,
+        /// The part, from 0 on, which the present database may no longer have.
+        part: usize,
         /// The Key ID.
         key: u8,
         /// The nonce.

@@ -26,7 +26,7 @@ use Rattle.lisp_refinement.specs.Events.{address_of, server_line, router_line, a
 -- what a router hears leaves its configuration
 module _ {A : Type 0} where
   same_config : (e : EtrState) (answer : Result (Seen A) NotifyFault) → (etr_after e answer).config ≡ e.config
-  same_config e (Ok (Counted place nonce)) = refl
+  same_config e (Ok (Counted place part nonce)) = refl
   same_config e (Ok (Notice place nonce records bytes)) = refl
   same_config e (Err fault) = refl
 
@@ -88,7 +88,7 @@ module _ (node_may store_may : Type 0) (line : Line) where
   module _ {A : Type 0} (node next : ℕ) where
     pub router_tells : (servers : List ℕ) (key : ℕ) (answer : Result (Seen A) NotifyFault) → line ≡ router_line node next servers key answer
         → (IsErrOf answer notifies.OutOfMemory → node_may) → MayTell node_may store_may line
-    router_tells servers key (Ok (Counted place nonce)) said may = tells _ said tt
+    router_tells servers key (Ok (Counted place part nonce)) said may = tells _ said tt
     router_tells servers key (Ok (Notice place nonce records bytes)) said may = tells _ said tt
     router_tells servers key (Err fault) said may = tells _ said (notify_tells node_may fault (λ is. may (ap Err is)), λ out. absurd cc)
 

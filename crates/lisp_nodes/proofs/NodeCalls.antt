@@ -4,9 +4,10 @@ use Rattle.std.specs.Prelude.{◌↔◌, ◌≢◌, IsErrAnd}
 use Rattle.lisp_nonces.specs.Store.{StoreState, Proceeds}
 use Rattle.std.proofs.lemmas.Bool.{cases_lt}
 use Rattle.lisp_etr.specs.Etr.{EtrState}
-use Rattle.lisp_etr.specs.Sending.{last_nonce}
+use Rattle.lisp_records.specs.Parts.{part_count}
+use Rattle.lisp_etr.specs.Sending.{last_nonce, NoServerAt, NoPartFor, NoNonceFor}
 use Rattle.lisp_etr.specs.declared.send_fault.SendFault.{SendFault}
-use Rattle.lisp_etr.specs.declared.send_fault.SendFault.TheVariants.{NoServer, NonceSpent, OutOfMemory, Store}
+use Rattle.lisp_etr.specs.declared.send_fault.SendFault.TheVariants.{NoServer, NoPart, NonceSpent, OutOfMemory, Store}
 use Rattle.lisp_etr.specs.Rotating.{RefusesSameKey, FailsAsArmed, FailsByDevice}
 use Rattle.lisp_etr.specs.declared.rotate_fault.RotateFault.{RotateFault}
 use Rattle.lisp_etr.specs.declared.rotate_fault.RotateFault.TheVariants as rotate_faults
@@ -21,29 +22,44 @@ server_there r count place other refused = here (cases_lt place count)
     here (inl below) = below
     here (inr above) = absurd (other (refused.1 above))
 
--- and one that isn't refused as `NonceSpent` either has a nonce left
-pub nonce_left : {X : Type 0} (r : Result X SendFault) (count place last : ℕ) → r ≢ Err NonceSpent → place < count → ((r ≡ Err NonceSpent) ↔ ((place < count) × (last_nonce ≤ last))) → last < last_nonce
-nonce_left r count place last other there refused = here (cases_lt last last_nonce)
+-- and one that isn't refused as `NoPart` either is of a part that is there
+pub part_there : {X : Type 0} (r : Result X SendFault) (count place parts part : ℕ) → r ≢ Err NoPart → place < count → ((r ≡ Err NoPart) ↔ ((place < count) × (parts ≤ part))) → part < parts
+part_there r count place parts part other there refused = here (cases_lt part parts)
   where
-    here : (last < last_nonce) ⊎ (last_nonce ≤ last) → last < last_nonce
+    here : (part < parts) ⊎ (parts ≤ part) → part < parts
     here (inl below) = below
     here (inr above) = absurd (other (refused.1 (there, above)))
 
+-- and where it isn't refused as `NonceSpent` either, a nonce is left
+pub nonce_left : {X : Type 0} (r : Result X SendFault) (count place parts part last : ℕ) → r ≢ Err NonceSpent → place < count → part < parts
+    → ((r ≡ Err NonceSpent) ↔ ((place < count) × (part < parts) × (last_nonce ≤ last))) → last < last_nonce
+nonce_left r count place parts part last other there its refused = here (cases_lt last last_nonce)
+  where
+    here : (last < last_nonce) ⊎ (last_nonce ≤ last) → last < last_nonce
+    here (inl below) = below
+    here (inr above) = absurd (other (refused.1 (there, its, above)))
+
 -- why a router didn't send
-module _ (X : Type 0) (e : EtrState) (place : ℕ) where
+module _ (X : Type 0) (e : EtrState) (place part : ℕ) where
   abbrev pub refused_as : SendFault → Result X SendFault
   refused_as fault = Err fault
 
-  pub why_not_sent : (fault : SendFault) → ((refused_as fault ≡ Err NoServer) ↔ (length e.config.servers ≤ place))
-      → ((refused_as fault ≡ Err NonceSpent) ↔ ((place < length e.config.servers) × (last_nonce ≤ e.last))) → IsSendFaultOf e place fault
-  why_not_sent NoServer none spent = none.0 refl
-  why_not_sent NonceSpent none spent = spent.0 refl
-  why_not_sent OutOfMemory none spent =
-      let there : place < length e.config.servers = server_there (refused_as OutOfMemory) _ _ (λ clash. absurd cc) none in
-      (there, nonce_left (refused_as OutOfMemory) _ _ _ (λ clash. absurd cc) there spent)
-  why_not_sent (Store f) none spent =
-      let there : place < length e.config.servers = server_there (refused_as (Store f)) _ _ (λ clash. absurd cc) none in
-      (there, nonce_left (refused_as (Store f)) _ _ _ (λ clash. absurd cc) there spent)
+  -- a fault that comes last
+  last_fault : (fault : SendFault) → refused_as fault ≢ Err NoServer → refused_as fault ≢ Err NoPart → refused_as fault ≢ Err NonceSpent → ((refused_as fault ≡ Err NoServer) ↔ NoServerAt e place)
+      → ((refused_as fault ≡ Err NoPart) ↔ NoPartFor e place part) → ((refused_as fault ≡ Err NonceSpent) ↔ NoNonceFor e place part)
+      → (place < length e.config.servers) × (part < part_count e.database) × (e.last < last_nonce)
+  last_fault fault some_server some_part some_nonce none missing spent =
+      let there = server_there (refused_as fault) _ _ some_server none in
+      let its = part_there (refused_as fault) _ _ _ _ some_part there missing in
+      (there, its, nonce_left (refused_as fault) _ _ _ _ _ some_nonce there its spent)
+
+  pub why_not_sent : (fault : SendFault) → ((refused_as fault ≡ Err NoServer) ↔ NoServerAt e place) → ((refused_as fault ≡ Err NoPart) ↔ NoPartFor e place part)
+      → ((refused_as fault ≡ Err NonceSpent) ↔ NoNonceFor e place part) → IsSendFaultOf e place part fault
+  why_not_sent NoServer none missing spent = none.0 refl
+  why_not_sent NoPart none missing spent = missing.0 refl
+  why_not_sent NonceSpent none missing spent = spent.0 refl
+  why_not_sent OutOfMemory none missing spent = last_fault OutOfMemory (λ clash. absurd cc) (λ clash. absurd cc) (λ clash. absurd cc) none missing spent
+  why_not_sent (Store f) none missing spent = last_fault (Store f) (λ clash. absurd cc) (λ clash. absurd cc) (λ clash. absurd cc) none missing spent
 
 -- why a router didn't go over to a key
 abbrev is_same_key : RotateFault → Bool

@@ -9,7 +9,7 @@ use Rattle.lisp_messages.specs.Message.{Registers}
 use Rattle.lisp_nonces.specs.declared.fate.Fate.{Fate}
 use Rattle.lisp_nonces.specs.Store.{StoreState}
 use Rattle.lisp_etr.specs.Etr.{EtrState}
-use Rattle.lisp_etr.specs.Sending.{map_register_of}
+use Rattle.lisp_etr.specs.Sending.{next_register}
 use Rattle.lisp_etr.specs.declared.send_fault.SendFault.{SendFault}
 use Rattle.lisp_model.specs.declared.line.Line.{Line}
 use Rattle.lisp_model.specs.declared.line.Line.TheVariants as lines
@@ -52,21 +52,21 @@ line_down router db (Up e) down = absurd (true≢false down)
 line_down router db (Down config database) down = refl
 
 -- a Map-Register that was sent has a head
-pub sent_head : (old new : EtrState) (armed called : StoreState) (place now : ℕ) (bytes : List ℕ) → CoreSends old new armed called place now bytes → IsSome (head_at bytes)
-sent_head old new armed called place now bytes sent =
-    let wrote = ap head_at sent.datagram ∙ head_written old.config.secret (Registers (map_register_of old.config old.database (old.last + 1))) sent.known in
+pub sent_head : (old new : EtrState) (armed called : StoreState) (place part now : ℕ) (bytes : List ℕ) → CoreSends old new armed called place part now bytes → IsSome (head_at bytes)
+sent_head old new armed called place part now bytes sent =
+    let wrote = ap head_at sent.datagram ∙ head_written old.config.secret (Registers (next_register old part)) sent.known in
     subst (λ (head : Option _). IsSome head) (sym wrote) refl
 
 -- a router was asked to send
-module _ (old : WorldState) (router server : ℕ) (fate : Fate) (before after : RouterNodeState) where
+module _ (old : WorldState) (router server part : ℕ) (fate : Fate) (before after : RouterNodeState) where
   -- it is up
-  pub sends_up : (answer : Result (List ℕ) SendFault) (line : Line) (more : List DatagramValue) → NodeSends before after server fate old.clock answer → SaysSendAnswer old router server answer line more
-      → RouterSends old router server fate before after before.core line more
-  sends_up answer line more up says = subst (λ (core : RouterCoreState). RouterSends old router server fate before after core line more) (sym up.was)
+  pub sends_up : (answer : Result (List ℕ) SendFault) (line : Line) (more : List DatagramValue) → NodeSends before after server part fate old.clock answer → SaysSendAnswer old router server part answer line more
+      → RouterSends old router server part fate before after before.core line more
+  sends_up answer line more up says = subst (λ (core : RouterCoreState). RouterSends old router server part fate before after core line more) (sym up.was)
       (record { answer = answer; sends = up; says = says })
 
   -- it is down
-  pub sends_down : (core : RouterCoreState) → is_up core ≡ false → after ≡ before → RouterSends old router server fate before after core (lines.Down router) []
+  pub sends_down : (core : RouterCoreState) → is_up core ≡ false → after ≡ before → RouterSends old router server part fate before after core (lines.Down router) []
   sends_down (Up e) down same = absurd (true≢false down)
   sends_down (Down config database) down same = (same, refl, refl)
 

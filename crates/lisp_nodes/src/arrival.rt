@@ -163,9 +163,16 @@ fn router_line<A: Allocator>(
     ensures { result ≡ router_line router datagram servers.now key answer.now }
 {
     match answer {
-        Ok(Seen::Counted { server, nonce }) => Line::Counted {
+        Ok(
+            Seen::Counted {
+                server,
+                part,
+                nonce,
+            },
+        ) => Line::Counted {
             router,
             server: number(servers, *server),
+            part: *part,
             key,
             nonce: *nonce,
         },

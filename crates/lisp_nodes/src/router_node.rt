@@ -145,17 +145,19 @@ impl<S: WorldStore, A: Memory + Copy> RouterNode<S, A> {
         }
     }
 
-    /// It makes a Map-Register for the Map-Server with a number at a moment, in ms, its store armed with the fate for the
-    /// call and with `Done` after it: the bytes to send, or why there are none (`NoServer` where it doesn't register
-    /// with that Map-Server). `None` where it is down, and it is left unchanged.
+    /// It makes a Map-Register of a part of its database, from 0 on, for the Map-Server with a number at a moment, in ms, its
+    /// store armed with the fate for the call and with `Done` after it: the bytes to send, or why there are none (`NoServer`
+    /// where it doesn't register with that Map-Server, `NoPart` where its database doesn't have the part). `None` where it is
+    /// down, and it is left unchanged.
     pub fn send(
         &mut self,
         server: usize,
+        part: usize,
         fate: Fate,
         now: u64,
     ) -> Option<Result<Bytes<A>, SendFault>>
         requires { now ≤ max_moment }
-        ensures up { IfSome result (NodeSends self.old self.new server fate now) }
+        ensures up { IfSome result (NodeSends self.old self.new server part fate now) }
         ensures down { result ≡ None → (is_up self.old.core ≡ false) × (self.new ≡ self.old) }
         ensures memory { RefusesOnlyIf result SendFault.OutOfMemory A.may_refuse }
         ensures store_memory { RefusesOnlyIf result no_store_memory_to_send S.may_refuse }
@@ -166,7 +168,7 @@ impl<S: WorldStore, A: Memory + Copy> RouterNode<S, A> {
             RouterCore::Down { .. } => return None,
         };
         arm(&mut self.store, fate);
-        let answer = etr.send(&mut self.store, place, now);
+        let answer = etr.send(&mut self.store, place, part, now);
         arm(&mut self.store, Fate::Done);
         Some(match answer {
             Ok(bytes) => Ok(Bytes::from_vec(bytes)),

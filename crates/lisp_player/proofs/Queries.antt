@@ -1,13 +1,12 @@
 -- What is asked of a node of a network that stands for a trace.
-use Rattle.std.proofs.Common.{Bor, ◌≡◌, ℕ, suc, ◌+◌, ◌-◌, ◌<◌, ◌≤◌, nat_lt, nat_le, Bool, true, false, List, [], ◌++◌, length, take, get_or, Option, Some, None, refl, sym, ap, subst, ◌∙◌, arith}
-use Rattle.std.specs.Prelude.{is_some, slice_get, slice_index_or, position, if◌then◌else◌}
-use Rattle.std.specs.List.{find, flat_map, position_or_len}
+use Rattle.std.proofs.Common.{Bor, ◌≡◌, ℕ, suc, ◌+◌, ◌-◌, ◌<◌, ◌≤◌, nat_lt, Bool, true, false, List, [], ◌++◌, length, take, get_or, Option, Some, None, refl, sym, ap, subst, ◌∙◌, arith}
+use Rattle.std.specs.Prelude.{is_some, slice_get, slice_index_or, if◌then◌else◌}
+use Rattle.std.specs.List.{flat_map}
 use Rattle.std.specs.Option.{option_map, option_and_then, unwrap_or}
 use Rattle.std.proofs.lemmas.Bool.{ltb-true, ltb-false, lt-ltb, le-ltb}
 use Rattle.std.proofs.Math.Seq.{take-suc}
 use Rattle.std.proofs.lemmas.List.{flat_map_more}
-use Rattle.std.proofs.lemmas.List.Folds.{find_at}
-use Rattle.std.proofs.lemmas.Option.{slice_get_within, slice_get_past}
+use Rattle.std.proofs.lemmas.Option.{slice_get_within}
 use Rattle.lisp_records.specs.declared.address.Addr.{Addr}
 use Rattle.lisp_records.specs.declared.router.RouterId.{RouterId}
 use Rattle.lisp_records.specs.Row.{RowValue}
@@ -16,11 +15,11 @@ use Rattle.lisp_lookup.specs.declared.answer.Answer.{Answer}
 use Rattle.lisp_lookup.specs.Answer.{Answers}
 use Rattle.lisp_lookup.specs.Table.{OneEach, IsHeld}
 use Rattle.lisp_etr.specs.Etr.{EtrState}
+use Rattle.lisp_etr.specs.Rounds.{first_part}
 use Rattle.lisp_server.specs.Server.{ServerState}
 use Rattle.lisp_server.specs.Notices.{OneForEach, IsDueRouter}
 use Rattle.lisp_model.specs.Trace.{Step, Opening, router_at, clock, is_up}
-use Rattle.lisp_model.specs.Counted.{acked}
-use Rattle.lisp_model.specs.Timers.{due}
+use Rattle.lisp_model.specs.Timers.{due_part}
 use Rattle.lisp_refinement.specs.World.{WorldState, ServerNodeState, RouterNodeState, RouterCoreState, Up, Down}
 use Rattle.lisp_refinement.specs.Nodes.{server_at, up_in, etr_at}
 use Rattle.lisp_refinement.specs.Stands.{StandsForCore, Stands}
@@ -28,7 +27,7 @@ use Rattle.lisp_refinement.specs.Asked.{ServerTells, RouterTells}
 use Rattle.lisp_refinement.proofs.Gets.{none_is_some, same_some, get_within}
 use Rattle.lisp_refinement.proofs.Asking.{servers_tell, routers_tell}
 use Rattle.lisp_lines.specs.Query.{hold_text, ack_text, ask_text, due_text, due_server, due_router}
-use Rattle.lisp_player.specs.Asked.{Where, Holds, Asks, Acknowledges, IsDue, IsDueAtRouter, OfTraces, CountedFrom, router_in, due_in, is_router, of_router, down_text, fault_text, missing_text}
+use Rattle.lisp_player.specs.Asked.{Where, Holds, Asks, Acknowledges, IsDue, IsDueAtRouter, OfTraces, CountedFrom, acked_parts, router_in, due_of, due_in, is_router, of_router, down_text, fault_text, missing_text}
 use Rattle.lisp_model.specs.declared.world_fault.WorldFault.{WorldFault}
 use Rattle.lisp_model.specs.declared.world_fault.WorldFault.TheVariants.{NoNode, WrongKind}
 
@@ -172,14 +171,6 @@ missing_wrong c node fault is below = ap fault_text is ∙ sym (ap (λ (b : Bool
 pub missing_none : (c : ConfigValue) (node : ℕ) (fault : WorldFault) → fault ≡ NoNode → length c.servers + length c.routers ≤ node → fault_text fault ≡ missing_text c node
 missing_none c node fault is past = ap fault_text is ∙ sym (ap (λ (b : Bool). if b then fault_text WrongKind else fault_text NoNode) (le-ltb node (length c.servers + length c.routers) past))
 
--- what is found first stands at the first place
-found_first : {X : Type 0} (p : X → Bool) (xs : List X) → find p xs ≡ option_and_then (slice_get xs) (position p xs)
-found_first p xs = find_at p xs ∙ by (nat_lt (position_or_len p xs) (length xs)) refl
-  where
-    by : (b : Bool) → nat_lt (position_or_len p xs) (length xs) ≡ b → slice_get xs (position_or_len p xs) ≡ option_and_then (slice_get xs) (if b then Some (position_or_len p xs) else None)
-    by true below = refl
-    by false past = slice_get_past xs (position_or_len p xs) (ltb-false (position_or_len p xs) (length xs) past)
-
 -- which rows a Map-Server holds
 pub hold_told : (w : WorldState) (c : ConfigValue) (server : ℕ) (core : ServerState) (now : ℕ) (told listed : List RowValue) (text : List ℕ)
     → Some core ≡ server_at w server → now ≡ w.clock → told ≡ listed → IsHeld core.rows now listed → text ≡ hold_text c server now told → OfTraces w c (λ o T. Holds o T server text)
@@ -244,17 +235,17 @@ module _ (w : WorldState) (c : ConfigValue) (node : ℕ) (text : List ℕ) (Told
 
 -- what a router counted from each of its Map-Servers
 abbrev counts : ℕ → Opening → List Step → List ℕ
-counts router o T = flat_map (λ server. ack_text o.config router server (acked T router server)) (router_at o.config router).servers
+counts router o T = flat_map (λ server. ack_text o.config router server (acked_parts T router server)) (router_at o.config router).servers
 
 pub acks_told : (w : WorldState) (c : ConfigValue) (router : ℕ) (entry : RouterEntryValue) (etr : EtrState) (listed : List ℕ) (text : List ℕ)
     → Some entry ≡ router_in c router → Some etr ≡ etr_at w router → listed ≡ entry.servers
-    → ((counted : ℕ → Option (ℕ × ℕ)) → CountedFrom etr listed counted → text ≡ flat_map (λ server. ack_text c router server (counted server)) listed)
+    → ((counted : ℕ → List (Option (ℕ × ℕ))) → CountedFrom etr listed counted → text ≡ flat_map (λ server. ack_text c router server (counted server)) listed)
     → OfTraces w c (λ o T. Acknowledges o T router text)
 acks_told w c router entry etr listed text found at all lines =
-    up_told w c router text (counts router) entry etr (λ (c : ConfigValue). (counted : ℕ → Option (ℕ × ℕ)) → CountedFrom etr listed counted → text ≡ flat_map (λ server. ack_text c router server (counted server)) listed) found at lines (λ o T stand tells same said.
+    up_told w c router text (counts router) entry etr (λ (c : ConfigValue). (counted : ℕ → List (Option (ℕ × ℕ))) → CountedFrom etr listed counted → text ≡ flat_map (λ server. ack_text c router server (counted server)) listed) found at lines (λ o T stand tells same said.
     let list = all ∙ ap (λ (r : RouterEntryValue). r.servers) same in
-    said (acked T router) (subst (λ (servers : List ℕ). CountedFrom etr servers (acked T router)) (sym list) tells.acked)
-    ∙ ap (flat_map (λ server. ack_text o.config router server (acked T router server))) list)
+    said (acked_parts T router) (subst (λ (servers : List ℕ). CountedFrom etr servers (acked_parts T router)) (sym list) tells.acked)
+    ∙ ap (flat_map (λ server. ack_text o.config router server (acked_parts T router server))) list)
 
 pub acks_down : (w : WorldState) (c : ConfigValue) (router : ℕ) (entry : RouterEntryValue) (text : List ℕ) → Some entry ≡ router_in c router → None ≡ etr_at w router → text ≡ down_text c router → OfTraces w c (λ o T. Acknowledges o T router text)
 acks_down w c router entry text found at is = down_told w c router text (counts router) entry found at is
@@ -270,19 +261,18 @@ counted_more f servers place before after within so_far grown =
     grown ∙ ap (λ (t : List ℕ). t ++ f (get_or servers place 0)) so_far ∙ flat_map_more f [] (take place servers) (get_or servers place 0)
     ∙ ap (flat_map f) (sym (take-suc servers place 0 within)) ∙ ap (λ (n : ℕ). flat_map f (take n servers)) next
 
--- which Map-Server is due to a router
+-- which Map-Server is due to a router, and of which part
 abbrev dues : ℕ → Opening → List Step → List ℕ
-dues node o T = due_text o.config node (due_server o.config (find (λ server. nat_le (due T node server) (clock T)) (router_at o.config node).servers))
+dues node o T = due_text o.config node (due_server o.config (due_of (router_at o.config node).servers (first_part (due_part o T node) (router_at o.config node).servers)))
 
-pub due_up : (w : WorldState) (c : ConfigValue) (node : ℕ) (entry : RouterEntryValue) (etr : EtrState) (now : ℕ) (server : Option ℕ) (listed : List ℕ) (text : List ℕ)
-    → Some entry ≡ router_in c node → Some etr ≡ etr_at w node → now ≡ w.clock → listed ≡ entry.servers → server ≡ due_in etr listed now → text ≡ due_text c node (due_server c server) → OfTraces w c (λ o T. IsDueAtRouter o T node text)
-due_up w c node entry etr now server listed text found at moment all its is =
-    up_told w c node text (dues node) entry etr (λ (c : ConfigValue). text ≡ due_text c node (due_server c server)) found at is (λ o T stand tells same said.
+pub due_up : (w : WorldState) (c : ConfigValue) (node : ℕ) (entry : RouterEntryValue) (etr : EtrState) (now : ℕ) (due : Option (ℕ × ℕ)) (listed : List ℕ) (text : List ℕ)
+    → Some entry ≡ router_in c node → Some etr ≡ etr_at w node → now ≡ w.clock → listed ≡ entry.servers → due ≡ due_in etr listed now → text ≡ due_text c node (due_server c due) → OfTraces w c (λ o T. IsDueAtRouter o T node text)
+due_up w c node entry etr now due listed text found at moment all its is =
+    up_told w c node text (dues node) entry etr (λ (c : ConfigValue). text ≡ due_text c node (due_server c due)) found at is (λ o T stand tells same said.
     let servers = all ∙ ap (λ (r : RouterEntryValue). r.servers) same in
-    let first : server ≡ find (λ server. nat_le (due T node server) (clock T)) (router_at o.config node).servers =
-    its ∙ ap (λ (n : ℕ). due_in etr listed n) moment ∙ ap (λ (list : List ℕ). due_in etr list w.clock) servers
-    ∙ ap (option_and_then (slice_get (router_at o.config node).servers)) tells.due ∙ sym (found_first (λ server. nat_le (due T node server) (clock T)) (router_at o.config node).servers) in
-    said ∙ ap (λ (s : Option ℕ). due_text o.config node (due_server o.config s)) first)
+    let first : due ≡ due_of (router_at o.config node).servers (first_part (due_part o T node) (router_at o.config node).servers) =
+    its ∙ ap (λ (n : ℕ). due_in etr listed n) moment ∙ ap (λ (list : List ℕ). due_in etr list w.clock) servers ∙ ap (due_of (router_at o.config node).servers) tells.due in
+    said ∙ ap (λ (d : Option (ℕ × ℕ)). due_text o.config node (due_server o.config d)) first)
 
 pub due_down : (w : WorldState) (c : ConfigValue) (node : ℕ) (entry : RouterEntryValue) (text : List ℕ) → Some entry ≡ router_in c node → None ≡ etr_at w node → text ≡ down_text c node → OfTraces w c (λ o T. IsDueAtRouter o T node text)
 due_down w c node entry text found at is = down_told w c node text (dues node) entry found at is

@@ -7,7 +7,7 @@ ghost use Rattle.lisp_player.specs.Asked.{Acknowledges, Asks, Holds, IsDue, IsDu
 
 use lisp_etr::Etr;
 use lisp_lines::{
-    DatagramPlace, ask_text, due_router_text, due_server_text, hold_text, line_text, put_ack,
+    DatagramPlace, ask_text, due_router_text, due_server_text, hold_text, line_text, put_acks,
 };
 use lisp_memory::{FallibleString, Memory};
 use lisp_model::Line;
@@ -53,7 +53,7 @@ pub(crate) fn ask_line<S: WorldStore, A: Memory + Copy, E: Allocator>(
     ask_text(alloc, config, server, addr, &answer)
 }
 
-/// What a router counted last from each of its Map-Servers.
+/// What a router counted last of each part from each of its Map-Servers.
 pub(crate) fn ack_lines<S: WorldStore, A: Memory + Copy, E: Allocator>(
     alloc: A,
     world: &World<S, A>,
@@ -72,7 +72,7 @@ pub(crate) fn ack_lines<S: WorldStore, A: Memory + Copy, E: Allocator>(
     }
 }
 
-/// Which Map-Server is due to a router, or to which router a notice of a Map-Server is.
+/// Which Map-Server is due to a router, and of which part of its database, or to which router a notice of a Map-Server is.
 pub(crate) fn due_line<S: WorldStore, A: Memory + Copy, E: Allocator>(
     alloc: A,
     world: &World<S, A>,
@@ -88,7 +88,7 @@ pub(crate) fn due_line<S: WorldStore, A: Memory + Copy, E: Allocator>(
     }
 }
 
-// Which Map-Server is due to a router.
+// Which Map-Server is due to a router, and of which part of its database.
 fn due_at_router<S: WorldStore, A: Memory + Copy, E: Allocator>(
     alloc: A,
     world: &World<S, A>,
@@ -103,8 +103,8 @@ fn due_at_router<S: WorldStore, A: Memory + Copy, E: Allocator>(
     };
     match world.router(node) {
         Some(etr) => {
-            let server = due_server(etr, entry.servers.as_slice(), world.clock());
-            due_server_text(alloc, config, node, server)
+            let due = due_server(etr, entry.servers.as_slice(), world.clock());
+            due_server_text(alloc, config, node, due)
         }
         None => line_text(
             alloc,
@@ -115,14 +115,16 @@ fn due_at_router<S: WorldStore, A: Memory + Copy, E: Allocator>(
     }
 }
 
-// The first of these Map-Servers that is due to a router at a moment.
-fn due_server<A: Memory + Copy>(etr: &Etr<A>, servers: &[usize], now: u64) -> Option<usize>
+// The first of these Map-Servers that is due to a router at a moment, and the first part that is due there.
+fn due_server<A: Memory + Copy>(etr: &Etr<A>, servers: &[usize], now: u64) -> Option<(usize, usize)>
     ensures { result ≡ due_in etr.now servers.now now }
 {
-    servers.get(etr.due(now)?).copied()
+    let (place, part) = etr.due(now)?;
+    let server = servers.get(place)?;
+    Some((*server, part))
 }
 
-// A line for each of these Map-Servers: what a router counted last from it.
+// The lines of these Map-Servers: what a router counted last of each part from it.
 fn counted_lines<A: Memory + Copy, E: Allocator>(
     alloc: A,
     etr: &Etr<A>,
@@ -135,7 +137,7 @@ fn counted_lines<A: Memory + Copy, E: Allocator>(
 {
     let mut text = String::new(alloc);
     for (place, server) in servers.iter().enumerate() {
-        put_ack(&mut text, config, router, *server, etr.acked(place))?;
+        put_acks(&mut text, config, router, *server, etr.acked(place))?;
     }
     Ok(text)
 }

@@ -1,22 +1,20 @@
 -- What a database is, apart from the order of its records: EID-Prefixes that do not occur again later are
--- those of which each two differ, and another order of the records keeps them, their count and their size.
-use Rattle.std.proofs.Common.{◌≡◌, ◌≢◌, Bool, true, false, ◌||◌, cond, ltb, List, [], ◌∷◌, length, map, Result, Ok, Err, IsPermutation, refl, sym, ap}
+-- those of which each two differ; and another order of the records keeps their count and their size.
+use Rattle.std.proofs.Common.{◌≡◌, ◌≢◌, Bool, true, false, ◌||◌, List, [], ◌∷◌, length, map, IsPermutation, refl, ap}
 use Rattle.std.specs.Prelude.{◌↔◌}
 use Rattle.std.specs.Bool.{Decides}
 use Rattle.std.specs.List.{AllByRecursion, AllPairs, IsDistinct}
-use Rattle.std.proofs.lemmas.Bool.Decides.{Decides-eqb, Decides-and, Decides-like, same_from_decides}
-use Rattle.std.proofs.lemmas.List.Sorted.{IsPermutation-map, IsPermutation-sym, length_permutation, sum_by-IsPermutation}
+use Rattle.std.proofs.lemmas.Bool.Decides.{Decides-eqb, Decides-and}
+use Rattle.std.proofs.lemmas.List.Sorted.{length_permutation, sum_by-IsPermutation}
 use Rattle.std.proofs.lemmas.Slice.Eq.{bytes_eq-Decides}
-use Rattle.std.proofs.lemmas.Map.Keys.{IsDistinct-IsPermutation}
 use Rattle.std.proofs.lemmas.Map.Made.{AllPairs-from_IsDistinct, IsDistinct-from_AllPairs}
 use Rattle.lisp_records.specs.declared.address.Addr.{Addr}
 use Rattle.lisp_records.specs.declared.address.Addr.TheVariants.{V4, V6}
 use Rattle.lisp_records.specs.Address.{PrefixValue, addr_eq, prefix_eq}
 use Rattle.lisp_records.specs.Record.{MapRecordValue}
 use Rattle.lisp_records.specs.Written.{written}
-use Rattle.lisp_records.specs.declared.database.DatabaseFault.{DatabaseFault}
-use Rattle.lisp_records.specs.declared.database.DatabaseFault.TheVariants.{RepeatedPrefix, TooLarge}
-use Rattle.lisp_records.specs.Database.{has_prefix, repeats, size, database_of}
+use Rattle.lisp_records.specs.Database.{has_prefix, repeats}
+use Rattle.lisp_records.specs.Parts.{size, fits_message}
 
 -- the test of addresses decides whether they are equal
 addr_eq-Decides : (a b : Addr) → Decides (addr_eq a b) (a ≡ b)
@@ -66,38 +64,9 @@ from_distinct (m ∷ ms) all = none_of (has_prefix m.eid ms) (repeats ms) (from_
 pub distinct_prefixes : (ms : List MapRecordValue) → (repeats ms ≡ false) ↔ AllPairs (λ a b. a ≢ b) (map (λ m. m.eid) ms)
 distinct_prefixes ms = (λ none. AllPairs-from_IsDistinct block_eq-Decides (map (λ m. m.eid) ms) (distinct ms none), λ all. from_distinct ms (IsDistinct-from_AllPairs block_eq-Decides (map (λ m. m.eid) ms) all))
 
--- ---- another order
-
--- the test of blocks does not mind which comes first
-block_eq-flips : (a b : PrefixValue) → prefix_eq a b ≡ prefix_eq b a
-block_eq-flips a b = same_from_decides (prefix_eq a b) (prefix_eq b a) (block_eq-Decides a b) (Decides-like (prefix_eq b a) sym sym (block_eq-Decides b a))
-
--- records that do not repeat a prefix do not in another order
-still_distinct : (one other : List MapRecordValue) → IsPermutation one other → repeats one ≡ false → repeats other ≡ false
-still_distinct one other moved none =
-    from_distinct other (IsDistinct-IsPermutation prefix_eq block_eq-flips (map (λ m. m.eid) one) (map (λ m. m.eid) other) (IsPermutation-map (λ (m : MapRecordValue). m.eid) one other moved) (distinct one none))
-
--- two tests that fail together are one
-fail_together : (a b : Bool) → (a ≡ false → b ≡ false) → (b ≡ false → a ≡ false) → b ≡ a
-fail_together true true there back = refl
-fail_together true false there back = sym (back refl)
-fail_together false b there back = there refl
-
--- the tests of a database, and its answer
-abbrev tested : Bool → Bool → Bool → List MapRecordValue → Result (List MapRecordValue) DatabaseFault
-tested many again large ms = cond many (Err TooLarge) (cond again (Err RepeatedPrefix) (cond large (Err TooLarge) (Ok ms)))
-
--- one answer for both lists
-alike : (many again large : Bool) (one other : List MapRecordValue) → (tested many again large one ≡ Ok one → tested many again large other ≡ Ok other) × ((fault : DatabaseFault) → tested many again large one ≡ Err fault → tested many again large other ≡ Err fault)
-alike true again large one other = (λ e. absurd cc, λ fault e. cc)
-alike false true large one other = (λ e. absurd cc, λ fault e. cc)
-alike false false true one other = (λ e. absurd cc, λ fault e. cc)
-alike false false false one other = (λ e. refl, λ fault e. absurd cc)
-
--- the same records in another order are a database too, or fail alike
-pub any_order : (one other : List MapRecordValue) → IsPermutation one other → (database_of one ≡ Ok one → database_of other ≡ Ok other) × ((fault : DatabaseFault) → database_of one ≡ Err fault → database_of other ≡ Err fault)
+-- one message can carry the same records in another order, or none of both
+pub any_order : (one other : List MapRecordValue) → IsPermutation one other → fits_message other ≡ fits_message one
 any_order one other moved =
     let many : length other ≡ length one = length_permutation one other moved in
-    let again : repeats other ≡ repeats one = fail_together (repeats one) (repeats other) (still_distinct one other moved) (still_distinct other one (IsPermutation-sym one other moved)) in
     let large : size other ≡ size one = sum_by-IsPermutation (λ m. length (written m)) one other moved in
-    rw (many, again, large) (alike (ltb 255 (length one)) (repeats one) (ltb 16384 (size one)) one other)
+    rw (many, large) refl

@@ -4,13 +4,13 @@ use Rattle.std.proofs.Math.Seq.{drop-cons}
 use Rattle.std.proofs.Math.ListN.{drop_of_length-le}
 use Rattle.std.proofs.lemmas.Bool.{ltb-false, le-ltb, lt-ltb}
 use Rattle.std.proofs.lemmas.List.{take_all, take_more, length-drop}
-use Rattle.std.proofs.lemmas.List.Sums.{sum_by_more}
 use Rattle.lisp_records.specs.Address.{PrefixValue, prefix_eq}
 use Rattle.lisp_records.specs.Record.{MapRecordValue}
 use Rattle.lisp_records.specs.declared.database.DatabaseFault.{DatabaseFault}
 use Rattle.lisp_records.specs.declared.database.DatabaseFault.TheVariants.{RepeatedPrefix, TooLarge}
-use Rattle.lisp_records.specs.Database.{has_prefix, repeats, size, database_of}
-use Rattle.lisp_records.specs.Written.{written}
+use Rattle.lisp_records.specs.Parts.{fits_message, most_parts, part_count}
+use Rattle.lisp_records.specs.Database.{has_prefix, repeats, database_of}
+use Rattle.lisp_records.proofs.Cuts.{fits_is, one_part}
 
 -- the next record is looked at
 next_prefix : (ms : List MapRecordValue) (i : ℕ) (m : MapRecordValue) (eid own : PrefixValue) → i < length ms → m ≡ get_or ms i m → own ≡ m.eid → has_prefix eid (drop i ms) ≡ (prefix_eq eid own || has_prefix eid (drop (i + 1) ms))
@@ -63,37 +63,52 @@ repeats_ends ms i le so_far =
     let none : repeats (drop i ms) ≡ false = rw (drop_of_length-le ms le) refl in
     sym none ∙ so_far
 
--- the bytes of one more record are counted
-pub size_goes_on : (ms : List MapRecordValue) (i sum len : ℕ) (m : MapRecordValue) → i < length ms → m ≡ get_or ms i m → len ≡ length (written m) → sum ≡ size (take i ms) → sum + len ≡ size (take (i + 1) ms)
-size_goes_on ms i sum len m lt at of so_far =
-    let here : len ≡ length (written (get_or ms i m)) = of ∙ ap (λ (x : MapRecordValue). length (written x)) at in
-    rw (so_far, here) (sym (sum_by_more (λ (x : MapRecordValue). length (written x)) ms i m lt))
-
 -- one more record is copied
 pub copy_goes_on : (ms copies more : List MapRecordValue) (i : ℕ) (m copy : MapRecordValue) → i < length ms → m ≡ get_or ms i m → copy ≡ m → copies ≡ take i ms → more ≡ copies ++ copy ∷ [] → more ≡ take (i + 1) ms
 copy_goes_on ms copies more i m copy lt at same so_far pushed =
     let here : copy ≡ get_or ms i m = same ∙ at in
     pushed ∙ rw (so_far, here, take_more ms i m lt) refl
 
--- a test that refuses was not passed
-not_refused : (b : Bool) (d : DatabaseFault) (other : Result (List MapRecordValue) DatabaseFault) (ms : List MapRecordValue) → cond b (Err d) other ≡ Ok ms → b ≡ false
-not_refused true d other ms e = absurd cc
-not_refused false d other ms e = refl
-
--- a database has at most 255 records
-pub database_few : (ms : List MapRecordValue) → database_of ms ≡ Ok ms → length ms < 256
-database_few ms e = omega (arith, ltb-false _ _ (not_refused (ltb 255 (length ms)) TooLarge _ ms e))
-
 -- ---- the tests of a database, one after the other
 
-pub too_many : (ms : List MapRecordValue) → 255 < length ms → Err TooLarge ≡ database_of ms
-too_many ms many = rw (lt-ltb 255 (length ms) many) refl
+pub too_many : (ms : List MapRecordValue) → 1024 < length ms → Err TooLarge ≡ database_of ms
+too_many ms many = rw (lt-ltb 1024 (length ms) many) refl
 
-pub repeated : (ms : List MapRecordValue) → length ms ≤ 255 → repeats ms ≡ true → Err RepeatedPrefix ≡ database_of ms
-repeated ms few again = rw (le-ltb 255 (length ms) few, again) refl
+pub repeated : (ms : List MapRecordValue) → length ms ≤ 1024 → repeats ms ≡ true → Err RepeatedPrefix ≡ database_of ms
+repeated ms few again = rw (le-ltb 1024 (length ms) few, again) refl
 
-pub too_long : (ms : List MapRecordValue) → length ms ≤ 255 → repeats ms ≡ false → 16384 < size ms → Err TooLarge ≡ database_of ms
-too_long ms few once long = rw (le-ltb 255 (length ms) few, once, lt-ltb 16384 (size ms) long) refl
+pub too_many_parts : (ms : List MapRecordValue) → length ms ≤ 1024 → repeats ms ≡ false → most_parts < part_count ms → Err TooLarge ≡ database_of ms
+too_many_parts ms few once many = rw (le-ltb 1024 (length ms) few, once, lt-ltb most_parts (part_count ms) many) refl
 
-pub is_database : (ms : List MapRecordValue) → length ms ≤ 255 → repeats ms ≡ false → size ms ≤ 16384 → database_of ms ≡ Ok ms
-is_database ms few once short = rw (le-ltb 255 (length ms) few, once, le-ltb 16384 (size ms) short) refl
+pub is_database : (ms : List MapRecordValue) → length ms ≤ 1024 → repeats ms ≡ false → part_count ms ≤ most_parts → database_of ms ≡ Ok ms
+is_database ms few once parts = rw (le-ltb 1024 (length ms) few, once, le-ltb most_parts (part_count ms) parts) refl
+
+-- records that one message can carry are a database, where no prefix is repeated
+pub message_is_database : (ms : List MapRecordValue) → fits_message ms ≡ true → repeats ms ≡ false → database_of ms ≡ Ok ms
+message_is_database ms fit once =
+    let few = (fits_is ms fit).0 in
+    let one = ap length (one_part ms fit) in
+    is_database ms (omega (arith, few)) once (omega (arith, one))
+
+-- what a database passed
+pub database_is : (ms : List MapRecordValue) → database_of ms ≡ Ok ms → (length ms ≤ 1024) × (repeats ms ≡ false) × (part_count ms ≤ most_parts)
+database_is ms is = by (ltb 1024 (length ms)) (repeats ms) (ltb most_parts (part_count ms)) refl refl refl
+  where
+    by : (many again large : Bool) → ltb 1024 (length ms) ≡ many → repeats ms ≡ again → ltb most_parts (part_count ms) ≡ large → (length ms ≤ 1024) × (repeats ms ≡ false) × (part_count ms ≤ most_parts)
+    by true again large m a l = absurd (let e : database_of ms ≡ Err TooLarge = rw m refl in cc)
+    by false true large m a l = absurd (let e : database_of ms ≡ Err RepeatedPrefix = rw (m, a) refl in cc)
+    by false false true m a l = absurd (let e : database_of ms ≡ Err TooLarge = rw (m, a, l) refl in cc)
+    by false false false m a l = (ltb-false 1024 (length ms) m, a, ltb-false most_parts (part_count ms) l)
+
+-- the records of a database are the given ones
+pub database_same : (ms db : List MapRecordValue) → database_of ms ≡ Ok db → ms ≡ db
+database_same ms db e = at (ltb 1024 (length ms)) (repeats ms) (ltb most_parts (part_count ms)) e
+  where
+    same_ok : ◌≡◌ {A = Result (List MapRecordValue) DatabaseFault} (Ok ms) (Ok db) → ms ≡ db
+    same_ok ok = cc
+
+    at : (many again parted : Bool) → cond many (Err TooLarge) (cond again (Err RepeatedPrefix) (cond parted (Err TooLarge) (Ok ms))) ≡ Ok db → ms ≡ db
+    at true again parted ok = cc ok
+    at false true parted ok = cc ok
+    at false false true ok = cc ok
+    at false false false ok = same_ok ok

@@ -1,13 +1,17 @@
 pub mod AddressLemmas
+pub mod Cuts
 pub mod DatabaseLaws
 pub mod DatabaseLemmas
+pub mod Elements
 pub mod Faults
 pub mod Fields
+pub mod Filling
 pub mod FitLaws
 pub mod Grown
 pub mod LocatorLaws
 pub mod Loop
 pub mod Numbers
+pub mod PartLaws
 pub mod Positions
 pub mod RecordLaws
 pub mod RisingLaws

@@ -9,5 +9,6 @@ pub mod Written
 pub mod Result
 pub mod Reading
 pub mod Router
+pub mod Parts
 pub mod Database
 pub mod Row

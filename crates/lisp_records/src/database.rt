@@ -1,9 +1,11 @@
-//! What a router registers: its records, as one message carries them.
+//! What a router registers: its records, in parts that each fit one message.
 
-ghost use Rattle.std.specs.Prelude.{◌≡◌, ◌<◌, ◌≤◌, length, IfOk, OnOk, OnErr};
+ghost use Rattle.std.specs.Prelude.{◌≡◌, ◌<◌, ◌≤◌, true, length, IfOk, OnOk, OnErr};
 ghost use Rattle.lisp_records.specs.Fault.{database_fault_number};
-ghost use Rattle.lisp_records.specs.Database.{has_prefix, repeats, size, database_of};
+ghost use Rattle.lisp_records.specs.Parts.{fits_message, most_parts, part_count, part_at, cut, IsCut};
+ghost use Rattle.lisp_records.specs.Database.{has_prefix, repeats, database_of};
 
+use crate::parts::Parts;
 use crate::prefix::Prefix;
 use crate::record::MapRecord;
 use crate::records::Records;
@@ -12,11 +14,8 @@ use std::alloc::{AllocError, Allocator, Global};
 use std::marker::Model;
 use thiserror::Error;
 
-/// The most records of a database: a message counts them in one byte.
-pub const MAX_RECORDS: usize = 255;
-
-/// The most bytes of a database's records, as they are written.
-pub const MAX_SIZE: usize = 16384;
+/// The most records of a database.
+pub const MAX_DATABASE_RECORDS: usize = 1024;
 
 /// Why records are no database.
 #[derive(Clone, Copy, Debug, PartialEq, Eq, Error)]
@@ -24,8 +23,8 @@ pub enum DatabaseFault {
     /// Two records are of the same EID-Prefix.
     #[error("two records are of the same EID-Prefix")]
     RepeatedPrefix,
-    /// More than 255 records, or more than 16,384 bytes of them.
-    #[error("there are too many records, or too many bytes of them")]
+    /// More than 1,024 records, or more than 16 parts of them.
+    #[error("there are too many records, or too many parts of them")]
     TooLarge,
 }
 
@@ -45,40 +44,40 @@ impl DatabaseFault {
 #[derive(Debug, Drop)]
 pub struct Database<A: Allocator = Global> {
     records: Vec<MapRecord<A>, A>,
+    parts: Parts,
 }
 
 impl<A: Allocator> Model for Database<A> {
-    ghost use Rattle.std.specs.Prelude.{◌≡◌, List, Ok};
+    ghost use Rattle.std.specs.Prelude.{List};
     ghost use Rattle.lisp_records.specs.Record.{MapRecordValue};
-    ghost use Rattle.lisp_records.specs.Database.{database_of};
+    ghost use Rattle.lisp_records.specs.Database.{IsDatabase};
 
     ghost Value = { List MapRecordValue };
 
     ghost view = { λ d. d.records.items };
 
-    ghost invariant = { λ d. database_of d.records.items ≡ Ok d.records.items };
+    ghost invariant = { λ d. IsDatabase d.records.items d.parts.starts d.parts.count };
 }
 
 impl<A: Allocator> Database<A> {
     /// The records as a database, in their order; takes no memory. The refusals come in this order:
-    /// `TooLarge` (more than 255 records), `RepeatedPrefix`, `TooLarge` (more than 16,384 bytes as
-    /// they are written).
+    /// `TooLarge` (more than 1,024 records), `RepeatedPrefix`, `TooLarge` (more than 16 parts).
     pub fn new(records: Vec<MapRecord<A>, A>) -> Result<Database<A>, DatabaseFault>
     where
         A: Drop,
         ensures exact { result ≡ database_of records.items }
         ensures kept { IfOk result (λ d. d ≡ records.items) }
     {
-        if records.len() > MAX_RECORDS {
+        if records.len() > MAX_DATABASE_RECORDS {
             return Err(DatabaseFault::TooLarge);
         }
         if repeats(&records) {
             return Err(DatabaseFault::RepeatedPrefix);
         }
-        if written_size(&records) > MAX_SIZE {
+        let Some(parts) = Parts::new(&records) else {
             return Err(DatabaseFault::TooLarge);
-        }
-        Ok(Database { records })
+        };
+        Ok(Database { records, parts })
     }
 
     /// The records, in their order.
@@ -86,7 +85,7 @@ impl<A: Allocator> Database<A> {
         ensures value { result.now ≡ self.now }
         ensures fits { database_of self.now ≡ Ok self.now }
     {
-        &self.records
+        self.records.as_slice()
     }
 
     /// An equal database, in memory of `alloc`.
@@ -96,16 +95,47 @@ impl<A: Allocator> Database<A> {
         ensures memory { OnErr result B.may_refuse }
     {
         let records = copy_records(&self.records, alloc)?.into_vec();
-        Ok(Database { records })
+        Ok(Database {
+            records,
+            parts: self.parts,
+        })
     }
 
-    /// Equal records as a message carries them, in memory of `alloc`.
-    pub fn to_records<B: Memory + Copy>(&self, alloc: B) -> Result<Records<B>, AllocError>
-        ensures value { IfOk result (λ r. r ≡ self.now) }
+    /// How many parts it has: 1 to 16.
+    #[tactic(auto, using(crate::proofs::Cuts::cut_is_a_cut))]
+    pub fn parts(&self) -> usize
+        ensures value { result ≡ part_count self.now }
+        ensures few { result ≤ most_parts }
+
+        // What the type promises of every database.
+        ensures cut { IsCut self.now (cut self.now) }
+        ensures fits { database_of self.now ≡ Ok self.now }
+    {
+        self.parts.count()
+    }
+
+    /// The records of one of its parts, from 0 on.
+    #[tactic(auto, using(crate::proofs::Filling::range_fits))]
+    pub fn part(&self, part: usize) -> &[MapRecord<A>]
+        requires { part < part_count self.now }
+        ensures value { result.now ≡ part_at self.now part }
+        ensures fits { fits_message result.now ≡ true }
+    {
+        &self.records[self.parts.start(part)..self.parts.start(part + 1)]
+    }
+
+    /// Equal records to those of one of its parts, from 0 on, as a message carries them, in memory of `alloc`.
+    pub fn part_records<B: Memory + Copy>(
+        &self,
+        part: usize,
+        alloc: B,
+    ) -> Result<Records<B>, AllocError>
+        requires { part < part_count self.now }
+        ensures value { IfOk result (λ r. r ≡ part_at self.now part) }
         ensures few { IfOk result (λ r. length r < 256) }
         ensures memory { OnErr result B.may_refuse }
     {
-        copy_records(&self.records, alloc)
+        copy_records(self.part(part), alloc)
     }
 }
 
@@ -131,18 +161,6 @@ fn has_prefix<A: Allocator>(records: &[MapRecord<A>], eid: Prefix) -> bool
         }
     }
     false
-}
-
-// The bytes of the written spellings of records.
-fn written_size<A: Allocator>(records: &[MapRecord<A>]) -> usize
-    requires { length records.now ≤ 255 }
-    ensures { result ≡ size records.now }
-{
-    let mut size = 0;
-    for record in records {
-        size += record.written_len();
-    }
-    size
 }
 
 // Equal records, in memory of `alloc`.

@@ -1,11 +1,13 @@
 //! What holds of the format itself: each function's contract is a law, and its body is empty, or the constant that the
 //! law is about.
 
-ghost use Rattle.std.specs.Prelude.{◌≡◌, ◌↔◌, ℕ, List, false};
+ghost use Rattle.std.specs.Prelude.{◌≡◌, ◌↔◌, ℕ, List, false, Some, Ok};
+ghost use Rattle.std.specs.List.{Contains};
 ghost use Rattle.std.specs.List.Sorted.{IsPermutation};
 ghost use Rattle.lisp_records.specs.Address.{PrefixValue, Covers, Holds, prefix_cmp};
 ghost use Rattle.lisp_records.specs.Router.{router_cmp};
-ghost use Rattle.lisp_records.specs.Database.{repeats, PrefixesDiffer, SameIfRising, SameDatabase};
+ghost use Rattle.lisp_records.specs.Parts.{IsCut, cut, part_at, EachFitsAlone, IsInOnePart};
+ghost use Rattle.lisp_records.specs.Database.{repeats, PrefixesDiffer, SameIfRising, FitAlike, database_of, record_for, IsFoundInAPart};
 ghost use Rattle.lisp_records.specs.Moment.{max_moment};
 ghost use Rattle.lisp_records.specs.Record.{MapRecordValue, IsMapRecord};
 ghost use Rattle.lisp_records.specs.Spelling.{Spells};
@@ -68,16 +70,43 @@ pub fn distinct_prefixes()
     ensures { (ms : List MapRecordValue) → (repeats ms ≡ false) ↔ PrefixesDiffer ms }
 {}
 
-/// The same records in another order make a database too, or fail alike.
+/// Where one message can carry records, it can carry them in another order.
 #[tactic(auto, using(crate::proofs::DatabaseLaws::any_order))]
 pub fn any_order()
-    ensures { (one other : List MapRecordValue) → IsPermutation one other → SameDatabase one other }
+    ensures { (one other : List MapRecordValue) → IsPermutation one other → FitAlike one other }
 {}
 
 /// Records in rising order of their EID-Prefixes stand in one order alone.
 #[tactic(auto, using(crate::proofs::RisingLaws::one_rising_order))]
 pub fn one_rising_order()
     ensures { (one other : List MapRecordValue) → IsPermutation one other → SameIfRising one other }
+{}
+
+/// Records are cut into parts in one way alone.
+#[tactic(auto, using(crate::proofs::Cuts::cuts_are_one))]
+pub fn cuts_are_one()
+    ensures { (ms : List MapRecordValue) (one other : List (List MapRecordValue)) → IsCut ms one → IsCut ms other → one ≡ other }
+{}
+
+/// Records that each fit a message alone are cut by `cut`.
+#[tactic(auto, using(crate::proofs::Cuts::cut_is_a_cut))]
+pub fn cut_is_a_cut()
+    ensures { (ms : List MapRecordValue) → EachFitsAlone ms → IsCut ms (cut ms) }
+{}
+
+/// Each record of a database is in one of its parts, and in no other.
+pub fn each_record_is_in_one_part()
+    ensures { (ms : List MapRecordValue) (m : MapRecordValue) → database_of ms ≡ Ok ms → Contains ms m → IsInOnePart ms m }
+{}
+
+/// What one part of a database has for an EID-Prefix, the database has.
+pub fn part_look_up()
+    ensures { (ms : List MapRecordValue) (part : ℕ) (eid : PrefixValue) (m : MapRecordValue) → database_of ms ≡ Ok ms → record_for (part_at ms part) eid ≡ Some m → record_for ms eid ≡ Some m }
+{}
+
+/// What a database has for an EID-Prefix, one of its parts has.
+pub fn look_up_in_a_part()
+    ensures { (ms : List MapRecordValue) (eid : PrefixValue) (m : MapRecordValue) → database_of ms ≡ Ok ms → record_for ms eid ≡ Some m → IsFoundInAPart ms eid m }
 {}
 
 /// `MAX_MOMENT` is 2^62 ms.

@@ -1,32 +1,38 @@
 -- What is asked of a node of a network that stands for a trace, at the network's clock.
-use Rattle.std.proofs.Common.{◌≡◌, ℕ, suc, ◌+◌, nat_le, Bool, List, [], ◌∷◌, length, map, Option, Some, None, refl, sym, ap, subst, ◌∙◌, arith}
+use Rattle.std.proofs.Common.{◌≡◌, ℕ, ◌+◌, nat_le, List, [], length, take, Option, Some, None, refl, sym, ap, subst, ◌∙◌, arith}
 use Rattle.std.specs.Prelude.{slice_get}
 use Rattle.std.specs.List.{position}
-use Rattle.std.specs.Option.{option_map, option_and_then}
+use Rattle.std.specs.Option.{option_map, unwrap_or}
 use Rattle.std.proofs.lemmas.Option.{slice_get_within}
 use Rattle.lisp_records.specs.declared.address.Addr.{Addr}
 use Rattle.lisp_records.specs.declared.router.RouterId.{RouterId}
+use Rattle.lisp_records.specs.Parts.{part_count}
+use Rattle.lisp_records.specs.Record.{MapRecordValue}
 use Rattle.lisp_records.specs.Row.{RowValue}
 use Rattle.lisp_policy.specs.Site.{SiteValue}
 use Rattle.lisp_lookup.specs.declared.answer.Answer.{Answer}
 use Rattle.lisp_lookup.specs.Answer.{Answers}
 use Rattle.lisp_lookup.specs.Table.{row_at, OneEach, IsHeld}
 use Rattle.lisp_etr.specs.Etr.{EtrState}
+use Rattle.lisp_etr.specs.Rounds.{due_part as router_part}
 use Rattle.lisp_etr.specs.declared.round.Round.{Round}
+use Rattle.lisp_etr.specs.declared.rounds.Rounds.{Rounds}
 use Rattle.lisp_admission.specs.NoticeTimer.{gaps, due_after, has_come}
 use Rattle.lisp_server.specs.Notices.{StandingNoticeValue, notice_at, due_at, is_due_at, IsDueRouter}
 use Rattle.lisp_model.specs.Trace.{Step, Opening, router_at, clock}
 use Rattle.lisp_model.specs.Held.{accepted_rows, rows}
 use Rattle.lisp_model.specs.Answer.{IsAnswer}
-use Rattle.lisp_model.specs.Timers.{Notice, due, notice_to, is_due}
+use Rattle.lisp_model.specs.Counted.{acked}
+use Rattle.lisp_model.specs.Numbers.{part_numbers}
+use Rattle.lisp_model.specs.Timers.{Notice, due, due_part, notice_to, is_due}
 use Rattle.lisp_model.specs.Bag.{since_start}
 use Rattle.lisp_model.proofs.RowLaws.{rows_are_held}
 use Rattle.lisp_refinement.specs.World.{ServerNodeState, RouterNodeState, RouterCoreState, Up, WorldState}
-use Rattle.lisp_refinement.specs.Stands.{IsStanding, SameNotice, StandsForServer, StandsForCore, StandsForEtr, Stands}
+use Rattle.lisp_refinement.specs.Stands.{IsStanding, SameNotice, StandsForServer, StandsForCore, StandsForRounds, StandsForEtr, Stands}
 use Rattle.lisp_refinement.specs.Asked.{IsNextNotice, ServerTells, RouterTells}
 use Rattle.lisp_refinement.proofs.Gets.{get_within}
 use Rattle.lisp_refinement.proofs.HeldLists.{one_held, held_alike, answers_listed}
-use Rattle.lisp_refinement.proofs.Places.{position_map}
+use Rattle.lisp_refinement.proofs.PartLists.{list_by_parts, first_by_parts, first_alike}
 
 -- a Map-Server that stands for a trace
 module _ (o : Opening) (T : List Step) (k : ℕ) (n : ServerNodeState) (part : StandsForServer o T k n) where
@@ -81,48 +87,38 @@ pub servers_tell : (A : Type 0) (w : WorldState) (o : Opening) (T : List Step) �
 servers_tell A w o T stand k n at =
     subst (λ (now : ℕ). ServerTells A o T k n.core now) (sym stand.bag.moment) (server_tells o T k n (stand.servers k n at) A)
 
--- two lists of one length, with a test for each
-module _ {X Y : Type 0} (p : X → Bool) (q : Y → Bool) where
-  -- the tests agree at each place of both
-  abbrev Agree : List X → List Y → Type 0
-  Agree xs ys = (i : ℕ) (x : X) (y : Y) → slice_get xs i ≡ Some x → slice_get ys i ≡ Some y → p x ≡ q y
-
-  -- where they do, their answers are one list
-  same_answers : (xs : List X) (ys : List Y) → length xs ≡ length ys → Agree xs ys → map p xs ≡ map q ys
-  same_answers [] [] count agree = refl
-  same_answers [] (y ∷ ys) count agree = absurd (omega (arith, count))
-  same_answers (x ∷ xs) [] count agree = absurd (omega (arith, count))
-  same_answers (x ∷ xs) (y ∷ ys) count agree =
-      let heads : p x ≡ q y = agree 0 x y refl refl in
-      let tails : map p xs ≡ map q ys = same_answers xs ys (omega (arith, count)) (λ i. agree (suc i)) in
-      λ i. heads i ∷ tails i
-
-  -- and the first place that passes is one
-  same_place : (xs : List X) (ys : List Y) → length xs ≡ length ys → Agree xs ys → position p xs ≡ position q ys
-  same_place xs ys count agree =
-      sym (position_map (λ b. b) p xs) ∙ ap (position (λ b. b)) (same_answers xs ys count agree) ∙ position_map (λ b. b) q ys
-
 -- a router that is up and stands for a trace
 module _ (o : Opening) (T : List Step) (router : ℕ) (etr : EtrState) (part : StandsForEtr o T router etr) where
   -- its Map-Servers
   abbrev servers : List ℕ
   servers = (router_at o.config router).servers
 
-  -- the round of each
-  its_round : (place server : ℕ) → slice_get servers place ≡ Some server → (r : Round) × (slice_get etr.rounds place ≡ Some r)
-  its_round place server listed =
+  -- the rounds with each
+  its_rounds : (place server : ℕ) → slice_get servers place ≡ Some server → (rs : Rounds) × (slice_get etr.rounds place ≡ Some rs)
+  its_rounds place server listed =
       let low = slice_get_within servers place server listed in
       let count = part.count in
       get_within etr.rounds place (omega (arith, low, count))
+
+  -- a round is due when the trace's is
+  round_due : (server : ℕ) (rs : Rounds) → StandsForRounds T router server rs → (number : ℕ) (r : Round) → slice_get rs.parts number ≡ Some r → nat_le r.due (clock T) ≡ nat_le (due T router server number) (clock T)
+  round_due server rs stand number r at = ap (λ (moment : ℕ). nat_le moment (clock T)) (stand.round number r at).keeps.due
+
+  -- so the first part that is due is the trace's
+  part_due : (place : ℕ) (rs : Rounds) (server : ℕ) → slice_get etr.rounds place ≡ Some rs → slice_get servers place ≡ Some server → router_part (clock T) (part_count etr.database) rs ≡ due_part o T router server
+  part_due place rs server at listed =
+      let stand = part.rounds place server rs listed at in
+      first_by_parts (λ (r : Round). nat_le r.due (clock T)) (λ number. nat_le (due T router server number) (clock T)) (part_count etr.database) rs.parts stand.parts (round_due server rs stand)
+      ∙ ap (λ (db : List MapRecordValue). position (λ number. nat_le (due T router server number) (clock T)) (take (part_count db) part_numbers)) part.database
 
   -- what it tells at the moment of the trace
   router_tells : RouterTells o T router etr (clock T)
   router_tells = record {
     acked = λ place server listed. (
-        let its = its_round place server listed in
-        ap (option_and_then (λ (round : Round). round.acked)) its.1 ∙ (part.rounds place server its.0 listed its.1).acked);
-    due = same_place (λ (round : Round). nat_le round.due (clock T)) (λ (server : ℕ). nat_le (due T router server) (clock T)) etr.rounds servers part.count
-        (λ place round server at listed. ap (λ (moment : ℕ). nat_le moment (clock T)) (part.rounds place server round listed at).keeps.due);
+        let its = its_rounds place server listed in
+        let stand = part.rounds place server its.0 listed its.1 in
+        ap (λ (all : Option Rounds). unwrap_or (option_map (λ (rs : Rounds). rs.acked) all) []) its.1 ∙ list_by_parts (acked T router server) its.0.acked stand.acked_parts stand.acked);
+    due = first_alike (router_part (clock T) (part_count etr.database)) (due_part o T router) etr.rounds servers part.count part_due;
     database = part.database;
   }
 

@@ -4,9 +4,11 @@ use Rattle.std.specs.Prelude.{slice_get}
 use Rattle.std.proofs.lemmas.List.{length-map}
 use Rattle.lisp_records.specs.Record.{MapRecordValue}
 use Rattle.lisp_nonces.specs.Kept.{kept_at, NoneBelow}
-use Rattle.lisp_etr.specs.Etr.{EtrState}
+use Rattle.lisp_etr.specs.Etr.{EtrState, etr_changed}
 use Rattle.lisp_etr.specs.Round.{KeepsRoundTime, new_round}
+use Rattle.lisp_etr.specs.Rounds.{new_rounds}
 use Rattle.lisp_etr.specs.declared.round.Round.{Round}
+use Rattle.lisp_etr.specs.declared.rounds.Rounds.{Rounds}
 use Rattle.lisp_etr.proofs.TimerLaws.{rounds_keep_time}
 use Rattle.lisp_model.specs.declared.event.Event.TheVariants as events
 use Rattle.lisp_model.specs.declared.line.Line.{Line}
@@ -18,9 +20,10 @@ use Rattle.lisp_model.specs.Sending.{pair_at}
 use Rattle.lisp_model.specs.Legal.{Legal}
 use Rattle.lisp_refinement.specs.World.{RouterNodeState, RouterCoreState, Up, Down, WorldState}
 use Rattle.lisp_refinement.specs.Events.{NetworkChanges, changed_core, change_line}
-use Rattle.lisp_refinement.specs.Stands.{Shows, StandsForRound, StandsForEtr, StandsForCore, StandsForRouter, Stands, StandsAfter}
+use Rattle.lisp_refinement.specs.Stands.{Shows, StandsForRound, StandsForRounds, StandsForEtr, StandsForCore, StandsForRouter, Stands, StandsAfter}
 use Rattle.lisp_refinement.proofs.Gets.{get_mapped}
 use Rattle.lisp_refinement.proofs.Going.{here}
+use Rattle.lisp_refinement.proofs.PartRounds.{rounds_become}
 use Rattle.lisp_refinement.proofs.Acting.{adds_none, router_is, router_stands, router_shows, router_acts}
 
 -- the step of a change, which leaves the store
@@ -67,29 +70,29 @@ module _ (old new : WorldState) (router : ℕ) (db : List MapRecordValue) (line 
     }
 
     -- a new round has begun
-    begun_round : (server : ℕ) (x : Round) → StandsForRound T router server x → StandsForRound (up_step ∷ T) router server (new_round old.clock x)
-    begun_round server x was = record {
-      keeps = subst (λ (y : RoundTimes). KeepsRoundTime (new_round old.clock x) y.begin y.moments) (sym (here router _ (round T router server)))
+    begun_round : (server place : ℕ) (x : Round) → StandsForRound T router server place x → StandsForRound (up_step ∷ T) router server place (new_round old.clock x)
+    begun_round server place x was = record {
+      keeps = subst (λ (y : RoundTimes). KeepsRoundTime (new_round old.clock x) y.begin y.moments) (sym (here router _ (round T router server place)))
           (subst (λ a. KeepsRoundTime (new_round old.clock x) a []) stand.bag.moment (rounds_keep_time.begin old.clock x));
       latest = was.latest;
-      acked = was.acked;
     }
 
     -- each of its rounds is such a one
-    round_stands : (i server : ℕ) (r : Round) → slice_get (router_at o.config router).servers i ≡ Some server → slice_get (map (new_round old.clock) e.rounds) i ≡ Some r → StandsForRound (up_step ∷ T) router server r
-    round_stands i server r lists has = let was = get_mapped (new_round old.clock) e.rounds i r has in
-        subst (λ (x : Round). StandsForRound (up_step ∷ T) router server x) was.2 (begun_round server was.0 (part.rounds i server was.0 lists was.1))
+    rounds_stand : (i server : ℕ) (rs : Rounds) → slice_get (router_at o.config router).servers i ≡ Some server → slice_get (map (new_rounds old.clock) e.rounds) i ≡ Some rs → StandsForRounds (up_step ∷ T) router server rs
+    rounds_stand i server rs lists has = let was = get_mapped (new_rounds old.clock) e.rounds i rs has in
+        subst (λ (x : Rounds). StandsForRounds (up_step ∷ T) router server x) was.2
+        (rounds_become T router server was.0 (part.rounds i server was.0 lists was.1) (up_step ∷ T) (λ place. refl) (new_round old.clock) (begun_round server))
 
     -- the router stands with its new database
-    up_part : StandsForEtr o (up_step ∷ T) router (record e { database = db; rounds = map (new_round old.clock) e.rounds })
+    up_part : StandsForEtr o (up_step ∷ T) router (etr_changed e db old.clock)
     up_part = record {
       up = part.up;
       config = part.config;
       database = sym (here router db _);
       last = part.last;
       safe = subst (λ (x : ShownStore). NoneBelow e.safe (kept_at x.kept (pair_at o T router))) (sym (shown_same (lines.Changed router (length db)))) part.safe;
-      count = length-map e.rounds (new_round old.clock) ∙ part.count;
-      rounds = round_stands;
+      count = length-map e.rounds (new_rounds old.clock) ∙ part.count;
+      rounds = rounds_stand;
     }
 
   -- the step of a router that is down is legal

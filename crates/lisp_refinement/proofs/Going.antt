@@ -29,6 +29,7 @@ use Rattle.lisp_model.proofs.Locality.{same_number}
 use Rattle.lisp_refinement.specs.World.{ServerNodeState, RouterCoreState, Up, Down, UsedKeysState, RouterNodeState}
 use Rattle.lisp_refinement.specs.Stands.{StandsForRound, StandsForEtr, StandsForCore, Marks, StandsForKeys, StandsForRouter, SameNotice, StandsForServer}
 use Rattle.lisp_refinement.proofs.Gets.{get_before}
+use Rattle.lisp_refinement.proofs.PartRounds.{rounds_stay}
 
 -- what a step says of the node that it names
 pub here : {X : Type 0} (node : ℕ) (new old : X) → (if node == node then new else old) ≡ new
@@ -93,11 +94,10 @@ module _ (o : Opening) (T U : List Step) (k : ℕ) (n : ServerNodeState) (stand 
 -- a router
 module _ (o : Opening) (T U : List Step) (k : ℕ) (same : SameRouter o T U k) where
   -- each of its rounds goes on to stand
-  round_stays : (server : ℕ) (r : Round) → StandsForRound T k server r → StandsForRound U k server r
-  round_stays server r stand = record {
-    keeps = subst (λ (x : RoundTimes). KeepsRoundTime r x.begin x.moments) (sym (same.round server)) stand.keeps;
-    latest = stand.latest ∙ sym (same.latest server);
-    acked = stand.acked ∙ sym (same.acked server);
+  round_stays : (server part : ℕ) (r : Round) → StandsForRound T k server part r → StandsForRound U k server part r
+  round_stays server part r stand = record {
+    keeps = subst (λ (x : RoundTimes). KeepsRoundTime r x.begin x.moments) (sym (same.round server part)) stand.keeps;
+    latest = stand.latest ∙ sym (same.latest server part);
   }
 
   -- so do the numbers that it counts from
@@ -124,7 +124,7 @@ module _ (o : Opening) (T U : List Step) (k : ℕ) (same : SameRouter o T U k) w
     last = (stand.last.0, counts_stay stand.last.0 stand.last.1, stand.last.2);
     safe = subst (λ (p : ShownStore × EtrConfigValue). NoneBelow e.safe (kept_at p.0.kept (sent_pair p.1))) (λ i. (sym same.shown i, sym config_stays i)) stand.safe;
     count = stand.count;
-    rounds = λ i server r lists has. round_stays server r (stand.rounds i server r lists has);
+    rounds = λ i server rs lists has. rounds_stay T k server rs (stand.rounds i server rs lists has) U (same.acked server) (round_stays server);
   }
 
   -- up or down

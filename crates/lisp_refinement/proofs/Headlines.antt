@@ -1,6 +1,7 @@
 -- The headline, from the laws of legal traces and from what the nodes tell.
-use Rattle.std.proofs.Common.{◌≡◌, ℕ, ◌+◌, ◌-◌, List, [], ◌∷◌, Option, Some, None, Bool, true, false, refl, sym, ap, subst, ◌∙◌, length, arith}
+use Rattle.std.proofs.Common.{◌≡◌, ℕ, ◌+◌, ◌-◌, List, [], ◌∷◌, map, Option, Some, None, Bool, true, false, refl, sym, ap, subst, ◌∙◌, length, arith}
 use Rattle.std.proofs.lemmas.Bool.{ltb-false}
+use Rattle.std.proofs.lemmas.Bool.Decides.{Decides-eqb}
 use Rattle.std.specs.Prelude.{◌==◌, ◌&&◌, ◌≤◌, nat_lt, slice_get, if◌then◌else◌}
 use Rattle.std.specs.List.{Contains}
 use Rattle.std.specs.Option.{option_map, option_and_then}
@@ -15,22 +16,25 @@ use Rattle.lisp_model.specs.declared.line.Line.TheVariants as lines
 use Rattle.lisp_model.specs.Trace.{Step, Opening, clock}
 use Rattle.lisp_model.specs.Held.{accepted_rows, held_row, rows}
 use Rattle.lisp_model.specs.Bag.{since_start}
-use Rattle.lisp_model.specs.Counted.{counted_nonces_after, counted_nonces, acked_after, acked}
+use Rattle.lisp_model.specs.Counted.{Acknowledged, counted_nonces_after, counted_nonces, acked_after, acked}
 use Rattle.lisp_model.specs.Clean.{Clean}
 use Rattle.lisp_model.specs.Legal.{LegalTrace}
 use Rattle.lisp_model.specs.Network.{IsNetwork}
+use Rattle.lisp_model.specs.Numbers.{part_numbers}
 use Rattle.lisp_model.specs.Promises.{ReplaysAreTried, DoneWasNoticed}
 use Rattle.lisp_model.proofs.RisingLaws.{nonces_rise, replays_tried}
 use Rattle.lisp_model.proofs.NoticeRising.{notice_nonces_rise}
 use Rattle.lisp_model.proofs.CleanLaws as clean_laws
+use Rattle.lisp_model.proofs.ListLemmas.{in_tail}
 use Rattle.lisp_model.proofs.RowLaws.{rows_are_held}
 use Rattle.lisp_refinement.specs.World.{WorldState, ServerNodeState, RouterNodeState, RouterCoreState, Up, Down}
 use Rattle.lisp_refinement.specs.Nodes.{up_in, etr_at}
 use Rattle.lisp_refinement.specs.Stands.{Stands}
 use Rattle.lisp_refinement.specs.Headline.{Lists, ListedWasSent, ListedAgree, CountsAreAccepted, OfEachStep, OverClean, Promises}
 use Rattle.lisp_refinement.specs.Asked.{RouterTells}
-use Rattle.lisp_refinement.proofs.Gets.{none_is_some, same_some}
+use Rattle.lisp_refinement.proofs.Gets.{none_is_some, same_some, get_mapped}
 use Rattle.lisp_refinement.proofs.HeldLists.{kept_alive}
+use Rattle.lisp_refinement.proofs.PartLists.{number_of_part}
 use Rattle.lisp_refinement.proofs.Asking.{servers_tell, routers_tell}
 
 -- each step of a legal trace has what each legal step has
@@ -43,34 +47,38 @@ notices_in o [] network legal clean = tt
 notices_in o (s ∷ T) network legal clean = (clean_laws.done_was_noticed o T s network legal clean, notices_in o T network legal.1 clean.1)
 
 -- a router that starts has counted nothing yet
-started_last : (b : Bool) (key nonce : ℕ) (old : Option (ℕ × ℕ)) (all : List (ℕ × ℕ)) → (old ≡ Some (key, nonce) → Contains all (key, nonce))
-    → (if b then None else old) ≡ Some (key, nonce) → Contains all (key, nonce)
-started_last true key nonce old all before last = absurd (none_is_some last)
-started_last false key nonce old all before last = before last
+started_last : (b : Bool) (part key nonce : ℕ) (old : Option (ℕ × ℕ)) (all : List Acknowledged) → (old ≡ Some (key, nonce) → Contains all (record { part = part; key = key; nonce = nonce }))
+    → (if b then None else old) ≡ Some (key, nonce) → Contains all (record { part = part; key = key; nonce = nonce })
+started_last true part key nonce old all before last = absurd (none_is_some last)
+started_last false part key nonce old all before last = before last
 
--- what was counted last was counted
-counted_last : (router server key nonce : ℕ) (line : Line) (old : Option (ℕ × ℕ)) (all : List (ℕ × ℕ))
-    → (old ≡ Some (key, nonce) → Contains all (key, nonce))
-    → acked_after line router server old ≡ Some (key, nonce) → Contains (counted_nonces_after line router server all) (key, nonce)
-counted_last router server key nonce (lines.Counted r s k n) old all before last = by (router_is && server_is) last
+-- what was counted last of a part was counted
+counted_last : (router server part key nonce : ℕ) (line : Line) (old : Option (ℕ × ℕ)) (all : List Acknowledged)
+    → (old ≡ Some (key, nonce) → Contains all (record { part = part; key = key; nonce = nonce }))
+    → acked_after line router server part old ≡ Some (key, nonce) → Contains (counted_nonces_after line router server all) (record { part = part; key = key; nonce = nonce })
+counted_last router server part key nonce (lines.Counted r s p k n) old all before last = by (r == router && s == server) (p == part) refl last
   where
-    router_is : Bool
-    router_is = r == router
+    by : (b c : Bool) → (p == part) ≡ c → (if b && c then Some (k, n) else old) ≡ Some (key, nonce)
+        → Contains (if b then record { part = p; key = k; nonce = n } ∷ all else all) (record { part = part; key = key; nonce = nonce })
+    by true true is last =
+        let same : p ≡ part = (Decides-eqb p part).0 is in
+        let pair : ◌≡◌ {A = ℕ × ℕ} (k, n) (key, nonce) = same_some (k, n) (key, nonce) last in
+        (0, omega arith, λ i. record { part = same i; key = (pair i).0; nonce = (pair i).1 })
+    by true false is last = in_tail (record { part = p; key = k; nonce = n }) all (record { part = part; key = key; nonce = nonce }) (before last)
+    by false c is last = before last
+counted_last router server part key nonce (lines.Restarted node) old all before last = started_last (node == router) part key nonce old all before last
+counted_last router server part key nonce (lines.Emptied node under) old all before last = started_last (node == router) part key nonce old all before last
+counted_last router server part key nonce _ old all before last = before last
 
-    server_is : Bool
-    server_is = s == server
+was_counted : (T : List Step) (router server part key nonce : ℕ) → acked T router server part ≡ Some (key, nonce) → Contains (counted_nonces T router server) (record { part = part; key = key; nonce = nonce })
+was_counted [] router server part key nonce last = absurd (none_is_some last)
+was_counted (s ∷ T) router server part key nonce last =
+    counted_last router server part key nonce s.line (acked T router server part) (counted_nonces T router server) (was_counted T router server part key nonce) last
 
-    by : (b : Bool) → (if b then Some (k, n) else old) ≡ Some (key, nonce) → Contains (if b then (k, n) ∷ all else all) (key, nonce)
-    by true last = (0, omega arith, same_some (k, n) (key, nonce) last)
-    by false last = before last
-counted_last router server key nonce (lines.Restarted node) old all before last = started_last (node == router) key nonce old all before last
-counted_last router server key nonce (lines.Emptied node under) old all before last = started_last (node == router) key nonce old all before last
-counted_last router server key nonce _ old all before last = before last
-
-was_counted : (T : List Step) (router server key nonce : ℕ) → acked T router server ≡ Some (key, nonce) → Contains (counted_nonces T router server) (key, nonce)
-was_counted [] router server key nonce last = absurd (none_is_some last)
-was_counted (s ∷ T) router server key nonce last =
-    counted_last router server key nonce s.line (acked T router server) (counted_nonces T router server) (was_counted T router server key nonce) last
+-- the part at a place of such a list is the place
+of_part : (T : List Step) (router server part : ℕ) (pair : Option (ℕ × ℕ)) → slice_get (map (acked T router server) part_numbers) part ≡ Some pair → acked T router server part ≡ pair
+of_part T router server part pair at = let was = get_mapped (acked T router server) part_numbers part pair at in
+    ap (acked T router server) (sym (number_of_part part was.0 was.1)) ∙ was.2
 
 -- the node of a core that is there
 node_of : (found : Option ServerNodeState) (core : ServerState) → option_map (λ (n : ServerNodeState). n.core) found ≡ Some core
@@ -140,12 +148,12 @@ module _ (w : WorldState) (o : Opening) (T : List Step) (stand : Stands w o T) w
         subst (λ (k : RouterId × PrefixValue). held_row (since_start o T one) k.0 k.1 (clock T) ≡ Some g) (λ i. (router i, eid i)) sent.latest in
         clean_laws.held_agree o T network legal clean one other h.router h.mapping.eid g h d e first sent'.latest sent.sent sent'.sent sent.of sent'.of none
 
-    -- what a router counted last was accepted
+    -- what a router counted last of a part was accepted
     counts_are_accepted : CountsAreAccepted w o T
-    counts_are_accepted router place key nonce server listed counts =
+    counts_are_accepted router place part key nonce server listed counts =
         let tells = router_tells router counts.core counts.running in
-        let last = was_counted T router server key nonce (sym (tells.acked place server listed) ∙ counts.counted) in
-        clean_laws.counted_was_accepted o T network legal clean router server key nonce last
+        let last = of_part T router server part (Some (key, nonce)) (ap (λ (all : List (Option (ℕ × ℕ))). slice_get all part) (sym (tells.acked place server listed)) ∙ counts.counted) in
+        clean_laws.counted_was_accepted o T network legal clean router server (record { part = part; key = key; nonce = nonce }) (was_counted T router server part key nonce last)
 
     over_clean : OverClean w o T
     over_clean = record {

@@ -1,10 +1,8 @@
 -- What arrives at a router: the row of its line, and what stands of the router afterwards.
 use Rattle.std.proofs.Common.{◌≤◌, ◌≡◌, ℕ, Bool, true, false, List, [], ◌∷◌, ◌++◌, length, Option, Some, None, Result, Ok, Err, refl, sym, ap, subst, inl, inr, ◌∙◌, arith}
-use Rattle.std.specs.Prelude.{◌≢◌, ◌⊎◌, ◌==◌, not, nat_le, slice_get, slice_set, slice_index_or, IfOk, IsErrOf, if◌then◌else◌}
+use Rattle.std.specs.Prelude.{◌≢◌, ◌⊎◌, nat_le, slice_get, slice_set, slice_index_or, IfOk, IsErrOf, if◌then◌else◌}
 use Rattle.std.specs.List.{AllPairs, position}
 use Rattle.std.specs.Option.{option_map, option_to_list}
-use Rattle.std.proofs.lemmas.Bool.{and_parts}
-use Rattle.std.proofs.lemmas.Bool.Decides.{Decides-eqb}
 use Rattle.std.proofs.lemmas.List.{length-set}
 use Rattle.std.proofs.lemmas.Option.{slice_get_within, slice_get-get_or, get_or_from_slice_get}
 use Rattle.lisp_records.specs.declared.address.Addr.{Addr}
@@ -20,11 +18,11 @@ use Rattle.lisp_nonces.specs.Kept.{kept_at, NoneBelow}
 use Rattle.lisp_nonces.specs.Store.{StoreState}
 use Rattle.lisp_etr.specs.Config.{EtrConfigValue, sent_pair}
 use Rattle.lisp_etr.specs.Etr.{EtrState}
-use Rattle.lisp_etr.specs.Hearing.{Gives, ServerNotify, AnswerFits, HearsNotice, TakesMemory, ack_of, checked_notify, server_at, notify_from as heard_of, first_notice, round_at, is_latest, notice_in, counted_in, seen_in, seen_at, etr_after as left_after}
-use Rattle.lisp_etr.specs.Round.{first_round, round_after_count}
+use Rattle.lisp_etr.specs.Hearing.{Gives, ServerNotify, AnswerFits, HearsNotice, TakesMemory, ack_of, checked_notify, server_at, notify_from as heard_of, first_notice, notice_in, counted_as, counted_in, seen_in, seen_at, etr_after as left_after}
+use Rattle.lisp_etr.specs.Rounds.{round_of, rounds_after_count, latest_of, part_with, greatest, rounds_at}
 use Rattle.lisp_etr.specs.declared.notify_fault.NotifyFault.{NotifyFault}
 use Rattle.lisp_etr.specs.declared.notify_fault.NotifyFault.TheVariants as faults
-use Rattle.lisp_etr.specs.declared.round.Round.{Round}
+use Rattle.lisp_etr.specs.declared.rounds.Rounds.{Rounds}
 use Rattle.lisp_etr.specs.declared.seen.Seen.{Seen}
 use Rattle.lisp_etr.specs.declared.seen.Seen.TheVariants.{Counted}
 use Rattle.lisp_model.specs.declared.event.Event.TheVariants as events
@@ -33,17 +31,18 @@ use Rattle.lisp_model.specs.declared.line.Line.TheVariants as lines
 use Rattle.lisp_model.specs.Trace.{EventValue, ShownStore, Step, Opening, fate_of, address_at, is_router, router_at, etr_config_under, etr_config, key, key_after, database, shown_store, is_up, up_after, database_after}
 use Rattle.lisp_model.specs.Keys.{keys_since_loss, keys_since_loss_after, keys_before_loss, keys_before_loss_after}
 use Rattle.lisp_model.specs.Bag.{Arrival, bytes_of, as_notify, ack_item, arrival_in, items_added, past, bag}
-use Rattle.lisp_model.specs.Counted.{server_from, notify_at, latest_nonce}
-use Rattle.lisp_model.specs.Hearing.{refused_with, counted_line, line_of, IsToAnswer, Hears}
+use Rattle.lisp_model.specs.Counted.{server_from, notify_at, latest_nonces}
+use Rattle.lisp_model.specs.Hearing.{refused_with, counted_line, counted_or_stale, line_of, IsToAnswer, Hears}
 use Rattle.lisp_model.specs.Legal.{Arrives}
 use Rattle.lisp_model.specs.Sending.{last_sent, start_values}
 use Rattle.lisp_model.specs.Context.{Context, IsBase}
 use Rattle.lisp_refinement.specs.World.{DatagramValue, UsedKeysState, RouterNodeState, RouterCoreState, Up, Down, WorldState}
 use Rattle.lisp_refinement.specs.Calls.{CoreHears as HearsAs, UsesStore}
 use Rattle.lisp_refinement.specs.Events.{address_of, server_number, router_line, acknowledges, UpRouterHears, RouterHears, ArrivesAtRouter}
-use Rattle.lisp_refinement.specs.Stands.{Shows, Carries, StandsForRound, StandsForEtr, StandsForCore, Marks, StandsForKeys, StandsForRouter, Stands}
+use Rattle.lisp_refinement.specs.Stands.{Shows, Carries, StandsForRounds, StandsForEtr, StandsForCore, Marks, StandsForKeys, StandsForRouter, Stands}
 use Rattle.lisp_refinement.proofs.Acting.{adds_none, adds_one, Shown-in, uses_shown, address_is}
 use Rattle.lisp_refinement.proofs.HeardAlike.{Both, SameHeard, Alike, alike}
+use Rattle.lisp_refinement.proofs.PartRounds.{latest_known, rounds_stay, found_part}
 use Rattle.lisp_refinement.proofs.Places.{Placed, first_place, position_map}
 use Rattle.lisp_refinement.proofs.RouterEvents.{step_of, turn_at, shown_now, RouterStep, moved, acts_router, acts_part, acts_shows, acts_once}
 use Rattle.lisp_refinement.proofs.RouterRounds.{counted_here, counted_there, rounds_set}
@@ -111,17 +110,17 @@ module _ {A : Type 0} (e : EtrState) (h : ServerNotify) where
   unfolding seen_in
   seen_notice high = ap (λ b. if b then Ok (notice_in e.config h) else counted_in e.rounds h.server h.message.nonce) high
 
-  -- the last nonce to that server counts
-  seen_counted : nat_le first_notice h.message.nonce ≡ false → is_latest h.message.nonce (round_at e.rounds h.server).latest ≡ true → seen_in {A = A} e h ≡ Ok (Counted h.server h.message.nonce)
+  -- the last nonce of a part to that server counts
+  seen_counted : nat_le first_notice h.message.nonce ≡ false → (place : ℕ) → part_with h.message.nonce (latest_of (rounds_at e.rounds h.server)) ≡ Some place → seen_in {A = A} e h ≡ Ok (Counted h.server place h.message.nonce)
   unfolding seen_in
-  seen_counted low last = ap (λ b. if b then Ok (notice_in e.config h) else counted_in e.rounds h.server h.message.nonce) low
-      ∙ ap (λ b. if b then Ok (Counted h.server h.message.nonce) else Err (faults.Stale (round_at e.rounds h.server).latest)) last
+  seen_counted low place last = ap (λ b. if b then Ok (notice_in e.config h) else counted_in e.rounds h.server h.message.nonce) low
+      ∙ ap (counted_as h.server h.message.nonce (latest_of (rounds_at e.rounds h.server))) last
 
   -- any other is stale
-  seen_stale : nat_le first_notice h.message.nonce ≡ false → is_latest h.message.nonce (round_at e.rounds h.server).latest ≡ false → seen_in {A = A} e h ≡ Err (faults.Stale (round_at e.rounds h.server).latest)
+  seen_stale : nat_le first_notice h.message.nonce ≡ false → part_with h.message.nonce (latest_of (rounds_at e.rounds h.server)) ≡ None → seen_in {A = A} e h ≡ Err (faults.Stale (greatest (latest_of (rounds_at e.rounds h.server))))
   unfolding seen_in
   seen_stale low last = ap (λ b. if b then Ok (notice_in e.config h) else counted_in e.rounds h.server h.message.nonce) low
-      ∙ ap (λ b. if b then Ok (Counted h.server h.message.nonce) else Err (faults.Stale (round_at e.rounds h.server).latest)) last
+      ∙ ap (counted_as h.server h.message.nonce (latest_of (rounds_at e.rounds h.server))) last
 
 -- a place and its element are both there, or neither
 both_of : {X : Type 0} (xs : List X) (p : Option ℕ) (q : Option X) → Placed xs p q → Both p q
@@ -160,9 +159,9 @@ module _ (A : Type 0) (old : WorldState) (o : Opening) (T : List Step) (stand : 
   hears_row line comes = record { acts = record { kind = kind; acts = refl; state = own.up }; same = refl; comes = comes }
 
   -- the router goes on, with other rounds at most
-  goes_on : (line : Line) (rounds : List Round) → last_sent (step line ∷ T) node ≡ last_sent T node → start_values o (step line ∷ T) node ≡ start_values o T node → length rounds ≡ length e.rounds
-      → ((i k : ℕ) (r : Round) → slice_get servers i ≡ Some k → slice_get rounds i ≡ Some r → StandsForRound (step line ∷ T) node k r) → StandsForEtr o (step line ∷ T) node (record e { rounds = rounds })
-  goes_on line rounds last start count each = record {
+  goes_on : (line : Line) (all : List Rounds) → last_sent (step line ∷ T) node ≡ last_sent T node → start_values o (step line ∷ T) node ≡ start_values o T node → length all ≡ length e.rounds
+      → ((i k : ℕ) (rs : Rounds) → slice_get servers i ≡ Some k → slice_get all i ≡ Some rs → StandsForRounds (step line ∷ T) node k rs) → StandsForEtr o (step line ∷ T) node (record e { rounds = all })
+  goes_on line all last start count each = record {
     up = same_up event arrival line node (is_up T node) ∙ own.up;
     config = own.config ∙ sym (config_heard o T event arrival node (shown_store o T node) line);
     database = own.database ∙ sym (same_database event arrival line node (database o T node));
@@ -185,7 +184,7 @@ module _ (A : Type 0) (old : WorldState) (o : Opening) (T : List Step) (stand : 
     obedient = refl;
     adds = adds_none o T (step (refused_with turn fault)) refl;
     shows = shows;
-    part = router_part (refused_with turn fault) e (goes_on (refused_with turn fault) e.rounds refl refl refl (λ i k r listed is. let was = own.rounds i k r listed is in record { keeps = was.keeps; latest = was.latest; acked = was.acked }));
+    part = router_part (refused_with turn fault) e (goes_on (refused_with turn fault) e.rounds refl refl refl (λ i k rs listed is. rounds_stay T node k rs (own.rounds i k rs listed is) (step (refused_with turn fault) ∷ T) (λ p. refl) (λ p r was. record { keeps = was.keeps; latest = was.latest })));
   }
 
   -- a Map-Notify passed all checks
@@ -201,12 +200,15 @@ module _ (A : Type 0) (old : WorldState) (o : Opening) (T : List Step) (stand : 
     nonce_is : h.message.nonce ≡ g.message.nonce
     nonce_is = ap (λ (m : MapNotifyValue). m.nonce) same.message
 
-    -- its round is there, and stands
-    round_there : slice_get e.rounds h.server ≡ Some (round_at e.rounds h.server)
-    round_there = slice_get-get_or e.rounds h.server (first_round 0) (let low = slice_get_within servers h.server g.server there in let count = own.count in omega (arith, low, count))
+    -- its rounds are there, and stand
+    abbrev rounds : Rounds
+    rounds = rounds_at e.rounds h.server
 
-    round_stands : StandsForRound T node g.server (round_at e.rounds h.server)
-    round_stands = own.rounds h.server g.server (round_at e.rounds h.server) there round_there
+    rounds_there : slice_get e.rounds h.server ≡ Some rounds
+    rounds_there = slice_get-get_or e.rounds h.server (record { parts = []; acked = [] }) (let low = slice_get_within servers h.server g.server there in let count = own.count in omega (arith, low, count))
+
+    rounds_stand : StandsForRounds T node g.server rounds
+    rounds_stand = own.rounds h.server g.server rounds there rounds_there
 
     -- the line of a notice
     abbrev noticed : Line
@@ -223,7 +225,7 @@ module _ (A : Type 0) (old : WorldState) (o : Opening) (T : List Step) (stand : 
     -- the line is the trace's
     noticed_is : nat_le first_notice h.message.nonce ≡ true → noticed ≡ line_of turn (notify_at o T node a)
     noticed_is high = (λ i. lines.Noticed node (number_is i) (nonce_is i) (stand.bag.count i))
-        ∙ sym (ap (line_of turn) hears ∙ ap (λ b. if b then lines.Noticed node g.server g.message.nonce (length (bag o T)) else counted_line turn g (latest_nonce T node g.server)) (ap (nat_le first_notice) (sym nonce_is) ∙ high))
+        ∙ sym (ap (line_of turn) hears ∙ ap (λ b. if b then lines.Noticed node g.server g.message.nonce (length (bag o T)) else counted_or_stale turn g (latest_nonces T node g.server)) (ap (nat_le first_notice) (sym nonce_is) ∙ high))
 
     -- the bag has the item of the answer
     notice_added : bag o (step noticed ∷ T) ≡ bag o T ++ ack_item o T node a g.message ∷ []
@@ -247,68 +249,74 @@ module _ (A : Type 0) (old : WorldState) (o : Opening) (T : List Step) (stand : 
       obedient = refl;
       adds = adds_one o T (step noticed) answered (ack_item o T node a g.message) notice_added (notice_carries fits);
       shows = shows;
-      part = router_part noticed e (goes_on noticed e.rounds refl refl refl (λ i k r listed is. let was = own.rounds i k r listed is in record { keeps = was.keeps; latest = was.latest; acked = was.acked }));
+      part = router_part noticed e (goes_on noticed e.rounds refl refl refl (λ i k rs listed is. rounds_stay T node k rs (own.rounds i k rs listed is) (step noticed ∷ T) (λ p. refl) (λ p r was. record { keeps = was.keeps; latest = was.latest })));
     }
 
     -- an acknowledgement
     module _ (low : nat_le first_notice h.message.nonce ≡ false) where
-      -- the trace's line, by the last nonce to that server
-      counted_by : line_of turn (notify_at o T node a) ≡ counted_line turn g (latest_nonce T node g.server)
-      counted_by = ap (line_of turn) hears ∙ ap (λ b. if b then lines.Noticed node g.server g.message.nonce (length (bag o T)) else counted_line turn g (latest_nonce T node g.server)) (ap (nat_le first_notice) (sym nonce_is) ∙ low)
+      -- the trace's line, by the last nonces to that server
+      counted_by : line_of turn (notify_at o T node a) ≡ counted_or_stale turn g (latest_nonces T node g.server)
+      counted_by = ap (line_of turn) hears ∙ ap (λ b. if b then lines.Noticed node g.server g.message.nonce (length (bag o T)) else counted_or_stale turn g (latest_nonces T node g.server)) (ap (nat_le first_notice) (sym nonce_is) ∙ low)
 
-      -- the router's last nonce to it is the trace's
-      latest_is : is_latest g.message.nonce (latest_nonce T node g.server) ≡ is_latest h.message.nonce (round_at e.rounds h.server).latest
-      latest_is = λ i. is_latest (sym nonce_is i) (sym round_stands.latest i)
+      -- the router's last nonces to it are the trace's, and so is the part with the nonce
+      latest_is : latest_of rounds ≡ latest_nonces T node g.server
+      latest_is = latest_known T node g.server rounds rounds_stand
 
-      -- the line, and the rounds afterwards
-      abbrev said : Line
-      said = lines.Counted node g.server e.config.key_id h.message.nonce
+      line_is : (found : Option ℕ) → part_with h.message.nonce (latest_of rounds) ≡ found → line_of turn (notify_at o T node a) ≡ counted_line turn g (latest_nonces T node g.server) found
+      line_is found is = counted_by ∙ ap (counted_line turn g (latest_nonces T node g.server)) ((λ i. part_with (sym nonce_is i) (sym latest_is i)) ∙ is)
 
-      abbrev new_rounds : List Round
-      new_rounds = slice_set e.rounds h.server (round_after_count e.config.key_id (round_at e.rounds h.server))
+      -- it is that of a part
+      module _ (place : ℕ) (last : part_with h.message.nonce (latest_of rounds) ≡ Some place) where
+        -- the line, and the rounds afterwards
+        abbrev said : Line
+        said = lines.Counted node g.server place e.config.key_id h.message.nonce
 
-      -- the line is the trace's
-      said_is : is_latest h.message.nonce (round_at e.rounds h.server).latest ≡ true → said ≡ line_of turn (notify_at o T node a)
-      said_is last = (λ i. lines.Counted node g.server (own.config i).key_id (nonce_is i))
-          ∙ sym (counted_by ∙ ap (λ b. if b then lines.Counted node g.server (etr_config o T node).key_id g.message.nonce else refused_with turn (faults.Stale (latest_nonce T node g.server))) (latest_is ∙ last))
+        abbrev counted_rounds : Rounds
+        counted_rounds = rounds_after_count e.config.key_id place rounds
 
-      -- the nonce is the last one
-      last_of : is_latest h.message.nonce (round_at e.rounds h.server).latest ≡ true → h.message.nonce ≡ (round_at e.rounds h.server).latest
-      last_of last = (Decides-eqb h.message.nonce (round_at e.rounds h.server).latest).0 (and_parts (not (h.message.nonce == 0)) (h.message.nonce == (round_at e.rounds h.server).latest) last).1
+        abbrev new_rounds : List Rounds
+        new_rounds = slice_set e.rounds h.server counted_rounds
 
-      -- the rounds stand
-      counts_rounds : is_latest h.message.nonce (round_at e.rounds h.server).latest ≡ true → (i k : ℕ) (r : Round) → slice_get servers i ≡ Some k → slice_get new_rounds i ≡ Some r → StandsForRound (step said ∷ T) node k r
-      counts_rounds last = rounds_set T (step said ∷ T) node servers e.rounds h.server g.server (round_after_count e.config.key_id (round_at e.rounds h.server)) once there
-          (counted_here T event node (shown_store o T node) g.server e.config.key_id h.message.nonce (round_at e.rounds h.server) (last_of last) round_stands)
-          (counted_there T event node (shown_store o T node) g.server e.config.key_id h.message.nonce) own.rounds
+        -- the line is the trace's
+        said_is : said ≡ line_of turn (notify_at o T node a)
+        said_is = (λ i. lines.Counted node g.server place (own.config i).key_id (nonce_is i)) ∙ sym (line_is (Some place) last)
 
-      -- it counts
-      counts : is_latest h.message.nonce (round_at e.rounds h.server).latest ≡ true → ComesBy (Ok (Counted h.server h.message.nonce))
-      counts last = moved o T event node (shown_store o T node) (Arrives turn a) (line_by (Ok (Counted h.server h.message.nonce))) said [] [] _ _ (ap (λ n. lines.Counted node n e.config.key_id h.message.nonce) number_is) refl refl (record {
-        row = hears_row said (inl (said_is last));
-        count = omega arith;
-        obedient = refl;
-        adds = adds_none o T (step said) refl;
-        shows = shows;
-        part = router_part said (record e { rounds = new_rounds }) (goes_on said new_rounds refl refl (length-set e.rounds h.server (round_after_count e.config.key_id (round_at e.rounds h.server))) (counts_rounds last));
-      })
+        -- the nonce is the last one of that part
+        last_of : (slice_get rounds.parts place ≡ Some (round_of rounds place)) × (h.message.nonce ≡ (round_of rounds place).latest)
+        last_of = found_part rounds h.message.nonce place last
+
+        -- the rounds stand
+        counts_rounds : (i k : ℕ) (rs : Rounds) → slice_get servers i ≡ Some k → slice_get new_rounds i ≡ Some rs → StandsForRounds (step said ∷ T) node k rs
+        counts_rounds = rounds_set T (step said ∷ T) node servers e.rounds h.server g.server counted_rounds once there
+            (counted_here T event node (shown_store o T node) g.server place e.config.key_id h.message.nonce rounds last_of.1 last_of.0 rounds_stand)
+            (counted_there T event node (shown_store o T node) g.server place e.config.key_id h.message.nonce) own.rounds
+
+        -- it counts
+        counts : ComesBy (Ok (Counted h.server place h.message.nonce))
+        counts = moved o T event node (shown_store o T node) (Arrives turn a) (line_by (Ok (Counted h.server place h.message.nonce))) said [] [] _ _ (ap (λ n. lines.Counted node n place e.config.key_id h.message.nonce) number_is) refl refl (record {
+          row = hears_row said (inl said_is);
+          count = omega arith;
+          obedient = refl;
+          adds = adds_none o T (step said) refl;
+          shows = shows;
+          part = router_part said (record e { rounds = new_rounds }) (goes_on said new_rounds refl refl (length-set e.rounds h.server counted_rounds) counts_rounds);
+        })
 
       -- it is stale
-      stale : is_latest h.message.nonce (round_at e.rounds h.server).latest ≡ false → ComesBy (Err (faults.Stale (round_at e.rounds h.server).latest))
-      stale last = refuses (faults.Stale (round_at e.rounds h.server).latest) (inl (ap (λ n. refused_with turn (faults.Stale n)) round_stands.latest
-          ∙ sym (counted_by ∙ ap (λ b. if b then lines.Counted node g.server (etr_config o T node).key_id g.message.nonce else refused_with turn (faults.Stale (latest_nonce T node g.server))) (latest_is ∙ last))))
+      stale : part_with h.message.nonce (latest_of rounds) ≡ None → ComesBy (Err (faults.Stale (greatest (latest_of rounds))))
+      stale last = refuses (faults.Stale (greatest (latest_of rounds))) (inl (ap (λ ns. refused_with turn (faults.Stale (greatest ns))) latest_is ∙ sym (line_is None last)))
 
     -- the answer to a notice fits the format
     abbrev Fits : Result (Seen A) NotifyFault → Type 0
     Fits ans = IfOk ans (λ seen. AnswerFits e.config.key_id seen)
 
     -- so what passed all checks comes to its line
-    passes : (ans : Result (Seen A) NotifyFault) → ans ≡ seen_in e h → Fits ans → (b c : Bool) → nat_le first_notice h.message.nonce ≡ b → is_latest h.message.nonce (round_at e.rounds h.server).latest ≡ c → ComesBy ans
-    passes ans is fits true c high last =
+    passes : (ans : Result (Seen A) NotifyFault) → ans ≡ seen_in e h → Fits ans → (b : Bool) (found : Option ℕ) → nat_le first_notice h.message.nonce ≡ b → part_with h.message.nonce (latest_of rounds) ≡ found → ComesBy ans
+    passes ans is fits true found high last =
         let now : ans ≡ Ok (notice_in e.config h) = is ∙ seen_notice e h high in
         subst ComesBy (sym now) (notices high (subst Fits now fits))
-    passes ans is fits false true low last = subst ComesBy (sym (is ∙ seen_counted e h low last)) (counts low last)
-    passes ans is fits false false low last = subst ComesBy (sym (is ∙ seen_stale e h low last)) (stale low last)
+    passes ans is fits false (Some place) low last = subst ComesBy (sym (is ∙ seen_counted e h low place last)) (counts low place last)
+    passes ans is fits false None low last = subst ComesBy (sym (is ∙ seen_stale e h low last)) (stale low last)
 
   -- the place in the router's list
   abbrev from_place : Option ℕ
@@ -327,7 +335,7 @@ module _ (A : Type 0) (old : WorldState) (o : Opening) (T : List Step) (stand : 
   by_both : (ans : Result (Seen A) NotifyFault) (r t : Result ServerNotify NotifyFault) → notify_at o T node a ≡ t → Alike (etr_config o T node) a.read from_place (server_from o.config node a.from) r t → ans ≡ (r >>= seen_in e) → IfOk ans (λ seen. AnswerFits e.config.key_id seen) → ComesBy ans
   by_both ans (Err f) (Err g) heard_is same is fits = subst ComesBy (sym is) (refuses f (inl (ap (refused_with turn) same ∙ sym (ap (line_of turn) heard_is))))
   by_both ans (Ok h) (Ok g) heard_is same is fits = passes h g heard_is from_place (server_from o.config node a.from) (first_place (λ s. addr_eq (address_at o.config s) a.from) servers) same ans is fits
-      (nat_le first_notice h.message.nonce) (is_latest h.message.nonce (round_at e.rounds h.server).latest) refl refl
+      (nat_le first_notice h.message.nonce) (part_with h.message.nonce (latest_of (rounds_at e.rounds h.server))) refl refl
   by_both ans (Ok h) (Err g) heard_is same is fits = absurd same
   by_both ans (Err f) (Ok g) heard_is same is fits = absurd same
 

@@ -1,8 +1,10 @@
 pub mod Gets
+pub mod Places
+pub mod PartLists
+pub mod PartRounds
 pub mod Going
 pub mod Acting
 pub mod Heads
-pub mod Places
 pub mod RouterEvents
 pub mod RouterRounds
 pub mod Ticking

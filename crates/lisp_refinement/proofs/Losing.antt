@@ -105,10 +105,10 @@ module _ (old new : WorldState) (node key : ℕ) (db : Option (List MapRecordVal
     begins = record {
       last = here node None (last_sent T node);
       values = here node _ (start_values o T node);
-      rounds = λ server. here node _ (round T node server);
-      latest = λ server. here node 0 (latest_nonce T node server);
+      rounds = λ server part. here node _ (round T node server part);
+      latest = λ server part. here node 0 (latest_nonce T node server part);
     };
-    forgets = λ server. here node None (acked T node server);
+    forgets = λ server part. here node None (acked T node server part);
     up_adds = refl;
     up_row = record { lost = is_lost; names = refl; to = refl };
     down = λ fault. here node false (is_up T node);

@@ -1,13 +1,12 @@
 -- A Map-Server sends a router a notice.
-use Rattle.std.proofs.Common.{◌≡◌, ◌≢◌, ℕ, zero, suc, ◌<◌, ◌≤◌, ◌^◌, Bool, cond, List, [], ◌∷◌, ◌++◌, length, Option, Some, None, Result, Ok, Err, refl, sym, ap, subst, ◌∙◌, inl, inr, arith}
+use Rattle.std.proofs.Common.{◌≡◌, ◌≢◌, ℕ, zero, suc, ◌<◌, ◌≤◌, ◌^◌, Bool, false, cond, List, [], ◌∷◌, ◌++◌, length, Option, Some, None, Result, Ok, Err, refl, sym, ap, subst, ◌∙◌, inl, inr, arith}
 use Rattle.std.specs.Prelude.{◌⊎◌, ◌-◌, slice_get, IsTrue, IfOk, IfErr, OnErr}
 use Rattle.std.specs.List.{Contains}
 use Rattle.std.specs.List.Sorted.{IsPermutation}
 use Rattle.std.specs.Option.{option_map, option_to_list, unwrap_or}
 use Rattle.lisp_records.specs.declared.address.Addr.{Addr}
-use Rattle.lisp_records.specs.declared.database.DatabaseFault.{DatabaseFault}
 use Rattle.lisp_records.specs.declared.router.RouterId.{RouterId}
-use Rattle.lisp_records.specs.Database.{database_of, repeats}
+use Rattle.lisp_records.specs.Parts.{fits_message}
 use Rattle.lisp_records.specs.Record.{MapRecordValue}
 use Rattle.lisp_records.proofs.DatabaseLaws.{any_order}
 use Rattle.lisp_messages.specs.declared.head.Head.{Head}
@@ -66,10 +65,9 @@ at_end [] x (suc k) is = absurd (omega (arith, is))
 at_end (y ∷ ys) x zero is = absurd (omega (arith, is))
 at_end (y ∷ ys) x (suc k) is = at_end ys x k (omega (arith, is))
 
--- no records at all are a database
-empty_fits : (fault : DatabaseFault) → database_of [] ≡ Err fault → ⊥
-unfolding repeats
-empty_fits fault is = absurd cc
+-- no records at all fit a message
+empty_fits : fits_message [] ≡ false → ⊥
+empty_fits is = absurd cc
 
 module _ (old new : WorldState) (server router : ℕ) (fate : Fate) (line : Line) (turn : NoticeTurn old new server router fate line) (o : Opening) (T : List Step) (stand : Stands old o T) where
   -- the router that is told; the moment; the Map-Server before and after; its store armed, and after the call
@@ -131,7 +129,7 @@ module _ (old new : WorldState) (server router : ℕ) (fate : Fate) (line : Line
   can_tell : (said : Line) → IsRegistered core me now → CanNotify (context_of o T (step said)) router
   can_tell said registered = record {
     some = live_rows.some_told core.rows (since_start o T server) now turn.notifies.one_each part.rows me registered.some;
-    fits = (any_order (live_of core.rows me now) (records_of (since_start o T server) me now) told_records).0 registered.fits;
+    fits = any_order (live_of core.rows me now) (records_of (since_start o T server) me now) told_records ∙ registered.fits;
   }
 
   -- where the router was heard last
@@ -349,9 +347,8 @@ module _ (old new : WorldState) (server router : ℕ) (fate : Fate) (line : Line
     why : (f : NoticeFault) → RefusesToTell core armed called me now f → RefusesNotice its_turn router f
     why notice_faults.NotRegistered is = (live_rows.none_told core.rows (since_start o T server) now turn.notifies.one_each part.rows me is.0, same_store is.1)
     why notice_faults.TooLarge is = (
-      live_rows.some_told core.rows (since_start o T server) now turn.notifies.one_each part.rows me (λ none. empty_fits is.0.0 (ap database_of (sym none) ∙ is.0.1)),
-      is.0.0,
-      (any_order (live_of core.rows me now) (records_of (since_start o T server) me now) told_records).1 is.0.0 is.0.1,
+      live_rows.some_told core.rows (since_start o T server) now turn.notifies.one_each part.rows me (λ none. empty_fits (ap fits_message (sym none) ∙ is.0)),
+      any_order (live_of core.rows me now) (records_of (since_start o T server) me now) told_records ∙ is.0,
       same_store is.1,
     )
     why (notice_faults.StoreLoad f) is = (can_tell refused is.registered, sym part.notice_nonce ∙ is.unknown, record { same = same_lists is.same; cause = has_cause f is.cause; may = λ other. by (λ x. x ≡ LoadFails) (is.armed other) })

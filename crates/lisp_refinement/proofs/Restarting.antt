@@ -199,10 +199,10 @@ module _ (old new : WorldState) (node pick : ℕ) (db : Option (List MapRecordVa
     begins = record {
       last = here node None (last_sent T node);
       values = here node (kept_at after.store.kept (pair_at o T node)) (start_values o T node);
-      rounds = λ server. here node _ (round T node server);
-      latest = λ server. here node 0 (latest_nonce T node server);
+      rounds = λ server part. here node _ (round T node server part);
+      latest = λ server part. here node 0 (latest_nonce T node server part);
     };
-    forgets = λ server. here node None (acked T node server);
+    forgets = λ server part. here node None (acked T node server part);
     up_adds = refl;
     up_row = record { names = refl; acts = refl; kind = inr (acts_router old new node [] restarts.acts o T stand); fits = fits; narrows = narrows; picks = picks };
     down = λ fault. here node false (is_up T node);

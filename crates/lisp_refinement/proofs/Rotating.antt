@@ -14,7 +14,8 @@ use Rattle.lisp_etr.specs.Etr.{EtrState}
 use Rattle.lisp_etr.specs.Round.{rotated_round}
 use Rattle.lisp_etr.specs.declared.rotate_fault.RotateFault.{RotateFault}
 use Rattle.lisp_etr.specs.declared.rotate_fault.RotateFault.TheVariants.{SameKey, Store}
-use Rattle.lisp_etr.specs.declared.round.Round.{Round}
+use Rattle.lisp_etr.specs.Rounds.{rotated_rounds}
+use Rattle.lisp_etr.specs.declared.rounds.Rounds.{Rounds}
 use Rattle.lisp_etr.proofs.TimerLaws.{rounds_keep_time}
 use Rattle.lisp_model.specs.declared.event.Event.TheVariants as events
 use Rattle.lisp_model.specs.declared.line.Line.{Line}
@@ -31,9 +32,10 @@ use Rattle.lisp_model.specs.Legal.{MayCome}
 use Rattle.lisp_refinement.specs.World.{RouterNodeState, RouterCoreState, Up, Down, UsedKeysState, UsesKey, WorldState}
 use Rattle.lisp_refinement.specs.Calls.{CoreRotates, IsRotateFaultOf, CoreAnswersRotate}
 use Rattle.lisp_refinement.specs.Events.{UsesKeyIfOk, rotate_line, UpRouterRotates, RouterRotates, NetworkRotates}
-use Rattle.lisp_refinement.specs.Stands.{shown_by, Shows, StandsForRound, StandsForEtr, StandsForCore, Marks, StandsForKeys, StandsForRouter, Stands, StandsAfter}
+use Rattle.lisp_refinement.specs.Stands.{shown_by, Shows, StandsForRounds, StandsForEtr, StandsForCore, Marks, StandsForKeys, StandsForRouter, Stands, StandsAfter}
 use Rattle.lisp_refinement.proofs.Gets.{get_mapped}
 use Rattle.lisp_refinement.proofs.Going.{here}
+use Rattle.lisp_refinement.proofs.PartRounds.{rounds_stay, rounds_become}
 use Rattle.lisp_refinement.proofs.Acting.{adds_none, Shown-in, uses_shown, by_fate}
 use Rattle.lisp_refinement.proofs.RouterEvents.{step_of, turn_at, shown_now, RouterStep, moved, acts_router, acts_part, acts_shows, stands_by}
 use Rattle.lisp_refinement.proofs.Starting.{BeginsAnew, counts_anew, round_anew}
@@ -130,8 +132,8 @@ module _ (old new : WorldState) (router key : ℕ) (fate : Fate) (line : Line) (
       begins = record {
         last = here router None (last_sent T router);
         values = here router _ (start_values o T router);
-        rounds = λ server. here router _ (round T router server);
-        latest = λ server. here router 0 (latest_nonce T router server);
+        rounds = λ server place. here router _ (round T router server place);
+        latest = λ server place. here router 0 (latest_nonce T router server place);
       }
 
       -- it counts from a value that is kept for the new pair
@@ -148,10 +150,11 @@ module _ (old new : WorldState) (router key : ℕ) (fate : Fate) (line : Line) (
       }
 
       -- each of its rounds has just begun, and what was acknowledged stays
-      round_stands : (i server : ℕ) (r : Round) → slice_get (router_at o.config router).servers i ≡ Some server → slice_get (map (rotated_round old.clock) e.rounds) i ≡ Some r → StandsForRound later router server r
-      round_stands i server r lists has = let was = get_mapped (rotated_round old.clock) e.rounds i r has in
-          subst (λ (x : Round). StandsForRound later router server x) was.2
-          (round_anew o T later router called.kept begins server old.clock (rotated_round old.clock was.0) stand.bag.moment (rounds_keep_time.rotate old.clock was.0) refl (own.rounds i server was.0 lists was.1).acked)
+      rounds_stand : (i server : ℕ) (rs : Rounds) → slice_get (router_at o.config router).servers i ≡ Some server → slice_get (map (rotated_rounds old.clock) e.rounds) i ≡ Some rs → StandsForRounds later router server rs
+      rounds_stand i server rs lists has = let was = get_mapped (rotated_rounds old.clock) e.rounds i rs has in
+          subst (λ (x : Rounds). StandsForRounds later router server x) was.2
+          (rounds_become T router server was.0 (own.rounds i server was.0 lists was.1) later (λ place. refl) (rotated_round old.clock)
+          (λ place r stood. round_anew o T later router called.kept begins server place old.clock (rotated_round old.clock r) stand.bag.moment (rounds_keep_time.rotate old.clock r) refl))
 
       -- the router stands
       rotated_core : StandsForEtr o later router left
@@ -161,8 +164,8 @@ module _ (old new : WorldState) (router key : ℕ) (fate : Fate) (line : Line) (
         database = ap (λ (x : EtrState). x.database) call.rotates ∙ own.database;
         last = (let is = call.last uses.armed_shows.honest in (is.0, counts is.0 is.1, is.2));
         safe = λ v has. omega (arith, ap (λ (x : EtrState). x.safe) call.rotates);
-        count = ap (λ (x : EtrState). length x.rounds) call.rotates ∙ length-map e.rounds (rotated_round old.clock) ∙ own.count;
-        rounds = λ i server r lists has. round_stands i server r lists (ap (λ (x : EtrState). slice_get x.rounds i) (sym call.rotates) ∙ has);
+        count = ap (λ (x : EtrState). length x.rounds) call.rotates ∙ length-map e.rounds (rotated_rounds old.clock) ∙ own.count;
+        rounds = λ i server rs lists has. rounds_stand i server rs lists (ap (λ (x : EtrState). slice_get x.rounds i) (sym call.rotates) ∙ has);
       }
 
       -- its step
@@ -211,7 +214,7 @@ module _ (old new : WorldState) (router key : ℕ) (fate : Fate) (line : Line) (
         safe = subst (λ (x : ShownStore). NoneBelow e.safe (kept_at x.kept (pair_at o T router))) (sym (shown_now o T event router (shown_by called) refused))
             (subst (λ (k : Kept). NoneBelow e.safe (kept_at k (pair_at o T router))) (sym unmoved) own.safe);
         count = own.count;
-        rounds = λ i k r listed is. (let was = own.rounds i k r listed is in record { keeps = was.keeps; latest = was.latest; acked = was.acked });
+        rounds = λ i k rs listed is. rounds_stay T router k rs (own.rounds i k rs listed is) with_refusal (λ place. refl) (λ place r was. record { keeps = was.keeps; latest = was.latest });
       }
 
       -- with the keys that it used

@@ -1,12 +1,14 @@
 -- A router sends a Map-Register, or refuses to, or is down: the network stands for the trace with that step.
 use Rattle.std.proofs.Common.{Bool, ◌≡◌, ℕ, ◌+◌, ◌<◌, ◌≤◌, true, false, List, [], ◌∷◌, length, Option, Some, None, Result, Ok, Err, refl, sym, ap, subst, inl, inr, ◌∙◌, arith}
-use Rattle.std.specs.Prelude.{IsTrue, ◌≢◌, ◌⊎◌, ◌==◌, ◌^◌, ◌-◌, is_some, slice_get, slice_index_or, if◌then◌else◌}
+use Rattle.std.specs.Prelude.{IsTrue, ◌≢◌, ◌⊎◌, ◌==◌, ◌^◌, ◌-◌, is_some, slice_get, if◌then◌else◌}
 use Rattle.std.specs.List.{AllPairs, find, list_any, position}
 use Rattle.std.specs.Option.{unwrap_or}
 use Rattle.std.proofs.lemmas.Bool.{cases_lt, lt-ltb}
 use Rattle.std.proofs.lemmas.Bool.Decides.{Decides-eqb}
 use Rattle.std.proofs.lemmas.List.{length-map, length-set}
 use Rattle.std.proofs.lemmas.Option.{slice_get_within, slice_get-get_or}
+use Rattle.lisp_records.specs.Database.{database_of}
+use Rattle.lisp_records.specs.Parts.{most_parts, part_count, part_at}
 use Rattle.lisp_records.specs.Record.{MapRecordValue}
 use Rattle.lisp_messages.specs.declared.head.Head.{Head}
 use Rattle.lisp_messages.specs.Head.{head_at}
@@ -21,11 +23,11 @@ use Rattle.lisp_nonces.specs.Kept.{Kept, kept_at, with_value, number, InDoubt, N
 use Rattle.lisp_nonces.specs.Store.{StoreState}
 use Rattle.lisp_etr.specs.Config.{EtrConfigValue, sent_pair}
 use Rattle.lisp_etr.specs.Etr.{EtrState}
-use Rattle.lisp_etr.specs.Round.{first_round, round_after_send}
-use Rattle.lisp_etr.specs.Sending.{last_nonce, map_register_of, datagram_of, block_end, Settles, LeavesPair}
-use Rattle.lisp_etr.specs.declared.round.Round.{Round}
+use Rattle.lisp_etr.specs.Rounds.{rounds_at, rounds_after_send}
+use Rattle.lisp_etr.specs.Sending.{last_nonce, map_register_of, next_register, next_datagram, block_end, Settles, LeavesPair}
+use Rattle.lisp_etr.specs.declared.rounds.Rounds.{Rounds}
 use Rattle.lisp_etr.specs.declared.send_fault.SendFault.{SendFault}
-use Rattle.lisp_etr.specs.declared.send_fault.SendFault.TheVariants.{NoServer, NonceSpent, OutOfMemory, Store}
+use Rattle.lisp_etr.specs.declared.send_fault.SendFault.TheVariants.{NoServer, NoPart, NonceSpent, OutOfMemory, Store}
 use Rattle.lisp_model.specs.declared.event.Event.TheVariants as events
 use Rattle.lisp_model.specs.declared.line.Line.{Line}
 use Rattle.lisp_model.specs.declared.line.Line.TheVariants as lines
@@ -33,16 +35,18 @@ use Rattle.lisp_model.specs.declared.refusal.Refusal.TheVariants as refusals
 use Rattle.lisp_model.specs.Trace.{EventValue, ShownStore, Step, Opening, address_at, is_server, is_router, is_listed, router_at, etr_config, database, shown_store}
 use Rattle.lisp_model.specs.Bag.{bytes_of, register_item}
 use Rattle.lisp_model.specs.Context.{Context, Same, SameOthers, MaySave, Saves, SaveFails, IsBase, Rose, values, values_after}
-use Rattle.lisp_model.specs.Sending.{pair_at, last_sent, start_values, CountsFrom, IsSent, NotSaved, RefusesToSend}
+use Rattle.lisp_model.specs.Sending.{pair_at, last_sent, start_values, CountsFrom, HasPart, IsSent, NotSaved, MaySend, RefusesToSend}
 use Rattle.lisp_model.specs.Legal.{MayCome}
 use Rattle.lisp_model.proofs.HearingLemmas.{find_true}
 use Rattle.lisp_model.proofs.Locality.{same_number}
 use Rattle.lisp_refinement.specs.World.{DatagramValue, RouterNodeState, RouterCoreState, Up, Down, WorldState}
 use Rattle.lisp_refinement.specs.Calls.{CoreSends, IsSendFaultOf, CoreRefusesToSend, CoreAnswersSend}
 use Rattle.lisp_refinement.specs.Events.{address_of, place_of, SaysSendAnswer, UpRouterSends, RouterSends, NetworkSends}
-use Rattle.lisp_refinement.specs.Stands.{shown_by, Shows, Carries, StandsForRound, StandsForEtr, StandsForCore, StandsForKeys, StandsForRouter, Stands, StandsAfter}
+use Rattle.lisp_refinement.specs.Stands.{shown_by, Shows, Carries, StandsForRounds, StandsForEtr, StandsForCore, StandsForKeys, StandsForRouter, Stands, StandsAfter}
 use Rattle.lisp_refinement.proofs.Acting.{adds_none, adds_one, by_fate, Shown-in, uses_shown, address_is}
 use Rattle.lisp_refinement.proofs.Heads.{head_written}
+use Rattle.lisp_refinement.proofs.PartLists.{few_parts}
+use Rattle.lisp_refinement.proofs.PartRounds.{rounds_stay}
 use Rattle.lisp_refinement.proofs.Places.{Placed, first_place, any_found}
 use Rattle.lisp_refinement.proofs.RouterEvents.{step_of, turn_at, shown_now, RouterStep, moved, acts_router, acts_part, acts_shows, acts_once, stands_by}
 use Rattle.lisp_refinement.proofs.RouterRounds.{sent_here, sent_there, rounds_set}
@@ -74,7 +78,7 @@ nowhere_of servers server place high (inl there) = absurd (let low = slice_get_w
 nowhere_of servers server place high (inr none) = none.1
 
 -- a router that is up, and is asked to send to a server
-module _ (old : WorldState) (o : Opening) (T : List Step) (stand : Stands old o T) (router server : ℕ) (fate : Fate) (before : RouterNodeState) (kind : is_router o.config router ≡ true) (known : is_server o.config server ≡ true)
+module _ (old : WorldState) (o : Opening) (T : List Step) (stand : Stands old o T) (router server portion : ℕ) (fate : Fate) (before : RouterNodeState) (kind : is_router o.config router ≡ true) (known : is_server o.config server ≡ true)
     (part : StandsForRouter o T router before) (once : AllPairs (λ a b. a ≢ b) (router_at o.config router).servers)
     (e etr : EtrState) (own : StandsForEtr o T router e) (armed called after : StoreState) (uses : Shown-in fate armed called after (shown_store o T router)) where
   -- what its store shows after the call; the turn, the event and its rows; the server's place; the router afterwards
@@ -85,7 +89,7 @@ module _ (old : WorldState) (o : Opening) (T : List Step) (stand : Stands old o 
   turn = turn_at o T router fate after_it
 
   abbrev event : EventValue
-  event = events.Send router server fate
+  event = events.Send router server portion fate
 
   abbrev Row : Line → Type 0
   Row line = MayCome turn event line
@@ -103,6 +107,10 @@ module _ (old : WorldState) (o : Opening) (T : List Step) (stand : Stands old o 
   -- the router has as many servers
   as_many : length e.config.servers ≡ length (router_at o.config router).servers
   as_many = ap (λ (c : EtrConfigValue). length c.servers) own.config ∙ length-map (router_at o.config router).servers (address_at o.config)
+
+  -- the database that it registers has the part
+  has_part : portion < part_count e.database → HasPart turn router portion
+  has_part there = subst (λ (db : List MapRecordValue). portion < part_count db) own.database there
 
   -- what is said of the list that was kept, and of the list that is, for the router's pair
   carried : (P : List (Option ℕ) → List (Option ℕ) → Type 0) → P (kept_at armed.kept (sent_pair e.config)) (kept_at called.kept (sent_pair e.config)) → P (values turn (pair_at o T router)) (values_after turn (pair_at o T router))
@@ -127,10 +135,10 @@ module _ (old : WorldState) (o : Opening) (T : List Step) (stand : Stands old o 
   used_now line = record { since_loss = part.used.since_loss; before_loss = part.used.before_loss }
 
   -- a Map-Register went out
-  module _ (bytes : List ℕ) (call : CoreSends e etr armed called place old.clock bytes) where
+  module _ (bytes : List ℕ) (call : CoreSends e etr armed called place portion old.clock bytes) where
     -- its line, and what was posted
     abbrev said : Line
-    said = lines.Sent router server e.config.key_id (e.last + 1) (length old.bag)
+    said = lines.Sent router server portion e.config.key_id (e.last + 1) (length old.bag)
 
     abbrev datagram : DatagramValue
     datagram = record { from = address_of old router; to = address_of old server; bytes = bytes }
@@ -140,8 +148,8 @@ module _ (old : WorldState) (o : Opening) (T : List Step) (stand : Stands old o 
     found = there_of (router_at o.config router).servers server place (let within = call.within in let many = as_many in omega (arith, within, many)) placed
 
     -- the message fits the format
-    known_message : IsMapRegister (map_register_of (etr_config o T router) (database o T router) (e.last + 1))
-    known_message = subst (λ (p : EtrConfigValue × List MapRecordValue). IsMapRegister (map_register_of p.0 p.1 (e.last + 1))) {x = (e.config, e.database)} {y = (etr_config o T router, database o T router)} (λ i. (own.config i, own.database i)) call.known
+    known_message : IsMapRegister (map_register_of (etr_config o T router) (part_at (database o T router) portion) (e.last + 1))
+    known_message = subst (λ (p : EtrConfigValue × List MapRecordValue). IsMapRegister (map_register_of p.0 (part_at p.1 portion) (e.last + 1))) {x = (e.config, e.database)} {y = (etr_config o T router, database o T router)} (λ i. (own.config i, own.database i)) call.known
 
     -- what was saved
     sent_saves : Saves turn (pair_at o T router) (e.last + 1) (block_end (e.last + 1) (etr_config o T router).nonce_block)
@@ -162,11 +170,13 @@ module _ (old : WorldState) (o : Opening) (T : List Step) (stand : Stands old o 
         settled (inr below) = inl (carried (λ was is. is ≡ was) (ap (λ (x : StoreState). kept_at x.kept (sent_pair e.config)) (call.unasked below)))
 
     -- the row of the line
-    sent_row : IsSent turn router server e.config.key_id (e.last + 1) (length old.bag)
+    sent_row : IsSent turn router server portion e.config.key_id (e.last + 1) (length old.bag)
     sent_row = record {
       acts = record { kind = kind; acts = refl; state = own.up };
       kind = known;
       listed = found.1;
+      fits = subst (λ (db : List MapRecordValue). database_of db ≡ Ok db) own.database call.fits;
+      there = has_part call.there;
       under = ap (λ (c : EtrConfigValue). c.key_id) own.config;
       base = own.last.0;
       counts = own.last.1;
@@ -178,12 +188,12 @@ module _ (old : WorldState) (o : Opening) (T : List Step) (stand : Stands old o 
     }
 
     -- the datagram carries the item
-    sent_carries : Carries datagram (register_item o T router server (e.last + 1))
+    sent_carries : Carries datagram (register_item o T router server portion (e.last + 1))
     unfolding bytes_of
     sent_carries = record {
       from = address_is old o T stand router;
       to = address_is old o T stand server;
-      bytes = call.datagram ∙ (λ i. signed (own.config i).secret (written (Registers (map_register_of (own.config i) (own.database i) (e.last + 1)))));
+      bytes = call.datagram ∙ (λ i. signed (own.config i).secret (written (Registers (map_register_of (own.config i) (part_at (own.database i) portion) (e.last + 1)))));
       message = known_message;
     }
 
@@ -191,15 +201,19 @@ module _ (old : WorldState) (o : Opening) (T : List Step) (stand : Stands old o 
     sent_counts : CountsFrom o (step_of event router after_it said ∷ T) router (Some (e.last + 1))
     sent_counts = subst (λ b. IsBase (if b then Some (e.last + 1) else last_sent T router) (start_values o T router) (Some (e.last + 1))) (sym (same_number router)) refl
 
-    -- the server has a round
-    round_there : slice_get e.rounds place ≡ Some (slice_index_or e.rounds place (first_round 0))
-    round_there = slice_get-get_or e.rounds place (first_round 0) (let low = slice_get_within (router_at o.config router).servers place server found.0 in let count = own.count in omega (arith, low, count))
+    -- the router has rounds with the server
+    rounds_there : slice_get e.rounds place ≡ Some (rounds_at e.rounds place)
+    rounds_there = slice_get-get_or e.rounds place (record { parts = []; acked = [] }) (let low = slice_get_within (router_at o.config router).servers place server found.0 in let count = own.count in omega (arith, low, count))
+
+    -- the part is one of those that a database may have
+    within_parts : portion < most_parts
+    within_parts = let there = call.there in let few = few_parts e.database call.fits in omega (arith, there, few)
 
     -- all rounds stand
-    sent_rounds : (i k : ℕ) (r : Round) → slice_get (router_at o.config router).servers i ≡ Some k → slice_get etr.rounds i ≡ Some r → StandsForRound (step_of event router after_it said ∷ T) router k r
-    sent_rounds i k r listed is = rounds_set T (step_of event router after_it said ∷ T) router (router_at o.config router).servers e.rounds place server (round_after_send (e.last + 1) old.clock (slice_index_or e.rounds place (first_round 0))) once found.0
-        (sent_here T event router after_it server e.config.key_id (e.last + 1) (length old.bag) old.clock (slice_index_or e.rounds place (first_round 0)) stand.bag.moment (own.rounds place server (slice_index_or e.rounds place (first_round 0)) found.0 round_there))
-        (sent_there T event router after_it server e.config.key_id (e.last + 1) (length old.bag)) own.rounds i k r listed (ap (λ (rs : List Round). slice_get rs i) (sym call.sends.rounds) ∙ is)
+    sent_rounds : (i k : ℕ) (rs : Rounds) → slice_get (router_at o.config router).servers i ≡ Some k → slice_get etr.rounds i ≡ Some rs → StandsForRounds (step_of event router after_it said ∷ T) router k rs
+    sent_rounds i k rs listed is = rounds_set T (step_of event router after_it said ∷ T) router (router_at o.config router).servers e.rounds place server (rounds_after_send portion (e.last + 1) old.clock (rounds_at e.rounds place)) once found.0
+        (sent_here T event router after_it server portion e.config.key_id (e.last + 1) (length old.bag) old.clock (rounds_at e.rounds place) stand.bag.moment within_parts (own.rounds place server (rounds_at e.rounds place) found.0 rounds_there))
+        (sent_there T event router after_it server portion e.config.key_id (e.last + 1) (length old.bag)) own.rounds i k rs listed (ap (λ (all : List Rounds). slice_get all i) (sym call.sends.rounds) ∙ is)
 
     -- and so does the router
     sent_core : StandsForEtr o (step_of event router after_it said ∷ T) router etr
@@ -209,17 +223,17 @@ module _ (old : WorldState) (o : Opening) (T : List Step) (stand : Stands old o 
       database = call.sends.database ∙ own.database;
       last = (Some (e.last + 1), sent_counts, call.sends.last);
       safe = safe_now etr.safe said (safe_after etr.safe (call.keeps_safe uses.armed_shows.honest safe_before));
-      count = ap length call.sends.rounds ∙ length-set e.rounds place (round_after_send (e.last + 1) old.clock (slice_index_or e.rounds place (first_round 0))) ∙ own.count;
+      count = ap length call.sends.rounds ∙ length-set e.rounds place (rounds_after_send portion (e.last + 1) old.clock (rounds_at e.rounds place)) ∙ own.count;
       rounds = sent_rounds;
     }
 
     -- its step
     sent_step : RouterStep o T event router after_it Row said (datagram ∷ []) left
     sent_step = record {
-      row = (refl, refl, sent_row);
+      row = (refl, refl, refl, sent_row);
       count = uses.count;
       obedient = uses.obedient;
-      adds = adds_one o T (step_of event router after_it said) datagram (register_item o T router server (e.last + 1)) refl sent_carries;
+      adds = adds_one o T (step_of event router after_it said) datagram (register_item o T router server portion (e.last + 1)) refl sent_carries;
       shows = uses.after;
       part = record { me = part.me; servers = part.servers; used = used_now said; core = sent_core };
     }
@@ -227,12 +241,12 @@ module _ (old : WorldState) (o : Opening) (T : List Step) (stand : Stands old o 
     -- what its line says is what stands in the datagram
     head_is : (head : Head) → head_at bytes ≡ Some head → ◌≡◌ {A = Head} head (record { key_id = e.config.key_id; nonce = e.last + 1 })
     head_is head read =
-        let wrote : head_at (datagram_of e.config e.database (e.last + 1)) ≡ Some (record { key_id = e.config.key_id; nonce = e.last + 1 }) = head_written e.config.secret (Registers (map_register_of e.config e.database (e.last + 1))) call.known in
+        let wrote : head_at (next_datagram e portion) ≡ Some (record { key_id = e.config.key_id; nonce = e.last + 1 }) = head_written e.config.secret (Registers (next_register e portion)) call.known in
         let both : ◌≡◌ {A = Option Head} (Some head) (Some (record { key_id = e.config.key_id; nonce = e.last + 1 })) = sym read ∙ ap head_at call.datagram ∙ wrote in
         cc
 
   -- it was refused
-  module _ (fault : SendFault) (call : CoreRefusesToSend e etr armed called place fault) where
+  module _ (fault : SendFault) (call : CoreRefusesToSend e etr armed called place portion fault) where
     -- its line
     abbrev refused : Line
     refused = lines.Refused router (refusals.Send fault)
@@ -247,6 +261,14 @@ module _ (old : WorldState) (o : Opening) (T : List Step) (stand : Stands old o 
 
     nowhere_if : length e.config.servers ≤ place → is_listed o.config router server ≡ false
     nowhere_if beyond = nowhere_of (router_at o.config router).servers server place (let many = as_many in omega (arith, beyond, many)) placed
+
+    -- the database has the part too
+    may_if : place < length e.config.servers → portion < part_count e.database → MaySend turn router server portion
+    may_if within there = (listed_if within, has_part there)
+
+    -- or hasn't
+    no_part : part_count e.database ≤ portion → part_count (database o T router) ≤ portion
+    no_part beyond = subst (λ (db : List MapRecordValue). part_count db ≤ portion) own.database beyond
 
     -- the end of the block, by the trace's own words
     abbrev bound : ℕ
@@ -298,11 +320,12 @@ module _ (old : WorldState) (o : Opening) (T : List Step) (stand : Stands old o 
     }
 
     -- each refusal has its row
-    refusal : (f : SendFault) → fault ≡ f → IsSendFaultOf e place f → RefusesToSend turn router server f
+    refusal : (f : SendFault) → fault ≡ f → IsSendFaultOf e place portion f → RefusesToSend turn router server portion f
     refusal NoServer is why = (nowhere_if why, unmoved (λ device. let clash : NoServer ≡ Store faults.Device = sym is ∙ device in cc))
-    refusal NonceSpent is why = (listed_if why.0, (own.last.0, own.last.1, (let high = why.1 in let last = own.last.2 in omega (arith, high, last))), unmoved (λ device. let clash : NonceSpent ≡ Store faults.Device = sym is ∙ device in cc))
-    refusal OutOfMemory is why = (listed_if why.0, own.last.0, own.last.1, (let low = why.1 in let last = own.last.2 in omega (arith, low, last)), unmoved (λ device. let clash : OutOfMemory ≡ Store faults.Device = sym is ∙ device in cc))
-    refusal (Store f) is why = (listed_if why.0, not_saved f is why.1 (carried (λ was is. LeavesPair was is (e.last + 1) e.config.nonce_block) (call.leaves uses.armed_shows.honest)))
+    refusal NoPart is why = (listed_if why.0, no_part why.1, unmoved (λ device. let clash : NoPart ≡ Store faults.Device = sym is ∙ device in cc))
+    refusal NonceSpent is why = (may_if why.0 why.1, (own.last.0, own.last.1, (let high = why.2 in let last = own.last.2 in omega (arith, high, last))), unmoved (λ device. let clash : NonceSpent ≡ Store faults.Device = sym is ∙ device in cc))
+    refusal OutOfMemory is why = (may_if why.0 why.1, own.last.0, own.last.1, (let low = why.2 in let last = own.last.2 in omega (arith, low, last)), unmoved (λ device. let clash : OutOfMemory ≡ Store faults.Device = sym is ∙ device in cc))
+    refusal (Store f) is why = (may_if why.0 why.1, not_saved f is why.2 (carried (λ was is. LeavesPair was is (e.last + 1) e.config.nonce_block) (call.leaves uses.armed_shows.honest)))
 
     -- the router stands as it did
     refused_core : StandsForEtr o (step_of event router after_it refused ∷ T) router e
@@ -313,7 +336,7 @@ module _ (old : WorldState) (o : Opening) (T : List Step) (stand : Stands old o 
       last = own.last;
       safe = safe_now e.safe refused (safe_after e.safe (call.keeps_safe uses.armed_shows.honest safe_before));
       count = own.count;
-      rounds = λ i k r listed is. (let was = own.rounds i k r listed is in record { keeps = was.keeps; latest = was.latest; acked = was.acked });
+      rounds = λ i k rs listed is. rounds_stay T router k rs (own.rounds i k rs listed is) (step_of event router after_it refused ∷ T) (λ p. refl) (λ p r was. record { keeps = was.keeps; latest = was.latest });
     }
 
     -- its step
@@ -328,10 +351,10 @@ module _ (old : WorldState) (o : Opening) (T : List Step) (stand : Stands old o 
     }
 
 -- what comes of the event at a router, up or down
-module _ (old new : WorldState) (router server : ℕ) (fate : Fate) (line : Line) (sends : NetworkSends old new router server fate line) (o : Opening) (T : List Step) (stand : Stands old o T) where
+module _ (old new : WorldState) (router server portion : ℕ) (fate : Fate) (line : Line) (sends : NetworkSends old new router server portion fate line) (o : Opening) (T : List Step) (stand : Stands old o T) where
   -- the network stands for the trace with the step
   abbrev Sent-after : Type 0
-  Sent-after = (actor : ℕ) × (s : ShownStore) × Stands new o (step_of (events.Send router server fate) actor s line ∷ T)
+  Sent-after = (actor : ℕ) × (s : ShownStore) × Stands new o (step_of (events.Send router server portion fate) actor s line ∷ T)
 
   -- the server is one, and the router, its list and its store are what the trace says
   known_server : is_server o.config server ≡ true
@@ -350,39 +373,39 @@ module _ (old new : WorldState) (router server : ℕ) (fate : Fate) (line : Line
   once_here = acts_once old new router sends.more sends.acts o T stand
 
   -- with the step of the router it does
-  ends : (s : ShownStore) → RouterStep o T (events.Send router server fate) router s (MayCome (turn_at o T router fate s) (events.Send router server fate)) line sends.more sends.acts.after → Sent-after
-  ends s step = (router, s, stands_by old new router sends.more sends.acts o T stand (events.Send router server fate) s line refl step)
+  ends : (s : ShownStore) → RouterStep o T (events.Send router server portion fate) router s (MayCome (turn_at o T router fate s) (events.Send router server portion fate)) line sends.more sends.acts.after → Sent-after
+  ends s step = (router, s, stands_by old new router sends.more sends.acts o T stand (events.Send router server portion fate) s line refl step)
 
   -- the router is down
-  sends_down : (config : EtrConfigValue) (db : List MapRecordValue) → sends.acts.before.core ≡ Down config db → StandsForCore o T router (Down config db) → RouterSends old router server fate sends.acts.before sends.acts.after (Down config db) line sends.more → Sent-after
+  sends_down : (config : EtrConfigValue) (db : List MapRecordValue) → sends.acts.before.core ≡ Down config db → StandsForCore o T router (Down config db) → RouterSends old router server portion fate sends.acts.before sends.acts.after (Down config db) line sends.more → Sent-after
   sends_down config db is core at = ends (shown_store o T router) (moved o T _ router (shown_store o T router) _ line (lines.Down router) sends.more [] sends.acts.after sends.acts.before at.1 at.2 at.0 (record {
     row = (known_server, record { acts = record { kind = kind_here; acts = refl; state = core.0 }; names = refl; same = refl });
     count = omega arith;
     obedient = refl;
     adds = adds_none o T _ refl;
     shows = shows_here;
-    part = record { me = part_here.me; servers = part_here.servers; used = record { since_loss = part_here.used.since_loss; before_loss = part_here.used.before_loss }; core = subst (λ (c : RouterCoreState). StandsForCore o (step_of (events.Send router server fate) router (shown_store o T router) (lines.Down router) ∷ T) router c) (sym is) core };
+    part = record { me = part_here.me; servers = part_here.servers; used = record { since_loss = part_here.used.since_loss; before_loss = part_here.used.before_loss }; core = subst (λ (c : RouterCoreState). StandsForCore o (step_of (events.Send router server portion fate) router (shown_store o T router) (lines.Down router) ∷ T) router c) (sym is) core };
   }))
 
   module _ (e : EtrState) (own : StandsForEtr o T router e) where
     -- it sent, or refused to
     sends_ok : (etr : EtrState) → sends.acts.after ≡ record sends.acts.before { core = Up etr; store = sends.acts.after.store } → (armed called : StoreState) → (uses : Shown-in fate armed called sends.acts.after.store (shown_store o T router)) → (answer : Result (List ℕ) SendFault)
-        → CoreAnswersSend e etr armed called (place_of sends.acts.before.servers server) old.clock answer → SaysSendAnswer old router server answer line sends.more → Sent-after
+        → CoreAnswersSend e etr armed called (place_of sends.acts.before.servers server) portion old.clock answer → SaysSendAnswer old router server portion answer line sends.more → Sent-after
     sends_ok etr is armed called uses (Ok bytes) call says = ends _ (moved o T _ router _ _ line _ sends.more _ sends.acts.after _
-        (says.said ∙ ap (λ (h : Head). lines.Sent router server h.key_id h.nonce (length old.bag)) (head_is old o T stand router server fate sends.acts.before kind_here known_server part_here once_here e etr own armed called sends.acts.after.store uses bytes call says.head says.read))
-        says.posts is (sent_step old o T stand router server fate sends.acts.before kind_here known_server part_here once_here e etr own armed called sends.acts.after.store uses bytes call))
+        (says.said ∙ ap (λ (h : Head). lines.Sent router server portion h.key_id h.nonce (length old.bag)) (head_is old o T stand router server portion fate sends.acts.before kind_here known_server part_here once_here e etr own armed called sends.acts.after.store uses bytes call says.head says.read))
+        says.posts is (sent_step old o T stand router server portion fate sends.acts.before kind_here known_server part_here once_here e etr own armed called sends.acts.after.store uses bytes call))
     sends_ok etr is armed called uses (Err fault) call says = ends _ (moved o T _ router _ _ line _ sends.more _ sends.acts.after _ says.0 says.1 is
-        (refused_step old o T stand router server fate sends.acts.before kind_here known_server part_here once_here e etr own armed called sends.acts.after.store uses fault call))
+        (refused_step old o T stand router server portion fate sends.acts.before kind_here known_server part_here once_here e etr own armed called sends.acts.after.store uses fault call))
 
   -- it is up
-  sends_up : UpRouterSends old router server fate sends.acts.before sends.acts.after line sends.more → Sent-after
+  sends_up : UpRouterSends old router server portion fate sends.acts.before sends.acts.after line sends.more → Sent-after
   sends_up up =
       let call = up.sends.call in
       sends_ok up.sends.etr (subst (λ (core : RouterCoreState). StandsForCore o T router core) up.sends.was part_here.core) up.sends.left up.sends.is call.armed call.called
       (uses_shown sends.acts.before.store call.armed call.called sends.acts.after.store fate (shown_store o T router) shows_here call.uses) up.answer call.call up.says
 
   -- up or down
-  sends_at : (core : RouterCoreState) → sends.acts.before.core ≡ core → StandsForCore o T router core → RouterSends old router server fate sends.acts.before sends.acts.after core line sends.more → Sent-after
+  sends_at : (core : RouterCoreState) → sends.acts.before.core ≡ core → StandsForCore o T router core → RouterSends old router server portion fate sends.acts.before sends.acts.after core line sends.more → Sent-after
   sends_at (Up e) is own at = sends_up at
   sends_at (Down config db) is core at = sends_down config db is core at
 
@@ -391,5 +414,5 @@ module _ (old new : WorldState) (router server : ℕ) (fate : Fate) (line : Line
   sends_stand = sends_at sends.acts.before.core refl part_here.core sends.sends
 
 -- a router sends, refuses to, or is down, and the network stands for the trace with that step
-pub send_stands : (old new : WorldState) (router server : ℕ) (fate : Fate) (line : Line) → NetworkSends old new router server fate line → StandsAfter old new (events.Send router server fate) line
-send_stands old new router server fate line sends o T stand = sends_stand old new router server fate line sends o T stand
+pub send_stands : (old new : WorldState) (router server portion : ℕ) (fate : Fate) (line : Line) → NetworkSends old new router server portion fate line → StandsAfter old new (events.Send router server portion fate) line
+send_stands old new router server portion fate line sends o T stand = sends_stand old new router server portion fate line sends o T stand

@@ -4,13 +4,16 @@ use Rattle.std.proofs.Common.{◌≡◌, ℕ, true, false, Bool, List, [], ◌�
 use Rattle.std.specs.Prelude.{◌≤◌, slice_get, IsTrue}
 use Rattle.std.specs.List.{Contains}
 use Rattle.std.proofs.lemmas.List.{length-map, length-replicate}
+use Rattle.lisp_records.specs.Parts.{most_parts}
 use Rattle.lisp_records.specs.Record.{MapRecordValue}
 use Rattle.lisp_nonces.specs.Store.{StoreState, Rose as Rises, Proceeds}
 use Rattle.lisp_nonces.specs.Kept.{Kept, kept_at}
 use Rattle.lisp_etr.specs.Config.{EtrConfigValue, sent_pair}
 use Rattle.lisp_etr.specs.Etr.{EtrState}
 use Rattle.lisp_etr.specs.Round.{KeepsRoundTime, first_round}
+use Rattle.lisp_etr.specs.Rounds.{first_rounds}
 use Rattle.lisp_etr.specs.declared.round.Round.{Round}
+use Rattle.lisp_etr.specs.declared.rounds.Rounds.{Rounds}
 use Rattle.lisp_etr.specs.declared.start_fault.StartFault.{StartFault}
 use Rattle.lisp_etr.specs.declared.start_fault.StartFault.TheVariants as start_faults
 use Rattle.lisp_etr.proofs.TimerLaws.{rounds_keep_time}
@@ -29,10 +32,14 @@ use Rattle.lisp_model.specs.Promises.{is_timeless}
 use Rattle.lisp_refinement.specs.World.{RouterCoreState, Up, Down, UsedKeysState, WorldState}
 use Rattle.lisp_refinement.specs.Calls.{config_of, database_of, CoreStarts, CoreRefusesToStart, CoreAnswersStart, CoreAnswersStartOver}
 use Rattle.lisp_refinement.specs.Events.{RouterActs}
-use Rattle.lisp_refinement.specs.Stands.{shown_by, Shows, StandsForRound, StandsForEtr, StandsForCore, StandsForKeys, StandsForRouter, Stands}
+use Rattle.lisp_refinement.specs.Stands.{shown_by, Shows, StandsForRound, StandsForRounds, StandsForEtr, StandsForCore, StandsForKeys, StandsForRouter, Stands}
 use Rattle.lisp_refinement.proofs.Gets.{get_replicate}
 use Rattle.lisp_refinement.proofs.Acting.{adds_none}
 use Rattle.lisp_refinement.proofs.RouterEvents.{step_of, turn_at, RouterStep, acts_part, acts_shows, stands_by}
+
+-- nothing was acknowledged
+abbrev nothing : Option (ℕ × ℕ)
+nothing = None
 
 -- a store that was honest goes on to be so
 pub stays_honest : (old new : StoreState) → new.is_honest ≡ old.is_honest → IsTrue old.is_honest → IsTrue new.is_honest
@@ -42,8 +49,8 @@ stays_honest old new same honest = subst (λ (b : Bool). IsTrue b) (sym same) ho
 pub record BeginsAnew (o : Opening) (T U : List Step) (node : ℕ) (kept : Kept) : Type 0 where
   pub last : last_sent U node ≡ None
   pub values : start_values o U node ≡ kept_at kept (pair_at o U node)
-  pub rounds : (server : ℕ) → round U node server ≡ record { begin = clock T; moments = [] }
-  pub latest : (server : ℕ) → latest_nonce U node server ≡ 0
+  pub rounds : (server part : ℕ) → round U node server part ≡ record { begin = clock T; moments = [] }
+  pub latest : (server part : ℕ) → latest_nonce U node server part ≡ 0
 
 module _ (o : Opening) (T U : List Step) (node : ℕ) (kept : Kept) (begins : BeginsAnew o T U node kept) where
   -- it counts from a value that is kept for its pair
@@ -52,11 +59,10 @@ module _ (o : Opening) (T U : List Step) (node : ℕ) (kept : Kept) (begins : Be
       (subst (λ (c : EtrConfigValue). Contains (kept_at kept (sent_pair c)) base) is has)
 
   -- a round that begins now stands
-  pub round_anew : (server now : ℕ) (r : Round) → now ≡ clock T → KeepsRoundTime r now [] → r.latest ≡ 0 → r.acked ≡ acked U node server → StandsForRound U node server r
-  round_anew server now r moment keeps none same = record {
-    keeps = subst (λ (y : RoundTimes). KeepsRoundTime r y.begin y.moments) (sym (begins.rounds server)) (subst (λ a. KeepsRoundTime r a []) moment keeps);
-    latest = none ∙ sym (begins.latest server);
-    acked = same;
+  pub round_anew : (server part now : ℕ) (r : Round) → now ≡ clock T → KeepsRoundTime r now [] → r.latest ≡ 0 → StandsForRound U node server part r
+  round_anew server part now r moment keeps none = record {
+    keeps = subst (λ (y : RoundTimes). KeepsRoundTime r y.begin y.moments) (sym (begins.rounds server part)) (subst (λ a. KeepsRoundTime r a []) moment keeps);
+    latest = none ∙ sym (begins.latest server part);
   }
 
 module _ (o : Opening) (T : List Step) (node : ℕ) where
@@ -87,7 +93,7 @@ pub record StartsBy (o : Opening) (T : List Step) (event : EventValue) (node : �
   pub keys : (line : Line) → StandsForKeys o (step_of event node s line ∷ T) node used
   pub up : is_up (step_of event node s started ∷ T) node ≡ true
   pub begins : BeginsAnew o T (step_of event node s started ∷ T) node s.kept
-  pub forgets : (server : ℕ) → acked (step_of event node s started ∷ T) node server ≡ None
+  pub forgets : (server part : ℕ) → acked (step_of event node s started ∷ T) node server part ≡ None
   pub up_adds : bag o (step_of event node s started ∷ T) ≡ bag o T ++ []
   pub up_row : MayCome (turn_at o T node (fate_of event) s) event started
   pub down : (fault : StartFault) → is_up (step_of event node s (not_started node fault) ∷ T) node ≡ false
@@ -137,8 +143,17 @@ module _ (old new : WorldState) (node : ℕ) (acts : RouterActs old new node [])
       counts base has = counts_anew o T later node acts.after.store.kept by.begins config (by.settled started) base (subst (λ (k : Kept). Contains (kept_at k (sent_pair config)) base) (sym loaded) has)
 
       -- each of its rounds has just begun
-      started_round : (server : ℕ) → StandsForRound later node server (first_round old.clock)
-      started_round server = round_anew o T later node acts.after.store.kept by.begins server old.clock (first_round old.clock) stand.bag.moment (rounds_keep_time.start old.clock) refl (sym (by.forgets server))
+      started_round : (server place : ℕ) → StandsForRound later node server place (first_round old.clock)
+      started_round server place = round_anew o T later node acts.after.store.kept by.begins server place old.clock (first_round old.clock) stand.bag.moment (rounds_keep_time.start old.clock) refl
+
+      -- and nothing was counted
+      started_rounds : (server : ℕ) → StandsForRounds later node server (first_rounds old.clock)
+      started_rounds server = record {
+        parts = length-replicate most_parts (first_round old.clock);
+        acked_parts = length-replicate most_parts nothing;
+        round = λ place r has. subst (λ (x : Round). StandsForRound later node server place x) (get_replicate most_parts (first_round old.clock) place r has) (started_round server place);
+        acked = λ place pair has. sym (get_replicate most_parts nothing place pair has) ∙ sym (by.forgets server place);
+      }
 
       -- it stands
       up_part : StandsForEtr o later node call.etr
@@ -148,9 +163,9 @@ module _ (old new : WorldState) (node : ℕ) (acts : RouterActs old new node [])
         database = ap (λ (e : EtrState). e.database) call.starts ∙ by.given started;
         last = (let is = call.last become_honest in (is.0, counts is.0 is.1, is.2));
         safe = λ v has. omega (arith, ap (λ (e : EtrState). e.safe) call.starts);
-        count = ap (λ (e : EtrState). length e.rounds) call.starts ∙ length-replicate (length config.servers) (first_round old.clock) ∙ ap (λ (c : EtrConfigValue). length c.servers) (by.settled started) ∙ length-map (router_at o.config node).servers (address_at o.config);
-        rounds = λ i server r lists has. subst (λ (x : Round). StandsForRound later node server x)
-            (get_replicate (length config.servers) (first_round old.clock) i r (ap (λ (e : EtrState). slice_get e.rounds i) (sym call.starts) ∙ has)) (started_round server);
+        count = ap (λ (e : EtrState). length e.rounds) call.starts ∙ length-replicate (length config.servers) (first_rounds old.clock) ∙ ap (λ (c : EtrConfigValue). length c.servers) (by.settled started) ∙ length-map (router_at o.config node).servers (address_at o.config);
+        rounds = λ i server rs lists has. subst (λ (x : Rounds). StandsForRounds later node server x)
+            (get_replicate (length config.servers) (first_rounds old.clock) i rs (ap (λ (e : EtrState). slice_get e.rounds i) (sym call.starts) ∙ has)) (started_rounds server);
       }
 
       -- its step

@@ -47,7 +47,7 @@ restarts_stand old new node pick db line fits (inr turn) = restart_router_stands
 -- whatever the event
 pub taking_agrees : (A : Type 0) (old new : WorldState) (event : EventValue) (line : Line) → NetworkTakes A old new event line → StandsAfter old new event line
 taking_agrees A old new (events.Change router db) line turn = change_stands old new router db line turn
-taking_agrees A old new (events.Send router server fate) line turn = send_stands old new router server fate line turn
+taking_agrees A old new (events.Send router server part fate) line turn = send_stands old new router server part fate line turn
 taking_agrees A old new (events.Deliver k fate) line turn = delivers_stand A old new k fate line turn
 taking_agrees A old new (events.Junk to from bytes) line turn = junk_stands A old new to from bytes line turn
 taking_agrees A old new (events.Tick ms) line turn = tick_stands old new ms line turn

@@ -1,6 +1,5 @@
 -- What is asked of a node, at the network's clock, is what the trace says.
-use Rattle.std.specs.Prelude.{◌≡◌, ◌≢◌, ℕ, ◌+◌, nat_le, true, false, List, length, slice_get, position, Option, Some, None}
-use Rattle.std.specs.Option.{option_and_then}
+use Rattle.std.specs.Prelude.{◌≡◌, ◌≢◌, ℕ, ◌+◌, true, false, List, length, map, slice_get, Option, Some, None}
 use Rattle.std.specs.declared.cmp.Ordering.TheVariants.{Less}
 use Rattle.lisp_records.specs.declared.address.Addr.{Addr}
 use Rattle.lisp_records.specs.declared.router.RouterId.{RouterId}
@@ -11,14 +10,16 @@ use Rattle.lisp_admission.specs.Pairs.{notice_pair}
 use Rattle.lisp_lookup.specs.declared.answer.Answer.{Answer}
 use Rattle.lisp_lookup.specs.Answer.{Answers}
 use Rattle.lisp_lookup.specs.Table.{OneEach, IsHeld}
-use Rattle.lisp_etr.specs.Etr.{EtrState}
+use Rattle.lisp_etr.specs.Etr.{EtrState, due_at}
+use Rattle.lisp_etr.specs.Rounds.{acked_at, first_part}
 use Rattle.lisp_server.specs.LastNonces.{nonce_at}
 use Rattle.lisp_server.specs.Notices.{OneForEach, IsDueRouter}
 use Rattle.lisp_server.specs.Server.{ServerState}
 use Rattle.lisp_model.specs.Trace.{Step, Opening, router_at, clock, database}
 use Rattle.lisp_model.specs.Held.{last_of, rows}
 use Rattle.lisp_model.specs.Answer.{IsAnswer}
-use Rattle.lisp_model.specs.Timers.{due, notice_to, is_due, last_notice}
+use Rattle.lisp_model.specs.Numbers.{part_numbers}
+use Rattle.lisp_model.specs.Timers.{due_part, notice_to, is_due, last_notice}
 use Rattle.lisp_model.specs.Bag.{since_start}
 use Rattle.lisp_model.specs.Counted.{acked}
 use Rattle.lisp_refinement.specs.World.{ServerNodeState, RouterNodeState, Up, WorldState}
@@ -45,12 +46,12 @@ abbrev pub ServersTell : Type 0 → WorldState → Opening → List Step → Typ
 ServersTell A w o T = (k : ℕ) (n : ServerNodeState) → slice_get w.servers k ≡ Some n
     → ServerTells A o T k n.core w.clock
 
--- a router that is up: what it counted last from each of its Map-Servers, which one is due, and what it registers
+-- a router that is up: what it counted last of each part from each of its Map-Servers, which one is due and of which
+-- part, and what it registers
 pub record RouterTells (o : Opening) (T : List Step) (router : ℕ) (etr : EtrState) (now : ℕ) : Type 0 where
   pub acked : (place server : ℕ) → slice_get (router_at o.config router).servers place ≡ Some server
-      → option_and_then (λ round. round.acked) (slice_get etr.rounds place) ≡ acked T router server
-  pub due : position (λ round. nat_le round.due now) etr.rounds
-      ≡ position (λ server. nat_le (due T router server) (clock T)) (router_at o.config router).servers
+      → acked_at etr.rounds place ≡ map (acked T router server) part_numbers
+  pub due : due_at etr now ≡ first_part (due_part o T router) (router_at o.config router).servers
   pub database : etr.database ≡ database o T router
 
 -- so does each router of a network that is up

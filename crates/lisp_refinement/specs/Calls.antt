@@ -4,6 +4,8 @@ use Rattle.std.specs.Prelude.{◌≡◌, ◌≢◌, ℕ, ◌+◌, ◌<◌, ◌�
 use Rattle.std.specs.Option.{unwrap_or}
 use Rattle.lisp_records.specs.declared.address.Addr.{Addr}
 use Rattle.lisp_records.specs.declared.router.RouterId.{RouterId}
+use Rattle.lisp_records.specs.Database.{database_of as checked_database}
+use Rattle.lisp_records.specs.Parts.{part_count}
 use Rattle.lisp_records.specs.Record.{MapRecordValue}
 use Rattle.lisp_messages.specs.Message.{IsMapRegister}
 use Rattle.lisp_messages.specs.Reading.{HasHead, message_at}
@@ -18,12 +20,12 @@ use Rattle.lisp_nonces.specs.Promises.{KeepsListsIfHonest, KeepsSomeIfHonest, Is
 use Rattle.lisp_etr.specs.Config.{EtrConfigValue, sent_pair, sent_pair_under, with_key}
 use Rattle.lisp_etr.specs.Etr.{EtrState, etr_started, etr_rotated}
 use Rattle.lisp_etr.specs.Hearing.{Gives, AnswerFits, TakesMemory, seen_at, etr_after}
-use Rattle.lisp_etr.specs.Sending.{last_nonce, map_register_of, datagram_of, block_end, EtrSends, Settles, LeavesPair}
+use Rattle.lisp_etr.specs.Sending.{last_nonce, next_register, next_datagram, NoServerAt, NoPartFor, NoNonceFor, block_end, EtrSends, Settles, LeavesPair}
 use Rattle.lisp_etr.specs.declared.notify_fault.NotifyFault.{NotifyFault}
 use Rattle.lisp_etr.specs.declared.notify_fault.NotifyFault.TheVariants as notify_faults
 use Rattle.lisp_etr.specs.declared.seen.Seen.{Seen}
 use Rattle.lisp_etr.specs.declared.send_fault.SendFault.{SendFault}
-use Rattle.lisp_etr.specs.declared.send_fault.SendFault.TheVariants.{NoServer, NonceSpent, Store}
+use Rattle.lisp_etr.specs.declared.send_fault.SendFault.TheVariants.{NoServer, NoPart, NonceSpent, Store}
 use Rattle.lisp_etr.specs.declared.rotate_fault.RotateFault.{RotateFault}
 use Rattle.lisp_etr.specs.declared.rotate_fault.RotateFault.TheVariants as rotate_faults
 use Rattle.lisp_etr.specs.declared.start_fault.StartFault.{StartFault}
@@ -79,13 +81,15 @@ pub record NodeNotifies (old new : ServerNodeState) (fate : Fate) (router : Rout
 abbrev pub sent_kept : StoreState → EtrState → List (Option ℕ)
 sent_kept store e = kept_at store.kept (sent_pair e.config)
 
--- a router that is up sent a Map-Register to the Map-Server at a place of its list
-pub record CoreSends (old new : EtrState) (armed called : StoreState) (place now : ℕ) (bytes : List ℕ) : Type 0 where
+-- a router that is up sent a Map-Register of a part of its database to the Map-Server at a place of its list
+pub record CoreSends (old new : EtrState) (armed called : StoreState) (place part now : ℕ) (bytes : List ℕ) : Type 0 where
   pub within : place < length old.config.servers
+  pub there : part < part_count old.database
+  pub fits : checked_database old.database ≡ Ok old.database
   pub left : old.last < last_nonce
-  pub datagram : bytes ≡ datagram_of old.config old.database (old.last + 1)
-  pub known : IsMapRegister (map_register_of old.config old.database (old.last + 1))
-  pub sends : EtrSends old new place now
+  pub datagram : bytes ≡ next_datagram old part
+  pub known : IsMapRegister (next_register old part)
+  pub sends : EtrSends old new place part now
   pub safe : old.last + 1 ≤ new.safe
   pub keeps_safe : IsTrue armed.is_honest → NoneBelow old.safe (sent_kept armed old)
       → NoneBelow new.safe (sent_kept called old)
@@ -96,14 +100,16 @@ pub record CoreSends (old new : EtrState) (armed called : StoreState) (place now
   pub others : IsTrue armed.is_honest → SameElsewhere armed.kept called.kept (sent_pair old.config)
 
 -- why it didn't: the first reason that applies
-abbrev pub IsSendFaultOf : EtrState → ℕ → SendFault → Type 0
-IsSendFaultOf e place NoServer = length e.config.servers ≤ place
-IsSendFaultOf e place NonceSpent = (place < length e.config.servers) × (last_nonce ≤ e.last)
-IsSendFaultOf e place _ = (place < length e.config.servers) × (e.last < last_nonce)
+abbrev pub IsSendFaultOf : EtrState → ℕ → ℕ → SendFault → Type 0
+IsSendFaultOf e place part NoServer = NoServerAt e place
+IsSendFaultOf e place part NoPart = NoPartFor e place part
+IsSendFaultOf e place part NonceSpent = NoNonceFor e place part
+IsSendFaultOf e place part _ =
+    (place < length e.config.servers) × (part < part_count e.database) × (e.last < last_nonce)
 
-pub record CoreRefusesToSend (old new : EtrState) (armed called : StoreState) (place : ℕ) (fault : SendFault)
+pub record CoreRefusesToSend (old new : EtrState) (armed called : StoreState) (place part : ℕ) (fault : SendFault)
     : Type 0 where
-  pub why : IsSendFaultOf old place fault
+  pub why : IsSendFaultOf old place part fault
   pub err : new ≡ old
   pub keeps_safe : IsTrue armed.is_honest → NoneBelow old.safe (sent_kept armed old)
       → NoneBelow old.safe (sent_kept called old)
@@ -117,17 +123,19 @@ pub record CoreRefusesToSend (old new : EtrState) (armed called : StoreState) (p
   pub doubted : fault ≡ Store faults.Device → IsTrue armed.is_obedient
       → sent_kept called old ≡ with_value (sent_kept armed old) (block_end (old.last + 1) old.config.nonce_block)
 
-abbrev pub CoreAnswersSend : EtrState → EtrState → StoreState → StoreState → ℕ → ℕ → Result (List ℕ) SendFault → Type 0
-CoreAnswersSend old new armed called place now (Ok bytes) = CoreSends old new armed called place now bytes
-CoreAnswersSend old new armed called place now (Err fault) = CoreRefusesToSend old new armed called place fault
+abbrev pub CoreAnswersSend : EtrState → EtrState → StoreState → StoreState → ℕ → ℕ → ℕ → Result (List ℕ) SendFault
+    → Type 0
+CoreAnswersSend old new armed called place part now (Ok bytes) = CoreSends old new armed called place part now bytes
+CoreAnswersSend old new armed called place part now (Err fault) =
+    CoreRefusesToSend old new armed called place part fault
 
 -- its store used in that
-pub record CoreAnswersSendOver (old new : EtrState) (before after : StoreState) (fate : Fate) (place now : ℕ)
+pub record CoreAnswersSendOver (old new : EtrState) (before after : StoreState) (fate : Fate) (place part now : ℕ)
     (answer : Result (List ℕ) SendFault) : Type 0 where
   pub armed : StoreState
   pub called : StoreState
   pub uses : UsesStore before fate armed called after
-  pub call : CoreAnswersSend old new armed called place now answer
+  pub call : CoreAnswersSend old new armed called place part now answer
 
 -- a router that is up went over to another key: its last nonce under it is one that may be kept for it
 pub record CoreRotates (old new : EtrState) (key_id : ℕ) (secret : List ℕ) (armed called : StoreState) (now : ℕ)

@@ -1,5 +1,5 @@
 -- What an event makes of the network, by the call of the node that acts.
-use Rattle.std.specs.Prelude.{◌≡◌, ◌⊎◌, ℕ, ◌+◌, ◌<◌, ◌≤◌, ◌==◌, Bool, true, false, List, [], ◌∷◌, ◌++◌, length, map, position, slice_get, slice_set, slice_index_or, Option, Some, None, Result, Ok, Err}
+use Rattle.std.specs.Prelude.{◌≡◌, ◌⊎◌, ℕ, ◌+◌, ◌<◌, ◌≤◌, ◌==◌, Bool, true, false, List, [], ◌∷◌, ◌++◌, length, position, slice_get, slice_set, slice_index_or, Option, Some, None, Result, Ok, Err}
 use Rattle.std.specs.Option.{option_map, option_to_list, unwrap_or}
 use Rattle.lisp_records.specs.Database.{database_of as checked_database}
 use Rattle.lisp_records.specs.declared.address.Addr.{Addr}
@@ -12,8 +12,7 @@ use Rattle.lisp_messages.specs.declared.head.Head.{Head}
 use Rattle.lisp_messages.specs.Head.{head_at}
 use Rattle.lisp_nonces.specs.declared.fate.Fate.{Fate}
 use Rattle.lisp_nonces.specs.Store.{StoreState}
-use Rattle.lisp_etr.specs.Etr.{EtrState}
-use Rattle.lisp_etr.specs.Round.{new_round}
+use Rattle.lisp_etr.specs.Etr.{EtrState, etr_changed}
 use Rattle.lisp_etr.specs.declared.notify_fault.NotifyFault.{NotifyFault}
 use Rattle.lisp_etr.specs.declared.seen.Seen.{Seen}
 use Rattle.lisp_etr.specs.declared.seen.Seen.TheVariants.{Counted, Notice}
@@ -75,7 +74,7 @@ pub record NetworkTicks (old new : WorldState) (ms : ℕ) (line : Line) : Type 0
 
 -- a router is given another database, if it is up
 abbrev pub changed_core : List MapRecordValue → ℕ → RouterCoreState → RouterCoreState
-changed_core db now (Up e) = Up (record e { database = db; rounds = map (new_round now) e.rounds })
+changed_core db now (Up e) = Up (etr_changed e db now)
 changed_core db now (Down config database) = Down config database
 
 abbrev pub changed_node : List MapRecordValue → ℕ → RouterNodeState → RouterNodeState
@@ -99,14 +98,14 @@ pub record NetworkChanges (old new : WorldState) (router : ℕ) (db : List MapRe
 abbrev pub place_of : List ℕ → ℕ → ℕ
 place_of servers server = unwrap_or (position (λ s. s == server) servers) (length servers)
 
--- a router that is up was asked to send to the Map-Server with a number
-pub record NodeSends (before after : RouterNodeState) (server : ℕ) (fate : Fate) (now : ℕ)
+-- a router that is up was asked to send a part of its database to the Map-Server with a number
+pub record NodeSends (before after : RouterNodeState) (server part : ℕ) (fate : Fate) (now : ℕ)
     (answer : Result (List ℕ) SendFault) : Type 0 where
   pub etr : EtrState
   pub was : before.core ≡ Up etr
   pub left : EtrState
   pub is : after ≡ record before { core = Up left; store = after.store }
-  pub call : CoreAnswersSendOver etr left before.store after.store fate (place_of before.servers server) now answer
+  pub call : CoreAnswersSendOver etr left before.store after.store fate (place_of before.servers server) part now answer
 
 -- a node sent a message: its line has the Key ID and the nonce that stand in the datagram
 pub record SaysMessage (old : WorldState) (node : ℕ) (to : Addr) (bytes : List ℕ) (line_of : ℕ → ℕ → Line) (line : Line)
@@ -117,31 +116,31 @@ pub record SaysMessage (old : WorldState) (node : ℕ) (to : Addr) (bytes : List
   pub posts : more ≡ record { from = address_of old node; to = to; bytes = bytes } ∷ []
 
 -- a router that was asked to send
-abbrev pub SaysSendAnswer : WorldState → ℕ → ℕ → Result (List ℕ) SendFault → Line → List DatagramValue → Type 0
-SaysSendAnswer old router server (Ok bytes) line more =
+abbrev pub SaysSendAnswer : WorldState → ℕ → ℕ → ℕ → Result (List ℕ) SendFault → Line → List DatagramValue → Type 0
+SaysSendAnswer old router server part (Ok bytes) line more =
     SaysMessage old router (address_of old server) bytes
-    (λ key nonce. lines.Sent router server key nonce (length old.bag)) line more
-SaysSendAnswer old router server (Err fault) line more =
+    (λ key nonce. lines.Sent router server part key nonce (length old.bag)) line more
+SaysSendAnswer old router server part (Err fault) line more =
     (line ≡ lines.Refused router (refusals.Send fault)) × (more ≡ [])
 
-pub record UpRouterSends (old : WorldState) (router server : ℕ) (fate : Fate) (before after : RouterNodeState)
+pub record UpRouterSends (old : WorldState) (router server part : ℕ) (fate : Fate) (before after : RouterNodeState)
     (line : Line) (more : List DatagramValue) : Type 0 where
   pub answer : Result (List ℕ) SendFault
-  pub sends : NodeSends before after server fate old.clock answer
-  pub says : SaysSendAnswer old router server answer line more
+  pub sends : NodeSends before after server part fate old.clock answer
+  pub says : SaysSendAnswer old router server part answer line more
 
-abbrev pub RouterSends : WorldState → ℕ → ℕ → Fate → RouterNodeState → RouterNodeState → RouterCoreState → Line
+abbrev pub RouterSends : WorldState → ℕ → ℕ → ℕ → Fate → RouterNodeState → RouterNodeState → RouterCoreState → Line
     → List DatagramValue → Type 0
-RouterSends old router server fate before after (Up e) line more =
-    UpRouterSends old router server fate before after line more
-RouterSends old router server fate before after (Down config database) line more =
+RouterSends old router server part fate before after (Up e) line more =
+    UpRouterSends old router server part fate before after line more
+RouterSends old router server part fate before after (Down config database) line more =
     (after ≡ before) × (line ≡ lines.Down router) × (more ≡ [])
 
-pub record NetworkSends (old new : WorldState) (router server : ℕ) (fate : Fate) (line : Line) : Type 0 where
+pub record NetworkSends (old new : WorldState) (router server part : ℕ) (fate : Fate) (line : Line) : Type 0 where
   pub kind : server < length old.servers
   pub more : List DatagramValue
   pub acts : RouterActs old new router more
-  pub sends : RouterSends old router server fate acts.before acts.after acts.before.core line more
+  pub sends : RouterSends old router server part fate acts.before acts.after acts.before.core line more
 
 -- an answer from an address to another, if there is one
 abbrev pub datagram_to : Addr → Addr → Option (List ℕ) → List DatagramValue
@@ -173,8 +172,8 @@ abbrev pub server_number : List ℕ → ℕ → ℕ
 server_number servers place = slice_index_or servers place 0
 
 abbrev pub router_line : {A : Type 0} → ℕ → ℕ → List ℕ → ℕ → Result (Seen A) NotifyFault → Line
-router_line node next servers key (Ok (Counted place nonce)) =
-    lines.Counted node (server_number servers place) key nonce
+router_line node next servers key (Ok (Counted place part nonce)) =
+    lines.Counted node (server_number servers place) part key nonce
 router_line node next servers key (Ok (Notice place nonce records answer)) =
     lines.Noticed node (server_number servers place) nonce next
 router_line node next servers key (Err fault) = lines.Refused node (refusals.Notify fault)

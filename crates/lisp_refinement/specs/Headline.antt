@@ -3,10 +3,10 @@
 -- and 8.2).
 use Rattle.std.specs.Prelude.{◌≡◌, ℕ, List, [], ◌∷◌, slice_get, Some}
 use Rattle.std.specs.List.{Contains}
-use Rattle.std.specs.Option.{option_and_then}
 use Rattle.lisp_records.specs.Row.{RowValue}
 use Rattle.lisp_lookup.specs.Table.{IsHeld}
 use Rattle.lisp_etr.specs.Etr.{EtrState}
+use Rattle.lisp_etr.specs.Rounds.{acked_at}
 use Rattle.lisp_server.specs.Server.{ServerState}
 use Rattle.lisp_model.specs.Trace.{Step, Opening, router_at, clock}
 use Rattle.lisp_model.specs.History.{SentRegister, record_in, history}
@@ -25,11 +25,11 @@ pub record Lists (w : WorldState) (server : ℕ) (listed : List RowValue) : Type
   pub running : server_at w server ≡ Some core
   pub held : IsHeld core.rows w.clock listed
 
--- the Key ID and nonce that a running router counted last from the Map-Server at a place of its list
-pub record Counts (w : WorldState) (router place key nonce : ℕ) : Type 0 where
+-- the Key ID and nonce that a running router counted last of a part from the Map-Server at a place of its list
+pub record Counts (w : WorldState) (router place part key nonce : ℕ) : Type 0 where
   pub core : EtrState
   pub running : etr_at w router ≡ Some core
-  pub counted : option_and_then (λ round. round.acked) (slice_get core.rounds place) ≡ Some (key, nonce)
+  pub counted : slice_get (acked_at core.rounds place) part ≡ Some (Some (key, nonce))
 
 -- a row is the one that is held for its router and prefix; its record is the one that the router's database had for
 -- that prefix at a send to this Map-Server; and it was made of that send's message, which was accepted since the start
@@ -52,11 +52,11 @@ ListedAgree w o T = (one other : ℕ) (listed listed' : List RowValue) → Lists
     → (g h : RowValue) → Contains listed g → Contains listed' h → g.router ≡ h.router → g.mapping.eid ≡ h.mapping.eid
     → (d e : SentRegister) → IsSentRow o T one g d → IsSentRow o T other h e → NoChange T d e → g.mapping ≡ h.mapping
 
--- what a running router counted last is a send of its own to that Map-Server, which accepted it
+-- what a running router counted last of a part is a send of that part of its own to that Map-Server, which accepted it
 abbrev pub CountsAreAccepted : WorldState → Opening → List Step → Type 0
-CountsAreAccepted w o T = (router place key nonce server : ℕ)
+CountsAreAccepted w o T = (router place part key nonce server : ℕ)
     → slice_get (router_at o.config router).servers place ≡ Some server
-    → Counts w router place key nonce → WasAccepted o T router server key nonce
+    → Counts w router place part key nonce → WasAccepted o T router server part key nonce
 
 -- it holds of each step and the steps before it
 abbrev pub OfEachStep : (List Step → Step → Type 0) → List Step → Type 0

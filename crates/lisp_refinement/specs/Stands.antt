@@ -5,6 +5,7 @@ use Rattle.std.specs.Option.{option_map, option_and_then}
 use Rattle.lisp_records.specs.declared.router.RouterId.{RouterId}
 use Rattle.lisp_records.specs.Address.{PrefixValue}
 use Rattle.lisp_records.specs.Moment.{max_moment}
+use Rattle.lisp_records.specs.Parts.{most_parts}
 use Rattle.lisp_records.specs.Row.{RowValue}
 use Rattle.lisp_nonces.specs.declared.pair.Pair.{Pair}
 use Rattle.lisp_nonces.specs.Kept.{kept_at, number, NoneBelow}
@@ -14,6 +15,7 @@ use Rattle.lisp_lookup.specs.Table.{row_at, if_alive}
 use Rattle.lisp_etr.specs.Etr.{EtrState}
 use Rattle.lisp_etr.specs.Round.{KeepsRoundTime}
 use Rattle.lisp_etr.specs.declared.round.Round.{Round}
+use Rattle.lisp_etr.specs.declared.rounds.Rounds.{Rounds}
 use Rattle.lisp_server.specs.LastNonces.{nonce_at}
 use Rattle.lisp_server.specs.Contacts.{contact_at}
 use Rattle.lisp_server.specs.Receiving.{contact_of}
@@ -69,12 +71,20 @@ pub record StandsInBag (w : WorldState) (o : Opening) (T : List Step) : Type 0 w
   pub each : (k : ℕ) (d : DatagramValue) (i : Item) → slice_get w.bag k ≡ Some d → slice_get (bag o T) k ≡ Some i
       → Carries d i
 
--- the numbers that a router counts from; of its rounds each is that of a server
-pub record StandsForRound (T : List Step) (router server : ℕ) (r : Round) : Type 0 where
-  pub keeps : KeepsRoundTime r (round T router server).begin (round T router server).moments
-  pub latest : r.latest ≡ latest_nonce T router server
-  pub acked : r.acked ≡ acked T router server
+-- a router's round of a part with a server
+pub record StandsForRound (T : List Step) (router server part : ℕ) (r : Round) : Type 0 where
+  pub keeps : KeepsRoundTime r (round T router server part).begin (round T router server part).moments
+  pub latest : r.latest ≡ latest_nonce T router server part
 
+-- and all of them, with what was counted of each
+pub record StandsForRounds (T : List Step) (router server : ℕ) (rs : Rounds) : Type 0 where
+  pub parts : length rs.parts ≡ most_parts
+  pub acked_parts : length rs.acked ≡ most_parts
+  pub round : (part : ℕ) (r : Round) → slice_get rs.parts part ≡ Some r → StandsForRound T router server part r
+  pub acked : (part : ℕ) (pair : Option (ℕ × ℕ)) → slice_get rs.acked part ≡ Some pair
+      → pair ≡ acked T router server part
+
+-- the numbers that a router counts from; of its rounds each are those of a server
 pub record StandsForEtr (o : Opening) (T : List Step) (router : ℕ) (e : EtrState) : Type 0 where
   pub up : is_up T router ≡ true
   pub config : e.config ≡ etr_config o T router
@@ -82,8 +92,8 @@ pub record StandsForEtr (o : Opening) (T : List Step) (router : ℕ) (e : EtrSta
   pub last : (base : Option ℕ) × CountsFrom o T router base × (e.last ≡ number base)
   pub safe : NoneBelow e.safe (kept_at (shown_store o T router).kept (pair_at o T router))
   pub count : length e.rounds ≡ length (router_at o.config router).servers
-  pub rounds : (i server : ℕ) (r : Round) → slice_get (router_at o.config router).servers i ≡ Some server
-      → slice_get e.rounds i ≡ Some r → StandsForRound T router server r
+  pub rounds : (i server : ℕ) (rs : Rounds) → slice_get (router_at o.config router).servers i ≡ Some server
+      → slice_get e.rounds i ≡ Some rs → StandsForRounds T router server rs
 
 abbrev pub StandsForCore : Opening → List Step → ℕ → RouterCoreState → Type 0
 StandsForCore o T router (Up e) = StandsForEtr o T router e

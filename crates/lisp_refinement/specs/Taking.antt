@@ -11,7 +11,7 @@ use Rattle.lisp_refinement.specs.Stands.{StandsAfter}
 -- what an event makes of a network, and its line
 abbrev pub NetworkTakes : Type 0 → WorldState → WorldState → EventValue → Line → Type 0
 NetworkTakes A old new (events.Change router db) line = NetworkChanges old new router db line
-NetworkTakes A old new (events.Send router server fate) line = NetworkSends old new router server fate line
+NetworkTakes A old new (events.Send router server part fate) line = NetworkSends old new router server part fate line
 NetworkTakes A old new (events.Deliver k fate) line = NetworkDelivers A old new k fate line
 NetworkTakes A old new (events.Junk to from bytes) line = Arrives A old new to Done from bytes line
 NetworkTakes A old new (events.Tick ms) line = NetworkTicks old new ms line

@@ -17,9 +17,9 @@ pub fn servers_tell<A: Allocator>()
     ensures { (w : WorldState) (o : Opening) (T : List Step) → Stands w o T → ServersTell A w o T }
 {}
 
-/// What a router that is up tells at the network's clock is what the trace says: which of its Map-Registers to each
-/// Map-Server was acknowledged last, to which Map-Server the next one is due, and what it registers (RFC 9301 sections
-/// 5.7 and 8.2).
+/// What a router that is up tells at the network's clock is what the trace says: which of its Map-Registers of each part
+/// to each Map-Server was acknowledged last, to which Map-Server the next one is due and of which part, and what it
+/// registers (RFC 9301 sections 5.7 and 8.2).
 pub fn routers_tell()
     ensures { (w : WorldState) (o : Opening) (T : List Step) → Stands w o T → RoutersTell w o T }
 {}

@@ -17,7 +17,7 @@ faults_of_a_router_that_starts = 36 ∷ 35 ∷ []
 
 -- faults of a router that sends
 abbrev pub faults_of_a_router_that_sends : List ℕ
-faults_of_a_router_that_sends = 40 ∷ 41 ∷ 48 ∷ 42 ∷ []
+faults_of_a_router_that_sends = 40 ∷ 49 ∷ 41 ∷ 48 ∷ 42 ∷ []
 
 -- faults of a router that changes its key
 abbrev pub faults_of_a_router_that_changes_its_key : List ℕ

@@ -55,8 +55,8 @@ has the fields and the order of the checks. On a terminal the field is named too
 /// Why records are not a database.
 pub(crate) const DATABASE_FAULTS: Section = Section {
     title: "Faults of a database",
-    introduction: "Why a list of records can't be what a router registers, checked in this order: more than 255 records (5), two of one prefix
-(4), too many bytes (5). A configuration reports each as 22 at `router.records`, and a script as 84.",
+    introduction: "Why a list of records can't be what a router registers, checked in this order: more than 1,024 records (5), two of one prefix
+(4), more than 16 parts (5). A configuration reports each as 22 at `router.records`, and a script as 84.",
     header: HEADER,
     rows: &[
         Row {
@@ -71,7 +71,7 @@ pub(crate) const DATABASE_FAULTS: Section = Section {
             number: 5,
             carried: "",
             name: "TooLarge",
-            meaning: "more than 255 records, or more than 16,384 bytes of them",
+            meaning: "more than 1,024 records, or more than 16 parts, of at most 255 records and 16,384 bytes each",
             status: "",
             remedy: "register fewer, or with fewer locators",
         },

@@ -31,23 +31,43 @@ three (a ∷ b ∷ []) d some few = absurd (omega arith)
 three (a ∷ b ∷ e ∷ []) d some few = refl
 three (a ∷ b ∷ e ∷ f ∷ words) d some few = absurd (omega arith)
 
+pub four : (words : List (Bor (List ℕ))) (d : Bor (List ℕ)) → 4 ≤ length words → length words < 5
+    → texts words ≡ (get_or words 0 d).now ∷ (get_or words 1 d).now ∷ (get_or words 2 d).now ∷ (get_or words 3 d).now ∷ []
+four [] d some few = absurd (omega arith)
+four (a ∷ []) d some few = absurd (omega arith)
+four (a ∷ b ∷ []) d some few = absurd (omega arith)
+four (a ∷ b ∷ e ∷ []) d some few = absurd (omega arith)
+four (a ∷ b ∷ e ∷ f ∷ []) d some few = refl
+four (a ∷ b ∷ e ∷ f ∷ h ∷ words) d some few = absurd (omega arith)
+
+pub five : (words : List (Bor (List ℕ))) (d : Bor (List ℕ)) → 5 ≤ length words → length words < 6
+    → texts words ≡ (get_or words 0 d).now ∷ (get_or words 1 d).now ∷ (get_or words 2 d).now ∷ (get_or words 3 d).now ∷ (get_or words 4 d).now ∷ []
+five [] d some few = absurd (omega arith)
+five (a ∷ []) d some few = absurd (omega arith)
+five (a ∷ b ∷ []) d some few = absurd (omega arith)
+five (a ∷ b ∷ e ∷ []) d some few = absurd (omega arith)
+five (a ∷ b ∷ e ∷ f ∷ []) d some few = absurd (omega arith)
+five (a ∷ b ∷ e ∷ f ∷ h ∷ []) d some few = refl
+five (a ∷ b ∷ e ∷ f ∷ h ∷ k ∷ words) d some few = absurd (omega arith)
+
 -- more words than any verb takes that no records follow
-too_many : (c : ConfigValue) (verb : Verb) (a b e f : List ℕ) (words : List (List ℕ)) → verb ≢ verbs.Change → verb ≢ verbs.Restart → verb ≢ verbs.Lose → spelt c verb (a ∷ b ∷ e ∷ f ∷ words) ≡ Err Count
+too_many : (c : ConfigValue) (verb : Verb) (a b e f h k : List ℕ) (words : List (List ℕ)) → verb ≢ verbs.Change → verb ≢ verbs.Restart → verb ≢ verbs.Lose
+    → spelt c verb (a ∷ b ∷ e ∷ f ∷ h ∷ k ∷ words) ≡ Err Count
 unfolding spelt
-too_many c verbs.Change a b e f words change restart lose = absurd (change refl)
-too_many c verbs.Send a b e f words change restart lose = refl
-too_many c verbs.Deliver a b e f words change restart lose = refl
-too_many c verbs.Junk a b e f words change restart lose = refl
-too_many c verbs.Tick a b e f words change restart lose = refl
-too_many c verbs.Restart a b e f words change restart lose = absurd (restart refl)
-too_many c verbs.Rotate a b e f words change restart lose = refl
-too_many c verbs.Lose a b e f words change restart lose = absurd (lose refl)
-too_many c verbs.Notice a b e f words change restart lose = refl
-too_many c verbs.Resend a b e f words change restart lose = refl
-too_many c verbs.Hold a b e f words change restart lose = refl
-too_many c verbs.Acks a b e f words change restart lose = refl
-too_many c verbs.Ask a b e f words change restart lose = refl
-too_many c verbs.Due a b e f words change restart lose = refl
+too_many c verbs.Change a b e f h k words change restart lose = absurd (change refl)
+too_many c verbs.Send a b e f h k words change restart lose = refl
+too_many c verbs.Deliver a b e f h k words change restart lose = refl
+too_many c verbs.Junk a b e f h k words change restart lose = refl
+too_many c verbs.Tick a b e f h k words change restart lose = refl
+too_many c verbs.Restart a b e f h k words change restart lose = absurd (restart refl)
+too_many c verbs.Rotate a b e f h k words change restart lose = refl
+too_many c verbs.Lose a b e f h k words change restart lose = absurd (lose refl)
+too_many c verbs.Notice a b e f h k words change restart lose = refl
+too_many c verbs.Resend a b e f h k words change restart lose = refl
+too_many c verbs.Hold a b e f h k words change restart lose = refl
+too_many c verbs.Acks a b e f h k words change restart lose = refl
+too_many c verbs.Ask a b e f h k words change restart lose = refl
+too_many c verbs.Due a b e f h k words change restart lose = refl
 
 -- no word behind a verb
 too_few : (c : ConfigValue) (verb : Verb) → spelt c verb [] ≡ Err Count
@@ -68,12 +88,14 @@ too_few c verbs.Ask = refl
 too_few c verbs.Due = refl
 
 -- a number of words that no verb takes that no records follow
-pub miscounted : (c : ConfigValue) (verb : Verb) (words : List (Bor (List ℕ))) → (1 ≤ length words → 4 ≤ length words) → verb ≢ verbs.Change → verb ≢ verbs.Restart → verb ≢ verbs.Lose → spelt c verb (texts words) ≡ Err Count
+pub miscounted : (c : ConfigValue) (verb : Verb) (words : List (Bor (List ℕ))) → (1 ≤ length words → 6 ≤ length words) → verb ≢ verbs.Change → verb ≢ verbs.Restart → verb ≢ verbs.Lose → spelt c verb (texts words) ≡ Err Count
 miscounted c verb [] many change restart lose = too_few c verb
 miscounted c verb (a ∷ []) many change restart lose = absurd (omega (arith, many))
 miscounted c verb (a ∷ b ∷ []) many change restart lose = absurd (omega (arith, many))
 miscounted c verb (a ∷ b ∷ e ∷ []) many change restart lose = absurd (omega (arith, many))
-miscounted c verb (a ∷ b ∷ e ∷ f ∷ words) many change restart lose = too_many c verb a.now b.now e.now f.now (texts words) change restart lose
+miscounted c verb (a ∷ b ∷ e ∷ f ∷ []) many change restart lose = absurd (omega (arith, many))
+miscounted c verb (a ∷ b ∷ e ∷ f ∷ h ∷ []) many change restart lose = absurd (omega (arith, many))
+miscounted c verb (a ∷ b ∷ e ∷ f ∷ h ∷ k ∷ words) many change restart lose = too_many c verb a.now b.now e.now f.now h.now k.now (texts words) change restart lose
 
 -- a definition at the texts of one word, and of two
 pub by_one : {X Y : Type 0} (May : Type 0) (view : X → Y) (result : Result X ScriptWhat) (f : List (List ℕ) → Result Y ScriptWhat) (words : List (Bor (List ℕ))) (d : Bor (List ℕ)) → 1 ≤ length words → length words < 2
@@ -88,6 +110,15 @@ by_two May view result f words d some few is = rw (two words d some few) (reads_
 pub by_three : {X Y : Type 0} (May : Type 0) (view : X → Y) (result : Result X ScriptWhat) (f : List (List ℕ) → Result Y ScriptWhat) (words : List (Bor (List ℕ))) (d : Bor (List ℕ)) → 3 ≤ length words → length words < 4
     → Gives May view result (f ((get_or words 0 d).now ∷ (get_or words 1 d).now ∷ (get_or words 2 d).now ∷ [])) → Gives May view result (f (texts words))
 by_three May view result f words d some few is = rw (three words d some few) is
+
+-- of four, and of five
+pub by_four : {X Y : Type 0} (May : Type 0) (view : X → Y) (result : Result X ScriptWhat) (f : List (List ℕ) → Result Y ScriptWhat) (words : List (Bor (List ℕ))) (d : Bor (List ℕ)) → 4 ≤ length words → length words < 5
+    → Reads view result (f ((get_or words 0 d).now ∷ (get_or words 1 d).now ∷ (get_or words 2 d).now ∷ (get_or words 3 d).now ∷ [])) → Gives May view result (f (texts words))
+by_four May view result f words d some few is = rw (four words d some few) (reads_gives May view result _ is)
+
+pub by_five : {X Y : Type 0} (May : Type 0) (view : X → Y) (result : Result X ScriptWhat) (f : List (List ℕ) → Result Y ScriptWhat) (words : List (Bor (List ℕ))) (d : Bor (List ℕ)) → 5 ≤ length words → length words < 6
+    → Reads view result (f ((get_or words 0 d).now ∷ (get_or words 1 d).now ∷ (get_or words 2 d).now ∷ (get_or words 3 d).now ∷ (get_or words 4 d).now ∷ [])) → Gives May view result (f (texts words))
+by_five May view result f words d some few is = rw (five words d some few) (reads_gives May view result _ is)
 
 -- all words behind the first, and behind the first two
 behind_one : (a : Bor (List ℕ)) (words : List (Bor (List ℕ))) → take (length (a ∷ words) - 1) (drop 1 (a ∷ words)) ≡ words

@@ -1,8 +1,7 @@
 -- Steps that may fail.
-use Rattle.std.proofs.Common.{◌≡◌, ◌⊎◌, Result, Ok, Err, inl, inr, refl}
+use Rattle.std.proofs.Common.{Result, Ok, Err, inr}
 use Rattle.lisp_records.specs.Result.{Reads}
 use Rattle.lisp_script.specs.declared.fault.ScriptWhat.{ScriptWhat}
-use Rattle.lisp_script.specs.declared.fault.ScriptWhat.TheVariants.{Memory}
 use Rattle.lisp_script.specs.Fault.{Gives}
 
 -- what never runs out of memory

@@ -10,7 +10,7 @@ use Rattle.lisp_script.specs.declared.fault.ScriptWhat.{ScriptWhat}
 use Rattle.lisp_script.specs.declared.fault.ScriptWhat.TheVariants as whats
 use Rattle.lisp_script.specs.declared.verb.Verb.{Verb}
 use Rattle.lisp_script.specs.declared.verb.Verb.TheVariants as verbs
-use Rattle.lisp_script.specs.Spelling.{verb_of, change_of, send_of, deliver_of, notice_of, given_to, restart_of, restart_with, rotate_of, lose_of, lose_with, spelt, command_of, is_comment, in_words, in_line}
+use Rattle.lisp_script.specs.Spelling.{verb_of, change_of, part_in, send_of, deliver_of, notice_of, given_to, restart_of, restart_with, rotate_of, lose_of, lose_with, spelt, command_of, is_comment, in_words, in_line}
 use Rattle.lisp_script.specs.Words.{words_of, is_word, node_of, server_of, router_of, number_in, as_key, key_in, address_in, or_fault, bytes_in, doubt_in, load_fails_in, fate_in, records_in, some_records, database_in}
 
 -- a value, or a fault that isn't of memory
@@ -113,9 +113,12 @@ change : (c : ConfigValue) (r : List ℕ) (ws : List (List ℕ)) → Plain (chan
 unfolding change_of
 change c r ws = then _ _ (router c r) (λ router. then _ _ (database ws) (λ db. tt))
 
-send : (c : ConfigValue) (r s : List ℕ) (becomes : Result Fate ScriptWhat) → Plain becomes → Plain (send_of c r s becomes)
+part : (w i : List ℕ) → Plain (part_in w i)
+part w i = either (is_word (codes "part") w) (number_in i) (Err whats.Word) (numeral i) word
+
+send : (c : ConfigValue) (r s : List ℕ) (which : Result ℕ ScriptWhat) (becomes : Result Fate ScriptWhat) → Plain which → Plain becomes → Plain (send_of c r s which becomes)
 unfolding send_of
-send c r s becomes plain = then _ _ (router c r) (λ router. then _ _ (server c s) (λ server. then _ _ plain (λ fate. tt)))
+send c r s which becomes named plain = then _ _ (router c r) (λ router. then _ _ (server c s) (λ server. then _ _ named (λ part. then _ _ plain (λ fate. tt))))
 
 deliver : (d : List ℕ) (becomes : Result Fate ScriptWhat) → Plain becomes → Plain (deliver_of d becomes)
 unfolding deliver_of
@@ -155,9 +158,11 @@ spelt_plain c verbs.Change (a ∷ []) = count
 spelt_plain c verbs.Change (r ∷ a ∷ ws) = change c r (a ∷ ws)
 spelt_plain c verbs.Send [] = count
 spelt_plain c verbs.Send (a ∷ []) = count
-spelt_plain c verbs.Send (r ∷ s ∷ []) = send c r s _ tt
-spelt_plain c verbs.Send (r ∷ s ∷ w ∷ []) = send c r s _ (doubt w)
-spelt_plain c verbs.Send (a ∷ b ∷ d ∷ e ∷ ws) = count
+spelt_plain c verbs.Send (r ∷ s ∷ []) = send c r s (Ok 0) (Ok fates.Done) tt tt
+spelt_plain c verbs.Send (r ∷ s ∷ w ∷ []) = send c r s (Ok 0) (doubt_in w) tt (doubt w)
+spelt_plain c verbs.Send (r ∷ s ∷ p ∷ i ∷ []) = send c r s (part_in p i) (Ok fates.Done) (part p i) tt
+spelt_plain c verbs.Send (r ∷ s ∷ p ∷ i ∷ w ∷ []) = send c r s (part_in p i) (doubt_in w) (part p i) (doubt w)
+spelt_plain c verbs.Send (a ∷ b ∷ d ∷ e ∷ f ∷ h ∷ ws) = count
 spelt_plain c verbs.Deliver [] = count
 spelt_plain c verbs.Deliver (d ∷ []) = deliver d _ tt
 spelt_plain c verbs.Deliver (d ∷ w ∷ []) = deliver d _ (fate w)

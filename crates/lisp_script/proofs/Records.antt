@@ -1,6 +1,7 @@
 -- Reading records one after the other, as a loop does.
 use Rattle.std.proofs.Common.{◌≡◌, ℕ, ◌+◌, ◌<◌, ◌≤◌, true, codes, List, [], ◌∷◌, ◌++◌, length, get_or, drop, Some, None, Result, Ok, Err, Bor, refl, sym, ap, ◌∙◌, arith, add-one, append_assoc, drop-cons}
 use Rattle.std.proofs.lemmas.List.{append-nil, drop_all}
+use Rattle.lisp_records.specs.Parts.{cut, cut_from}
 use Rattle.lisp_records.specs.Database.{repeats}
 use Rattle.lisp_records.specs.Record.{MapRecordValue}
 use Rattle.lisp_records.specs.Result.{◌>>=◌}
@@ -52,7 +53,7 @@ is_done front words i total le so_far =
 
 -- the one word 'empty' gives no records
 pub only_empty : (words : List (Bor (List ℕ))) (d : Bor (List ℕ)) → 1 ≤ length words → length words < 2 → true ≡ is_word (get_or words 0 d).now (codes "empty") → database_in (texts words) ≡ some_records []
-unfolding records_in repeats
+unfolding records_in repeats cut cut_from
 only_empty [] d some few is = absurd (omega arith)
 only_empty (word ∷ []) d some few is = rw (← is) refl
 only_empty (word ∷ other ∷ words) d some few is = absurd (omega arith)

@@ -35,13 +35,18 @@ change_of c r records = do
   db ← database_in records
   Ok (Act (events.Change router db))
 
--- send R S
-unfoldable pub send_of : ConfigValue → List ℕ → List ℕ → Result Fate ScriptWhat → Result CommandValue ScriptWhat
-send_of c r s becomes = do
+-- part I
+abbrev pub part_in : List ℕ → List ℕ → Result ℕ ScriptWhat
+part_in word i = if is_word (codes "part") word then number_in i else Err whats.Word
+
+-- send R S, and which part, the first where none is named
+unfoldable pub send_of : ConfigValue → List ℕ → List ℕ → Result ℕ ScriptWhat → Result Fate ScriptWhat → Result CommandValue ScriptWhat
+send_of c r s which becomes = do
   router ← router_of c r
   server ← server_of c s
+  part ← which
   fate ← becomes
-  Ok (Act (events.Send router server fate))
+  Ok (Act (events.Send router server part fate))
 
 -- deliver D
 unfoldable pub deliver_of : List ℕ → Result Fate ScriptWhat → Result CommandValue ScriptWhat
@@ -104,8 +109,10 @@ lose_with c r k records = do
 -- a line of the table for each form of a command: what its words stand for
 unfoldable pub spelt : ConfigValue → Verb → List (List ℕ) → Result CommandValue ScriptWhat
 spelt c verbs.Change (r ∷ first ∷ more) = change_of c r (first ∷ more)
-spelt c verbs.Send (r ∷ s ∷ []) = send_of c r s (Ok Done)
-spelt c verbs.Send (r ∷ s ∷ doubt ∷ []) = send_of c r s (doubt_in doubt)
+spelt c verbs.Send (r ∷ s ∷ []) = send_of c r s (Ok 0) (Ok Done)
+spelt c verbs.Send (r ∷ s ∷ doubt ∷ []) = send_of c r s (Ok 0) (doubt_in doubt)
+spelt c verbs.Send (r ∷ s ∷ part ∷ i ∷ []) = send_of c r s (part_in part i) (Ok Done)
+spelt c verbs.Send (r ∷ s ∷ part ∷ i ∷ doubt ∷ []) = send_of c r s (part_in part i) (doubt_in doubt)
 spelt c verbs.Deliver (d ∷ []) = deliver_of d (Ok Done)
 spelt c verbs.Deliver (d ∷ fate ∷ []) = deliver_of d (fate_in fate)
 spelt c verbs.Junk (n ∷ a ∷ h ∷ []) = do

@@ -4,7 +4,7 @@ ghost use Rattle.std.specs.Prelude.{◌≡◌, [], ◌∷◌};
 ghost use Rattle.lisp_records.specs.Result.{Reads};
 ghost use Rattle.lisp_script.specs.Command.{command_value};
 ghost use Rattle.lisp_script.specs.Words.{texts};
-ghost use Rattle.lisp_script.specs.Spelling.{change_of, send_of, deliver_of, restart_of, rotate_of, lose_of, notice_of, given_to, spelt, command_of};
+ghost use Rattle.lisp_script.specs.Spelling.{change_of, part_in, send_of, deliver_of, restart_of, rotate_of, lose_of, notice_of, given_to, spelt, command_of};
 ghost use Rattle.lisp_script.specs.Answers.{GivesCommand, GivesRestart, GivesLose, Spells, SpellsPlainly};
 ghost use Rattle.lisp_script.specs.declared.verb.Verb.TheVariants as verbs;
 
@@ -50,6 +50,10 @@ fn counted<A: Memory + Copy, E: Allocator>(
         [first] => with_one(config, verb, first),
         [first, second] => with_two(config, verb, first, second),
         [first, second, third] => with_three(alloc, config, verb, first, second, third),
+        [first, second, third, fourth] => with_four(config, verb, first, second, third, fourth),
+        [first, second, third, fourth, fifth] => {
+            with_five(config, verb, first, second, third, fourth, fifth)
+        }
         _ => Err(ScriptWhat::Count),
     }
 }
@@ -84,7 +88,7 @@ fn with_two<A: Allocator, E: Allocator>(
     ensures { SpellsPlainly config.now verb (first.now ∷ second.now ∷ []) result }
 {
     match verb {
-        Verb::Send => sent(config, first, second, Ok(Fate::Done)),
+        Verb::Send => sent(config, first, second, Ok(0), Ok(Fate::Done)),
         Verb::Deliver => delivered(first, fate(second)),
         Verb::Rotate => rotated(config, first, second, Ok(Fate::Done)),
         Verb::Notice => noticed(config, first, second, Ok(Fate::Done)),
@@ -115,7 +119,7 @@ fn with_three<A: Memory + Copy, E: Allocator>(
     ensures { Spells A.may_refuse config.now verb (first.now ∷ second.now ∷ third.now ∷ []) result }
 {
     match verb {
-        Verb::Send => sent(config, first, second, doubt(third)),
+        Verb::Send => sent(config, first, second, Ok(0), doubt(third)),
         Verb::Junk => {
             let to = node(config, first)?;
             let from = address(second)?;
@@ -124,6 +128,43 @@ fn with_three<A: Memory + Copy, E: Allocator>(
         }
         Verb::Rotate => rotated(config, first, second, load_fails(third)),
         Verb::Notice => noticed(config, first, second, fate(third)),
+        _ => Err(ScriptWhat::Count),
+    }
+}
+
+// The command of a verb that no records follow, and four words.
+#[tactic(auto, unfolding(crate::specs::Spelling::spelt))]
+fn with_four<A: Allocator, E: Allocator>(
+    config: &Config<E>,
+    verb: Verb,
+    first: &str,
+    second: &str,
+    third: &str,
+    fourth: &str,
+) -> Result<Command<A>, ScriptWhat>
+    ensures { SpellsPlainly config.now verb (first.now ∷ second.now ∷ third.now ∷ fourth.now ∷ []) result }
+{
+    match verb {
+        Verb::Send => sent(config, first, second, part(third, fourth), Ok(Fate::Done)),
+        _ => Err(ScriptWhat::Count),
+    }
+}
+
+// The command of a verb that no records follow, and five words.
+#[tactic(auto, unfolding(crate::specs::Spelling::spelt))]
+fn with_five<A: Allocator, E: Allocator>(
+    config: &Config<E>,
+    verb: Verb,
+    first: &str,
+    second: &str,
+    third: &str,
+    fourth: &str,
+    fifth: &str,
+) -> Result<Command<A>, ScriptWhat>
+    ensures { SpellsPlainly config.now verb (first.now ∷ second.now ∷ third.now ∷ fourth.now ∷ fifth.now ∷ []) result }
+{
+    match verb {
+        Verb::Send => sent(config, first, second, part(third, fourth), doubt(fifth)),
         _ => Err(ScriptWhat::Count),
     }
 }
@@ -187,22 +228,36 @@ fn changed<A: Memory + Copy, E: Allocator>(
     Ok(Command::Act(Event::Change { router, db }))
 }
 
-// send R S, and what becomes of the save
+// part I
+fn part(word: &str, place: &str) -> Result<usize, ScriptWhat>
+    ensures { result ≡ part_in word.now place.now }
+{
+    if word == "part" {
+        Ok(number(place)? as usize)
+    } else {
+        Err(ScriptWhat::Word)
+    }
+}
+
+// send R S, which part, and what becomes of the save
 #[tactic(auto, unfolding(crate::specs::Spelling::send_of))]
 fn sent<A: Allocator, E: Allocator>(
     config: &Config<E>,
     from: &str,
     to: &str,
+    which: Result<usize, ScriptWhat>,
     becomes: Result<Fate, ScriptWhat>,
 ) -> Result<Command<A>, ScriptWhat>
-    ensures { Reads command_value result (send_of config.now from.now to.now becomes) }
+    ensures { Reads command_value result (send_of config.now from.now to.now which becomes) }
 {
     let router = router(config, from)?;
     let server = server(config, to)?;
+    let part = which?;
     let fate = becomes?;
     Ok(Command::Act(Event::Send {
         router,
         server,
+        part,
         fate,
     }))
 }

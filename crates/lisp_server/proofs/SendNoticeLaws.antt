@@ -1,13 +1,11 @@
 -- What a notice that is sent, or isn't, amounts to.
-use Rattle.std.proofs.Common.{◌≡◌, ◌≢◌, ℕ, ◌<◌, ◌≤◌, nat_lt, Bool, true, false, true≢false, List, [], ◌∷◌, length, Option, Some, None, Result, Ok, Err, ok_or, IsTrue, refl, sym, ap, ◌∙◌, subst, arith}
+use Rattle.std.proofs.Common.{◌≡◌, ◌≢◌, ℕ, ◌<◌, ◌≤◌, Bool, true, List, [], ◌∷◌, length, Option, Some, None, Result, Ok, Err, ok_or, IsTrue, refl, sym, ap, ◌∙◌, subst, arith}
 use Rattle.std.specs.Option.{IfSome}
 use Rattle.std.specs.Result.{IfOk, IfErr, OnErr}
 use Rattle.std.proofs.lemmas.List.Sorted.{length_permutation}
 use Rattle.lisp_records.specs.declared.router.RouterId.{RouterId}
-use Rattle.std.proofs.lemmas.Bool.{lt-ltb}
-use Rattle.lisp_records.specs.declared.database.DatabaseFault.{DatabaseFault}
-use Rattle.lisp_records.specs.declared.database.DatabaseFault.TheVariants.{TooLarge}
-use Rattle.lisp_records.specs.Database.{database_of}
+use Rattle.lisp_records.proofs.Cuts.{fits_is}
+use Rattle.lisp_records.specs.Parts.{fits_message}
 use Rattle.lisp_records.specs.Record.{MapRecordValue}
 use Rattle.lisp_records.specs.Row.{RowValue}
 use Rattle.lisp_messages.specs.Message.{IsMapNotify}
@@ -33,19 +31,13 @@ use Rattle.lisp_server.specs.Server.{ServerState, SameTables, state_of}
 use Rattle.lisp_server.proofs.ContactLaws.{contact_router}
 use Rattle.lisp_server.proofs.ReceivingLaws.{cause_later, may_save, fails_to_save}
 
--- what one message can carry stays so when it is sorted
+-- at most 255 records are that also when they are sorted
 pub few_left : (given records : List MapRecordValue) → ByPrefix given records → length given ≤ 255 → length records < 256
 few_left given records by_prefix few = (let same = length_permutation given records by_prefix.same in omega (arith, same, few))
 
-pub few_records : (ms : List MapRecordValue) → database_of ms ≡ Ok ms → length ms ≤ 255
-few_records ms fits = by (nat_lt 255 (length ms)) refl fits
-  where
-    by : (b : Bool) → nat_lt 255 (length ms) ≡ b → database_of ms ≡ Ok ms → length ms ≤ 255
-    by true many fits = absurd (let clash : ◌≡◌ {A = Result (List MapRecordValue) DatabaseFault} (Err TooLarge) (Ok ms) = sym (too_many many) ∙ fits in cc)
-      where
-        too_many : nat_lt 255 (length ms) ≡ true → database_of ms ≡ Err TooLarge
-        too_many many = rw many refl
-    by false few fits = (let not_above : ¬ (255 < length ms) = λ above. true≢false (sym (lt-ltb 255 (length ms) above) ∙ few) in omega (arith, not_above))
+-- what one message can carry are at most 255 records
+pub few_records : (ms : List MapRecordValue) → fits_message ms ≡ true → length ms ≤ 255
+few_records ms fits = (fits_is ms fits).0
 
 -- a router with live records was heard
 pub heard_of : (sites : List SiteValue) (rows : List RowValue) (contacts : List Contact) (router : RouterId) (now : ℕ) → Knows sites rows contacts → live_of rows router now ≢ [] → IsHeard sites contacts router

@@ -1,9 +1,8 @@
 -- What comes of a call to send a router an unsolicited Map-Notify (notice) (RFC 9301 section 5.7).
-use Rattle.std.specs.Prelude.{◌≡◌, ◌≢◌, ◌-◌, ◌^◌, ℕ, List, [], ◌∷◌, Option, Some, None, Ok, Err, IsTrue, false}
+use Rattle.std.specs.Prelude.{◌≡◌, ◌≢◌, ◌-◌, ◌^◌, ℕ, List, [], ◌∷◌, Option, Some, None, IsTrue, true, false}
 use Rattle.lisp_records.specs.declared.address.Addr.{Addr}
-use Rattle.lisp_records.specs.declared.database.DatabaseFault.{DatabaseFault}
 use Rattle.lisp_records.specs.declared.router.RouterId.{RouterId}
-use Rattle.lisp_records.specs.Database.{database_of}
+use Rattle.lisp_records.specs.Parts.{fits_message}
 use Rattle.lisp_records.specs.Record.{MapRecordValue}
 use Rattle.lisp_messages.specs.Message.{MapNotifyValue, IsMapNotify}
 use Rattle.lisp_messages.specs.Authentic.{signed}
@@ -22,10 +21,10 @@ use Rattle.lisp_admission.specs.Nonces.{IsUnspent, nonce_after, IsBase, KeepsLis
 use Rattle.lisp_server.specs.Notices.{SetsNotice}
 use Rattle.lisp_server.specs.Server.{ServerState}
 
--- the router has live records, which make a Database, and was heard
+-- the router has live records, which one message can carry, and was heard
 pub record IsRegistered (s : ServerState) (router : RouterId) (now : ℕ) : Type 0 where
   pub some : live_of s.rows router now ≢ []
-  pub fits : database_of (live_of s.rows router now) ≡ Ok (live_of s.rows router now)
+  pub fits : fits_message (live_of s.rows router now) ≡ true
   pub heard : IsHeard s.sites s.contacts router
 
 -- the last nonce of the notices is, or may be, this one
@@ -35,7 +34,7 @@ IsLast s store last = IsBase (nonce_at s.nonces notice_pair) store notice_pair l
 -- why no notice can be sent to the router
 abbrev pub Unregistered : List MapRecordValue → NoticeFault → Type 0
 Unregistered live NotRegistered = live ≡ []
-Unregistered live TooLarge = (fault : DatabaseFault) × (database_of live ≡ Err fault)
+Unregistered live TooLarge = fits_message live ≡ false
 Unregistered live _ = ⊥
 
 -- the Map-Notify of a notice

@@ -130,7 +130,7 @@ fn recipient_of<'s, A: Allocator + Copy>(
     ensures refused { IfErr result (Unregistered (live_of tables.now.rows.rows router.now now)) }
     ensures one_each { OneEach tables.now.rows.rows }
 {
-    let Ok(count) = tables.rows.count_live(router, now) else {
+    let Some(count) = tables.rows.count_live(router, now) else {
         return Err(NoticeFault::TooLarge);
     };
     if count == 0 {

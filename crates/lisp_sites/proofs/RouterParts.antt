@@ -10,10 +10,10 @@ use Rattle.std.proofs.lemmas.Bool.Decides.{Decides-eqb}
 use Rattle.std.proofs.lemmas.List.Quantifiers.{position-Some}
 use Rattle.std.proofs.lemmas.Option.{same_Some, cond_some}
 use Rattle.toml.specs.Data.{Data, get, as_str, as_array}
-use Rattle.lisp_records.specs.declared.database.DatabaseFault.TheVariants.{RepeatedPrefix, TooLarge}
 use Rattle.lisp_records.specs.declared.router.RouterId.{RouterId}
 use Rattle.lisp_records.specs.Record.{MapRecordValue, IsMapRecord}
-use Rattle.lisp_records.specs.Database.{repeats, size, database_of}
+use Rattle.lisp_records.specs.Database.{database_of}
+use Rattle.lisp_records.proofs.DatabaseLemmas.{database_same}
 use Rattle.lisp_texts.specs.Reading.{if_so, record_text_of}
 use Rattle.lisp_texts.specs.Form.{site_id_of, xtr_of}
 use Rattle.lisp_texts.proofs.Options.{bind_some}
@@ -113,16 +113,6 @@ one_record : (before : List MapRecordValue) (d : Data) (m : MapRecordValue) → 
 one_record before d m e =
     let text = bind_some (as_str d) record_text_of m (ok_or-Ok (text_as record_text_of d) (BadValue fields.RouterRecords) m e) in
     record_fits text.0 m text.2
-
--- the records that make a database are its records
-database_same : (ms db : List MapRecordValue) → database_of ms ≡ Ok db → ms ≡ db
-database_same ms db e = at (ltb 255 (length ms)) (repeats ms) (ltb 16384 (size ms)) e
-  where
-    at : (many alike large : Bool) → (if many then Err TooLarge else (if alike then Err RepeatedPrefix else (if large then Err TooLarge else Ok ms))) ≡ Ok db → ms ≡ db
-    at true alike large e = cc e
-    at false true large e = cc e
-    at false false true e = cc e
-    at false false false e = same_ok ms db e
 
 pub record IsDatabase (db : List MapRecordValue) : Type 0 where
   pub records : AllByRecursion IsMapRecord db

@@ -12,6 +12,7 @@ const EVENTS: [Event; 3] = [
     Event::Send {
         router: 1,
         server: 0,
+        part: 0,
         fate: Fate::Done,
     },
     Event::Deliver {
@@ -43,6 +44,7 @@ fn told(alloc: Global) -> Option<Answers> {
         other: 0,
         router: 1,
         place: 0,
+        part: 0,
     };
     ask(alloc, &config, &EVENTS, question)
 }

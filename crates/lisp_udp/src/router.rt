@@ -12,7 +12,7 @@ use lisp_messages::Head;
 use lisp_model::{Line, Refusal};
 use lisp_nodes::{Arrival, RouterNode, Start, router_hears};
 use lisp_nonces::{Fate, WorldStore};
-use lisp_records::Bytes;
+use lisp_records::{Bytes, MAX_PARTS};
 use lisp_script::RunFault;
 use lisp_sites::Config;
 use lisp_world::router_node;
@@ -23,9 +23,10 @@ use std::net::Net;
 use std::time::Clock;
 
 /// Runs the site router with a name for so many turns. A turn takes one datagram, or none where none comes within 100 ms,
-/// and then sends a Map-Register to each Map-Server that is due, at most one to each (RFC 9301 section 8.2). Its nonces are
-/// kept in the folder `dir`/`name`: each, or a higher one, is saved before its Map-Register is sent. Each event is a line,
-/// printed at once; a socket that fails is the line `refused NAME 90` (receive) or 91 (send), and it goes on.
+/// and then sends a Map-Register of each part of its database that is due to each Map-Server, at most one of each part
+/// (RFC 9301 section 8.2). Its nonces are kept in the folder `dir`/`name`: each, or a higher one, is saved before its
+/// Map-Register is sent. Each event is a line, printed at once; a socket that fails is the line `refused NAME 90` (receive)
+/// or 91 (send), and it goes on.
 ///
 /// Faults, in this order: those of the configuration's file (93, 87, 89, 95, then its own); 70 where no node has the name,
 /// 71 where a Map-Server has it; 93 for the folder; 35 or 36 where the router doesn't start; 92 for the socket and the clock;
@@ -85,7 +86,7 @@ impl<S: WorldStore> Node for RouterNode<S> {
         router_hears(self, number, how, bytes)
     }
 
-    // A Map-Register to each Map-Server that is due, at most one to each, until one is refused.
+    // A Map-Register of each part that is due to each Map-Server, at most one of each, until one is refused.
     fn send_due<W: Write>(
         &mut self,
         station: &mut Station,
@@ -93,34 +94,49 @@ impl<S: WorldStore> Node for RouterNode<S> {
         writer: &mut W,
     ) -> Result<(), RunFault> {
         for _ in station.servers {
-            match due_server(self, station.servers, now) {
-                Some(server) if register(self, station, server, now, writer)? => {}
-                _ => return Ok(()),
+            for _ in 0..MAX_PARTS {
+                match first_due(self, station.servers, now) {
+                    Some(due) if register(self, station, due, now, writer)? => {}
+                    _ => return Ok(()),
+                }
             }
         }
         Ok(())
     }
 }
 
-// The number of the Map-Server that is due, of those that the router registers with.
-fn due_server<S: WorldStore>(router: &RouterNode<S>, servers: &[usize], now: u64) -> Option<usize> {
-    let place = router.etr()?.due(now)?;
-    servers.get(place).copied()
+// A part of a router's database that is due.
+#[derive(Clone, Copy)]
+struct Due {
+    // The number of the Map-Server that it is due to.
+    server: usize,
+    // The part, from 0 on.
+    part: usize,
 }
 
-// Sends a Map-Register to the Map-Server with a number; whether it wasn't refused.
+// What is due first, of the Map-Servers that the router registers with.
+fn first_due<S: WorldStore>(router: &RouterNode<S>, servers: &[usize], now: u64) -> Option<Due> {
+    let (place, part) = router.etr()?.due(now)?;
+    let server = servers.get(place)?;
+    Some(Due {
+        server: *server,
+        part,
+    })
+}
+
+// Sends the Map-Register that is due; whether it wasn't refused.
 fn register<S: WorldStore, W: Write>(
     router: &mut RouterNode<S>,
     station: &mut Station,
-    server: usize,
+    due: Due,
     now: u64,
     writer: &mut W,
 ) -> Result<bool, RunFault>
     requires { now ≤ max_moment }
 {
-    match router.send(server, Fate::Done, now) {
+    match router.send(due.server, due.part, Fate::Done, now) {
         Some(Ok(message)) => {
-            print_and_send(station, server, message.as_slice(), writer)?;
+            print_and_send(station, due, message.as_slice(), writer)?;
             Ok(true)
         }
         Some(Err(fault)) => station.refuse(Refusal::Send(fault), writer),
@@ -131,7 +147,7 @@ fn register<S: WorldStore, W: Write>(
 // Prints the line of a Map-Register, and sends it.
 fn print_and_send<W: Write>(
     station: &mut Station,
-    server: usize,
+    due: Due,
     message: &[u8],
     writer: &mut W,
 ) -> Result<(), RunFault>
@@ -140,13 +156,14 @@ fn print_and_send<W: Write>(
     let Head { key_id, nonce } = Head::read(message).unwrap();
     let line = Line::Sent {
         router: station.number,
-        server,
+        server: due.server,
+        part: due.part,
         key: key_id,
         nonce,
         datagram: station.sent,
     };
     let config = station.config;
-    match config.servers().get(server) {
+    match config.servers().get(due.server) {
         Some(entry) => station.print_and_send(&line, &entry.address, message, writer),
         None => station.print(&line, writer),
     }

@@ -165,16 +165,16 @@ changes_calm old new router db line changes = router_keeps old new router [] Don
     (same_store changes.acts.before.store changes.acts.after.store Done (ap (λ (n : RouterNodeState). n.store) changes.changes))
 
 -- a router that sends uses its store if it is up
-send_keeps : (old : WorldState) (router server : ℕ) (fate : Fate) (before after : RouterNodeState) (core : RouterCoreState) (line : Line) (more : List DatagramValue)
-    → RouterSends old router server fate before after core line more → KeepsStore before.store after.store fate
-send_keeps old router server fate before after (Up e) line more up = uses_keeps before.store up.sends.call.armed up.sends.call.called after.store fate up.sends.call.uses
-send_keeps old router server fate before after (Down config database) line more sends =
+send_keeps : (old : WorldState) (router server part : ℕ) (fate : Fate) (before after : RouterNodeState) (core : RouterCoreState) (line : Line) (more : List DatagramValue)
+    → RouterSends old router server part fate before after core line more → KeepsStore before.store after.store fate
+send_keeps old router server part fate before after (Up e) line more up = uses_keeps before.store up.sends.call.armed up.sends.call.called after.store fate up.sends.call.uses
+send_keeps old router server part fate before after (Down config database) line more sends =
     same_store before.store after.store fate (ap (λ (n : RouterNodeState). n.store) sends.0)
 
 -- a router sends
-pub sends_calm : (old new : WorldState) (router server : ℕ) (fate : Fate) (line : Line) → NetworkSends old new router server fate line → KeepsCalm old new fate
-sends_calm old new router server fate line sends = router_keeps old new router sends.more fate sends.acts
-    (send_keeps old router server fate sends.acts.before sends.acts.after sends.acts.before.core line sends.more sends.sends)
+pub sends_calm : (old new : WorldState) (router server part : ℕ) (fate : Fate) (line : Line) → NetworkSends old new router server part fate line → KeepsCalm old new fate
+sends_calm old new router server part fate line sends = router_keeps old new router sends.more fate sends.acts
+    (send_keeps old router server part fate sends.acts.before sends.acts.after sends.acts.before.core line sends.more sends.sends)
 
 -- a router that is given bytes uses its store if it is up
 hear_keeps : (A : Type 0) (old : WorldState) (node : ℕ) (before after : RouterNodeState) (fate : Fate) (from : Addr) (bytes : List ℕ) (core : RouterCoreState)

@@ -1,5 +1,5 @@
 -- A network that was just made: its stores go on from those that were given, and it stands for its opening.
-use Rattle.std.proofs.Common.{false, ◌≡◌, ℕ, zero, suc, ◌+◌, ◌-◌, List, [], ◌∷◌, ◌++◌, length, map, Option, Some, refl, sym, ap, subst, inl, inr, ◌⊎◌, ◌∙◌, arith}
+use Rattle.std.proofs.Common.{false, ◌≡◌, ℕ, zero, suc, ◌+◌, ◌-◌, List, [], ◌∷◌, ◌++◌, length, map, Option, Some, None, refl, sym, ap, subst, inl, inr, ◌⊎◌, ◌∙◌, arith}
 use Rattle.std.specs.Prelude.{slice_get, IsTrue}
 use Rattle.std.specs.FinMap.{empty}
 use Rattle.std.specs.Option.{option_map}
@@ -9,10 +9,13 @@ use Rattle.std.proofs.lemmas.Option.{slice_get-map, get_or_from_slice_get}
 use Rattle.lisp_policy.specs.Configuration.{ConfigValue, RouterEntryValue}
 use Rattle.lisp_nonces.specs.Store.{StoreState, Proceeds}
 use Rattle.lisp_nonces.specs.Kept.{Kept, kept_at}
+use Rattle.lisp_records.specs.Parts.{most_parts}
 use Rattle.lisp_etr.specs.Config.{sent_pair}
 use Rattle.lisp_etr.specs.Etr.{EtrState}
 use Rattle.lisp_etr.specs.Round.{first_round}
+use Rattle.lisp_etr.specs.Rounds.{first_rounds}
 use Rattle.lisp_etr.specs.declared.round.Round.{Round}
+use Rattle.lisp_etr.specs.declared.rounds.Rounds.{Rounds}
 use Rattle.lisp_etr.proofs.TimerLaws.{rounds_keep_time}
 use Rattle.lisp_model.specs.Trace.{ShownStore, Opening, addresses, address_at, router_at, etr_config_of, shown_store}
 use Rattle.lisp_model.specs.Network.{IsNetwork}
@@ -22,7 +25,7 @@ use Rattle.lisp_refinement.specs.Calls.{CoreStarts}
 use Rattle.lisp_world.specs.Making.{server_over, router_over, AreNodes, HasStarted, HaveStarted}
 use Rattle.lisp_world.specs.Openings.{opening, lists_of}
 use Rattle.lisp_world.specs.Quiet.{AllHonest, AllCalm, stores_of, failures}
-use Rattle.lisp_refinement.specs.Stands.{shown_by, Shows, StandsForRound, StandsForEtr, StandsForCore, StandsForServer, StandsForRouter, Stands}
+use Rattle.lisp_refinement.specs.Stands.{shown_by, Shows, StandsForRound, StandsForRounds, StandsForEtr, StandsForCore, StandsForServer, StandsForRouter, Stands}
 use Rattle.lisp_refinement.proofs.Gets.{none_is_some, same_some, get_before, get_replicate, get_mapped}
 use Rattle.lisp_nodes.proofs.NodeCalls.{unused}
 use Rattle.lisp_world.proofs.FirstKeys.{first_keys}
@@ -195,8 +198,19 @@ module _ (c : ConfigValue) (stores : List StoreState) (w : WorldState) (count : 
       starts = its.has_started.starts.starts
 
       -- each of its rounds has just begun
-      round_part : (server : ℕ) → StandsForRound [] node server (first_round 0)
-      round_part server = record { keeps = rounds_keep_time.start 0; latest = refl; acked = refl }
+      round_part : (server part : ℕ) → StandsForRound [] node server part (first_round 0)
+      round_part server part = record { keeps = rounds_keep_time.start 0; latest = refl }
+
+      abbrev no_count : Option (ℕ × ℕ)
+      no_count = None
+
+      rounds_part : (server : ℕ) → StandsForRounds [] node server (first_rounds 0)
+      rounds_part server = record {
+        parts = length-replicate most_parts (first_round 0);
+        acked_parts = length-replicate most_parts no_count;
+        round = λ part r has. subst (λ (x : Round). StandsForRound [] node server part x) (get_replicate most_parts (first_round 0) part r has) (round_part server part);
+        acked = λ part pair has. sym (get_replicate most_parts no_count part pair has);
+      }
 
       -- it counts from a value that its store keeps
       counts : (base : Option ℕ) → Contains (kept_at its.before.kept (sent_pair (etr_config_of c its.entry))) base → CountsFrom o [] node base
@@ -209,10 +223,10 @@ module _ (c : ConfigValue) (stores : List StoreState) (w : WorldState) (count : 
         database = ap (λ (e : EtrState). e.database) starts.starts ∙ ap (λ (r : RouterEntryValue). r.database) (sym entry_is);
         last = (let is = starts.last (honest node its.before its.store_there) in (is.0, counts is.0 is.1, is.2));
         safe = λ v has. omega (arith, ap (λ (e : EtrState). e.safe) starts.starts);
-        count = ap (λ (e : EtrState). length e.rounds) starts.starts ∙ length-replicate (length (etr_config_of c its.entry).servers) (first_round 0) ∙ length-map its.entry.servers (address_at c)
+        count = ap (λ (e : EtrState). length e.rounds) starts.starts ∙ length-replicate (length (etr_config_of c its.entry).servers) (first_rounds 0) ∙ length-map its.entry.servers (address_at c)
             ∙ ap (λ (r : RouterEntryValue). length r.servers) (sym entry_is);
-        rounds = λ i server r lists has. subst (λ (x : Round). StandsForRound [] node server x)
-            (get_replicate (length (etr_config_of c its.entry).servers) (first_round 0) i r (ap (λ (e : EtrState). slice_get e.rounds i) (sym starts.starts) ∙ has)) (round_part server);
+        rounds = λ i server r lists has. subst (λ (x : Rounds). StandsForRounds [] node server x)
+            (get_replicate (length (etr_config_of c its.entry).servers) (first_rounds 0) i r (ap (λ (e : EtrState). slice_get e.rounds i) (sym starts.starts) ∙ has)) (rounds_part server);
       }
 
       router_part : StandsForRouter o [] node n

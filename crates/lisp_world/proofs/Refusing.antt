@@ -72,7 +72,7 @@ never_key w router key was_used = first (router_fault w router) _ (unless _ _ _ 
 
 never : (w : WorldState) (event : EventValue) → fault_of w event ≢ Some OutOfMemory
 never w (events.Change router db) = unless _ _ _ no_node (unless _ _ _ wrong_kind nothing)
-never w (events.Send router server fate) = unless _ _ _ no_node (unless _ _ _ wrong_kind nothing)
+never w (events.Send router server part fate) = unless _ _ _ no_node (unless _ _ _ wrong_kind nothing)
 never w (events.Deliver k fate) = unless _ _ _ no_datagram nothing
 never w (events.Junk to from bytes) = unless _ _ _ no_node nothing
 never w (events.Tick ms) = unless _ _ _ clock nothing

@@ -40,12 +40,12 @@ module _ (seen w : WorldState) (same : seen ≡ w) (server router place : ℕ) (
   no_pair_fault is = sym (ap refusal_of found) ∙ is ∙ ap (λ (v : WorldState). pair_fault v router server) (sym same)
 
 module _ (node_may store_may : Type 0) (old new : WorldState) where
-  pub sends_taken : (router server : ℕ) (fate : Fate) (line : Line) → None ≡ pair_fault old router server → NetworkSends old new router server fate line → MayTell node_may store_may line
-      → TookEvent node_may store_may old new (events.Send router server fate) line
-  sends_taken router server fate line possible turn tells = record {
+  pub sends_taken : (router server part : ℕ) (fate : Fate) (line : Line) → None ≡ pair_fault old router server → NetworkSends old new router server part fate line → MayTell node_may store_may line
+      → TookEvent node_may store_may old new (events.Send router server part fate) line
+  sends_taken router server part fate line possible turn tells = record {
     possible = sym possible;
-    stands = send_stands old new router server fate line turn;
-    calm = sends_calm old new router server fate line turn;
+    stands = send_stands old new router server part fate line turn;
+    calm = sends_calm old new router server part fate line turn;
     tells = tells;
   }
 

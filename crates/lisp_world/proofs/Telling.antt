@@ -34,12 +34,12 @@ module _ (node_may store_may : Type 0) (node : ℕ) where
   send_tells (sends.Store fault) may store = (λ out. absurd cc, in_store_sent fault (λ is. store (ap sends.Store is)))
   send_tells _ may store = (λ out. absurd cc, λ out. absurd cc)
 
-  pub sent_tells : (w : WorldState) (server : ℕ) (answer : Option (Result (List ℕ) SendFault)) (line : Line) (more : List DatagramValue) → SaysAsked w node server answer line more
+  pub sent_tells : (w : WorldState) (server part : ℕ) (answer : Option (Result (List ℕ) SendFault)) (line : Line) (more : List DatagramValue) → SaysAsked w node server part answer line more
       → IfSome answer (λ a. a ≡ Err sends.OutOfMemory → node_may) → IfSome answer (λ a. a ≡ Err (sends.Store stores.OutOfMemory) → store_may) → MayTell node_may store_may line
-  sent_tells w server (Some (Ok bytes)) line more says may store = subst (λ (l : Line). MayTell node_may store_may l) (sym says.said) tt
-  sent_tells w server (Some (Err fault)) line more says may store =
+  sent_tells w server part (Some (Ok bytes)) line more says may store = subst (λ (l : Line). MayTell node_may store_may l) (sym says.said) tt
+  sent_tells w server part (Some (Err fault)) line more says may store =
       subst (λ (l : Line). MayTell node_may store_may l) (sym says.0) (send_tells fault (λ is. may (ap Err is)) (λ is. store (ap Err is)))
-  sent_tells w server None line more says may store = subst (λ (l : Line). MayTell node_may store_may l) (sym says.0) tt
+  sent_tells w server part None line more says may store = subst (λ (l : Line). MayTell node_may store_may l) (sym says.0) tt
 
   -- of a start
   in_store_started : (fault : StoreFault) → (fault ≡ stores.OutOfMemory → store_may) → is_store_memory (refusals.Start (starts.Store fault)) ≡ true → store_may

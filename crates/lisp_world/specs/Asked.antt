@@ -10,21 +10,21 @@ use Rattle.lisp_refinement.specs.World.{DatagramValue, WorldState}
 use Rattle.lisp_refinement.specs.Events.{address_of, rotate_line, SaysSendAnswer, SaysNoticeAnswer, SaysResendAnswer}
 
 -- a router's line and what it sent; one that is down answers nothing
-abbrev pub SaysAsked : WorldState → ℕ → ℕ → Option (Result (List ℕ) SendFault) → Line → List DatagramValue → Type 0
-SaysAsked old router server (Some answer) line more = SaysSendAnswer old router server answer line more
-SaysAsked old router server None line more = (line ≡ lines.Down router) × (more ≡ [])
+abbrev pub SaysAsked : WorldState → ℕ → ℕ → ℕ → Option (Result (List ℕ) SendFault) → Line → List DatagramValue → Type 0
+SaysAsked old router server part (Some answer) line more = SaysSendAnswer old router server part answer line more
+SaysAsked old router server part None line more = (line ≡ lines.Down router) × (more ≡ [])
 
 -- the line of a router that was asked to go over to a key
 abbrev pub asked_rotate_line : ℕ → ℕ → Option (Result (Unit {0}) RotateFault) → Line
 asked_rotate_line router key (Some answer) = rotate_line router key answer
 asked_rotate_line router key None = lines.Down router
 
--- in each network that has this bag it grew by what a router sent, from its address to a Map-Server's
-abbrev pub BagGrowsBySend : (old new : List DatagramValue) → (from to : Addr) → (router server : ℕ)
+-- in each network that has this bag it grew by what a router sent of a part, from its address to a Map-Server's
+abbrev pub BagGrowsBySend : (old new : List DatagramValue) → (from to : Addr) → (router server part : ℕ)
     → Option (Result (List ℕ) SendFault) → Line → Type 0
-BagGrowsBySend old new from to router server answer line = (w : WorldState) → old ≡ w.bag → from ≡ address_of w router
+BagGrowsBySend old new from to router server part answer line = (w : WorldState) → old ≡ w.bag → from ≡ address_of w router
     → to ≡ address_of w server
-    → (more : List DatagramValue) × (new ≡ w.bag ++ more) × SaysAsked w router server answer line more
+    → (more : List DatagramValue) × (new ≡ w.bag ++ more) × SaysAsked w router server part answer line more
 
 -- by a notice of a Map-Server, and by one that it sent again
 abbrev pub BagGrowsByNotice : (old new : List DatagramValue) → Addr → (server router : ℕ)

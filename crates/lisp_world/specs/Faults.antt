@@ -82,7 +82,7 @@ tick_fault w ms = if nat_lt max_moment (w.clock + ms) then Some faults.Clock els
 
 abbrev pub fault_of : WorldState → EventValue → Option WorldFault
 fault_of w (events.Change router db) = router_fault w router
-fault_of w (events.Send router server fate) = pair_fault w router server
+fault_of w (events.Send router server part fate) = pair_fault w router server
 fault_of w (events.Deliver k fate) = datagram_fault w k
 fault_of w (events.Junk to from bytes) = node_fault w to
 fault_of w (events.Tick ms) = tick_fault w ms

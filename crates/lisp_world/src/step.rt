@@ -49,8 +49,9 @@ impl<S: WorldStore, A: Memory + Copy> World<S, A> {
             Event::Send {
                 router,
                 server,
+                part,
                 fate,
-            } => self.send(*router, *server, *fate),
+            } => self.send(*router, *server, *part, *fate),
             Event::Deliver { k, fate } => self.deliver(*k, *fate),
             Event::Junk { to, from, bytes } => self.junk(*to, *from, bytes.as_slice()),
             Event::Tick(ms) => self.tick(*ms),

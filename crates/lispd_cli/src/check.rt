@@ -2,7 +2,7 @@
 
 use lisp_memory::FallibleString;
 use lisp_policy::{Site, SitePrefix};
-use lisp_records::{Addr, MapRecord};
+use lisp_records::{Addr, Database};
 use lisp_script::{InputFault, PlayFault, read_config};
 use lisp_sites::{Config, Name, RouterEntry};
 use lisp_texts::{addr_to_text, prefix_to_text, record_to_text};
@@ -78,7 +78,7 @@ fn router_line(alloc: Global, config: &Config, router: &RouterEntry) -> Result<S
     put_identity(&mut line, router)?;
     put_servers(&mut line, config, router.servers.as_slice())?;
     put_flags(&mut line, router)?;
-    put_records(&mut line, alloc, router.database.records())?;
+    put_database(&mut line, alloc, &router.database)?;
     Ok(line)
 }
 
@@ -119,8 +119,13 @@ fn put_flags(line: &mut String, router: &RouterEntry) -> Result<(), AllocError> 
     Ok(())
 }
 
-fn put_records(line: &mut String, alloc: Global, records: &[MapRecord]) -> Result<(), AllocError> {
-    for record in records {
+// A router's records, behind how many parts they are where they are more than one.
+fn put_database(line: &mut String, alloc: Global, database: &Database) -> Result<(), AllocError> {
+    let parts = database.parts();
+    if parts > 1 {
+        put(line, "parts", parts)?;
+    }
+    for record in database.records() {
         put(line, "record", record_to_text(alloc, record)?)?;
     }
     Ok(())

@@ -23,7 +23,7 @@ comes to, a line for each";
 pub(crate) const PLAY_FORM: &str =
     "The file is a configuration in TOML, a line `---`, and a script with a command on each line:
   change ROUTER RECORD ..        the router's database is these records, or `empty`
-  send ROUTER SERVER             the router sends a Map-Register
+  send ROUTER SERVER [part PART] the router sends a Map-Register of that part of its database, of part 0 where none is named
   deliver NUMBER                 the datagram arrives, perhaps once more
   junk NODE ADDRESS HEX          bytes from outside arrive at the node
   tick MS                        time passes

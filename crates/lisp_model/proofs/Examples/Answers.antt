@@ -15,6 +15,8 @@ use Rattle.lisp_model.specs.Story.{local_at, mapping, one, one_taken, opening, t
 use Rattle.lisp_model.proofs.Examples.Samples.{row_of}
 use Rattle.lisp_model.proofs.Examples.Traces.{both_heard, row_of_one, row_of_two}
 use Rattle.lisp_model.proofs.ListLemmas.{at_head, head_or_tail, in_none}
+use Rattle.lisp_records.specs.Parts.{cut, cut_from}
+use Rattle.lisp_records.specs.Written.{written}
 
 -- who answers: no site has the address; a site has it, and nobody registered it
 empty_has : (h : RowValue) → Contains [] h → ⊥
@@ -29,6 +31,7 @@ unfolding masked
 a_site_has_it = (λ h has. absurd (empty_has h has), refl)
 
 two_rows : rows (since_start opening both_heard 0) 0 ≡ row_of_one ∷ row_of_two ∷ []
+unfolding cut cut_from written
 two_rows = refl
 
 among : (x : RowValue) → Contains (row_of_one ∷ row_of_two ∷ []) x → (x ≡ row_of_one) ⊎ (x ≡ row_of_two)
@@ -39,7 +42,7 @@ among x (suc (suc k), lt, is) = absurd (omega (arith, lt))
 -- its own router answers for an address of the longer prefix; for another one the server does, with the
 -- first router's record
 its_router_answers : IsAnswer {A = Unit {0}} opening both_heard 0 (V4 (10 ∷ 1 ∷ 2 ∷ 3 ∷ [])) (Forward (local_at 22))
-unfolding masked
+unfolding cut cut_from written masked
 its_router_answers = (row_of_two, record { held = (1, omega arith, refl); may = refl; most = λ x has may. by (among x has) }, refl, refl)
   where
     by : {x : RowValue} → (x ≡ row_of_one) ⊎ (x ≡ row_of_two) → rank_cmp x row_of_two ≢ Greater
@@ -47,7 +50,7 @@ its_router_answers = (row_of_two, record { held = (1, omega arith, refl); may = 
     by (inr is) = subst (λ (h : RowValue). rank_cmp h row_of_two ≢ Greater) (sym is) (λ e. let clash : Equal ≡ Greater = e in absurd cc)
 
 the_server_answers : (answer : Bor MapRecordValue) → answer.now ≡ mapping wide 1440 → IsAnswer {A = Unit {0}} opening both_heard 0 (V4 (10 ∷ 1 ∷ 3 ∷ 4 ∷ [])) (Reply answer)
-unfolding masked
+unfolding cut cut_from written masked
 the_server_answers answer is = (row_of_one, record { held = (0, omega arith, refl); may = refl; most = λ x has may. by (among x has) may }, refl, is)
   where
     by : {x : RowValue} → (x ≡ row_of_one) ⊎ (x ≡ row_of_two) → may_answer (V4 (10 ∷ 1 ∷ 3 ∷ 4 ∷ [])) 0 x ≡ true → rank_cmp x row_of_one ≢ Greater
@@ -56,6 +59,7 @@ the_server_answers answer is = (row_of_one, record { held = (0, omega arith, ref
 
 -- the router asked for proxy replies: the server replies with its record
 the_row : (h : RowValue) → Contains (rows (since_start opening one_taken 0) 0) h → h ≡ row_of (mapping wide 1440) 1 0
+unfolding cut cut_from written
 the_row h has = at (head_or_tail (row_of (mapping wide 1440) 1 0) [] h has)
   where
     at : (h ≡ row_of (mapping wide 1440) 1 0) ⊎ Contains [] h → h ≡ row_of (mapping wide 1440) 1 0
@@ -66,7 +70,7 @@ equal_is_not_greater : Equal ≢ Greater
 equal_is_not_greater e = absurd cc
 
 replies : IsBest (rows (since_start opening one_taken 0) 0) (V4 (10 ∷ 1 ∷ 2 ∷ 3 ∷ [])) 0 (row_of (mapping wide 1440) 1 0)
-unfolding masked
+unfolding cut cut_from written masked
 replies = record {
   held = at_head (row_of (mapping wide 1440) 1 0) [];
   may = refl;
@@ -79,7 +83,7 @@ answers_by_proxy record_of is = (row_of (mapping wide 1440) 1 0, replies, refl, 
 -- what isn't so: a shorter prefix answers; another address than the best row's source; another record than the best row's; the
 -- wrong of the two where no row has the address
 shorter_answers : (r : Bor MapRecordValue) → IsAnswer {A = Unit {0}} opening both_heard 0 (V4 (10 ∷ 1 ∷ 2 ∷ 3 ∷ [])) (Reply r) → ⊥
-unfolding masked
+unfolding cut cut_from written masked
 shorter_answers r (h, best, proxy, is) = by (among h best.held)
   where
     by : (h ≡ row_of_one) ⊎ (h ≡ row_of_two) → ⊥
@@ -87,6 +91,7 @@ shorter_answers r (h, best, proxy, is) = by (among h best.held)
     by (inr two) = true≢false (sym proxy ∙ ap (λ (x : RowValue). x.proxy) two)
 
 forwards_elsewhere : IsAnswer {A = Unit {0}} opening both_heard 0 (V4 (10 ∷ 1 ∷ 2 ∷ 3 ∷ [])) (Forward (local_at 21)) → ⊥
+unfolding cut cut_from written
 forwards_elsewhere (h, best, proxy, is) = by (among h best.held)
   where
     by : (h ≡ row_of_one) ⊎ (h ≡ row_of_two) → ⊥
@@ -108,7 +113,7 @@ unfolding masked
 no_site_though_one answers = true≢false answers.1
 
 not_registered_though_held : IsAnswer {A = Unit {0}} opening one_taken 0 (V4 (10 ∷ 1 ∷ 2 ∷ 3 ∷ [])) NotRegistered → ⊥
-unfolding masked
+unfolding cut cut_from written masked
 not_registered_though_held answers = true≢false (answers.0 (row_of (mapping wide 1440) 1 0) (at_head (row_of (mapping wide 1440) 1 0) []))
 
 forwards_though_proxy : IsAnswer {A = Unit {0}} opening one_taken 0 (V4 (10 ∷ 1 ∷ 2 ∷ 3 ∷ [])) (Forward (local_at 21)) → ⊥

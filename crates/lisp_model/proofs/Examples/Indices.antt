@@ -1,6 +1,7 @@
 -- What the meanings make of other nodes, and of the latest of several: each looks at its own.
 use Rattle.std.proofs.Common.{List, None, Some, [], false, map, refl, true, ◌^◌, ◌∷◌, ◌≡◌}
 use Rattle.std.specs.Prelude.{slice_get}
+use Rattle.lisp_records.specs.Database.{record_for}
 use Rattle.lisp_records.specs.Record.{MapRecordValue}
 use Rattle.lisp_nonces.specs.declared.fate.Fate.TheVariants as fates
 use Rattle.lisp_etr.specs.Timers.{due_after}
@@ -10,7 +11,6 @@ use Rattle.lisp_model.specs.Bag.{bag, register_item, reply_item, since_start}
 use Rattle.lisp_model.specs.Counted.{acked, counted_nonces, latest_nonce}
 use Rattle.lisp_model.specs.Faults.{world_fault_number}
 use Rattle.lisp_model.specs.Held.{Acceptance, heard_last, held_row, last_of, rows}
-use Rattle.lisp_model.specs.History.{record_for}
 use Rattle.lisp_model.specs.Sending.{last_sent, start_values}
 use Rattle.lisp_model.specs.Timers.{due, last_notice, notice_to, notices as standing}
 use Rattle.lisp_model.specs.Trace.{Step, database, fate_of, is_up, etr_config}
@@ -20,6 +20,8 @@ use Rattle.lisp_model.specs.declared.world_fault.WorldFault.TheVariants as world
 use Rattle.lisp_model.specs.Story.{at, blank, counts, got_from, keeps, local_at, mapping, narrow, one, one_counted, one_sent, one_taken, opening, restarts, secret, sends, sent_by, step, takes, two, wide}
 use Rattle.lisp_model.proofs.Examples.Samples.{answered, arrived, blocks, changes, registers, repeats, row_of, ticks, told, told_to, two_keys}
 use Rattle.lisp_model.proofs.Examples.Traces.{both_sent, first_told, not_started, refused_changed, restarted_changed, short}
+use Rattle.lisp_records.specs.Parts.{cut, cut_from}
+use Rattle.lisp_records.specs.Written.{written}
 
 -- where a router was heard last: of two messages the later one
 heard_latest : heard_last one (record (arrived short 2) { from = local_at 99 } ∷ arrived short 1 ∷ []) ≡ Some (record (arrived short 2) { from = local_at 99 })
@@ -80,7 +82,7 @@ down_though_another_starts : is_up (step (events.Restart 3 0 None) (lines.Restar
 down_though_another_starts = refl
 
 -- what a restart forgets
-latest_after_restart : latest_nonce (restarts one_counted 2 ∷ one_counted) 2 0 ≡ 0
+latest_after_restart : latest_nonce (restarts one_counted 2 ∷ one_counted) 2 0 0 ≡ 0
 latest_after_restart = refl
 
 sent_after_restart : last_sent (restarts one_counted 2 ∷ one_counted) 2 ≡ None
@@ -92,7 +94,7 @@ noticed_after_restart = refl
 abbrev later : List Step
 later = ticks one_counted 5 5 ∷ one_counted
 
-due_after_restart : due (restarts later 2 ∷ later) 2 0 ≡ 5
+due_after_restart : due (restarts later 2 ∷ later) 2 0 0 ≡ 5
 unfolding due_after
 due_after_restart = refl
 
@@ -109,13 +111,13 @@ notices_stay = refl
 last_notice_stays : last_notice others_restarted 0 ≡ Some (2 ^ 63)
 last_notice_stays = refl
 
-latest_stays : latest_nonce others_restarted 2 0 ≡ 1
+latest_stays : latest_nonce others_restarted 2 0 0 ≡ 1
 latest_stays = refl
 
 last_sent_stays : last_sent others_restarted 2 ≡ Some 1
 last_sent_stays = refl
 
-acked_stays : acked (step (events.Restart 3 0 None) (lines.Restarted 3) 3 blank ∷ one_counted) 2 0 ≡ Some (1, 1)
+acked_stays : acked (step (events.Restart 3 0 None) (lines.Restarted 3) 3 blank ∷ one_counted) 2 0 0 ≡ Some (1, 1)
 acked_stays = refl
 
 -- a meaning of one node or pair of nodes isn't another's
@@ -125,24 +127,24 @@ none_told_by_another = refl
 last_notice_of_another : last_notice first_told 1 ≡ None
 last_notice_of_another = refl
 
-due_of_another : due one_sent 3 0 ≡ 0
+due_of_another : due one_sent 3 0 0 ≡ 0
 unfolding due_after
 due_of_another = refl
 
-due_of_another_after_a_change : due (changes later short ∷ later) 3 0 ≡ 0
+due_of_another_after_a_change : due (changes later short ∷ later) 3 0 0 ≡ 0
 unfolding due_after
 due_of_another_after_a_change = refl
 
-latest_of_another : latest_nonce one_sent 3 0 ≡ 0
+latest_of_another : latest_nonce one_sent 3 0 0 ≡ 0
 latest_of_another = refl
 
 last_sent_of_another : last_sent one_sent 3 ≡ None
 last_sent_of_another = refl
 
-acked_of_another : acked one_counted 3 0 ≡ None
+acked_of_another : acked one_counted 3 0 0 ≡ None
 acked_of_another = refl
 
-acked_from_another : acked one_counted 2 1 ≡ None
+acked_from_another : acked one_counted 2 1 0 ≡ None
 acked_from_another = refl
 
 acknowledged_of_another : counted_nonces one_counted 3 0 ≡ []
@@ -167,22 +169,24 @@ nothing_due_for_another = refl
 abbrev sent_anew : List Step
 sent_anew = sends (ticks one_sent 1000 1000 ∷ one_sent) 0 2 1 ∷ ticks one_sent 1000 1000 ∷ one_sent
 
-due_after_the_last : due (counts sent_anew 1 0 2 ∷ sent_anew) 2 0 ≡ 61000
+due_after_the_last : due (counts sent_anew 1 0 2 ∷ sent_anew) 2 0 0 ≡ 61000
 unfolding due_after
 due_after_the_last = refl
 
 -- a message has the moment of its arrival
 taken_late : held_row (since_start opening (takes (ticks one_sent 500 500 ∷ one_sent) 0 0 1 1 ∷ ticks one_sent 500 500 ∷ one_sent) 0) one wide 500 ≡ Some (row_of (mapping wide 1440) 1 500)
+unfolding cut cut_from written
 taken_late = refl
 
 -- a line without a datagram adds nothing to the bag; what is sent again is what was sent
-none_replied : bag opening (step (events.Deliver 0 fates.Done) (lines.Accepted 0 one 1 1 None) 0 blank ∷ one_sent) ≡ register_item opening [] 2 0 1 ∷ []
+none_replied : bag opening (step (events.Deliver 0 fates.Done) (lines.Accepted 0 one 1 1 None) 0 blank ∷ one_sent) ≡ register_item opening [] 2 0 0 1 ∷ []
 none_replied = refl
 
 abbrev renewed_told : List Step
 renewed_told = takes (sends (changes first_told short ∷ first_told) 0 2 3 ∷ changes first_told short ∷ first_told) 3 0 2 4 ∷ sends (changes first_told short ∷ first_told) 0 2 3 ∷ changes first_told short ∷ first_told
 
 sent_again_as_it_was : slice_get (bag opening (repeats renewed_told 5 ∷ renewed_told)) 5 ≡ Some (told (local_at 11) (local_at 21) (2 ^ 63) (mapping wide 1440 ∷ []))
+unfolding cut cut_from written
 sent_again_as_it_was = refl
 
 -- a router's answer to a notice goes to its source
@@ -190,10 +194,11 @@ abbrev told_by_other : List Step
 told_by_other = step (events.Notice 1 2 fates.Done) (lines.Notice 1 2 1 (2 ^ 63) 3) 1 blank ∷ takes both_sent 1 1 2 2 ∷ both_sent
 
 answered_to_its_source : slice_get (bag opening (step (events.Deliver 3 fates.Done) (lines.Noticed 2 1 (2 ^ 63) 4) 2 blank ∷ told_by_other)) 4 ≡ Some (record (answered (2 ^ 63) (mapping wide 1440 ∷ [])) { to = local_at 12 })
+unfolding cut cut_from written
 answered_to_its_source = refl
 
 -- what becomes of the calls of a store is what the event asks for
-asked_for : fate_of (events.Send 2 0 fates.Doubt) ≡ fates.Doubt
+asked_for : fate_of (events.Send 2 0 0 fates.Doubt) ≡ fates.Doubt
 asked_for = refl
 
 asked_at_an_arrival : fate_of (events.Deliver 0 fates.LoadFails) ≡ fates.LoadFails

@@ -18,7 +18,7 @@ use Rattle.lisp_model.specs.declared.event.Event.TheVariants as events
 use Rattle.lisp_model.specs.declared.line.Line.TheVariants as lines
 use Rattle.lisp_model.specs.declared.refusal.Refusal.TheVariants as refusals
 use Rattle.lisp_model.specs.Story.{blank, keeps, local_at, mapping, narrow, one, one_counted, sent_by, step, wide}
-use Rattle.lisp_model.proofs.Examples.Samples.{ticks}
+use Rattle.lisp_model.proofs.Examples.Samples.{acknowledged, ticks}
 use Rattle.lisp_model.proofs.Examples.Traces.{short}
 use Rattle.lisp_model.proofs.Examples.Rotations.{emptied, kept_key, loses, new_secret, not_emptied, not_loaded, renewed, rotating, sent_anew, shows, started, under}
 
@@ -135,19 +135,19 @@ over = step (events.Rotate 2 2 fates.Done) (lines.Rotated 2 2) 2 blank
 abbrev lost : Step
 lost = step (events.Lose 2 2 None) (lines.Emptied 2 2) 2 blank
 
-latest_after_rotation : latest_nonce (over ∷ one_counted) 2 0 ≡ 0
+latest_after_rotation : latest_nonce (over ∷ one_counted) 2 0 0 ≡ 0
 latest_after_rotation = refl
 
-latest_after_loss : latest_nonce (lost ∷ one_counted) 2 0 ≡ 0
+latest_after_loss : latest_nonce (lost ∷ one_counted) 2 0 0 ≡ 0
 latest_after_loss = refl
 
-acked_after_rotation : acked (over ∷ one_counted) 2 0 ≡ Some (1, 1)
+acked_after_rotation : acked (over ∷ one_counted) 2 0 0 ≡ Some (1, 1)
 acked_after_rotation = refl
 
-acked_after_loss : acked (lost ∷ one_counted) 2 0 ≡ None
+acked_after_loss : acked (lost ∷ one_counted) 2 0 0 ≡ None
 acked_after_loss = refl
 
-counted_after_loss : counted_nonces (lost ∷ one_counted) 2 0 ≡ (1, 1) ∷ []
+counted_after_loss : counted_nonces (lost ∷ one_counted) 2 0 ≡ acknowledged 0 1 1 ∷ []
 counted_after_loss = refl
 
 -- not another router's
@@ -157,32 +157,32 @@ over_another = step (events.Rotate 3 2 fates.Done) (lines.Rotated 3 2) 3 blank
 abbrev lost_another : Step
 lost_another = step (events.Lose 3 2 None) (lines.Emptied 3 2) 3 blank
 
-latest_over_another : latest_nonce (over_another ∷ one_counted) 2 0 ≡ 1
+latest_over_another : latest_nonce (over_another ∷ one_counted) 2 0 0 ≡ 1
 latest_over_another = refl
 
-latest_over_anothers_loss : latest_nonce (lost_another ∷ one_counted) 2 0 ≡ 1
+latest_over_anothers_loss : latest_nonce (lost_another ∷ one_counted) 2 0 0 ≡ 1
 latest_over_anothers_loss = refl
 
-acked_over_anothers_loss : acked (lost_another ∷ one_counted) 2 0 ≡ Some (1, 1)
+acked_over_anothers_loss : acked (lost_another ∷ one_counted) 2 0 0 ≡ Some (1, 1)
 acked_over_anothers_loss = refl
 
 -- a round begins
 abbrev later : List Step
 later = ticks one_counted 5 5 ∷ one_counted
 
-due_after_rotation : due (over ∷ later) 2 0 ≡ 5
+due_after_rotation : due (over ∷ later) 2 0 0 ≡ 5
 unfolding due_after
 due_after_rotation = refl
 
-due_after_loss : due (lost ∷ later) 2 0 ≡ 5
+due_after_loss : due (lost ∷ later) 2 0 0 ≡ 5
 unfolding due_after
 due_after_loss = refl
 
-due_over_another : due (over_another ∷ later) 2 0 ≡ 60000
+due_over_another : due (over_another ∷ later) 2 0 0 ≡ 60000
 unfolding due_after
 due_over_another = refl
 
-due_over_anothers_loss : due (lost_another ∷ later) 2 0 ≡ 60000
+due_over_anothers_loss : due (lost_another ∷ later) 2 0 0 ≡ 60000
 unfolding due_after
 due_over_anothers_loss = refl
 

@@ -2,6 +2,7 @@
 
 pub mod Common
 pub mod Sending
+pub mod Parts
 pub mod Rotating
 pub mod Receiving
 pub mod Hearing

@@ -25,11 +25,13 @@ use Rattle.lisp_model.proofs.Examples.Samples.{changes, refuses, registers, tick
 use Rattle.lisp_model.proofs.Examples.Traces.{both_sent, first_entry, restarted_changed, short, two_sent}
 use Rattle.lisp_model.proofs.ItemLemmas.{item_authentic}
 use Rattle.lisp_model.proofs.ListLemmas.{at_head, head_or_tail, in_none}
+use Rattle.lisp_records.specs.Parts.{cut, cut_from}
+use Rattle.lisp_records.specs.Written.{written}
 
 -- clean: a datagram that was overheard and is thrown in again; bytes that are no message; bytes that aren't authentic under
 -- what the node holds, whatever other nodes hold
-overheard : Clean opening (step (events.Junk 0 (local_at 21) (bytes_of (register_item opening [] 2 0 1))) (lines.Down 0) 0 (at one_sent 0) ∷ one_sent)
-overheard = (inl (record { item = register_item opening [] 2 0 1; sent = at_head _ []; source = refl; target = refl; same = refl }), (tt, tt))
+overheard : Clean opening (step (events.Junk 0 (local_at 21) (bytes_of (register_item opening [] 2 0 0 1))) (lines.Down 0) 0 (at one_sent 0) ∷ one_sent)
+overheard = (inl (record { item = register_item opening [] 2 0 0 1; sent = at_head _ []; source = refl; target = refl; same = refl }), (tt, tt))
 
 noise : Clean opening (step (events.Junk 0 (local_at 21) []) (lines.Down 0) 0 (at [] 0) ∷ [])
 noise = (inr (inl (reads.Short, short_message)), tt)
@@ -64,9 +66,10 @@ no_echo T node from i key said secrets none (inr (inl (fault, is))) = let clash 
 no_echo T node from i key said secrets none (inr (inr forged)) = true≢false (sym (item_authentic i) ∙ forged i.secret (subst (λ (xs : List (List ℕ)). Contains xs i.secret) (sym secrets) (subst (λ (x : List ℕ). Contains (secret ∷ []) x) (sym key) (at_head secret []))))
 
 abbrev first_item : Item
-first_item = register_item opening [] 2 0 1
+first_item = register_item opening [] 2 0 0 1
 
 first_said : IsMessage first_item.message
+unfolding cut cut_from written
 first_said = fits (mapping wide 1440 ∷ []) 1 (omega arith) (wide_record 1440 (omega arith))
 
 sent_by_nobody : Clean opening (step (events.Junk 0 (local_at 21) (bytes_of first_item)) (lines.Down 0) 0 blank ∷ []) → ⊥
@@ -91,11 +94,11 @@ to_another clean = no_echo one_sent 1 (local_at 21) first_item refl first_said r
 
 -- no change between two sends: nothing; a restart of the router without a database; another router's change, and its restart
 -- with a database
-sent_unchanged : NoChange both_sent first_entry (record { router = 2; key = 1; nonce = 2; server = 1; database = mapping wide 1440 ∷ []; position = 1 })
+sent_unchanged : NoChange both_sent first_entry (record { router = 2; key = 1; nonce = 2; server = 1; database = mapping wide 1440 ∷ []; part = 0; position = 1 })
 sent_unchanged = record { router = refl; later = λ place s low high is. absurd (omega (arith, low, high)); earlier = λ place s low high is. absurd (omega (arith, low, high)) }
 
 abbrev third_entry : List MapRecordValue → SentRegister
-third_entry db = record { router = 2; key = 1; nonce = 2; server = 0; database = db; position = 2 }
+third_entry db = record { router = 2; key = 1; nonce = 2; server = 0; database = db; part = 0; position = 2 }
 
 unchanged_by : (T : List Step) (s : Step) → slice_get (reverse T) 1 ≡ Some s → gives_database s.event 2 ≡ false → NoChange T first_entry (third_entry (mapping wide 1440 ∷ []))
 unchanged_by T s there none = record { router = refl; later = between; earlier = λ place t low high is. absurd (omega (arith, low, high)) }
@@ -134,7 +137,7 @@ abbrev sent_later : List Step
 sent_later = sends (sends (changes [] short ∷ []) 0 1 0 ∷ changes [] short ∷ []) 0 2 1 ∷ sends (changes [] short ∷ []) 0 1 0 ∷ changes [] short ∷ []
 
 abbrev entry_at : ℕ → ℕ → ℕ → SentRegister
-entry_at router nonce position = record { router = router; key = 1; nonce = nonce; server = 0; database = short; position = position }
+entry_at router nonce position = record { router = router; key = 1; nonce = nonce; server = 0; database = short; part = 0; position = position }
 
 changed_before : NoChange sent_later (entry_at 2 1 1) (entry_at 2 2 2)
 changed_before = record { router = refl; later = λ place s low high is. absurd (omega (arith, low, high)); earlier = λ place s low high is. absurd (omega (arith, low, high)) }
@@ -162,6 +165,7 @@ other_said : IsMessage other_item.message
 other_said = fits short 9 (omega arith) (wide_record 60 (omega arith))
 
 other_bytes : Clean opening (step (events.Junk 0 (local_at 21) (bytes_of other_item)) (lines.Down 0) 0 blank ∷ one_sent) → ⊥
+unfolding cut cut_from written
 other_bytes clean = no_echo one_sent 0 (local_at 21) other_item refl other_said refl (λ echo.
     let read : ◌≡◌ {A = Result MessageValue ReadFault} (Ok first_item.message) (Ok other_item.message) = sym (item_reads first_item first_said) ∙ ap (λ (i : Item). message_at (bytes_of i)) (sym (in_bag first_item echo.item echo.sent)) ∙ ap message_at echo.same ∙ item_reads other_item other_said in
     let message : registers (mapping wide 1440 ∷ []) 1 ≡ registers short 9 = cc in

@@ -33,13 +33,16 @@ use Rattle.lisp_model.specs.declared.event.Event.TheVariants as events
 use Rattle.lisp_model.specs.declared.line.Line.TheVariants as lines
 use Rattle.lisp_model.specs.declared.refusal.Refusal.TheVariants as refusals
 use Rattle.lisp_model.specs.Story.{blank, got_from, keeps, local_at, mapping, network, one, opening, secret, sent_by, site, step, wide}
-use Rattle.lisp_model.proofs.Examples.Arrivals.{wide_record}
+use Rattle.lisp_model.proofs.Examples.Wholes.{IsOnePart, wide_whole}
 use Rattle.lisp_model.proofs.Examples.Samples.{failed}
 use Rattle.lisp_model.proofs.Examples.Steps.{block_of_one}
 use Rattle.lisp_model.proofs.ContextLemmas.{fresh_value, other_value, saved, set_value}
 use Rattle.lisp_model.proofs.ItemLemmas.{item_authentic, passes}
 use Rattle.lisp_model.proofs.KeptLemmas.{empty_full, set_here, set_others, stays}
 use Rattle.lisp_model.proofs.ListLemmas.{in_none}
+use Rattle.lisp_model.specs.Numbers.{numbers_below}
+use Rattle.lisp_records.specs.Parts.{cut, cut_from, part_at}
+use Rattle.lisp_records.specs.Written.{written}
 
 -- the texts `new` and `third`
 abbrev pub new_secret : List ℕ
@@ -66,7 +69,7 @@ keys_differ pair key other differ e = differ (ap (λ (p : Pair). p.key) e)
 
 -- the first router sends to the first Map-Server, which accepts it
 abbrev pub sends_under : List Step → ℕ → ℕ → ℕ → Step
-sends_under T key nonce datagram = step (events.Send 2 0 fates.Done) (lines.Sent 2 0 key nonce datagram) 2 (keeps (shows T 2) (under key (sent_by one)) nonce)
+sends_under T key nonce datagram = step (events.Send 2 0 0 fates.Done) (lines.Sent 2 0 0 key nonce datagram) 2 (keeps (shows T 2) (under key (sent_by one)) nonce)
 
 abbrev pub takes_under : List Step → ℕ → ℕ → ℕ → ℕ → Step
 takes_under T k key nonce datagram = step (events.Deliver k fates.Done) (lines.Accepted 0 one key nonce (Some datagram)) 0 (keeps (shows T 0) (under key (got_from one)) nonce)
@@ -106,7 +109,7 @@ abbrev pub replied_late : List Step
 replied_late = step (events.Deliver 3 fates.Done) (lines.Refused 2 (refusals.Notify notify_faults.WrongKey)) 2 (shows taken_late 2) ∷ taken_late
 
 abbrev pub counted_anew : List Step
-counted_anew = step (events.Deliver 2 fates.Done) (lines.Counted 2 0 2 1) 2 (shows replied_late 2) ∷ replied_late
+counted_anew = step (events.Deliver 2 fates.Done) (lines.Counted 2 0 0 2 1) 2 (shows replied_late 2) ∷ replied_late
 
 -- back to the first key, where it goes on; it has that key; its store is lost, and it starts under the third
 abbrev pub back : List Step
@@ -129,24 +132,27 @@ abbrev pub not_emptied : List Step
 not_emptied = loses_and_fails started 3 ∷ started
 
 -- a Map-Register goes out under the router's key
-sends_under_legal : (T : List Step) (key nonce datagram : ℕ) (base : Option ℕ) → key_of rotating T 2 ≡ key → is_up T 2 ≡ true → CountsFrom rotating T 2 base → nonce ≡ number base + 1 → key < 256 → nonce < 2 ^ 63 → AreRecords (database rotating T 2) → datagram ≡ length (bag rotating T)
+sends_under_legal : (T : List Step) (key nonce datagram : ℕ) (base : Option ℕ) → key_of rotating T 2 ≡ key → is_up T 2 ≡ true → CountsFrom rotating T 2 base → nonce ≡ number base + 1 → key < 256 → nonce < 2 ^ 63 → IsOnePart (database rotating T 2) → datagram ≡ length (bag rotating T)
     → Legal rotating T (sends_under T key nonce datagram)
-sends_under_legal T key nonce datagram base is up counted next small low records place = record {
+sends_under_legal T key nonce datagram base is up counted next small low whole place = record {
   faults = omega arith;
   obedient = refl;
   row = (
+    refl,
     refl,
     refl,
     record {
       acts = record { kind = refl; acts = refl; state = up };
       kind = refl;
       listed = refl;
+      fits = whole.database;
+      there = whole.there;
       under = sym is;
       base = base;
       counts = counted;
       next = next;
       within = omega (arith, low);
-      message = record { nonce = omega (arith, low); key = subst (λ (k : ℕ). k < 256) (sym is) small; records = records; xtr = refl; xtr_bytes = search rules; site = omega arith };
+      message = record { nonce = omega (arith, low); key = subst (λ (k : ℕ). k < 256) (sym is) small; records = subst AreRecords (sym whole.alone) whole.records; xtr = refl; xtr_bytes = search rules; site = omega arith };
       place = place;
       saves = subst (λ (k : ℕ). Saves (context_of rotating T (sends_under T key nonce datagram)) (under k (sent_by one)) nonce (block_end nonce 1)) (sym is)
           (subst (Saves (context_of rotating T (sends_under T key nonce datagram)) (under key (sent_by one)) nonce) (sym (block_of_one nonce (omega (arith, low)))) (saved _ (under key (sent_by one)) nonce (λ obeys clash. absurd cc) refl));
@@ -155,24 +161,24 @@ sends_under_legal T key nonce datagram base is up counted next small low records
 }
 
 -- it is accepted
-takes_under_legal : (T before : List Step) (k key nonce datagram : ℕ) (base : Option ℕ) → slice_get (bag rotating T) k ≡ Some (register_item rotating before 2 0 nonce) → key_of rotating before 2 ≡ key → secret_of three_keys key ≡ Some (etr_config rotating before 2).secret
-    → first_not_allowed three_keys (database rotating before 2) ≡ None → IsBase (last_of (under key (got_from one)) (since_start rotating T 0)) (kept_at (shows T 0).kept (under key (got_from one))) base → IsBelow base nonce → datagram ≡ length (bag rotating T)
+takes_under_legal : (T before : List Step) (k key nonce datagram : ℕ) (base : Option ℕ) → slice_get (bag rotating T) k ≡ Some (register_item rotating before 2 0 0 nonce) → key_of rotating before 2 ≡ key → secret_of three_keys key ≡ Some (etr_config rotating before 2).secret
+    → first_not_allowed three_keys (part_at (database rotating before 2) 0) ≡ None → IsBase (last_of (under key (got_from one)) (since_start rotating T 0)) (kept_at (shows T 0).kept (under key (got_from one))) base → IsBelow base nonce → datagram ≡ length (bag rotating T)
     → Legal rotating T (takes_under T k key nonce datagram)
 takes_under_legal T before k key nonce datagram base sent is known allowed counted below place = record {
   faults = omega arith;
   obedient = refl;
   row = record {
-    item = register_item rotating before 2 0 nonce;
+    item = register_item rotating before 2 0 0 nonce;
     sent = sent;
     there = refl;
     arrives = record {
       acts = record { kind = refl; acts = refl };
       message = _;
-      admits = record { read = refl; secret = (etr_config rotating before 2).secret; checks = passes rotating.config.sites (bytes_of (register_item rotating before 2 0 nonce)) (map_register_of (etr_config rotating before 2) (database rotating before 2) nonce) three_keys (etr_config rotating before 2).secret refl (ap (secret_of three_keys) is ∙ known) (item_authentic (register_item rotating before 2 0 nonce)) refl allowed };
+      admits = record { read = refl; secret = (etr_config rotating before 2).secret; checks = passes rotating.config.sites (bytes_of (register_item rotating before 2 0 0 nonce)) (map_register_of (etr_config rotating before 2) (part_at (database rotating before 2) 0) nonce) three_keys (etr_config rotating before 2).secret refl (ap (secret_of three_keys) is ∙ known) (item_authentic (register_item rotating before 2 0 0 nonce)) refl allowed };
       who = refl;
       under = sym is;
       number = refl;
-      fresh = subst (λ (k : ℕ). IsFresh (context_of rotating T (takes_under T k key nonce datagram)) (map_register_of (etr_config_under rotating.config (router_at rotating.config 2) k) (database rotating before 2) nonce)) (sym is) (record { base = base; counts = counted; above = below; loads = λ none obeys clash. absurd cc });
+      fresh = subst (λ (k : ℕ). IsFresh (context_of rotating T (takes_under T k key nonce datagram)) (map_register_of (etr_config_under rotating.config (router_at rotating.config 2) k) (part_at (database rotating before 2) 0) nonce)) (sym is) (record { base = base; counts = counted; above = below; loads = λ none obeys clash. absurd cc });
       may = λ obeys clash. absurd cc;
       kept = subst (λ (k : ℕ). kept_at (keeps (shows T 0) (under key (got_from one)) nonce).kept (under k (got_from one)) ≡ Some nonce ∷ []) (sym is) (set_here (shows T 0).kept (under key (got_from one)) (Some nonce ∷ []));
       others = subst (λ (k : ℕ). SameElsewhere (shows T 0).kept (keeps (shows T 0) (under key (got_from one)) nonce).kept (under k (got_from one))) (sym is) (set_others (shows T 0).kept (under key (got_from one)) (Some nonce ∷ []));
@@ -203,16 +209,17 @@ pub fresh_under : (key other nonce : ℕ) → key ≢ other → Contains (kept_a
 fresh_under key other nonce differ = other_value empty (under other (sent_by one)) (under key (sent_by one)) (Some nonce ∷ []) None (keys_differ (sent_by one) key other differ) (fresh_value (under key (sent_by one)))
 
 pub started_legal : LegalTrace rotating started
-started_legal = (sends_under_legal [] 1 1 0 None refl refl (fresh_value (sent_by one)) refl (omega arith) (omega arith) (wide_record 1440 (omega arith)) refl, tt)
+started_legal = (sends_under_legal [] 1 1 0 None refl refl (fresh_value (sent_by one)) refl (omega arith) (omega arith) wide_whole refl, tt)
 
 pub renewed_legal : LegalTrace rotating renewed
 renewed_legal = (rotates_legal started 2 refl (record { known = second_known; unused = in_none 2 }) (other_number 2 1 refl), started_legal)
 
 pub sent_anew_legal : LegalTrace rotating sent_anew
-sent_anew_legal = (sends_under_legal renewed 2 1 1 None refl refl (fresh_under 2 1 1 (other_number 2 1 refl)) refl (omega arith) (omega arith) (wide_record 1440 (omega arith)) refl, renewed_legal)
+sent_anew_legal = (sends_under_legal renewed 2 1 1 None refl refl (fresh_under 2 1 1 (other_number 2 1 refl)) refl (omega arith) (omega arith) wide_whole refl, renewed_legal)
 
 -- both Map-Registers are accepted, each under its key
 pub taken_late_legal : LegalTrace rotating taken_late
+unfolding cut cut_from written
 taken_late_legal = (
   takes_under_legal taken_anew [] 0 1 1 3 None refl refl refl refl (other_value empty (under 2 (got_from one)) (got_from one) (Some 1 ∷ []) None (keys_differ (got_from one) 1 2 (other_number 1 2 refl)) (fresh_value (got_from one))) tt refl,
   (takes_under_legal sent_anew renewed 1 2 1 2 None refl refl refl refl (fresh_value (under 2 (got_from one))) tt refl, sent_anew_legal),
@@ -237,6 +244,7 @@ unfolding checked_notify
 heard_anew = passed _ _ (item_authentic (reply_under 2 new_secret))
 
 pub counted_anew_legal : LegalTrace rotating counted_anew
+unfolding cut cut_from written numbers_below
 counted_anew_legal = (
   record { faults = omega arith; obedient = refl; row = record { item = reply_under 2 new_secret; sent = refl; there = refl; arrives = record { acts = record { kind = refl; acts = refl; state = refl }; same = refl; comes = inl (rw heard_anew refl) } } },
   (
@@ -248,7 +256,7 @@ counted_anew_legal = (
 -- back under the first key, the router goes on after the nonce that it sent under it
 pub sent_back_legal : LegalTrace rotating sent_back
 sent_back_legal = (
-  sends_under_legal back 1 2 4 (Some 1) refl refl (other_value (keeps blank (sent_by one) 1).kept (under 2 (sent_by one)) (sent_by one) (Some 1 ∷ []) (Some 1) (keys_differ (sent_by one) 1 2 (other_number 1 2 refl)) (set_value empty (sent_by one) (Some 1))) refl (omega arith) (omega arith) (wide_record 1440 (omega arith)) refl,
+  sends_under_legal back 1 2 4 (Some 1) refl refl (other_value (keeps blank (sent_by one) 1).kept (under 2 (sent_by one)) (sent_by one) (Some 1 ∷ []) (Some 1) (keys_differ (sent_by one) 1 2 (other_number 1 2 refl)) (set_value empty (sent_by one) (Some 1))) refl (omega arith) (omega arith) wide_whole refl,
   (rotates_legal counted_anew 1 refl (record { known = first_known; unused = in_none 1 }) (other_number 1 2 refl), counted_anew_legal),
 )
 
@@ -264,7 +272,7 @@ not_third (suc (suc (suc k)), lt, is) = absurd (omega (arith, lt))
 
 pub sent_at_last_legal : LegalTrace rotating sent_at_last
 sent_at_last_legal = (
-  sends_under_legal emptied 3 1 5 None refl refl (fresh_value (under 3 (sent_by one))) refl (omega arith) (omega arith) (wide_record 1440 (omega arith)) refl,
+  sends_under_legal emptied 3 1 5 None refl refl (fresh_value (under 3 (sent_by one))) refl (omega arith) (omega arith) wide_whole refl,
   (
     record { faults = omega arith; obedient = refl; row = record { lost = record { acts = refl; kind = refl; may = record { known = third_known; unused = not_third }; fits = tt; some = empty_full }; names = refl; to = refl } },
     kept_key_legal,
@@ -287,7 +295,7 @@ started_at_last = step (events.Restart 2 0 None) (lines.Restarted 2) 2 (shows no
 
 pub sent_after_both : LegalTrace rotating (sends_under started_at_last 3 1 1 ∷ started_at_last)
 sent_after_both = (
-  sends_under_legal started_at_last 3 1 1 None refl refl (fresh_value (under 3 (sent_by one))) refl (omega arith) (omega arith) (wide_record 1440 (omega arith)) refl,
+  sends_under_legal started_at_last 3 1 1 None refl refl (fresh_value (under 3 (sent_by one))) refl (omega arith) (omega arith) wide_whole refl,
   (record { faults = omega arith; obedient = refl; row = record { names = refl; acts = refl; kind = inr refl; fits = tt; narrows = stays empty empty_full; picks = λ obeys. absurd (true≢false (sym obeys)) } }, not_emptied_legal),
 )
 

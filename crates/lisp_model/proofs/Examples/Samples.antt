@@ -19,6 +19,7 @@ use Rattle.lisp_etr.specs.declared.send_fault.SendFault.TheVariants as send_faul
 use Rattle.lisp_admission.specs.Pairs.{notice_pair}
 use Rattle.lisp_admission.specs.declared.refused.Refused.TheVariants as refuseds
 use Rattle.lisp_model.specs.Bag.{Item}
+use Rattle.lisp_model.specs.Counted.{Acknowledged}
 use Rattle.lisp_model.specs.Held.{Acceptance}
 use Rattle.lisp_model.specs.Story.{at, blank, got_from, keeps, local_at, network, one, opening, secret, sent_by, site, step}
 use Rattle.lisp_model.specs.Timers.{Notice}
@@ -43,6 +44,14 @@ changes T db = step (events.Change 2 db) (lines.Changed 2 (length db)) 2 (at T 2
 abbrev pub ticks : List Step → ℕ → ℕ → Step
 ticks T ms now = step (events.Tick ms) (lines.Ticked ms now) 4 (at T 4)
 
+-- the first router sends a part to the first Map-Server; a reply to a part arrives. Its database has one part: what it
+-- sends of others is no legal step
+abbrev pub sends_part : List Step → ℕ → ℕ → ℕ → Step
+sends_part T part nonce datagram = step (events.Send 2 0 part fates.Done) (lines.Sent 2 0 part 1 nonce datagram) 2 (keeps (at T 2) (sent_by one) nonce)
+
+abbrev pub counts_part : List Step → ℕ → ℕ → ℕ → ℕ → Step
+counts_part T k server part nonce = step (events.Deliver k fates.Done) (lines.Counted 2 server part 1 nonce) 2 (at T 2)
+
 -- a save is in doubt: the store keeps one more value
 abbrev pub doubts : ShownStore → Pair → ℕ → ShownStore
 doubts s pair nonce = record s { kept = insert s.kept pair (kept_at s.kept pair ++ Some nonce ∷ []); faults = s.faults + 1 }
@@ -52,7 +61,7 @@ abbrev pub failed : ShownStore → ShownStore
 failed s = record s { faults = s.faults + 1 }
 
 abbrev pub doubts_send : List Step → ℕ → ℕ → Step
-doubts_send T server nonce = step (events.Send 2 server fates.Doubt) (lines.Refused 2 (refusals.Send (send_faults.Store stores.Device))) 2 (doubts (at T 2) (sent_by one) nonce)
+doubts_send T server nonce = step (events.Send 2 server 0 fates.Doubt) (lines.Refused 2 (refusals.Send (send_faults.Store stores.Device))) 2 (doubts (at T 2) (sent_by one) nonce)
 
 abbrev pub doubts_take : List Step → ℕ → ℕ → ℕ → Step
 doubts_take T k server nonce = step (events.Deliver k fates.Doubt) (lines.Refused server (refusals.Receive (refuseds.StoreSave stores.Device))) server (doubts (at T server) (got_from one) nonce)
@@ -111,6 +120,10 @@ spent = record { config = network; stores = keeps blank notice_pair (2 ^ 64 - 1)
 -- and of which they keep the one before
 abbrev pub one_left : Opening
 one_left = record { config = network; stores = keeps blank notice_pair (2 ^ 64 - 2) ∷ blank ∷ keeps blank (sent_by one) (2 ^ 63 - 2) ∷ blank ∷ [] }
+
+-- a Map-Register of the first router that was acknowledged
+abbrev pub acknowledged : ℕ → ℕ → ℕ → Acknowledged
+acknowledged part key nonce = record { part = part; key = key; nonce = nonce }
 
 -- a router that saves ten nonces at once, and asks that its records live as long as they say
 abbrev pub blocks : Opening

@@ -3,7 +3,8 @@ use Rattle.std.proofs.Common.{Bool, List, None, Ok, Option, Some, [], ap, arith,
 use Rattle.std.specs.List.{Contains}
 use Rattle.std.specs.Prelude.{nat_le, slice_get, ◌<◌, ◌^◌, ◌≢◌, ◌⊎◌}
 use Rattle.std.proofs.lemmas.Bool.{le-leb, leb-true}
-use Rattle.lisp_records.specs.Database.{database_of, repeats as repeats_in}
+use Rattle.lisp_records.specs.Database.{database_of}
+use Rattle.lisp_records.specs.Parts.{fits_message, part_at, part_count}
 use Rattle.lisp_records.specs.Moment.{max_moment}
 use Rattle.lisp_records.specs.Record.{MapRecordValue}
 use Rattle.lisp_records.specs.Written.{written}
@@ -13,15 +14,16 @@ use Rattle.lisp_nonces.specs.declared.fate.Fate.TheVariants as fates
 use Rattle.lisp_nonces.specs.declared.fault.StoreFault.TheVariants as stores
 use Rattle.lisp_nonces.specs.declared.pair.Pair.{Pair}
 use Rattle.lisp_messages.specs.Authentic.{is_authentic}
-use Rattle.lisp_messages.specs.Message.{AreRecords, IsMapRegister, Registers, MessageValue}
-use Rattle.lisp_etr.specs.Hearing.{first_notice, is_latest}
+use Rattle.lisp_messages.specs.Message.{IsMapRegister, Registers, MessageValue}
+use Rattle.lisp_etr.specs.Hearing.{first_notice}
+use Rattle.lisp_etr.specs.Rounds.{part_with}
 use Rattle.lisp_etr.specs.Sending.{block_end, last_nonce, map_register_of}
 use Rattle.lisp_admission.specs.Checks.{first_not_allowed}
 use Rattle.lisp_admission.specs.Nonces.{IsBelow, nonce_after}
 use Rattle.lisp_admission.specs.Pairs.{notice_pair}
 use Rattle.lisp_admission.specs.declared.refused.Refused.TheVariants as refuseds
 use Rattle.lisp_model.specs.Bag.{Item, arrival_of, bag, bytes_of, since_start}
-use Rattle.lisp_model.specs.Counted.{notify_at, latest_nonce, server_from}
+use Rattle.lisp_model.specs.Counted.{notify_at, latest_nonces, server_from}
 use Rattle.lisp_model.specs.Held.{Acceptance, heard_last, held_row, last_of, records_of}
 use Rattle.lisp_model.specs.Legal.{Legal, context_of}
 use Rattle.lisp_model.specs.Receiving.{FailsCheck, awaiting}
@@ -33,8 +35,9 @@ use Rattle.lisp_model.specs.declared.event.Event.TheVariants as events
 use Rattle.lisp_model.specs.declared.line.Line.TheVariants as lines
 use Rattle.lisp_model.specs.declared.refusal.Refusal.TheVariants as refusals
 use Rattle.lisp_model.proofs.Examples.Arrivals.{admitted, fits, hears}
+use Rattle.lisp_model.proofs.Examples.Wholes.{IsOnePart}
 use Rattle.lisp_model.specs.Story.{at, counts, got_from, local_at, mapping, network, one, opening, replays, restarts, secret, sends, sent_by, site, takes, wide}
-use Rattle.lisp_model.proofs.Examples.Samples.{answered, changes, doubts_send, doubts_take, ends, fails_load, notices, refuses, registers, repeats, restarts_to, tells, ticks, told}
+use Rattle.lisp_model.proofs.Examples.Samples.{answered, changes, counts_part, doubts_send, doubts_take, ends, fails_load, notices, refuses, registers, repeats, restarts_to, tells, ticks, told}
 use Rattle.lisp_model.proofs.ItemLemmas.{is_not_allowed, item_authentic}
 use Rattle.lisp_model.proofs.KeptLemmas.{IsFull, narrows, set_here, set_others, stays}
 use Rattle.lisp_model.proofs.ContextLemmas.{in_doubt, saved}
@@ -44,23 +47,26 @@ pub block_of_one : (nonce : ℕ) → nonce ≤ last_nonce → block_end nonce 1 
 block_of_one nonce low = omega (arith, low)
 
 pub sends_legal : (T : List Step) (server nonce datagram : ℕ) (base : Option ℕ) → key_of opening T 2 ≡ 1 → is_up T 2 ≡ true → is_server network server ≡ true → is_listed network 2 server ≡ true → CountsFrom opening T 2 base → nonce ≡ number base + 1 → nonce < 2 ^ 63
-    → AreRecords (database opening T 2) → datagram ≡ length (bag opening T) → Legal opening T (sends T server nonce datagram)
-sends_legal T server nonce datagram base key up kind listed counted next low records place = record {
+    → IsOnePart (database opening T 2) → datagram ≡ length (bag opening T) → Legal opening T (sends T server nonce datagram)
+sends_legal T server nonce datagram base key up kind listed counted next low whole place = record {
   faults = omega arith;
   obedient = refl;
   row = (
+    refl,
     refl,
     refl,
     record {
       acts = record { kind = refl; acts = refl; state = up };
       kind = kind;
       listed = listed;
+      fits = whole.database;
+      there = whole.there;
       under = sym key;
       base = base;
       counts = counted;
       next = next;
       within = omega (arith, low);
-      message = subst (λ (k : ℕ). IsMapRegister (map_register_of (etr_config_under network (router_at network 2) k) (database opening T 2) nonce)) (sym key) (fits (database opening T 2) nonce (omega (arith, low)) records);
+      message = subst (λ (k : ℕ). IsMapRegister (map_register_of (etr_config_under network (router_at network 2) k) (part_at (database opening T 2) 0) nonce)) (sym key) (subst (λ (db : List MapRecordValue). IsMapRegister (registers db nonce)) (sym whole.alone) (fits (database opening T 2) nonce (omega (arith, low)) whole.records));
       place = place;
       saves = subst (λ (k : ℕ). Saves (context_of opening T (sends T server nonce datagram)) (record (sent_by one) { key = k }) nonce (block_end nonce 1)) (sym key) (subst (Saves (context_of opening T (sends T server nonce datagram)) (sent_by one) nonce) (sym (block_of_one nonce (omega (arith, low)))) (saved _ (sent_by one) nonce (λ obeys clash. absurd cc) refl));
     },
@@ -125,18 +131,22 @@ not_above m n low = at (nat_le m n) refl
     at false is = is
     at true is = let above = leb-true m n is in absurd (omega (arith, low, above))
 
-pub counts_legal : (T : List Step) (k server nonce : ℕ) (from : Addr) (records : List MapRecordValue) → key_of opening T 2 ≡ 1 → is_up T 2 ≡ true → slice_get (bag opening T) k ≡ Some (told from (local_at 21) nonce records)
-    → server_from network 2 from ≡ Some server → nonce < first_notice → is_latest nonce (latest_nonce T 2 server) ≡ true → Legal opening T (counts T k server nonce)
-counts_legal T k server nonce from records key up sent is low last = record {
+pub counts_part_legal : (T : List Step) (k server part nonce : ℕ) (from : Addr) (records : List MapRecordValue) → key_of opening T 2 ≡ 1 → is_up T 2 ≡ true → slice_get (bag opening T) k ≡ Some (told from (local_at 21) nonce records)
+    → server_from network 2 from ≡ Some server → nonce < first_notice → part_with nonce (latest_nonces T 2 server) ≡ Some part → Legal opening T (counts_part T k server part nonce)
+counts_part_legal T k server part nonce from records key up sent is low last = record {
   faults = omega arith;
   obedient = refl;
   row = record {
     item = told from (local_at 21) nonce records;
     sent = sent;
     there = refl;
-    arrives = record { acts = record { kind = refl; acts = refl; state = up }; same = refl; comes = inl (rw (hears from (local_at 21) nonce records server is T key, not_above first_notice nonce low, last) (ap (λ (k : ℕ). lines.Counted 2 server k nonce) (sym key))) };
+    arrives = record { acts = record { kind = refl; acts = refl; state = up }; same = refl; comes = inl (rw (hears from (local_at 21) nonce records server is T key, not_above first_notice nonce low, last) (ap (λ (k : ℕ). lines.Counted 2 server part k nonce) (sym key))) };
   };
 }
+
+pub counts_legal : (T : List Step) (k server nonce : ℕ) (from : Addr) (records : List MapRecordValue) → key_of opening T 2 ≡ 1 → is_up T 2 ≡ true → slice_get (bag opening T) k ≡ Some (told from (local_at 21) nonce records)
+    → server_from network 2 from ≡ Some server → nonce < first_notice → part_with nonce (latest_nonces T 2 server) ≡ Some 0 → Legal opening T (counts T k server nonce)
+counts_legal T k server nonce = counts_part_legal T k server 0 nonce
 
 pub changes_legal : (T : List Step) (db : List MapRecordValue) → database_of db ≡ Ok db → is_up T 2 ≡ true → Legal opening T (changes T db)
 changes_legal T db fits up = record { faults = omega arith; obedient = refl; row = record { acts = record { kind = refl; acts = refl; state = up }; names = refl; fits = fits; count = refl; same = refl } }
@@ -144,12 +154,12 @@ changes_legal T db fits up = record { faults = omega arith; obedient = refl; row
 pub ticks_legal : (T : List Step) (ms now : ℕ) → now ≡ clock T + ms → now ≤ max_moment → Legal opening T (ticks T ms now)
 ticks_legal T ms now is low = record { faults = omega arith; obedient = refl; row = record { names = refl; clock = is; bound = low; idle = record { server = refl; router = refl; same = refl } } }
 
-pub doubts_send_legal : (T : List Step) (server : ℕ) (base : Option ℕ) → key_of opening T 2 ≡ 1 → is_up T 2 ≡ true → is_server network server ≡ true → is_listed network 2 server ≡ true → CountsFrom opening T 2 base → number base < last_nonce → (at T 2).is_obedient ≡ false
+pub doubts_send_legal : (T : List Step) (server : ℕ) (base : Option ℕ) → key_of opening T 2 ≡ 1 → is_up T 2 ≡ true → is_server network server ≡ true → is_listed network 2 server ≡ true → 0 < part_count (database opening T 2) → CountsFrom opening T 2 base → number base < last_nonce → (at T 2).is_obedient ≡ false
     → Legal opening T (doubts_send T server (number base + 1))
-doubts_send_legal T server base key up kind listed counted left unbound = record {
+doubts_send_legal T server base key up kind listed there counted left unbound = record {
   faults = omega arith;
   obedient = refl;
-  row = (refl, kind, record { kind = refl; acts = refl; state = up }, (listed, record { base = base; counts = counted; left = left; fails = subst (λ (k : ℕ). SaveFails (context_of opening T (doubts_send T server (number base + 1))) (record (sent_by one) { key = k }) (block_end (number base + 1) 1) stores.Device) (sym key) (subst (λ (n : ℕ). SaveFails (context_of opening T (doubts_send T server (number base + 1))) (sent_by one) n stores.Device) (sym (block_of_one (number base + 1) (omega (arith, left)))) (in_doubt (context_of opening T (doubts_send T server (number base + 1))) (sent_by one) (number base + 1) unbound refl (omega arith))) }));
+  row = (refl, kind, record { kind = refl; acts = refl; state = up }, ((listed, there), record { base = base; counts = counted; left = left; fails = subst (λ (k : ℕ). SaveFails (context_of opening T (doubts_send T server (number base + 1))) (record (sent_by one) { key = k }) (block_end (number base + 1) 1) stores.Device) (sym key) (subst (λ (n : ℕ). SaveFails (context_of opening T (doubts_send T server (number base + 1))) (sent_by one) n stores.Device) (sym (block_of_one (number base + 1) (omega (arith, left)))) (in_doubt (context_of opening T (doubts_send T server (number base + 1))) (sent_by one) (number base + 1) unbound refl (omega arith))) }));
 }
 
 pub doubts_take_legal : (T : List Step) (k server nonce : ℕ) (i : Item) (db : List MapRecordValue) (base : Option ℕ) → slice_get (bag opening T) k ≡ Some i → node_at network i.to ≡ Some server → is_server network server ≡ true
@@ -225,8 +235,8 @@ restarts_to_legal T node pair v (inl server) has full unbound = record { faults 
 restarts_to_legal T node pair v (inr router) has full unbound = record { faults = omega arith; obedient = refl; row = record { names = refl; acts = refl; kind = inr router; fits = tt; narrows = narrows (at T node).kept pair v has full; picks = λ obeys. absurd (true≢false (sym obeys ∙ unbound)) } }
 
 -- the record of the first router, told
-wide_fits : database_of (mapping wide 1440 ∷ []) ≡ Ok (mapping wide 1440 ∷ [])
-unfolding written repeats_in
+wide_fits : fits_message (mapping wide 1440 ∷ []) ≡ true
+unfolding written
 wide_fits = refl
 
 wide_some : (mapping wide 1440 ∷ []) ≢ []
@@ -243,7 +253,7 @@ tells_legal T nonce datagram last base held_row notify_at key counts next bound 
     record {
       acts = record { kind = refl; acts = refl };
       kind = refl;
-      tells = record { some = subst (λ (rs : List MapRecordValue). rs ≢ []) (sym held_row) wide_some; fits = subst (λ (rs : List MapRecordValue). database_of rs ≡ Ok rs) (sym held_row) wide_fits };
+      tells = record { some = subst (λ (rs : List MapRecordValue). rs ≢ []) (sym held_row) wide_some; fits = subst (λ (rs : List MapRecordValue). fits_message rs ≡ true) (sym held_row) wide_fits };
       last = last;
       heard = notify_at;
       under = sym key;

@@ -15,7 +15,7 @@ use Rattle.lisp_model.specs.declared.event.Event.TheVariants as events
 use Rattle.lisp_model.specs.declared.line.Line.TheVariants as lines
 use Rattle.lisp_model.specs.declared.refusal.Refusal.TheVariants as refusals
 use Rattle.lisp_model.specs.Story.{at, blank, got_from, keeps, local_at, mapping, narrow, one, one_counted, one_sent, one_taken, opening, restarts, sends, sent_by, step, takes, two, wide}
-use Rattle.lisp_model.proofs.Examples.Samples.{changes, doubts_send, doubts_take, ends, failed, notices, repeats, restarts_to, strange, tells, ticks}
+use Rattle.lisp_model.proofs.Examples.Samples.{changes, counts_part, doubts_send, doubts_take, ends, failed, notices, repeats, restarts_to, sends_part, strange, tells, ticks}
 
 -- an older datagram arrives after a newer one
 abbrev pub short : List MapRecordValue
@@ -96,6 +96,27 @@ older_noticed = notices told_anew 2 (2 ^ 63) 4 ∷ told_anew
 abbrev pub sent_twice : List Step
 sent_twice = sends one_taken 0 2 2 ∷ one_taken
 
+-- two parts are sent, and both are accepted
+abbrev pub parts_sent : List Step
+parts_sent = sends_part one_sent 1 2 1 ∷ one_sent
+
+abbrev pub parts_taken : List Step
+parts_taken = takes (takes parts_sent 0 0 1 2 ∷ parts_sent) 1 0 2 3 ∷ takes parts_sent 0 0 1 2 ∷ parts_sent
+
+abbrev pub second_counted : List Step
+second_counted = counts_part parts_taken 3 0 1 2 ∷ parts_taken
+
+-- each part is sent once more
+abbrev pub parts_sent_again : List Step
+parts_sent_again = sends_part sent_twice 1 3 3 ∷ sent_twice
+
+-- the second part is counted after a change to a database that doesn't have it
+abbrev pub vanished : List Step
+vanished = changes (ticks parts_taken 5 5 ∷ parts_taken) short ∷ ticks parts_taken 5 5 ∷ parts_taken
+
+abbrev pub vanished_counted : List Step
+vanished_counted = counts_part vanished 3 0 1 2 ∷ vanished
+
 -- a record of another site is refused
 abbrev pub foreign_sent : List Step
 foreign_sent = sends (changes [] foreign ∷ []) 0 1 0 ∷ changes [] foreign ∷ []
@@ -112,7 +133,7 @@ registered_again = takes sent_after 3 0 2 4 ∷ sent_after
 
 -- the second router registers a longer prefix, and asks for no proxy replies
 abbrev pub both_heard : List Step
-both_heard = step (events.Deliver 2 fates.Done) (lines.Accepted 0 two 1 1 (Some 3)) 0 (keeps (at one_taken 0) (got_from two) 1) ∷ step (events.Send 3 0 fates.Done) (lines.Sent 3 0 1 1 2) 3 (keeps (at one_taken 3) (sent_by two) 1) ∷ one_taken
+both_heard = step (events.Deliver 2 fates.Done) (lines.Accepted 0 two 1 1 (Some 3)) 0 (keeps (at one_taken 0) (got_from two) 1) ∷ step (events.Send 3 0 0 fates.Done) (lines.Sent 3 0 0 1 1 2) 3 (keeps (at one_taken 3) (sent_by two) 1) ∷ one_taken
 
 abbrev pub row_of_one : RowValue
 row_of_one = record { router = one; key = 1; nonce = 1; mapping = mapping wide 1440; accepted = 0; life = 180000; proxy = true; from = local_at 21 }
@@ -129,11 +150,11 @@ is_down = step (events.Change 2 []) (lines.Down 2) 2 (at not_started 2)
 
 -- a datagram is overheard and thrown in from an address that no node has; the reply goes there
 abbrev pub answered_elsewhere : List Step
-answered_elsewhere = step (events.Junk 0 (local_at 99) (bytes_of (register_item opening [] 2 0 1))) (lines.Accepted 0 one 1 1 (Some 1)) 0 (keeps (at one_sent 0) (got_from one) 1) ∷ one_sent
+answered_elsewhere = step (events.Junk 0 (local_at 99) (bytes_of (register_item opening [] 2 0 0 1))) (lines.Accepted 0 one 1 1 (Some 1)) 0 (keeps (at one_sent 0) (got_from one) 1) ∷ one_sent
 
 -- what the first router sent first
 abbrev pub first_entry : SentRegister
-first_entry = record { router = 2; key = 1; nonce = 1; server = 0; database = mapping wide 1440 ∷ []; position = 0 }
+first_entry = record { router = 2; key = 1; nonce = 1; server = 0; database = mapping wide 1440 ∷ []; part = 0; position = 0 }
 
 -- the first router starts again with another database
 abbrev pub restarted_changed : Step
@@ -145,7 +166,7 @@ refused_changed = step (events.Restart 2 0 (Some short)) (lines.Refused 2 (refus
 
 -- the second router registers where the nonces of notices are spent, and where one is left
 abbrev pub taken_from_two : ℕ → List Step
-taken_from_two kept = step (events.Deliver 0 fates.Done) (lines.Accepted 0 two 1 1 (Some 1)) 0 (keeps (keeps blank notice_pair kept) (got_from two) 1) ∷ step (events.Send 3 0 fates.Done) (lines.Sent 3 0 1 1 0) 3 (keeps blank (sent_by two) 1) ∷ []
+taken_from_two kept = step (events.Deliver 0 fates.Done) (lines.Accepted 0 two 1 1 (Some 1)) 0 (keeps (keeps blank notice_pair kept) (got_from two) 1) ∷ step (events.Send 3 0 0 fates.Done) (lines.Sent 3 0 0 1 1 0) 3 (keeps blank (sent_by two) 1) ∷ []
 
 abbrev pub spent_taken : List Step
 spent_taken = taken_from_two (2 ^ 64 - 1)

@@ -1,4 +1,3 @@
-use Rattle.std.proofs.Common.{◌≤◌, arith}
 use Rattle.std.proofs.lemmas.Result.{err_from_is_err_and, on_ok_weaker, on_err_weaker}
 use Rattle.lisp_lines.proofs.Fronts.{one_digit, more_digits, front_digits, last_digit}
 use Rattle.lisp_lines.proofs.append.+put_decimal.Goals as goal

@@ -1,6 +1,5 @@
-use Rattle.std.proofs.Common.{◌++◌, codes}
+use Rattle.std.proofs.Common.{codes}
 use Rattle.std.proofs.lemmas.Result.{err_from_is_err_and, on_err_weaker}
-use Rattle.std.specs.Fmt.{decimal}
 use Rattle.std.specs.String.{string_bytes}
 use Rattle.lisp_lines.proofs.Fronts.{three_1, three_2, three_3}
 use Rattle.lisp_lines.proofs.query.put_pair.Goals as goal

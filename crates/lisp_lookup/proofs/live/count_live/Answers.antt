@@ -15,8 +15,8 @@ loop-row-preserved g c = record {
   small = c.if-size-gt-MAX_SIZE.false;
 }
 
-pub returns-then-count-gt-MAX_RECORDS-clause-refused : goal.returns-then-count-gt-MAX_RECORDS-clause-refused
-returns-then-count-gt-MAX_RECORDS-clause-refused g c = too_large c.args.rows.now (c.loop-row.row-index + 1) c.args.router.now c.args.now c.if-is_live_of.count c.if-is_live_of.size c.requires
+pub returns-then-count-gt-MAX_RECORDS-clause-too_large : goal.returns-then-count-gt-MAX_RECORDS-clause-too_large
+returns-then-count-gt-MAX_RECORDS-clause-too_large g c = λ none. too_large c.args.rows.now (c.loop-row.row-index + 1) c.args.router.now c.args.now c.if-is_live_of.count c.if-is_live_of.size
     (counts_next c.args.rows.now c.loop-row.row-index c.row-item.result c.args.router.now c.args.now c.loop-row.count c.loop-row.size c.loop-row-test.true c.row-item.is c.loop-row.invariant.counts c.if-is_live_of.count c.if-is_live_of.size (elim c.if-is_live_of.branch [
       | then-is_live_of w ↦ inl (sym c.is_live_of.ensures ∙ w.if-is_live_of.true, w.count-is, w.size-is ∙ ap (λ n. c.loop-row.size + n) w.written_len-size.ensures.len ∙ ap (λ (h : RowValue). c.loop-row.size + length (written h.mapping)) c.row.view_is)
       | else-is_live_of w ↦ inr (sym c.is_live_of.ensures ∙ w.if-is_live_of.false, w.count-is, w.size-is)
@@ -27,7 +27,7 @@ returns-then-count-gt-MAX_RECORDS-clause-refused g c = too_large c.args.rows.now
     ])
 
 pub returns-clause-fits : goal.returns-clause-fits
-returns-clause-fits g c = fits c.args.rows.now c.args.router.now c.args.now c.loop-row.count c.loop-row.size c.requires (counts_all c.args.rows.now c.loop-row.row-index c.args.router.now c.args.now c.loop-row.count c.loop-row.size c.loop-row-test.false c.loop-row.invariant.counts) c.loop-row.invariant.few c.loop-row.invariant.small
+returns-clause-fits g c = fits c.args.rows.now c.args.router.now c.args.now c.loop-row.count c.loop-row.size (counts_all c.args.rows.now c.loop-row.row-index c.args.router.now c.args.now c.loop-row.count c.loop-row.size c.loop-row-test.false c.loop-row.invariant.counts) c.loop-row.invariant.few c.loop-row.invariant.small
 
 pub returns-clause-count : goal.returns-clause-count
 returns-clause-count g c = (counts_all c.args.rows.now c.loop-row.row-index c.args.router.now c.args.now c.loop-row.count c.loop-row.size c.loop-row-test.false c.loop-row.invariant.counts).records

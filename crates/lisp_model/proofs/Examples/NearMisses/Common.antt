@@ -1,5 +1,5 @@
 -- What the near misses have in common.
-use Rattle.std.proofs.Common.{List, None, Ok, Option, Some, [], false, refl, subst, true, ℕ, ◌∷◌, ◌≡◌}
+use Rattle.std.proofs.Common.{List, None, Ok, Option, Some, [], ap, false, refl, subst, sym, true, ℕ, ◌∙◌, ◌∷◌, ◌≡◌}
 use Rattle.std.specs.FinMap.{insert}
 use Rattle.std.specs.List.{Contains}
 use Rattle.std.specs.Prelude.{Err, Result}
@@ -9,11 +9,14 @@ use Rattle.lisp_records.specs.declared.database.DatabaseFault.{DatabaseFault}
 use Rattle.lisp_records.specs.declared.database.DatabaseFault.TheVariants.{RepeatedPrefix}
 use Rattle.lisp_nonces.specs.Kept.{Kept, kept_at}
 use Rattle.lisp_nonces.specs.declared.pair.Pair.{Pair}
-use Rattle.lisp_messages.specs.Message.{MapRegisterValue}
+use Rattle.lisp_messages.specs.Message.{MapNotifyValue, MapRegisterValue, MessageValue, Notifies, Registers}
 use Rattle.lisp_messages.specs.Reading.{kind_at, message_at, records_at, register_at}
+use Rattle.lisp_messages.specs.declared.fault.ReadFault.{ReadFault}
 use Rattle.lisp_messages.specs.declared.fault.ReadFault.TheVariants as reads
 use Rattle.lisp_admission.specs.declared.refused.Refused.{Refused}
 use Rattle.lisp_model.specs.Bag.{Item, register_item}
+use Rattle.lisp_model.specs.Held.{Acceptance}
+use Rattle.lisp_model.specs.Timers.{Notice}
 use Rattle.lisp_model.proofs.Examples.Arrivals.{fits}
 use Rattle.lisp_model.specs.Story.{mapping, opening, wide}
 use Rattle.lisp_model.proofs.Examples.Samples.{registers}
@@ -29,6 +32,22 @@ nothing_is_no_number e = absurd cc
 pub ok_is_no_refusal : {key : List ℕ} {why : Refused} → ◌≡◌ {A = Result (List ℕ) Refused} (Err why) (Ok key) → ⊥
 ok_is_no_refusal e = absurd cc
 
+-- what arrives is what stands in the bag; its Map-Register, its Map-Notify-Ack; the notice, the last Map-Register
+pub item_is : (i j : Item) → ◌≡◌ {A = Option Item} (Some i) (Some j) → i ≡ j
+item_is i j e = cc
+
+pub register_is : (i j : Item) (m n : MapRegisterValue) → i ≡ j → i.message ≡ Registers m → ◌≡◌ {A = Result MessageValue ReadFault} (Ok j.message) (Ok (Registers n)) → m ≡ n
+register_is i j m n same says read = let both : ◌≡◌ {A = Result MessageValue ReadFault} (Ok (Registers m)) (Ok (Registers n)) = ap Ok (sym says) ∙ ap (λ (x : Item). Ok x.message) same ∙ read in cc
+
+pub notify_is : (m n : MapNotifyValue) → ◌≡◌ {A = Result MessageValue ReadFault} (Ok (Notifies m)) (Ok (Notifies n)) → m ≡ n
+notify_is m n e = cc
+
+pub notice_is : (m n : Notice) → ◌≡◌ {A = Option Notice} (Some m) (Some n) → m ≡ n
+notice_is m n e = cc
+
+pub last_is : (a b : Acceptance) → ◌≡◌ {A = Option Acceptance} (Some a) (Some b) → a ≡ b
+last_is a b e = cc
+
 -- what can't be so
 pub never : false ≡ true → ⊥
 never e = absurd cc
@@ -38,7 +57,7 @@ abbrev pub first : MapRegisterValue
 first = registers (mapping wide 1440 ∷ []) 1
 
 abbrev pub first_item : Item
-first_item = register_item opening [] 2 0 1
+first_item = register_item opening [] 2 0 0 1
 
 -- records that are no database: two of one EID-Prefix
 abbrev pub repeated : List MapRecordValue
@@ -57,5 +76,5 @@ unfolding message_at kind_at records_at register_at
 bare_read = refl
 
 -- a Map-Register that tells of a record, and is cut in its head
-abbrev pub cut : List ℕ
-cut = 48 ∷ 0 ∷ 0 ∷ 1 ∷ []
+abbrev pub cut_short : List ℕ
+cut_short = 48 ∷ 0 ∷ 0 ∷ 1 ∷ []

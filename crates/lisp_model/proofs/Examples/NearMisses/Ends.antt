@@ -22,11 +22,11 @@ use Rattle.lisp_model.proofs.Examples.Traces.{one_left_taken, spent_taken}
 use Rattle.lisp_model.proofs.KeptLemmas.{kept_at-empty, only_value, set_here, set_others}
 
 -- a router sends a nonce of the notices
-past_the_last_nonce : Legal spent [] (step (events.Send 2 0 fates.Done) (lines.Sent 2 0 1 (2 ^ 63) 0) 2 (keeps blank (sent_by one) (2 ^ 63))) → ⊥
-past_the_last_nonce l = let within : 2 ^ 63 ≤ last_nonce = l.row.2.within in absurd (omega (arith, within))
+past_the_last_nonce : Legal spent [] (step (events.Send 2 0 0 fates.Done) (lines.Sent 2 0 0 1 (2 ^ 63) 0) 2 (keeps blank (sent_by one) (2 ^ 63))) → ⊥
+past_the_last_nonce l = let within : 2 ^ 63 ≤ last_nonce = l.row.3.within in absurd (omega (arith, within))
 
 -- it says that its nonces are spent where one is left
-spent_with_one_left : Legal one_left [] (step (events.Send 2 0 fates.Done) (lines.Refused 2 (refusals.Send send_faults.NonceSpent)) 2 (keeps blank (sent_by one) (2 ^ 63 - 2))) → ⊥
+spent_with_one_left : Legal one_left [] (step (events.Send 2 0 0 fates.Done) (lines.Refused 2 (refusals.Send send_faults.NonceSpent)) 2 (keeps blank (sent_by one) (2 ^ 63 - 2))) → ⊥
 spent_with_one_left l =
     let refusal = l.row.3.1 in
     let base : refusal.0 ≡ Some (2 ^ 63 - 2) = only_set_of (sent_by one) empty refusal.0 (Some (2 ^ 63 - 2)) refusal.1 in
@@ -34,7 +34,7 @@ spent_with_one_left l =
     absurd (omega (arith, high))
 
 -- its save fails where none is left to save
-save_failed_though_spent : Legal spent [] (step (events.Send 2 0 fates.Doubt) (lines.Refused 2 (refusals.Send (send_faults.Store stores.Device))) 2 (failed (keeps blank (sent_by one) (2 ^ 63 - 1)))) → ⊥
+save_failed_though_spent : Legal spent [] (step (events.Send 2 0 0 fates.Doubt) (lines.Refused 2 (refusals.Send (send_faults.Store stores.Device))) 2 (failed (keeps blank (sent_by one) (2 ^ 63 - 1)))) → ⊥
 save_failed_though_spent l =
     let refusal = l.row.3.1 in
     let base : refusal.base ≡ Some (2 ^ 63 - 1) = only_set_of (sent_by one) empty refusal.base (Some (2 ^ 63 - 1)) refusal.counts in
@@ -55,13 +55,13 @@ notices_spent_with_one_left l =
     absurd (omega (arith, high))
 
 -- a router that saves ten nonces at once saves one
-saved_short_of_its_block : Legal blocks [] (step (events.Send 2 0 fates.Done) (lines.Sent 2 0 1 1 0) 2 (keeps blank (sent_by one) 1)) → ⊥
-saved_short_of_its_block l = by l.row.2.saves.here
+saved_short_of_its_block : Legal blocks [] (step (events.Send 2 0 0 fates.Done) (lines.Sent 2 0 0 1 1 0) 2 (keeps blank (sent_by one) 1)) → ⊥
+saved_short_of_its_block l = by l.row.3.saves.here
   where
     shows : kept_at (insert empty (sent_by one) (Some 1 ∷ [])) (sent_by one) ≡ Some 1 ∷ []
     shows = set_here empty (sent_by one) (Some 1 ∷ [])
 
-    by : (kept_at (insert empty (sent_by one) (Some 1 ∷ [])) (sent_by one) ≡ kept_at empty (sent_by one)) ⊎ ((kept_at (insert empty (sent_by one) (Some 1 ∷ [])) (sent_by one) ≡ Some (block_end 1 10) ∷ []) × MaySave (context_of blocks [] (step (events.Send 2 0 fates.Done) (lines.Sent 2 0 1 1 0) 2 (keeps blank (sent_by one) 1)))) → ⊥
+    by : (kept_at (insert empty (sent_by one) (Some 1 ∷ [])) (sent_by one) ≡ kept_at empty (sent_by one)) ⊎ ((kept_at (insert empty (sent_by one) (Some 1 ∷ [])) (sent_by one) ≡ Some (block_end 1 10) ∷ []) × MaySave (context_of blocks [] (step (events.Send 2 0 0 fates.Done) (lines.Sent 2 0 0 1 1 0) 2 (keeps blank (sent_by one) 1)))) → ⊥
     by (inl same) = nothing_is_no_number (sym (kept_at-empty (sent_by one)) ∙ sym same ∙ shows)
     by (inr saved) =
         let one_value : ◌≡◌ {A = List (Option ℕ)} (Some 1 ∷ []) (Some 10 ∷ []) = sym shows ∙ saved.0 in

@@ -19,26 +19,28 @@ use Rattle.lisp_model.specs.declared.event.Event.TheVariants as events
 use Rattle.lisp_model.specs.declared.line.Line.TheVariants as lines
 use Rattle.lisp_model.specs.declared.refusal.Refusal.TheVariants as refusals
 use Rattle.lisp_model.proofs.Examples.Arrivals.{kinds_differ}
-use Rattle.lisp_model.proofs.Examples.NearMisses.Common.{first, first_item, nothing_is_no_number, only_set_of}
+use Rattle.lisp_model.proofs.Examples.NearMisses.Common.{first, first_item, item_is, nothing_is_no_number, only_set_of, register_is}
 use Rattle.lisp_model.specs.Story.{at, blank, got_from, keeps, network, one, one_sent, one_taken, opening, sent_by, step, two}
 use Rattle.lisp_model.proofs.Examples.Samples.{doubts, failed}
 use Rattle.lisp_model.proofs.Examples.Traces.{foreign_sent, not_started, short, waited}
 use Rattle.lisp_model.proofs.KeptLemmas.{kept_at-empty, only_value, set_here, set_others}
+use Rattle.lisp_records.specs.Parts.{cut, cut_from}
+use Rattle.lisp_records.specs.Written.{written}
 
 -- a Map-Register goes out before its nonce is kept
-sent_unsaved : Legal opening [] (step (events.Send 2 0 fates.Done) (lines.Sent 2 0 1 1 0) 2 blank) → ⊥
+sent_unsaved : Legal opening [] (step (events.Send 2 0 0 fates.Done) (lines.Sent 2 0 0 1 1 0) 2 blank) → ⊥
 sent_unsaved l =
-    let low : 1 ≤ number None = l.row.2.saves.none_below None (subst (λ (vs : List (Option ℕ)). Contains vs None) (sym (kept_at-empty (sent_by one))) (0, omega arith, refl)) in
+    let low : 1 ≤ number None = l.row.3.saves.none_below None (subst (λ (vs : List (Option ℕ)). Contains vs None) (sym (kept_at-empty (sent_by one))) (0, omega arith, refl)) in
     absurd (omega (arith, low))
 
 -- far more is saved than its nonce
-saved_far_ahead : Legal opening [] (step (events.Send 2 0 fates.Done) (lines.Sent 2 0 1 1 0) 2 (keeps blank (sent_by one) 1025)) → ⊥
-saved_far_ahead l = at l.row.2.saves.here
+saved_far_ahead : Legal opening [] (step (events.Send 2 0 0 fates.Done) (lines.Sent 2 0 0 1 1 0) 2 (keeps blank (sent_by one) 1025)) → ⊥
+saved_far_ahead l = at l.row.3.saves.here
   where
     shows : kept_at (insert empty (sent_by one) (Some 1025 ∷ [])) (sent_by one) ≡ Some 1025 ∷ []
     shows = set_here empty (sent_by one) (Some 1025 ∷ [])
 
-    at : (kept_at (insert empty (sent_by one) (Some 1025 ∷ [])) (sent_by one) ≡ kept_at empty (sent_by one)) ⊎ ((kept_at (insert empty (sent_by one) (Some 1025 ∷ [])) (sent_by one) ≡ Some 1 ∷ []) × MaySave (context_of opening [] (step (events.Send 2 0 fates.Done) (lines.Sent 2 0 1 1 0) 2 (keeps blank (sent_by one) 1025)))) → ⊥
+    at : (kept_at (insert empty (sent_by one) (Some 1025 ∷ [])) (sent_by one) ≡ kept_at empty (sent_by one)) ⊎ ((kept_at (insert empty (sent_by one) (Some 1025 ∷ [])) (sent_by one) ≡ Some 1 ∷ []) × MaySave (context_of opening [] (step (events.Send 2 0 0 fates.Done) (lines.Sent 2 0 0 1 1 0) 2 (keeps blank (sent_by one) 1025)))) → ⊥
     at (inl same) = nothing_is_no_number (sym (kept_at-empty (sent_by one)) ∙ sym same ∙ shows)
     at (inr saved) =
         let one_value : ◌≡◌ {A = List (Option ℕ)} (Some 1 ∷ []) (Some 1025 ∷ []) = sym saved.0 ∙ shows in
@@ -46,8 +48,8 @@ saved_far_ahead l = at l.row.2.saves.here
         absurd (omega (arith, bound))
 
 -- a save moves what is kept for another router
-save_moves_another : Legal opening [] (step (events.Send 2 0 fates.Done) (lines.Sent 2 0 1 1 0) 2 (keeps (keeps blank (sent_by two) 7) (sent_by one) 1)) → ⊥
-save_moves_another l = nothing_is_no_number (sym (kept_at-empty (sent_by two)) ∙ sym (l.row.2.saves.others (sent_by two) routers_differ) ∙ set_others (keeps blank (sent_by two) 7).kept (sent_by one) (Some 1 ∷ []) (sent_by two) routers_differ ∙ set_here empty (sent_by two) (Some 7 ∷ []))
+save_moves_another : Legal opening [] (step (events.Send 2 0 0 fates.Done) (lines.Sent 2 0 0 1 1 0) 2 (keeps (keeps blank (sent_by two) 7) (sent_by one) 1)) → ⊥
+save_moves_another l = nothing_is_no_number (sym (kept_at-empty (sent_by two)) ∙ sym (l.row.3.saves.others (sent_by two) routers_differ) ∙ set_others (keeps blank (sent_by two) 7).kept (sent_by one) (Some 1 ∷ []) (sent_by two) routers_differ ∙ set_here empty (sent_by two) (Some 7 ∷ []))
   where
     routers_differ : sent_by two ≡ sent_by one → ⊥
     routers_differ e = let last : ◌≡◌ {A = ℕ} 11 10 = ap (λ (p : Pair). slice_index_or p.router.xtr 15 0) e in absurd (omega (arith, last))
@@ -60,19 +62,19 @@ abbrev obedient : Opening
 obedient = record { config = network; stores = obeys ∷ obeys ∷ obeys ∷ obeys ∷ [] }
 
 -- a save is answered though the event asks for doubt
-saved_in_doubt : Legal obedient [] (step (events.Send 2 0 fates.Doubt) (lines.Sent 2 0 1 1 0) 2 (keeps obeys (sent_by one) 1)) → ⊥
-saved_in_doubt l = at l.row.2.saves.here
+saved_in_doubt : Legal obedient [] (step (events.Send 2 0 0 fates.Doubt) (lines.Sent 2 0 0 1 1 0) 2 (keeps obeys (sent_by one) 1)) → ⊥
+saved_in_doubt l = at l.row.3.saves.here
   where
-    at : (kept_at (insert empty (sent_by one) (Some 1 ∷ [])) (sent_by one) ≡ kept_at empty (sent_by one)) ⊎ ((kept_at (insert empty (sent_by one) (Some 1 ∷ [])) (sent_by one) ≡ Some 1 ∷ []) × MaySave (context_of obedient [] (step (events.Send 2 0 fates.Doubt) (lines.Sent 2 0 1 1 0) 2 (keeps obeys (sent_by one) 1)))) → ⊥
+    at : (kept_at (insert empty (sent_by one) (Some 1 ∷ [])) (sent_by one) ≡ kept_at empty (sent_by one)) ⊎ ((kept_at (insert empty (sent_by one) (Some 1 ∷ [])) (sent_by one) ≡ Some 1 ∷ []) × MaySave (context_of obedient [] (step (events.Send 2 0 0 fates.Doubt) (lines.Sent 2 0 0 1 1 0) 2 (keeps obeys (sent_by one) 1)))) → ⊥
     at (inl same) = nothing_is_no_number (sym (kept_at-empty (sent_by one)) ∙ sym same ∙ set_here empty (sent_by one) (Some 1 ∷ []))
     at (inr saved) = saved.1 refl refl
 
 -- a save fails though the event asks for nothing
-failed_unasked : Legal obedient [] (step (events.Send 2 0 fates.Done) (lines.Refused 2 (refusals.Send (send_faults.Store stores.Device))) 2 (doubts obeys (sent_by one) 1)) → ⊥
+failed_unasked : Legal obedient [] (step (events.Send 2 0 0 fates.Done) (lines.Refused 2 (refusals.Send (send_faults.Store stores.Device))) 2 (doubts obeys (sent_by one) 1)) → ⊥
 failed_unasked l = let clash : fates.Done ≡ fates.Doubt = l.row.3.1.fails.may (λ e. let other : stores.Device ≡ stores.OutOfMemory = e in absurd cc) refl in absurd cc
 
 -- a failed save forgets what was kept, or leaves another nonce in doubt
-doubt_forgets : Legal opening one_sent (step (events.Send 2 0 fates.Doubt) (lines.Refused 2 (refusals.Send (send_faults.Store stores.Device))) 2 (failed blank)) → ⊥
+doubt_forgets : Legal opening one_sent (step (events.Send 2 0 0 fates.Doubt) (lines.Refused 2 (refusals.Send (send_faults.Store stores.Device))) 2 (failed blank)) → ⊥
 doubt_forgets l = by l.row.3.1.fails.here
   where
     was : kept_at (insert empty (sent_by one) (Some 1 ∷ [])) (sent_by one) ≡ Some 1 ∷ []
@@ -85,7 +87,7 @@ doubt_forgets l = by l.row.3.1.fails.here
         two : {n : ℕ} → ◌≡◌ {A = List (Option ℕ)} (None ∷ []) (Some 1 ∷ Some n ∷ []) → ⊥
         two e = absurd cc
 
-doubt_of_another_nonce : Legal opening [] (step (events.Send 2 0 fates.Doubt) (lines.Refused 2 (refusals.Send (send_faults.Store stores.Device))) 2 (doubts blank (sent_by one) 7)) → ⊥
+doubt_of_another_nonce : Legal opening [] (step (events.Send 2 0 0 fates.Doubt) (lines.Refused 2 (refusals.Send (send_faults.Store stores.Device))) 2 (doubts blank (sent_by one) 7)) → ⊥
 doubt_of_another_nonce l = by l.row.3.1.fails.here
   where
     base : l.row.3.1.base ≡ None
@@ -115,14 +117,14 @@ one_longer (w ∷ vs) v same = one_longer vs v cc
 adds_is_not_same : (s : ShownStore) (pair : Pair) (nonce : ℕ) → (adds s pair nonce).kept ≡ s.kept → ⊥
 adds_is_not_same s pair nonce same = one_longer (kept_at s.kept pair) (Some nonce) (sym (set_here s.kept pair (kept_at s.kept pair ++ Some nonce ∷ [])) ∙ ap (λ (kept : Kept). kept_at kept pair) same)
 
-doubt_without_memory : Legal opening [] (step (events.Send 2 0 fates.Done) (lines.Refused 2 (refusals.Send (send_faults.Store stores.OutOfMemory))) 2 (adds blank (sent_by one) 1)) → ⊥
+doubt_without_memory : Legal opening [] (step (events.Send 2 0 0 fates.Done) (lines.Refused 2 (refusals.Send (send_faults.Store stores.OutOfMemory))) 2 (adds blank (sent_by one) 1)) → ⊥
 doubt_without_memory l = adds_is_not_same blank (sent_by one) 1 (l.row.3.1.fails.memory refl)
 
 doubt_of_a_message_without_memory : Legal opening one_sent (step (events.Deliver 0 fates.Done) (lines.Refused 0 (refusals.Receive (refuseds.StoreSave stores.OutOfMemory))) 0 (adds blank (got_from one) 1)) → ⊥
 doubt_of_a_message_without_memory l = adds_is_not_same blank (got_from one) 1 (l.row.arrives.1.fails.memory refl)
 
 -- a save says damaged, which is of a load
-save_damaged : Legal opening [] (step (events.Send 2 0 fates.Doubt) (lines.Refused 2 (refusals.Send (send_faults.Store stores.Damaged))) 2 (doubts blank (sent_by one) 1)) → ⊥
+save_damaged : Legal opening [] (step (events.Send 2 0 0 fates.Doubt) (lines.Refused 2 (refusals.Send (send_faults.Store stores.Damaged))) 2 (doubts blank (sent_by one) 1)) → ⊥
 save_damaged l = l.row.3.1.fails.sound refl
 
 -- a store counts fewer faults than before
@@ -142,7 +144,7 @@ forgot_at_a_restart l = nothing_or_some (only_set_of (got_from one) empty None (
 
 -- a restart leaves another value than the one that is picked
 abbrev in_doubt : List Step
-in_doubt = step (events.Send 2 0 fates.Doubt) (lines.Refused 2 (refusals.Send (send_faults.Store stores.Device))) 2 (doubts obeys (sent_by one) 1) ∷ []
+in_doubt = step (events.Send 2 0 0 fates.Doubt) (lines.Refused 2 (refusals.Send (send_faults.Store stores.Device))) 2 (doubts obeys (sent_by one) 1) ∷ []
 
 other_picked : Legal obedient in_doubt (step (events.Restart 2 1 None) (lines.Restarted 2) 2 (record { kept = insert (doubts obeys (sent_by one) 1).kept (sent_by one) (None ∷ []); faults = 1; is_obedient = true })) → ⊥
 other_picked l =
@@ -158,7 +160,7 @@ load_failed_without_cause l = by (l.row.arrives.1.fails.cause (λ e. let clash :
     by (inl less) = absurd (omega (arith, less))
     by (inr same) = absurd (omega (arith, same))
 
-save_failed_without_cause : Legal opening [] (step (events.Send 2 0 fates.Doubt) (lines.Refused 2 (refusals.Send (send_faults.Store stores.Device))) 2 (adds blank (sent_by one) 1)) → ⊥
+save_failed_without_cause : Legal opening [] (step (events.Send 2 0 0 fates.Doubt) (lines.Refused 2 (refusals.Send (send_faults.Store stores.Device))) 2 (adds blank (sent_by one) 1)) → ⊥
 save_failed_without_cause l = by (l.row.3.1.fails.cause (λ e. let clash : stores.Device ≡ stores.OutOfMemory = e in absurd cc))
   where
     by : (0 < 0) ⊎ (◌≡◌ {A = ℕ} 0 (2 ^ 64 - 1)) → ⊥
@@ -166,16 +168,17 @@ save_failed_without_cause l = by (l.row.3.1.fails.cause (λ e. let clash : store
     by (inr same) = absurd (omega (arith, same))
 
 -- a failed save, or an accepted message, moves what is kept for another router
-failed_save_moves_another : Legal opening [] (step (events.Send 2 0 fates.Doubt) (lines.Refused 2 (refusals.Send (send_faults.Store stores.Device))) 2 (doubts (keeps blank (sent_by two) 7) (sent_by one) 1)) → ⊥
+failed_save_moves_another : Legal opening [] (step (events.Send 2 0 0 fates.Doubt) (lines.Refused 2 (refusals.Send (send_faults.Store stores.Device))) 2 (doubts (keeps blank (sent_by two) 7) (sent_by one) 1)) → ⊥
 failed_save_moves_another l = nothing_is_no_number (sym (kept_at-empty (sent_by two)) ∙ sym (l.row.3.1.fails.others (sent_by two) routers_differ) ∙ set_others (keeps blank (sent_by two) 7).kept (sent_by one) (kept_at (keeps blank (sent_by two) 7).kept (sent_by one) ++ Some 1 ∷ []) (sent_by two) routers_differ ∙ set_here empty (sent_by two) (Some 7 ∷ []))
   where
     routers_differ : sent_by two ≡ sent_by one → ⊥
     routers_differ e = let last : ◌≡◌ {A = ℕ} 11 10 = ap (λ (p : Pair). slice_index_or p.router.xtr 15 0) e in absurd (omega (arith, last))
 
 message_moves_another : Legal opening one_sent (step (events.Deliver 0 fates.Done) (lines.Accepted 0 one 1 1 (Some 1)) 0 (keeps (keeps blank (got_from two) 7) (got_from one) 1)) → ⊥
+unfolding cut cut_from written
 message_moves_another l =
-    let item : first_item ≡ l.row.item = cc in
-    let message : first ≡ l.row.arrives.message = cc in
+    let item : first_item ≡ l.row.item = item_is _ _ l.row.sent in
+    let message : first ≡ l.row.arrives.message = register_is _ _ _ _ item refl l.row.arrives.admits.read in
     let others : SameElsewhere empty (keeps (keeps blank (got_from two) 7) (got_from one) 1).kept (got_from one) = subst (λ (m : MapRegisterValue). SameElsewhere empty (keeps (keeps blank (got_from two) 7) (got_from one) 1).kept (pair_of m)) (sym message) l.row.arrives.others in
     nothing_is_no_number (sym (kept_at-empty (got_from two)) ∙ sym (others (got_from two) routers_differ) ∙ set_others (keeps blank (got_from two) 7).kept (got_from one) (Some 1 ∷ []) (got_from two) routers_differ ∙ set_here empty (got_from two) (Some 7 ∷ []))
   where
@@ -193,7 +196,7 @@ change_saves l = adds_is_not_same blank (sent_by one) 7 l.row.same
 resend_saves : Legal opening waited (step (events.Resend 0 2) (lines.Resent 0 2 3) 0 (adds (at waited 0) notice_pair 7)) → ⊥
 resend_saves l = adds_is_not_same (at waited 0) notice_pair 7 l.row.2.same
 
-count_saves : Legal opening one_taken (step (events.Deliver 1 fates.Done) (lines.Counted 2 0 1 1) 2 (adds (at one_taken 2) (sent_by one) 7)) → ⊥
+count_saves : Legal opening one_taken (step (events.Deliver 1 fates.Done) (lines.Counted 2 0 0 1 1) 2 (adds (at one_taken 2) (sent_by one) 7)) → ⊥
 count_saves l = adds_is_not_same (at one_taken 2) (sent_by one) 7 l.row.arrives.same
 
 failed_load_saves : Legal opening one_sent (step (events.Deliver 0 fates.LoadFails) (lines.Refused 0 (refusals.Receive (refuseds.StoreLoad stores.Device))) 0 (failed (adds blank (got_from one) 7))) → ⊥
@@ -204,7 +207,7 @@ refusal_saves l = adds_is_not_same blank (got_from one) 7 l.row.arrives.1.1
 
 -- a message is accepted though the event asks for a failed load, or for doubt
 abbrev obedient_sent : List Step
-obedient_sent = step (events.Send 2 0 fates.Done) (lines.Sent 2 0 1 1 0) 2 (keeps obeys (sent_by one) 1) ∷ []
+obedient_sent = step (events.Send 2 0 0 fates.Done) (lines.Sent 2 0 0 1 1 0) 2 (keeps obeys (sent_by one) 1) ∷ []
 
 accepted_without_load : Legal obedient obedient_sent (step (events.Deliver 0 fates.LoadFails) (lines.Accepted 0 one 1 1 (Some 1)) 0 (keeps obeys (got_from one) 1)) → ⊥
 accepted_without_load l = l.row.arrives.fresh.loads refl refl refl
@@ -217,7 +220,7 @@ load_failed_unasked : Legal obedient obedient_sent (step (events.Deliver 0 fates
 load_failed_unasked l = let clash : fates.Done ≡ fates.LoadFails = l.row.arrives.1.fails.may (λ e. let other : stores.Device ≡ stores.OutOfMemory = e in absurd cc) refl in absurd cc
 
 -- the nonce isn't kept after a save that the event asks to be in doubt
-doubt_not_kept : Legal obedient [] (step (events.Send 2 0 fates.Doubt) (lines.Refused 2 (refusals.Send (send_faults.Store stores.Device))) 2 (failed obeys)) → ⊥
+doubt_not_kept : Legal obedient [] (step (events.Send 2 0 0 fates.Doubt) (lines.Refused 2 (refusals.Send (send_faults.Store stores.Device))) 2 (failed obeys)) → ⊥
 doubt_not_kept l = one_or_two (sym (kept_at-empty (sent_by one)) ∙ l.row.3.1.fails.doubted (λ e. let other : stores.Device ≡ stores.OutOfMemory = e in absurd cc) refl ∙ ap (λ (vs : List (Option ℕ)). with_value vs (block_end (number l.row.3.1.base + 1) 1)) (kept_at-empty (sent_by one)))
   where
     one_or_two : {n : ℕ} → ◌≡◌ {A = List (Option ℕ)} (None ∷ []) (None ∷ Some n ∷ []) → ⊥

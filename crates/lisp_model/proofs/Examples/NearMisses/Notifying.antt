@@ -1,12 +1,10 @@
 -- Illegal steps of a Map-Server that sends a notice.
-use Rattle.std.proofs.Common.{List, None, Ok, Option, Some, [], ap, arith, false, refl, subst, sym, true, ℕ, ◌∙◌, ◌∷◌, ◌≡◌}
+use Rattle.std.proofs.Common.{List, None, Option, Some, [], ap, arith, false, refl, subst, sym, true, ℕ, ◌∙◌, ◌∷◌, ◌≡◌}
 use Rattle.std.specs.FinMap.{empty}
 use Rattle.std.specs.List.{Contains}
-use Rattle.std.specs.Prelude.{Err, Result, ◌+◌, ◌-◌, ◌<◌, ◌^◌, ◌≤◌}
-use Rattle.lisp_records.specs.Database.{repeats as repeats_in}
+use Rattle.std.specs.Prelude.{◌+◌, ◌-◌, ◌<◌, ◌^◌, ◌≤◌}
 use Rattle.lisp_records.specs.Record.{MapRecordValue}
 use Rattle.lisp_records.specs.Written.{written}
-use Rattle.lisp_records.specs.declared.database.DatabaseFault.{DatabaseFault}
 use Rattle.lisp_nonces.specs.Kept.{number}
 use Rattle.lisp_nonces.specs.declared.fate.Fate.TheVariants as fates
 use Rattle.lisp_nonces.specs.declared.fault.StoreFault.TheVariants as stores
@@ -20,11 +18,12 @@ use Rattle.lisp_model.specs.declared.event.Event.TheVariants as events
 use Rattle.lisp_model.specs.declared.line.Line.TheVariants as lines
 use Rattle.lisp_model.specs.declared.refusal.Refusal.TheVariants as refusals
 use Rattle.lisp_model.proofs.Examples.Arrivals.{kinds_differ}
-use Rattle.lisp_model.proofs.Examples.NearMisses.Common.{never}
+use Rattle.lisp_model.proofs.Examples.NearMisses.Common.{last_is, never}
 use Rattle.lisp_model.specs.Story.{at, blank, got_from, keeps, local_at, mapping, one, one_taken, opening, step, two, wide}
 use Rattle.lisp_model.proofs.Examples.Samples.{failed, refuses, registers, repeats, spent, tells}
 use Rattle.lisp_model.proofs.Examples.Traces.{first_told, registered_again, spent_taken, told_and_gone, waited}
 use Rattle.lisp_model.proofs.KeptLemmas.{kept_at-empty, only_value, set_here, set_others}
+use Rattle.lisp_records.specs.Parts.{cut, cut_from}
 
 -- a record is told after a restart
 told_after_restart : Legal opening told_and_gone (tells told_and_gone (2 ^ 63 + 1) 3) → ⊥
@@ -45,9 +44,10 @@ resent_without_a_notice l = never l.row.2.due
 
 -- a notice goes out under another key than that of the router's last Map-Register
 told_under_another_key : Legal opening one_taken (step (events.Notice 0 2 fates.Done) (lines.Notice 0 2 2 (2 ^ 63) 2) 0 (keeps (at one_taken 0) notice_pair (2 ^ 63))) → ⊥
+unfolding cut cut_from written
 told_under_another_key l =
     let n = l.row.2 in
-    let last : record { message = registers (mapping wide 1440 ∷ []) 1; from = local_at 21; moment = 0 } ≡ n.last = cc in
+    let last : record { message = registers (mapping wide 1440 ∷ []) 1; from = local_at 21; moment = 0 } ≡ n.last = last_is _ _ n.heard in
     let under : ◌≡◌ {A = ℕ} 2 1 = n.under ∙ sym (ap (λ (a : Acceptance). a.message.key_id) last) in
     absurd (omega (arith, under))
 
@@ -66,10 +66,11 @@ told_elsewhere l = let place : ◌≡◌ {A = ℕ} 3 2 = l.row.2.place in absurd
 
 -- one record is called too large, or nothing
 told_too_large : Legal opening one_taken (refuses one_taken (events.Notice 0 2 fates.Done) 0 (refusals.Notice notice_faults.TooLarge)) → ⊥
-unfolding written repeats_in
-told_too_large l = let clash : ◌≡◌ {A = Result (List MapRecordValue) DatabaseFault} (Ok (mapping wide 1440 ∷ [])) (Err l.row.3.1) = l.row.3.2 in absurd cc
+unfolding cut cut_from written
+told_too_large l = let clash : true ≡ false = l.row.3.1 in absurd cc
 
 told_of_nothing : Legal opening one_taken (refuses one_taken (events.Notice 0 2 fates.Done) 0 (refusals.Notice notice_faults.NotRegistered)) → ⊥
+unfolding cut cut_from written
 told_of_nothing l = let clash : ◌≡◌ {A = List MapRecordValue} (mapping wide 1440 ∷ []) [] = l.row.3.0 in absurd cc
 
 -- the nonces of notices are spent before the last one

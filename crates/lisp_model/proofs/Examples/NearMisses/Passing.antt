@@ -61,7 +61,7 @@ not_started_unfailed l = never (l.row.cause (λ e. let clash : stores.Device ≡
 another_is_down : Legal opening not_started (step (events.Change 2 []) (lines.Down 3) 2 (at not_started 2)) → ⊥
 another_is_down l = let named : ◌≡◌ {A = ℕ} 3 2 = l.row.names in absurd (omega (arith, named))
 
-another_is_down_at_a_send : Legal opening not_started (step (events.Send 2 0 fates.Done) (lines.Down 3) 2 (at not_started 2)) → ⊥
+another_is_down_at_a_send : Legal opening not_started (step (events.Send 2 0 0 fates.Done) (lines.Down 3) 2 (at not_started 2)) → ⊥
 another_is_down_at_a_send l = let named : ◌≡◌ {A = ℕ} 3 2 = l.row.1.names in absurd (omega (arith, named))
 
 another_is_down_at_an_arrival : Legal opening not_started (step (events.Junk 2 (local_at 11) []) (lines.Down 3) 2 (at not_started 2)) → ⊥
@@ -79,10 +79,10 @@ another_datagram_nowhere : Legal opening answered_elsewhere (step (events.Delive
 another_datagram_nowhere l = let number : ◌≡◌ {A = ℕ} 0 1 = l.row.names in absurd (omega (arith, number))
 
 -- the line names another node than the event: of a send, a notice, a notice that is sent again, a start, a refused send
-sent_by_another : Legal opening [] (step (events.Send 2 0 fates.Done) (lines.Sent 3 0 1 1 0) 2 (keeps blank (sent_by one) 1)) → ⊥
+sent_by_another : Legal opening [] (step (events.Send 2 0 0 fates.Done) (lines.Sent 3 0 0 1 1 0) 2 (keeps blank (sent_by one) 1)) → ⊥
 sent_by_another l = let router : ◌≡◌ {A = ℕ} 3 2 = l.row.0 in absurd (omega (arith, router))
 
-sent_to_another : Legal opening [] (step (events.Send 2 0 fates.Done) (lines.Sent 2 1 1 1 0) 2 (keeps blank (sent_by one) 1)) → ⊥
+sent_to_another : Legal opening [] (step (events.Send 2 0 0 fates.Done) (lines.Sent 2 1 0 1 1 0) 2 (keeps blank (sent_by one) 1)) → ⊥
 sent_to_another l = let server : ◌≡◌ {A = ℕ} 1 0 = l.row.1 in absurd (omega (arith, server))
 
 told_by_another : Legal opening one_taken (step (events.Notice 0 2 fates.Done) (lines.Notice 1 2 1 (2 ^ 63) 2) 0 (keeps (at one_taken 0) notice_pair (2 ^ 63))) → ⊥
@@ -100,7 +100,7 @@ resent_to_another l = let router : ◌≡◌ {A = ℕ} 3 2 = l.row.1 in absurd (
 another_restarted : Legal opening [] (step (events.Restart 2 0 None) (lines.Restarted 3) 2 blank) → ⊥
 another_restarted l = let named : ◌≡◌ {A = ℕ} 3 2 = l.row.names in absurd (omega (arith, named))
 
-another_refuses_to_send : Legal opening [] (step (events.Send 3 1 fates.Done) (lines.Refused 2 (refusals.Send send_faults.NoServer)) 3 blank) → ⊥
+another_refuses_to_send : Legal opening [] (step (events.Send 3 1 0 fates.Done) (lines.Refused 2 (refusals.Send send_faults.NoServer)) 3 blank) → ⊥
 another_refuses_to_send l = let named : ◌≡◌ {A = ℕ} 2 3 = l.row.0 in absurd (omega (arith, named))
 
 -- another node takes the bytes than the one that they are thrown at
@@ -111,7 +111,7 @@ another_takes_bytes l = let acts : ◌≡◌ {A = ℕ} 1 0 = l.row.acts in absur
 abbrev second_not_started : List Step
 second_not_started = step (events.Restart 3 0 None) (lines.Refused 3 (refusals.Start (start_faults.Store stores.Device))) 3 (failed blank) ∷ []
 
-refused_while_down : Legal opening second_not_started (refuses second_not_started (events.Send 3 1 fates.Done) 3 (refusals.Send send_faults.NoServer)) → ⊥
+refused_while_down : Legal opening second_not_started (refuses second_not_started (events.Send 3 1 0 fates.Done) 3 (refusals.Send send_faults.NoServer)) → ⊥
 refused_while_down l = let clash : false ≡ true = l.row.2.state in absurd cc
 
 -- a number that no node has acts as a router

@@ -25,82 +25,92 @@ use Rattle.lisp_model.specs.declared.event.Event.TheVariants as events
 use Rattle.lisp_model.specs.declared.line.Line.TheVariants as lines
 use Rattle.lisp_model.specs.declared.refusal.Refusal.TheVariants as refusals
 use Rattle.lisp_model.proofs.Examples.Arrivals.{strange_refused, told_reads}
-use Rattle.lisp_model.proofs.Examples.NearMisses.Common.{bare, bare_read, cut, first, first_item, never, nothing_is_no_number, ok_is_no_refusal, only_set_of}
+use Rattle.lisp_model.proofs.Examples.NearMisses.Common.{bare, bare_read, cut_short, first, first_item, item_is, never, nothing_is_no_number, notice_is, notify_is, ok_is_no_refusal, only_set_of, register_is}
 use Rattle.lisp_model.specs.Story.{at, blank, got_from, keeps, local_at, mapping, network, one, one_sent, one_taken, opening, replays, secret, site, step, takes, two, wide}
 use Rattle.lisp_model.proofs.Examples.Samples.{answered, fails_load, refuses, registers, told, told_to}
 use Rattle.lisp_model.proofs.Examples.Traces.{first_told, foreign, foreign_sent, restarted, sent_twice, was_noticed}
 use Rattle.lisp_model.proofs.ItemLemmas.{bad_tag, is_not_allowed, item_authentic}
 use Rattle.lisp_model.proofs.KeptLemmas.{kept_at-empty}
+use Rattle.lisp_records.specs.Parts.{cut, cut_from}
+use Rattle.lisp_records.specs.Written.{written}
 
 -- a replay
 replay_accepted : Legal opening one_taken (takes one_taken 0 0 1 2) → ⊥
+unfolding cut cut_from written
 replay_accepted l =
-    let item : first_item ≡ l.row.item = cc in
-    let message : first ≡ l.row.arrives.message = cc in
+    let item : first_item ≡ l.row.item = item_is _ _ l.row.sent in
+    let message : first ≡ l.row.arrives.message = register_is _ _ _ _ item refl l.row.arrives.admits.read in
     let fresh : IsFresh (context_of opening one_taken (takes one_taken 0 0 1 2)) first = subst (IsFresh (context_of opening one_taken (takes one_taken 0 0 1 2))) (sym message) l.row.arrives.fresh in
     let above : 1 < 1 = subst (λ (b : Option ℕ). IsBelow b 1) fresh.counts fresh.above in
     absurd (omega (arith, above))
 
 -- a replay after a restart
 replay_after_restart : Legal opening restarted (takes restarted 0 0 1 2) → ⊥
+unfolding cut cut_from written
 replay_after_restart l =
-    let item : first_item ≡ l.row.item = cc in
-    let message : first ≡ l.row.arrives.message = cc in
+    let item : first_item ≡ l.row.item = item_is _ _ l.row.sent in
+    let message : first ≡ l.row.arrives.message = register_is _ _ _ _ item refl l.row.arrives.admits.read in
     let fresh : IsFresh (context_of opening restarted (takes restarted 0 0 1 2)) first = subst (IsFresh (context_of opening restarted (takes restarted 0 0 1 2))) (sym message) l.row.arrives.fresh in
     let above : 1 < 1 = subst (λ (b : Option ℕ). IsBelow b 1) (only_set_of (got_from one) _ fresh.base (Some 1) fresh.counts) fresh.above in
     absurd (omega (arith, above))
 
 -- it is accepted though its nonce isn't kept
 accepted_unsaved : Legal opening one_sent (step (events.Deliver 0 fates.Done) (lines.Accepted 0 one 1 1 (Some 1)) 0 blank) → ⊥
+unfolding cut cut_from written
 accepted_unsaved l =
-    let item : first_item ≡ l.row.item = cc in
-    let message : first ≡ l.row.arrives.message = cc in
+    let item : first_item ≡ l.row.item = item_is _ _ l.row.sent in
+    let message : first ≡ l.row.arrives.message = register_is _ _ _ _ item refl l.row.arrives.admits.read in
     let kept : kept_at empty (got_from one) ≡ Some 1 ∷ [] = subst (λ (m : MapRegisterValue). kept_at empty (pair_of m) ≡ Some m.nonce ∷ []) (sym message) l.row.arrives.kept in
     nothing_is_no_number (sym (kept_at-empty (got_from one)) ∙ kept)
 
 -- the Map-Notify that was asked for doesn't go out
 accepted_without_reply : Legal opening one_sent (step (events.Deliver 0 fates.Done) (lines.Accepted 0 one 1 1 None) 0 (keeps blank (got_from one) 1)) → ⊥
+unfolding cut cut_from written
 accepted_without_reply l =
-    let item : first_item ≡ l.row.item = cc in
-    let message : first ≡ l.row.arrives.message = cc in
+    let item : first_item ≡ l.row.item = item_is _ _ l.row.sent in
+    let message : first ≡ l.row.arrives.message = register_is _ _ _ _ item refl l.row.arrives.admits.read in
     let clash : ◌≡◌ {A = Option ℕ} None (Some 1) = subst (λ (m : MapRegisterValue). None ≡ (if m.want_notify then Some 1 else None)) (sym message) l.row.arrives.reply in
     absurd cc
 
 -- its reply stands elsewhere than at the end of the bag
 replied_elsewhere : Legal opening one_sent (takes one_sent 0 0 1 2) → ⊥
+unfolding cut cut_from written
 replied_elsewhere l =
-    let item : first_item ≡ l.row.item = cc in
-    let message : first ≡ l.row.arrives.message = cc in
+    let item : first_item ≡ l.row.item = item_is _ _ l.row.sent in
+    let message : first ≡ l.row.arrives.message = register_is _ _ _ _ item refl l.row.arrives.admits.read in
     let reply : ◌≡◌ {A = Option ℕ} (Some 2) (Some 1) = subst (λ (m : MapRegisterValue). Some 2 ≡ (if m.want_notify then Some 1 else None)) (sym message) l.row.arrives.reply in
     let place : ◌≡◌ {A = ℕ} 2 1 = cc in
     absurd (omega (arith, place))
 
 -- the line names another router, key or nonce than the message
 accepted_as_another_routers : Legal opening one_sent (step (events.Deliver 0 fates.Done) (lines.Accepted 0 two 1 1 (Some 1)) 0 (keeps blank (got_from one) 1)) → ⊥
+unfolding cut cut_from written
 accepted_as_another_routers l =
-    let item : first_item ≡ l.row.item = cc in
-    let message : first ≡ l.row.arrives.message = cc in
+    let item : first_item ≡ l.row.item = item_is _ _ l.row.sent in
+    let message : first ≡ l.row.arrives.message = register_is _ _ _ _ item refl l.row.arrives.admits.read in
     let last : ◌≡◌ {A = ℕ} 11 10 = ap (λ (r : RouterId). slice_index_or r.xtr 15 0) (l.row.arrives.who ∙ sym (ap router_of message)) in
     absurd (omega (arith, last))
 
 accepted_under_another_key : Legal opening one_sent (step (events.Deliver 0 fates.Done) (lines.Accepted 0 one 2 1 (Some 1)) 0 (keeps blank (got_from one) 1)) → ⊥
+unfolding cut cut_from written
 accepted_under_another_key l =
-    let item : first_item ≡ l.row.item = cc in
-    let message : first ≡ l.row.arrives.message = cc in
+    let item : first_item ≡ l.row.item = item_is _ _ l.row.sent in
+    let message : first ≡ l.row.arrives.message = register_is _ _ _ _ item refl l.row.arrives.admits.read in
     let under : ◌≡◌ {A = ℕ} 2 1 = l.row.arrives.under ∙ sym (ap (λ (m : MapRegisterValue). m.key_id) message) in
     absurd (omega (arith, under))
 
 accepted_with_another_nonce : Legal opening one_sent (step (events.Deliver 0 fates.Done) (lines.Accepted 0 one 1 2 (Some 1)) 0 (keeps blank (got_from one) 1)) → ⊥
+unfolding cut cut_from written
 accepted_with_another_nonce l =
-    let item : first_item ≡ l.row.item = cc in
-    let message : first ≡ l.row.arrives.message = cc in
+    let item : first_item ≡ l.row.item = item_is _ _ l.row.sent in
+    let message : first ≡ l.row.arrives.message = register_is _ _ _ _ item refl l.row.arrives.admits.read in
     let number : ◌≡◌ {A = ℕ} 2 1 = l.row.arrives.number ∙ sym (ap (λ (m : MapRegisterValue). m.nonce) message) in
     absurd (omega (arith, number))
 
 -- another server gets it
 delivered_elsewhere : Legal opening one_sent (takes one_sent 0 1 1 1) → ⊥
 delivered_elsewhere l =
-    let item : first_item ≡ l.row.item = cc in
+    let item : first_item ≡ l.row.item = item_is _ _ l.row.sent in
     let there : ◌≡◌ {A = Option ℕ} (Some 0) (Some 1) = subst (λ (i : Item). node_at network i.to ≡ Some 1) (sym item) l.row.there in
     let number : ◌≡◌ {A = ℕ} 0 1 = cc in
     absurd (omega (arith, number))
@@ -110,9 +120,10 @@ abbrev foreign_item : Item
 foreign_item = record { from = local_at 21; to = local_at 11; secret = secret; message = Registers (registers foreign 1) }
 
 foreign_accepted : Legal opening foreign_sent (takes foreign_sent 0 0 1 1) → ⊥
+unfolding cut cut_from written
 foreign_accepted l =
-    let item : foreign_item ≡ l.row.item = cc in
-    let message : registers foreign 1 ≡ l.row.arrives.message = cc in
+    let item : foreign_item ≡ l.row.item = item_is _ _ l.row.sent in
+    let message : registers foreign 1 ≡ l.row.arrives.message = register_is _ _ _ _ item refl l.row.arrives.admits.read in
     let secret_is = l.row.arrives.admits.secret in
     let checks : secret_under network.sites (bytes_of foreign_item) (registers foreign 1) ≡ Ok secret_is = subst (λ (i : Item). secret_under network.sites (bytes_of i) (registers foreign 1) ≡ Ok secret_is) (sym item)
     (subst (λ (m : MapRegisterValue). secret_under network.sites (bytes_of l.row.item) m ≡ Ok secret_is) (sym message) l.row.arrives.admits.checks) in
@@ -120,42 +131,45 @@ foreign_accepted l =
 
 -- the first reason isn't told: the record is checked before the nonce
 wrong_order : Legal opening foreign_sent (replays foreign_sent 0 0 1) → ⊥
+unfolding cut cut_from written
 wrong_order l =
     let a = l.row.arrives.1 in
-    let item : foreign_item ≡ l.row.item = cc in
-    let message : registers foreign 1 ≡ a.message = cc in
+    let item : foreign_item ≡ l.row.item = item_is _ _ l.row.sent in
+    let message : registers foreign 1 ≡ a.message = register_is _ _ _ _ item refl a.admits.read in
     let checks : secret_under network.sites (bytes_of foreign_item) (registers foreign 1) ≡ Ok a.admits.secret = subst (λ (i : Item). secret_under network.sites (bytes_of i) (registers foreign 1) ≡ Ok a.admits.secret) (sym item)
     (subst (λ (m : MapRegisterValue). secret_under network.sites (bytes_of l.row.item) m ≡ Ok a.admits.secret) (sym message) a.admits.checks) in
     ok_is_no_refusal (sym (is_not_allowed network.sites (bytes_of foreign_item) (registers foreign 1) site secret 1 refl refl (item_authentic foreign_item) refl strange_refused) ∙ checks)
 
 -- a replay is told with another number than the last nonce, or of a nonce above it
 replay_with_another_number : Legal opening one_taken (replays one_taken 0 0 5) → ⊥
+unfolding cut cut_from written
 replay_with_another_number l =
-    let item : first_item ≡ l.row.item = cc in
-    let message : first ≡ l.row.arrives.1.message = cc in
+    let item : first_item ≡ l.row.item = item_is _ _ l.row.sent in
+    let message : first ≡ l.row.arrives.1.message = register_is _ _ _ _ item refl l.row.arrives.1.admits.read in
     let counts : ◌≡◌ {A = Option ℕ} (Some 5) (Some 1) = subst (λ (m : MapRegisterValue). IsBase (last_of (pair_of m) (since_start opening one_taken 0)) (kept_at (at one_taken 0).kept (pair_of m)) (Some 5)) (sym message) l.row.arrives.1.counts in
     let number : ◌≡◌ {A = ℕ} 5 1 = cc in
     absurd (omega (arith, number))
 
 replay_of_a_fresh_nonce : Legal opening sent_twice (replays sent_twice 2 0 1) → ⊥
+unfolding cut cut_from written
 replay_of_a_fresh_nonce l =
-    let item : register_item opening one_taken 2 0 2 ≡ l.row.item = cc in
-    let read : ◌≡◌ {A = Result MessageValue ReadFault} (Ok (Registers (registers (mapping wide 1440 ∷ []) 2))) (Ok (Registers l.row.arrives.1.message)) = ap (λ (i : Item). Ok i.message) item ∙ l.row.arrives.1.admits.read in
-    let message : registers (mapping wide 1440 ∷ []) 2 ≡ l.row.arrives.1.message = cc in
+    let item : register_item opening one_taken 2 0 0 2 ≡ l.row.item = item_is _ _ l.row.sent in
+    let message : registers (mapping wide 1440 ∷ []) 2 ≡ l.row.arrives.1.message = register_is _ _ _ _ item refl l.row.arrives.1.admits.read in
     let stale : 2 ≤ 1 = subst (λ (m : MapRegisterValue). m.nonce ≤ 1) (sym message) l.row.arrives.1.stale in
     absurd (omega (arith, stale))
 
 -- a load fails though the last nonce is in memory
 load_failed_though_known : Legal opening one_taken (fails_load one_taken 0 0) → ⊥
+unfolding cut cut_from written
 load_failed_though_known l =
     let a = l.row.arrives.1 in
-    let item : first_item ≡ l.row.item = cc in
-    let message : first ≡ a.message = cc in
+    let item : first_item ≡ l.row.item = item_is _ _ l.row.sent in
+    let message : first ≡ a.message = register_is _ _ _ _ item refl a.admits.read in
     let unknown : ◌≡◌ {A = Option ℕ} (Some 1) None = ap (λ (m : MapRegisterValue). last_of (pair_of m) (since_start opening one_taken 0)) message ∙ a.unknown in
     absurd cc
 
 -- memory runs out for bytes whose head can't be read
-no_memory_for_no_head : Legal opening [] (refuses [] (events.Junk 0 (local_at 21) cut) 0 (refusals.Receive refuseds.OutOfMemory)) → ⊥
+no_memory_for_no_head : Legal opening [] (refuses [] (events.Junk 0 (local_at 21) cut_short) 0 (refusals.Receive refuseds.OutOfMemory)) → ⊥
 unfolding kind_at
 no_memory_for_no_head l = l.row.arrives.1.0 reads.Short refl
 
@@ -196,10 +210,10 @@ done_without_tag : (bytes : List ℕ) → message_at bytes ≡ Ok (Notifies ackn
 done_without_tag bytes read forged l =
     let a = l.row.arrives in
     let both : ◌≡◌ {A = Result MessageValue ReadFault} (Ok (Notifies acknowledgement)) (Ok (Notifies a.message)) = sym read ∙ a.read in
-    let message : acknowledgement ≡ a.message = cc in
+    let message : acknowledgement ≡ a.message = notify_is _ _ both in
     let t = context_of opening was_noticed (step (events.Junk 0 (local_at 21) bytes) (lines.Done 0 one (2 ^ 63)) 0 (at was_noticed 0)) in
     let stands : awaiting t (local_at 21) acknowledgement ≡ Some a.notice = ap (awaiting t (local_at 21)) message ∙ a.stands in
-    let notice : told_to one (2 ^ 63) 2 (3000 ∷ 0 ∷ []) ≡ a.notice = cc in
+    let notice : told_to one (2 ^ 63) 2 (3000 ∷ 0 ∷ []) ≡ a.notice = notice_is _ _ stands in
     true≢false (sym (subst (λ (n : Notice). has_tag_for t (junk_arrival (local_at 21) bytes) n ≡ true) (sym notice) a.authentic) ∙ forged)
 
 -- an acknowledgement from another address ends it
@@ -208,7 +222,7 @@ done_from_elsewhere : (bytes : List ℕ) → message_at bytes ≡ Ok (Notifies a
 done_from_elsewhere bytes read l =
     let a = l.row.arrives in
     let both : ◌≡◌ {A = Result MessageValue ReadFault} (Ok (Notifies acknowledgement)) (Ok (Notifies a.message)) = sym read ∙ a.read in
-    let message : acknowledgement ≡ a.message = cc in
+    let message : acknowledgement ≡ a.message = notify_is _ _ both in
     let t = context_of opening was_noticed (step (events.Junk 0 (local_at 22) bytes) (lines.Done 0 one (2 ^ 63)) 0 (at was_noticed 0)) in
     let stands : ◌≡◌ {A = Option Notice} None (Some a.notice) = ap (awaiting t (local_at 22)) message ∙ a.stands in
     absurd cc
@@ -222,41 +236,44 @@ done_under_another_key : (bytes : List ℕ) → message_at bytes ≡ Ok (Notifie
 done_under_another_key bytes read l =
     let a = l.row.arrives in
     let both : ◌≡◌ {A = Result MessageValue ReadFault} (Ok (Notifies another_keys)) (Ok (Notifies a.message)) = sym read ∙ a.read in
-    let message : another_keys ≡ a.message = cc in
+    let message : another_keys ≡ a.message = notify_is _ _ both in
     let t = context_of opening was_noticed (step (events.Junk 0 (local_at 21) bytes) (lines.Done 0 one (2 ^ 63)) 0 (at was_noticed 0)) in
     let stands : ◌≡◌ {A = Option Notice} None (Some a.notice) = ap (awaiting t (local_at 21)) message ∙ a.stands in
     absurd cc
 
 -- the line names another router or nonce than the notice
 done_of_another_router : Legal opening was_noticed (step (events.Deliver 4 fates.Done) (lines.Done 0 two (2 ^ 63)) 0 (at was_noticed 0)) → ⊥
+unfolding cut cut_from written
 done_of_another_router l =
     let a = l.row.arrives in
     let t = context_of opening was_noticed (step (events.Deliver 4 fates.Done) (lines.Done 0 two (2 ^ 63)) 0 (at was_noticed 0)) in
-    let item : answered (2 ^ 63) (mapping wide 1440 ∷ []) ≡ l.row.item = cc in
+    let item : answered (2 ^ 63) (mapping wide 1440 ∷ []) ≡ l.row.item = item_is _ _ l.row.sent in
     let both : ◌≡◌ {A = Result MessageValue ReadFault} (Ok (Notifies acknowledgement)) (Ok (Notifies a.message)) = ap (λ (i : Item). Ok i.message) item ∙ a.read in
-    let message : acknowledgement ≡ a.message = cc in
+    let message : acknowledgement ≡ a.message = notify_is _ _ both in
     let stands : awaiting t (local_at 21) acknowledgement ≡ Some a.notice = ap (λ (i : Item). awaiting t i.from acknowledgement) item ∙ ap (awaiting t l.row.item.from) message ∙ a.stands in
-    let notice : told_to one (2 ^ 63) 2 (3000 ∷ 0 ∷ []) ≡ a.notice = cc in
+    let notice : told_to one (2 ^ 63) 2 (3000 ∷ 0 ∷ []) ≡ a.notice = notice_is _ _ stands in
     let last : ◌≡◌ {A = ℕ} 11 10 = ap (λ (r : RouterId). slice_index_or r.xtr 15 0) (a.who ∙ sym (ap (λ (n : Notice). n.router) notice)) in
     absurd (omega (arith, last))
 
 done_with_another_nonce : Legal opening was_noticed (step (events.Deliver 4 fates.Done) (lines.Done 0 one (2 ^ 63 + 1)) 0 (at was_noticed 0)) → ⊥
+unfolding cut cut_from written
 done_with_another_nonce l =
     let a = l.row.arrives in
     let t = context_of opening was_noticed (step (events.Deliver 4 fates.Done) (lines.Done 0 one (2 ^ 63 + 1)) 0 (at was_noticed 0)) in
-    let item : answered (2 ^ 63) (mapping wide 1440 ∷ []) ≡ l.row.item = cc in
+    let item : answered (2 ^ 63) (mapping wide 1440 ∷ []) ≡ l.row.item = item_is _ _ l.row.sent in
     let both : ◌≡◌ {A = Result MessageValue ReadFault} (Ok (Notifies acknowledgement)) (Ok (Notifies a.message)) = ap (λ (i : Item). Ok i.message) item ∙ a.read in
-    let message : acknowledgement ≡ a.message = cc in
+    let message : acknowledgement ≡ a.message = notify_is _ _ both in
     let stands : awaiting t (local_at 21) acknowledgement ≡ Some a.notice = ap (λ (i : Item). awaiting t i.from acknowledgement) item ∙ ap (awaiting t l.row.item.from) message ∙ a.stands in
-    let notice : told_to one (2 ^ 63) 2 (3000 ∷ 0 ∷ []) ≡ a.notice = cc in
+    let notice : told_to one (2 ^ 63) 2 (3000 ∷ 0 ∷ []) ≡ a.notice = notice_is _ _ stands in
     let number : 2 ^ 63 + 1 ≡ 2 ^ 63 = a.number ∙ sym (ap (λ (n : Notice). n.nonce) notice) in
     absurd (omega (arith, number))
 
 -- an acknowledgement is refused for its tag, which is right
 right_tag_refused : Legal opening was_noticed (refuses was_noticed (events.Deliver 4 fates.Done) 0 (refusals.Receive refuseds.BadAuth)) → ⊥
+unfolding cut cut_from written
 right_tag_refused l =
     let t = context_of opening was_noticed (refuses was_noticed (events.Deliver 4 fates.Done) 0 (refusals.Receive refuseds.BadAuth)) in
-    let item : answered (2 ^ 63) (mapping wide 1440 ∷ []) ≡ l.row.item = cc in
+    let item : answered (2 ^ 63) (mapping wide 1440 ∷ []) ≡ l.row.item = item_is _ _ l.row.sent in
     let fails : FailsCheck t (arrival_of (answered (2 ^ 63) (mapping wide 1440 ∷ []))) (Ok (Notifies acknowledgement)) refuseds.BadAuth = subst (λ (i : Item). FailsCheck t (arrival_of i) (Ok i.message) refuseds.BadAuth) (sym item) l.row.arrives.1.0 in
     true≢false (sym (item_authentic (answered (2 ^ 63) (mapping wide 1440 ∷ []))) ∙ fails.0)
 

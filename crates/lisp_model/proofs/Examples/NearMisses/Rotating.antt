@@ -24,21 +24,21 @@ use Rattle.lisp_model.proofs.ListLemmas.{at_head, in_none}
 counts_from_the_old_key : Legal rotating renewed (sends_under renewed 2 2 1) → ⊥
 counts_from_the_old_key l =
     let none : kept_at (keeps blank (sent_by one) 1).kept (under 2 (sent_by one)) ≡ None ∷ [] = set_others empty (sent_by one) (Some 1 ∷ []) (under 2 (sent_by one)) (keys_differ (sent_by one) 2 1 (other_number 2 1 refl)) ∙ kept_at-empty (under 2 (sent_by one)) in
-    let base : l.row.2.base ≡ None = only_value None l.row.2.base (subst (λ (vs : List (Option ℕ)). Contains vs l.row.2.base) none l.row.2.counts) in
-    let next : ◌≡◌ {A = ℕ} 2 1 = subst (λ (b : Option ℕ). ◌≡◌ {A = ℕ} 2 (number b + 1)) base l.row.2.next in
+    let base : l.row.3.base ≡ None = only_value None l.row.3.base (subst (λ (vs : List (Option ℕ)). Contains vs l.row.3.base) none l.row.3.counts) in
+    let next : ◌≡◌ {A = ℕ} 2 1 = subst (λ (b : Option ℕ). ◌≡◌ {A = ℕ} 2 (number b + 1)) base l.row.3.next in
     absurd (omega (arith, next))
 
 -- back under the first key, it sends its first nonce again
 starts_again_at_one : Legal rotating back (sends_under back 1 1 4) → ⊥
 starts_again_at_one l =
     let same : kept_at (shows back 2).kept (sent_by one) ≡ Some 1 ∷ [] = set_others (keeps blank (sent_by one) 1).kept (under 2 (sent_by one)) (Some 1 ∷ []) (sent_by one) (keys_differ (sent_by one) 1 2 (other_number 1 2 refl)) ∙ set_here empty (sent_by one) (Some 1 ∷ []) in
-    let base : l.row.2.base ≡ Some 1 = only_value (Some 1) l.row.2.base (subst (λ (vs : List (Option ℕ)). Contains vs l.row.2.base) same l.row.2.counts) in
-    let next : ◌≡◌ {A = ℕ} 1 2 = subst (λ (b : Option ℕ). ◌≡◌ {A = ℕ} 1 (number b + 1)) base l.row.2.next in
+    let base : l.row.3.base ≡ Some 1 = only_value (Some 1) l.row.3.base (subst (λ (vs : List (Option ℕ)). Contains vs l.row.3.base) same l.row.3.counts) in
+    let next : ◌≡◌ {A = ℕ} 1 2 = subst (λ (b : Option ℕ). ◌≡◌ {A = ℕ} 1 (number b + 1)) base l.row.3.next in
     absurd (omega (arith, next))
 
 -- it goes on under the old key
 sent_under_the_old_key : Legal rotating renewed (sends_under renewed 1 2 1) → ⊥
-sent_under_the_old_key l = let key : ◌≡◌ {A = ℕ} 1 2 = l.row.2.under in absurd (omega (arith, key))
+sent_under_the_old_key l = let key : ◌≡◌ {A = ℕ} 1 2 = l.row.3.under in absurd (omega (arith, key))
 
 -- it goes over to a key that its site doesn't have
 rotated_to_no_key : Legal rotating started (rotates started 9) → ⊥

@@ -1,4 +1,4 @@
-use Rattle.std.proofs.Common.{◌≡◌, ℕ, Option, take}
+use Rattle.std.proofs.Common.{◌≡◌, ℕ, List, Option, take}
 use Rattle.std.specs.List.{flat_map}
 use Rattle.std.specs.String.{string_bytes}
 use Rattle.lisp_lines.specs.Query.{ack_text}
@@ -7,4 +7,4 @@ use Rattle.lisp_player.proofs.asked.counted_lines.Given as goal
 
 -- the lines of the Map-Servers so far
 abbrev pub invariant-loop-place : goal.invariant-loop-place
-invariant-loop-place g l = (counted : ℕ → Option (ℕ × ℕ)) → CountedFrom l.etr l.servers counted → string_bytes l.text ≡ flat_map (λ server. ack_text l.config l.router server (counted server)) (take l.place l.servers)
+invariant-loop-place g l = (counted : ℕ → List (Option (ℕ × ℕ))) → CountedFrom l.etr l.servers counted → string_bytes l.text ≡ flat_map (λ server. ack_text l.config l.router server (counted server)) (take l.place l.servers)

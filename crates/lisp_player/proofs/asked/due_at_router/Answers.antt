@@ -8,7 +8,7 @@ pub returns-in_default-clause-told : goal.returns-in_default-clause-told
 returns-in_default-clause-told g c = IfOk-weaker c.missing_line.result _ _ (λ text is. due_missing c.args.world.now c.args.config.now c.args.node (string_bytes text) c.in_default.ensures is) c.missing_line.ensures.text
 
 pub returns-in-Some-router-clause-told : goal.returns-in-Some-router-clause-told
-returns-in-Some-router-clause-told g c = IfOk-weaker c.due_server_text.result _ _ (λ text is. due_up c.args.world.now c.args.config.now c.args.node c.in-Some.entry.now c.in-Some-router.etr.now c.clock.result c.due_server-server.result c.as_slice.result.now (string_bytes text) c.in-Some.ensures c.in-Some-router.ensures c.clock.ensures (search rules) c.due_server-server.ensures is) c.due_server_text.ensures.text
+returns-in-Some-router-clause-told g c = IfOk-weaker c.due_server_text.result _ _ (λ text is. due_up c.args.world.now c.args.config.now c.args.node c.in-Some.entry.now c.in-Some-router.etr.now c.clock.result c.due_server-due.result c.as_slice.result.now (string_bytes text) c.in-Some.ensures c.in-Some-router.ensures c.clock.ensures (search rules) c.due_server-due.ensures is) c.due_server_text.ensures.text
 
 pub returns-in-None-clause-told : goal.returns-in-None-clause-told
 returns-in-None-clause-told g c = IfOk-weaker c.line_text.result _ _ (λ text is. due_down c.args.world.now c.args.config.now c.args.node c.in-Some.entry.now (string_bytes text) c.in-Some.ensures c.in-None.ensures is) c.line_text.ensures.text

@@ -13,7 +13,7 @@ returns-in-Some-Ok g c = λ w bag from to.
       rw (c.in-Some-Ok.is, c.in-Some-Ok.field-0-is) (record {
         head = head;
         read = c.post_message-head.ensures.head;
-        said = ap (lines.Sent c.args.router c.args.server head.key_id head.nonce) (c.len-datagram.ensures ∙ c.args.bag.now.ok.0 ∙ ap length bag);
+        said = ap (lines.Sent c.args.router c.args.server c.args.part head.key_id head.nonce) (c.len-datagram.ensures ∙ c.args.bag.now.ok.0 ∙ ap length bag);
         posts = λ i. record { from = from i; to = to i; bytes = c.in-Some-Ok.bytes } ∷ [];
       }),
     )

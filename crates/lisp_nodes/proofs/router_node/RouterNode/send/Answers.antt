@@ -5,7 +5,7 @@ use Rattle.lisp_etr.specs.Etr.{EtrState}
 use Rattle.lisp_refinement.specs.Calls.{CoreAnswersSend}
 use Rattle.lisp_refinement.specs.Events.{place_of}
 use Rattle.lisp_nodes.specs.Cores.{core_of}
-use Rattle.lisp_nodes.proofs.NodeCalls.{server_there, nonce_left, why_not_sent}
+use Rattle.lisp_nodes.proofs.NodeCalls.{server_there, part_there, nonce_left, why_not_sent}
 use Rattle.lisp_nodes.proofs.router_node.RouterNode.send.Goals as goal
 use Rattle.lisp_nodes.proofs.router_node.RouterNode.send.Goals.{in-Ok, in-Err}
 
@@ -21,13 +21,16 @@ returns-clause-up g c =
         armed = g.S.NonceStore.seen c.arm.new.store;
         called = g.S.NonceStore.seen c.send-answer.new.store;
         uses = record { arms = c.arm.ensures; proceeds = c.send-answer.ensures.proceeds; disarms = c.arm-2.ensures };
-        call = subst (λ (place : ℕ). CoreAnswersSend c.in-Up.etr c.send-answer.new.self (g.S.NonceStore.seen c.arm.new.store) (g.S.NonceStore.seen c.send-answer.new.store) place c.args.now c.match-answer.result)
+        call = subst (λ (place : ℕ). CoreAnswersSend c.in-Up.etr c.send-answer.new.self (g.S.NonceStore.seen c.arm.new.store) (g.S.NonceStore.seen c.send-answer.new.store) place c.args.part c.args.now c.match-answer.result)
             (c.place_of-place.ensures ∙ ap (λ (listed : List ℕ). place_of listed c.args.server) c.as_slice.ensures)
             (elim c.match-answer.branch [
               | in-Ok w ↦ let there = server_there c.send-answer.result _ _ (λ clash. absurd (let both = sym w.in-Ok.is ∙ clash in cc)) c.send-answer.ensures.no_server in
+                  let its = part_there c.send-answer.result _ _ _ _ (λ clash. absurd (let both = sym w.in-Ok.is ∙ clash in cc)) there c.send-answer.ensures.no_part in
                   rw w.result-is (record {
                     within = there;
-                    left = nonce_left c.send-answer.result _ _ _ (λ clash. absurd (let both = sym w.in-Ok.is ∙ clash in cc)) there c.send-answer.ensures.spent;
+                    there = its;
+                    fits = w.in-Ok.ensures.fits;
+                    left = nonce_left c.send-answer.result _ _ _ _ _ (λ clash. absurd (let both = sym w.in-Ok.is ∙ clash in cc)) there its c.send-answer.ensures.spent;
                     datagram = w.from_vec.ensures ∙ w.in-Ok.ensures.datagram;
                     known = w.in-Ok.ensures.known;
                     sends = w.in-Ok.ensures.sends;
@@ -39,7 +42,7 @@ returns-clause-up g c =
                     others = c.send-answer.ensures.others;
                   })
               | in-Err w ↦ rw w.result-is (record {
-                why = why_not_sent _ c.in-Up.etr c.place_of-place.result _ w.in-Err.ensures.no_server w.in-Err.ensures.spent;
+                why = why_not_sent _ c.in-Up.etr c.place_of-place.result c.args.part _ w.in-Err.ensures.no_server w.in-Err.ensures.no_part w.in-Err.ensures.spent;
                 err = w.in-Err.ensures.err;
                 keeps_safe = λ honest none. subst (λ (e : EtrState). NoneBelow e.safe (kept_at (g.S.NonceStore.seen c.send-answer.new.store).kept (sent_pair c.in-Up.etr.config))) w.in-Err.ensures.err (c.send-answer.ensures.keeps_safe honest none);
                 leaves = w.in-Err.ensures.leaves;

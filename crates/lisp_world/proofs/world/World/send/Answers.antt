@@ -7,7 +7,7 @@ use Rattle.lisp_world.proofs.Telling.{sent_tells}
 use Rattle.lisp_world.proofs.world.World.send.Goals as goal
 
 pub send_line-requires-clause-head : goal.send_line-requires-clause-head
-send_line-requires-clause-head g c = sent_headed _ _ _ _ _ _ c.send-answer.ensures.up
+send_line-requires-clause-head g c = sent_headed _ _ _ _ _ _ _ c.send-answer.ensures.up
 
 pub invariant_of-self-4 : goal.invariant_of-self-4
 invariant_of-self-4 g c = (c.self.invariant.0, omega (arith, length-set c.self.inside.routers.items c.in_ok-place.place c.send-answer.new.self, c.self.invariant.1))
@@ -23,10 +23,10 @@ returns g c =
     let e = c.send-answer.ensures in
     let told = c.send_line.ensures w c.with_room.ensures.same c.address-from.ensures c.address-to.ensures in
     rw (← c.self.view_is)
-    (sends_taken _ _ w _ c.args.router c.args.server c.args.fate c.send_line.result possible
-    (sent w c.args.router c.args.server c.in_ok-place.place c.args.fate c.send_line.result c.index_mut.result.now c.send-answer.new.self c.send_line.new.bag.items there server
+    (sends_taken _ _ w _ c.args.router c.args.server c.args.part c.args.fate c.send_line.result possible
+    (sent w c.args.router c.args.server c.args.part c.in_ok-place.place c.args.fate c.send_line.result c.index_mut.result.now c.send-answer.new.self c.send_line.new.bag.items there server
     c.index_mut.ensures.value c.send-answer.result e.up e.down told)
-    (sent_tells _ _ c.args.router w c.args.server c.send-answer.result c.send_line.result told.0 told.2 e.memory e.store_memory))
+    (sent_tells _ _ c.args.router w c.args.server c.args.part c.send-answer.result c.send_line.result told.0 told.2 e.memory e.store_memory))
 
 pub address-from-requires : goal.address-from-requires
 address-from-requires g c =

@@ -1,0 +1,7 @@
+use Rattle.std.proofs.Common.{◌≡◌, ◌++◌, take, drop, map}
+use Rattle.lisp_etr.specs.Round.{rotated_round}
+use Rattle.lisp_etr.proofs.rounds.rotate_each.Given as goal
+
+-- the rounds so far are new ones
+abbrev pub invariant-loop-round : goal.invariant-loop-round
+invariant-loop-round l = take l.round-index l.rounds ++ map (rotated_round l.now) (drop l.round-index l.rounds) ≡ map (rotated_round l.now) l.fn.rounds
