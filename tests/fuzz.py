@@ -23,6 +23,7 @@ LIMIT = 20
 GROWTHS = 600
 FAULT = re.compile(r"lispd: fault (?:2[0-3]|74|96|8[0-5] line \d+)\n")
 REFUSED_MEMORY = re.compile(r"lispd: fault (?:24|75|76|86 line \d+|97)\n")
+SITED = re.compile(r'name = "(r\d+)"\naddress = .*\nsite = "(\w+)"')
 PART = r"(?: part ([1-9]\d*))?"
 SENT = re.compile(r"sent (\S+) (\S+) key (\d+) nonce (\d+) datagram \d+" + PART)
 KEYED = re.compile(r"(rotated|emptied) (\S+) key (\d+)")
@@ -154,11 +155,11 @@ def schedule(seed):
     return near(text, draw) if draw.random() < 0.3 else text
 
 
-def row_order(line):
-    """The order of rows: by router, whose xTR-IDs here are in the order of the names, then by prefix."""
+def row_order(line, sites):
+    """The order of rows: by the router's site, by router, whose xTR-IDs here are in the order of the names, then by prefix."""
     _, router, record, *_ = line.split()
     prefix = ipaddress.ip_interface(record.split("=")[0])
-    return router, prefix.version, prefix.network.network_address.packed, prefix.network.prefixlen
+    return sites.get(router, ""), router, prefix.version, prefix.network.network_address.packed, prefix.network.prefixlen
 
 
 class Keys:
@@ -188,8 +189,8 @@ class Keys:
         return may
 
 
-def wrong_line(output):
-    """The first line that can't follow those before it, or None."""
+def wrong_line(output, sites):
+    """The first line that can't follow those before it, or None; the routers' sites are by their names."""
     last, accepted, parts, counted, rows, keys = {}, set(), {}, set(), [], collections.defaultdict(Keys)
     for line in output.splitlines():
         if it := ACCEPTED.match(line):
@@ -220,7 +221,7 @@ def wrong_line(output):
             # (behind a lost store its key may be another now)
             keys[it[1]].present = None
         rows = [*rows, line] if line.startswith("row ") else []
-        if len(rows) > 1 and row_order(rows[-2]) >= row_order(rows[-1]):
+        if len(rows) > 1 and row_order(rows[-2], sites) >= row_order(rows[-1], sites):
             return line
     return None
 
@@ -245,7 +246,7 @@ def what_fails(text, room, growth):
     for lines in (output, squeezed[1]):
         if lines and not lines.endswith("\n"):
             return "half a line"
-        if (line := wrong_line(lines)) is not None:
+        if (line := wrong_line(lines, dict(SITED.findall(text)))) is not None:
             return f"the line '{line}'"
     return None
 
