@@ -48,7 +48,7 @@ const fn form(field: Field) -> &'static str {
         Field::RouterServers => "the value lists names of Map-Servers, none twice",
         Field::RouterNonceBlock => "the value is a whole number from 1 to 1024",
         Field::RouterRecords => {
-            "the value lists records such as 10.1.0.0/16=1440+192.0.2.1, of different prefixes, at most 255"
+            "the value lists records such as 10.1.0.0/16=1440+192.0.2.1, of different prefixes, at most 1,024"
         }
     }
 }
