@@ -3,7 +3,7 @@
 # Runs the program (out/lispd, where none is named) over the cases of answers.txt, the schedules, the lines of
 # refused.txt, files that can't be read or written, bytes that were changed (changed.py), beside a plain list of rows
 # (rows.py), with calls that fail (failing.py), over schedules that are drawn (fuzz.py), and on sockets and files
-# (running.py). Prints each run that differs from what is wanted, and ends with 1 where one does.
+# (running.py, devices.py, folders.py, timing.py, addresses.py). Prints each run that differs from what is wanted, and ends with 1 where one does.
 case ${1-} in
     '') program=../out/lispd ;;
     /*) program=$1 ;;
@@ -129,7 +129,10 @@ fills play $exchange.schedule
 fills --help
 fills --version
 
-expect 'a configuration that is checked' 0 @checked.txt '' check $configuration
+expect 'a configuration that is checked' 0 @checked/example.txt '' check $configuration
+expect 'a configuration with every field' 0 @checked/full.txt '' check checked/full.toml
+: > ../out/configuration.toml
+expect 'an empty configuration' 0 '' '' check ../out/configuration.toml
 sed 's/"0000000000000001"/"1"/' $configuration > ../out/configuration.toml
 expect 'a configuration with a fault' 2 \
     'fault 22: site 1: site.id has a bad value: a Site-ID is a text of 16 hexadecimal digits, and a router'"'"'s is that of a site' \
@@ -143,6 +146,21 @@ expect 'every number explained' 0 @../docs/REFUSALS.md '' explain
 expect 'a number explained' 0 '*' '' explain 57
 expect 'a number of nothing' 2 '' 'lispd: fault 98' explain 69
 expect 'no number' 2 '' 'lispd: fault 98' explain x
+
+# parts COUNT WANTED: checks a configuration whose first router has so many records, of which WANTED tells the parts.
+parts() {
+    list=$(awk -v count="$1" 'BEGIN { for (i = 0; i < count; i++) printf "\"10.1.%d.%d/32=1\", ", i / 256, i % 256 }')
+    sed "0,/^records = .*/s||records = [$list]|" $configuration > ../out/configuration.toml
+    "$program" check ../out/configuration.toml > ../out/stdout 2> ../out/stderr
+    status=$?
+    runs=$((runs + 1))
+    [ $status = 0 ] && [ "$(sed -n 's/^router r1 .* proxy\(.*\) record 10\.1\.0\.0.*/\1/p' ../out/stdout)" = "$2" ] ||
+        differs "a configuration with $1 records" "0, '$2'"
+}
+
+parts 255 ''
+parts 256 ' parts 2'
+parts 1024 ' parts 5'
 
 # changes COUNT LOCATORS: a schedule that gives r1 so many records, each with these locators.
 changes() {
@@ -170,5 +188,9 @@ expect 'a database of 17 parts' 2 '' 'lispd: fault 84 line 1' play ../out/schedu
 ./failing.py "$program" || failed=1
 ./fuzz.py "$program" 1 200 || failed=1
 ./running.py "$program" || failed=1
+./devices.py "$program" || failed=1
+./folders.py "$program" || failed=1
+./timing.py "$program" || failed=1
+./addresses.py "$program" || failed=1
 
 exit $failed

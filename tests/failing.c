@@ -2,23 +2,40 @@
  * FAILING_CALL is the kind of call, FAILING_AT which one of that kind, counted from 1:
  *   growth     memory that is asked for, or asked to grow, is refused
  *   read       a read fails (EIO)
+ *   scant      a read takes one byte alone
  *   interrupt  a read is interrupted (EINTR)
  *   unready    a read is interrupted, and so is each read after it
  *   early      a read is interrupted, and so is each read before it
  *   write      a write fails (EIO)
  *   short      a write takes one byte alone
- * Once it did, the byte '!' is written to file descriptor FAILING_REPORT. Calls count once main began. A read of standard
- * input behind its end fails in any case (EIO). */
+ *   look       what stands at a path can't be told (EIO)
+ *   open       an open fails (EIO)
+ *   sync       a file or a folder can't be synced (EIO)
+ *   rename     a file can't be renamed (EIO)
+ *   renamed    a file is renamed, and it is answered that it can't be (EIO)
+ *   send       a datagram can't be sent (EIO)
+ *   sends      a datagram can't be sent, nor any after it
+ *   receive    a datagram can't be received (EIO)
+ *   receives   a datagram can't be received, nor any after it
+ *   disturb    a receive is interrupted (EINTR)
+ * Where FAILING_PATH is given, those calls alone count that are of a file or folder whose path ends with it; of a rename it is
+ * the new path. Once the call failed, the byte '!' is written to file descriptor FAILING_REPORT. Calls count once main began.
+ * A read of standard input behind its end fails in any case (EIO). */
 #define _GNU_SOURCE
-#include <dlfcn.h>
 #include <errno.h>
+#include <fcntl.h>
+#include <limits.h>
 #include <malloc.h>
+#include <stdarg.h>
+#include <stdio.h>
 #include <stdlib.h>
 #include <string.h>
+#include <sys/socket.h>
+#include <sys/stat.h>
 #include <sys/syscall.h>
 #include <unistd.h>
 
-static const char *kind = "";
+static const char *kind = "", *path = "";
 static long at, count;
 static int report = -1;
 
@@ -30,6 +47,8 @@ __attribute__((constructor)) static void begin(void)
         return;
     at = atol(number);
     report = atoi(to);
+    if (getenv("FAILING_PATH"))
+        path = getenv("FAILING_PATH");
     kind = call;
 }
 
@@ -100,15 +119,37 @@ static int failed(int error)
     return -1;
 }
 
+/* Whether calls of the file with this path count. */
+static int is_named(const char *name)
+{
+    size_t length = strlen(name), tail = strlen(path);
+    return length >= tail && strcmp(name + length - tail, path) == 0;
+}
+
+/* Whether calls of this open file count. */
+static int is_meant(int file)
+{
+    char link[32], name[PATH_MAX];
+    if (!*path)
+        return 1;
+    snprintf(link, sizeof link, "/proc/self/fd/%d", file);
+    ssize_t length = readlink(link, name, sizeof name - 1);
+    name[length < 0 ? 0 : length] = 0;
+    return is_named(name);
+}
+
 ssize_t read(int from, void *into, size_t length)
 {
     static int unready, ended;
-    if (fails("read") || (ended && from == STDIN_FILENO))
+    int counts = is_meant(from);
+    if ((counts && fails("read")) || (ended && from == STDIN_FILENO))
         return failed(EIO);
     unready = unready || fails("unready");
     int early = precedes("early");
-    if (fails("early") || early || unready || fails("interrupt"))
+    if (fails("early") || early || unready || (counts && fails("interrupt")))
         return failed(EINTR);
+    if (counts && length > 1 && fails("scant"))
+        length = 1;
     ssize_t taken = syscall(SYS_read, from, into, length);
     ended = ended || (from == STDIN_FILENO && taken == 0);
     return taken;
@@ -116,9 +157,104 @@ ssize_t read(int from, void *into, size_t length)
 
 ssize_t write(int to, const void *from, size_t length)
 {
-    if (fails("write"))
+    int counts = is_meant(to);
+    if (counts && fails("write"))
         return failed(EIO);
-    if (length > 1 && fails("short"))
+    if (counts && length > 1 && fails("short"))
         length = 1;
     return syscall(SYS_write, to, from, length);
+}
+
+int statx(int folder, const char *restrict name, int flags, unsigned mask, struct statx *restrict into)
+{
+    return is_named(name) && fails("look") ? failed(EIO) : syscall(SYS_statx, folder, name, flags, mask, into);
+}
+
+int openat(int folder, const char *name, int flags, ...)
+{
+    va_list words;
+    va_start(words, flags);
+    mode_t mode = va_arg(words, mode_t);
+    va_end(words);
+    if (is_named(name) && fails("open"))
+        return failed(EIO);
+    return syscall(SYS_openat, folder, name, flags, mode);
+}
+
+int open(const char *name, int flags, ...)
+{
+    va_list words;
+    va_start(words, flags);
+    mode_t mode = va_arg(words, mode_t);
+    va_end(words);
+    return openat(AT_FDCWD, name, flags, mode);
+}
+
+int open64(const char *name, int flags, ...) __attribute__((alias("open")));
+int openat64(int folder, const char *name, int flags, ...) __attribute__((alias("openat")));
+
+int fsync(int file)
+{
+    return is_meant(file) && fails("sync") ? failed(EIO) : syscall(SYS_fsync, file);
+}
+
+int fdatasync(int file)
+{
+    return is_meant(file) && fails("sync") ? failed(EIO) : syscall(SYS_fdatasync, file);
+}
+
+int renameat2(int from, const char *old, int to, const char *name, unsigned flags)
+{
+    if (is_named(name) && fails("rename"))
+        return failed(EIO);
+    int done = syscall(SYS_renameat2, from, old, to, name, flags);
+    return is_named(name) && fails("renamed") ? failed(EIO) : done;
+}
+
+int renameat(int from, const char *old, int to, const char *name)
+{
+    return renameat2(from, old, to, name, 0);
+}
+
+int rename(const char *old, const char *name)
+{
+    return renameat2(AT_FDCWD, old, AT_FDCWD, name, 0);
+}
+
+static int unsent(void)
+{
+    static int all;
+    all = all || fails("sends");
+    return all || fails("send");
+}
+
+static int unreceived(void)
+{
+    static int all;
+    all = all || fails("receives");
+    return all || fails("receive");
+}
+
+ssize_t sendto(int to, const void *from, size_t length, int flags, const struct sockaddr *address, socklen_t size)
+{
+    return unsent() ? failed(EIO) : syscall(SYS_sendto, to, from, length, flags, address, size);
+}
+
+ssize_t sendmsg(int to, const struct msghdr *message, int flags)
+{
+    return unsent() ? failed(EIO) : syscall(SYS_sendmsg, to, message, flags);
+}
+
+ssize_t recvfrom(int from, void *into, size_t length, int flags, struct sockaddr *address, socklen_t *size)
+{
+    if (fails("disturb"))
+        return failed(EINTR);
+    return unreceived() ? failed(EIO) : syscall(SYS_recvfrom, from, into, length, flags, address, size);
+}
+
+ssize_t recvmsg(int from, struct msghdr *message, int flags)
+{
+    if (fails("disturb"))
+        return failed(EINTR);
+    return unreceived() ? failed(EIO) : syscall(SYS_recvmsg, from, message, flags);
 }

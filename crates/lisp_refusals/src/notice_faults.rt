@@ -82,7 +82,7 @@ pub(crate) const STORE_FAULTS: Section = Section {
             name: "Device",
             meaning: "the device failed; after a save, the nonce may or may not have been kept",
             status: "",
-            remedy: "check the disk, the folder and its permissions",
+            remedy: "check the disk, the folder and its permissions, and that the file is a regular file, no link",
         },
         Row {
             number: 31,

@@ -1,11 +1,13 @@
 //! Tests of what neither a clause nor a stored run of `tests` shows: the vectors of HMAC (`hmac`), what worked bytes say
 //! (`records`, `messages`), a table of hundreds of rows (`rows`), readers and writers that fail (`playing`),
-//! stores that fail (`stores`), and what a client is told (`client`). This crate has no
-//! function of its own.
+//! stores that fail (`stores`), a store in files (`files`), what a client is told (`client`), and a Map-Server that takes turns
+//! (`turns`). This crate has no function of its own.
 #![tactic(auto)]
 
 #[cfg(test)]
 mod client;
+#[cfg(test)]
+mod files;
 #[cfg(test)]
 mod hmac;
 #[cfg(test)]
@@ -22,5 +24,7 @@ mod stores;
 mod streams;
 #[cfg(test)]
 mod support;
+#[cfg(test)]
+mod turns;
 #[cfg(test)]
 mod worked;

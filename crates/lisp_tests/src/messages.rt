@@ -11,7 +11,7 @@ use std::process::Abort;
 const SECRET: &[u8] = b"secret";
 
 /// The worked Map-Register.
-const MAP_REGISTER: [u8; 84] = [
+pub const MAP_REGISTER: [u8; 84] = [
     0x3a, 0, 0x01, // type 3, P and I; reserved; M
     1, // one record
     0, 0, 0, 0, 0, 0, 0, 1, // nonce

@@ -2,14 +2,14 @@
 
 use lisp_memory::FallibleString;
 use lisp_script::RunFault;
-use lisp_store::FileStore;
+use lisp_store::{FileStore, SystemFolder, is_file_there};
 use std::fs::{self, File, Files};
 use std::io::ErrorKind;
 
 /// A store of nonces in a node's folder, and the lock that keeps other processes out of it while this value lives.
 #[derive(Drop)]
-pub(crate) struct Folder<R> {
-    pub(crate) store: FileStore<R>,
+pub(crate) struct LockedFolder<R> {
+    pub(crate) store: FileStore<SystemFolder<R>>,
     pub(crate) lock: File,
 }
 
@@ -18,7 +18,7 @@ pub(crate) fn open_folder<R: Files<File = File> + AllocGlobal + Clone + Drop>(
     rt: &R,
     dir: &str,
     name: &str,
-) -> Result<Folder<R>, RunFault> {
+) -> Result<LockedFolder<R>, RunFault> {
     make_folder(rt, dir)?;
     let path = String::try_format(rt.alloc(), format_args!("{dir}/{name}"))?;
     open_at(rt, path.as_str())
@@ -27,11 +27,11 @@ pub(crate) fn open_folder<R: Files<File = File> + AllocGlobal + Clone + Drop>(
 fn open_at<R: Files<File = File> + AllocGlobal + Clone + Drop>(
     rt: &R,
     path: &str,
-) -> Result<Folder<R>, RunFault> {
+) -> Result<LockedFolder<R>, RunFault> {
     make_folder(rt, path)?;
     let lock = lock_folder(rt, path)?;
     let store = FileStore::open(rt, path)?;
-    Ok(Folder { store, lock })
+    Ok(LockedFolder { store, lock })
 }
 
 fn make_folder<R: Files>(rt: &R, path: &str) -> Result<(), RunFault> {
@@ -56,6 +56,9 @@ fn lock_folder<R: Files<File = File> + AllocGlobal>(
     folder: &str,
 ) -> Result<File, RunFault> {
     let path = String::try_format(rt.alloc(), format_args!("{folder}/lock"))?;
+    if is_file_there(rt, path.as_str()).is_err() {
+        return Err(RunFault::FILE);
+    }
     let Ok(file) = File::create(rt, path.as_str()) else {
         return Err(RunFault::FILE);
     };

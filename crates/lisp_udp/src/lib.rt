@@ -3,19 +3,18 @@
 //! and keeps its nonces in a folder.
 #![tactic(auto)]
 
-// What each node has.
-mod endpoint;
+// What each node has: a place, a folder, and the system's devices.
+mod devices;
 mod entry;
 mod folder;
 mod output;
+mod socket;
+mod stopwatch;
 
 // One node, which takes turns.
-mod clock;
 mod node;
 mod router;
 mod server;
-mod station;
-mod turns;
 
 // A whole network.
 mod datagrams;

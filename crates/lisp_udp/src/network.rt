@@ -1,19 +1,24 @@
 //! A network whose datagrams go over sockets.
 
-ghost use Rattle.std.specs.Prelude.{◌≡◌, ◌+◌, IfOk, OnOk, length};
+ghost use Rattle.std.specs.Prelude.{◌≡◌, ◌+◌, IfOk, OnOk, length, map, drop};
+ghost use Rattle.lisp_player.specs.Playing.{Wrote};
+ghost use Rattle.lisp_script.specs.Command.{command_value};
+ghost use Rattle.lisp_udp.specs.Network.{awaited, TellsAwaited, SendsAll, TakesCommand};
 ghost use Rattle.lisp_udp.specs.Nodes.{node_count};
+ghost use Rattle.lisp_udp.specs.Printing.{WritesTold};
 
 use crate::datagrams::Sockets;
 use crate::entry::entry_at;
-use crate::folder::{Folder, open_folder};
+use crate::folder::{LockedFolder, open_folder};
 use crate::output::flush;
-use lisp_memory::FallibleVec;
+use lisp_memory::{FallibleVec, Memory};
 use lisp_model::Event;
 use lisp_nonces::WorldStore;
 use lisp_player::{Command, play_on};
 use lisp_script::{RunFault, read_config, read_script};
 use lisp_sites::Config;
-use lisp_store::FileStore;
+use lisp_store::{FileStore, SystemFolder};
+use lisp_turns::Endpoint;
 use lisp_world::World;
 use std::alloc::Global;
 use std::fs::{File, Files};
@@ -80,7 +85,7 @@ fn run_over<R: Net + AllocGlobal, S: WorldStore + Drop, W: Write>(
 /// The stores of all nodes, Map-Servers first, and the locks of their folders.
 #[derive(Drop)]
 struct Folders<R> {
-    stores: Vec<FileStore<R>>,
+    stores: Vec<FileStore<SystemFolder<R>>>,
     locks: Vec<File>,
 }
 
@@ -110,7 +115,7 @@ fn add_folder<R: Files<File = File> + AllocGlobal + Clone + Drop>(
 ) -> Result<(), RunFault>
     ensures { OnOk result (length folders.new.stores.items ≡ length folders.old.stores.items + 1) }
 {
-    let Folder { store, lock } = open_folder(rt, dir, name)?;
+    let LockedFolder { store, lock } = open_folder(rt, dir, name)?;
     folders.stores.try_push(store)?;
     folders.locks.try_push(lock)?;
     Ok(())
@@ -118,14 +123,14 @@ fn add_folder<R: Files<File = File> + AllocGlobal + Clone + Drop>(
 
 /// A network that runs.
 #[derive(Drop)]
-struct RunningNetwork<'a, S: WorldStore> {
+struct RunningNetwork<'a, S: WorldStore, E: Endpoint> {
     alloc: Global,
     config: &'a Config,
     world: World<S>,
-    sockets: Sockets<'a>,
+    sockets: Sockets<'a, E>,
 }
 
-impl<S: WorldStore + Drop> RunningNetwork<'_, S> {
+impl<S: WorldStore + Drop, E: Endpoint> RunningNetwork<'_, S, E> {
     // Takes the commands, one after the other.
     fn run<W: Write>(&mut self, commands: &[Command], writer: &mut W) -> Result<(), RunFault> {
         for command in commands.chunks(1) {
@@ -134,35 +139,56 @@ impl<S: WorldStore + Drop> RunningNetwork<'_, S> {
         Ok(())
     }
 
-    // Takes a command, which stands alone in the list, and sends what it adds to the datagrams.
-    fn take<W: Write>(&mut self, command: &[Command], writer: &mut W) -> Result<(), RunFault> {
-        if !self.arrives(command, writer)? {
+    // Takes a command, which stands alone in the list, if it waits for no datagram or that arrives, and sends what it adds to
+    // the datagrams.
+    fn take<W: Write>(&mut self, command: &[Command], writer: &mut W) -> Result<(), RunFault>
+        ensures { OnOk result (TakesCommand (Wrote Global ⟦<Global as Memory>⟧.may_refuse S.may_refuse self.old.world self.new.world self.old.config.now (map command_value command.now))
+            self.old.world self.new.world self.old.sockets.sockets.items self.new.sockets.sockets.items (map command_value command.now) (W.contents writer.old) (W.contents writer.new)) }
+    {
+        if !arrives(self.alloc, &self.world, command, &mut self.sockets, writer)? {
             return Ok(());
         }
         let sent = self.world.sent();
         play_on(self.alloc, &mut self.world, self.config, command, writer)?;
         flush(writer)?;
-        self.send_from(sent, writer)
+        send_from(self.alloc, &self.world, sent, &mut self.sockets, writer)
     }
+}
 
-    // Whether the datagram that the command delivers arrives, if it delivers one that was sent.
-    fn arrives<W: Write>(&self, command: &[Command], writer: &mut W) -> Result<bool, RunFault> {
-        let Some(Command::Act(Event::Deliver { k, .. })) = command.first() else {
-            return Ok(true);
-        };
-        match self.world.datagram(*k) {
-            Some(datagram) => self.sockets.arrives(*k, datagram, writer),
-            None => Ok(true),
+// Whether the datagram that the command delivers arrives, if it delivers one that was sent; else it prints what came of it.
+// Faults: 88, 97.
+fn arrives<S: WorldStore, E: Endpoint, W: Write>(
+    alloc: Global,
+    world: &World<S>,
+    command: &[Command],
+    sockets: &mut Sockets<'_, E>,
+    writer: &mut W,
+) -> Result<bool, RunFault>
+    ensures { IfOk result (λ arrived. WritesTold W.contents writer.old writer.new (TellsAwaited (awaited world.now (map command_value command.now)) sockets.old.sockets.items sockets.new.sockets.items arrived)) }
+{
+    let Some(Command::Act(Event::Deliver { k, .. })) = command.first() else {
+        return Ok(true);
+    };
+    match world.datagram(*k) {
+        Some(datagram) => sockets.arrives(alloc, *k, datagram, writer),
+        None => Ok(true),
+    }
+}
+
+// Sends the datagrams of a network from a number on. Faults: 88, 97.
+fn send_from<S: WorldStore, E: Endpoint, W: Write>(
+    alloc: Global,
+    world: &World<S>,
+    first: usize,
+    sockets: &mut Sockets<'_, E>,
+    writer: &mut W,
+) -> Result<(), RunFault>
+    ensures { OnOk result (SendsAll sockets.old.sockets.items sockets.new.sockets.items (drop first world.now.bag) (W.contents writer.old) (W.contents writer.new)) }
+{
+    for k in first..world.sent() {
+        if let Some(datagram) = world.datagram(k) {
+            sockets.send(alloc, datagram, writer)?;
         }
     }
-
-    // Sends the datagrams for nodes, from a number on.
-    fn send_from<W: Write>(&self, first: usize, writer: &mut W) -> Result<(), RunFault> {
-        for k in first..self.world.sent() {
-            if let Some(datagram) = self.world.datagram(k) {
-                self.sockets.send(datagram, writer)?;
-            }
-        }
-        Ok(())
-    }
+    Ok(())
 }

@@ -1,40 +1,26 @@
 //! A node of either kind that runs: a Map-Server or a site router, on its socket and over its folder.
 
-ghost use Rattle.std.specs.Prelude.{◌≤◌};
-ghost use Rattle.lisp_records.specs.Moment.{max_moment};
+ghost use Rattle.std.specs.Prelude.{◌≡◌, Err, IsErr, IfOk, IfErr, OnOk};
+ghost use Rattle.lisp_nonces.specs.Store.{StoreState};
+ghost use Rattle.lisp_turns.specs.Beginning.{Begins};
+ghost use Rattle.lisp_turns.specs.Node.{IsPlaced};
 ghost use Rattle.lisp_udp.specs.Nodes.{IsNode};
+ghost use Rattle.lisp_udp.specs.Running.{RunsOver, TakesItsTurns};
 
-use crate::entry::{NodeKind, number_named};
-use crate::folder::{Folder, open_folder};
+use crate::devices::Devices;
+use crate::entry::{NodeKind, entry_at, number_named};
+use crate::folder::{LockedFolder, open_folder};
 use crate::router::start_router;
 use crate::server::start_server;
-use crate::station::Station;
-use crate::turns::take_turns;
-use lisp_model::Line;
-use lisp_nodes::Arrival;
 use lisp_nonces::WorldStore;
-use lisp_records::Bytes;
 use lisp_script::{RunFault, read_config};
 use lisp_sites::Config;
+use lisp_turns::{Endpoint, Lines, Node, Place, take_turns};
+use std::alloc::Global;
 use std::fs::{File, Files};
 use std::io::Write;
 use std::net::Net;
 use std::time::Clock;
-
-/// What a Map-Server and a router do when they run.
-pub(crate) trait Node {
-    /// The line of a datagram that arrived at the node with a number, and the reply, where there is one.
-    fn hear(&mut self, number: usize, how: Arrival, bytes: &[u8]) -> (Line, Option<Bytes>);
-
-    /// Sends what is due at a moment, in ms. Faults: 88, 97.
-    fn send_due<W: Write>(
-        &mut self,
-        station: &mut Station,
-        now: u64,
-        writer: &mut W,
-    ) -> Result<(), RunFault>
-        requires { now ≤ max_moment };
-}
 
 /// Runs the node of a kind with a name for so many turns, as `run_server` and `run_router` do.
 pub(crate) fn run<R: Files<File = File> + Net + Clock + AllocGlobal + Clone + Drop, W: Write>(
@@ -61,43 +47,51 @@ fn run_in<R: Files<File = File> + Net + Clock + AllocGlobal + Clone + Drop, W: W
 ) -> Result<(), RunFault> {
     let number = number_named(config, kind, name)?;
     // The lock keeps other processes out of the folder.
-    let Folder { store, lock: _lock } = open_folder(rt, dir, name)?;
-    run_over(rt, config, number, store, turns, writer)
+    let LockedFolder { store, lock: _lock } = open_folder(rt, dir, name)?;
+    let devices = Devices::open(rt, config, entry_at(config, number), writer);
+    run_over(rt.alloc(), config, number, store, turns, devices)?.end()
 }
 
-// Runs the node with a number over its store: a Map-Server that holds nothing, or a router that starts at 0 ms.
-fn run_over<R: Net + Clock + AllocGlobal, S: WorldStore + Drop, W: Write>(
-    rt: &R,
+// Runs the node with a number over its store, in so many turns: a Map-Server that holds nothing, or a router that starts at 0 ms.
+// What is outside is given back. Faults: those of the start, then that of what is outside.
+fn run_over<S: WorldStore + Drop, O: Endpoint + lisp_turns::Clock + Lines + Drop>(
+    alloc: Global,
     config: &Config,
     number: usize,
     store: S,
     turns: u64,
-    writer: &mut W,
-) -> Result<(), RunFault>
+    outside: Result<O, RunFault>,
+) -> Result<O, RunFault>
     requires { IsNode config.now number }
+    ensures part { RunsOver O.seen config.now number (S.seen store) outside result }
+    ensures turns { TakesItsTurns Global O.seen config.now number (S.seen store) turns outside result }
+    ensures device { IfErr outside (λ fault. IsErr result) }
 {
-    let servers = config.servers().len();
-    if number < servers {
-        let server = start_server(rt.alloc(), config, store);
-        run_at(rt, config, number, server, turns, writer)
+    if number < config.servers().len() {
+        let server = start_server(alloc, config, number, store);
+        run_at(config, number, server, turns, outside)
     } else {
-        let router = start_router(rt.alloc(), config, number - servers, store);
-        run_at(rt, config, number, router, turns, writer)
+        let router = start_router(alloc, config, number, store);
+        run_at(config, number, router, turns, outside)
     }
 }
 
-// Runs the node with a number, if it starts, on a socket at its address.
-fn run_at<R: Net + Clock + AllocGlobal, N: Node + Drop, W: Write>(
-    rt: &R,
+// Runs the node with a number, if it starts.
+fn run_at<N: Node + Drop, O: Endpoint + lisp_turns::Clock + Lines + Drop>(
     config: &Config,
     number: usize,
     node: Result<N, RunFault>,
     turns: u64,
-    writer: &mut W,
-) -> Result<(), RunFault>
-    requires { IsNode config.now number }
+    outside: Result<O, RunFault>,
+) -> Result<O, RunFault>
+    requires { IfOk node (λ n. IsPlaced config.now number (N.state n)) }
+    ensures part { (store : StoreState) → IfOk node (λ n. Begins config.now number store (N.state n)) → RunsOver O.seen config.now number store outside result }
+    ensures turns { (store : StoreState) → IfOk node (λ n. Begins config.now number store (N.state n)) → TakesItsTurns Global O.seen config.now number store turns outside result }
+    ensures start { IfErr node (λ fault. result ≡ Err fault) }
+    ensures device { OnOk node (IfErr outside (λ fault. result ≡ Err fault)) }
 {
     let mut node = node?;
-    let mut station = Station::bind(rt, config, number)?;
-    take_turns(rt, &mut node, &mut station, turns, writer)
+    let mut outside = outside?;
+    take_turns(&mut node, &Place { config, number }, turns, &mut outside);
+    Ok(outside)
 }

@@ -1,40 +1,118 @@
 //! What is printed: each line at once, so that a pipe sees it.
 
+ghost use Rattle.std.specs.Prelude.{◌≡◌, OnOk, OnErr, IfErr};
+ghost use Rattle.std.specs.Io.KnownBytes.{Keeps};
+ghost use Rattle.lisp_lines.specs.Front.{GivesText};
+ghost use Rattle.lisp_output.specs.Output.{Writes};
+ghost use Rattle.lisp_script.specs.RunFault.{numbered};
+ghost use Rattle.lisp_udp.specs.Printing.{printed_text, failed_text, lost_text, number_of, WritesSome, IsPrintingFault};
+
+use lisp_lines::{DatagramPlace, line_text, write_text};
+use lisp_memory::FallibleString;
 use lisp_script::RunFault;
+use lisp_sites::Config;
+use lisp_turns::{Printed, SocketCall};
+use std::alloc::{AllocError, Global};
 use std::io::Write;
 
-/// A call of a socket.
-#[derive(Clone, Copy)]
-pub(crate) enum Call {
-    Receive,
-    Send,
-}
-
-impl Call {
-    // The number that operators see where it fails.
-    const fn number(self) -> u16 {
-        match self {
-            Call::Receive => 90,
-            Call::Send => 91,
-        }
-    }
-}
-
-/// Prints that a call of a node's socket failed. Fault: 88.
-pub(crate) fn print_failed<W: Write>(
+/// Prints what a node with a name prints, by the names of its configuration. Faults: 88, 97.
+pub(crate) fn print_line<W: Write>(
+    alloc: Global,
+    config: &Config,
     name: &str,
-    call: Call,
+    line: &Printed,
     writer: &mut W,
-) -> Result<(), RunFault> {
-    let number = call.number();
-    match writeln!(writer, "refused {name} {number}") {
-        Ok(()) => flush(writer),
-        Err(_) => Err(RunFault::WRITE),
+) -> Result<(), RunFault>
+    ensures text { Writes result W.contents writer.old writer.new (printed_text config.now name.now line.now) }
+    ensures some { WritesSome result W.contents writer.old writer.new (printed_text config.now name.now line.now) }
+    ensures fault { IfErr result (λ fault. IsPrintingFault fault) }
+{
+    let text = printed_text(alloc, config, name, line)?;
+    print(&text, writer)
+}
+
+/// Prints that a call of the socket of a node with a name failed. Faults: 88, 97.
+pub(crate) fn print_failed<W: Write>(
+    alloc: Global,
+    name: &str,
+    call: SocketCall,
+    writer: &mut W,
+) -> Result<(), RunFault>
+    ensures text { Writes result W.contents writer.old writer.new (failed_text name.now call) }
+    ensures some { WritesSome result W.contents writer.old writer.new (failed_text name.now call) }
+    ensures fault { IfErr result (λ fault. IsPrintingFault fault) }
+{
+    let text = failed_text(alloc, name, call)?;
+    print(&text, writer)
+}
+
+/// Prints that a datagram didn't arrive. Faults: 88, 97.
+pub(crate) fn print_lost<W: Write>(
+    alloc: Global,
+    datagram: usize,
+    writer: &mut W,
+) -> Result<(), RunFault>
+    ensures text { Writes result W.contents writer.old writer.new (lost_text datagram) }
+    ensures some { WritesSome result W.contents writer.old writer.new (lost_text datagram) }
+    ensures fault { IfErr result (λ fault. IsPrintingFault fault) }
+{
+    let text = lost_text(alloc, datagram)?;
+    print(&text, writer)
+}
+
+fn printed_text(
+    alloc: Global,
+    config: &Config,
+    name: &str,
+    line: &Printed,
+) -> Result<String, AllocError>
+    ensures { GivesText result (printed_text config.now name.now line.now) }
+{
+    match line {
+        Printed::Event(line) => line_text(alloc, config, line, DatagramPlace::Hidden),
+        Printed::Failed(call) => failed_text(alloc, name, *call),
     }
+}
+
+fn failed_text(alloc: Global, name: &str, call: SocketCall) -> Result<String, AllocError>
+    ensures { GivesText result (failed_text name.now call) }
+{
+    let number = number_of(call);
+    String::try_format(alloc, format_args!("refused {name} {number}\n"))
+}
+
+// The number that operators see where a call of a socket fails.
+fn number_of(call: SocketCall) -> u64
+    ensures { result ≡ number_of call }
+{
+    match call {
+        SocketCall::Receive => 90,
+        SocketCall::Send => 91,
+    }
+}
+
+fn lost_text(alloc: Global, datagram: usize) -> Result<String, AllocError>
+    ensures { GivesText result (lost_text datagram) }
+{
+    String::try_format(alloc, format_args!("lost {datagram}\n"))
+}
+
+// Writes a text, which goes out at once. Fault: 88.
+#[tactic(auto, using(crate::proofs::Written::flushed, crate::proofs::Written::flushed_some, crate::proofs::Written::front_of_it))]
+fn print<W: Write>(text: &str, writer: &mut W) -> Result<(), RunFault>
+    ensures text { Writes result W.contents writer.old writer.new text.now }
+    ensures some { WritesSome result W.contents writer.old writer.new text.now }
+    ensures fault { IfErr result (λ fault. fault ≡ numbered 88) }
+{
+    write_text(text, writer)?;
+    flush(writer)
 }
 
 /// What was printed goes out. Fault: 88.
-pub(crate) fn flush<W: Write>(writer: &mut W) -> Result<(), RunFault> {
+pub(crate) fn flush<W: Write>(writer: &mut W) -> Result<(), RunFault>
+    ensures same { Keeps (W.contents writer.old) (W.contents writer.new) }
+    ensures fault { IfErr result (λ fault. fault ≡ numbered 88) }
+{
     match writer.flush() {
         Ok(()) => Ok(()),
         Err(_) => Err(RunFault::WRITE),

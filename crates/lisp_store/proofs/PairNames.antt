@@ -1,0 +1,215 @@
+-- The name of a pair's file is that of no other pair.
+use Rattle.std.proofs.Common.{◌≡◌, ℕ, zero, suc, ◌+◌, ◌-◌, ◌/◌, ◌^◌, ◌<◌, ◌≤◌, ◌&&◌, nat_eq, nat_lt, Bool, true, cond, List, [], ◌∷◌, ◌++◌, length, take, drop, append_assoc, slice_index, slice_range, codes, Some, None, refl, sym, ap, ◌∙◌, arith}
+use Rattle.std.specs.Cmp.Lexicographic.{pointwise, bytes_decides}
+use Rattle.std.specs.Int.{w64, byte_at, bytes_high_first, to_be_bytes, from_be_bytes}
+use Rattle.std.specs.List.{list_all}
+use Rattle.std.specs.Result.{result_unwrap_or}
+use Rattle.std.specs.Str.{IsAscii, IsUtf8}
+use Rattle.std.proofs.lemmas.Bool.{and_parts, and_from, ltb-true, eqb-true, lt-ltb}
+use Rattle.std.proofs.lemmas.Str.{IsUtf8-from_ascii, IsAscii-append}
+use Rattle.std.proofs.lemmas.List.{length-append, length-drop, take_all, take-append-le, drop-append-le, drop_at}
+use Rattle.std.proofs.lemmas.Nat.{from_be_bytes-to_be_bytes_8, mod_below}
+use Rattle.std.proofs.lemmas.Option.{cond_some, same_Some}
+use Rattle.hex.specs.Hex.{IsBytes, encode_lower, decode_of, lower_digits}
+use Rattle.hex.proofs.HexLemmas.{length-encode_with, IsAscii-encode_with, decode_of-encode_lower}
+use Rattle.lisp_nonces.specs.declared.pair.PairKind.{PairKind}
+use Rattle.lisp_nonces.specs.declared.pair.PairKind.TheVariants.{Sent, Received, Notice}
+use Rattle.lisp_nonces.specs.declared.pair.Pair.{Pair}
+use Rattle.lisp_store.specs.PairName.{is_pair, IsPair, AreBytes, kind_letter, kind_of_letter, pair_in, pair_name, pair_of_name, NamesFindPairs, NamesAreOfOnePair}
+
+-- ---- parts of a list
+
+-- a part before what is added at the end
+part_before : (xs ys : List ℕ) (from to : ℕ) → from ≤ to → to ≤ length xs → slice_range (xs ++ ys) from to ≡ slice_range xs from to
+part_before xs ys from to order within =
+    ap (take (to - from)) (drop-append-le from xs ys (omega (arith, order, within)))
+    ∙ take-append-le (to - from) (drop from xs) ys (omega (arith, within, length-drop from xs))
+
+part_before_both : (xs ys zs : List ℕ) (from to : ℕ) → from ≤ to → to ≤ length xs → slice_range (xs ++ ys ++ zs) from to ≡ slice_range xs from to
+part_before_both xs ys zs from to order within = part_before (xs ++ ys) zs from to order (omega (arith, within, length-append xs ys)) ∙ part_before xs ys from to order within
+
+-- what is added at the end
+part_added : (xs ys : List ℕ) (from to : ℕ) → length xs ≡ from → from + length ys ≡ to → slice_range (xs ++ ys) from to ≡ ys
+part_added xs ys from to front all = ap (take (to - from)) (drop_at xs ys from front) ∙ take_all (to - from) ys (omega (arith, all))
+
+-- the parts of a name, whose letter is one byte, and whose digits are 16, 32 and 2
+module _ (letter site xtr key : List ℕ) (one : length letter ≡ 1) (sixteen : length site ≡ 16) (thirty_two : length xtr ≡ 32) (two : length key ≡ 2) where
+  abbrev before_site : List ℕ
+  before_site = letter ++ codes "-"
+
+  abbrev after_site : List ℕ
+  after_site = before_site ++ site ++ codes "-"
+
+  abbrev after_xtr : List ℕ
+  after_xtr = after_site ++ xtr ++ codes "-"
+
+  abbrev name : List ℕ
+  name = after_xtr ++ key ++ codes ".nonce"
+
+  length-before_site : length before_site ≡ 2
+  length-before_site = omega (arith, one, length-append letter (codes "-"))
+
+  length-after_site : length after_site ≡ 19
+  length-after_site = omega (arith, length-before_site, sixteen, length-append before_site site, length-append (before_site ++ site) (codes "-"))
+
+  length-after_xtr : length after_xtr ≡ 52
+  length-after_xtr = omega (arith, length-after_site, thirty_two, length-append after_site xtr, length-append (after_site ++ xtr) (codes "-"))
+
+  letter_of_name : slice_range name 0 1 ≡ letter
+  letter_of_name =
+      let first : 1 ≤ length letter = omega (arith, one) in
+      let site_at : 1 ≤ length before_site = omega (arith, length-before_site) in
+      let xtr_at : 1 ≤ length after_site = omega (arith, length-after_site) in
+      let key_at : 1 ≤ length after_xtr = omega (arith, length-after_xtr) in
+      part_before_both after_xtr key (codes ".nonce") 0 1 (omega arith) key_at
+      ∙ part_before_both after_site xtr (codes "-") 0 1 (omega arith) xtr_at
+      ∙ part_before_both before_site site (codes "-") 0 1 (omega arith) site_at
+      ∙ part_before letter (codes "-") 0 1 (omega arith) first
+      ∙ take_all 1 letter (omega (arith, one))
+
+  site_of_name : slice_range name 2 18 ≡ site
+  site_of_name =
+      part_before_both after_xtr key (codes ".nonce") 2 18 (omega arith) (omega (arith, length-after_xtr))
+      ∙ part_before_both after_site xtr (codes "-") 2 18 (omega arith) (omega (arith, length-after_site))
+      ∙ part_before (before_site ++ site) (codes "-") 2 18 (omega arith) (omega (arith, length-before_site, sixteen, length-append before_site site))
+      ∙ part_added before_site site 2 18 length-before_site (omega (arith, sixteen))
+
+  xtr_of_name : slice_range name 19 51 ≡ xtr
+  xtr_of_name =
+      part_before_both after_xtr key (codes ".nonce") 19 51 (omega arith) (omega (arith, length-after_xtr))
+      ∙ part_before (after_site ++ xtr) (codes "-") 19 51 (omega arith) (omega (arith, length-after_site, thirty_two, length-append after_site xtr))
+      ∙ part_added after_site xtr 19 51 length-after_site (omega (arith, thirty_two))
+
+  key_of_name : slice_range name 52 54 ≡ key
+  key_of_name =
+      part_before (after_xtr ++ key) (codes ".nonce") 52 54 (omega arith) (omega (arith, length-after_xtr, two, length-append after_xtr key))
+      ∙ part_added after_xtr key 52 54 length-after_xtr (omega (arith, two))
+
+-- ---- a pair from its name
+
+letter_back : (kind : PairKind) → kind_of_letter (kind_letter kind) ≡ kind
+letter_back Sent = refl
+letter_back Received = refl
+letter_back Notice = refl
+
+length-letter : (kind : PairKind) → length (kind_letter kind) ≡ 1
+length-letter Sent = refl
+length-letter Received = refl
+length-letter Notice = refl
+
+-- numbers that are all below a bound
+all_below : (bound : ℕ) → 0 < bound → (xs : List ℕ) → list_all (λ b. nat_lt b bound) xs ≡ true → (i : ℕ) → slice_index xs i < bound
+all_below bound some [] all i = some
+all_below bound some (x ∷ xs) all zero = ltb-true x bound (and_parts (nat_lt x bound) (list_all (λ b. nat_lt b bound) xs) all).0
+all_below bound some (x ∷ xs) all (suc i) = all_below bound some xs (and_parts (nat_lt x bound) (list_all (λ b. nat_lt b bound) xs) all).1 i
+
+bytes_of : (xs : List ℕ) → AreBytes xs → IsBytes xs
+bytes_of xs all = all_below 256 (omega arith) xs all
+
+byte_alone : (b : ℕ) → b < 256 → IsBytes (b ∷ [])
+byte_alone b lt zero = lt
+byte_alone b lt (suc i) = omega arith
+
+byte_below : (k n : ℕ) → byte_at k n < 256
+byte_below zero n = mod_below n 256 (omega arith)
+byte_below (suc k) n = mod_below (n / 256 ^ suc k) 256 (omega arith)
+
+high_first : (k n : ℕ) → IsBytes (bytes_high_first k n)
+high_first zero n i = omega arith
+high_first (suc k) n zero = byte_below k n
+high_first (suc k) n (suc i) = high_first k n i
+
+big_endian : (n : ℕ) → IsBytes (to_be_bytes w64 n)
+big_endian n = high_first 8 n
+
+-- digits that are read are the bytes that they were written of
+read_back : (bytes part : List ℕ) → IsBytes bytes → part ≡ encode_lower bytes → result_unwrap_or (decode_of part) [] ≡ bytes
+read_back bytes part all is = ap (λ r. result_unwrap_or r []) (ap decode_of is ∙ decode_of-encode_lower bytes all)
+
+-- what a pair is
+record PairParts (p : Pair) : Type 0 where
+  site : p.router.site < 2 ^ 64
+  xtr : length p.router.xtr ≡ 16
+  bytes : IsBytes p.router.xtr
+  key : p.key < 256
+
+parts_of : (p : Pair) → IsPair p → PairParts p
+parts_of p is =
+    let all = and_parts _ _ is in
+    let front = and_parts _ _ all.0 in
+    let first = and_parts _ _ front.0 in
+    record { site = ltb-true _ _ first.0; xtr = eqb-true _ _ first.1; bytes = bytes_of _ front.1; key = ltb-true _ _ all.1 }
+
+-- the parts of a pair's name are those of the pair
+pub pair_back : (p : Pair) → IsPair p → pair_in (pair_name p) ≡ p
+unfolding pair_name
+pair_back p is =
+    let parts = parts_of p is in
+    let site = encode_lower (to_be_bytes w64 p.router.site) in
+    let xtr = encode_lower p.router.xtr in
+    let key = encode_lower (p.key ∷ []) in
+    let one = length-letter p.kind in
+    let sixteen : length site ≡ 16 = length-encode_with lower_digits (to_be_bytes w64 p.router.site) in
+    let thirty_two : length xtr ≡ 32 = omega (arith, parts.xtr, length-encode_with lower_digits p.router.xtr) in
+    let two : length key ≡ 2 = length-encode_with lower_digits (p.key ∷ []) in
+    let kinds = ap kind_of_letter (letter_of_name (kind_letter p.kind) site xtr key one sixteen thirty_two two) ∙ letter_back p.kind in
+    let sites = ap (from_be_bytes w64) (read_back (to_be_bytes w64 p.router.site) _ (big_endian p.router.site) (site_of_name (kind_letter p.kind) site xtr key one sixteen thirty_two two)) ∙ from_be_bytes-to_be_bytes_8 p.router.site parts.site in
+    let xtrs = read_back p.router.xtr _ parts.bytes (xtr_of_name (kind_letter p.kind) site xtr key one sixteen thirty_two two) in
+    let keys = ap (λ (bytes : List ℕ). slice_index bytes 0) (read_back (p.key ∷ []) _ (byte_alone p.key parts.key) (key_of_name (kind_letter p.kind) site xtr key one sixteen thirty_two two)) in
+    λ i. record { kind = kinds i; router = record { site = sites i; xtr = xtrs i }; key = keys i }
+
+-- a pair's name gives the pair back
+pub found_by_name : (p : Pair) → IsPair p → pair_of_name (pair_name p) ≡ Some p
+unfolding pair_of_name
+found_by_name p is =
+    let back = pair_back p is in
+    let whole : is_pair (pair_in (pair_name p)) ≡ true = ap is_pair back ∙ is in
+    let same : pointwise nat_eq (pair_name (pair_in (pair_name p))) (pair_name p) ≡ true = (bytes_decides _ _).1 (ap pair_name back) in
+    ap (λ (b : Bool). cond b (Some (pair_in (pair_name p))) None) (and_from _ _ whole same) ∙ ap Some back
+
+-- a name is that of the pair that is found by it
+pub name_of_found : (text : List ℕ) (p : Pair) → pair_of_name text ≡ Some p → IsPair p × (pair_name p ≡ text)
+unfolding pair_of_name
+name_of_found text p is =
+    let found = cond_some (is_pair (pair_in text) && pointwise nat_eq (pair_name (pair_in text)) text) (pair_in text) p is in
+    let both = and_parts (is_pair (pair_in text)) (pointwise nat_eq (pair_name (pair_in text)) text) found.0 in
+    (ap is_pair (sym found.1) ∙ both.0, ap pair_name (sym found.1) ∙ (bytes_decides _ _).0 both.1)
+
+pub names_find_pairs : NamesFindPairs
+names_find_pairs text p = (name_of_found text p, λ is. ap pair_of_name (sym is.1) ∙ found_by_name p is.0)
+
+pub one_pair : NamesAreOfOnePair
+one_pair p q p_is q_is same = same_Some p q (sym (found_by_name p p_is) ∙ ap pair_of_name same ∙ found_by_name q q_is)
+
+-- ---- a name from its parts
+
+-- bytes pass the test
+pub bytes_pass : (xs : List ℕ) → IsBytes xs → AreBytes xs
+bytes_pass [] all = refl
+bytes_pass (x ∷ xs) all = and_from _ _ (lt-ltb x 256 (all 0)) (bytes_pass xs (λ i. all (suc i)))
+
+pub name_of_parts : (p : Pair) (front site xtr key : List ℕ) → front ≡ kind_letter p.kind ++ codes "-" → site ≡ encode_lower (to_be_bytes w64 p.router.site) ++ codes "-"
+    → xtr ≡ encode_lower p.router.xtr ++ codes "-" → key ≡ encode_lower (p.key ∷ []) ++ codes ".nonce" → front ++ (site ++ (xtr ++ key)) ≡ pair_name p
+unfolding pair_name
+name_of_parts p front site xtr key front_is site_is xtr_is key_is = (λ i. front_is i ++ (site_is i ++ (xtr_is i ++ key_is i))) ∙ simp append_assoc
+
+literal : (xs : List ℕ) → list_all (λ b. nat_lt b 128) xs ≡ true → IsAscii xs
+literal xs all = all_below 128 (omega arith) xs all
+
+letter_is_ascii : (kind : PairKind) → IsAscii (kind_letter kind)
+letter_is_ascii Sent = literal (codes "s") refl
+letter_is_ascii Received = literal (codes "r") refl
+letter_is_ascii Notice = literal (codes "n") refl
+
+digits_are_ascii : (bytes : List ℕ) → IsAscii (encode_lower bytes)
+digits_are_ascii bytes = IsAscii-encode_with lower_digits bytes (literal lower_digits refl)
+
+-- a name is a text
+pub name_is_text : (p : Pair) → IsUtf8 (pair_name p)
+unfolding pair_name
+name_is_text p =
+    let dash = literal (codes "-") refl in
+    let site = IsAscii-append _ _ (IsAscii-append _ _ (letter_is_ascii p.kind) dash) (digits_are_ascii (to_be_bytes w64 p.router.site)) in
+    let xtr = IsAscii-append _ _ (IsAscii-append _ _ site dash) (digits_are_ascii p.router.xtr) in
+    let key = IsAscii-append _ _ (IsAscii-append _ _ xtr dash) (digits_are_ascii (p.key ∷ [])) in
+    IsUtf8-from_ascii (pair_name p) (IsAscii-append _ _ key (literal (codes ".nonce") refl))

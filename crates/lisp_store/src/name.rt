@@ -1,0 +1,63 @@
+//! The name of a pair's file.
+
+ghost use Rattle.std.specs.Prelude.{◌≡◌, ◌+◌, ◌*◌, [], ◌∷◌, ◌++◌, length};
+ghost use Rattle.std.specs.Str.{IsUtf8};
+ghost use Rattle.hex.specs.Hex.{encode_lower};
+ghost use Rattle.lisp_store.specs.PairName.{IsPair, AreBytes, kind_letter, pair_name};
+
+use lisp_nonces::{Pair, PairKind};
+
+/// The name of a pair's file, `K-SITE-XTR-KEY.nonce`, where K is `s` (sent), `r` (received) or `n` (notice), and Site-ID,
+/// xTR-ID and Key ID are 16, 32 and 2 lower case hexadecimal digits.
+pub fn pair_name(pair: &Pair) -> [u8; 60]
+    ensures name { result ≡ pair_name pair.now }
+    ensures text { IsUtf8 result }
+    ensures pair { IsPair pair.now }
+{
+    known(*pair);
+    let mut name = [0; 60];
+    let (front, rest) = name.split_at_mut(2);
+    let (site, rest) = rest.split_at_mut(17);
+    let (xtr, key) = rest.split_at_mut(33);
+    front.copy_from_slice(&[letter(pair.kind), b'-']);
+    put_part(site, &pair.router.site.to_be_bytes(), b"-");
+    put_part(xtr, &pair.router.xtr, b"-");
+    put_part(key, &[pair.key], b".nonce");
+    name
+}
+
+// What the types of a pair's parts promise.
+fn known(pair: Pair)
+    ensures { IsPair pair }
+{
+    let Pair { router, key, .. } = pair;
+    known_bytes(&router.xtr);
+    let (_site, _key) = (router.site, key);
+}
+
+// Of a slice that is passed in, a proof learns that each element is a byte.
+#[tactic(auto, using(crate::proofs::PairNames::bytes_pass))]
+fn known_bytes(bytes: &[u8])
+    ensures { AreBytes bytes.now }
+{}
+
+// Which nonces, in a letter.
+fn letter(kind: PairKind) -> u8
+    ensures { result ∷ [] ≡ kind_letter kind }
+{
+    match kind {
+        PairKind::Sent => b's',
+        PairKind::Received => b'r',
+        PairKind::Notice => b'n',
+    }
+}
+
+// Writes the digits of bytes, and what comes after them, over a text that has room for just that.
+fn put_part(text: &mut [u8], bytes: &[u8], after: &[u8])
+    requires { length text.old ≡ 2 * length bytes.now + length after.now }
+    ensures { text.new ≡ encode_lower bytes.now ++ after.now }
+{
+    let (digits, rest) = text.split_at_mut(2 * bytes.len());
+    hex::encode_to_slice(bytes, digits).unwrap();
+    rest.copy_from_slice(after);
+}

@@ -1,0 +1,25 @@
+-- Calls that were made, one after another.
+use Rattle.std.proofs.Common.{◌≡◌, List, [], ◌++◌, Option, Some, None, refl, sym, ap, ◌∙◌}
+use Rattle.std.proofs.lemmas.List.{append-nil, append_assoc}
+use Rattle.lisp_turns.specs.Outside.{Call, OutsideState, logged}
+use Rattle.lisp_turns.specs.Stretch.{Asks}
+
+pub logged_none : (log : Option (List Call)) → logged [] log ≡ log
+logged_none None = refl
+logged_none (Some calls) = refl
+
+pub logged_twice : (xs ys : List Call) (log : Option (List Call)) → logged ys (logged xs log) ≡ logged (ys ++ xs) log
+logged_twice xs ys None = refl
+logged_twice xs ys (Some calls) = ap Some (sym (append_assoc ys xs calls))
+
+pub asks_none : (s : OutsideState) → Asks s s []
+asks_none s = ap (λ (log : Option (List Call)). record s { log = log }) (sym (logged_none s.log))
+
+pub asks_then : (a b c : OutsideState) (xs ys : List Call) → Asks a b xs → Asks b c ys → Asks a c (ys ++ xs)
+asks_then a b c xs ys first second =
+    let log = ap (λ (s : OutsideState). logged ys s.log) first ∙ logged_twice xs ys a.log in
+    second ∙ (λ i. record { log = log i; moment = (first i).moment; is_cut = c.is_cut })
+
+-- nothing behind them
+pub asks_same : (a b : OutsideState) (xs : List Call) → Asks a b xs → Asks a b (xs ++ [])
+asks_same a b xs asked = rw (append-nil xs) asked

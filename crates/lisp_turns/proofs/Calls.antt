@@ -1,0 +1,96 @@
+-- What was asked outside, in parts: the lines, what was sent and what was received.
+use Rattle.std.proofs.Common.{◌≡◌, Bool, true, false, List, [], ◌∷◌, ◌++◌, Option, Some, None, refl, sym, ap, ◌∙◌, append-nil}
+use Rattle.std.specs.Prelude.{ℕ}
+use Rattle.std.specs.Option.{option_to_list}
+use Rattle.std.proofs.lemmas.List.{append_assoc}
+use Rattle.lisp_records.specs.declared.address.Addr.{Addr}
+use Rattle.lisp_model.specs.declared.line.Line.{Line}
+use Rattle.lisp_model.specs.declared.line.Line.TheVariants as lines
+use Rattle.lisp_turns.specs.Act.{numbered}
+use Rattle.lisp_turns.specs.Acts.{send_calls}
+use Rattle.lisp_turns.specs.Outside.{Call, Datagram, Nothing, Failed, Receives, Reads, Waits, Prints, Sends, logged}
+use Rattle.lisp_turns.specs.Part.{lines_of, sent_of, received_of}
+use Rattle.lisp_turns.specs.declared.outside.Printed.TheVariants as printed
+
+-- of calls one after the other
+pub lines_append : (cs ds : List Call) → lines_of (cs ++ ds) ≡ lines_of cs ++ lines_of ds
+lines_append [] ds = refl
+lines_append (Prints (printed.Event line) ∷ cs) ds = ap (λ rest. line ∷ rest) (lines_append cs ds)
+lines_append (Prints (printed.Failed call) ∷ cs) ds = lines_append cs ds
+lines_append (Receives r ∷ cs) ds = lines_append cs ds
+lines_append (Reads now ∷ cs) ds = lines_append cs ds
+lines_append (Waits ms ∷ cs) ds = lines_append cs ds
+lines_append (Sends to bytes taken ∷ cs) ds = lines_append cs ds
+
+pub sent_append : (cs ds : List Call) → sent_of (cs ++ ds) ≡ sent_of cs ++ sent_of ds
+sent_append [] ds = refl
+sent_append (Sends to bytes taken ∷ cs) ds = ap (λ rest. (to, bytes) ∷ rest) (sent_append cs ds)
+sent_append (Prints line ∷ cs) ds = sent_append cs ds
+sent_append (Receives r ∷ cs) ds = sent_append cs ds
+sent_append (Reads now ∷ cs) ds = sent_append cs ds
+sent_append (Waits ms ∷ cs) ds = sent_append cs ds
+
+pub received_append : (cs ds : List Call) → received_of (cs ++ ds) ≡ received_of cs ++ received_of ds
+received_append [] ds = refl
+received_append (Receives (Datagram from bytes) ∷ cs) ds = ap (λ rest. (from, bytes) ∷ rest) (received_append cs ds)
+received_append (Receives Nothing ∷ cs) ds = received_append cs ds
+received_append (Receives Failed ∷ cs) ds = received_append cs ds
+received_append (Prints line ∷ cs) ds = received_append cs ds
+received_append (Sends to bytes taken ∷ cs) ds = received_append cs ds
+received_append (Reads now ∷ cs) ds = received_append cs ds
+received_append (Waits ms ∷ cs) ds = received_append cs ds
+
+-- of five parts the first and the fourth come to nothing
+pub of_parts : {X : Type 0} (f : List Call → List X) → ((cs ds : List Call) → f (cs ++ ds) ≡ f cs ++ f ds) → (a b c d e : List Call) → f a ≡ [] → f d ≡ [] → f (a ++ b ++ c ++ d ++ e) ≡ f b ++ f c ++ f e
+of_parts f append a b c d e none nothing =
+    append (a ++ b ++ c ++ d) e
+    ∙ ap (λ l. l ++ f e) (append (a ++ b ++ c) d
+    ∙ ap (λ l. l ++ f d) (append (a ++ b) c ∙ ap (λ l. l ++ f c) (append a b ∙ ap (λ l. l ++ f b) none))
+    ∙ ap (λ l. f b ++ f c ++ l) nothing ∙ append-nil (f b ++ f c))
+
+-- a log goes on by nothing, and by calls and more calls
+pub logged_none : (log : Option (List Call)) → log ≡ logged [] log
+logged_none None = refl
+logged_none (Some calls) = refl
+
+pub logged_twice : (cs ds : List Call) (log : Option (List Call)) → logged cs (logged ds log) ≡ logged (cs ++ ds) log
+logged_twice cs ds None = refl
+logged_twice cs ds (Some calls) = ap (λ (all : List Call). Some all) (sym (append_assoc cs ds calls))
+
+-- the calls of an act that is told
+abbrev pub told_calls : Option (Addr × List ℕ) → Bool → Line → List Call
+told_calls message taken line = send_calls message taken ++ Prints (printed.Event line) ∷ []
+
+pub told_lines : (message : Option (Addr × List ℕ)) (taken : Bool) (line : Line) → lines_of (told_calls message taken line) ≡ line ∷ []
+told_lines None taken line = refl
+told_lines (Some m) true line = refl
+told_lines (Some m) false line = refl
+
+pub told_sent : (message : Option (Addr × List ℕ)) (taken : Bool) (line : Line) → sent_of (told_calls message taken line) ≡ option_to_list message
+told_sent None taken line = refl
+told_sent (Some m) true line = refl
+told_sent (Some m) false line = refl
+
+pub told_received : (message : Option (Addr × List ℕ)) (taken : Bool) (line : Line) → received_of (told_calls message taken line) ≡ []
+told_received None taken line = refl
+told_received (Some m) true line = refl
+told_received (Some m) false line = refl
+
+-- of a line's datagram the last number stays
+pub numbered_last : (m n : ℕ) (line : Line) → numbered m (numbered n line) ≡ numbered m line
+numbered_last m n (lines.Changed router records) = refl
+numbered_last m n (lines.Sent router server part key nonce datagram) = refl
+numbered_last m n (lines.Accepted server router key nonce None) = refl
+numbered_last m n (lines.Accepted server router key nonce (Some datagram)) = refl
+numbered_last m n (lines.Done server router nonce) = refl
+numbered_last m n (lines.Counted router server part key nonce) = refl
+numbered_last m n (lines.Noticed router server nonce datagram) = refl
+numbered_last m n (lines.Nowhere datagram) = refl
+numbered_last m n (lines.Ticked ms now) = refl
+numbered_last m n (lines.Restarted node) = refl
+numbered_last m n (lines.Rotated router key) = refl
+numbered_last m n (lines.Emptied router key) = refl
+numbered_last m n (lines.Notice server router key nonce datagram) = refl
+numbered_last m n (lines.Resent server router datagram) = refl
+numbered_last m n (lines.Down router) = refl
+numbered_last m n (lines.Refused node what) = refl

@@ -1,0 +1,93 @@
+-- What is due is done, act by act.
+use Rattle.std.proofs.Common.{◌≡◌, ℕ, ◌+◌, Bool, true, false, ◌∷◌, refl, sym, subst, ◌∙◌, inl, inr, arith}
+use Rattle.std.specs.Prelude.{◌≢◌}
+use Rattle.std.specs.List.{All, AllByRecursion, AllPairs}
+use Rattle.std.proofs.lemmas.List.Elements.{All-cons}
+use Rattle.std.proofs.lemmas.List.Kept.{AllPairs-cons}
+use Rattle.lisp_policy.specs.Configuration.{ConfigValue}
+use Rattle.lisp_model.specs.Trace.{EventValue}
+use Rattle.lisp_turns.specs.Act.{ActValue}
+use Rattle.lisp_turns.specs.Acts.{TurnAct, DoesAll, acts_calls}
+use Rattle.lisp_turns.specs.Due.{DoesDuty, IsSend, IsRefused, SendsDue}
+use Rattle.lisp_turns.specs.Node.{NodeState}
+use Rattle.lisp_turns.specs.Outside.{OutsideState}
+use Rattle.lisp_turns.specs.Pause.{is_told, failed}
+use Rattle.lisp_turns.specs.Stretch.{Asks, Tells, HasServed, ServesAll}
+use Rattle.lisp_turns.specs.declared.pause.Pause.{Pause}
+use Rattle.lisp_turns.proofs.Asking.{asks_then}
+
+-- two acts aren't the same Map-Register
+abbrev Differ : TurnAct → TurnAct → Type 0
+Differ a b = IsSend a.event → a.event ≢ b.event
+
+module _ (A : Type 0) (config : ConfigValue) (number : ℕ) where
+  module _ (old : NodeState) (now : ℕ) where
+    module _ (between new : NodeState) (count : ℕ) (before s after : OutsideState) (act : ActValue)
+        (so_far : HasServed A config number old between now count before s) (does : DoesDuty A config number between new now act) where
+      -- the act, told or not
+      abbrev this : Bool → Bool → TurnAct
+      this told taken = record { event = does.event; act = act; told = told; taken = taken }
+
+      -- no earlier act is the same Map-Register
+      fresh : (told taken : Bool) → All (Differ (this told taken)) so_far.served
+      fresh told taken = λ i d within send same.
+          so_far.spent i d within (subst (λ (e : EventValue). SendsDue between number now e) same (does.was_due send))
+
+      once_more : (told taken : Bool) → AllPairs Differ (this told taken ∷ so_far.served)
+      once_more told taken = AllPairs-cons Differ (this told taken) so_far.served (fresh told taken) so_far.once
+
+      -- it was due before them all
+      due_more : (told taken : Bool) → AllByRecursion (λ a. IsSend a.event → SendsDue old number now a.event) (this told taken ∷ so_far.served)
+      due_more told taken = (λ send. so_far.none_came does.event (does.was_due send), so_far.due)
+
+      did_more : (told taken : Bool) → DoesAll A config number old new now (this told taken ∷ so_far.served)
+      did_more told taken = (between, so_far.did, does.does)
+
+      -- none of those that were done is due any more
+      spent_more : (told taken : Bool) → (IsRefused act.line → ⊥) → All (λ a. SendsDue new number now a.event → ⊥) (this told taken ∷ so_far.served)
+      spent_more told taken done = All-cons (λ a. SendsDue new number now a.event → ⊥) (this told taken) so_far.served (does.done done)
+          (λ i d within due. so_far.spent i d within (does.others _ due))
+
+      -- it was done
+      pub served_more : (IsRefused act.line → ⊥) → Tells s after act → HasServed A config number old new now (count + 1) before after
+      served_more taken tells =
+          record {
+            served = this true tells.taken ∷ so_far.served;
+            counted = omega (arith, so_far.counted);
+            did = did_more true tells.taken;
+            duties = (does.duty, so_far.duties);
+            due = due_more true tells.taken;
+            none_came = λ other due. so_far.none_came other (does.others other due);
+            once = once_more true tells.taken;
+            spent = spent_more true tells.taken taken;
+            done = (record { taken = taken; told = refl }, so_far.done);
+            asked = asks_then before s after (acts_calls so_far.served) _ so_far.asked tells.asked;
+          }
+
+      -- it was refused, and that was told, or wasn't
+      refused_as : (pause left : Pause) (told taken : Bool) → IsRefused act.line → told ≡ is_told pause now → left ≡ failed pause now
+          → Asks before after (acts_calls (this told taken ∷ so_far.served)) → ServesAll A config number old new now pause left before after
+      refused_as pause left told taken refused told_is left_is asked =
+          record {
+            served = this told taken ∷ so_far.served;
+            did = did_more told taken;
+            duties = record {
+              duties = (does.duty, so_far.duties);
+              due = due_more told taken;
+              once = once_more told taken;
+              done = (inr (record { refused = refused; told = told_is; left_is = left_is }), so_far.done);
+              all = inl refused;
+            };
+            asked = asked;
+          }
+
+      pub ends_told : (pause left : Pause) (told : Bool) → IsRefused act.line → told ≡ is_told pause now → told ≡ true → left ≡ failed pause now → Tells s after act
+          → ServesAll A config number old new now pause left before after
+      ends_told pause left told refused is told_is left_is tells =
+          refused_as pause left true tells.taken refused (sym told_is ∙ is) left_is (asks_then before s after (acts_calls so_far.served) _ so_far.asked tells.asked)
+
+      pub ends_untold : (pause left : Pause) (told : Bool) → IsRefused act.line → told ≡ is_told pause now → told ≡ false → left ≡ failed pause now → after ≡ s
+          → ServesAll A config number old new now pause left before after
+      ends_untold pause left told refused is told_is left_is same =
+          refused_as pause left false false refused (sym told_is ∙ is) left_is
+          (subst (λ (t : OutsideState). Asks before t (acts_calls so_far.served)) (sym same) so_far.asked)

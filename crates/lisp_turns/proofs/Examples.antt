@@ -1,0 +1,184 @@
+-- Examples: a turn that is one, and near misses, each but for one thing: what the definitions don't allow.
+use Rattle.std.proofs.Common.{◌≡◌, ◌⊎◌, inl, inr, ℕ, ◌-◌, ◌^◌, ◌<◌, Bool, true, false, true≢false, List, [], ◌∷◌, length, Option, Some, None, refl, sym, ap, subst, ◌∙◌, arith}
+use Rattle.std.specs.Prelude.{if◌then◌else◌}
+use Rattle.std.specs.FinMap.{empty}
+use Rattle.std.specs.Option.{option_and_then}
+use Rattle.lisp_records.specs.declared.address.Addr.{Addr}
+use Rattle.lisp_records.specs.declared.address.Addr.TheVariants.{V4}
+use Rattle.lisp_records.specs.declared.router.RouterId.{RouterId}
+use Rattle.lisp_records.specs.Address.{PrefixValue}
+use Rattle.lisp_records.specs.Row.{RowValue, is_alive}
+use Rattle.lisp_policy.specs.Configuration.{ConfigValue}
+use Rattle.lisp_nonces.specs.declared.fate.Fate.TheVariants.{Done}
+use Rattle.lisp_nonces.specs.Memory.{empty_memory, memory_state}
+use Rattle.lisp_etr.specs.Etr.{EtrState, due_at}
+use Rattle.lisp_lookup.specs.Table.{row_at}
+use Rattle.lisp_server.specs.Notices.{notice_at}
+use Rattle.lisp_model.specs.declared.event.Event.TheVariants as events
+use Rattle.lisp_model.specs.declared.line.Line.{Line}
+use Rattle.lisp_model.specs.declared.line.Line.TheVariants as lines
+use Rattle.lisp_model.specs.Trace.{EventValue, Step}
+use Rattle.lisp_refinement.specs.Nodes.{up_in, fresh_server}
+use Rattle.lisp_refinement.specs.World.{ServerNodeState, RouterNodeState}
+use Rattle.lisp_turns.specs.Acts.{TurnAct, act_calls}
+use Rattle.lisp_turns.specs.Due.{IsRegisterDue, IsSend, SendsDue, IsRefused}
+use Rattle.lisp_turns.specs.Node.{NodeState, Server, Router, IsPlaced, Passes}
+use Rattle.lisp_turns.specs.Outside.{Datagram, Nothing, Receives, Reads, Prints, Sends}
+use Rattle.lisp_turns.specs.Part.{IsOwn, ArePrinted, arrivals, sent_of}
+use Rattle.lisp_turns.specs.Pause.{may_try, is_told, failed}
+use Rattle.lisp_turns.specs.Turn.{TurnState, Hears, IsPut, AreDone, DoesDuties, Serves, IsTurn}
+use Rattle.lisp_turns.specs.declared.outside.Printed.TheVariants as printed
+use Rattle.lisp_turns.specs.declared.pause.Pause.{Pause}
+
+-- a Map-Server that holds nothing takes a turn in which no datagram comes
+abbrev pub silent : ServerNodeState
+silent = record { core = fresh_server []; store = memory_state empty_memory }
+
+abbrev pub none_failed : Pause
+none_failed = record { next_try = 0; next_line = 0 }
+
+abbrev pub before : TurnState
+before = record { node = Server silent; receives = none_failed; sends = none_failed; outside = record { log = Some []; moment = 0; is_cut = false } }
+
+abbrev pub after : TurnState
+after = record before { outside = record { log = Some (Reads 5 ∷ Receives Nothing ∷ []); moment = 5; is_cut = false } }
+
+pub silent_turn : (A : Type 0) (config : ConfigValue) → IsTurn A config 0 before after
+unfolding row_at notice_at
+silent_turn A config = record {
+  reception = Nothing;
+  now = 5;
+  later = omega arith;
+  bound = omega arith;
+  passed = Server silent;
+  passes = record { rows = λ router eid. refl; rest = refl };
+  heard = [];
+  hears = refl;
+  between = Server silent;
+  did_hear = refl;
+  receives = refl;
+  served = [];
+  did_serve = refl;
+  serves = record { duties = tt; due = tt; once = λ i j d less within. absurd (omega (arith, within)); done = refl; all = inr (inl (λ router. refl)) };
+  calls = refl;
+}
+
+-- a dead row isn't left; and a router isn't changed
+dead_row : (old new : ServerNodeState) (now : ℕ) (router : RouterId) (eid : PrefixValue) (h : RowValue) → Passes (Server old) (Server new) now → row_at old.core.rows router eid ≡ Some h → is_alive h now ≡ false
+    → row_at new.core.rows router eid ≡ Some h → ⊥
+dead_row old new now router eid h passes was dead left =
+    let gone : row_at new.core.rows router eid ≡ None =
+    passes.rows router eid ∙ ap (λ (o : Option RowValue). option_and_then (λ g. if is_alive g now then Some g else None) o) was ∙ ap (λ (b : Bool). if b then Some h else None) dead in
+    let clash : ◌≡◌ {A = Option RowValue} None (Some h) = sym gone ∙ left in cc
+
+-- a Map-Server doesn't become a router
+other_kind : (config : ConfigValue) (number : ℕ) (n : RouterNodeState) → number < length config.servers → IsPlaced config number (Router n) → ⊥
+other_kind config number n low placed = omega (arith, low, placed.2)
+
+-- a datagram isn't ignored, and what is made of it isn't kept from the operator
+ignored : (from : Addr) (bytes : List ℕ) → Hears 0 (Datagram from bytes) [] → ⊥
+ignored from bytes (a, is, event, told) = absurd (let clash : ◌≡◌ {A = List TurnAct} [] (a ∷ []) = is in cc)
+
+untold : (from : Addr) (bytes : List ℕ) (a : TurnAct) → a.told ≡ false → Hears 0 (Datagram from bytes) (a ∷ []) → ⊥
+untold from bytes a quiet (b, is, event, told) =
+    absurd (true≢false (sym told ∙ ap (λ (l : List TurnAct). first_told l) (sym is) ∙ quiet))
+  where
+    first_told : List TurnAct → Bool
+    first_told [] = false
+    first_told (x ∷ xs) = x.told
+
+-- the address of the first message
+abbrev address_in : Addr → List (Addr × List ℕ) → Addr
+address_in none [] = none
+address_in none (message ∷ more) = message.0
+
+module _ (to other : Addr) (bytes : List ℕ) (line : Line) where
+  abbrev answers : TurnAct
+  answers = record { event = events.Junk 0 to bytes; act = record { line = line; message = Some (to, bytes) }; told = true; taken = true }
+
+  -- the line goes first, then the message
+  line_first : act_calls answers ≡ Sends to bytes true ∷ Prints (printed.Event line) ∷ []
+  line_first = refl
+
+  -- and that to no other address
+  no_other_address : sent_of (act_calls answers) ≡ (other, bytes) ∷ [] → to ≡ other
+  no_other_address is = ap (address_in to) is
+
+module _ (number now : ℕ) (pause left : Pause) (a b : TurnAct) where
+  -- nothing goes on after what was refused
+  goes_on_refused : IsRefused b.act.line → AreDone pause left now (a ∷ b ∷ []) → ⊥
+  goes_on_refused refused done = done.1.0.taken refused
+
+  -- a refusal is told where none was within a minute, and else isn't
+  told_wrongly : IsPut pause left now a → a.told ≡ true → is_told pause now ≡ false → ⊥
+  told_wrongly put told quiet = absurd (true≢false (sym told ∙ put.told ∙ quiet))
+
+  untold_wrongly : IsPut pause left now a → a.told ≡ false → is_told pause now ≡ true → ⊥
+  untold_wrongly put quiet told = absurd (true≢false (sym told ∙ sym put.told ∙ quiet))
+
+  -- a Map-Register isn't sent twice
+  twice : (m n : RouterNodeState) → IsSend a.event → a.event ≡ b.event → DoesDuties number (Router m) (Router n) now pause left (a ∷ b ∷ []) → ⊥
+  twice m n sends same duties = duties.once 0 1 a (omega arith) (omega arith) sends same
+
+  -- nor where it isn't due
+  not_due : (m n : RouterNodeState) (server part : ℕ) → a.event ≡ events.Send number server part Done → (IsRegisterDue m server part now → ⊥) → DoesDuties number (Router m) (Router n) now pause left (a ∷ []) → ⊥
+  not_due m n server part sends never duties =
+      never (subst (λ (e : EventValue). IsSend e → SendsDue (Router m) number now e) sends duties.due.0 tt).1
+
+  -- what is due isn't left
+  left_due : (m n : RouterNodeState) (etr : EtrState) (due : ℕ × ℕ) → up_in n.core ≡ Some etr → due_at etr now ≡ Some due → DoesDuties number (Router m) (Router n) now pause left [] → ⊥
+  left_due m n etr due up is duties = by duties.all
+    where
+      by : ⊥ ⊎ (((e : EtrState) → up_in n.core ≡ Some e → due_at e now ≡ None) ⊎ (0 ≡ 2 ^ 64 - 1)) → ⊥
+      by (inl never) = never
+      by (inr (inl nothing)) = absurd (let clash : ◌≡◌ {A = Option (ℕ × ℕ)} (Some due) None = sym is ∙ nothing etr up in cc)
+      by (inr (inr many)) = omega (arith, many)
+
+  -- what was refused isn't tried again within a second
+  too_soon : (old new : NodeState) → Serves number old new 999 (failed none_failed 0) left (a ∷ []) → ⊥
+  too_soon old new serves = absurd (let clash : ◌≡◌ {A = List TurnAct} (a ∷ []) [] = serves.0 in cc)
+
+-- a second and a minute
+try_again : may_try (failed none_failed 0) 1000 ≡ true
+try_again = refl
+
+told_again : (is_told (failed none_failed 0) 59999 ≡ false) × (is_told (failed none_failed 0) 60000 ≡ true)
+told_again = (refl, refl)
+
+-- another node's Map-Register isn't the node's own, nor is a delivery or a restart
+other_send : IsOwn 0 (events.Send 1 0 0 Done) → ⊥
+other_send own = omega (arith, own)
+
+own_delivery : IsOwn 0 (events.Deliver 0 Done) → ⊥
+own_delivery own = own
+
+own_restart : IsOwn 0 (events.Restart 0 0 None) → ⊥
+own_restart own = own
+
+module _ (router : RouterId) (n m : ℕ) where
+  abbrev accepted : ℕ → Line
+  accepted nonce = lines.Accepted 0 router 1 nonce None
+
+  abbrev step : EventValue → Step
+  step event = record { event = event; line = accepted n; actor = 0; shown = record { kept = empty; faults = 0; is_obedient = true } }
+
+  -- a line that isn't printed, and one that says another nonce
+  unprinted : ArePrinted (step (events.Junk 0 (V4 []) []) ∷ []) [] → ⊥
+  unprinted (inl (quiet, rest)) = quiet
+  unprinted (inr (line, rest, is, same, more)) = absurd (let clash : ◌≡◌ {A = List Line} [] (line ∷ rest) = is in cc)
+
+  misprinted : ArePrinted (step (events.Junk 0 (V4 []) []) ∷ []) (accepted m ∷ []) → m ≡ n
+  misprinted (inl (quiet, rest)) = absurd quiet
+  misprinted (inr (line, rest, is, same, more)) = ap (λ (l : List Line). first_nonce l) is ∙ ap nonce_of same
+    where
+      nonce_of : Line → ℕ
+      nonce_of (lines.Accepted server who key nonce datagram) = nonce
+      nonce_of _ = 0
+
+      first_nonce : List Line → ℕ
+      first_nonce [] = 0
+      first_nonce (l ∷ ls) = nonce_of l
+
+  -- what arrived came from where it came
+  other_source : (from other : Addr) (bytes : List ℕ) → arrivals (step (events.Junk 0 from bytes) ∷ []) ≡ (other, bytes) ∷ [] → from ≡ other
+  other_source from other bytes is = ap (address_in from) is

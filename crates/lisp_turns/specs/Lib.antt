@@ -1,0 +1,12 @@
+pub mod Outside
+pub mod Node
+pub mod Act
+pub mod Serving
+pub mod Made
+pub mod Acts
+pub mod Due
+pub mod Pause
+pub mod Turn
+pub mod Stretch
+pub mod Part
+pub mod Beginning

@@ -1,0 +1,51 @@
+-- What the core of a node says of an act, whatever the node's store.
+use Rattle.std.specs.Prelude.{◌≡◌, ℕ, List, Option, Result}
+use Rattle.lisp_records.specs.declared.address.Addr.{Addr}
+use Rattle.lisp_records.specs.declared.router.RouterId.{RouterId}
+use Rattle.lisp_policy.specs.Configuration.{ConfigValue}
+use Rattle.lisp_nonces.specs.declared.fate.Fate.TheVariants.{Done}
+use Rattle.lisp_etr.specs.declared.send_fault.SendFault.{SendFault}
+use Rattle.lisp_admission.specs.declared.notice_fault.NoticeFault.{NoticeFault}
+use Rattle.lisp_model.specs.declared.event.Event.TheVariants as events
+use Rattle.lisp_model.specs.Trace.{EventValue}
+use Rattle.lisp_nodes.specs.declared.arrival.Arrival.{Arrival}
+use Rattle.lisp_nodes.specs.Hearing.{ServerHears, OneRouterHears}
+use Rattle.lisp_refinement.specs.Events.{NodeSends, NodeResends, ChangesNoticesAlone}
+use Rattle.lisp_turns.specs.Act.{ActValue}
+use Rattle.lisp_turns.specs.Node.{NodeState, Server, Router}
+use Rattle.lisp_turns.specs.Serving.{answer_act, number_of, SendAct, resend_act}
+
+-- bytes arrive from an address at a moment, at a node that has no number for its datagrams
+abbrev pub arrival : Addr → ℕ → Arrival
+arrival from now = record { fate = Done; from = from; now = now; next = 0 }
+
+-- the node with a number was given bytes from an address: it told what it made of them, and its answer, if there is one, goes
+-- back there
+abbrev pub IsHeard : Type 0 → ℕ → NodeState → NodeState → ℕ → Addr → List ℕ → ActValue → Type 0
+IsHeard A number (Server old) (Server new) now from bytes act = (reply : Option (List ℕ))
+    × ServerHears A old new number (arrival from now) bytes (act.line, reply) × (act ≡ answer_act act.line from reply)
+IsHeard A number (Router old) (Router new) now from bytes act = (reply : Option (List ℕ))
+    × OneRouterHears A old new number (arrival from now) bytes (act.line, reply) × (act ≡ answer_act act.line from reply)
+IsHeard A number _ _ now from bytes act = ⊥
+
+-- a router was asked for a Map-Register of a part to the Map-Server with a number
+abbrev pub IsSent : ConfigValue → ℕ → NodeState → NodeState → ℕ → (server part : ℕ) → ActValue → Type 0
+IsSent config number (Router old) (Router new) now server part act = (answer : Result (List ℕ) SendFault)
+    × NodeSends old new server part Done now answer × SendAct config number server part answer act
+IsSent config number _ _ now server part act = ⊥
+
+-- a Map-Server was asked to send a notice again, to the router with a number
+abbrev pub IsResent : ConfigValue → ℕ → NodeState → NodeState → ℕ → (router : ℕ) → ActValue → Type 0
+IsResent config number (Server old) (Server new) now router act = (me : RouterId) × (router ≡ number_of config me)
+    × (answer : Result (Addr × List ℕ) NoticeFault) × NodeResends old new now me answer × ChangesNoticesAlone old new
+    × (act ≡ resend_act number router answer)
+IsResent config number _ _ now router act = ⊥
+
+-- what the core of the node with a number says of an event of its turn at a moment, and of what it comes to
+abbrev pub IsMade : Type 0 → ConfigValue → ℕ → NodeState → NodeState → ℕ → EventValue → ActValue → Type 0
+IsMade A config number old new now (events.Junk to from bytes) act = (to ≡ number) × IsHeard A number old new now from bytes act
+IsMade A config number old new now (events.Send router server part Done) act = (router ≡ number)
+    × IsSent config number old new now server part act
+IsMade A config number old new now (events.Resend server router) act = (server ≡ number)
+    × IsResent config number old new now router act
+IsMade A config number old new now _ act = ⊥

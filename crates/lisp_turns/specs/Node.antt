@@ -1,0 +1,37 @@
+-- A node of either kind, and its place in a network.
+use Rattle.std.specs.Prelude.{◌≡◌, ℕ, ◌+◌, ◌-◌, ◌<◌, length, slice_get, slice_set, Some}
+use Rattle.lisp_policy.specs.Configuration.{ConfigValue, RouterEntryValue}
+use Rattle.lisp_etr.specs.Etr.{EtrState}
+use Rattle.lisp_refinement.specs.Nodes.{up_in}
+use Rattle.lisp_refinement.specs.World.{ServerNodeState, RouterNodeState, WorldState}
+use Rattle.lisp_refinement.specs.Events.{ExpiresNode}
+
+pub data NodeState : Type 0 where
+  Server : ServerNodeState → NodeState
+  Router : RouterNodeState → NodeState
+
+-- the node has this number in a network: Map-Servers first, then routers
+abbrev pub HasNode : WorldState → ℕ → NodeState → Type 0
+HasNode w number (Server n) = slice_get w.servers number ≡ Some n
+HasNode w number (Router n) = (place : ℕ) × (number ≡ length w.servers + place) × (slice_get w.routers place ≡ Some n)
+
+-- the network with this node in the place of the one with the number
+abbrev pub with_node : WorldState → ℕ → NodeState → WorldState
+with_node w number (Server n) = record w { servers = slice_set w.servers number n }
+with_node w number (Router n) = record w { routers = slice_set w.routers (number - length w.servers) n }
+
+-- where a router is up, it keeps rounds for each of its Map-Servers
+abbrev pub HasRounds : RouterNodeState → Type 0
+HasRounds n = (etr : EtrState) → up_in n.core ≡ Some etr → length etr.rounds ≡ length n.servers
+
+-- the number is that of such a node in a configuration, and the router registers with the Map-Servers that stand there
+abbrev pub IsPlaced : ConfigValue → ℕ → NodeState → Type 0
+IsPlaced config number (Server n) = number < length config.servers
+IsPlaced config number (Router n) = (place : ℕ) × (entry : RouterEntryValue) × (number ≡ length config.servers + place)
+    × (slice_get config.routers place ≡ Some entry) × (n.servers ≡ entry.servers) × HasRounds n
+
+-- time passes: a Map-Server drops the rows that are dead at a moment
+abbrev pub Passes : NodeState → NodeState → ℕ → Type 0
+Passes (Server old) (Server new) now = ExpiresNode old new now
+Passes (Router old) (Router new) now = new ≡ old
+Passes _ _ now = ⊥

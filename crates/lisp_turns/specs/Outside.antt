@@ -1,0 +1,59 @@
+-- What a node has outside: its socket, its clock and its lines; and what was asked of them and answered.
+use Rattle.std.specs.Prelude.{◌≡◌, ℕ, ◌≤◌, Bool, List, [], ◌∷◌, ◌++◌, length, take, Option}
+use Rattle.std.specs.Option.{option_map}
+use Rattle.lisp_records.specs.declared.address.Addr.{Addr}
+use Rattle.lisp_records.specs.Moment.{max_moment}
+use Rattle.lisp_turns.specs.declared.outside.Printed.{Printed}
+use Rattle.lisp_turns.specs.declared.outside.Received.{Received}
+use Rattle.lisp_turns.specs.declared.outside.Received.TheVariants as received
+
+-- what came of waiting for a datagram: one from an address; none in time; or the socket failed
+pub data Reception : Type 0 where
+  Datagram : Addr → List ℕ → Reception
+  Nothing : Reception
+  Failed : Reception
+
+-- something that was asked of what is outside, with the answer: a receive; a reading of the clock; a wait, in ms; a line; a
+-- send of bytes to an address, and whether the socket took them
+pub data Call : Type 0 where
+  Receives : Reception → Call
+  Reads : ℕ → Call
+  Waits : ℕ → Call
+  Prints : Printed → Call
+  Sends : Addr → List ℕ → Bool → Call
+
+-- all that was asked, the newest first, where that is known; the last moment that the clock told, in ms, 0 before; and
+-- whether a line couldn't be printed
+pub record OutsideState : Type 0 where
+  pub log : Option (List Call)
+  pub moment : ℕ
+  pub is_cut : Bool
+
+-- what was asked goes on by these calls, the newest first
+abbrev pub logged : List Call → Option (List Call) → Option (List Call)
+logged calls log = option_map (λ earlier. calls ++ earlier) log
+
+-- a call was made
+abbrev pub Logs : OutsideState → OutsideState → Call → Type 0
+Logs old new call = new ≡ record old { log = logged (call ∷ []) old.log }
+
+-- a line was to be printed, and perhaps couldn't
+abbrev pub LogsLine : OutsideState → OutsideState → Printed → Type 0
+LogsLine old new line = new ≡ record old { log = logged (Prints line ∷ []) old.log; is_cut = new.is_cut }
+
+-- the clock was read: moments don't fall, and have an end
+pub record ReadsClock (old new : OutsideState) (now : ℕ) : Type 0 where
+  pub later : old.moment ≤ now
+  pub bound : now ≤ max_moment
+  pub left : new ≡ record old { log = logged (Reads now ∷ []) old.log; moment = now }
+
+-- what was received, in a buffer
+abbrev pub reception : Received → List ℕ → Reception
+reception (received.Datagram from count) buffer = Datagram from (take count buffer)
+reception received.Nothing buffer = Nothing
+reception received.Failed buffer = Failed
+
+-- a datagram lies within the buffer
+abbrev pub FitsBuffer : Received → List ℕ → Type 0
+FitsBuffer (received.Datagram from count) buffer = count ≤ length buffer
+FitsBuffer _ buffer = Unit {0}

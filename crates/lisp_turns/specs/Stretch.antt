@@ -1,0 +1,76 @@
+-- Stretches of a turn, and turns from the start on.
+use Rattle.std.specs.Prelude.{◌≡◌, ◌≢◌, ℕ, Bool, List, [], ◌∷◌, ◌++◌, length}
+use Rattle.std.specs.List.{All, AllByRecursion, AllPairs}
+use Rattle.lisp_policy.specs.Configuration.{ConfigValue}
+use Rattle.lisp_model.specs.Trace.{EventValue}
+use Rattle.lisp_turns.specs.Act.{ActValue}
+use Rattle.lisp_turns.specs.Acts.{TurnAct, DoesAll, acts_calls, send_calls}
+use Rattle.lisp_turns.specs.Due.{IsDuty, IsSend, SendsDue}
+use Rattle.lisp_turns.specs.Node.{NodeState}
+use Rattle.lisp_turns.specs.Outside.{Reception, Call, Prints, OutsideState, logged}
+use Rattle.lisp_turns.specs.Pause.{no_pause}
+use Rattle.lisp_turns.specs.Turn.{TurnState, Hears, failure_calls, receives_after, IsDone, DoesDuties, Serves, TakesTurns}
+use Rattle.lisp_turns.specs.declared.outside.Printed.TheVariants as printed
+use Rattle.lisp_turns.specs.declared.pause.Pause.{Pause}
+use Rattle.lisp_turns.specs.declared.turn.Station.{Station}
+
+-- a node at its station, between turns
+abbrev pub at_station : NodeState → Station → OutsideState → TurnState
+at_station node station outside = record { node = node; receives = station.receives; sends = station.sends; outside = outside }
+
+-- the calls were made, the newest first, of which the clock told nothing
+abbrev pub Asks : OutsideState → OutsideState → List Call → Type 0
+Asks old new calls = new ≡ record old { log = logged calls old.log; is_cut = new.is_cut }
+
+-- an act was told
+pub record Tells (old new : OutsideState) (act : ActValue) : Type 0 where
+  pub taken : Bool
+  pub asked : Asks old new (send_calls act.message taken ++ Prints (printed.Event act.line) ∷ [])
+
+-- a node took in what was received, at a moment: what it made of a datagram is told, and so is a failure, once a minute
+pub record TakesIn (A : Type 0) (config : ConfigValue) (number : ℕ) (old new : NodeState) (now : ℕ) (reception : Reception)
+    (receives left : Pause) (before after : OutsideState) : Type 0 where
+  pub heard : List TurnAct
+  pub hears : Hears number reception heard
+  pub did : DoesAll A config number old new now heard
+  pub left_is : left ≡ receives_after reception receives now
+  pub asked : Asks before after (acts_calls heard ++ failure_calls reception receives now)
+
+-- a node did what was due at a moment, until so many acts were done and told, of which none is due any more, and no other became due
+pub record HasServed (A : Type 0) (config : ConfigValue) (number : ℕ) (old new : NodeState) (now count : ℕ)
+    (before after : OutsideState) : Type 0 where
+  pub served : List TurnAct
+  pub counted : length served ≡ count
+  pub did : DoesAll A config number old new now served
+  pub duties : AllByRecursion (λ a. IsDuty number a.event) served
+  pub due : AllByRecursion (λ a. IsSend a.event → SendsDue old number now a.event) served
+  pub none_came : (other : EventValue) → SendsDue new number now other → SendsDue old number now other
+  pub once : AllPairs (λ a b. IsSend a.event → a.event ≢ b.event) served
+  pub spent : All (λ a. SendsDue new number now a.event → ⊥) served
+  pub done : AllByRecursion IsDone served
+  pub asked : Asks before after (acts_calls served)
+
+-- a node did all that was due at a moment, and it was told
+pub record ServesAll (A : Type 0) (config : ConfigValue) (number : ℕ) (old new : NodeState) (now : ℕ) (pause left : Pause)
+    (before after : OutsideState) : Type 0 where
+  pub served : List TurnAct
+  pub did : DoesAll A config number old new now served
+  pub duties : DoesDuties number old new now pause left served
+  pub asked : Asks before after (acts_calls served)
+
+-- the same, where it may be tried
+pub record ServesDue (A : Type 0) (config : ConfigValue) (number : ℕ) (old new : NodeState) (now : ℕ) (pause left : Pause)
+    (before after : OutsideState) : Type 0 where
+  pub served : List TurnAct
+  pub did : DoesAll A config number old new now served
+  pub serves : Serves number old new now pause left served
+  pub asked : Asks before after (acts_calls served)
+
+-- so many turns from a start on, with no failure before it, or fewer where a line couldn't be printed
+pub record StartsTurns (A : Type 0) (config : ConfigValue) (number turns : ℕ) (begun node : NodeState) (before after : OutsideState)
+    : Type 0 where
+  pub receives : Pause
+  pub sends : Pause
+  pub took : TakesTurns A config number turns
+      (record { node = begun; receives = no_pause; sends = no_pause; outside = before })
+      (record { node = node; receives = receives; sends = sends; outside = after })

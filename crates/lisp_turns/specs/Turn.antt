@@ -1,0 +1,124 @@
+-- A turn of a node: a datagram, if one comes; then what is due.
+use Rattle.std.specs.Prelude.{◌≡◌, ◌≢◌, ◌⊎◌, ℕ, zero, suc, ◌-◌, ◌^◌, ◌<◌, ◌≤◌, Bool, true, false, List, [], ◌∷◌, ◌++◌, length, if◌then◌else◌}
+use Rattle.std.specs.List.{AllByRecursion, AllPairs}
+use Rattle.lisp_policy.specs.Configuration.{ConfigValue}
+use Rattle.lisp_records.specs.Moment.{second, max_moment}
+use Rattle.lisp_model.specs.declared.event.Event.TheVariants as events
+use Rattle.lisp_turns.specs.Node.{NodeState, Passes}
+use Rattle.lisp_turns.specs.Acts.{TurnAct, DoesAll, acts_calls}
+use Rattle.lisp_turns.specs.Due.{IsDuty, IsSend, SendsDue, IsRefused, NothingDue}
+use Rattle.lisp_turns.specs.Outside.{Reception, Datagram, Failed, Call, Receives, Reads, Waits, Prints, OutsideState, logged}
+use Rattle.lisp_turns.specs.Pause.{may_try, is_told, failed}
+use Rattle.lisp_turns.specs.declared.outside.Printed.TheVariants as printed
+use Rattle.lisp_turns.specs.declared.outside.SocketCall.TheVariants as calls
+use Rattle.lisp_turns.specs.declared.pause.Pause.{Pause}
+
+-- a node between turns: the node; when its socket's failures are told, and when what is due is tried again; and what is outside
+pub record TurnState : Type 0 where
+  pub node : NodeState
+  pub receives : Pause
+  pub sends : Pause
+  pub outside : OutsideState
+
+-- of a datagram the node makes one act, which is told: it is given the bytes as they came, from where they came
+abbrev pub Hears : ℕ → Reception → List TurnAct → Type 0
+Hears number (Datagram from bytes) acts = (a : TurnAct) × (acts ≡ a ∷ []) × (a.event ≡ events.Junk number from bytes) × (a.told ≡ true)
+Hears number _ acts = acts ≡ []
+
+-- a socket that failed is a line, once a minute, and a second's rest at the end of the turn; nothing else
+abbrev pub failure_calls : Reception → Pause → ℕ → List Call
+failure_calls Failed receives now = if is_told receives now then Prints (printed.Failed calls.Receive) ∷ [] else []
+failure_calls _ receives now = []
+
+abbrev pub rest_calls : Reception → List Call
+rest_calls Failed = Waits second ∷ []
+rest_calls _ = []
+
+abbrev pub receives_after : Reception → Pause → ℕ → Pause
+receives_after Failed receives now = failed receives now
+receives_after _ receives now = receives
+
+-- what was due was done and told
+pub record IsDone (a : TurnAct) : Type 0 where
+  pub taken : IsRefused a.act.line → ⊥
+  pub told : a.told ≡ true
+
+-- it was refused, which is told once a minute
+pub record IsPut (pause left : Pause) (now : ℕ) (a : TurnAct) : Type 0 where
+  pub refused : IsRefused a.act.line
+  pub told : a.told ≡ is_told pause now
+  pub left_is : left ≡ failed pause now
+
+-- all that was due was done, but for the last, if that was refused
+abbrev pub AreDone : Pause → Pause → ℕ → List TurnAct → Type 0
+AreDone pause left now [] = left ≡ pause
+AreDone pause left now (a ∷ earlier) = ((IsDone a × (left ≡ pause)) ⊎ IsPut pause left now a) × AllByRecursion IsDone earlier
+
+-- the last act was refused
+abbrev pub EndsRefused : List TurnAct → Type 0
+EndsRefused [] = ⊥
+EndsRefused (a ∷ earlier) = IsRefused a.act.line
+
+-- what was due at a moment, the newest act first: each Map-Register to a Map-Server and of a part once at most, and only what
+-- was due before; and all that was due, unless one was refused, or there were 2^64 - 1
+pub record DoesDuties (number : ℕ) (before after : NodeState) (now : ℕ) (pause left : Pause) (acts : List TurnAct) : Type 0 where
+  pub duties : AllByRecursion (λ a. IsDuty number a.event) acts
+  pub due : AllByRecursion (λ a. IsSend a.event → SendsDue before number now a.event) acts
+  pub once : AllPairs (λ a b. IsSend a.event → a.event ≢ b.event) acts
+  pub done : AreDone pause left now acts
+  pub all : EndsRefused acts ⊎ (NothingDue after now ⊎ (length acts ≡ 2 ^ 64 - 1))
+
+-- where something was refused less than a second ago, nothing is tried
+abbrev pub ServesIf : Bool → ℕ → NodeState → NodeState → ℕ → Pause → Pause → List TurnAct → Type 0
+ServesIf true number before after now pause left acts = DoesDuties number before after now pause left acts
+ServesIf false number before after now pause left acts = (acts ≡ []) × (left ≡ pause)
+
+abbrev pub Serves : ℕ → NodeState → NodeState → ℕ → Pause → Pause → List TurnAct → Type 0
+Serves number before after now pause left acts = ServesIf (may_try pause now) number before after now pause left acts
+
+-- what is asked outside in a turn, the newest first
+abbrev pub turn_calls : Reception → Pause → ℕ → (heard served : List TurnAct) → List Call
+turn_calls reception receives now heard served =
+    rest_calls reception ++ acts_calls served ++ acts_calls heard ++ failure_calls reception receives now ++ Reads now ∷ Receives reception ∷ []
+
+-- One turn. It takes one datagram at most, reads the clock once, drops dead rows, makes of the datagram what the node makes of
+-- it at that moment, and then does what is due.
+pub record IsTurn (A : Type 0) (config : ConfigValue) (number : ℕ) (old new : TurnState) : Type 0 where
+  pub reception : Reception
+  pub now : ℕ
+  pub later : old.outside.moment ≤ now
+  pub bound : now ≤ max_moment
+  pub passed : NodeState
+  pub passes : Passes old.node passed now
+  pub heard : List TurnAct
+  pub hears : Hears number reception heard
+  pub between : NodeState
+  pub did_hear : DoesAll A config number passed between now heard
+  pub receives : new.receives ≡ receives_after reception old.receives now
+  pub served : List TurnAct
+  pub did_serve : DoesAll A config number between new.node now served
+  pub serves : Serves number between new.node now old.sends new.sends served
+  pub calls : new.outside ≡ record { log = logged (turn_calls reception old.receives now heard served) old.outside.log; moment = now; is_cut = new.outside.is_cut }
+
+-- so many turns
+abbrev pub Turns : Type 0 → ConfigValue → ℕ → ℕ → TurnState → TurnState → Type 0
+Turns A config number zero old new = new ≡ old
+Turns A config number (suc n) old new = (between : TurnState) × Turns A config number n old between × IsTurn A config number between new
+
+-- each line of so many turns could be printed
+abbrev pub IsUncut : ℕ → TurnState → Type 0
+IsUncut zero s = Unit {0}
+IsUncut (suc n) s = s.outside.is_cut ≡ false
+
+-- so many turns, each of which but the first follows one whose lines could be printed
+abbrev pub UncutTurns : Type 0 → ConfigValue → ℕ → ℕ → TurnState → TurnState → Type 0
+UncutTurns A config number zero old new = new ≡ old
+UncutTurns A config number (suc n) old new = (between : TurnState) × UncutTurns A config number n old between × IsUncut n between
+    × IsTurn A config number between new
+
+-- so many turns, or fewer where a line couldn't be printed, and then none after it
+pub record TakesTurns (A : Type 0) (config : ConfigValue) (number turns : ℕ) (old new : TurnState) : Type 0 where
+  pub count : ℕ
+  pub few : count ≤ turns
+  pub took : UncutTurns A config number count old new
+  pub cut : count < turns → new.outside.is_cut ≡ true

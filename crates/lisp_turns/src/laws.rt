@@ -1,0 +1,19 @@
+//! What turns come to, as laws: each function's contract is a law, and its body is empty.
+
+ghost use Rattle.lisp_turns.specs.Beginning.{BeginningsOpen};
+ghost use Rattle.lisp_turns.specs.Part.{TurnsAreParts};
+
+use std::alloc::Allocator;
+
+/// What a node prints and sends in its turns is a legal trace's part of it: a network that stands for a trace, and has the
+/// node, stands for the trace followed by steps of that node, whose lines are those that were printed, and whose datagrams
+/// are those that were sent.
+pub fn turns_are_parts<A: Allocator>()
+    ensures { TurnsAreParts A }
+{}
+
+/// Each node that begins over an honest store stands in a network at its opening, whose store of that node keeps what this
+/// store kept.
+pub fn beginnings_open()
+    ensures { BeginningsOpen }
+{}

@@ -1,0 +1,24 @@
+//! A Map-Server or a router that runs: it takes turns over its socket, its clock and its lines, whatever these are (RFC 9301
+//! sections 8.2 and 8.3). What it prints and sends is a legal trace's part of it.
+#![tactic(auto)]
+
+// What is outside, and what is told of it.
+mod act;
+mod outside;
+mod pause;
+mod place;
+
+// The nodes.
+mod node;
+mod router;
+mod server;
+
+// Their turns.
+pub mod laws;
+mod turn;
+
+pub use act::Act;
+pub use node::Node;
+pub use outside::{Clock, Endpoint, Lines, Outside, Printed, Received, SocketCall};
+pub use place::Place;
+pub use turn::take_turns;

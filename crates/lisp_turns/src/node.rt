@@ -1,0 +1,44 @@
+//! A node of either kind that takes turns.
+
+ghost use Rattle.std.specs.Prelude.{◌≡◌, ◌≤◌, None, IfSome};
+ghost use Rattle.lisp_records.specs.Moment.{max_moment};
+ghost use Rattle.lisp_model.specs.declared.event.Event.TheVariants as events;
+ghost use Rattle.lisp_model.specs.Memory.{MayTell};
+ghost use Rattle.lisp_turns.specs.Acts.{DoesOne};
+ghost use Rattle.lisp_turns.specs.Due.{NothingDue, DoesDuty};
+ghost use Rattle.lisp_turns.specs.Node.{NodeState, IsPlaced, Passes};
+
+use crate::act::Act;
+use crate::place::Place;
+use lisp_memory::Memory;
+use lisp_records::Addr;
+use std::alloc::Global;
+
+/// A Map-Server or a router that runs at a place of a configuration. Moments are in ms.
+pub trait Node {
+    ghost state: { Self → NodeState };
+
+    // Its store's memory may be refused.
+    ghost store_may_refuse: { Type 0 };
+
+    /// Time passes: a Map-Server drops the rows that are dead at a moment.
+    fn pass(&mut self, now: u64)
+        requires { now ≤ max_moment }
+        ensures { Passes (state self.old) (state self.new) now };
+
+    /// It is given bytes that come from an address, at a moment.
+    fn hear(&mut self, place: &Place, from: Addr, bytes: &[u8], now: u64) -> Act
+        requires { IsPlaced place.now.config.now place.now.number (state self.old) }
+        ensures does { DoesOne Global place.now.config.now place.now.number (state self.old) (state self.new) now (events.Junk place.now.number from bytes.now) result }
+        ensures tells { MayTell ⟦<Global as Memory>⟧.may_refuse store_may_refuse result.line };
+
+    /// It does what is due first at a moment: sends a Map-Register, or a notice again; `None` where nothing is due, and it is
+    /// left unchanged. A Map-Register that it sent isn't due any more at that moment, and no other becomes so.
+    fn serve(&mut self, place: &Place, now: u64) -> Option<Act>
+        requires bound { now ≤ max_moment }
+        requires placed { IsPlaced place.now.config.now place.now.number (state self.old) }
+        ensures does { IfSome result (DoesDuty Global place.now.config.now place.now.number (state self.old) (state self.new) now) }
+        ensures none { result ≡ None → (state self.new ≡ state self.old) × NothingDue (state self.old) now }
+        ensures placed { IsPlaced place.now.config.now place.now.number (state self.new) }
+        ensures tells { IfSome result (λ act. MayTell ⟦<Global as Memory>⟧.may_refuse store_may_refuse act.line) };
+}

@@ -1,0 +1,81 @@
+//! What a node has outside: a socket, a clock, and where its lines go. A node is proved over any that keep these contracts.
+
+ghost use Rattle.std.specs.Prelude.{◌≡◌, length};
+ghost use Rattle.lisp_turns.specs.Outside.{OutsideState, Logs, LogsLine, ReadsClock, reception, FitsBuffer, Receives, Waits, Sends};
+
+use lisp_model::Line;
+use lisp_records::Addr;
+
+/// What came of waiting for a datagram.
+#[derive(Clone, Copy, Debug, PartialEq, Eq)]
+pub enum Received {
+    /// A datagram.
+    Datagram {
+        /// The address that it comes from.
+        from: Addr,
+        /// How many bytes it has.
+        count: usize,
+    },
+    /// None came in time.
+    Nothing,
+    /// The socket failed.
+    Failed,
+}
+
+/// A call of a socket that failed.
+#[derive(Clone, Copy, Debug, PartialEq, Eq)]
+pub enum SocketCall {
+    /// A receive.
+    Receive,
+    /// A send.
+    Send,
+}
+
+/// What a node prints: a line.
+#[derive(Clone, Copy, Debug, PartialEq, Eq)]
+pub enum Printed {
+    /// The line of an event. A node that runs has no number for its datagrams: those of its lines are 0.
+    Event(Line),
+    /// The node's socket failed.
+    Failed(SocketCall),
+}
+
+/// Something outside a node, of which all that was asked may be known, in one log: so its order is known too.
+pub trait Outside {
+    ghost seen: { Self → OutsideState };
+}
+
+/// A node's UDP socket.
+pub trait Endpoint: Outside {
+    /// The next datagram, taken into `buffer`; `Nothing` where none comes before its time limit.
+    fn receive(&mut self, buffer: &mut [u8]) -> Received
+        ensures asked { Logs (Self.seen self.old) (Self.seen self.new) (Receives (reception result buffer.new)) }
+        ensures within { FitsBuffer result buffer.new }
+        ensures room { length buffer.new ≡ length buffer.old };
+
+    /// Sends a message to an address; whether the socket took it.
+    fn send(&mut self, to: &Addr, message: &[u8]) -> bool
+        ensures { Logs (Self.seen self.old) (Self.seen self.new) (Sends to.now message.now result) };
+}
+
+/// A node's clock.
+pub trait Clock: Outside {
+    /// How many ms it is since the node's start, at most 2^62, and no fewer than it said before.
+    fn now(&mut self) -> u64
+        ensures { ReadsClock (Self.seen self.old) (Self.seen self.new) result };
+
+    /// Lets so many ms pass.
+    fn wait(&mut self, ms: u64)
+        ensures { Logs (Self.seen self.old) (Self.seen self.new) (Waits ms) };
+}
+
+/// Where a node's lines go.
+pub trait Lines: Outside {
+    /// Prints a line.
+    fn print(&mut self, line: &Printed)
+        ensures { LogsLine (Self.seen self.old) (Self.seen self.new) line.now };
+
+    /// Whether a line couldn't be printed, so that the node is to end.
+    fn is_cut(&self) -> bool
+        ensures { result ≡ (Self.seen self.now).is_cut };
+}

@@ -1,0 +1,83 @@
+//! A Map-Server that takes turns.
+
+ghost use Rattle.std.specs.Prelude.{◌≡◌, ◌<◌, ◌≤◌, length, true};
+ghost use Rattle.lisp_records.specs.Moment.{max_moment};
+ghost use Rattle.lisp_server.specs.Notices.{notice_at, is_due_at};
+ghost use Rattle.lisp_model.specs.Memory.{MayTell};
+ghost use Rattle.lisp_model.specs.declared.event.Event.TheVariants as events;
+ghost use Rattle.lisp_turns.specs.Acts.{DoesOne};
+ghost use Rattle.lisp_turns.specs.Node.{Server as ServerNodeOf, IsPlaced};
+ghost use Rattle.lisp_turns.specs.Serving.{number_of, resend_act};
+
+use crate::act::Act;
+use crate::node::Node;
+use crate::place::Place;
+use lisp_memory::Memory;
+use lisp_model::{Line, Refusal};
+use lisp_nodes::{Arrival, ServerNode, server_hears};
+use lisp_nonces::{Fate, WorldStore};
+use lisp_records::{Addr, Bytes, RouterId};
+use lisp_server::NoticeFault;
+use std::alloc::Global;
+
+impl<S: WorldStore> Node for ServerNode<S> {
+    ghost use Rattle.lisp_turns.specs.Node.{Server};
+
+    ghost state = { λ n. Server n };
+
+    ghost store_may_refuse = { S.may_refuse };
+
+    fn pass(&mut self, now: u64) {
+        self.expire(now);
+    }
+
+    fn hear(&mut self, place: &Place, from: Addr, bytes: &[u8], now: u64) -> Act {
+        let how = Arrival {
+            fate: Fate::Done,
+            from,
+            now,
+            next: 0,
+        };
+        let (line, reply) = server_hears(self, place.number, how, bytes);
+        Act::answer(line, from, reply)
+    }
+
+    fn serve(&mut self, place: &Place, now: u64) -> Option<Act> {
+        let router = self.core().due_notices(now)?;
+        Some(resend(self, place, &router, now))
+    }
+}
+
+// Sends a router's notice again, which is due at a moment.
+fn resend<S: WorldStore>(
+    server: &mut ServerNode<S>,
+    place: &Place,
+    router: &RouterId,
+    now: u64,
+) -> Act
+    requires bound { now ≤ max_moment }
+    requires placed { IsPlaced place.now.config.now place.now.number (ServerNodeOf server.old) }
+    requires due { is_due_at now (notice_at server.old.core.notices router.now) ≡ true }
+    ensures does { DoesOne Global place.now.config.now place.now.number (ServerNodeOf server.old) (ServerNodeOf server.new) now (events.Resend place.now.number (number_of place.now.config.now router.now)) result }
+    ensures tells { MayTell ⟦<Global as Memory>⟧.may_refuse S.may_refuse result.line }
+{
+    let answer = server.resend(router, now);
+    resent(place.number, place.number_of(router), answer)
+}
+
+// The act of a Map-Server with a number that was asked for the notice to the router with another one.
+fn resent(server: usize, router: usize, answer: Result<(Addr, Bytes), NoticeFault>) -> Act
+    ensures { result ≡ resend_act server router answer }
+{
+    match answer {
+        Ok(message) => Act {
+            line: Line::Resent {
+                server,
+                router,
+                datagram: 0,
+            },
+            message: Some(message),
+        },
+        Err(fault) => Act::refused(server, Refusal::Notice(fault)),
+    }
+}

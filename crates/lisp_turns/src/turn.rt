@@ -1,0 +1,178 @@
+//! The turns of a node.
+
+ghost use Rattle.std.specs.Prelude.{◌≡◌, ◌≤◌, ℕ, List};
+ghost use Rattle.lisp_records.specs.Moment.{max_moment};
+ghost use Rattle.lisp_turns.specs.Node.{IsPlaced};
+ghost use Rattle.lisp_turns.specs.Outside.{FitsBuffer, reception};
+ghost use Rattle.lisp_turns.specs.Beginning.{RunsAsPart};
+ghost use Rattle.lisp_turns.specs.Turn.{IsTurn, rest_calls};
+ghost use Rattle.lisp_turns.specs.Stretch.{Asks, Tells, TakesIn, ServesAll, ServesDue, StartsTurns, at_station};
+
+use crate::act::Act;
+use crate::node::Node;
+use crate::outside::{Clock, Endpoint, Lines, Printed, Received, SocketCall};
+use crate::pause::{Pause, RETRY_MS};
+use crate::place::Place;
+use std::alloc::Global;
+
+/// The most bytes of a datagram.
+const MOST_BYTES: usize = 65_535;
+
+/// A node at its place, and how it stands with what failed.
+#[derive(Drop)]
+struct Station<'a> {
+    place: Place<'a>,
+    // When a failure of its socket is told again.
+    receives: Pause,
+    // When what is due is tried again after it was refused, and that is told again.
+    sends: Pause,
+}
+
+/// Takes so many turns, from a node's start on; none after one in which a line couldn't be printed. A turn takes one datagram,
+/// or none where none comes in time, answers it to where it came from, drops dead rows, and then sends what is due: a
+/// Map-Register of each part of a router's database to each Map-Server, at most one of each, or each notice of a Map-Server
+/// (RFC 9301 sections 5.7 and 8.2), until one is refused. Each event is a line. A socket that fails is a line, too, once a
+/// minute, and a second's rest; what was refused is tried again a second later, and told once a minute.
+pub fn take_turns<N: Node, O: Endpoint + Clock + Lines>(
+    node: &mut N,
+    place: &Place,
+    turns: u64,
+    outside: &mut O,
+)
+    requires { IsPlaced place.now.config.now place.now.number (N.state node.old) }
+    ensures turns { StartsTurns Global place.now.config.now place.now.number turns (N.state node.old) (N.state node.new) (O.seen outside.old) (O.seen outside.new) }
+    ensures part { RunsAsPart place.now.config.now place.now.number (N.state node.old) (O.seen outside.old) (O.seen outside.new) }
+    ensures placed { IsPlaced place.now.config.now place.now.number (N.state node.new) }
+{
+    let mut station = Station {
+        place: *place,
+        receives: Pause::NONE,
+        sends: Pause::NONE,
+    };
+    let mut buffer = [0; MOST_BYTES];
+    for _ in 0..turns {
+        turn(node, &mut station, &mut buffer, outside);
+        if outside.is_cut() {
+            return;
+        }
+    }
+}
+
+// A datagram is taken into `buffer` and answered, and what is due is sent.
+fn turn<N: Node, O: Endpoint + Clock + Lines>(
+    node: &mut N,
+    station: &mut Station,
+    buffer: &mut [u8],
+    outside: &mut O,
+)
+    requires { IsPlaced station.old.place.config.now station.old.place.number (N.state node.old) }
+    ensures turn { IsTurn Global station.old.place.config.now station.old.place.number (at_station (N.state node.old) station.old (O.seen outside.old)) (at_station (N.state node.new) station.new (O.seen outside.new)) }
+    ensures placed { IsPlaced station.old.place.config.now station.old.place.number (N.state node.new) }
+    ensures place { station.new.place ≡ station.old.place }
+{
+    let received = outside.receive(buffer);
+    let now = outside.now();
+    node.pass(now);
+    take_in(node, station, received, buffer, now, outside);
+    serve_due(node, station, now, outside);
+    rest(received, outside);
+}
+
+// What was received, in a buffer, is heard, or told as a failure.
+fn take_in<N: Node, O: Endpoint + Lines>(
+    node: &mut N,
+    station: &mut Station,
+    received: Received,
+    bytes: &[u8],
+    now: u64,
+    outside: &mut O,
+)
+    requires bound { now ≤ max_moment }
+    requires within { FitsBuffer received bytes.now }
+    requires placed { IsPlaced station.old.place.config.now station.old.place.number (N.state node.old) }
+    ensures takes { TakesIn Global station.old.place.config.now station.old.place.number (N.state node.old) (N.state node.new) now (reception received bytes.now) station.old.receives station.new.receives (O.seen outside.old) (O.seen outside.new) }
+    ensures placed { IsPlaced station.old.place.config.now station.old.place.number (N.state node.new) }
+    ensures place { station.new.place ≡ station.old.place }
+    ensures sends { station.new.sends ≡ station.old.sends }
+{
+    match received {
+        Received::Datagram { from, count } => {
+            let act = node.hear(&station.place, from, &bytes[..count], now);
+            tell(&act, outside);
+        }
+        Received::Nothing => {}
+        Received::Failed => {
+            if station.receives.fail(now) {
+                outside.print(&Printed::Failed(SocketCall::Receive));
+            }
+        }
+    }
+}
+
+// Does what is due, but for a second after something that was due was refused.
+fn serve_due<N: Node, O: Endpoint + Lines>(
+    node: &mut N,
+    station: &mut Station,
+    now: u64,
+    outside: &mut O,
+)
+    requires bound { now ≤ max_moment }
+    requires placed { IsPlaced station.old.place.config.now station.old.place.number (N.state node.old) }
+    ensures serves { ServesDue Global station.old.place.config.now station.old.place.number (N.state node.old) (N.state node.new) now station.old.sends station.new.sends (O.seen outside.old) (O.seen outside.new) }
+    ensures placed { IsPlaced station.old.place.config.now station.old.place.number (N.state node.new) }
+    ensures place { station.new.place ≡ station.old.place }
+    ensures receives { station.new.receives ≡ station.old.receives }
+{
+    if station.sends.may_try(now) {
+        serve_all(node, station, now, outside);
+    }
+}
+
+// Does what is due, until nothing is or something is refused.
+fn serve_all<N: Node, O: Endpoint + Lines>(
+    node: &mut N,
+    station: &mut Station,
+    now: u64,
+    outside: &mut O,
+)
+    requires bound { now ≤ max_moment }
+    requires placed { IsPlaced station.old.place.config.now station.old.place.number (N.state node.old) }
+    ensures serves { ServesAll Global station.old.place.config.now station.old.place.number (N.state node.old) (N.state node.new) now station.old.sends station.new.sends (O.seen outside.old) (O.seen outside.new) }
+    ensures placed { IsPlaced station.old.place.config.now station.old.place.number (N.state node.new) }
+    ensures place { station.new.place ≡ station.old.place }
+    ensures receives { station.new.receives ≡ station.old.receives }
+{
+    for _ in 0..u64::MAX {
+        let Some(act) = node.serve(&station.place, now) else {
+            return;
+        };
+        if act.is_refused() {
+            if station.sends.fail(now) {
+                tell(&act, outside);
+            }
+            return;
+        }
+        tell(&act, outside);
+    }
+}
+
+// Prints the line of an act, and then sends its message. A socket that fails is a line, too.
+fn tell<O: Endpoint + Lines>(act: &Act, outside: &mut O)
+    ensures { Tells (O.seen outside.old) (O.seen outside.new) act.now }
+{
+    outside.print(&Printed::Event(act.line));
+    if let Some((to, message)) = &act.message {
+        if !outside.send(to, message.as_slice()) {
+            outside.print(&Printed::Failed(SocketCall::Send));
+        }
+    }
+}
+
+// After a socket failed, a second passes.
+fn rest<O: Clock>(received: Received, outside: &mut O)
+    ensures { (buffer : List ℕ) → Asks (O.seen outside.old) (O.seen outside.new) (rest_calls (reception received buffer)) }
+{
+    if let Received::Failed = received {
+        outside.wait(RETRY_MS);
+    }
+}

@@ -1,0 +1,5 @@
+pub mod Written
+pub mod Places
+pub mod Sending
+pub mod Names
+pub mod Bound

@@ -1,0 +1,52 @@
+-- What a node that runs prints.
+use Rattle.std.specs.Prelude.{◌≡◌, ◌⊎◌, ℕ, List, [], ◌∷◌, ◌++◌, take, codes, Option, Result, OnErr}
+use Rattle.std.specs.Fmt.{decimal}
+use Rattle.std.specs.Io.KnownBytes.{Appends}
+use Rattle.lisp_policy.specs.Configuration.{ConfigValue}
+use Rattle.lisp_lines.specs.Line.{line_text}
+use Rattle.lisp_lines.specs.declared.datagram_place.DatagramPlace.TheVariants.{Hidden}
+use Rattle.lisp_script.specs.RunFault.{numbered}
+use Rattle.lisp_script.specs.declared.run_fault.RunFault.{RunFault}
+use Rattle.lisp_turns.specs.declared.outside.Printed.{Printed}
+use Rattle.lisp_turns.specs.declared.outside.Printed.TheVariants as printed
+use Rattle.lisp_turns.specs.declared.outside.SocketCall.{SocketCall}
+use Rattle.lisp_turns.specs.declared.outside.SocketCall.TheVariants as calls
+
+-- the number of a call of a socket that failed
+abbrev pub number_of : SocketCall → ℕ
+number_of calls.Receive = 90
+number_of calls.Send = 91
+
+-- its line, by the node's name
+abbrev pub failed_text : List ℕ → SocketCall → List ℕ
+failed_text name call = codes "refused " ++ name ++ codes " " ++ decimal (number_of call) ++ 10 ∷ []
+
+-- the line of an event, without the number of its datagram; or of a socket that failed
+abbrev pub printed_text : ConfigValue → List ℕ → Printed → List ℕ
+printed_text config name (printed.Event line) = line_text config Hidden line
+printed_text config name (printed.Failed call) = failed_text name call
+
+-- a datagram didn't arrive
+abbrev pub lost_text : ℕ → List ℕ
+lost_text datagram = codes "lost " ++ decimal datagram ++ 10 ∷ []
+
+-- a line can't be written, or there is no memory for it
+abbrev pub IsPrintingFault : RunFault → Type 0
+IsPrintingFault fault = (fault ≡ numbered 88) ⊎ (fault ≡ numbered 97)
+
+-- a writer has what it had before, and a front of the bytes: none or all of them perhaps
+abbrev pub WroteSome : Option (List ℕ) → Option (List ℕ) → List ℕ → Type 0
+WroteSome before after bytes = (n : ℕ) × Appends before after (take n bytes)
+
+-- In what follows `contents` tells what a writer has.
+module _ {X E W : Type 0} where
+  -- at Err a front of the bytes went out, none or all of them perhaps
+  abbrev pub WritesSome : Result X E → (W → Option (List ℕ)) → W → W → List ℕ → Type 0
+  WritesSome result contents before after bytes = OnErr result (WroteSome (contents before) (contents after) bytes)
+
+-- a text of which something holds went out; or a front of such a text
+abbrev pub WritesTold : {W : Type 0} → (W → Option (List ℕ)) → W → W → (List ℕ → Type 0) → Type 0
+WritesTold contents before after Told = (text : List ℕ) × Told text × Appends (contents before) (contents after) text
+
+abbrev pub CutsTold : {W : Type 0} → (W → Option (List ℕ)) → W → W → (List ℕ → Type 0) → Type 0
+CutsTold contents before after Told = (text : List ℕ) × Told text × WroteSome (contents before) (contents after) text

@@ -1,0 +1,243 @@
+"""nodes.py: what the tests of `lispd server`, `router` and `loop` share (running.py and others): a folder and a network of its
+own for each test, processes and their lines, and the worked messages. A test is a function of a `Place`."""
+import contextlib
+import errno
+import functools
+import hashlib
+import hmac
+import os
+import signal
+import socket
+import subprocess
+import sys
+import tempfile
+import threading
+import time
+from concurrent.futures import ThreadPoolExecutor
+from pathlib import Path
+
+HERE = os.path.dirname(os.path.abspath(__file__))
+EXAMPLES = os.path.dirname(HERE) + "/examples"
+CONFIG = f"{EXAMPLES}/configuration.toml"
+MAP_NOTIFY = bytes.fromhex(Path(f"{EXAMPLES}/map-notify.hex").read_text())
+PORT = 4342
+# How long a test waits for what has to come, in seconds.
+LIMIT = 20
+# How many tests run at a time: most of what they do is waiting.
+AT_A_TIME = 16
+SITE, XTR = 1, 10
+
+program = os.path.abspath(sys.argv[1]) if sys.argv[1:] else ""
+# The folder of this run, and the front of its addresses.
+room = front = ""
+checks, failed, lock, now = 0, [], threading.Lock(), threading.local()
+
+
+def check(name, got, wanted):
+    """Counts a check, and prints it where it fails."""
+    global checks
+    with lock:
+        checks += 1
+        if got != wanted:
+            failed.append(name)
+            print(f"{now.test}: {name}: {got!r}, wanted {wanted!r}", flush=True)
+
+
+class Place:
+    """A test's folder, and its network: the configuration of the examples at addresses of its own."""
+
+    def __init__(self, folder, number):
+        self.folder, self.config = folder, f"{folder}/configuration.toml"
+        self.front = f"{front}.{number}."
+        self.s1, self.s2, self.r1, self.r2 = (f"{self.front}{last}" for last in (11, 12, 21, 22))
+        self.processes = []
+        Path(self.config).write_text(self.moved(Path(CONFIG).read_text()))
+
+    def moved(self, text):
+        """A text with the addresses of this network in the place of those of the examples."""
+        return text.replace("127.0.0.", self.front)
+
+    def words(self, kind, name, *more):
+        """The words that run a node in the folder."""
+        return (kind, self.config, name, "--store", self.folder, *more)
+
+    def file(self, name, kind, site=SITE, xtr=XTR, key=1):
+        """The path of a node's file of a pair: kind s (sent), r (received) or n (notice)."""
+        return Path(f"{self.folder}/{name}/{kind}-{site:016x}-{xtr:032x}-{key:02x}.nonce")
+
+    def start(self, *words, under=(), **how):
+        """Starts the program, under another one where words of such are given; its lines come by a pipe. It is killed when the
+        test ends."""
+        how = {"stdin": subprocess.DEVNULL, "stdout": subprocess.PIPE, "text": True, **how}
+        self.processes.append(subprocess.Popen([*under, program, *words], **how))
+        return self.processes[-1]
+
+    def answer(self, it, message, patience=LIMIT):
+        """What Map-Server s1 answers within so many seconds to a Map-Register; None where nothing comes."""
+        it.sendto(message, (self.s1, PORT))
+        end = time.monotonic() + patience
+        while (left := end - time.monotonic()) > 0:
+            it.settimeout(left)
+            try:
+                got = it.recv(65535)
+            except TimeoutError:
+                return None
+            if nonce_in(got) == nonce_in(message):
+                return got
+        return None
+
+
+def ran(*words, patience=LIMIT, **how):
+    """Runs the program to its end: its status, standard output and standard error. A word where it doesn't end in so many seconds."""
+    how = {"stdin": subprocess.DEVNULL, "stdout": subprocess.PIPE, "stderr": subprocess.PIPE, "text": True, "check": False, **how}
+    try:
+        done = subprocess.run([program, *words], timeout=patience, **how)
+    except subprocess.TimeoutExpired:
+        return "hangs"
+    return done.returncode, done.stdout, done.stderr
+
+
+def next_line(process, without=""):
+    """The next line that it prints, but for those that hold a text; None where it ends first, or is stopped at last."""
+    watch = threading.Timer(LIMIT, process.kill)
+    watch.start()
+    lines = (line.rstrip("\n") for line in process.stdout)
+    found = next((line for line in lines if not without or without not in line), None)
+    watch.cancel()
+    return found
+
+
+def killed(process):
+    """Kills a process as a crash does; what it had printed and nobody has read."""
+    process.send_signal(signal.SIGKILL)
+    lines = process.stdout.read().splitlines() if process.stdout else []
+    process.wait()
+    return lines
+
+
+def nonce_text(nonce):
+    return b"nonce %020d\n" % nonce
+
+
+def map_register(nonce, secret=b"secret", site=SITE, xtr=XTR, key=1):
+    """The worked Map-Register of router r1 under another nonce, secret, identity or key (RFC 9301 section 5.6)."""
+    front = bytes.fromhex("3a000101") + nonce.to_bytes(8, "big") + bytes([key]) + bytes.fromhex("020010")
+    behind = bytes.fromhex("000005a001101000000000010a0100000164ff0000050001c0000201") + xtr.to_bytes(16, "big") + site.to_bytes(8, "big")
+    tag = hmac.new(secret, front + bytes(16) + behind, hashlib.sha256).digest()[:16]
+    return front + tag + behind
+
+
+def nonce_in(message):
+    """The nonce of a message; 0 where there is no message."""
+    return int.from_bytes((message or b"")[4:12], "big")
+
+
+def nonces_in(lines):
+    """The nonces of the lines that tell of a Map-Register that was sent."""
+    return [int(line.split()[-1]) for line in lines if line.startswith("sent ")]
+
+
+def peer(address):
+    """A socket of ours at a node's address, UDP port 4342."""
+    it = socket.socket(socket.AF_INET6 if ":" in address else socket.AF_INET, socket.SOCK_DGRAM)
+    it.bind((address, PORT))
+    return it
+
+
+def received(it, patience):
+    """The datagrams that have come, and those that come until none does for so long, in seconds."""
+    found = []
+    it.settimeout(patience)
+    with contextlib.suppress(TimeoutError):
+        while True:
+            found.append(it.recv(65535))
+    return found
+
+
+def heard(*peers):
+    """The nonces of what has come at our sockets, in rising order."""
+    return sorted(nonce_in(message) for it in peers for message in received(it, 0.1))
+
+
+def until(is_so, patience=LIMIT):
+    """Whether a thing comes to be within so many seconds."""
+    end = time.monotonic() + patience
+    while time.monotonic() < end:
+        if is_so():
+            return True
+        time.sleep(0.005)
+    return is_so()
+
+
+def is_bound(address):
+    """Whether there is a socket at an address, UDP port 4342 (an IPv4 address; of an IPv6 address: whether there is one at all)."""
+    if ":" in address:
+        return f":{PORT:04X} " in Path("/proc/net/udp6").read_text()
+    return f" {socket.inet_aton(address)[::-1].hex().upper()}:{PORT:04X} " in Path("/proc/net/udp").read_text()
+
+
+def is_up(address):
+    """Whether a node that was just started has come to have its socket."""
+    return until(lambda: is_bound(address))
+
+
+@functools.cache
+def failing_library(room):
+    library = f"{room}/failing.so"
+    subprocess.run(["cc", "-O1", "-Wall", "-shared", "-fPIC", "-o", library, f"{HERE}/failing.c"], check=True)
+    return library
+
+
+def failing(call, at=1, path=""):
+    """The environment in which a call of a kind fails, of a file whose path ends so (see failing.c), and says `!` on standard
+    error: to be given as `env`."""
+    with lock:
+        library = failing_library(room)
+    return {**os.environ, "LD_PRELOAD": library, "FAILING_CALL": call, "FAILING_AT": str(at), "FAILING_PATH": path,
+            "FAILING_REPORT": "2"}
+
+
+def run_test(test, number):
+    """Runs a test in a folder of its own."""
+    folder, now.test = f"{room}/{test.__name__}", test.__name__
+    os.makedirs(folder)
+    place = Place(folder, number)
+    try:
+        test(place)
+    except (OSError, ValueError, TypeError, LookupError, subprocess.SubprocessError) as error:
+        check("its run", f"{error!r}, line {error.__traceback__.tb_next.tb_lineno}", "no error")
+    finally:
+        for process in place.processes:
+            killed(process)
+
+
+def free_front(name):
+    """The front of addresses that no run beside this one has, and the socket that keeps the others from it."""
+    for second in range(os.getpid(), os.getpid() + 200):
+        found = f"127.{1 + second % 250}"
+        try:
+            return found, peer(f"{found}.0.1")
+        except OSError as error:
+            if error.errno != errno.EADDRINUSE:
+                print(f"{name}: no socket at {found}.0.1, UDP port {PORT} ({error.strerror}): nothing was run on sockets")
+                sys.exit(0)
+    print(f"{name}: other runs have all addresses")
+    sys.exit(1)
+
+
+def run_tests(beside, alone=()):
+    """Runs tests beside each other, then others one by one, or those that the words name; ends the process."""
+    global room, front
+    name = os.path.basename(sys.argv[0])
+    front, keeper = free_front(name)
+    named = [(number, test) for number, test in enumerate([*beside, *alone], 1) if not sys.argv[2:] or test.__name__ in sys.argv[2:]]
+    with keeper, tempfile.TemporaryDirectory() as room:
+        with ThreadPoolExecutor(AT_A_TIME) as side:
+            for it in [side.submit(run_test, test, number) for number, test in named if test in beside]:
+                it.result()
+        for number, test in named:
+            if test in alone:
+                run_test(test, number)
+    if failed:
+        print(f"{name}: {checks} checks, {len(failed)} failed")
+    sys.exit(1 if failed else 0)
