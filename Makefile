@@ -6,9 +6,12 @@
 # make slips    plants wrong definitions: an example of theirs has to refuse each; NAME=lisp_client those of one list
 # make fuzz     plays schedules that are drawn: COUNT of them from SEED on, over out/lispd
 # make bench    measures the codec, the tag and registrations; and of out/lispd the reading of configurations, plays, and a server
+# make install  installs the program (out/lispd), its manual pages, completions, units and a sample: PREFIX=/usr/local, DESTDIR=
+# make uninstall removes these
+# make dist     packs them as out/lispd-VERSION.tar.gz. GATE=LOG names the log of a `make test`, whose closing lines go with them
 # make believe  counts the definitions that the contracts of `play`, `World::run` and `Server::receive` stand on
 # make clean    removes what was built
-.PHONY: run lispd demo test mutants slips fuzz bench believe clean
+.PHONY: run lispd demo test mutants slips fuzz bench install uninstall dist believe clean
 
 run:
 	@tools/run
@@ -43,6 +46,40 @@ bench: lispd
 	@cd crates/lisp_bench && rt run -- measure 2> ../../out/bench.log || { cat ../../out/bench.log >&2; exit 1; }
 	@tools/bench_play
 	@tools/bench_server
+
+PREFIX = /usr/local
+PROGRAM = out/lispd
+ROOT = $(DESTDIR)$(PREFIX)
+VERSION := $(shell sed -n 's/.*\.version("\(.*\)").*/\1/p' crates/lispd_cli/src/command_line.rt)
+PAGES = share/man/man1/lispd.1 share/man/man5/lispd.toml.5
+UNITS = lib/systemd/system/lispd-server@.service lib/systemd/system/lispd-router@.service
+COMPLETIONS = share/bash-completion/completions/lispd share/zsh/site-functions/_lispd
+SAMPLE = share/doc/lispd/examples/configuration.toml
+
+# $(call put,FILE,PATH,KIND): installs a file below PREFIX, with the version, the program's folder and the kind of a node filled in.
+put = install -D -m 644 $(1) $(ROOT)/$(2) && sed -i 's|@VERSION@|$(VERSION)|; s|@BINDIR@|$(PREFIX)/bin|; s|@KIND@|$(3)|' $(ROOT)/$(2)
+
+# Where the program is there it is installed as it is: what one user built another may install.
+out/lispd:
+	@tools/build
+
+install: $(PROGRAM)
+	@install -D -m 755 $(PROGRAM) $(ROOT)/bin/lispd
+	@$(call put,docs/lispd.1,share/man/man1/lispd.1)
+	@$(call put,docs/lispd.toml.5,share/man/man5/lispd.toml.5)
+	@$(call put,packaging/lispd@.service.in,lib/systemd/system/lispd-server@.service,server)
+	@$(call put,packaging/lispd@.service.in,lib/systemd/system/lispd-router@.service,router)
+	@$(call put,examples/configuration.toml,$(SAMPLE))
+	@tools/completions $(PROGRAM) $(ROOT)/share
+
+uninstall:
+	@cd $(ROOT) && rm -f bin/lispd $(PAGES) $(UNITS) $(COMPLETIONS) $(SAMPLE)
+	@cd $(ROOT)/share && if [ -d doc/lispd ]; then find doc/lispd -type d -empty -delete; fi
+
+dist: $(PROGRAM)
+	@rm -rf out/dist
+	@$(MAKE) -s install DESTDIR=out/dist
+	@tools/dist out/dist$(PREFIX) $(VERSION) $(GATE)
 
 believe:
 	@tools/believe lisp_player::play lisp_world::World::run lisp_server::Server::receive

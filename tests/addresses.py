@@ -74,12 +74,18 @@ def answers_go_to_their_source(here, stranger):
             check("from another port", (nonce_in(answer), source[1]), (5, PORT))
             check("its sender's address", ip(source[0]), ip(here.s1))
             check("no other answer", [heard(it, 0.05) for it in (r1, r2, other, s2, another)], [[]] * 5)
-    check("its lines", killed(process), [f"accepted s1 r1 key 1 nonce {nonce}" for nonce in range(1, 6)])
+    check("its lines", killed(process), [f"accepted s1 r1 key 1 nonce {nonce} from {told(address)}" for nonce, address
+                                         in enumerate((here.r1, here.r2, stranger, here.s2, stranger), 1)])
 
 
 def ip(address):
     """An address as bytes, of either family."""
     return socket.inet_pton(socket.AF_INET6 if ":" in address else socket.AF_INET, address)
+
+
+def told(address):
+    """An address as lines have it: each group of an IPv6 address with four digits."""
+    return ":".join(group.zfill(4) for group in address.split(":")) if ":" in address else address
 
 
 def an_answer_goes_to_its_source(here):
@@ -108,9 +114,9 @@ def nodes_register(here):
         message, source = s2.recvfrom(65535)
         check("the Map-Register", (message, ip(source[0]), source[1]), (map_register(2), ip(here.r1), PORT))
         check("the router", [next_line(router) for _ in range(3)],
-              ["sent r1 s1 key 1 nonce 1", "sent r1 s2 key 1 nonce 2", "counted r1 s1 key 1 nonce 1"])
+              ["sent r1 s1 key 1 nonce 1", "sent r1 s2 key 1 nonce 2", f"counted r1 s1 key 1 nonce 1 from {told(here.s1)}"])
         check("to no other", heard(r2, 0.05), [])
-    check("the Map-Server", killed(server), ["accepted s1 r1 key 1 nonce 1"])
+    check("the Map-Server", killed(server), [f"accepted s1 r1 key 1 nonce 1 from {told(here.r1)}"])
 
 
 def a_router_registers(here):
@@ -132,8 +138,8 @@ def a_map_server_of_the_other_family(here):
         s2.settimeout(LIMIT)
         check("to the next", [nonce_in(s2.recv(65535)), nonce_in(s2.recv(65535))], [2, 4])
         check("its lines", [next_line(process) for _ in range(6)],
-              ["sent r1 s1 key 1 nonce 1", "refused r1 91", "sent r1 s2 key 1 nonce 2",
-               "sent r1 s1 key 1 nonce 3", "refused r1 91", "sent r1 s2 key 1 nonce 4"])
+              ["sent r1 s1 key 1 nonce 1", "refused r1 91 NetworkUnreachable", "sent r1 s2 key 1 nonce 2",
+               "sent r1 s1 key 1 nonce 3", "refused r1 91 NetworkUnreachable", "sent r1 s2 key 1 nonce 4"])
 
 
 def each_node_is_itself(here):
@@ -149,8 +155,8 @@ def each_node_is_itself(here):
         message, source = s1.recvfrom(65535)
         check("who sent it", (source, message[-24:]), ((here.r2, PORT), (XTR + 1).to_bytes(16, "big") + SITE.to_bytes(8, "big")))
         check("the router", [next_line(router) for _ in range(3)],
-              ["sent r11 s11 key 1 nonce 1", "sent r11 s1 key 1 nonce 2", "counted r11 s11 key 1 nonce 1"])
-        check("the Map-Server", next_line(server), "accepted s11 r11 key 1 nonce 1")
+              ["sent r11 s11 key 1 nonce 1", "sent r11 s1 key 1 nonce 2", f"counted r11 s11 key 1 nonce 1 from {here.s2}"])
+        check("the Map-Server", next_line(server), f"accepted s11 r11 key 1 nonce 1 from {here.r2}")
     check("their folders", sorted(os.listdir(here.folder)), ["configuration.toml", "r11", "s11"])
 
 
@@ -184,9 +190,9 @@ def what_goes_over_the_wire(here):
         server = here.start(*here.words("server", "s1"))
         is_up(here.s1)
         router = here.start(*here.words("router", "r1"), env=slower())
-        check("it is counted", [next_line(router) for _ in range(3)][2], "counted r1 s1 key 1 nonce 1")
+        check("it is counted", [next_line(router) for _ in range(3)][2], f"counted r1 s1 key 1 nonce 1 from {here.s1}")
         killed(router)
-        check("it is accepted", killed(server), ["accepted s1 r1 key 1 nonce 1"])
+        check("it is accepted", killed(server), [f"accepted s1 r1 key 1 nonce 1 from {here.r1}"])
     to_s2 = (here.r1, here.s2, map_register(2))
     check("to both Map-Servers", to_s2 in found, True)
     check("what they send", [it for it in found if it != to_s2], exchange)

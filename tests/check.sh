@@ -3,7 +3,8 @@
 # Runs the program (out/lispd, where none is named) over the cases of answers.txt, the schedules, the lines of
 # refused.txt, files that can't be read or written, bytes that were changed (changed.py), beside a plain list of rows
 # (rows.py), with calls that fail (failing.py), over schedules that are drawn (fuzz.py), and on sockets and files
-# (running.py, devices.py, folders.py, timing.py, addresses.py). Prints each run that differs from what is wanted, and ends with 1 where one does.
+# (running.py, devices.py, folders.py, timing.py, addresses.py, output.py), and of what is installed (packaging.py). Prints each run that
+# differs from what is wanted, and ends with 1 where one does.
 case ${1-} in
     '') program=../out/lispd ;;
     /*) program=$1 ;;
@@ -129,23 +130,74 @@ fills play $exchange.schedule
 fills --help
 fills --version
 
-expect 'a configuration that is checked' 0 @checked/example.txt '' check $configuration
-expect 'a configuration with every field' 0 @checked/full.txt '' check checked/full.toml
+expect 'a configuration that is checked' 0 @checked/example.txt '' check - < $configuration
 : > ../out/configuration.toml
-expect 'an empty configuration' 0 '' '' check ../out/configuration.toml
-sed 's/"0000000000000001"/"1"/' $configuration > ../out/configuration.toml
-expect 'a configuration with a fault' 2 \
-    'fault 22: site 1: site.id has a bad value: a Site-ID is a text of 16 hexadecimal digits, and a router'"'"'s is that of a site' \
-    'lispd: fault 22' check ../out/configuration.toml
-sed '0,/^address = /s/^secret = .*/&\n[[site.key]]\nid = 2\nsecret = ""/' $configuration > ../out/configuration.toml
-expect 'a configuration with a fault in the second key' 2 \
-    'fault 22: site 1, key 2: site.key.secret has a bad value: a secret is 1 to 256 bytes in hexadecimal digits' \
-    'lispd: fault 22' check ../out/configuration.toml
-expect 'a configuration that is not there' 1 '' 'lispd: fault 93' check no-such.toml
+expect 'an empty configuration' 0 'warning: no server and no router' '' check - < ../out/configuration.toml
+
+# Each configuration of checked/, with its warnings.
+for file in checked/*.toml; do
+    expect "$file" 0 "@${file%.toml}.txt" '' check - < "$file"
+done
+
+# Each line of faults.txt, by what it makes of the configuration.
+while IFS='|' read -r fault words edit; do
+    case $fault in
+        '#'* | '') continue ;;
+    esac
+    sed "$edit" $configuration > ../out/configuration.toml
+    "$program" check - < ../out/configuration.toml > ../out/stdout 2> ../out/stderr
+    status=$?
+    runs=$((runs + 1))
+    [ $status = 2 ] && [ ! -s ../out/stdout ] && [ "$(sed -n 1p ../out/stderr)" = "lispd: fault $fault" ] &&
+        case "$(sed -n '2,$p' ../out/stderr)" in "lispd check -: $words"*) ;; *) false ;; esac ||
+        differs "faults.txt: $edit" "2, '', 'lispd: fault $fault', 'lispd check -: $words'"
+done < checked/faults.txt
+
+# A file that others can read; --strict.
+cp $configuration ../out/configuration.toml
+chmod 600 ../out/configuration.toml
+expect 'a file of its owner alone' 0 @checked/example.txt '' check ../out/configuration.toml
+expect 'no warning, with --strict' 0 @checked/example.txt '' check --strict ../out/configuration.toml
+{ cat checked/example.txt && echo 'warning: others can read the file, and it holds secrets'; } > ../out/wanted
+for mode in 640 604; do
+    chmod $mode ../out/configuration.toml
+    expect "a file of mode $mode" 0 @../out/wanted '' check ../out/configuration.toml
+done
+expect 'a warning, with --strict' 2 @../out/wanted 'lispd: fault 25
+lispd check ../out/configuration.toml --strict: the configuration has warnings, and --strict was given' \
+    check ../out/configuration.toml --strict
+expect 'a configuration that is not there' 1 '' "lispd: fault 93
+lispd check no-such.toml: the file can't be opened" check no-such.toml
+printf '\377' > ../out/configuration.toml
+expect 'a configuration that is not UTF-8' 2 '' 'lispd: fault 95
+lispd check -: the input is not UTF-8' check - < ../out/configuration.toml
+
 expect 'every number explained' 0 @../docs/REFUSALS.md '' explain
 expect 'a number explained' 0 '*' '' explain 57
-expect 'a number of nothing' 2 '' 'lispd: fault 98' explain 69
-expect 'no number' 2 '' 'lispd: fault 98' explain x
+"$program" explain 57 > ../out/wanted
+expect 'a line explained' 0 @../out/wanted '' explain 57 saved 3
+expect 'a line explained, in one word' 0 @../out/wanted '' explain '57 saved 3'
+{ "$program" explain 56 && "$program" explain 30; } > ../out/wanted
+expect 'a line with a fault explained' 0 @../out/wanted '' explain 56 store 30
+{ "$program" explain 50 && "$program" explain 15 && "$program" explain 3; } > ../out/wanted
+expect 'a line with two faults explained' 0 @../out/wanted '' explain 50 read 15 record 0 fault 3
+for line in 69 x '' '57 saved' '57 saved x' '57 58' '57 store 69' '57 saves 3' 65536; do
+    expect "no line: '$line'" 2 '' 'lispd: fault 98' explain "$line"
+done
+
+expect 'a fault in words' 1 '' "lispd: fault 93
+lispd play no-such.schedule --words: the file can't be opened" play no-such.schedule --words
+expect 'a fault in words, asked for first' 1 '' "lispd: fault 93
+lispd --words play no-such.schedule: the file can't be opened" --words play no-such.schedule
+expect 'a bad value in words' 2 '' 'lispd: fault 98
+lispd: bad value for --key. Key ID: a decimal number from 0 to 255, such as 1 (the default)' answer --words --key 256
+expect 'a fault in words, without a subcommand' 1 '' "lispd: fault 87
+lispd: standard input can't be read" --words < .
+for node in 'server s1' 'router r1'; do
+    set -- $node
+    expect "$1 with --known and --turns" 2 '' "lispd: fault 98
+lispd: --known isn't taken with --turns" "$1" $configuration "$2" --store ../out/no-such --known --turns 1 --words
+done
 
 # parts COUNT WANTED: checks a configuration whose first router has so many records, of which WANTED tells the parts.
 parts() {
@@ -192,5 +244,7 @@ expect 'a database of 17 parts' 2 '' 'lispd: fault 84 line 1' play ../out/schedu
 ./folders.py "$program" || failed=1
 ./timing.py "$program" || failed=1
 ./addresses.py "$program" || failed=1
+./output.py "$program" || failed=1
+./packaging.py "$program" || failed=1
 
 exit $failed

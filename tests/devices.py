@@ -5,7 +5,7 @@ of files, folders and sockets that fail (failing.c). Prints each check that fail
 import re
 import shutil
 from pathlib import Path
-from subprocess import STDOUT, run
+from subprocess import DEVNULL, STDOUT, run
 
 from nodes import (LIMIT, PORT, XTR, check, failing, heard, is_up, killed, map_register, next_line, nonce_in, nonce_text, nonces_in, peer,
                    ran, run_tests)
@@ -14,6 +14,8 @@ from nodes import (LIMIT, PORT, XTR, check, failing, heard, is_up, killed, map_r
 NEW, FILE, FOLDER = ".nonce.new", ".nonce", "/NAME"
 UNDONE = [("look", NEW), ("open", NEW), ("write", NEW), ("sync", NEW), ("rename", FILE)]
 IN_DOUBT = [("renamed", FILE), ("open", FOLDER), ("sync", FOLDER)]
+# The word for the error with which they fail.
+EIO = "Uncategorized"
 
 
 # The order of system calls.
@@ -126,17 +128,18 @@ def a_map_server_whose_save_fails(call, path, is_kept):
         is_up(here.s1)
         with peer(here.r1) as it:
             check("no answer", here.answer(it, map_register(7), 0.2), None)
-            check("it is told", next_line(process), "!refused s1 59 store 30")
+            check("it is told", next_line(process), f"!refused s1 59 store 30 {EIO} from {here.r1}")
             check("what is kept", here.file("s1", "r").exists(), is_kept)
             check("the same again", here.answer(it, map_register(7), 0.2 if is_kept else LIMIT) is None, is_kept)
-            check("its line", next_line(process), "refused s1 57 saved 7" if is_kept else "accepted s1 r1 key 1 nonce 7")
+            line = "refused s1 57 saved 7" if is_kept else "accepted s1 r1 key 1 nonce 7"
+            check("its line", next_line(process), f"{line} from {here.r1}")
             check("it goes on", nonce_in(here.answer(it, map_register(8))), 8)
         killed(process)
         after = here.start(*here.words("server", "s1"))
         is_up(here.s1)
         with peer(here.r1) as it:
             it.sendto(map_register(8), (here.s1, PORT))
-            check("a replay after a crash", next_line(after), "refused s1 57 saved 8")
+            check("a replay after a crash", next_line(after), f"refused s1 57 saved 8 from {here.r1}")
     return as_test(test, f"a_map_server_whose_{call}_of_{path.strip('./').replace('.', '_')}_fails")
 
 
@@ -168,9 +171,9 @@ def a_load_that_fails(here):
         is_up(here.s1)
         with peer(here.r1) as it:
             check("no answer", here.answer(it, map_register(9), 0.2), None)
-            check(f"{call} fails", next_line(process), "!refused s1 56 store 30")
+            check(f"{call} fails", next_line(process), f"!refused s1 56 store 30 {EIO} from {here.r1}")
             it.sendto(map_register(7), (here.s1, PORT))
-            check("a replay", next_line(process), "refused s1 57 saved 7")
+            check("a replay", next_line(process), f"refused s1 57 saved 7 from {here.r1}")
         killed(process)
     check("its file", file.read_bytes(), nonce_text(7))
 
@@ -193,12 +196,12 @@ def a_map_server_s_socket_whose_call_fails(here):
     is_up(here.s1)
     with peer(here.r1) as it:
         check("no answer", here.answer(it, map_register(1), 0.2), None)
-        check("it is accepted", next_line(process), "accepted s1 r1 key 1 nonce 1")
-        check("it is told", next_line(process), "!refused s1 91")
+        check("it is accepted", next_line(process), f"accepted s1 r1 key 1 nonce 1 from {here.r1}")
+        check("it is told", next_line(process), f"!refused s1 91 {EIO}")
         check("it goes on", nonce_in(here.answer(it, map_register(2))), 2)
         killed(process)
-        process = here.start(*here.words("server", "s1"), env=failing("receive"), stderr=STDOUT)
-        check("a receive fails", next_line(process), "!refused s1 90")
+        process = here.start(*here.words("server", "s1"), env=failing("receive"), stderr=DEVNULL)
+        check("a receive fails", next_line(process), f"refused s1 90 {EIO}")
         check("and the next doesn't", nonce_in(here.answer(it, map_register(3))), 3)
 
 

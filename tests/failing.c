@@ -18,6 +18,7 @@
  *   receive    a datagram can't be received (EIO)
  *   receives   a datagram can't be received, nor any after it
  *   disturb    a receive is interrupted (EINTR)
+ * Where FAILING_ERROR is given, a number of <errno.h>, calls fail with that error in the place of EIO.
  * Where FAILING_PATH is given, those calls alone count that are of a file or folder whose path ends with it; of a rename it is
  * the new path. Once the call failed, the byte '!' is written to file descriptor FAILING_REPORT. Calls count once main began.
  * A read of standard input behind its end fails in any case (EIO). */
@@ -33,11 +34,12 @@
 #include <sys/socket.h>
 #include <sys/stat.h>
 #include <sys/syscall.h>
+#include <sys/uio.h>
 #include <unistd.h>
 
 static const char *kind = "", *path = "";
 static long at, count;
-static int report = -1;
+static int report = -1, error = EIO;
 
 /* Before the libraries' own constructors are done nothing is counted: kind is empty. */
 __attribute__((constructor)) static void begin(void)
@@ -49,6 +51,8 @@ __attribute__((constructor)) static void begin(void)
     report = atoi(to);
     if (getenv("FAILING_PATH"))
         path = getenv("FAILING_PATH");
+    if (getenv("FAILING_ERROR"))
+        error = atoi(getenv("FAILING_ERROR"));
     kind = call;
 }
 
@@ -113,9 +117,9 @@ void *memalign(size_t align, size_t size)
     return aligned_alloc(align, size);
 }
 
-static int failed(int error)
+static int failed(int why)
 {
-    errno = error;
+    errno = why;
     return -1;
 }
 
@@ -142,7 +146,9 @@ ssize_t read(int from, void *into, size_t length)
 {
     static int unready, ended;
     int counts = is_meant(from);
-    if ((counts && fails("read")) || (ended && from == STDIN_FILENO))
+    if (counts && fails("read"))
+        return failed(error);
+    if (ended && from == STDIN_FILENO)
         return failed(EIO);
     unready = unready || fails("unready");
     int early = precedes("early");
@@ -159,15 +165,25 @@ ssize_t write(int to, const void *from, size_t length)
 {
     int counts = is_meant(to);
     if (counts && fails("write"))
-        return failed(EIO);
+        return failed(error);
     if (counts && length > 1 && fails("short"))
         length = 1;
     return syscall(SYS_write, to, from, length);
 }
 
+ssize_t writev(int to, const struct iovec *parts, int number)
+{
+    int counts = is_meant(to);
+    if (counts && fails("write"))
+        return failed(error);
+    if (counts && parts->iov_len > 1 && fails("short"))
+        return syscall(SYS_write, to, parts->iov_base, 1);
+    return syscall(SYS_writev, to, parts, number);
+}
+
 int statx(int folder, const char *restrict name, int flags, unsigned mask, struct statx *restrict into)
 {
-    return is_named(name) && fails("look") ? failed(EIO) : syscall(SYS_statx, folder, name, flags, mask, into);
+    return is_named(name) && fails("look") ? failed(error) : syscall(SYS_statx, folder, name, flags, mask, into);
 }
 
 int openat(int folder, const char *name, int flags, ...)
@@ -177,7 +193,7 @@ int openat(int folder, const char *name, int flags, ...)
     mode_t mode = va_arg(words, mode_t);
     va_end(words);
     if (is_named(name) && fails("open"))
-        return failed(EIO);
+        return failed(error);
     return syscall(SYS_openat, folder, name, flags, mode);
 }
 
@@ -195,20 +211,20 @@ int openat64(int folder, const char *name, int flags, ...) __attribute__((alias(
 
 int fsync(int file)
 {
-    return is_meant(file) && fails("sync") ? failed(EIO) : syscall(SYS_fsync, file);
+    return is_meant(file) && fails("sync") ? failed(error) : syscall(SYS_fsync, file);
 }
 
 int fdatasync(int file)
 {
-    return is_meant(file) && fails("sync") ? failed(EIO) : syscall(SYS_fdatasync, file);
+    return is_meant(file) && fails("sync") ? failed(error) : syscall(SYS_fdatasync, file);
 }
 
 int renameat2(int from, const char *old, int to, const char *name, unsigned flags)
 {
     if (is_named(name) && fails("rename"))
-        return failed(EIO);
+        return failed(error);
     int done = syscall(SYS_renameat2, from, old, to, name, flags);
-    return is_named(name) && fails("renamed") ? failed(EIO) : done;
+    return is_named(name) && fails("renamed") ? failed(error) : done;
 }
 
 int renameat(int from, const char *old, int to, const char *name)
@@ -237,24 +253,24 @@ static int unreceived(void)
 
 ssize_t sendto(int to, const void *from, size_t length, int flags, const struct sockaddr *address, socklen_t size)
 {
-    return unsent() ? failed(EIO) : syscall(SYS_sendto, to, from, length, flags, address, size);
+    return unsent() ? failed(error) : syscall(SYS_sendto, to, from, length, flags, address, size);
 }
 
 ssize_t sendmsg(int to, const struct msghdr *message, int flags)
 {
-    return unsent() ? failed(EIO) : syscall(SYS_sendmsg, to, message, flags);
+    return unsent() ? failed(error) : syscall(SYS_sendmsg, to, message, flags);
 }
 
 ssize_t recvfrom(int from, void *into, size_t length, int flags, struct sockaddr *address, socklen_t *size)
 {
     if (fails("disturb"))
         return failed(EINTR);
-    return unreceived() ? failed(EIO) : syscall(SYS_recvfrom, from, into, length, flags, address, size);
+    return unreceived() ? failed(error) : syscall(SYS_recvfrom, from, into, length, flags, address, size);
 }
 
 ssize_t recvmsg(int from, struct msghdr *message, int flags)
 {
     if (fails("disturb"))
         return failed(EINTR);
-    return unreceived() ? failed(EIO) : syscall(SYS_recvmsg, from, message, flags);
+    return unreceived() ? failed(error) : syscall(SYS_recvmsg, from, message, flags);
 }

@@ -23,8 +23,8 @@ TOLD = re.compile(r"refused \S+ (?:36|48|58|66|(?:35|38|42|56|59|65|68) store 32
 UNSTARTED = re.compile(r"refused (\S+) (?:36|35 store 32)\n")
 # How a play ends where memory is refused and no node is asked: the configuration, the network, a line of the script, the rest.
 ENDED = re.compile(r"lispd: fault (?:24|75|76|86 line \d+|97)\n")
-# What `lispd check` prints of it.
-IN_WORDS = re.compile(r"fault (?:24|97): (?:\S+ \d+(?:, \S+ \d+)?: )?out of memory.*\n")
+# What `lispd check` tells of it in words.
+IN_WORDS = re.compile(r"lispd check \S+: (?:\S+ \S+(?:, \S+ \d+)?: )?out of memory.*\n")
 # How many reads are never ready: each is tried two million times.
 UNREADY = 3
 # How often an input is read at most, a byte at a time, the reads that were interrupted among them.
@@ -133,9 +133,9 @@ def refuse_text(folder, words):
     """What the program prints of itself or of a file is the same, or whole lines of it and the fault."""
     printed = subprocess.run([program, *words], capture_output=True, text=True, timeout=LIMIT, check=False).stdout
     for at, (status, output, error) in each(folder, "growth", words, b""):
-        front = IN_WORDS.sub("", output)
-        is_front = printed.startswith(front) and (not front or front.endswith("\n"))
-        if (status, output, error) != (0, printed, "") and not (status == 1 and ENDED.fullmatch(error) and is_front):
+        is_front = printed.startswith(output) and (not output or output.endswith("\n"))
+        is_ended = status == 1 and ENDED.fullmatch(IN_WORDS.sub("", error))
+        if (status, output, error) != (0, printed, "") and not (is_ended and is_front):
             wrong(f"lispd {' '.join(words)}", "growth", at, (status, output, error))
 
 

@@ -124,13 +124,10 @@ def things_in_the_place_of_a_map_server_s_file(here):
             is_up(here.s1)
             with peer(here.r1) as it:
                 check(f"{thing.__name__}, file{end}: no answer", here.answer(it, map_register(9), 0.1), None)
-                watch = process.stdout
-                ready = select.select([watch], [], [], AT_ONCE)[0]
-                check(f"{thing.__name__}, file{end}", next_line(process) if ready else "hangs", f"refused s1 {told} store 30")
-                if ready:
-                    removed(here.file("s1", "r"))
-                    removed(path)
-                    check("it goes on", here.answer(it, map_register(9), AT_ONCE) is not None, True)
+                check(f"{thing.__name__}, file{end}", next_line(process), f"refused s1 {told} store 30 InvalidInput from {here.r1}")
+                removed(here.file("s1", "r"))
+                removed(path)
+                check("it goes on", here.answer(it, map_register(9), AT_ONCE) is not None, True)
             killed(process)
 
 
@@ -153,21 +150,19 @@ def a_file_that_may_not_be_read(here):
 
 
 def a_full_output(here):
-    """A line that can't be printed ends a node, once the message behind it is sent, and all that is due with it."""
+    """With --turns a line that can't be printed ends a node, once the message behind it is sent, and all that is due with it."""
     fault = "lispd: fault 88\n"
     with open("/dev/full", "w", encoding="ascii") as full, peer(here.s1) as first, peer(here.s2) as second:
-        for nonce, turns in ((1, ["--turns", "9"]), (3, [])):
-            check("a router", ran(*here.words("router", "r1", *turns), stdout=full), (1, None, fault))
-            check("what it sends", heard(first, second), [nonce, nonce + 1])
-    for nonce, turns in ((1, ["--turns", "200"]), (2, [])):
-        with open("/dev/full", "w", encoding="ascii") as full, open(f"{here.folder}/error", "w+", encoding="ascii") as error:
-            process = here.start(*here.words("server", "s1", *turns), stdout=full, stderr=error)
-            is_up(here.s1)
-            with peer(here.r1) as it:
-                check("a Map-Server answers", nonce_in(here.answer(it, map_register(nonce), AT_ONCE)), nonce)
-            check("and ends", (until(lambda: process.poll() is not None), process.returncode), (True, 1))
-            error.seek(0)
-            check("its fault", error.read(), fault)
+        check("a router", ran(*here.words("router", "r1", "--turns", "9"), stdout=full), (1, None, fault))
+        check("what it sends", heard(first, second), [1, 2])
+    with open("/dev/full", "w", encoding="ascii") as full, open(f"{here.folder}/error", "w+", encoding="ascii") as error:
+        process = here.start(*here.words("server", "s1", "--turns", "200"), stdout=full, stderr=error)
+        is_up(here.s1)
+        with peer(here.r1) as it:
+            check("a Map-Server answers", nonce_in(here.answer(it, map_register(1), AT_ONCE)), 1)
+        check("and ends", (until(lambda: process.poll() is not None), process.returncode), (True, 1))
+        error.seek(0)
+        check("its fault", error.read(), fault)
     Path(f"{here.folder}/script").write_text("send r1 s1\n")
     with open("/dev/full", "w", encoding="ascii") as full:
         check("a loop", ran("loop", here.config, f"{here.folder}/script", "--store", f"{here.folder}/loop", stdout=full),
@@ -175,12 +170,12 @@ def a_full_output(here):
 
 
 def a_line_that_fails_once(here):
-    """It ends a node as a full output does, and no line is printed behind it, though the next one could be."""
+    """With --turns it ends a node as a full output does, and no line is printed behind it, though the next one could be."""
     with peer(here.s1) as first, peer(here.s2) as second:
-        check("a router", ran(*here.words("router", "r1"), env=failing("write", 1, PIPE)),
+        check("a router", ran(*here.words("router", "r1", "--turns", "9"), env=failing("write", 1, PIPE)),
               (1, "", "!lispd: fault 88\n"))
         check("what it sends", heard(first, second), [1, 2])
-    process = here.start(*here.words("server", "s1"), env=failing("write", 1, PIPE), stderr=STDOUT)
+    process = here.start(*here.words("server", "s1", "--turns", "200"), env=failing("write", 1, PIPE), stderr=STDOUT)
     is_up(here.s1)
     with peer(here.r1) as it:
         check("a Map-Server answers", nonce_in(here.answer(it, map_register(1))), 1)
@@ -188,7 +183,7 @@ def a_line_that_fails_once(here):
 
 
 def a_reader_that_left(here):
-    """A pipe that nobody reads any more is an output that is full."""
+    """With --turns a pipe that nobody reads any more is an output that is full."""
     read, write = os.pipe()
     os.close(read)
     check("a router", ran(*here.words("router", "r1", "--turns", "9"), stdout=write), (1, None, "lispd: fault 88\n"))
@@ -290,10 +285,12 @@ def a_map_server_keeps_pairs_apart(here):
               sorted(["lock", *(here.file("s1", "r", *pair).name for pair in PAIRS)]))
         process = here.start(*here.words("server", "s1"))
         is_up(here.s1)
-        for pair, message in zip(PAIRS, messages):
+    # (each from an address of its own: refusals of one number and one source are summed)
+    for number, (pair, message) in enumerate(zip(PAIRS, messages), 100):
+        with peer(f"{here.front}{number}") as it:
             it.sendto(message, (here.s1, PORT))
-            check(f"pair {pair} again", next_line(process), "refused s1 57 saved 5")
-        check("no answer", received(it, 0.1), [])
+            check(f"pair {pair} again", next_line(process), f"refused s1 57 saved 5 from {here.front}{number}")
+            check("no answer", received(it, 0.01), [])
 
 
 def routers_keep_pairs_apart(here):
@@ -318,9 +315,10 @@ def lines_come_at_once(here):
     first = here.start(*here.words("router", "r1"), stdout=theirs)
     os.close(theirs)
     shown = b""
-    while shown.count(b"\n") < 2 and select.select([ours], [], [], LIMIT)[0]:
+    while shown.count(b"\n") < 3 and select.select([ours], [], [], LIMIT)[0]:
         shown += os.read(ours, 65535)
-    check("a router on a terminal", shown.decode().split("\r\n"), ["sent r1 s1 key 1 nonce 1", "sent r1 s2 key 1 nonce 2", ""])
+    check("a router on a terminal", shown.decode().split("\r\n"),
+          ["started r1 nonces none", "sent r1 s1 key 1 nonce 1", "sent r1 s2 key 1 nonce 2", ""])
     killed(first)
     os.close(ours)
     process = here.start(*here.words("router", "r2"))
@@ -332,8 +330,11 @@ def lines_come_at_once(here):
     is_up(here.s1)
     with peer(here.s2) as it:
         check("a Map-Server on a terminal", here.answer(it, map_register(1)), MAP_NOTIFY)
-        check("its line", os.read(ours, 65535) if select.select([ours], [], [], LIMIT)[0] else b"",
-              b"accepted s1 r1 key 1 nonce 1\r\n")
+    shown = b""
+    while shown.count(b"\n") < 2 and select.select([ours], [], [], LIMIT)[0]:
+        shown += os.read(ours, 65535)
+    check("its lines", shown.decode().split("\r\n"),
+          ["started s1 nonces none", f"accepted s1 r1 key 1 nonce 1 from {here.s2}", ""])
     killed(third)
     os.close(ours)
 

@@ -25,6 +25,8 @@ PORT = 4342
 LIMIT = 20
 # How many tests run at a time: most of what they do is waiting.
 AT_A_TIME = 16
+# What the first line of a node that runs without an end begins with.
+STARTED = "started "
 SITE, XTR = 1, 10
 
 program = os.path.abspath(sys.argv[1]) if sys.argv[1:] else ""
@@ -97,20 +99,24 @@ def ran(*words, patience=LIMIT, **how):
     return done.returncode, done.stdout, done.stderr
 
 
-def next_line(process, without=""):
-    """The next line that it prints, but for those that hold a text; None where it ends first, or is stopped at last."""
+def unstarted(lines):
+    """Lines without their line feeds, and without the first one of a node that runs without an end."""
+    return (line.rstrip("\n") for line in lines if not line.startswith(STARTED))
+
+
+def next_line(process):
+    """The next line that it prints, but for the one that it starts with; None where it ends first, or is stopped at last."""
     watch = threading.Timer(LIMIT, process.kill)
     watch.start()
-    lines = (line.rstrip("\n") for line in process.stdout)
-    found = next((line for line in lines if not without or without not in line), None)
+    found = next(unstarted(process.stdout), None)
     watch.cancel()
     return found
 
 
 def killed(process):
-    """Kills a process as a crash does; what it had printed and nobody has read."""
+    """Kills a process as a crash does; what it had printed and nobody has read, but for the line that it starts with."""
     process.send_signal(signal.SIGKILL)
-    lines = process.stdout.read().splitlines() if process.stdout else []
+    lines = list(unstarted(process.stdout)) if process.stdout else []
     process.wait()
     return lines
 
@@ -188,13 +194,13 @@ def failing_library(room):
     return library
 
 
-def failing(call, at=1, path=""):
-    """The environment in which a call of a kind fails, of a file whose path ends so (see failing.c), and says `!` on standard
-    error: to be given as `env`."""
+def failing(call, at=1, path="", error=errno.EIO):
+    """The environment in which a call of a kind fails with an error, of a file whose path ends so (see failing.c), and says `!` on
+    standard error: to be given as `env`."""
     with lock:
         library = failing_library(room)
     return {**os.environ, "LD_PRELOAD": library, "FAILING_CALL": call, "FAILING_AT": str(at), "FAILING_PATH": path,
-            "FAILING_REPORT": "2"}
+            "FAILING_ERROR": str(error), "FAILING_REPORT": "2"}
 
 
 def run_test(test, number):

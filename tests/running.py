@@ -87,8 +87,9 @@ def a_map_server_answers_once(here):
             it.sendto(message, (here.s1, PORT))
         check("the next", nonce_in(here.answer(it, map_register(2))), 2)
         check("no other answer", received(it, 0.3), [])
-    check("its lines", killed(process), ["accepted s1 r1 key 1 nonce 1", "refused s1 57 saved 1", "refused s1 53", "refused s1 50 read 1",
-                                         "refused s1 50 read 1", "accepted s1 r1 key 1 nonce 2"])
+    lines = ["accepted s1 r1 key 1 nonce 1", "refused s1 57 saved 1", "refused s1 53", "refused s1 50 read 1", "accepted s1 r1 key 1 nonce 2"]
+    check("its lines", [next_line(process) for _ in range(6)],
+          [f"{line} from {here.r1}" for line in lines] + [f"refused s1 50 from {here.r1} times 1"])
 
 
 def a_loop_prints_what_a_play_prints(here):
@@ -118,7 +119,7 @@ def nothing_is_accepted_again(here):
                     last = nonce
             lines = killed(process)
             received(it, 0.01)
-            accepted = [int(line.split()[-1]) for line in lines if line.startswith("accepted ")]
+            accepted = [int(line.split()[6]) for line in lines if line.startswith("accepted ")]
             check("accepted nonces rise", accepted, sorted(set(accepted)))
             last = max([last, *accepted])
             nonce += 1
@@ -162,15 +163,15 @@ def a_full_disk(here):
         is_up(here.s1)
         with peer(here.r1) as it:
             check("before the disk is full", here.answer(it, map_register(1)) is not None, True)
-            check("its line", next_line(process), "accepted s1 r1 key 1 nonce 1")
+            check("its line", next_line(process), f"accepted s1 r1 key 1 nonce 1 from {here.r1}")
             with open(f"{disk}/ballast", "wb", buffering=0) as file, contextlib.suppress(OSError):
                 while file.write(bytes(4096)):
                     pass
             it.sendto(map_register(2), (here.s1, PORT))
-            check("on a full disk", next_line(process), "refused s1 59 store 30")
+            check("on a full disk", next_line(process), f"refused s1 59 store 30 StorageFull from {here.r1}")
             os.remove(f"{disk}/ballast")
             it.sendto(map_register(2), (here.s1, PORT))
-            check("with room again", next_line(process), "accepted s1 r1 key 1 nonce 2")
+            check("with room again", next_line(process), f"accepted s1 r1 key 1 nonce 2 from {here.r1}")
         killed(process)
     finally:
         subprocess.run(["umount", "-l", disk], capture_output=True, check=False)

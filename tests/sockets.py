@@ -1,5 +1,5 @@
-"""sockets.py: what the tests of sockets and moments share (timing.py, addresses.py): a program whose socket calls are shown or held
-and whose clock goes at another speed (failing_sockets.c), and when what comes to our sockets."""
+"""sockets.py: what the tests of sockets and moments share (timing.py, addresses.py, output.py): a program whose socket calls are
+shown or held and whose clock goes at another speed (failing_sockets.c), and when what comes to our sockets."""
 import functools
 import hashlib
 import hmac

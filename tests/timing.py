@@ -17,6 +17,8 @@ from sockets import (SPEED, arrivals, check_below, check_gaps, faster, few, hear
                      slower)
 
 NOTICE = 2**63
+# The word for the error with which calls fail.
+EIO = "Uncategorized"
 # Where there is a disk in memory the folders are there: a busy one would delay what is sent.
 if os.path.isdir("/dev/shm"):
     tempfile.tempdir = "/dev/shm"
@@ -56,7 +58,8 @@ def an_answered_router_sends_a_minute_later(here):
         to_s1, to_s2 = arrivals([s1, s2], LIMIT, 7)
         check_gaps("answered once", [first, *to_s1][:4], [gap / speed for gap in (60, 1, 2)], 0.5)
         check_gaps("not answered", to_s2[:7], [gap / speed for gap in (1, 2, 4, 8, 16, 32)])
-        check("its line", [line for line in killed(process) if not line.startswith("sent ")], ["counted r1 s1 key 1 nonce 1"])
+        check("its line", [line for line in killed(process) if not line.startswith("sent ")],
+              [f"counted r1 s1 key 1 nonce 1 from {here.s1}"])
 
 
 def a_router_counts_and_refuses(here):
@@ -64,13 +67,16 @@ def a_router_counts_and_refuses(here):
         process = here.start(*here.words("router", "r1"), env=slower())
         check("it sends", [next_line(process), next_line(process)], ["sent r1 s1 key 1 nonce 1", "sent r1 s2 key 1 nonce 2"])
         taken = [(s1, map_notify(1), "counted r1 s1 key 1 nonce 1"), (s2, map_notify(2), "counted r1 s2 key 1 nonce 2"),
-                 (s1, b"junk", "refused r1 43 read 1"), (s1, b"", "refused r1 43 read 1"), (other, map_notify(1), "refused r1 44"),
+                 (s1, b"junk", "refused r1 43 read 1"), (s2, b"", "refused r1 43 read 1"), (other, map_notify(1), "refused r1 44"),
                  (s1, map_register(1), "refused r1 44"), (s1, map_notify(1, key=2), "refused r1 45"),
                  (s1, map_notify(1, secret=b"other"), "refused r1 46"), (s1, map_notify(2), "refused r1 47 latest 1"),
-                 (s2, map_notify(1), "refused r1 47 latest 2"), (s1, map_notify(NOTICE - 1), "refused r1 47 latest 1")]
+                 (s2, map_notify(1), "refused r1 47 latest 2")]
         for it, message, line in taken:
             it.sendto(message, (here.r1, PORT))
-            check("a Map-Notify", next_line(process), line)
+            check("a Map-Notify", next_line(process), f"{line} from {it.getsockname()[0]}")
+        # (it is summed with the other one that was refused by that number, at the end of the second)
+        s1.sendto(map_notify(NOTICE - 1), (here.r1, PORT))
+        check("another", next_line(process), f"refused r1 47 from {here.s1} times 1")
         sent = [nonce_in(message) for it in (s1, s2, other) for message in heard(it, 0.01)]
         check("nothing else was sent", sent, [1, 2])
         check("nothing more is sent", arrivals([s1, s2, other], 0.5), [[], [], []])
@@ -91,8 +97,9 @@ def a_router_answers_a_notice(here):
             it.sendto(message, (here.r1, PORT))
         check("no other answer", arrivals([s1, s2, other], 0.5), [[], [], []])
         lines = [line for line in killed(process) if line.startswith(("noticed", "refused"))]
-        check("its lines", lines, [f"noticed r1 s1 nonce {NOTICE}", f"noticed r1 s2 nonce {NOTICE + 7}", f"noticed r1 s1 nonce {2**64 - 1}",
-                                   *(f"refused r1 {number}" for _, _, number in wrong)])
+        check("its lines", lines, [f"noticed r1 s1 nonce {NOTICE} from {here.s1}", f"noticed r1 s2 nonce {NOTICE + 7} from {here.s2}",
+                                   f"noticed r1 s1 nonce {2**64 - 1} from {here.s1}",
+                                   *(f"refused r1 {number} from {it.getsockname()[0]}" for it, _, number in wrong)])
 
 
 def a_map_server_that_cannot_be_sent_to(here):
@@ -103,7 +110,7 @@ def a_map_server_that_cannot_be_sent_to(here):
         process = here.start(*here.words("router", "r1"))
         found, = arrivals([s2], LIMIT, 3)
         check_gaps("to the next Map-Server", found, [1, 2])
-        told = [(f"sent r1 s1 key 1 nonce {nonce}", "refused r1 91", f"sent r1 s2 key 1 nonce {nonce + 1}") for nonce in (1, 3, 5)]
+        told = [(f"sent r1 s1 key 1 nonce {nonce}", "refused r1 91 PermissionDenied", f"sent r1 s2 key 1 nonce {nonce + 1}") for nonce in (1, 3, 5)]
         check("its lines", [next_line(process) for _ in range(9)], [line for turn in told for line in turn])
 
 
@@ -132,7 +139,8 @@ def a_busy_router_sends(here):
             found += arrivals([s1], 0.02)[0]
         check_gaps("a busy router", found, [1, 2, 4])
         lines = killed(process)
-        check("what it refuses", {line for line in lines if not line.startswith("sent ")}, {"refused r2 43 read 1"})
+        check("what it refuses", {line.split(" times ")[0] for line in lines if not line.startswith("sent ")},
+              {f"refused r2 43 read 1 from {here.s2}", f"refused r2 43 from {here.s2}"})
 
 
 def check_turns(name, turns, printed, least, most, *words, **how):
@@ -174,8 +182,8 @@ def a_part_of_16384_bytes(here):
     is_up(here.s1)
     router = here.start(*here.words("router", "r1"), env=slower())
     check("it is sent", [next_line(router), next_line(router)], ["sent r1 s1 key 1 nonce 1", "sent r1 s2 key 1 nonce 2"])
-    check("it is accepted", next_line(server), "accepted s1 r1 key 1 nonce 1")
-    check("it is counted", next_line(router), "counted r1 s1 key 1 nonce 1")
+    check("it is accepted", next_line(server), f"accepted s1 r1 key 1 nonce 1 from {here.r1}")
+    check("it is counted", next_line(router), f"counted r1 s1 key 1 nonce 1 from {here.s1}")
 
 
 def a_database_of_three_parts(here):
@@ -189,8 +197,8 @@ def a_database_of_three_parts(here):
               [(5, bytes([10, 1, 0, 0])), (5, bytes([10, 1, 5, 0])), (1, bytes([10, 1, 10, 0]))])
     lines, parts = [next_line(router) for _ in range(9)], ("", " part 1", " part 2")
     check("they are sent", lines[:6], [f"sent r1 s{1 + at // 3} key 1 nonce {at + 1}{parts[at % 3]}" for at in range(6)])
-    check("and counted", lines[6:], [f"counted r1 s1 key 1 nonce {at + 1}{parts[at]}" for at in range(3)])
-    check("the Map-Server", killed(server), [f"accepted s1 r1 key 1 nonce {at + 1}" for at in range(3)])
+    check("and counted", lines[6:], [f"counted r1 s1 key 1 nonce {at + 1}{parts[at]} from {here.s1}" for at in range(3)])
+    check("the Map-Server", killed(server), [f"accepted s1 r1 key 1 nonce {at + 1} from {here.r1}" for at in range(3)])
 
 
 def the_largest_datagrams(here):
@@ -207,10 +215,12 @@ def the_largest_datagrams(here):
         it.setsockopt(socket.SOL_SOCKET, socket.SO_RCVBUF, 1 << 20)
         answer = here.answer(it, message) or b""
         check("its answer", (answer[:4].hex(), answer[32:] == message[32:-24]), ("40000018", True))
-        check("its line", next_line(process), "accepted s1 r1 key 1 nonce 1")
-        for junk, fault in ((bytes(65507), 10), (message + bytes(3), 14), (message[:-1], 1), (message[:16408], "15 record 5 fault 1")):
-            it.sendto(junk, (here.s1, PORT))
-            check(f"{len(junk)} bytes", next_line(process), f"refused s1 50 read {fault}")
+        check("its line", next_line(process), f"accepted s1 r1 key 1 nonce 1 from {here.r1}")
+        for number, (junk, fault) in enumerate(((bytes(65507), 10), (message + bytes(3), 14), (message[:-1], 1),
+                                                (message[:16408], "15 record 5 fault 1")), 100):
+            with peer(f"{here.front}{number}") as stranger:
+                stranger.sendto(junk, (here.s1, PORT))
+            check(f"{len(junk)} bytes", next_line(process), f"refused s1 50 read {fault} from {here.front}{number}")
         check("and the next", here.answer(it, map_register(2)), map_notify(2))
         check("no other answer", heard(it, 0.1), [])
 
@@ -225,14 +235,15 @@ def an_idle_node_waits(here):
     server = here.start(*here.words("server", "s1"))
     is_up(here.s1)
     router = here.start(*here.words("router", "r2"), env=slower())
-    check("the router is counted", [next_line(router), next_line(router)], ["sent r2 s1 key 1 nonce 1", "counted r2 s1 key 1 nonce 1"])
+    check("the router is counted", [next_line(router), next_line(router)],
+          ["sent r2 s1 key 1 nonce 1", f"counted r2 s1 key 1 nonce 1 from {here.s1}"])
     time.sleep(40)
     for name, process in (("the Map-Server", server), ("the router", router)):
         check(f"{name} is there", process.poll(), None)
         check_below(f"processor seconds of {name} in 40 s", processor_seconds(process), 0.5)
     with peer(here.r1) as it:
         check("the Map-Server answers", here.answer(it, map_register(1)), MAP_NOTIFY)
-    check("its lines", killed(server), ["accepted s1 r2 key 1 nonce 1", "accepted s1 r1 key 1 nonce 1"])
+    check("its lines", killed(server), [f"accepted s1 r2 key 1 nonce 1 from {here.r2}", f"accepted s1 r1 key 1 nonce 1 from {here.r1}"])
     check("the router's lines", killed(router), [])
 
 
@@ -247,7 +258,7 @@ def a_node_that_is_stopped_goes_on(here):
         time.sleep(0.05)
     with peer(here.r1) as it:
         check("it answers", here.answer(it, map_register(1)), MAP_NOTIFY)
-    check("its lines", killed(process), ["accepted s1 r1 key 1 nonce 1"])
+    check("its lines", killed(process), [f"accepted s1 r1 key 1 nonce 1 from {here.r1}"])
 
 
 def what_does_not_come_is_lost(here):
@@ -299,7 +310,7 @@ def a_loop_whose_socket_fails(here):
 def a_receive_that_always_fails(here):
     """It is told once a minute; the next receive waits a second."""
     process, calls = shown(here, here.words("server", "s1"), env=failing("receives"), stderr=subprocess.DEVNULL)
-    check("it is told", next_line(process), "refused s1 90")
+    check("it is told", next_line(process), f"refused s1 90 {EIO}")
     calls.recv(65535)
     time.sleep(3)
     tried = b"".join(heard(calls, 0.01)).count(b"r")
@@ -313,7 +324,7 @@ def a_router_sends_while_its_receives_fail(here):
         process = here.start(*here.words("router", "r2"), env=failing("receives"), stderr=subprocess.DEVNULL)
         found, = arrivals([s1], LIMIT, 3)
         check_gaps("receives fail", found, [1, 2], 1.3)
-        check("its lines", few(killed(process)), ["refused r2 90", *(f"sent r2 s1 key 1 nonce {nonce}" for nonce in (1, 2, 3))])
+        check("its lines", few(killed(process)), [f"refused r2 90 {EIO}", *(f"sent r2 s1 key 1 nonce {nonce}" for nonce in (1, 2, 3))])
 
 
 def what_fails_is_told_once_a_minute(here):
@@ -326,9 +337,10 @@ def what_fails_is_told_once_a_minute(here):
     fails = faster(failing("receives"))
     started = [here.start(*here.words("router", "r1"), env=faster()), here.start(*here.words("router", "r2"), env=faster()),
                here.start(*here.words("server", "s1"), env=fails, stderr=subprocess.DEVNULL)]
-    check("each is told", [next_line(it) for it in started], ["refused r1 41", "refused r2 42 store 30", "refused s1 90"])
+    lines = ["refused r1 41", "refused r2 42 store 30 InvalidInput", f"refused s1 90 {EIO}"]
+    check("each is told", [next_line(it) for it in started], lines)
     time.sleep(8)
-    check("and once more", [few(killed(it)) for it in started], [["refused r1 41"], ["refused r2 42 store 30"], ["refused s1 90"]])
+    check("and once more", [few(killed(it)) for it in started], [[line] for line in lines])
 
 
 def a_spent_nonce(here):
@@ -349,7 +361,7 @@ def a_folder_that_is_mended(here):
     os.makedirs(f"{path}.new")
     with peer(here.s1) as s1, peer(here.s2) as s2:
         process = here.start(*here.words("router", "r1"))
-        check("it is told", next_line(process), "refused r1 42 store 30")
+        check("it is told", next_line(process), "refused r1 42 store 30 InvalidInput")
         check("nothing is sent", arrivals([s1, s2], 5), [[], []])
         os.rmdir(f"{path}.new")
         mended = time.monotonic()
@@ -364,7 +376,7 @@ def what_is_refused_waits_a_second(here):
     """A store that fails is asked again a second later, and not in each turn: it looks for its file once a try."""
     os.makedirs(f"{here.file('r2', 's', xtr=XTR + 1)}.new")
     process, calls = shown(here, here.words("router", "r2"))
-    check("it is told", next_line(process), "refused r2 42 store 30")
+    check("it is told", next_line(process), "refused r2 42 store 30 InvalidInput")
     calls.recv(65535)
     time.sleep(3)
     tried = b"".join(heard(calls, 0.01)).count(b"f")

@@ -12,5 +12,6 @@ mod writing;
 pub use carried::put_carried;
 pub use datagram_place::DatagramPlace;
 pub use line::line_text;
+pub use name::{node_name, router_name};
 pub use query::{ask_text, due_router_text, due_server_text, hold_text, put_acks};
 pub use writing::{write_line, write_text};

@@ -11,8 +11,9 @@ use std::alloc::Allocator;
 /// What a node is called that the configuration doesn't have.
 const OTHER: &str = "other";
 
-/// The name of the node with a number: Map-Servers, then routers, in the order of the configuration.
-pub(crate) fn node_name<E: Allocator>(config: &Config<E>, node: usize) -> &str
+/// The name of the node with a number: Map-Servers, then routers, in the order of the configuration; `other` where it has no such
+/// node.
+pub fn node_name<E: Allocator>(config: &Config<E>, node: usize) -> &str
     ensures { result.now ≡ node_name config.now node }
 {
     let servers = config.servers();
@@ -32,8 +33,8 @@ fn name_at<E: Allocator>(config: &Config<E>, place: usize) -> &str
     }
 }
 
-/// The name of the router with an identity.
-pub(crate) fn router_name<'a, E: Allocator>(config: &'a Config<E>, me: &RouterId) -> &'a str
+/// The name of the router with an identity; `other` where the configuration doesn't have it.
+pub fn router_name<'a, E: Allocator>(config: &'a Config<E>, me: &RouterId) -> &'a str
     ensures { result.now ≡ router_name config.now me.now }
 {
     match router_of(config.routers(), me) {

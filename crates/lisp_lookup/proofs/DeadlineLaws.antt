@@ -1,5 +1,5 @@
 -- What deadlines say of rows, and what is left once the dead ones are taken out.
-use Rattle.std.proofs.Common.{◌≡◌, ◌≢◌, ◌⊎◌, inl, inr, ℕ, ◌+◌, ◌-◌, ◌<◌, ◌≤◌, ◌==◌, ◌^◌, min, nat_lt, Bool, true, false, cond, List, [], ◌∷◌, ◌++◌, length, slice_index, slice_index_or, Option, Some, None, refl, sym, ap, ◌∙◌, subst, true≢false, arith}
+use Rattle.std.proofs.Common.{◌≡◌, ◌≢◌, ◌⊎◌, inl, inr, ℕ, zero, suc, ◌+◌, ◌-◌, ◌<◌, ◌≤◌, ◌==◌, ◌^◌, min, nat_lt, Bool, true, false, cond, List, [], ◌∷◌, ◌++◌, length, slice_index, slice_index_or, Option, Some, None, refl, sym, ap, ◌∙◌, subst, true≢false, arith}
 use Rattle.std.specs.List.{All, Contains}
 use Rattle.std.specs.List.Sorted.{IsPermutation}
 use Rattle.std.specs.Ordering.{nat_cmp, ordering_then}
@@ -9,13 +9,13 @@ use Rattle.std.proofs.lemmas.Bool.{cases_eq, cases_order}
 use Rattle.std.proofs.lemmas.Bool.Decides.{Decides-eqb, Decides-ltb}
 use Rattle.std.proofs.lemmas.List.{get_or_default, get_or-append-add, length-append}
 use Rattle.std.proofs.lemmas.List.Elements.{All-nil, All-push, All-contains, Contains-append_cases, Contains-append_right}
-use Rattle.std.proofs.lemmas.List.Sorted.{IsPermutation-refl, IsPermutation-sym, IsPermutation-pop_more, Contains-permutation}
+use Rattle.std.proofs.lemmas.List.Sorted.{length_permutation, IsPermutation-refl, IsPermutation-sym, IsPermutation-pop_more, Contains-permutation}
 use Rattle.lisp_records.specs.declared.router.RouterId.{RouterId}
 use Rattle.lisp_records.specs.Address.{PrefixValue, prefix_cmp}
 use Rattle.lisp_records.specs.Router.{router_cmp}
 use Rattle.lisp_records.specs.Moment.{max_moment}
 use Rattle.lisp_records.specs.Row.{RowValue, is_alive}
-use Rattle.lisp_lookup.specs.Table.{is_row_of, row_key, row_at, OneEach, Expires}
+use Rattle.lisp_lookup.specs.Table.{is_row_of, row_key, row_at, OneEach, Expires, DropsDead}
 use Rattle.lisp_lookup.specs.Index.{deadline, row_prefix_cmp, row_deadline_cmp, row_at_place, IsIndex}
 use Rattle.lisp_lookup.proofs.IndexLaws.{number_at, prefix_total, itself}
 use Rattle.lisp_policy.proofs.Found.{not_true}
@@ -151,3 +151,49 @@ one_left old new now one so_far i j d lt within same =
 
 pub dropped_all : (old new : List RowValue) (now : ℕ) → OneEach old → Dropped old new now → All (λ h. is_alive h now ≡ true) new → Expires old new now
 dropped_all old new now one so_far rest = expired old so_far.gone new now one (one_left old new now one so_far) so_far.moved so_far.all_dead rest
+
+-- one row was taken out, which was dead
+module _ (old new : List RowValue) (now : ℕ) (h : RowValue) (one : OneEach old) (moved : IsPermutation old (h ∷ new)) (is : is_alive h now ≡ false) where
+  one_new : OneEach new
+  one_new = one_left old new now one (record { gone = h ∷ []; moved = moved; all_dead = All-push (λ x. is_alive x now ≡ false) [] h (All-nil (λ x. is_alive x now ≡ false)) is })
+
+  was_there : (x : RowValue) → Contains (h ∷ new) x → Contains old x
+  was_there x = Contains-permutation (h ∷ new) old x (IsPermutation-sym old (h ∷ new) moved)
+
+  -- it is none of the others
+  not_left : (x : RowValue) → Contains new x → row_key h ≢ row_key x
+  not_left x (k, lt, at) same = differ_moved row_key old (h ∷ new) moved one 0 (suc k) x (omega arith) (omega (arith, lt)) (same ∙ ap row_key (sym (get_or_default new k x x lt ∙ at)))
+
+  taken : (found : Option RowValue) → row_at new h.router h.mapping.eid ≡ found → found ≡ None
+  taken None e = refl
+  taken (Some x) e = (let at = row_found new h.router h.mapping.eid x e in absurd (not_left x at.0 (sym ((has_key (row_key h) x).0 at.1))))
+
+  module _ (router : RouterId) (eid : PrefixValue) (other : (router, eid) ≢ row_key h) where
+    stays : (x : RowValue) → Contains old x → is_row_of router eid x ≡ true → Contains new x
+    stays x held own = either (Contains-append_cases (h ∷ []) new x (Contains-permutation old (h ∷ new) x moved held))
+      where
+        either : Contains (h ∷ []) x ⊎ Contains new x → Contains new x
+        either (inl (k, lt, at)) = absurd (other (sym ((has_key (router, eid) x).0 own) ∙ ap row_key (single k lt at)))
+          where
+            single : (k : ℕ) → k < length (h ∷ []) → slice_index_or (h ∷ []) k x ≡ x → x ≡ h
+            single zero lt at = sym at
+            single (suc k) lt at = absurd (omega (arith, lt))
+        either (inr left) = left
+
+    by_row : (was left : Option RowValue) → row_at old router eid ≡ was → row_at new router eid ≡ left → row_at new router eid ≡ row_at old router eid
+    by_row (Some x) left e f = (let at = row_found old router eid x e in own_row new router eid x one_new (stays x at.0 at.1) at.1 ∙ sym e)
+    by_row None (Some x) e f = (let at = row_found new router eid x f in f ∙ sym (own_row old router eid x one (was_there x (Contains-append_right (h ∷ []) new x at.0)) at.1))
+    by_row None None e f = f ∙ sym e
+
+  pub drops_dead : DropsDead old new now (row_key h)
+  drops_dead = record {
+    row = h;
+    was = found_own old h one (was_there h (0, omega arith, refl));
+    dead = is;
+    gone = taken (row_at new h.router h.mapping.eid) refl;
+    fewer = omega (arith, length_permutation old (h ∷ new) moved);
+    others = λ router eid other. by_row router eid other (row_at old router eid) (row_at new router eid) refl refl;
+  }
+
+  pub one_each_left : OneEach new
+  one_each_left = one_new

@@ -1,5 +1,5 @@
 -- The rows that a Map-Server holds, one for each router and EID-Prefix (RFC 9301 section 8.2).
-use Rattle.std.specs.Prelude.{◌≡◌, ◌≢◌, ◌↔◌, ℕ, Bool, ◌&&◌, List, reverse, if◌then◌else◌, Option, Some, None}
+use Rattle.std.specs.Prelude.{◌≡◌, ◌≢◌, ◌↔◌, ℕ, Bool, false, ◌&&◌, ◌<◌, List, length, reverse, if◌then◌else◌, Option, Some, None}
 use Rattle.std.specs.List.{AllPairs, Contains, count_by, find}
 use Rattle.std.specs.Option.{option_or, option_and_then}
 use Rattle.std.specs.declared.cmp.Ordering.{Ordering}
@@ -46,6 +46,15 @@ if_alive now h = if is_alive h now then Some h else None
 -- the dead rows were taken out, and no other
 abbrev pub Expires : List RowValue → List RowValue → ℕ → Type 0
 Expires old new now = (router : RouterId) (eid : PrefixValue) → row_at new router eid ≡ option_and_then (if_alive now) (row_at old router eid)
+
+-- the row of a router and a prefix, which was dead, was taken out, and no other
+pub record DropsDead (old new : List RowValue) (now : ℕ) (key : RouterId × PrefixValue) : Type 0 where
+  pub row : RowValue
+  pub was : row_at old key.0 key.1 ≡ Some row
+  pub dead : is_alive row now ≡ false
+  pub gone : row_at new key.0 key.1 ≡ None
+  pub others : (router : RouterId) (eid : PrefixValue) → (router, eid) ≢ key → row_at new router eid ≡ row_at old router eid
+  pub fewer : length new < length old
 
 -- the order of rows: by router, then by prefix
 abbrev pub row_cmp : RowValue → RowValue → Ordering

@@ -2,10 +2,10 @@
 
 ghost use Rattle.std.specs.Prelude.{◌≡◌, ◌+◌, ◌-◌, ◌*◌, ◌^◌, ◌≤◌, ◌<◌, [], None, true, false, length, nat_le, slice_get, IsOk, IfOk, IfSome, OnOk, OnErr};
 ghost use Rattle.std.specs.Option.{option_map};
-ghost use Rattle.std.specs.List.{filter};
+ghost use Rattle.std.specs.List.{All, filter};
 ghost use Rattle.lisp_records.specs.Moment.{max_moment};
 ghost use Rattle.lisp_records.specs.Row.{is_alive};
-ghost use Rattle.lisp_lookup.specs.Table.{OneEach, Sets, Expires, row_cmp, IsHeld, count_lesser};
+ghost use Rattle.lisp_lookup.specs.Table.{OneEach, Sets, Expires, DropsDead, row_key, row_cmp, IsHeld, count_lesser};
 ghost use Rattle.lisp_lookup.specs.Answer.{Answers};
 ghost use Rattle.lisp_lookup.specs.Records.{live_of, live_count, live_fit, ListsLive};
 
@@ -107,6 +107,20 @@ impl<A: Allocator + Copy> Table<A> {
         }
     }
 
+    /// Takes out a row that is dead at a moment, in ms, of at most 2^62: of several the one that died first. Answers whose it
+    /// was, the router and its EID-Prefix; `None` where no row is dead, and then nothing changes. Takes no memory.
+    pub fn drop_first_dead(&mut self, now: u64) -> Option<(RouterId, Prefix)>
+        requires { now ≤ max_moment }
+        ensures dropped { IfSome result (λ key. DropsDead self.old.rows self.new.rows now key) }
+        ensures none { result ≡ None → (self.new ≡ self.old) × All (λ h. is_alive h now ≡ true) self.new.rows }
+        ensures one_each { OneEach self.new.rows }
+    {
+        let number = self.first_dead(now)?;
+        let key = key_of(&self.items[number]);
+        self.remove(number);
+        Some(key)
+    }
+
     /// How many rows have a lesser prefix, dead or alive. Takes no memory. The steps are the rows that it looks
     /// at: at most as many as the number of rows has binary digits (0 has none).
     pub fn find<L: Ledger>(&self, prefix: &Prefix, steps: &mut Steps<L>) -> usize
@@ -205,6 +219,13 @@ fn live_rows<A: Memory + Copy>(
         }
     }
     Ok(live)
+}
+
+// Whose a row is: its router, and its EID-Prefix.
+fn key_of<A: Allocator>(row: &Row<A>) -> (RouterId, Prefix)
+    ensures { result ≡ row_key row.now }
+{
+    (row.router, *row.mapping.eid_ref())
 }
 
 // The order of rows: by router, then by prefix.

@@ -1,7 +1,10 @@
 //! A Map-Server of a network, with its store.
 
-ghost use Rattle.std.specs.Prelude.{◌≡◌, ◌≤◌, IsErrOf};
+ghost use Rattle.std.specs.Prelude.{◌≡◌, ◌≤◌, None, true, IfSome, IsErrOf};
+ghost use Rattle.std.specs.List.{All};
 ghost use Rattle.lisp_records.specs.Moment.{max_moment};
+ghost use Rattle.lisp_records.specs.Row.{is_alive};
+ghost use Rattle.lisp_lookup.specs.Table.{DropsDead, OneEach};
 ghost use Rattle.lisp_admission.specs.declared.refused.Refused.{Refused};
 ghost use Rattle.lisp_admission.specs.declared.notice_fault.NoticeFault.{NoticeFault};
 ghost use Rattle.lisp_refinement.specs.Calls.{NodeReceives, NodeNotifies, StoreRestarts};
@@ -14,7 +17,7 @@ use core::mem::replace_with;
 use lisp_memory::Memory;
 use lisp_nonces::{Fate, WorldStore};
 use lisp_policy::Sites;
-use lisp_records::{Addr, Bytes, RouterId};
+use lisp_records::{Addr, Bytes, Prefix, RouterId};
 use lisp_server::{NoticeFault, Refused, Server, Took};
 use std::alloc::{Allocator, Global};
 use std::marker::Model;
@@ -75,6 +78,18 @@ impl<S: WorldStore, A: Memory + Copy> ServerNode<S, A> {
         ensures expires { ExpiresNode self.old self.new now }
     {
         self.core.expire(now);
+    }
+
+    /// It drops a row that is dead at a moment, in ms, of at most 2^62: of several the one that died first. Answers whose it
+    /// was, the router and its EID-Prefix; `None` where no row is dead, and then nothing changes. Takes no memory.
+    pub fn expire_one(&mut self, now: u64) -> Option<(RouterId, Prefix)>
+        requires { now ≤ max_moment }
+        ensures dropped { IfSome result (λ key. DropsDead self.old.core.rows self.new.core.rows now key) }
+        ensures none { result ≡ None → All (λ h. is_alive h now ≡ true) self.old.core.rows × (self.new ≡ self.old) }
+        ensures rest { self.new ≡ record self.old { core = record self.old.core { rows = self.new.core.rows } } }
+        ensures one_each { OneEach self.new.core.rows }
+    {
+        self.core.expire_one(now)
     }
 
     /// It receives bytes from an address, its store's calls as the fate says.

@@ -37,7 +37,7 @@ why_bytes_are_not_a_record = 1 ∷ 2 ∷ 3 ∷ 9 ∷ []
 
 -- faults of a configuration
 abbrev pub faults_of_a_configuration : List ℕ
-faults_of_a_configuration = 20 ∷ 21 ∷ 22 ∷ 23 ∷ 24 ∷ []
+faults_of_a_configuration = 20 ∷ 21 ∷ 22 ∷ 23 ∷ 24 ∷ 25 ∷ []
 
 -- faults of a database
 abbrev pub faults_of_a_database : List ℕ

@@ -6,7 +6,8 @@ use crate::row::{HEADER, Row, STATUS_HEADER, Section};
 pub(crate) const CONFIGURATION_FAULTS: Section = Section {
     title: "Faults of a configuration",
     introduction: "What is wrong in the configuration of `lispd play`, or in the file CONFIG: the first fault. [CONFIGURATION](CONFIGURATION.md)
-has the fields and the order of the checks. On a terminal the field is named too.",
+has the fields and the order of the checks. Where a fault is told in words, the field is named too; `lispd check` names its entry.
+25 is of `lispd check` alone.",
     header: STATUS_HEADER,
     rows: &[
         Row {
@@ -48,6 +49,14 @@ has the fields and the order of the checks. On a terminal the field is named too
             meaning: "out of memory while reading the configuration",
             status: "1",
             remedy: "give the process more memory",
+        },
+        Row {
+            number: 25,
+            carried: "",
+            name: "Warnings",
+            meaning: "a configuration has warnings, and `--strict` was given",
+            status: "2",
+            remedy: "see the warnings",
         },
     ],
 };

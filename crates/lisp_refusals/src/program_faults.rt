@@ -31,8 +31,8 @@ datagram that is not sent is lost, as any may be: a Map-Register and a notice ar
 /// What ends the program.
 pub(crate) const PROGRAM_FAULTS: Section = Section {
     title: "Faults of the program",
-    introduction: "`lispd: fault N`. Standard error has exactly this line, if it is not a terminal. On a terminal further lines follow, in
-words: what is wrong and what to do; for a bad value, which option it is and what it takes.
+    introduction: "`lispd: fault N`. Standard error has exactly this line, if it is not a terminal. On a terminal, with `--words`, and of `lispd
+check` a second line follows, in words: what is wrong and what to do; for a bad value, which option it is and what it takes.
 
 Words that `clap` refuses (an unknown subcommand or option, or one given twice) are reported in its own text on standard
 error, with status 2. Help and the version, if asked for, go to standard output, with status 0.",
@@ -74,9 +74,9 @@ error, with status 2. Help and the version, if asked for, go to standard output,
             number: 93,
             carried: "",
             name: "File",
-            meaning: "a file or a folder can't be opened or made, or another process has the node's folder: it is locked",
+            meaning: "a file or a folder can't be opened or made; another process has the node's folder, which is locked; or, with `--known`, the folder keeps no nonces",
             status: "1",
-            remedy: "check its name and its permissions; end the other process",
+            remedy: "check its name and its permissions; end the other process; with `--known`, check `--store` and the name of the node",
         },
         Row {
             number: 95,
@@ -106,7 +106,7 @@ error, with status 2. Help and the version, if asked for, go to standard output,
             number: 98,
             carried: "",
             name: "",
-            meaning: "a bad value for an option (`--site`, `--key`, `--secret`, `--prefix`, `--turns`), a number that `lispd explain` does not know, or a command line that is not UTF-8",
+            meaning: "a bad value for an option (`--site`, `--key`, `--secret`, `--prefix`, `--turns`), `--known` with `--turns`, a number or a line that `lispd explain` does not know, or a command line that is not UTF-8",
             status: "2",
             remedy: "see `lispd --help`, and the help of the subcommand",
         },

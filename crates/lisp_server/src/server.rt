@@ -1,11 +1,13 @@
 //! The Map-Server.
 
-ghost use Rattle.std.specs.Prelude.{◌≡◌, ◌≤◌, IfOk, IfErr, IsErrOf, OnErr};
+ghost use Rattle.std.specs.Prelude.{◌≡◌, ◌≤◌, None, true, IfOk, IfErr, IfSome, IsErrOf, OnErr};
+ghost use Rattle.std.specs.List.{All};
 ghost use Rattle.lisp_nonces.specs.Store.{Proceeds};
 ghost use Rattle.lisp_messages.specs.Reading.{HasHead};
-ghost use Rattle.lisp_lookup.specs.Table.{OneEach, Expires, IsHeld};
+ghost use Rattle.lisp_lookup.specs.Table.{OneEach, Expires, DropsDead, IsHeld};
 ghost use Rattle.lisp_lookup.specs.Answer.{Answers};
 ghost use Rattle.lisp_records.specs.Moment.{max_moment};
+ghost use Rattle.lisp_records.specs.Row.{is_alive};
 ghost use Rattle.lisp_server.specs.SendNotice.{Announces, RefusesNotice};
 ghost use Rattle.lisp_server.specs.LastNonces.{nonce_at};
 ghost use Rattle.lisp_server.specs.Notices.{OneForEach, IsDueRouter, RefusesResend, Resends};
@@ -31,7 +33,7 @@ use lisp_memory::Memory;
 use lisp_messages::{Message, read_message};
 use lisp_nonces::{NonceStore, Pair};
 use lisp_policy::Sites;
-use lisp_records::{Addr, RouterId, Row};
+use lisp_records::{Addr, Prefix, RouterId, Row};
 use std::alloc::{AllocError, Allocator, Global};
 use std::marker::Model;
 
@@ -121,6 +123,18 @@ impl<A: Allocator + Copy> Server<A> {
         ensures one_each { OneEach self.new.rows }
     {
         self.tables.rows.drop_dead(now);
+    }
+
+    /// Drops a row that is dead at a time, in ms, of at most 2^62: of several the one that died first. Answers whose it was,
+    /// the router and its EID-Prefix; `None` where no row is dead, and then nothing changes. Takes no memory.
+    pub fn expire_one(&mut self, now: u64) -> Option<(RouterId, Prefix)>
+        requires { now ≤ max_moment }
+        ensures dropped { IfSome result (λ key. DropsDead self.old.rows self.new.rows now key) }
+        ensures none { result ≡ None → All (λ h. is_alive h now ≡ true) self.old.rows × (self.new.rows ≡ self.old.rows) }
+        ensures rest { self.new ≡ record self.old { rows = self.new.rows } }
+        ensures one_each { OneEach self.new.rows }
+    {
+        self.tables.rows.drop_first_dead(now)
     }
 }
 

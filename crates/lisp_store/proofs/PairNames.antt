@@ -15,7 +15,7 @@ use Rattle.hex.proofs.HexLemmas.{length-encode_with, IsAscii-encode_with, decode
 use Rattle.lisp_nonces.specs.declared.pair.PairKind.{PairKind}
 use Rattle.lisp_nonces.specs.declared.pair.PairKind.TheVariants.{Sent, Received, Notice}
 use Rattle.lisp_nonces.specs.declared.pair.Pair.{Pair}
-use Rattle.lisp_store.specs.PairName.{is_pair, IsPair, AreBytes, kind_letter, kind_of_letter, pair_in, pair_name, pair_of_name, NamesFindPairs, NamesAreOfOnePair}
+use Rattle.lisp_store.specs.PairName.{is_pair, IsPair, AreBytes, kind_letter, kind_of_letter, pair_in, pair_name, pair_of_name, NamesFindPairs, NamesAreOfOnePair, NamesHaveTheirForm}
 
 -- ---- parts of a list
 
@@ -84,6 +84,14 @@ module _ (letter site xtr key : List ℕ) (one : length letter ≡ 1) (sixteen :
   key_of_name =
       part_before (after_xtr ++ key) (codes ".nonce") 52 54 (omega arith) (omega (arith, length-after_xtr, two, length-append after_xtr key))
       ∙ part_added after_xtr key 52 54 length-after_xtr (omega (arith, two))
+
+  length-name : length name ≡ 60
+  length-name = omega (arith, length-after_xtr, two, length-append after_xtr key, length-append (after_xtr ++ key) (codes ".nonce"))
+
+  end_of_name : drop (length name - 6) name ≡ codes ".nonce"
+  end_of_name =
+      ap (λ (n : ℕ). drop (n - 6) name) length-name
+      ∙ drop_at (after_xtr ++ key) (codes ".nonce") 54 (omega (arith, length-after_xtr, two, length-append after_xtr key))
 
 -- ---- a pair from its name
 
@@ -157,6 +165,20 @@ pair_back p is =
     let xtrs = read_back p.router.xtr _ parts.bytes (xtr_of_name (kind_letter p.kind) site xtr key one sixteen thirty_two two) in
     let keys = ap (λ (bytes : List ℕ). slice_index bytes 0) (read_back (p.key ∷ []) _ (byte_alone p.key parts.key) (key_of_name (kind_letter p.kind) site xtr key one sixteen thirty_two two)) in
     λ i. record { kind = kinds i; router = record { site = sites i; xtr = xtrs i }; key = keys i }
+
+-- a pair's name has the form of one
+pub names_have_their_form : NamesHaveTheirForm
+unfolding pair_name
+names_have_their_form p is =
+    let site = encode_lower (to_be_bytes w64 p.router.site) in
+    let xtr = encode_lower p.router.xtr in
+    let key = encode_lower (p.key ∷ []) in
+    let one = length-letter p.kind in
+    let sixteen : length site ≡ 16 = length-encode_with lower_digits (to_be_bytes w64 p.router.site) in
+    let thirty_two : length xtr ≡ 32 = omega (arith, (parts_of p is).xtr, length-encode_with lower_digits p.router.xtr) in
+    let two : length key ≡ 2 = length-encode_with lower_digits (p.key ∷ []) in
+    let same = (bytes_decides _ _).1 (sym (end_of_name (kind_letter p.kind) site xtr key one sixteen thirty_two two)) in
+    (length-name (kind_letter p.kind) site xtr key one sixteen thirty_two two, same)
 
 -- a pair's name gives the pair back
 pub found_by_name : (p : Pair) → IsPair p → pair_of_name (pair_name p) ≡ Some p

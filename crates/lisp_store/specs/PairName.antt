@@ -2,7 +2,7 @@
 use Rattle.std.specs.Prelude.{◌≡◌, ◌↔◌, ℕ, ◌^◌, Bool, IsTrue, ◌&&◌, ◌==◌, nat_lt, nat_eq, if◌then◌else◌, List, [], ◌∷◌, ◌++◌, length, slice_range, slice_index, codes, Option, Some, None}
 use Rattle.std.specs.Cmp.Lexicographic.{pointwise}
 use Rattle.std.specs.Int.{w64, to_be_bytes, from_be_bytes}
-use Rattle.std.specs.List.{list_all}
+use Rattle.std.specs.List.{list_all, ends_with}
 use Rattle.std.specs.Result.{result_unwrap_or}
 use Rattle.hex.specs.Hex.{encode_lower, decode_of}
 use Rattle.lisp_nonces.specs.declared.pair.PairKind.{PairKind}
@@ -50,6 +50,14 @@ pair_in text = record {
 -- the pair whose name a text is
 unfoldable pub pair_of_name : List ℕ → Option Pair
 pair_of_name text = if is_pair (pair_in text) && pointwise nat_eq (pair_name (pair_in text)) text then Some (pair_in text) else None
+
+-- a text is as long as a name, and ends as one does
+abbrev pub HasFormOfName : List ℕ → Type 0
+HasFormOfName text = (length text ≡ 60) × IsTrue (ends_with nat_eq text (codes ".nonce"))
+
+-- the name of a pair does
+abbrev pub NamesHaveTheirForm : Type 0
+NamesHaveTheirForm = (p : Pair) → IsPair p → HasFormOfName (pair_name p)
 
 -- a text is the name of one pair, which is found by it, or of none
 abbrev pub NamesFindPairs : Type 0

@@ -17,6 +17,8 @@ use crate::text::{nonce_from_text, nonce_text};
 use lisp_memory::Memory;
 use lisp_nonces::{Fate, NonceStore, Pair, StoreFault, WorldStore};
 use std::alloc::{AllocError, Global};
+use std::cell::Cell;
+use std::io::ErrorKind;
 use std::rt::Files;
 
 /// How many bytes of a file are read: one more than a text has, so that a longer file is no text.
@@ -43,13 +45,18 @@ impl<F: Folder> FileStore<F> {
     }
 }
 
-impl<R: Files + AllocGlobal + Clone + Drop> FileStore<SystemFolder<R>> {
-    /// A store over the folder `dir` of the system, which must be there; touches no file.
-    pub fn open(rt: &R, dir: &str) -> Result<FileStore<SystemFolder<R>>, AllocError>
+impl<'a, R: Files + AllocGlobal + Clone + Drop> FileStore<SystemFolder<'a, R>> {
+    /// A store over the folder `dir` of the system, which must be there; touches no file. `failure` holds the kind of the last
+    /// error of its device from now on.
+    pub fn open(
+        rt: &R,
+        dir: &str,
+        failure: &'a Cell<Option<ErrorKind>>,
+    ) -> Result<FileStore<SystemFolder<'a, R>>, AllocError>
         ensures faults { IfOk result (λ store. (⟦<Self as NonceStore>⟧.seen store).faults ≡ 0) }
         ensures memory { R.is_infallible rt.now → OnErr result ⟦<Global as Memory>⟧.may_refuse }
     {
-        Ok(FileStore::over(SystemFolder::open(rt, dir)?))
+        Ok(FileStore::over(SystemFolder::open(rt, dir, failure)?))
     }
 }
 

@@ -37,7 +37,7 @@ impl From<AllocError> for FolderFault {
 
 /// A folder of files, across any crash. After a `replace` that was not answered done, and after a crash in the middle of one,
 /// it is open whether the file has its new bytes: a read answers one of the contents that it may have. What is said of
-/// contents is said of honest folders.
+/// contents is said of honest folders. It counts the failures of its device, up to 2^64 - 1.
 pub trait Folder {
     ghost seen: { Self → FolderState };
 

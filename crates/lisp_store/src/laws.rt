@@ -2,7 +2,7 @@
 
 ghost use Rattle.lisp_store.specs.KeptFiles.{TextsSayNonces, FilesKeepNonces};
 ghost use Rattle.lisp_store.specs.NonceLine.{TextsAreLines};
-ghost use Rattle.lisp_store.specs.PairName.{NamesFindPairs, NamesAreOfOnePair};
+ghost use Rattle.lisp_store.specs.PairName.{NamesFindPairs, NamesAreOfOnePair, NamesHaveTheirForm};
 
 /// The text of a nonce is 20 decimal digits whose value the nonce is, between `nonce ` and a line feed, and no other
 /// text is.
@@ -18,6 +18,11 @@ pub fn names_find_pairs()
 /// Two pairs don't share a name, so that each has a file of its own.
 pub fn names_are_of_one_pair()
     ensures { NamesAreOfOnePair }
+{}
+
+/// The name of a pair has the form by which names are counted.
+pub fn names_have_their_form()
+    ensures { NamesHaveTheirForm }
 {}
 
 /// The content of a file says a nonce where it is its text, and no other content does.

@@ -1,11 +1,19 @@
 //! The name of a pair's file.
 
-ghost use Rattle.std.specs.Prelude.{◌≡◌, ◌+◌, ◌*◌, [], ◌∷◌, ◌++◌, length};
+ghost use Rattle.std.specs.Prelude.{◌≡◌, ◌↔◌, ◌+◌, ◌*◌, [], ◌∷◌, ◌++◌, length, IsTrue};
 ghost use Rattle.std.specs.Str.{IsUtf8};
 ghost use Rattle.hex.specs.Hex.{encode_lower};
-ghost use Rattle.lisp_store.specs.PairName.{IsPair, AreBytes, kind_letter, pair_name};
+ghost use Rattle.lisp_store.specs.PairName.{IsPair, AreBytes, kind_letter, pair_name, HasFormOfName};
 
 use lisp_nonces::{Pair, PairKind};
+use std::fs::{self, Files};
+use std::io::{self, ErrorKind};
+
+/// The bytes of a name.
+const LENGTH: usize = 60;
+
+/// What a name ends with.
+const END: &[u8] = b".nonce";
 
 /// The name of a pair's file, `K-SITE-XTR-KEY.nonce`, where K is `s` (sent), `r` (received) or `n` (notice), and Site-ID,
 /// xTR-ID and Key ID are 16, 32 and 2 lower case hexadecimal digits.
@@ -24,6 +32,28 @@ pub fn pair_name(pair: &Pair) -> [u8; 60]
     put_part(xtr, &pair.router.xtr, b"-");
     put_part(key, &[pair.key], b".nonce");
     name
+}
+
+/// How many pairs a folder of the system keeps nonces for: how many names of its files have the form of a pair's.
+pub fn count_pairs<R: Files + AllocGlobal + Clone + Drop>(rt: &R, dir: &str) -> io::Result<usize> {
+    let mut count: usize = 0;
+    for entry in fs::read_dir(rt, dir)? {
+        match entry {
+            Ok(entry) if is_name(entry.file_name()) => count = count.saturating_add(1),
+            Ok(_) => {}
+            // A name that is no text is no pair's.
+            Err(error) if error.kind() == ErrorKind::InvalidFilename => {}
+            Err(error) => return Err(error),
+        }
+    }
+    Ok(count)
+}
+
+// Whether a name has the form of a pair's.
+fn is_name(name: &str) -> bool
+    ensures { IsTrue result ↔ HasFormOfName name.now }
+{
+    name.len() == LENGTH && name.as_bytes().ends_with(END)
 }
 
 // What the types of a pair's parts promise.

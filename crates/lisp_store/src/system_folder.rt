@@ -8,6 +8,7 @@ ghost use Rattle.lisp_store.specs.declared.folder.FolderFault.{FolderFault};
 use crate::folder::{Folder, FolderFault};
 use lisp_memory::{FallibleString, Memory};
 use std::alloc::{AllocError, Global};
+use std::cell::Cell;
 use std::fs::OpenFile;
 use std::io::{ErrorKind, Read, Write};
 use std::rt::Files;
@@ -15,31 +16,40 @@ use std::{fs, io};
 
 /// A folder of the system's. A file is replaced by a new one, named with `.new` added, that is written and synced, then
 /// renamed over the old one; last the folder is synced. So a crash leaves the old file or the new one, and perhaps a new
-/// file that was not renamed, which the next `replace` writes over.
+/// file that was not renamed, which the next `replace` writes over. Where its device fails, the kind of the system's error is
+/// put into a cell of the caller's.
 ///
 /// That the disk returns what was synced, and that nobody else writes the folder or takes it away, is a premise: nothing is
 /// said of the files, so the folder isn't called honest.
 #[derive(Drop)]
-pub struct SystemFolder<R> {
+pub struct SystemFolder<'a, R> {
     rt: R,
     dir: String,
     faults: u64,
+    // The kind of the last failure.
+    failure: &'a Cell<Option<ErrorKind>>,
 }
 
-impl<R: Files + AllocGlobal + Clone + Drop> SystemFolder<R> {
-    /// The folder `dir`, which must be there; touches no file.
-    pub fn open(rt: &R, dir: &str) -> Result<SystemFolder<R>, AllocError>
+impl<'a, R: Files + AllocGlobal + Clone + Drop> SystemFolder<'a, R> {
+    /// The folder `dir`, which must be there; touches no file. `failure` holds the kind of the last error of its device from now
+    /// on.
+    pub fn open(
+        rt: &R,
+        dir: &str,
+        failure: &'a Cell<Option<ErrorKind>>,
+    ) -> Result<SystemFolder<'a, R>, AllocError>
         ensures memory { R.is_infallible rt.now → OnErr result ⟦<Global as Memory>⟧.may_refuse }
     {
         Ok(SystemFolder {
             rt: rt.clone()?,
             dir: String::try_from_str(rt.alloc(), dir)?,
             faults: 0,
+            failure,
         })
     }
 }
 
-impl<R: Files + AllocGlobal> Folder for SystemFolder<R> {
+impl<R: Files + AllocGlobal> Folder for SystemFolder<'_, R> {
     ghost seen = { λ f. record { files = empty; faults = f.faults; is_honest = false } };
 
     ghost may_refuse = { ⟦<Global as Memory>⟧.may_refuse };
@@ -49,7 +59,7 @@ impl<R: Files + AllocGlobal> Folder for SystemFolder<R> {
         let path = self.path(name, "")?;
         match read_file(&self.rt, path.as_str(), buffer) {
             Ok(found) => Ok(found),
-            Err(_) => Err(self.failed()),
+            Err(error) => Err(self.failed(&error)),
         }
     }
 
@@ -61,21 +71,22 @@ impl<R: Files + AllocGlobal> Folder for SystemFolder<R> {
         let (dir, path, new) = (self.dir.as_str(), path.as_str(), new.as_str());
         match replace_file(&self.rt, dir, path, new, bytes) {
             Ok(()) => Ok(()),
-            Err(_) => Err(self.failed()),
+            Err(error) => Err(self.failed(&error)),
         }
     }
 
     ghost has_contents = { λ f. has_any_contents empty f.faults };
 }
 
-impl<R: Files + AllocGlobal> SystemFolder<R> {
-    // Counts that the device failed.
-    fn failed(&mut self) -> FolderFault
+impl<R: Files + AllocGlobal> SystemFolder<'_, R> {
+    // Counts that the device failed, and tells the kind of its error.
+    fn failed(&mut self, error: &io::Error) -> FolderFault
         ensures fault { result ≡ FolderFault.Device }
         ensures once { self.new.faults ≡ min (self.old.faults + 1) (2 ^ 64 - 1) }
         ensures rises { self.old.faults ≤ self.new.faults }
     {
         self.faults = self.faults.saturating_add(1);
+        self.failure.set(Some(error.kind()));
         FolderFault::Device
     }
 
@@ -88,8 +99,7 @@ impl<R: Files + AllocGlobal> SystemFolder<R> {
     }
 }
 
-/// Whether a file has the path; an error where a folder, a device, a pipe or a link has it. To open a pipe would be to wait
-/// for who writes it.
+/// Whether a file has the path; an error where a folder, a device, a pipe or a link has it: opening a pipe waits for a writer.
 pub fn is_file_there<R: Files>(files: &R, path: &str) -> io::Result<bool> {
     match fs::symlink_metadata(files, path) {
         Ok(found) if found.is_file() => Ok(true),

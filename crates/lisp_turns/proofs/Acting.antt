@@ -20,7 +20,7 @@ use Rattle.lisp_refinement.specs.Stands.{Stands}
 use Rattle.lisp_refinement.specs.Taking.{NetworkTakes}
 use Rattle.lisp_refinement.proofs.Taking.{taking_agrees}
 use Rattle.lisp_turns.specs.Act.{ActValue, numbered}
-use Rattle.lisp_turns.specs.Acts.{datagrams, with_act, DoesOne, TurnAct, DoesAll, act_calls, acts_calls}
+use Rattle.lisp_turns.specs.Acts.{datagrams, with_act, DoesOne, TurnAct, DoesAll, printed_of, act_calls, acts_calls}
 use Rattle.lisp_turns.specs.Due.{IsDuty, IsRefused}
 use Rattle.lisp_turns.specs.Node.{NodeState, Server, Router, HasNode, IsPlaced}
 use Rattle.lisp_turns.specs.Outside.{Call}
@@ -127,18 +127,21 @@ module _ (A : Type 0) (config : ConfigValue) (number : ℕ) (old new : NodeState
   abbrev step : Step
   step = (let after = taking_agrees A w left a.event line takes o T stand in record { event = a.event; line = line; actor = after.0; shown = after.1 })
 
+  abbrev its_calls : List Call
+  its_calls = told_calls a.act.message a.taken (printed_of a.event a.act.line)
+
   abbrev ByTold : List Call → Type 0
   ByTold calls = Reaches number (lines_of calls) (sent_of calls) (arrival a.event) new now w o T
 
   -- it is told
-  told_reaches : ByTold (told_calls a.act.message a.taken a.act.line)
+  told_reaches : ByTold its_calls
   told_reaches = record {
     steps = step ∷ [];
     left = left;
     stands = (taking_agrees A w left a.event line takes o T stand).2;
     own = (own, tt);
-    are_printed = inr (a.act.line, [], told_lines a.act.message a.taken a.act.line, does.plain ∙ sym (numbered_last 0 (length w.bag) a.act.line), refl);
-    bag = ap (λ (l : List DatagramValue). w.bag ++ l) (sent_is (address_of w number) a.act.message ∙ ap (λ (l : List (Addr × List ℕ)). map (datagram_from (address_of w number)) (reverse l)) (sym (told_sent a.act.message a.taken a.act.line)));
+    are_printed = inr (a.act.line, [], told_lines a.act.message a.taken a.event a.act.line, does.plain ∙ sym (numbered_last 0 (length w.bag) a.act.line), refl);
+    bag = ap (λ (l : List DatagramValue). w.bag ++ l) (sent_is (address_of w number) a.act.message ∙ ap (λ (l : List (Addr × List ℕ)). map (datagram_from (address_of w number)) (reverse l)) (sym (told_sent a.act.message a.taken (printed_of a.event a.act.line))));
     heard = append-nil (arrival a.event);
     node_is = has_placed w o T config number new a.act stand same does.placed;
     clock = same_clock w number new a.act ∙ clock;
@@ -163,7 +166,7 @@ module _ (A : Type 0) (config : ConfigValue) (number : ℕ) (old new : NodeState
   pub act_reaches : IsTold number a → ByTold (act_calls a)
   act_reaches told = by a.told told
     where
-      by : (b : Bool) → (b ≡ true) ⊎ (IsDuty number a.event × IsRefused a.act.line) → ByTold (if b then told_calls a.act.message a.taken a.act.line else [])
+      by : (b : Bool) → (b ≡ true) ⊎ (IsDuty number a.event × IsRefused a.act.line) → ByTold (if b then its_calls else [])
       by true told = told_reaches
       by false (inl is) = absurd (true≢false (sym is))
       by false (inr (duty, refused)) = quiet_reaches duty refused

@@ -4,18 +4,23 @@ use Rattle.std.specs.Prelude.{ℕ}
 use Rattle.std.specs.Option.{option_to_list}
 use Rattle.std.proofs.lemmas.List.{append_assoc}
 use Rattle.lisp_records.specs.declared.address.Addr.{Addr}
+use Rattle.lisp_model.specs.declared.event.Event.TheVariants as events
+use Rattle.lisp_model.specs.Trace.{EventValue}
 use Rattle.lisp_model.specs.declared.line.Line.{Line}
 use Rattle.lisp_model.specs.declared.line.Line.TheVariants as lines
 use Rattle.lisp_turns.specs.Act.{numbered}
-use Rattle.lisp_turns.specs.Acts.{send_calls}
+use Rattle.lisp_turns.specs.Acts.{send_calls, printed_of}
 use Rattle.lisp_turns.specs.Outside.{Call, Datagram, Nothing, Failed, Receives, Reads, Waits, Prints, Sends, logged}
 use Rattle.lisp_turns.specs.Part.{lines_of, sent_of, received_of}
+use Rattle.lisp_turns.specs.declared.outside.Printed.{Printed}
 use Rattle.lisp_turns.specs.declared.outside.Printed.TheVariants as printed
 
 -- of calls one after the other
 pub lines_append : (cs ds : List Call) → lines_of (cs ++ ds) ≡ lines_of cs ++ lines_of ds
 lines_append [] ds = refl
 lines_append (Prints (printed.Event line) ∷ cs) ds = ap (λ rest. line ∷ rest) (lines_append cs ds)
+lines_append (Prints (printed.Heard line from) ∷ cs) ds = ap (λ rest. line ∷ rest) (lines_append cs ds)
+lines_append (Prints (printed.Expired router eid) ∷ cs) ds = lines_append cs ds
 lines_append (Prints (printed.Failed call) ∷ cs) ds = lines_append cs ds
 lines_append (Receives r ∷ cs) ds = lines_append cs ds
 lines_append (Reads now ∷ cs) ds = lines_append cs ds
@@ -40,13 +45,15 @@ received_append (Sends to bytes taken ∷ cs) ds = received_append cs ds
 received_append (Reads now ∷ cs) ds = received_append cs ds
 received_append (Waits ms ∷ cs) ds = received_append cs ds
 
--- of five parts the first and the fourth come to nothing
-pub of_parts : {X : Type 0} (f : List Call → List X) → ((cs ds : List Call) → f (cs ++ ds) ≡ f cs ++ f ds) → (a b c d e : List Call) → f a ≡ [] → f d ≡ [] → f (a ++ b ++ c ++ d ++ e) ≡ f b ++ f c ++ f e
-of_parts f append a b c d e none nothing =
-    append (a ++ b ++ c ++ d) e
-    ∙ ap (λ l. l ++ f e) (append (a ++ b ++ c) d
-    ∙ ap (λ l. l ++ f d) (append (a ++ b) c ∙ ap (λ l. l ++ f c) (append a b ∙ ap (λ l. l ++ f b) none))
-    ∙ ap (λ l. f b ++ f c ++ l) nothing ∙ append-nil (f b ++ f c))
+-- of six parts the first, the fourth and the fifth come to nothing
+pub of_parts : {X : Type 0} (f : List Call → List X) → ((cs ds : List Call) → f (cs ++ ds) ≡ f cs ++ f ds) → (a b c d e g : List Call) → f a ≡ [] → f d ≡ [] → f e ≡ []
+    → f (a ++ b ++ c ++ d ++ e ++ g) ≡ f b ++ f c ++ f g
+of_parts f append a b c d e g no_a no_d no_e =
+    append (a ++ b ++ c ++ d ++ e) g
+    ∙ ap (λ l. l ++ f g) (nothing_more (a ++ b ++ c ++ d) e no_e ∙ nothing_more (a ++ b ++ c) d no_d ∙ append (a ++ b) c ∙ ap (λ l. l ++ f c) (append a b ∙ ap (λ l. l ++ f b) no_a))
+  where
+    nothing_more : (xs ys : List Call) → f ys ≡ [] → f (xs ++ ys) ≡ f xs
+    nothing_more xs ys none = append xs ys ∙ ap (λ l. f xs ++ l) none ∙ append-nil (f xs)
 
 -- a log goes on by nothing, and by calls and more calls
 pub logged_none : (log : Option (List Call)) → log ≡ logged [] log
@@ -57,21 +64,26 @@ pub logged_twice : (cs ds : List Call) (log : Option (List Call)) → logged cs 
 logged_twice cs ds None = refl
 logged_twice cs ds (Some calls) = ap (λ (all : List Call). Some all) (sym (append_assoc cs ds calls))
 
+-- the line of an event, however it is printed
+printed_line : (event : EventValue) (line : Line) → lines_of (Prints (printed_of event line) ∷ []) ≡ line ∷ []
+printed_line (events.Junk to from bytes) line = refl
+printed_line _ line = refl
+
 -- the calls of an act that is told
-abbrev pub told_calls : Option (Addr × List ℕ) → Bool → Line → List Call
-told_calls message taken line = send_calls message taken ++ Prints (printed.Event line) ∷ []
+abbrev pub told_calls : Option (Addr × List ℕ) → Bool → Printed → List Call
+told_calls message taken line = send_calls message taken ++ Prints line ∷ []
 
-pub told_lines : (message : Option (Addr × List ℕ)) (taken : Bool) (line : Line) → lines_of (told_calls message taken line) ≡ line ∷ []
-told_lines None taken line = refl
-told_lines (Some m) true line = refl
-told_lines (Some m) false line = refl
+pub told_lines : (message : Option (Addr × List ℕ)) (taken : Bool) (event : EventValue) (line : Line) → lines_of (told_calls message taken (printed_of event line)) ≡ line ∷ []
+told_lines None taken event line = printed_line event line
+told_lines (Some m) true event line = printed_line event line
+told_lines (Some m) false event line = printed_line event line
 
-pub told_sent : (message : Option (Addr × List ℕ)) (taken : Bool) (line : Line) → sent_of (told_calls message taken line) ≡ option_to_list message
+pub told_sent : (message : Option (Addr × List ℕ)) (taken : Bool) (line : Printed) → sent_of (told_calls message taken line) ≡ option_to_list message
 told_sent None taken line = refl
 told_sent (Some m) true line = refl
 told_sent (Some m) false line = refl
 
-pub told_received : (message : Option (Addr × List ℕ)) (taken : Bool) (line : Line) → received_of (told_calls message taken line) ≡ []
+pub told_received : (message : Option (Addr × List ℕ)) (taken : Bool) (line : Printed) → received_of (told_calls message taken line) ≡ []
 told_received None taken line = refl
 told_received (Some m) true line = refl
 told_received (Some m) false line = refl

@@ -1,20 +1,35 @@
 -- What is due is done, act by act.
-use Rattle.std.proofs.Common.{◌≡◌, ℕ, ◌+◌, Bool, true, false, ◌∷◌, refl, sym, subst, ◌∙◌, inl, inr, arith}
+use Rattle.std.proofs.Common.{◌≡◌, ℕ, ◌+◌, Bool, true, false, [], ◌∷◌, ◌++◌, refl, sym, subst, ◌∙◌, inl, inr, arith}
 use Rattle.std.specs.Prelude.{◌≢◌}
 use Rattle.std.specs.List.{All, AllByRecursion, AllPairs}
 use Rattle.std.proofs.lemmas.List.Elements.{All-cons}
 use Rattle.std.proofs.lemmas.List.Kept.{AllPairs-cons}
 use Rattle.lisp_policy.specs.Configuration.{ConfigValue}
+use Rattle.lisp_nonces.specs.declared.fate.Fate.TheVariants.{Done}
+use Rattle.lisp_model.specs.declared.event.Event.TheVariants as events
+use Rattle.lisp_model.specs.declared.line.Line.{Line}
 use Rattle.lisp_model.specs.Trace.{EventValue}
 use Rattle.lisp_turns.specs.Act.{ActValue}
-use Rattle.lisp_turns.specs.Acts.{TurnAct, DoesAll, acts_calls}
-use Rattle.lisp_turns.specs.Due.{DoesDuty, IsSend, IsRefused, SendsDue}
+use Rattle.lisp_turns.specs.Acts.{TurnAct, DoesAll, printed_of, send_calls, acts_calls}
+use Rattle.lisp_turns.specs.Due.{DoesDuty, IsDuty, IsSend, IsRefused, SendsDue}
 use Rattle.lisp_turns.specs.Node.{NodeState}
-use Rattle.lisp_turns.specs.Outside.{OutsideState}
+use Rattle.lisp_turns.specs.Outside.{OutsideState, Prints}
 use Rattle.lisp_turns.specs.Pause.{is_told, failed}
 use Rattle.lisp_turns.specs.Stretch.{Asks, Tells, HasServed, ServesAll}
+use Rattle.lisp_turns.specs.declared.outside.Printed.{Printed}
+use Rattle.lisp_turns.specs.declared.outside.Printed.TheVariants as printed
 use Rattle.lisp_turns.specs.declared.pause.Pause.{Pause}
 use Rattle.lisp_turns.proofs.Asking.{asks_then}
+
+-- what is due has the line of an event
+event_line : (number : ℕ) (event : EventValue) (line : Line) → IsDuty number event → printed_of event line ≡ printed.Event line
+event_line number (events.Send router server part Done) line duty = refl
+event_line number (events.Resend server router) line duty = refl
+event_line number _ line duty = absurd duty
+
+-- an act was told
+pub act_told : {s after : OutsideState} {act same : ActValue} → act ≡ same → Tells s after (printed.Event act.line) act.message → Tells s after (printed.Event same.line) same.message
+act_told {s} {after} is tells = subst (λ (a : ActValue). Tells s after (printed.Event a.line) a.message) is tells
 
 -- two acts aren't the same Map-Register
 abbrev Differ : TurnAct → TurnAct → Type 0
@@ -48,8 +63,17 @@ module _ (A : Type 0) (config : ConfigValue) (number : ℕ) where
       spent_more told taken done = All-cons (λ a. SendsDue new number now a.event → ⊥) (this told taken) so_far.served (does.done done)
           (λ i d within due. so_far.spent i d within (does.others _ due))
 
+      -- it was told
+      abbrev TellsAct : Type 0
+      TellsAct = Tells s after (printed.Event act.line) act.message
+
+      told_asked : (tells : TellsAct) → Asks before after (acts_calls (this true tells.taken ∷ so_far.served))
+      told_asked tells =
+          asks_then before s after (acts_calls so_far.served) _ so_far.asked
+          (subst (λ (line : Printed). Asks s after (send_calls act.message tells.taken ++ Prints line ∷ [])) (sym (event_line number does.event act.line does.duty)) tells.asked)
+
       -- it was done
-      pub served_more : (IsRefused act.line → ⊥) → Tells s after act → HasServed A config number old new now (count + 1) before after
+      pub served_more : (IsRefused act.line → ⊥) → TellsAct → HasServed A config number old new now (count + 1) before after
       served_more taken tells =
           record {
             served = this true tells.taken ∷ so_far.served;
@@ -61,7 +85,7 @@ module _ (A : Type 0) (config : ConfigValue) (number : ℕ) where
             once = once_more true tells.taken;
             spent = spent_more true tells.taken taken;
             done = (record { taken = taken; told = refl }, so_far.done);
-            asked = asks_then before s after (acts_calls so_far.served) _ so_far.asked tells.asked;
+            asked = told_asked tells;
           }
 
       -- it was refused, and that was told, or wasn't
@@ -81,10 +105,10 @@ module _ (A : Type 0) (config : ConfigValue) (number : ℕ) where
             asked = asked;
           }
 
-      pub ends_told : (pause left : Pause) (told : Bool) → IsRefused act.line → told ≡ is_told pause now → told ≡ true → left ≡ failed pause now → Tells s after act
+      pub ends_told : (pause left : Pause) (told : Bool) → IsRefused act.line → told ≡ is_told pause now → told ≡ true → left ≡ failed pause now → TellsAct
           → ServesAll A config number old new now pause left before after
       ends_told pause left told refused is told_is left_is tells =
-          refused_as pause left true tells.taken refused (sym told_is ∙ is) left_is (asks_then before s after (acts_calls so_far.served) _ so_far.asked tells.asked)
+          refused_as pause left true tells.taken refused (sym told_is ∙ is) left_is (told_asked tells)
 
       pub ends_untold : (pause left : Pause) (told : Bool) → IsRefused act.line → told ≡ is_told pause now → told ≡ false → left ≡ failed pause now → after ≡ s
           → ServesAll A config number old new now pause left before after

@@ -22,13 +22,14 @@ use Rattle.lisp_refinement.specs.Nodes.{up_in, fresh_server}
 use Rattle.lisp_refinement.specs.World.{ServerNodeState, RouterNodeState}
 use Rattle.lisp_turns.specs.Acts.{TurnAct, act_calls}
 use Rattle.lisp_turns.specs.Due.{IsRegisterDue, IsSend, SendsDue, IsRefused}
-use Rattle.lisp_turns.specs.Node.{NodeState, Server, Router, IsPlaced, Passes}
+use Rattle.lisp_turns.specs.Node.{NodeState, Server, Router, IsPlaced, Passes, IsDead, TellsDead}
 use Rattle.lisp_turns.specs.Outside.{Datagram, Nothing, Receives, Reads, Prints, Sends}
 use Rattle.lisp_turns.specs.Part.{IsOwn, ArePrinted, arrivals, sent_of}
 use Rattle.lisp_turns.specs.Pause.{may_try, is_told, failed}
 use Rattle.lisp_turns.specs.Turn.{TurnState, Hears, IsPut, AreDone, DoesDuties, Serves, IsTurn}
 use Rattle.lisp_turns.specs.declared.outside.Printed.TheVariants as printed
 use Rattle.lisp_turns.specs.declared.pause.Pause.{Pause}
+use Rattle.lisp_turns.proofs.DeadRows.{tells_none}
 
 -- a Map-Server that holds nothing takes a turn in which no datagram comes
 abbrev pub silent : ServerNodeState
@@ -43,19 +44,27 @@ before = record { node = Server silent; receives = none_failed; sends = none_fai
 abbrev pub after : TurnState
 after = record before { outside = record { log = Some (Reads 5 ∷ Receives Nothing ∷ []); moment = 5; is_cut = false } }
 
+-- it holds no row, so none that is dead
+none_held : (key : RouterId × PrefixValue) (row : RowValue) → row_at silent.core.rows key.0 key.1 ≡ Some row → ⊥
+unfolding row_at
+none_held key row there = absurd (let clash : ◌≡◌ {A = Option RowValue} None (Some row) = there in cc)
+
 pub silent_turn : (A : Type 0) (config : ConfigValue) → IsTurn A config 0 before after
-unfolding row_at notice_at
+unfolding notice_at
 silent_turn A config = record {
   reception = Nothing;
   now = 5;
   later = omega arith;
   bound = omega arith;
   passed = Server silent;
-  passes = record { rows = λ router eid. refl; rest = refl };
+  dead = [];
+  expires = tells_none (Server silent) 5 (λ key dead. none_held key dead.0 dead.1);
   heard = [];
   hears = refl;
   between = Server silent;
   did_hear = refl;
+  left = Server silent;
+  withdrawn = (tells_none (Server silent) 5 (λ key dead. none_held key dead.0 dead.1)).passes;
   receives = refl;
   served = [];
   did_serve = refl;
@@ -70,6 +79,18 @@ dead_row old new now router eid h passes was dead left =
     let gone : row_at new.core.rows router eid ≡ None =
     passes.rows router eid ∙ ap (λ (o : Option RowValue). option_and_then (λ g. if is_alive g now then Some g else None) o) was ∙ ap (λ (b : Bool). if b then Some h else None) dead in
     let clash : ◌≡◌ {A = Option RowValue} None (Some h) = sym gone ∙ left in cc
+
+module _ (old new : NodeState) (now : ℕ) (key : RouterId × PrefixValue) where
+  -- a row that dies isn't kept from the operator, nor told twice
+  untold_death : IsDead old now key → TellsDead old new now [] → ⊥
+  untold_death dead tells = omega (arith, ((tells.each key).1 dead).1)
+
+  told_twice : TellsDead old new now (key ∷ key ∷ []) → ⊥
+  told_twice tells = tells.once 0 1 key (omega arith) (omega arith) refl
+
+  -- nor is one told that doesn't die
+  told_alive : (IsDead old now key → ⊥) → TellsDead old new now (key ∷ []) → ⊥
+  told_alive alive tells = alive ((tells.each key).0 (0, omega arith, refl))
 
 -- a Map-Server doesn't become a router
 other_kind : (config : ConfigValue) (number : ℕ) (n : RouterNodeState) → number < length config.servers → IsPlaced config number (Router n) → ⊥
@@ -97,7 +118,7 @@ module _ (to other : Addr) (bytes : List ℕ) (line : Line) where
   answers = record { event = events.Junk 0 to bytes; act = record { line = line; message = Some (to, bytes) }; told = true; taken = true }
 
   -- the line goes first, then the message
-  line_first : act_calls answers ≡ Sends to bytes true ∷ Prints (printed.Event line) ∷ []
+  line_first : act_calls answers ≡ Sends to bytes true ∷ Prints (printed.Heard line to) ∷ []
   line_first = refl
 
   -- and that to no other address

@@ -9,6 +9,7 @@ pub mod Asking
 pub mod Duties
 pub mod Turning
 pub mod Expiring
+pub mod DeadRows
 pub mod Calls
 pub mod Reaching
 pub mod Acting

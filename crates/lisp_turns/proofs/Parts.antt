@@ -1,19 +1,21 @@
 -- What a node prints and sends in its turns is a legal trace's part of it.
-use Rattle.std.proofs.Common.{◌≡◌, ℕ, zero, suc, ◌≤◌, Bool, true, false, List, [], ◌∷◌, ◌++◌, refl, sym, ap, subst, ◌∙◌, append-nil}
+use Rattle.std.proofs.Common.{◌≡◌, ℕ, zero, suc, ◌≤◌, Bool, true, false, List, [], ◌∷◌, ◌++◌, refl, sym, ap, subst, ◌∙◌, append-nil, arith}
 use Rattle.std.specs.Prelude.{if◌then◌else◌}
 use Rattle.std.proofs.lemmas.List.{append_assoc}
 use Rattle.lisp_records.specs.declared.address.Addr.{Addr}
+use Rattle.lisp_records.specs.declared.router.RouterId.{RouterId}
+use Rattle.lisp_records.specs.Address.{PrefixValue}
 use Rattle.lisp_policy.specs.Configuration.{ConfigValue}
 use Rattle.lisp_model.specs.declared.line.Line.{Line}
 use Rattle.lisp_model.specs.Trace.{Step, Opening}
 use Rattle.lisp_refinement.specs.World.{WorldState}
 use Rattle.lisp_refinement.specs.Stands.{Stands}
-use Rattle.lisp_turns.specs.Acts.{TurnAct, act_calls, acts_calls}
+use Rattle.lisp_turns.specs.Acts.{TurnAct, printed_of, act_calls, acts_calls}
 use Rattle.lisp_turns.specs.Node.{HasNode}
 use Rattle.lisp_turns.specs.Outside.{Call, Reception, Datagram, Nothing, Failed, Receives, Reads, Prints, OutsideState, logged}
 use Rattle.lisp_turns.specs.Part.{lines_of, sent_of, received_of, TurnsAreParts}
 use Rattle.lisp_turns.specs.Pause.{may_try, is_told}
-use Rattle.lisp_turns.specs.Turn.{TurnState, failure_calls, rest_calls, turn_calls, IsTurn, Turns}
+use Rattle.lisp_turns.specs.Turn.{TurnState, failure_calls, rest_calls, expired_calls, turn_calls, IsTurn, Turns}
 use Rattle.lisp_turns.specs.declared.outside.Printed.TheVariants as printed
 use Rattle.lisp_turns.specs.declared.outside.SocketCall.TheVariants as socket
 use Rattle.lisp_turns.specs.declared.pause.Pause.{Pause}
@@ -27,15 +29,15 @@ use Rattle.lisp_turns.proofs.OwnActs.{AreServed, heard_own, heard_arrived, are_s
 act_receives : (a : TurnAct) → received_of (act_calls a) ≡ []
 act_receives a = by a.told
   where
-    by : (b : Bool) → received_of (if b then told_calls a.act.message a.taken a.act.line else []) ≡ []
-    by true = told_received a.act.message a.taken a.act.line
+    by : (b : Bool) → received_of (if b then told_calls a.act.message a.taken (printed_of a.event a.act.line) else []) ≡ []
+    by true = told_received a.act.message a.taken (printed_of a.event a.act.line)
     by false = refl
 
 acts_receive : (acts : List TurnAct) → received_of (acts_calls acts) ≡ []
 acts_receive [] = refl
 acts_receive (a ∷ earlier) = received_append (act_calls a) (acts_calls earlier) ∙ (λ i. act_receives a i ++ acts_receive earlier i)
 
--- a socket that fails says nothing of an event, and sends and receives nothing
+-- a socket that fails, or a row that dies, says nothing of an event, and sends and receives nothing
 record SaysNothing (calls : List Call) : Type 0 where
   pub no_lines : lines_of calls ≡ []
   pub no_sent : sent_of calls ≡ []
@@ -55,61 +57,79 @@ failure_says_nothing Failed receives now = by (is_told receives now)
     by true = record { no_lines = refl; no_sent = refl; no_received = refl }
     by false = record { no_lines = refl; no_sent = refl; no_received = refl }
 
+expired_says_nothing : (dead : List (RouterId × PrefixValue)) → SaysNothing (expired_calls dead)
+expired_says_nothing [] = record { no_lines = refl; no_sent = refl; no_received = refl }
+expired_says_nothing (key ∷ dead) = (let rest = expired_says_nothing dead in record { no_lines = rest.no_lines; no_sent = rest.no_sent; no_received = rest.no_received })
+
 -- what a turn's calls come to
-module _ (reception : Reception) (receives : Pause) (now : ℕ) (heard served : List TurnAct) where
+module _ (reception : Reception) (receives : Pause) (now : ℕ) (dead : List (RouterId × PrefixValue)) (heard served : List TurnAct) where
   abbrev all_calls : List Call
-  all_calls = turn_calls reception receives now heard served
+  all_calls = turn_calls reception receives now dead heard served
+
+  abbrev no_rest : SaysNothing (rest_calls reception)
+  no_rest = rest_says_nothing reception
+
+  abbrev no_failure : SaysNothing (failure_calls reception receives now)
+  no_failure = failure_says_nothing reception receives now
+
+  abbrev no_expired : SaysNothing (expired_calls dead)
+  no_expired = expired_says_nothing dead
 
   abbrev first_calls : List Call
   first_calls = Reads now ∷ Receives reception ∷ []
 
-  turn_parts : {X : Type 0} (f : List Call → List X) → ((cs ds : List Call) → f (cs ++ ds) ≡ f cs ++ f ds) → f (rest_calls reception) ≡ [] → f (failure_calls reception receives now) ≡ []
+  turn_parts : {X : Type 0} (f : List Call → List X) → ((cs ds : List Call) → f (cs ++ ds) ≡ f cs ++ f ds) → f (rest_calls reception) ≡ [] → f (failure_calls reception receives now) ≡ [] → f (expired_calls dead) ≡ []
       → f all_calls ≡ f (acts_calls served) ++ f (acts_calls heard) ++ f first_calls
-  turn_parts f append none nothing = of_parts f append (rest_calls reception) (acts_calls served) (acts_calls heard) (failure_calls reception receives now) first_calls none nothing
+  turn_parts f append = of_parts f append (rest_calls reception) (acts_calls served) (acts_calls heard) (failure_calls reception receives now) (expired_calls dead) first_calls
 
   turn_lines : lines_of all_calls ≡ lines_of (acts_calls served) ++ (lines_of (acts_calls heard) ++ [])
-  turn_lines = turn_parts lines_of lines_append (rest_says_nothing reception).no_lines (failure_says_nothing reception receives now).no_lines ∙ append_assoc (lines_of (acts_calls served)) (lines_of (acts_calls heard)) []
+  turn_lines = turn_parts lines_of lines_append no_rest.no_lines no_failure.no_lines no_expired.no_lines ∙ append_assoc (lines_of (acts_calls served)) (lines_of (acts_calls heard)) []
 
   turn_sent : sent_of all_calls ≡ sent_of (acts_calls served) ++ (sent_of (acts_calls heard) ++ [])
-  turn_sent = turn_parts sent_of sent_append (rest_says_nothing reception).no_sent (failure_says_nothing reception receives now).no_sent ∙ append_assoc (sent_of (acts_calls served)) (sent_of (acts_calls heard)) []
+  turn_sent = turn_parts sent_of sent_append no_rest.no_sent no_failure.no_sent no_expired.no_sent ∙ append_assoc (sent_of (acts_calls served)) (sent_of (acts_calls heard)) []
 
   turn_received : received_of all_calls ≡ received_of (Receives reception ∷ [])
-  turn_received = turn_parts received_of received_append (rest_says_nothing reception).no_received (failure_says_nothing reception receives now).no_received
+  turn_received = turn_parts received_of received_append no_rest.no_received no_failure.no_received no_expired.no_received
       ∙ (λ i. acts_receive served i ++ acts_receive heard i ++ received_of first_calls)
 
 -- a network goes on by a turn
 module _ (A : Type 0) (config : ConfigValue) (number : ℕ) (s t : TurnState) (turn : IsTurn A config number s t) (w : WorldState) (o : Opening) (T : List Step) (stand : Stands w o T)
     (same : o.config ≡ config) (has : HasNode w number s.node) (clock : w.clock ≡ s.outside.moment) where
   abbrev calls : List Call
-  calls = turn_calls turn.reception s.receives turn.now turn.heard turn.served
+  calls = turn_calls turn.reception s.receives turn.now turn.dead turn.heard turn.served
 
   abbrev After : List Line → List (Addr × List ℕ) → List (Addr × List ℕ) → Type 0
   After lines sent received = Reaches number lines sent received t.node turn.now w o T
 
   ticked : Reaches number [] [] [] turn.passed turn.now w o T
-  ticked = tick_reaches A number s.node turn.passed turn.now w o T stand has (subst (λ m. m ≤ turn.now) (sym clock) turn.later) turn.bound turn.passes
+  ticked = tick_reaches A number s.node turn.passed turn.now w o T stand has (subst (λ m. m ≤ turn.now) (sym clock) turn.later) turn.bound turn.expires.passes
 
   hears_reach : Reaches number (lines_of (acts_calls turn.heard) ++ []) (sent_of (acts_calls turn.heard) ++ []) (arrived turn.heard ++ []) turn.between turn.now w o T
   hears_reach = goes_further number [] (lines_of (acts_calls turn.heard)) [] (sent_of (acts_calls turn.heard)) [] (arrived turn.heard) turn.passed turn.between turn.now turn.now w o T stand ticked
       (acts_reach A config number turn.passed turn.between turn.now turn.heard turn.did_hear (heard_own number turn.reception turn.heard turn.hears) ticked.left o (ticked.steps ++ T) ticked.stands same ticked.node_is ticked.clock)
 
+  -- the rows that it withdrew leave at the same moment
+  withdrawn : Reaches number (lines_of (acts_calls turn.heard) ++ []) (sent_of (acts_calls turn.heard) ++ []) (arrived turn.heard ++ []) turn.left turn.now w o T
+  withdrawn = goes_further number (lines_of (acts_calls turn.heard) ++ []) [] (sent_of (acts_calls turn.heard) ++ []) [] (arrived turn.heard ++ []) [] turn.between turn.left turn.now turn.now w o T stand hears_reach
+      (tick_reaches A number turn.between turn.left turn.now hears_reach.left o (hears_reach.steps ++ T) hears_reach.stands hears_reach.node_is (omega (arith, hears_reach.clock)) turn.bound turn.withdrawn)
+
   served : AreServed number turn.served
-  served = are_served number (may_try s.sends turn.now) s.sends t.sends turn.now turn.between t.node turn.served turn.serves
+  served = are_served number (may_try s.sends turn.now) s.sends t.sends turn.now turn.left t.node turn.served turn.serves
 
   serves_reach : After (lines_of (acts_calls turn.served) ++ (lines_of (acts_calls turn.heard) ++ [])) (sent_of (acts_calls turn.served) ++ (sent_of (acts_calls turn.heard) ++ [])) (arrived turn.served ++ (arrived turn.heard ++ []))
   serves_reach = goes_further number (lines_of (acts_calls turn.heard) ++ []) (lines_of (acts_calls turn.served)) (sent_of (acts_calls turn.heard) ++ []) (sent_of (acts_calls turn.served)) (arrived turn.heard ++ []) (arrived turn.served)
-      turn.between t.node turn.now turn.now w o T stand hears_reach
-      (acts_reach A config number turn.between t.node turn.now turn.served turn.did_serve served.own hears_reach.left o (hears_reach.steps ++ T) hears_reach.stands same hears_reach.node_is hears_reach.clock)
+      turn.left t.node turn.now turn.now w o T stand withdrawn
+      (acts_reach A config number turn.left t.node turn.now turn.served turn.did_serve served.own withdrawn.left o (withdrawn.steps ++ T) withdrawn.stands same withdrawn.node_is withdrawn.clock)
 
   all_arrived : arrived turn.served ++ (arrived turn.heard ++ []) ≡ received_of calls
   all_arrived = (λ i. served.none i ++ append-nil (arrived turn.heard) i) ∙ heard_arrived number turn.reception turn.heard turn.hears
-      ∙ sym (turn_received turn.reception s.receives turn.now turn.heard turn.served)
+      ∙ sym (turn_received turn.reception s.receives turn.now turn.dead turn.heard turn.served)
 
   turn_reaches : After (lines_of calls) (sent_of calls) (received_of calls)
   turn_reaches = subst (λ (p : List Line × List (Addr × List ℕ) × List (Addr × List ℕ)). After p.0 p.1 p.2)
       {x = (lines_of (acts_calls turn.served) ++ (lines_of (acts_calls turn.heard) ++ []), sent_of (acts_calls turn.served) ++ (sent_of (acts_calls turn.heard) ++ []), arrived turn.served ++ (arrived turn.heard ++ []))}
       {y = (lines_of calls, sent_of calls, received_of calls)}
-      (λ i. (sym (turn_lines turn.reception s.receives turn.now turn.heard turn.served) i, sym (turn_sent turn.reception s.receives turn.now turn.heard turn.served) i, all_arrived i)) serves_reach
+      (λ i. (sym (turn_lines turn.reception s.receives turn.now turn.dead turn.heard turn.served) i, sym (turn_sent turn.reception s.receives turn.now turn.dead turn.heard turn.served) i, all_arrived i)) serves_reach
 
 -- so it does by turns
 record GoesOnTo (number : ℕ) (s t : TurnState) (w : WorldState) (o : Opening) (T : List Step) : Type 0 where
@@ -122,7 +142,7 @@ module _ (A : Type 0) (config : ConfigValue) (number : ℕ) (s m t : TurnState) 
   next_turn first turn =
       let so_far = first.reaches in
       let one = turn_reaches A config number m t turn so_far.left o (so_far.steps ++ T) so_far.stands same so_far.node_is so_far.clock in
-      let more : List Call = turn_calls turn.reception m.receives turn.now turn.heard turn.served in
+      let more : List Call = turn_calls turn.reception m.receives turn.now turn.dead turn.heard turn.served in
       let both = goes_further number (lines_of first.calls) (lines_of more) (sent_of first.calls) (sent_of more) (received_of first.calls) (received_of more) m.node t.node m.outside.moment turn.now w o T stand so_far one in
       record {
         calls = more ++ first.calls;

@@ -9,8 +9,9 @@ use Rattle.lisp_turns.specs.Acts.{DoesOne, acts_calls}
 use Rattle.lisp_turns.specs.Node.{NodeState, Passes}
 use Rattle.lisp_turns.specs.Outside.{Reception, Datagram, Call, Receives, Reads, OutsideState, Logs, ReadsClock, logged}
 use Rattle.lisp_turns.specs.Pause.{no_pause}
-use Rattle.lisp_turns.specs.Turn.{TurnState, IsTurn, Turns, UncutTurns, IsUncut, failure_calls, rest_calls, turn_calls}
-use Rattle.lisp_turns.specs.Stretch.{Asks, Tells, TakesIn, ServesDue, StartsTurns}
+use Rattle.lisp_turns.specs.Turn.{TurnState, IsTurn, Turns, UncutTurns, IsUncut, expired_calls, failure_calls, rest_calls, turn_calls}
+use Rattle.lisp_turns.specs.Stretch.{Asks, Tells, Expires, TakesIn, ServesDue, StartsTurns}
+use Rattle.lisp_turns.specs.declared.outside.Printed.TheVariants as printed
 use Rattle.lisp_turns.specs.declared.pause.Pause.{Pause}
 use Rattle.lisp_turns.proofs.Asking.{asks_then, asks_same, logged_twice}
 
@@ -22,10 +23,11 @@ uncut_more n s uncut = subst (λ (k : ℕ). IsUncut k s) (one_more n) uncut
 
 module _ (A : Type 0) (config : ConfigValue) (number : ℕ) where
   -- a datagram was heard, and that was told
-  pub takes_datagram : {old new : NodeState} {now : ℕ} {from : Addr} {bytes : List ℕ} {act : ActValue} {receives : Pause} {before after : OutsideState}
-      → DoesOne A config number old new now (events.Junk number from bytes) act → Tells before after act
+  pub takes_datagram : {old new : NodeState} {now : ℕ} {from : Addr} {bytes : List ℕ} {told act : ActValue} {receives : Pause} {before after : OutsideState}
+      → DoesOne A config number old new now (events.Junk number from bytes) act → told ≡ act → Tells before after (printed.Heard told.line from) told.message
       → TakesIn A config number old new now (Datagram from bytes) receives receives before after
-  takes_datagram {old} {new} {now} {from} {bytes} {act} {receives} {before} {after} does tells =
+  takes_datagram {old} {new} {now} {from} {bytes} {told} {act} {receives} {before} {after} does same told_as =
+      let tells = subst (λ (a : ActValue). Tells before after (printed.Heard a.line from) a.message) same told_as in
       record {
         heard = record { event = events.Junk number from bytes; act = act; told = true; taken = tells.taken } ∷ [];
         hears = (_, refl, refl, refl);
@@ -34,10 +36,10 @@ module _ (A : Type 0) (config : ConfigValue) (number : ℕ) where
         asked = asks_same before after _ (asks_same before after _ tells.asked);
       }
 
-  module _ (node passed between left : NodeState) (receives receives_left sends sends_left : Pause) (s asked_once begun heard served after : OutsideState)
-      (reception : Reception) (now : ℕ) (logs : Logs s asked_once (Receives reception)) (reads : ReadsClock asked_once begun now) (passes : Passes node passed now)
-      (takes : TakesIn A config number passed between now reception receives receives_left begun heard)
-      (serves : ServesDue A config number between left now sends sends_left heard served) (rests : Asks served after (rest_calls reception)) where
+  module _ (node passed between swept left : NodeState) (receives receives_left sends sends_left : Pause) (s asked_once begun expired heard served after : OutsideState)
+      (reception : Reception) (now : ℕ) (logs : Logs s asked_once (Receives reception)) (reads : ReadsClock asked_once begun now) (expires : Expires node passed now begun expired)
+      (takes : TakesIn A config number passed between now reception receives receives_left expired heard)
+      (withdrawn : Passes between swept now) (serves : ServesDue A config number swept left now sends sends_left heard served) (rests : Asks served after (rest_calls reception)) where
     -- what was asked first
     abbrev first_calls : List Call
     first_calls = Reads now ∷ Receives reception ∷ []
@@ -48,20 +50,20 @@ module _ (A : Type 0) (config : ConfigValue) (number : ℕ) where
 
     -- what was asked then
     abbrev later_calls : List Call
-    later_calls = rest_calls reception ++ (acts_calls serves.served ++ (acts_calls takes.heard ++ failure_calls reception receives now))
+    later_calls = rest_calls reception ++ (acts_calls serves.served ++ (acts_calls takes.heard ++ failure_calls reception receives now)) ++ expired_calls expires.dead
 
     later_asked : Asks begun after later_calls
-    later_asked = asks_then begun served after _ _ (asks_then begun heard served _ _ takes.asked serves.asked) rests
+    later_asked = asks_then begun expired after _ _ expires.asked (asks_then expired served after _ _ (asks_then expired heard served _ _ takes.asked serves.asked) rests)
 
-    same_calls : later_calls ++ first_calls ≡ turn_calls reception receives now takes.heard serves.served
+    same_calls : later_calls ++ first_calls ≡ turn_calls reception receives now expires.dead takes.heard serves.served
     same_calls =
         let rest = rest_calls reception in
         let due = acts_calls serves.served in
         let made = acts_calls takes.heard in
         let failure = failure_calls reception receives now in
-        ap (λ (calls : List Call). calls ++ first_calls) (sym (append_assoc rest due (made ++ failure)) ∙ sym (append_assoc (rest ++ due) made failure))
+        ap (λ (calls : List Call). calls ++ expired_calls expires.dead ++ first_calls) (sym (append_assoc rest due (made ++ failure)) ∙ sym (append_assoc (rest ++ due) made failure))
 
-    asked_all : after ≡ record { log = logged (turn_calls reception receives now takes.heard serves.served) s.log; moment = now; is_cut = after.is_cut }
+    asked_all : after ≡ record { log = logged (turn_calls reception receives now expires.dead takes.heard serves.served) s.log; moment = now; is_cut = after.is_cut }
     asked_all =
         later_asked
         ∙ (λ i. record {
@@ -81,11 +83,14 @@ module _ (A : Type 0) (config : ConfigValue) (number : ℕ) where
           later = subst (λ (t : OutsideState). t.moment ≤ now) logs reads.later;
           bound = reads.bound;
           passed = passed;
-          passes = passes;
+          dead = expires.dead;
+          expires = expires.told;
           heard = takes.heard;
           hears = takes.hears;
           between = between;
           did_hear = takes.did;
+          left = swept;
+          withdrawn = withdrawn;
           receives = takes.left_is;
           served = serves.served;
           did_serve = serves.did;

@@ -2,6 +2,8 @@
 use Rattle.std.specs.Prelude.{◌≡◌, ℕ, Bool, true, false, List, [], ◌∷◌, ◌++◌, length, Option, Some, None, if◌then◌else◌}
 use Rattle.lisp_records.specs.declared.address.Addr.{Addr}
 use Rattle.lisp_policy.specs.Configuration.{ConfigValue}
+use Rattle.lisp_model.specs.declared.event.Event.TheVariants as events
+use Rattle.lisp_model.specs.declared.line.Line.{Line}
 use Rattle.lisp_model.specs.Trace.{EventValue, Step, Opening}
 use Rattle.lisp_refinement.specs.World.{DatagramValue, WorldState}
 use Rattle.lisp_refinement.specs.Events.{address_of}
@@ -11,6 +13,7 @@ use Rattle.lisp_turns.specs.Act.{ActValue, numbered}
 use Rattle.lisp_turns.specs.Made.{IsMade}
 use Rattle.lisp_turns.specs.Node.{NodeState, HasNode, with_node, IsPlaced}
 use Rattle.lisp_turns.specs.Outside.{Call, Prints, Sends}
+use Rattle.lisp_turns.specs.declared.outside.Printed.{Printed}
 use Rattle.lisp_turns.specs.declared.outside.Printed.TheVariants as printed
 use Rattle.lisp_turns.specs.declared.outside.SocketCall.TheVariants as calls
 
@@ -62,9 +65,14 @@ abbrev pub send_calls : Option (Addr × List ℕ) → Bool → List Call
 send_calls None taken = []
 send_calls (Some message) taken = send_failed taken ++ Sends message.0 message.1 taken ∷ []
 
+-- the line of an event, with the source address of a datagram
+abbrev pub printed_of : EventValue → Line → Printed
+printed_of (events.Junk to from bytes) line = printed.Heard line from
+printed_of _ line = printed.Event line
+
 -- what is asked outside for an act, the newest first: its line, then its message. Of one that isn't told nothing is asked
 abbrev pub act_calls : TurnAct → List Call
-act_calls a = if a.told then send_calls a.act.message a.taken ++ Prints (printed.Event a.act.line) ∷ [] else []
+act_calls a = if a.told then send_calls a.act.message a.taken ++ Prints (printed_of a.event a.act.line) ∷ [] else []
 
 abbrev pub acts_calls : List TurnAct → List Call
 acts_calls [] = []

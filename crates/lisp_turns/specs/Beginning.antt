@@ -38,8 +38,8 @@ abbrev pub IsUnasked : OutsideState → Type 0
 IsUnasked s = (s.log ≡ Some []) × (s.moment ≡ 0)
 
 -- All that a node did from its start on: there is a network of its configuration, whose store of the node keeps at the opening
--- what this store kept, and a legal trace of it whose steps are the node's own. The lines that it printed are theirs; the
--- datagrams that it sent are all those of the network, in their order; what arrived is what it received.
+-- what this store kept, and a legal trace of it whose steps are the node's own. The events' lines that it printed are theirs;
+-- the datagrams that it sent are all those of the network, in their order; what arrived is what it received.
 pub record IsWholePart (config : ConfigValue) (number : ℕ) (store : StoreState) (calls : List Call) : Type 0 where
   pub first : WorldState
   pub opening : Opening

@@ -1,5 +1,10 @@
 -- A node of either kind, and its place in a network.
-use Rattle.std.specs.Prelude.{◌≡◌, ℕ, ◌+◌, ◌-◌, ◌<◌, length, slice_get, slice_set, Some}
+use Rattle.std.specs.Prelude.{◌≡◌, ◌≢◌, ◌↔◌, ℕ, ◌+◌, ◌-◌, ◌<◌, false, List, length, slice_get, slice_set, Some}
+use Rattle.std.specs.List.{AllPairs, Contains}
+use Rattle.lisp_records.specs.declared.router.RouterId.{RouterId}
+use Rattle.lisp_records.specs.Address.{PrefixValue}
+use Rattle.lisp_records.specs.Row.{RowValue, is_alive}
+use Rattle.lisp_lookup.specs.Table.{row_at, DropsDead}
 use Rattle.lisp_policy.specs.Configuration.{ConfigValue, RouterEntryValue}
 use Rattle.lisp_etr.specs.Etr.{EtrState}
 use Rattle.lisp_refinement.specs.Nodes.{up_in}
@@ -35,3 +40,24 @@ abbrev pub Passes : NodeState → NodeState → ℕ → Type 0
 Passes (Server old) (Server new) now = ExpiresNode old new now
 Passes (Router old) (Router new) now = new ≡ old
 Passes _ _ now = ⊥
+
+-- a Map-Server holds a row of a router and an EID-Prefix, which is dead at a moment
+abbrev pub IsDead : NodeState → ℕ → RouterId × PrefixValue → Type 0
+IsDead (Server n) now key = (row : RowValue) × (row_at n.core.rows key.0 key.1 ≡ Some row) × (is_alive row now ≡ false)
+IsDead (Router n) now key = ⊥
+
+-- no row is dead
+abbrev pub NoneDead : NodeState → ℕ → Type 0
+NoneDead node now = (key : RouterId × PrefixValue) → IsDead node now key → ⊥
+
+-- a Map-Server drops the row of a router and an EID-Prefix, which is dead at a moment, and nothing else
+abbrev pub DropsRow : NodeState → NodeState → ℕ → RouterId × PrefixValue → Type 0
+DropsRow (Server old) (Server new) now key = DropsDead old.core.rows new.core.rows now key
+    × (new ≡ record old { core = record old.core { rows = new.core.rows } })
+DropsRow _ _ now key = ⊥
+
+-- time passes, and the rows that are dead are told, each once
+pub record TellsDead (old new : NodeState) (now : ℕ) (told : List (RouterId × PrefixValue)) : Type 0 where
+  pub passes : Passes old new now
+  pub each : (key : RouterId × PrefixValue) → Contains told key ↔ IsDead old now key
+  pub once : AllPairs (λ a b. a ≢ b) told

@@ -54,6 +54,7 @@ arrivals (s ∷ T) = arrival s.event ++ arrivals T
 abbrev pub lines_of : List Call → List Line
 lines_of [] = []
 lines_of (Prints (printed.Event line) ∷ calls) = line ∷ lines_of calls
+lines_of (Prints (printed.Heard line from) ∷ calls) = line ∷ lines_of calls
 lines_of (_ ∷ calls) = lines_of calls
 
 abbrev pub sent_of : List Call → List (Addr × List ℕ)
@@ -70,8 +71,8 @@ received_of (_ ∷ calls) = received_of calls
 abbrev pub datagram_from : Addr → Addr × List ℕ → DatagramValue
 datagram_from from message = record { from = from; to = message.0; bytes = message.1 }
 
--- a network went on by steps of the node with a number: the lines that were printed are theirs, the datagrams that were sent
--- are those of the network, in their order, and what arrived is what was received
+-- a network went on by steps of the node with a number: the events' lines that were printed are theirs, the datagrams that were
+-- sent are those of the network, in their order, and what arrived is what was received
 pub record IsPart (number : ℕ) (calls : List Call) (old new : WorldState) (o : Opening) (T steps : List Step) : Type 0 where
   pub stands : Stands new o (steps ++ T)
   pub own : AllByRecursion (λ s. IsOwn number s.event) steps

@@ -1,16 +1,18 @@
 -- Stretches of a turn, and turns from the start on.
-use Rattle.std.specs.Prelude.{◌≡◌, ◌≢◌, ℕ, Bool, List, [], ◌∷◌, ◌++◌, length}
+use Rattle.std.specs.Prelude.{◌≡◌, ◌≢◌, ℕ, Bool, List, [], ◌∷◌, ◌++◌, length, Option}
 use Rattle.std.specs.List.{All, AllByRecursion, AllPairs}
+use Rattle.lisp_records.specs.declared.address.Addr.{Addr}
+use Rattle.lisp_records.specs.declared.router.RouterId.{RouterId}
+use Rattle.lisp_records.specs.Address.{PrefixValue}
 use Rattle.lisp_policy.specs.Configuration.{ConfigValue}
 use Rattle.lisp_model.specs.Trace.{EventValue}
-use Rattle.lisp_turns.specs.Act.{ActValue}
 use Rattle.lisp_turns.specs.Acts.{TurnAct, DoesAll, acts_calls, send_calls}
 use Rattle.lisp_turns.specs.Due.{IsDuty, IsSend, SendsDue}
-use Rattle.lisp_turns.specs.Node.{NodeState}
+use Rattle.lisp_turns.specs.Node.{NodeState, TellsDead}
 use Rattle.lisp_turns.specs.Outside.{Reception, Call, Prints, OutsideState, logged}
 use Rattle.lisp_turns.specs.Pause.{no_pause}
-use Rattle.lisp_turns.specs.Turn.{TurnState, Hears, failure_calls, receives_after, IsDone, DoesDuties, Serves, TakesTurns}
-use Rattle.lisp_turns.specs.declared.outside.Printed.TheVariants as printed
+use Rattle.lisp_turns.specs.Turn.{TurnState, Hears, expired_calls, failure_calls, receives_after, IsDone, DoesDuties, Serves, TakesTurns}
+use Rattle.lisp_turns.specs.declared.outside.Printed.{Printed}
 use Rattle.lisp_turns.specs.declared.pause.Pause.{Pause}
 use Rattle.lisp_turns.specs.declared.turn.Station.{Station}
 
@@ -22,10 +24,16 @@ at_station node station outside = record { node = node; receives = station.recei
 abbrev pub Asks : OutsideState → OutsideState → List Call → Type 0
 Asks old new calls = new ≡ record old { log = logged calls old.log; is_cut = new.is_cut }
 
--- an act was told
-pub record Tells (old new : OutsideState) (act : ActValue) : Type 0 where
+-- a line was printed, and the message behind it was sent, if there is one
+pub record Tells (old new : OutsideState) (line : Printed) (message : Option (Addr × List ℕ)) : Type 0 where
   pub taken : Bool
-  pub asked : Asks old new (send_calls act.message taken ++ Prints (printed.Event act.line) ∷ [])
+  pub asked : Asks old new (send_calls message taken ++ Prints line ∷ [])
+
+-- time passes, and each row that dies is told
+pub record Expires (old new : NodeState) (now : ℕ) (before after : OutsideState) : Type 0 where
+  pub dead : List (RouterId × PrefixValue)
+  pub told : TellsDead old new now dead
+  pub asked : Asks before after (expired_calls dead)
 
 -- a node took in what was received, at a moment: what it made of a datagram is told, and so is a failure, once a minute
 pub record TakesIn (A : Type 0) (config : ConfigValue) (number : ℕ) (old new : NodeState) (now : ℕ) (reception : Reception)

@@ -1,10 +1,12 @@
 -- A turn of a node: a datagram, if one comes; then what is due.
-use Rattle.std.specs.Prelude.{◌≡◌, ◌≢◌, ◌⊎◌, ℕ, zero, suc, ◌-◌, ◌^◌, ◌<◌, ◌≤◌, Bool, true, false, List, [], ◌∷◌, ◌++◌, length, if◌then◌else◌}
+use Rattle.std.specs.Prelude.{◌≡◌, ◌≢◌, ◌⊎◌, ℕ, zero, suc, ◌-◌, ◌^◌, ◌<◌, ◌≤◌, Bool, true, false, List, [], ◌∷◌, ◌++◌, length, map, if◌then◌else◌}
 use Rattle.std.specs.List.{AllByRecursion, AllPairs}
-use Rattle.lisp_policy.specs.Configuration.{ConfigValue}
+use Rattle.lisp_records.specs.declared.router.RouterId.{RouterId}
+use Rattle.lisp_records.specs.Address.{PrefixValue}
 use Rattle.lisp_records.specs.Moment.{second, max_moment}
+use Rattle.lisp_policy.specs.Configuration.{ConfigValue}
 use Rattle.lisp_model.specs.declared.event.Event.TheVariants as events
-use Rattle.lisp_turns.specs.Node.{NodeState, Passes}
+use Rattle.lisp_turns.specs.Node.{NodeState, Passes, TellsDead}
 use Rattle.lisp_turns.specs.Acts.{TurnAct, DoesAll, acts_calls}
 use Rattle.lisp_turns.specs.Due.{IsDuty, IsSend, SendsDue, IsRefused, NothingDue}
 use Rattle.lisp_turns.specs.Outside.{Reception, Datagram, Failed, Call, Receives, Reads, Waits, Prints, OutsideState, logged}
@@ -76,29 +78,37 @@ ServesIf false number before after now pause left acts = (acts ≡ []) × (left 
 abbrev pub Serves : ℕ → NodeState → NodeState → ℕ → Pause → Pause → List TurnAct → Type 0
 Serves number before after now pause left acts = ServesIf (may_try pause now) number before after now pause left acts
 
--- what is asked outside in a turn, the newest first
-abbrev pub turn_calls : Reception → Pause → ℕ → (heard served : List TurnAct) → List Call
-turn_calls reception receives now heard served =
-    rest_calls reception ++ acts_calls served ++ acts_calls heard ++ failure_calls reception receives now ++ Reads now ∷ Receives reception ∷ []
+-- the lines of the rows that died, the newest first
+abbrev pub expired_calls : List (RouterId × PrefixValue) → List Call
+expired_calls dead = map (λ key. Prints (printed.Expired key.0 key.1)) dead
 
--- One turn. It takes one datagram at most, reads the clock once, drops dead rows, makes of the datagram what the node makes of
--- it at that moment, and then does what is due.
+-- what is asked outside in a turn, the newest first
+abbrev pub turn_calls : Reception → Pause → ℕ → (dead : List (RouterId × PrefixValue)) → (heard served : List TurnAct) → List Call
+turn_calls reception receives now dead heard served =
+    rest_calls reception ++ acts_calls served ++ acts_calls heard ++ failure_calls reception receives now
+    ++ expired_calls dead ++ Reads now ∷ Receives reception ∷ []
+
+-- One turn. It takes one datagram at most, reads the clock once, drops the dead rows and tells each, makes of the datagram what
+-- the node makes of it at that moment, and then does what is due.
 pub record IsTurn (A : Type 0) (config : ConfigValue) (number : ℕ) (old new : TurnState) : Type 0 where
   pub reception : Reception
   pub now : ℕ
   pub later : old.outside.moment ≤ now
   pub bound : now ≤ max_moment
   pub passed : NodeState
-  pub passes : Passes old.node passed now
+  pub dead : List (RouterId × PrefixValue)
+  pub expires : TellsDead old.node passed now dead
   pub heard : List TurnAct
   pub hears : Hears number reception heard
   pub between : NodeState
   pub did_hear : DoesAll A config number passed between now heard
+  pub left : NodeState
+  pub withdrawn : Passes between left now
   pub receives : new.receives ≡ receives_after reception old.receives now
   pub served : List TurnAct
-  pub did_serve : DoesAll A config number between new.node now served
-  pub serves : Serves number between new.node now old.sends new.sends served
-  pub calls : new.outside ≡ record { log = logged (turn_calls reception old.receives now heard served) old.outside.log; moment = now; is_cut = new.outside.is_cut }
+  pub did_serve : DoesAll A config number left new.node now served
+  pub serves : Serves number left new.node now old.sends new.sends served
+  pub calls : new.outside ≡ record { log = logged (turn_calls reception old.receives now dead heard served) old.outside.log; moment = now; is_cut = new.outside.is_cut }
 
 -- so many turns
 abbrev pub Turns : Type 0 → ConfigValue → ℕ → ℕ → TurnState → TurnState → Type 0

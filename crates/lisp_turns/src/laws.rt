@@ -6,8 +6,8 @@ ghost use Rattle.lisp_turns.specs.Part.{TurnsAreParts};
 use std::alloc::Allocator;
 
 /// What a node prints and sends in its turns is a legal trace's part of it: a network that stands for a trace, and has the
-/// node, stands for the trace followed by steps of that node, whose lines are those that were printed, and whose datagrams
-/// are those that were sent.
+/// node, stands for the trace followed by steps of that node, whose lines are the events' lines that were printed, and whose
+/// datagrams are those that were sent.
 pub fn turns_are_parts<A: Allocator>()
     ensures { TurnsAreParts A }
 {}

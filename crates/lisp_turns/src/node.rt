@@ -6,12 +6,12 @@ ghost use Rattle.lisp_model.specs.declared.event.Event.TheVariants as events;
 ghost use Rattle.lisp_model.specs.Memory.{MayTell};
 ghost use Rattle.lisp_turns.specs.Acts.{DoesOne};
 ghost use Rattle.lisp_turns.specs.Due.{NothingDue, DoesDuty};
-ghost use Rattle.lisp_turns.specs.Node.{NodeState, IsPlaced, Passes};
+ghost use Rattle.lisp_turns.specs.Node.{NodeState, IsPlaced, DropsRow, NoneDead};
 
 use crate::act::Act;
 use crate::place::Place;
 use lisp_memory::Memory;
-use lisp_records::Addr;
+use lisp_records::{Addr, Prefix, RouterId};
 use std::alloc::Global;
 
 /// A Map-Server or a router that runs at a place of a configuration. Moments are in ms.
@@ -21,10 +21,12 @@ pub trait Node {
     // Its store's memory may be refused.
     ghost store_may_refuse: { Type 0 };
 
-    /// Time passes: a Map-Server drops the rows that are dead at a moment.
-    fn pass(&mut self, now: u64)
+    /// Time passes: a Map-Server drops a row that is dead at a moment. Answers whose it was, the router and its EID-Prefix;
+    /// `None` where no row is dead, and then nothing changes.
+    fn expire(&mut self, now: u64) -> Option<(RouterId, Prefix)>
         requires { now ≤ max_moment }
-        ensures { Passes (state self.old) (state self.new) now };
+        ensures drops { IfSome result (λ row. DropsRow (state self.old) (state self.new) now row) }
+        ensures none { result ≡ None → NoneDead (state self.old) now × (state self.new ≡ state self.old) };
 
     /// It is given bytes that come from an address, at a moment.
     fn hear(&mut self, place: &Place, from: Addr, bytes: &[u8], now: u64) -> Act

@@ -4,7 +4,7 @@ ghost use Rattle.std.specs.Prelude.{◌≡◌, length};
 ghost use Rattle.lisp_turns.specs.Outside.{OutsideState, Logs, LogsLine, ReadsClock, reception, FitsBuffer, Receives, Waits, Sends};
 
 use lisp_model::Line;
-use lisp_records::Addr;
+use lisp_records::{Addr, Prefix, RouterId};
 
 /// What came of waiting for a datagram.
 #[derive(Clone, Copy, Debug, PartialEq, Eq)]
@@ -31,11 +31,26 @@ pub enum SocketCall {
     Send,
 }
 
-/// What a node prints: a line.
+/// What a node prints: a line. A node that runs has no number for its datagrams: those of its lines are 0.
 #[derive(Clone, Copy, Debug, PartialEq, Eq)]
 pub enum Printed {
-    /// The line of an event. A node that runs has no number for its datagrams: those of its lines are 0.
+    /// What the node did of itself.
     Event(Line),
+    /// What it made of a datagram.
+    Heard {
+        /// The line.
+        line: Line,
+        /// The address that the datagram came from.
+        from: Addr,
+    },
+    /// A row of a Map-Server died: its router didn't register the record again in its lifetime (RFC 9301 section 8.2). A row
+    /// that a Map-Register withdrew, by the TTL 0, isn't told.
+    Expired {
+        /// The router that registered the record.
+        router: RouterId,
+        /// The EID-Prefix of the record.
+        eid: Prefix,
+    },
     /// The node's socket failed.
     Failed(SocketCall),
 }

@@ -17,7 +17,7 @@ use lisp_messages::Head;
 use lisp_model::{Line, Refusal};
 use lisp_nodes::{Arrival, RouterNode, router_hears};
 use lisp_nonces::{Fate, WorldStore};
-use lisp_records::{Addr, Bytes};
+use lisp_records::{Addr, Bytes, Prefix, RouterId};
 use std::alloc::Global;
 
 impl<S: WorldStore> Node for RouterNode<S> {
@@ -27,7 +27,10 @@ impl<S: WorldStore> Node for RouterNode<S> {
 
     ghost store_may_refuse = { S.may_refuse };
 
-    fn pass(&mut self, _now: u64) {}
+    /// A router holds no rows.
+    fn expire(&mut self, _now: u64) -> Option<(RouterId, Prefix)> {
+        None
+    }
 
     fn hear(&mut self, place: &Place, from: Addr, bytes: &[u8], now: u64) -> Act {
         let how = Arrival {

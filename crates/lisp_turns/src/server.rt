@@ -16,7 +16,7 @@ use lisp_memory::Memory;
 use lisp_model::{Line, Refusal};
 use lisp_nodes::{Arrival, ServerNode, server_hears};
 use lisp_nonces::{Fate, WorldStore};
-use lisp_records::{Addr, Bytes, RouterId};
+use lisp_records::{Addr, Bytes, Prefix, RouterId};
 use lisp_server::NoticeFault;
 use std::alloc::Global;
 
@@ -27,8 +27,8 @@ impl<S: WorldStore> Node for ServerNode<S> {
 
     ghost store_may_refuse = { S.may_refuse };
 
-    fn pass(&mut self, now: u64) {
-        self.expire(now);
+    fn expire(&mut self, now: u64) -> Option<(RouterId, Prefix)> {
+        self.expire_one(now)
     }
 
     fn hear(&mut self, place: &Place, from: Addr, bytes: &[u8], now: u64) -> Act {

@@ -2,17 +2,18 @@
 
 ghost use Rattle.std.specs.Prelude.{◌≡◌, ◌≤◌, ℕ, List};
 ghost use Rattle.lisp_records.specs.Moment.{max_moment};
-ghost use Rattle.lisp_turns.specs.Node.{IsPlaced};
+ghost use Rattle.lisp_turns.specs.Node.{IsPlaced, Passes};
 ghost use Rattle.lisp_turns.specs.Outside.{FitsBuffer, reception};
 ghost use Rattle.lisp_turns.specs.Beginning.{RunsAsPart};
 ghost use Rattle.lisp_turns.specs.Turn.{IsTurn, rest_calls};
-ghost use Rattle.lisp_turns.specs.Stretch.{Asks, Tells, TakesIn, ServesAll, ServesDue, StartsTurns, at_station};
+ghost use Rattle.lisp_turns.specs.Stretch.{Asks, Expires, Tells, TakesIn, ServesAll, ServesDue, StartsTurns, at_station};
 
 use crate::act::Act;
 use crate::node::Node;
 use crate::outside::{Clock, Endpoint, Lines, Printed, Received, SocketCall};
 use crate::pause::{Pause, RETRY_MS};
 use crate::place::Place;
+use lisp_records::{Addr, Bytes};
 use std::alloc::Global;
 
 /// The most bytes of a datagram.
@@ -29,10 +30,11 @@ struct Station<'a> {
 }
 
 /// Takes so many turns, from a node's start on; none after one in which a line couldn't be printed. A turn takes one datagram,
-/// or none where none comes in time, answers it to where it came from, drops dead rows, and then sends what is due: a
-/// Map-Register of each part of a router's database to each Map-Server, at most one of each, or each notice of a Map-Server
-/// (RFC 9301 sections 5.7 and 8.2), until one is refused. Each event is a line. A socket that fails is a line, too, once a
-/// minute, and a second's rest; what was refused is tried again a second later, and told once a minute.
+/// or none where none comes in time, drops the rows that are dead, answers the datagram to where it came from, and then sends
+/// what is due: a Map-Register of each part of a router's database to each Map-Server, at most one of each, or each notice of
+/// a Map-Server (RFC 9301 sections 5.7 and 8.2), until one is refused. Each event is a line, and so is each row that dies. A
+/// socket that fails is a line, too, once a minute, and a second's rest; what was refused is tried again a second later, and
+/// told once a minute.
 pub fn take_turns<N: Node, O: Endpoint + Clock + Lines>(
     node: &mut N,
     place: &Place,
@@ -72,10 +74,30 @@ fn turn<N: Node, O: Endpoint + Clock + Lines>(
 {
     let received = outside.receive(buffer);
     let now = outside.now();
-    node.pass(now);
+    expire(node, now, outside);
     take_in(node, station, received, buffer, now, outside);
+    drop_withdrawn(node, now);
     serve_due(node, station, now, outside);
     rest(received, outside);
+}
+
+// Time passes, and each row that dies is told.
+fn expire<N: Node, O: Lines>(node: &mut N, now: u64, outside: &mut O)
+    requires { now ≤ max_moment }
+    ensures { Expires (N.state node.old) (N.state node.new) now (O.seen outside.old) (O.seen outside.new) }
+{
+    while let Some((router, eid)) = node.expire(now) {
+        outside.print(&Printed::Expired { router, eid });
+    }
+}
+
+// The rows that a Map-Register withdrew (RFC 9301 section 5.6: a Record TTL of 0) leave at once: they didn't die unrenewed, and
+// aren't told.
+fn drop_withdrawn<N: Node>(node: &mut N, now: u64)
+    requires { now ≤ max_moment }
+    ensures { Passes (N.state node.old) (N.state node.new) now }
+{
+    while let Some(_withdrawn) = node.expire(now) {}
 }
 
 // What was received, in a buffer, is heard, or told as a failure.
@@ -97,8 +119,8 @@ fn take_in<N: Node, O: Endpoint + Lines>(
 {
     match received {
         Received::Datagram { from, count } => {
-            let act = node.hear(&station.place, from, &bytes[..count], now);
-            tell(&act, outside);
+            let Act { line, message } = node.hear(&station.place, from, &bytes[..count], now);
+            tell(&Printed::Heard { line, from }, &message, outside);
         }
         Received::Nothing => {}
         Received::Failed => {
@@ -148,20 +170,20 @@ fn serve_all<N: Node, O: Endpoint + Lines>(
         };
         if act.is_refused() {
             if station.sends.fail(now) {
-                tell(&act, outside);
+                tell(&Printed::Event(act.line), &act.message, outside);
             }
             return;
         }
-        tell(&act, outside);
+        tell(&Printed::Event(act.line), &act.message, outside);
     }
 }
 
-// Prints the line of an act, and then sends its message. A socket that fails is a line, too.
-fn tell<O: Endpoint + Lines>(act: &Act, outside: &mut O)
-    ensures { Tells (O.seen outside.old) (O.seen outside.new) act.now }
+// Prints a line, and then sends the message behind it, if there is one. A socket that fails is a line, too.
+fn tell<O: Endpoint + Lines>(line: &Printed, message: &Option<(Addr, Bytes)>, outside: &mut O)
+    ensures { Tells (O.seen outside.old) (O.seen outside.new) line.now message.now }
 {
-    outside.print(&Printed::Event(act.line));
-    if let Some((to, message)) = &act.message {
+    outside.print(line);
+    if let Some((to, message)) = message {
         if !outside.send(to, message.as_slice()) {
             outside.print(&Printed::Failed(SocketCall::Send));
         }

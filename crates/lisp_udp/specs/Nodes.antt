@@ -1,5 +1,5 @@
 -- The nodes of a configuration, by their numbers: Map-Servers first, then routers.
-use Rattle.std.specs.Prelude.{◌≢◌, ℕ, ◌+◌, ◌-◌, ◌<◌, nat_lt, List, length, slice_get, Option, Some, if◌then◌else◌}
+use Rattle.std.specs.Prelude.{◌≢◌, ℕ, ◌+◌, ◌-◌, ◌<◌, nat_lt, List, [], length, slice_get, Option, Some, unwrap_or, if◌then◌else◌}
 use Rattle.std.specs.Option.{option_map}
 use Rattle.lisp_records.specs.declared.address.Addr.{Addr}
 use Rattle.lisp_policy.specs.Configuration.{ConfigValue}
@@ -22,6 +22,12 @@ abbrev pub address_at : ConfigValue → ℕ → Option Addr
 address_at config number = if nat_lt number (length config.servers)
     then option_map (λ s. s.address) (slice_get config.servers number)
     else option_map (λ r. r.address) (slice_get config.routers (number - length config.servers))
+
+-- the Map-Servers that it registers with; a Map-Server registers with none
+abbrev pub servers_of : ConfigValue → ℕ → List ℕ
+servers_of config number = if nat_lt number (length config.servers)
+    then []
+    else unwrap_or (option_map (λ r. r.servers) (slice_get config.routers (number - length config.servers))) []
 
 -- no node has the name
 abbrev pub NoneNamed : ConfigValue → List ℕ → Type 0

@@ -2,7 +2,7 @@
 
 ghost use Rattle.std.specs.Prelude.{◌≡◌, ◌↔◌, Some, None, IsTrue, IfOk, IfErr, IfSome};
 ghost use Rattle.lisp_udp.specs.Names.{IsNamed, IsNameFault};
-ghost use Rattle.lisp_udp.specs.Nodes.{IsNode, name_at, address_at, NoneNamed};
+ghost use Rattle.lisp_udp.specs.Nodes.{IsNode, name_at, address_at, servers_of, NoneNamed};
 
 use lisp_model::WorldFault;
 use lisp_records::Addr;
@@ -37,6 +37,19 @@ pub(crate) fn entry_at(config: &Config, number: usize) -> NodeEntry<'_>
         name: router.name.as_str(),
         address: &router.address,
     }
+}
+
+/// The Map-Servers that the node with a number registers with, by their numbers; a Map-Server registers with none.
+pub(crate) fn servers_of(config: &Config, number: usize) -> &[usize]
+    requires { IsNode config.now number }
+    ensures { result.now ≡ servers_of config.now number }
+{
+    let count = config.servers().len();
+    if number < count {
+        return &[];
+    }
+    let router = &config.routers()[number - count];
+    router.servers.as_slice()
 }
 
 /// A kind of node.

@@ -7,9 +7,15 @@
 mod devices;
 mod entry;
 mod folder;
-mod output;
 mod socket;
 mod stopwatch;
+
+// Where its lines go: to a writer, each at once, or to a log.
+mod journal;
+mod line_writer;
+mod output;
+mod printer;
+mod standard_output;
 
 // One node, which takes turns.
 mod node;

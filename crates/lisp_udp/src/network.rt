@@ -21,8 +21,9 @@ use lisp_store::{FileStore, SystemFolder};
 use lisp_turns::Endpoint;
 use lisp_world::World;
 use std::alloc::Global;
+use std::cell::Cell;
 use std::fs::{File, Files};
-use std::io::Write;
+use std::io::{ErrorKind, Write};
 use std::net::Net;
 
 /// Plays a script over a network whose nodes keep their nonces in the folders `dir`/NAME, and send each datagram for a node
@@ -53,11 +54,12 @@ fn run_script<R: Files<File = File> + Net + AllocGlobal + Clone + Drop, W: Write
     writer: &mut W,
 ) -> Result<(), RunFault> {
     let commands = read_script(rt, config, file)?;
+    let failure = Cell::new(None);
     // The locks keep other processes out of the folders.
     let Folders {
         stores,
         locks: _locks,
-    } = open_folders(rt, config, dir)?;
+    } = open_folders(rt, config, dir, &failure)?;
     run_over(rt, config, stores, &commands, writer)
 }
 
@@ -84,17 +86,18 @@ fn run_over<R: Net + AllocGlobal, S: WorldStore + Drop, W: Write>(
 
 /// The stores of all nodes, Map-Servers first, and the locks of their folders.
 #[derive(Drop)]
-struct Folders<R> {
-    stores: Vec<FileStore<SystemFolder<R>>>,
+struct Folders<'a, R> {
+    stores: Vec<FileStore<SystemFolder<'a, R>>>,
     locks: Vec<File>,
 }
 
-// The folder of each node.
-fn open_folders<R: Files<File = File> + AllocGlobal + Clone + Drop>(
+// The folder of each node. `failure` holds the kind of the last error of their devices.
+fn open_folders<'a, R: Files<File = File> + AllocGlobal + Clone + Drop>(
     rt: &R,
     config: &Config,
     dir: &str,
-) -> Result<Folders<R>, RunFault>
+    failure: &'a Cell<Option<ErrorKind>>,
+) -> Result<Folders<'a, R>, RunFault>
     ensures { IfOk result (λ folders. length folders.stores.items ≡ node_count config.now) }
 {
     let mut folders = Folders {
@@ -102,23 +105,22 @@ fn open_folders<R: Files<File = File> + AllocGlobal + Clone + Drop>(
         locks: Vec::new(rt.alloc()),
     };
     for number in 0..config.node_count() {
-        add_folder(rt, dir, entry_at(config, number).name, &mut folders)?;
+        let folder = open_folder(rt, dir, entry_at(config, number).name, failure)?;
+        folders.add(folder)?;
     }
     Ok(folders)
 }
 
-fn add_folder<R: Files<File = File> + AllocGlobal + Clone + Drop>(
-    rt: &R,
-    dir: &str,
-    name: &str,
-    folders: &mut Folders<R>,
-) -> Result<(), RunFault>
-    ensures { OnOk result (length folders.new.stores.items ≡ length folders.old.stores.items + 1) }
-{
-    let LockedFolder { store, lock } = open_folder(rt, dir, name)?;
-    folders.stores.try_push(store)?;
-    folders.locks.try_push(lock)?;
-    Ok(())
+impl<'a, R: Drop> Folders<'a, R> {
+    // Another folder, too. Fault: 97.
+    fn add(&mut self, folder: LockedFolder<'a, R>) -> Result<(), RunFault>
+        ensures { OnOk result (length self.new.stores.items ≡ length self.old.stores.items + 1) }
+    {
+        let LockedFolder { store, lock, .. } = folder;
+        self.stores.try_push(store)?;
+        self.locks.try_push(lock)?;
+        Ok(())
+    }
 }
 
 /// A network that runs.

@@ -8,8 +8,10 @@ ghost use Rattle.lisp_udp.specs.Nodes.{IsNode};
 ghost use Rattle.lisp_udp.specs.Running.{RunsOver, TakesItsTurns};
 
 use crate::devices::Devices;
-use crate::entry::{NodeKind, entry_at, number_named};
+use crate::entry::{NodeKind, entry_at, number_named, servers_of};
 use crate::folder::{LockedFolder, open_folder};
+use crate::journal::Journal;
+use crate::line_writer::LineWriter;
 use crate::router::start_router;
 use crate::server::start_server;
 use lisp_nonces::WorldStore;
@@ -17,6 +19,7 @@ use lisp_script::{RunFault, read_config};
 use lisp_sites::Config;
 use lisp_turns::{Endpoint, Lines, Node, Place, take_turns};
 use std::alloc::Global;
+use std::cell::Cell;
 use std::fs::{File, Files};
 use std::io::Write;
 use std::net::Net;
@@ -46,10 +49,55 @@ fn run_in<R: Files<File = File> + Net + Clock + AllocGlobal + Clone + Drop, W: W
     writer: &mut W,
 ) -> Result<(), RunFault> {
     let number = number_named(config, kind, name)?;
+    let failure = Cell::new(None);
     // The lock keeps other processes out of the folder.
-    let LockedFolder { store, lock: _lock } = open_folder(rt, dir, name)?;
-    let devices = Devices::open(rt, config, entry_at(config, number), writer);
-    run_over(rt.alloc(), config, number, store, turns, devices)?.end()
+    let LockedFolder {
+        store,
+        lock: _lock,
+        ..
+    } = open_folder(rt, dir, name, &failure)?;
+    let printer = LineWriter::new(rt.alloc(), config, name, writer);
+    let devices = Devices::open(rt, entry_at(config, number).address, printer);
+    let devices = run_over(rt.alloc(), config, number, store, turns, devices)?;
+    devices.into_printer().end()
+}
+
+/// Runs the node of a kind with a name without an end, as `keep_server_running` and `keep_router_running` do.
+pub(crate) fn keep_running<R: Files<File = File> + Net + Clock + AllocGlobal + Clone + Drop>(
+    rt: &R,
+    config: &str,
+    kind: NodeKind,
+    name: &str,
+    dir: &str,
+    is_known: bool,
+) -> Result<(), RunFault> {
+    let config = read_config(rt, config)?;
+    keep_in(rt, &config, kind, name, dir, is_known)
+}
+
+fn keep_in<R: Files<File = File> + Net + Clock + AllocGlobal + Clone + Drop>(
+    rt: &R,
+    config: &Config,
+    kind: NodeKind,
+    name: &str,
+    dir: &str,
+    is_known: bool,
+) -> Result<(), RunFault> {
+    let number = number_named(config, kind, name)?;
+    let failure = Cell::new(None);
+    let folder = open_folder(rt, dir, name, &failure)?;
+    let pairs = folder.pairs(rt, is_known)?;
+    // The lock keeps other processes out of the folder.
+    let LockedFolder {
+        store,
+        lock: _lock,
+        ..
+    } = folder;
+    let servers = servers_of(config, number);
+    let journal = Journal::open(rt, config, name, servers, pairs, &failure)?;
+    let devices = Devices::open(rt, entry_at(config, number).address, journal);
+    run_over(rt.alloc(), config, number, store, u64::MAX, devices)?;
+    Ok(())
 }
 
 // Runs the node with a number over its store, in so many turns: a Map-Server that holds nothing, or a router that starts at 0 ms.

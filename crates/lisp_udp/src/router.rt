@@ -7,7 +7,7 @@ ghost use Rattle.lisp_udp.specs.Nodes.{node_count};
 ghost use Rattle.lisp_world.specs.Making.{HasStarted};
 
 use crate::entry::NodeKind;
-use crate::node::run;
+use crate::node::{keep_running, run};
 use lisp_nodes::{RouterNode, Start};
 use lisp_nonces::WorldStore;
 use lisp_script::RunFault;
@@ -48,12 +48,20 @@ pub fn run_router<R: Files<File = File> + Net + Clock + AllocGlobal + Clone + Dr
     )
 }
 
-/// Runs a site router as `run_router` does, until the process is killed: for 2^64 - 1 turns.
-pub fn keep_router_running<
-    R: Files<File = File> + Net + Clock + AllocGlobal + Clone + Drop,
-    W: Write,
->(rt: &R, config: &str, name: &str, dir: &str, writer: &mut W) -> Result<(), RunFault> {
-    run(rt, config, NodeKind::Router, name, dir, u64::MAX, writer)
+/// Runs a site router as `run_router` does, until the process is killed: for 2^64 - 1 turns. Its lines go through a log to standard
+/// output, which never ends or delays it: what can't be written at once waits, or is dropped and counted. The first line says how
+/// many pairs the folder keeps nonces for.
+///
+/// Faults as those of `run_router`, without 88. 93 is also told where the folder can't be read, or keeps no nonces and `is_known` says
+/// that it should.
+pub fn keep_router_running<R: Files<File = File> + Net + Clock + AllocGlobal + Clone + Drop>(
+    rt: &R,
+    config: &str,
+    name: &str,
+    dir: &str,
+    is_known: bool,
+) -> Result<(), RunFault> {
+    keep_running(rt, config, NodeKind::Router, name, dir, is_known)
 }
 
 /// The router with a number over its store, started at 0 ms. Faults: 35, 36, 97.

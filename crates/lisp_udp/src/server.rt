@@ -5,7 +5,7 @@ ghost use Rattle.lisp_turns.specs.Beginning.{Begins};
 ghost use Rattle.lisp_turns.specs.Node.{Server};
 
 use crate::entry::NodeKind;
-use crate::node::run;
+use crate::node::{keep_running, run};
 use lisp_nodes::ServerNode;
 use lisp_nonces::WorldStore;
 use lisp_script::RunFault;
@@ -44,12 +44,20 @@ pub fn run_server<R: Files<File = File> + Net + Clock + AllocGlobal + Clone + Dr
     )
 }
 
-/// Runs a Map-Server as `run_server` does, until the process is killed: for 2^64 - 1 turns.
-pub fn keep_server_running<
-    R: Files<File = File> + Net + Clock + AllocGlobal + Clone + Drop,
-    W: Write,
->(rt: &R, config: &str, name: &str, dir: &str, writer: &mut W) -> Result<(), RunFault> {
-    run(rt, config, NodeKind::Server, name, dir, u64::MAX, writer)
+/// Runs a Map-Server as `run_server` does, until the process is killed: for 2^64 - 1 turns. Its lines go through a log to standard
+/// output, which never ends or delays it: what can't be written at once waits, or is dropped and counted. The first line says how
+/// many pairs the folder keeps nonces for.
+///
+/// Faults as those of `run_server`, without 88. 93 is also told where the folder can't be read, or keeps no nonces and `is_known` says
+/// that it should.
+pub fn keep_server_running<R: Files<File = File> + Net + Clock + AllocGlobal + Clone + Drop>(
+    rt: &R,
+    config: &str,
+    name: &str,
+    dir: &str,
+    is_known: bool,
+) -> Result<(), RunFault> {
+    keep_running(rt, config, NodeKind::Server, name, dir, is_known)
 }
 
 /// The Map-Server with a number, which holds nothing, over its store. Fault: 97.

@@ -16,6 +16,8 @@ const PORT: u16 = 4342;
 #[derive(Drop)]
 pub(crate) struct NodeSocket {
     socket: UdpSocket,
+    // The kind of the last failure.
+    failure: Option<ErrorKind>,
 }
 
 impl NodeSocket {
@@ -29,9 +31,17 @@ impl NodeSocket {
             return Err(RunFault::BIND);
         };
         match socket.set_read_timeout(Some(Duration::from_millis(timeout_ms))) {
-            Ok(()) => Ok(NodeSocket { socket }),
+            Ok(()) => Ok(NodeSocket {
+                socket,
+                failure: None,
+            }),
             Err(_) => Err(RunFault::BIND),
         }
+    }
+
+    /// The kind of the last error of a call that failed.
+    pub(crate) fn failure(&self) -> Option<ErrorKind> {
+        self.failure
     }
 }
 
@@ -50,14 +60,23 @@ impl Endpoint for NodeSocket {
                 ErrorKind::WouldBlock | ErrorKind::TimedOut | ErrorKind::Interrupted => {
                     Received::Nothing
                 }
-                _ => Received::Failed,
+                kind => {
+                    self.failure = Some(kind);
+                    Received::Failed
+                }
             },
         }
     }
 
     /// To UDP port 4342 of the address.
     fn send(&mut self, to: &Addr, message: &[u8]) -> bool {
-        self.socket.send_to(message, at(to)).is_ok()
+        match self.socket.send_to(message, at(to)) {
+            Ok(_) => true,
+            Err(error) => {
+                self.failure = Some(error.kind());
+                false
+            }
+        }
     }
 }
 

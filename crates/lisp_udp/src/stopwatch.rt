@@ -33,6 +33,13 @@ impl Stopwatch {
             let passed = u64::try_from(passed.as_millis()).unwrap_or(MAX_MOMENT);
             self.last = self.last.max(passed);
         }
+        self.told()
+    }
+
+    /// What it told last; 0 before.
+    pub(crate) fn told(&self) -> u64
+        ensures { result ≡ moment_of self.now.last }
+    {
         self.last.min(MAX_MOMENT)
     }
 }

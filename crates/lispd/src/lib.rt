@@ -8,4 +8,4 @@ pub use lisp_answer::{AnswerFault, AnswerSetup, answer};
 pub use lisp_refusals::{ExplainFault, explain, explain_all};
 pub use lisp_script::{InputFault, PlayFault, RunFault};
 pub use lisp_udp::{keep_router_running, keep_server_running, run_loop, run_router, run_server};
-pub use lispd_cli::{AnswerOption, ProgramFault, SetupFault, check_config, setup};
+pub use lispd_cli::{AnswerOption, Failure, ProgramFault, SetupFault, check_config, setup};

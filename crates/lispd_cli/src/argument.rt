@@ -12,6 +12,11 @@ pub(crate) enum Argument {
         is_required: bool,
         help: &'static str,
     },
+    /// Words at the last place, or none.
+    Words {
+        name: &'static str,
+        help: &'static str,
+    },
     /// An option, with the letters that stand for its value.
     Value {
         name: &'static str,
@@ -37,6 +42,7 @@ impl Argument {
                 is_required,
                 help,
             } => word(alloc, name, *is_required, help),
+            Argument::Words { name, help } => words(alloc, name, help),
             Argument::Value {
                 name,
                 letters,
@@ -55,6 +61,13 @@ fn word<'a>(alloc: Global, name: &'a str, is_required: bool, help: &'a str) -> A
     Arg::new(alloc, name)
         .required(is_required)
         .action(ArgAction::Set)
+        .help(help)
+}
+
+fn words<'a>(alloc: Global, name: &'a str, help: &'a str) -> Arg<'a> {
+    Arg::new(alloc, name)
+        .action(ArgAction::Append)
+        .num_args(0..)
         .help(help)
 }
 

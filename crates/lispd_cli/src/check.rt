@@ -1,25 +1,109 @@
-//! What was understood of a configuration, a line for each site and each node.
+//! What was understood of a configuration, a line for each site and each node; and its warnings.
 
-use lisp_memory::FallibleString;
+use crate::failure::Failure;
+use crate::fault::ProgramFault;
+use crate::remedy::advice;
+use crate::source::{Source, read_source};
+use lisp_check::{fault_note, unknown_keys, warning_line, warnings};
+use lisp_memory::{FallibleString, FallibleVec};
 use lisp_policy::{Site, SitePrefix};
 use lisp_records::{Addr, Database};
-use lisp_script::{InputFault, PlayFault, read_config};
-use lisp_sites::{Config, Name, RouterEntry};
+use lisp_script::{InputFault, PlayFault};
+use lisp_sites::{Config, Name, PlacedFault, RouterEntry};
 use lisp_texts::{addr_to_text, prefix_to_text, record_to_text};
 use std::alloc::{AllocError, Global};
 use std::fmt::Display;
 use std::fs::Files;
 use std::io::Write;
+use std::str;
+use toml::Value;
 
-/// Reads the configuration of a file, and prints a line for each site, Map-Server and router of it. At a fault of the
-/// configuration nothing is printed.
-pub fn check_config<R: Files + AllocGlobal, W: Write>(
+/// Reads the configuration of a file, of standard input where the path is `-`, and prints a line for each site, Map-Server and
+/// router of it, then one for each warning. At a fault of the configuration nothing is printed. Returns whether there are
+/// warnings.
+pub fn check_config<R: Input + Files + AllocGlobal, W: Write>(
     rt: &R,
     path: &str,
     writer: &mut W,
-) -> Result<(), InputFault> {
-    let config = read_config(rt, path)?;
-    print_config(rt.alloc(), &config, writer)
+) -> Result<bool, Failure> {
+    let source = read_source(rt, path)?;
+    let Ok(text) = str::from_utf8(&source.bytes) else {
+        return Err(Failure::from(PlayFault::NotUtf8));
+    };
+    let alloc = rt.alloc();
+    let config = match Config::read(alloc, alloc, text) {
+        Ok(config) => config,
+        Err(placed) => return Err(placed_failure(alloc, text, &placed)),
+    };
+    Ok(print_checked(alloc, &source, text, &config, writer)?)
+}
+
+// A fault of a configuration, with its place there and what would be right.
+fn placed_failure(alloc: Global, text: &str, placed: &PlacedFault) -> Failure {
+    let details = match fault_words(alloc, text, placed) {
+        Ok(words) => Some(words),
+        Err(_) => None,
+    };
+    Failure {
+        fault: ProgramFault::Play(PlayFault::Config(placed.fault)),
+        details,
+    }
+}
+
+fn fault_words(alloc: Global, text: &str, placed: &PlacedFault) -> Result<String, AllocError> {
+    let note = fault_note(alloc, text, placed)?;
+    let mut words = note.place;
+    let fault = placed.fault;
+    words.try_write(fault)?;
+    match &note.advice {
+        Some(advice) => words.try_write(format_args!(": {advice}"))?,
+        None => {
+            if let Some(advice) = advice(&PlayFault::Config(fault)) {
+                words.try_write(format_args!(": {advice}"))?;
+            }
+        }
+    }
+    Ok(words)
+}
+
+fn print_checked<W: Write>(
+    alloc: Global,
+    source: &Source,
+    text: &str,
+    config: &Config,
+    writer: &mut W,
+) -> Result<bool, InputFault> {
+    let lines = warning_lines(alloc, source, text, config)?;
+    print_config(alloc, config, writer)?;
+    for line in &lines {
+        print(
+            String::try_format(alloc, format_args!("warning: {line}")),
+            writer,
+        )?;
+    }
+    Ok(!lines.is_empty())
+}
+
+// The warnings in words: keys that aren't known, then those of the configuration, then that of its file.
+fn warning_lines(
+    alloc: Global,
+    source: &Source,
+    text: &str,
+    config: &Config,
+) -> Result<Vec<String>, AllocError> {
+    let mut lines = match toml::table_from_str(alloc, text) {
+        Ok(table) => unknown_keys(alloc, &Value::Table(table))?,
+        Err(_) => return Err(AllocError),
+    };
+    let warnings = warnings(alloc, config)?;
+    for warning in &warnings {
+        lines.try_push(warning_line(alloc, config, *warning)?)?;
+    }
+    if source.is_open_to_others {
+        let words = "others can read the file, and it holds secrets";
+        lines.try_push(String::try_from_str(alloc, words)?)?;
+    }
+    Ok(lines)
 }
 
 fn print_config<W: Write>(

@@ -2,12 +2,15 @@
 
 use crate::argument::Argument;
 use crate::help::{
-    ABOUT, ANSWER_ABOUT, ANSWER_EXAMPLE, CHECK_ABOUT, EXPLAIN_ABOUT, LOOP_ABOUT, LOOP_FORM,
-    NODE_RUNS, PLAY_ABOUT, PLAY_FORM, ROUTER_ABOUT, SERVER_ABOUT,
+    ABOUT, ANSWER_ABOUT, ANSWER_EXAMPLE, CHECK_ABOUT, CHECK_WARNS, EXPLAIN_ABOUT, LINE_EXAMPLE,
+    LOOP_ABOUT, LOOP_FORM, NODE_RUNS, PLAY_ABOUT, PLAY_FORM, ROUTER_ABOUT, SERVER_ABOUT,
 };
 use crate::option::AnswerOption;
 use clap::Command;
 use std::alloc::{AllocError, Global};
+
+/// The subcommand that checks a configuration.
+pub const CHECK: &str = "check";
 
 /// The argument of `play` and `loop`.
 pub const FILE: &str = "FILE";
@@ -18,7 +21,7 @@ pub const CONFIG: &str = "CONFIG";
 /// The name of a node.
 pub const NAME: &str = "NAME";
 
-/// The number of `explain`.
+/// The number of `explain`, and what stands behind it in a line.
 pub const NUMBER: &str = "N";
 
 /// The option for the folder of the nonces.
@@ -26,6 +29,15 @@ pub const STORE: &str = "store";
 
 /// The option for the number of turns.
 pub const TURNS: &str = "turns";
+
+/// The switch of a node whose store has to keep nonces already.
+pub const KNOWN: &str = "known";
+
+/// The switch of `check` that makes warnings a fault.
+pub const STRICT: &str = "strict";
+
+/// The switch for a fault in words.
+pub const WORDS: &str = "words";
 
 /// A subcommand: what it does, what stands below its help, and its arguments.
 struct Subcommand {
@@ -50,17 +62,21 @@ static SUBCOMMANDS: [Subcommand; 7] = [
                 name: "more-specifics",
                 help: "Allow EID-Prefixes inside that prefix too (more-specifics)",
             },
+            WORDS_ARGUMENT,
         ],
     },
     Subcommand {
         name: "play",
         about: PLAY_ABOUT,
         after_help: Some(PLAY_FORM),
-        arguments: &[Argument::Word {
-            name: FILE,
-            is_required: true,
-            help: "The schedule; `-` for standard input",
-        }],
+        arguments: &[
+            Argument::Word {
+                name: FILE,
+                is_required: true,
+                help: "The schedule; `-` for standard input",
+            },
+            WORDS_ARGUMENT,
+        ],
     },
     Subcommand {
         name: "server",
@@ -86,23 +102,37 @@ static SUBCOMMANDS: [Subcommand; 7] = [
                 help: "The script",
             },
             STORE_ARGUMENT,
+            WORDS_ARGUMENT,
         ],
     },
     Subcommand {
-        name: "check",
+        name: CHECK,
         about: CHECK_ABOUT,
-        after_help: None,
-        arguments: &[CONFIG_ARGUMENT],
+        after_help: Some(CHECK_WARNS),
+        arguments: &[
+            Argument::Word {
+                name: CONFIG,
+                is_required: true,
+                help: "The configuration, TOML; `-` for standard input",
+            },
+            Argument::Switch {
+                name: STRICT,
+                help: "End with status 2 where a warning is printed",
+            },
+            WORDS_ARGUMENT,
+        ],
     },
     Subcommand {
         name: "explain",
         about: EXPLAIN_ABOUT,
-        after_help: None,
-        arguments: &[Argument::Word {
-            name: NUMBER,
-            is_required: false,
-            help: "The number, such as 57",
-        }],
+        after_help: Some(LINE_EXAMPLE),
+        arguments: &[
+            Argument::Words {
+                name: NUMBER,
+                help: "The number, such as 57, and what stands behind it in a line, such as saved 3",
+            },
+            WORDS_ARGUMENT,
+        ],
     },
 ];
 
@@ -122,6 +152,11 @@ const NODE_ARGUMENTS: &[Argument] = &[
         help: "How many turns it takes, each of which waits at most 100 ms for a datagram, from 0 to 4294967295; left out, it \
 runs until it is killed",
     },
+    Argument::Switch {
+        name: KNOWN,
+        help: "Don't start where the store keeps no nonces; not with --turns",
+    },
+    WORDS_ARGUMENT,
 ];
 
 const CONFIG_ARGUMENT: Argument = Argument::Word {
@@ -137,9 +172,15 @@ const STORE_ARGUMENT: Argument = Argument::Value {
     help: "The folder of the nonces, made if it isn't there; each node has a folder of its name in it",
 };
 
-/// The words that the program takes. With no words it is `answer` with its defaults.
+const WORDS_ARGUMENT: Argument = Argument::Switch {
+    name: WORDS,
+    help: "Tell a fault in words too where standard error is no terminal",
+};
+
+/// The words that the program takes. With no subcommand it is `answer` with its defaults.
 pub fn command<'a>(alloc: Global) -> Result<Command<'a>, AllocError> {
     let mut command = Command::new(alloc, "lispd").version("0.1.0").about(ABOUT);
+    command = command.arg(WORDS_ARGUMENT.to_arg(alloc))?;
     for subcommand in subcommands() {
         command = command.subcommand(subcommand.to_command(alloc)?)?;
     }

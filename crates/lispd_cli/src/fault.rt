@@ -75,36 +75,46 @@ pub enum ProgramFault {
     /// `--turns` has another form than it takes.
     #[error("--turns takes a whole number from 0 to 4294967295")]
     Turns,
+    /// `--known` comes with `--turns`.
+    #[error("--known isn't taken with --turns")]
+    Known,
     /// A node or network on sockets and files ended before its end.
     #[error("the program stopped")]
     Run(RunFault),
     /// The number has another form than `explain` takes, is that of nothing, or its text can't be written.
     #[error(transparent)]
     Explain(ExplainFault),
+    /// The configuration has warnings, and `--strict` was given.
+    #[error("the configuration has warnings, and --strict was given")]
+    Warnings,
 }
 
 impl ProgramFault {
-    /// The number that operators see: `Words` and `Turns` 98, `File` 93, or that of the fault inside.
+    /// The number that operators see: `Words`, `Turns` and `Known` 98, `File` 93, `Warnings` 25, or that of the fault inside.
     pub const fn number(&self) -> u16
         ensures { result ≡ program_fault_number self.now }
     {
         match self {
-            ProgramFault::Words | ProgramFault::Turns => 98,
+            ProgramFault::Words | ProgramFault::Turns | ProgramFault::Known => 98,
             ProgramFault::Setup(fault) => fault.number(),
             ProgramFault::Answer(fault) => fault.number(),
             ProgramFault::File => 93,
             ProgramFault::Play(fault) => fault.number(),
             ProgramFault::Run(fault) => fault.number,
             ProgramFault::Explain(fault) => fault.number(),
+            ProgramFault::Warnings => 25,
         }
     }
 
-    /// The exit status: `Words` and `Turns` 2, `File` 1, or that of the fault inside.
+    /// The exit status: `Words`, `Turns`, `Known` and `Warnings` 2, `File` 1, or that of the fault inside.
     pub fn status(&self) -> u8
         ensures { result ≡ program_fault_status self.now }
     {
         match self {
-            ProgramFault::Words | ProgramFault::Turns => 2,
+            ProgramFault::Words
+            | ProgramFault::Turns
+            | ProgramFault::Known
+            | ProgramFault::Warnings => 2,
             ProgramFault::Setup(fault) => fault.status(),
             ProgramFault::Answer(fault) => fault.status(),
             ProgramFault::File => 1,

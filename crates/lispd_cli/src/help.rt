@@ -70,9 +70,21 @@ comes to where that datagram was sent, and prints `lost NUMBER` where it is anot
 
 /// What `check` does, for its help.
 pub(crate) const CHECK_ABOUT: &str =
-    "Read a configuration, and print what was understood: a line for each site, Map-Server and router";
+    "Read a configuration, and print what was understood: a line for each site, Map-Server and router, then its warnings";
+
+/// What warnings are, for its help.
+pub(crate) const CHECK_WARNS: &str =
+    "A line `warning: ..` tells what may not be meant, as an unknown key or a record that no Map-Server takes. At a fault \
+nothing is printed, and standard error names its entry.";
 
 /// What `explain` does, for its help.
 pub(crate) const EXPLAIN_ABOUT: &str =
     "Explain the number of a refusal or a fault: what it means, and what to do about it; all of them, \
 where none is given";
+
+/// Words of a line, for its help.
+pub(crate) const LINE_EXAMPLE: &str =
+    "A fault that the line carries is explained too, as 30 in the example.
+
+Example:
+  lispd explain 56 store 30";

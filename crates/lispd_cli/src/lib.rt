@@ -5,20 +5,24 @@
 mod argument;
 mod check;
 mod command_line;
+mod explanation;
+mod failure;
 mod fault;
 mod help;
 mod option;
 mod options;
 mod remedy;
 mod reporting;
+mod source;
 mod subcommands;
 mod words;
 
 pub use check::check_config;
-pub use command_line::{CONFIG, FILE, NAME, NUMBER, STORE, TURNS, command};
+pub use command_line::{CONFIG, FILE, KNOWN, NAME, NUMBER, STORE, STRICT, TURNS, WORDS, command};
+pub use failure::Failure;
 pub use fault::{ProgramFault, SetupFault};
 pub use option::AnswerOption;
 pub use options::setup;
 pub use reporting::{InWords, report};
 pub use subcommands::run_alone;
-pub use words::{NodeWords, node_words, word};
+pub use words::{NodeWords, node_words, tells_words, word};

@@ -1,5 +1,6 @@
 //! What is reported of a fault, on standard error.
 
+use crate::failure::Failure;
 use crate::fault::ProgramFault;
 use crate::remedy::advice;
 use lisp_refusals::remedy;
@@ -52,30 +53,37 @@ impl Display for Words<'_> {
     }
 }
 
-/// Prints the fault's number, and the line of a script; to a terminal also what was asked for and what is wrong, in words.
-/// Returns the fault's exit status.
+/// Prints the fault's number, and the line of a script; where it is asked for, also what was asked of the program and what is
+/// wrong, in words. Returns the fault's exit status.
 pub fn report<R: Eprint>(
     rt: &R,
-    fault: &ProgramFault,
+    failure: &Failure,
     words: &[String],
-    is_terminal: bool,
+    tells_words: bool,
 ) -> ExitCode {
+    let fault = &failure.fault;
     let number = fault.number();
     let _ = match fault.line() {
         Some(line) => eprintln!(rt; "lispd: fault {number} line {line}"),
         None => eprintln!(rt; "lispd: fault {number}"),
     };
-    if is_terminal {
-        explain(rt, fault, words);
+    if tells_words {
+        explain(rt, failure, words);
     }
     ExitCode::from(fault.status())
 }
 
 // A fault of a file, a schedule or a node comes with the words that name them.
-fn explain<R: Eprint>(rt: &R, fault: &ProgramFault, words: &[String]) {
-    let words = match fault {
-        ProgramFault::File | ProgramFault::Play(_) | ProgramFault::Run(_) => words,
+fn explain<R: Eprint>(rt: &R, failure: &Failure, words: &[String]) {
+    let words = Words(match failure.fault {
+        ProgramFault::File
+        | ProgramFault::Play(_)
+        | ProgramFault::Run(_)
+        | ProgramFault::Warnings => words,
         _ => &[],
+    });
+    let _ = match &failure.details {
+        Some(details) => eprintln!(rt; "lispd{words}: {details}"),
+        None => eprintln!(rt; "lispd{words}: {}", InWords(&failure.fault)),
     };
-    let _ = eprintln!(rt; "lispd{}: {}", Words(words), InWords(fault));
 }

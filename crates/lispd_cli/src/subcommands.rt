@@ -1,34 +1,32 @@
 //! The subcommands that need no network.
 
 use crate::check::check_config;
-use crate::command_line::{CONFIG, NUMBER};
+use crate::command_line::{CHECK, CONFIG, NUMBER, STRICT};
+use crate::explanation::explain_line;
+use crate::failure::Failure;
 use crate::fault::ProgramFault;
 use crate::options::setup;
-use crate::reporting::InWords;
-use crate::words::word;
+use crate::words::{is_given, word};
 use clap::ArgMatches;
 use lisp_answer::{AnswerSetup, answer};
-use lisp_refusals::{ExplainFault, explain, explain_all};
-use lisp_script::InputFault;
-use lisp_texts::number_from_text;
+use lisp_refusals::explain_all;
 use std::alloc::Global;
-use std::fmt::Display;
 use std::io::{Read, Write};
 use std::rt::Files;
 
 /// Runs `check` or `explain`, where the words name it; else `answer`, with the options that were given.
-pub fn run_alone<R: Print + Input + Files + AllocGlobal, W: Write>(
+pub fn run_alone<R: Input + Files + AllocGlobal, W: Write>(
     rt: &R,
     named: Option<(&str, &ArgMatches<'_>)>,
     writer: &mut W,
-) -> Result<(), ProgramFault> {
+) -> Result<(), Failure> {
     let Some((name, words)) = named else {
-        return run_answer(rt, None, writer);
+        return Ok(run_answer(rt, None, writer)?);
     };
     match name {
-        "check" => check(rt, words, writer),
-        "explain" => explain_number(words, writer),
-        _ => run_answer(rt, Some(words), writer),
+        CHECK => check(rt, words, writer),
+        "explain" => Ok(explain_words(rt.alloc(), words, writer)?),
+        _ => Ok(run_answer(rt, Some(words), writer)?),
     }
 }
 
@@ -53,46 +51,27 @@ fn answer_from<R: Read, W: Write>(
     Ok(())
 }
 
-// `check`: prints what was understood of a configuration, or its fault in words.
-fn check<R: Print + Files + AllocGlobal, W: Write>(
+// `check`: prints what was understood of a configuration, and its warnings.
+fn check<R: Input + Files + AllocGlobal, W: Write>(
     rt: &R,
     words: &ArgMatches<'_>,
     writer: &mut W,
-) -> Result<(), ProgramFault> {
-    match check_config(rt, word(words, CONFIG), writer) {
-        Ok(()) => Ok(()),
-        Err(fault) => {
-            print_fault(rt, fault);
-            Err(ProgramFault::from(fault))
-        }
+) -> Result<(), Failure> {
+    let has_warnings = check_config(rt, word(words, CONFIG), writer)?;
+    if has_warnings && is_given(words, STRICT) {
+        return Err(Failure::from(ProgramFault::Warnings));
     }
-}
-
-// Prints a fault of a configuration, and its place there; where the file can't be opened, nothing.
-fn print_fault<R: Print>(rt: &R, why: InputFault) {
-    let fault = ProgramFault::from(why);
-    match why {
-        InputFault::File => {}
-        InputFault::Config(placed) => print_placed(rt, placed.place, &fault),
-        InputFault::Input(_) => print_placed(rt, "", &fault),
-    }
-}
-
-fn print_placed<R: Print, D: Display + Drop>(rt: &R, place: D, fault: &ProgramFault) {
-    let number = fault.number();
-    let words = InWords(fault);
-    let _ = println!(rt; "fault {number}: {place}{words}");
-}
-
-// `explain`: explains a number; with none, all of them.
-fn explain_number<W: Write>(words: &ArgMatches<'_>, writer: &mut W) -> Result<(), ProgramFault> {
-    let explained = match words.get_str(NUMBER) {
-        Some(text) => match number_from_text(text).map(u16::try_from) {
-            Some(Ok(number)) => explain(number, writer),
-            _ => Err(ExplainFault::Unknown),
-        },
-        None => explain_all(writer),
-    };
-    explained?;
     Ok(())
+}
+
+// `explain`: explains the words of a line; with none, all numbers.
+fn explain_words<W: Write>(
+    alloc: Global,
+    words: &ArgMatches<'_>,
+    writer: &mut W,
+) -> Result<(), ProgramFault> {
+    match words.get_strs(NUMBER) {
+        Some(line) => explain_line(alloc, line, writer),
+        None => Ok(explain_all(writer)?),
+    }
 }

@@ -1,6 +1,8 @@
 //! The words of the command line, as `clap` matched them.
 
-use crate::command_line::{CONFIG, NAME, STORE, TURNS};
+ghost use Rattle.std.specs.Prelude.{◌≡◌, true, IfOk};
+
+use crate::command_line::{CHECK, CONFIG, KNOWN, NAME, STORE, TURNS, WORDS};
 use crate::fault::ProgramFault;
 use clap::ArgMatches;
 use lisp_texts::number_from_text;
@@ -13,6 +15,21 @@ pub fn word<'a>(words: &ArgMatches<'a>, name: &str) -> &'a str {
     }
 }
 
+/// Whether the switch was given.
+pub fn is_given(words: &ArgMatches<'_>, name: &str) -> bool {
+    words.get_flag(name)
+}
+
+/// Whether a fault is told in words on any standard error: a fault of `check` is, and each one where `--words` was given,
+/// before the subcommand or behind it.
+pub fn tells_words(matches: &ArgMatches<'_>) -> bool {
+    let is_told = match matches.subcommand() {
+        Some((name, words)) => name == CHECK || is_given(words, WORDS),
+        None => false,
+    };
+    is_told || is_given(matches, WORDS)
+}
+
 /// The words of `server` and `router`.
 pub struct NodeWords<'a> {
     /// The file of the configuration.
@@ -23,16 +40,26 @@ pub struct NodeWords<'a> {
     pub dir: &'a str,
     /// How many turns it takes; `None` where it runs until it is killed.
     pub turns: Option<u32>,
+    /// It doesn't start where the store keeps no nonces.
+    pub is_known: bool,
 }
 
-/// The words of `server` and `router`. Fault: `ProgramFault::Turns` (98) where the turns have another form than they take.
-pub fn node_words<'a>(words: &ArgMatches<'a>) -> Result<NodeWords<'a>, ProgramFault> {
+/// The words of `server` and `router`. Faults, all 98: `ProgramFault::Turns` where the turns have another form than they take,
+/// `ProgramFault::Known` where `--known` comes with them.
+pub fn node_words<'a>(words: &ArgMatches<'a>) -> Result<NodeWords<'a>, ProgramFault>
+    ensures known { IfOk result (λ w. w.is_known ≡ true → w.turns ≡ None) }
+{
     let turns = turns(words)?;
+    let is_known = is_given(words, KNOWN);
+    if is_known && turns.is_some() {
+        return Err(ProgramFault::Known);
+    }
     Ok(NodeWords {
         config: word(words, CONFIG),
         name: word(words, NAME),
         dir: word(words, STORE),
         turns,
+        is_known,
     })
 }
 

@@ -1,12 +1,14 @@
 //! The program `lispd`: reads its words, runs the subcommand, and reports a fault on standard error.
 #![tactic(auto)]
 
+mod descriptors;
 mod subcommands;
 
 use crate::subcommands::run_subcommand;
+use clap::ArgMatches;
 use clap::error::ErrorKind as WordsErrorKind;
 use lisp_answer::AnswerFault;
-use lispd_cli::{ProgramFault, SetupFault, command, report};
+use lispd_cli::{Failure, ProgramFault, SetupFault, command, report, tells_words};
 use std::env;
 use std::fs::File;
 use std::io::{self, ErrorKind, IsTerminal};
@@ -22,22 +24,11 @@ const OUT_OF_MEMORY: ProgramFault = ProgramFault::Setup(SetupFault::OutOfMemory)
 const MISUSED: u8 = 2;
 
 fn main(rt: HostRuntime) -> ExitCode {
+    descriptors::open_closed(&rt);
     let is_terminal = rt.stderr().is_terminal();
     match words(&rt) {
         Ok(words) => run(&rt, words.as_slice(), is_terminal),
-        Err(fault) => report(&rt, &fault, &[], is_terminal),
-    }
-}
-
-// Runs what the words ask for, and reports the fault that ended it.
-fn run<R: Print + Eprint + Input + Files<File = File> + Net + Clock + AllocGlobal + Clone + Drop>(
-    rt: &R,
-    words: &[String],
-    is_terminal: bool,
-) -> ExitCode {
-    match run_words(rt, words) {
-        Ok(status) => status,
-        Err(fault) => report(rt, &fault, words, is_terminal),
+        Err(fault) => report(&rt, &Failure::from(fault), &[], is_terminal),
     }
 }
 
@@ -54,15 +45,30 @@ fn collect_words<R: Env + AllocGlobal>(rt: &R) -> io::Result<Vec<String>> {
     Ok(env::args(rt)?.collect(rt.alloc())?)
 }
 
-fn run_words<
-    R: Print + Eprint + Input + Files<File = File> + Net + Clock + AllocGlobal + Clone + Drop,
->(rt: &R, words: &[String]) -> Result<ExitCode, ProgramFault> {
+// Runs what the words ask for, and reports the fault that ended it.
+fn run<R: Print + Eprint + Input + Files<File = File> + Net + Clock + AllocGlobal + Clone + Drop>(
+    rt: &R,
+    words: &[String],
+    is_terminal: bool,
+) -> ExitCode {
     let Ok(command) = command(rt.alloc()) else {
-        return Err(OUT_OF_MEMORY);
+        return report(rt, &Failure::from(OUT_OF_MEMORY), words, is_terminal);
     };
     match command.try_get_matches_from(words) {
-        Ok(matches) => run_subcommand(rt, &matches),
-        Err(error) => print_words_error(rt, &error),
+        Ok(matches) => run_matches(rt, words, &matches, is_terminal),
+        Err(error) => match print_words_error(rt, &error) {
+            Ok(status) => status,
+            Err(fault) => report(rt, &Failure::from(fault), words, is_terminal),
+        },
+    }
+}
+
+fn run_matches<
+    R: Print + Eprint + Input + Files<File = File> + Net + Clock + AllocGlobal + Clone + Drop,
+>(rt: &R, words: &[String], matches: &ArgMatches<'_>, is_terminal: bool) -> ExitCode {
+    match run_subcommand(rt, matches) {
+        Ok(()) => ExitCode::SUCCESS,
+        Err(failure) => report(rt, &failure, words, is_terminal || tells_words(matches)),
     }
 }
 

@@ -4,12 +4,13 @@ use clap::ArgMatches;
 use lisp_player::play;
 use lisp_script::PlayFault;
 use lisp_udp::{keep_router_running, keep_server_running, run_loop, run_router, run_server};
-use lispd_cli::{CONFIG, FILE, NodeWords, ProgramFault, STORE, node_words, run_alone, word};
+use lispd_cli::{
+    CONFIG, FILE, Failure, NodeWords, ProgramFault, STORE, node_words, run_alone, word,
+};
 use std::alloc::Global;
 use std::fs::{self, File};
 use std::io::{self, BufReader, Read, Write};
 use std::net::Net;
-use std::process::ExitCode;
 use std::rt::Files;
 use std::time::Clock;
 
@@ -26,25 +27,25 @@ enum NodeKind {
 /// Runs the subcommand that the words name; with none, `answer`.
 pub(crate) fn run_subcommand<
     R: Print + Input + Files<File = File> + Net + Clock + AllocGlobal + Clone + Drop,
->(rt: &R, matches: &ArgMatches<'_>) -> Result<ExitCode, ProgramFault> {
-    run_named(rt, matches.subcommand(), &mut io::writer(rt))?;
-    Ok(ExitCode::SUCCESS)
+>(rt: &R, matches: &ArgMatches<'_>) -> Result<(), Failure> {
+    run_named(rt, matches.subcommand(), &mut io::writer(rt))
 }
 
 fn run_named<
     R: Print + Input + Files<File = File> + Net + Clock + AllocGlobal + Clone + Drop,
     W: Write,
->(rt: &R, named: Option<(&str, &ArgMatches<'_>)>, writer: &mut W) -> Result<(), ProgramFault> {
+>(rt: &R, named: Option<(&str, &ArgMatches<'_>)>, writer: &mut W) -> Result<(), Failure> {
     let Some((name, words)) = named else {
         return run_alone(rt, named, writer);
     };
-    match name {
+    let ran = match name {
         "play" => run_play(rt, words, writer),
         "server" => run_node(rt, NodeKind::Server, words, writer),
         "router" => run_node(rt, NodeKind::Router, words, writer),
         "loop" => run_network(rt, words, writer),
-        _ => run_alone(rt, named, writer),
-    }
+        _ => return run_alone(rt, named, writer),
+    };
+    Ok(ran?)
 }
 
 fn run_node<R: Files<File = File> + Net + Clock + AllocGlobal + Clone + Drop, W: Write>(
@@ -58,12 +59,13 @@ fn run_node<R: Files<File = File> + Net + Clock + AllocGlobal + Clone + Drop, W:
         name,
         dir,
         turns,
+        is_known,
     } = node_words(words)?;
     let ran = match (kind, turns) {
         (NodeKind::Server, Some(turns)) => run_server(rt, config, name, dir, turns, writer),
-        (NodeKind::Server, None) => keep_server_running(rt, config, name, dir, writer),
+        (NodeKind::Server, None) => keep_server_running(rt, config, name, dir, is_known),
         (NodeKind::Router, Some(turns)) => run_router(rt, config, name, dir, turns, writer),
-        (NodeKind::Router, None) => keep_router_running(rt, config, name, dir, writer),
+        (NodeKind::Router, None) => keep_router_running(rt, config, name, dir, is_known),
     };
     Ok(ran?)
 }

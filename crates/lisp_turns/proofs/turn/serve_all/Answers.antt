@@ -1,6 +1,6 @@
 use Rattle.std.proofs.Common.{refl, sym, ap}
 use Rattle.std.proofs.lemmas.Bool.{false≢true}
-use Rattle.lisp_turns.proofs.Duties.{served_more, ends_told, ends_untold}
+use Rattle.lisp_turns.proofs.Duties.{act_told, served_more, ends_told, ends_untold}
 use Rattle.lisp_turns.proofs.turn.serve_all.Goals as goal
 use Rattle.lisp_turns.proofs.turn.serve_all.Goals.{then-fail, else-fail}
 
@@ -9,7 +9,7 @@ returns-then-is_refused-clause-serves g c =
     let refused = c.if-is_refused.ensures.0 refl in
     rw (sym c.loop.invariant.same)
     (elim c.if-fail.branch [
-      | then-fail w ↦ ends_told _ _ _ _ _ _ _ _ _ _ _ _ c.loop.invariant.served c.in-Some.ensures.does _ _ _ refused c.fail.ensures.told w.if-fail.true c.fail.ensures.pause (rw w.outside-is w.tell.ensures)
+      | then-fail w ↦ ends_told _ _ _ _ _ _ _ _ _ _ _ _ c.loop.invariant.served c.in-Some.ensures.does _ _ _ refused c.fail.ensures.told w.if-fail.true c.fail.ensures.pause (rw w.outside-is (act_told c.act.view_is w.tell.ensures))
       | else-fail w ↦ ends_untold _ _ _ _ _ _ _ _ _ _ _ _ c.loop.invariant.served c.in-Some.ensures.does _ _ _ refused c.fail.ensures.told w.if-fail.false c.fail.ensures.pause (ap g.O.Outside.seen w.outside-is)
     ])
 
@@ -17,6 +17,6 @@ pub loop-preserved : goal.loop-preserved
 loop-preserved g c =
     record {
       placed = c.in-Some.ensures.placed;
-      served = served_more _ _ _ _ _ _ _ _ _ _ _ _ c.loop.invariant.served c.in-Some.ensures.does (λ refused. absurd (false≢true (c.if-is_refused.ensures.1 refused))) c.tell-in-loop.ensures;
+      served = served_more _ _ _ _ _ _ _ _ _ _ _ _ c.loop.invariant.served c.in-Some.ensures.does (λ refused. absurd (false≢true (c.if-is_refused.ensures.1 refused))) (act_told c.act.view_is c.tell-in-loop.ensures);
       same = c.loop.invariant.same;
     }

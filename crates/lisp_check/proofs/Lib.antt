@@ -1,0 +1,8 @@
+pub mod Added
+pub mod Mapped
+pub mod SiteWarnings
+pub mod AddressWarnings
+pub mod RouterWarnings
+pub mod Whole
+pub mod Decided
+pub mod Repeats

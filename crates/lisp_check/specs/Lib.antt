@@ -1,0 +1,3 @@
+pub mod Warning
+pub mod Adding
+pub mod Law

@@ -1,0 +1,63 @@
+-- What in a configuration may not be meant, though it can be read.
+use Rattle.std.specs.Prelude.{◌≡◌, ◌≢◌, ℕ, ◌==◌, Bool, ◌||◌, List, [], IsTrue, IsSomeAnd, slice_get, slice_index, position, Some}
+use Rattle.std.specs.List.{Contains, list_all}
+use Rattle.std.specs.Int.{is_in_range}
+use Rattle.lisp_records.specs.declared.address.Addr.{Addr}
+use Rattle.lisp_records.specs.declared.address.Addr.TheVariants.{V4, V6}
+use Rattle.lisp_records.specs.Address.{PrefixValue, addr_eq, family}
+use Rattle.lisp_records.specs.Router.{router_eq}
+use Rattle.lisp_policy.specs.Site.{SiteValue, Allowed, site_of}
+use Rattle.lisp_policy.specs.Configuration.{ConfigValue, ServerEntryValue, RouterEntryValue}
+use Rattle.lisp_model.specs.Trace.{addresses}
+use Rattle.lisp_check.specs.declared.warning.Warning.{Warning}
+use Rattle.lisp_check.specs.declared.warning.Warning.TheVariants.{NoNodes, NoKeys, NoPrefixes, NoUnicast, SameAddress, SameIdentity, NotAllowed, OtherFamily}
+
+-- an address that no node has: unspecified (all zero), broadcast, or multicast (224.0.0.0/4, ff00::/8)
+abbrev pub is_no_unicast : Addr → Bool
+is_no_unicast (V4 bytes) = list_all (λ b. b == 0) bytes || list_all (λ b. b == 255) bytes || is_in_range 224 239 (slice_index bytes 0)
+is_no_unicast (V6 bytes) = list_all (λ b. b == 0) bytes || (slice_index bytes 0 == 255)
+
+-- the first node with an address, and the first router with an identity
+abbrev pub IsFirstAt : List Addr → Addr → ℕ → Type 0
+IsFirstAt addrs address node = position (λ a. addr_eq a address) addrs ≡ Some node
+
+abbrev pub IsFirstRouter : List RouterEntryValue → RouterEntryValue → ℕ → Type 0
+IsFirstRouter routers router place = position (λ r. router_eq r.me router.me) routers ≡ Some place
+
+-- a node of a list has such an address
+abbrev pub HasNoUnicast : List Addr → ℕ → Type 0
+HasNoUnicast addrs node = IsSomeAnd (slice_get addrs node) (λ a. IsTrue (is_no_unicast a))
+
+-- the first node with the address of a node, and the first router with the identity of a router
+abbrev pub IsFirstAlike : List Addr → ℕ → ℕ → Type 0
+IsFirstAlike addrs node first = IsSomeAnd (slice_get addrs node) (λ a. IsFirstAt addrs a first)
+
+abbrev pub IsFirstTwin : List RouterEntryValue → ℕ → ℕ → Type 0
+IsFirstTwin routers router first = IsSomeAnd (slice_get routers router) (λ r. IsFirstRouter routers r first)
+
+-- the site of a Site-ID allows a prefix
+abbrev pub MayRegister : List SiteValue → ℕ → PrefixValue → Type 0
+MayRegister sites id eid = IsSomeAnd (site_of sites id) (λ site. Allowed site eid)
+
+-- a record of a router that its site doesn't allow
+abbrev pub IsRefused : List SiteValue → RouterEntryValue → ℕ → Type 0
+IsRefused sites router place = IsSomeAnd (slice_get router.database place) (λ r. ¬ MayRegister sites router.me.site r.eid)
+
+-- the Map-Server at a place is of another address family than a router
+abbrev pub IsOfOtherFamily : List ServerEntryValue → RouterEntryValue → ℕ → Type 0
+IsOfOtherFamily servers router place = IsSomeAnd (slice_get servers place) (λ server. family server.address ≢ family router.address)
+
+-- and the router registers with it
+abbrev pub HasOtherFamily : List ServerEntryValue → RouterEntryValue → ℕ → Type 0
+HasOtherFamily servers router place = Contains router.servers place × IsOfOtherFamily servers router place
+
+-- when a configuration has a warning; nodes are numbered as in a network, Map-Servers first
+abbrev pub IsWarned : ConfigValue → Warning → Type 0
+IsWarned c NoNodes = addresses c ≡ []
+IsWarned c (NoKeys site) = IsSomeAnd (slice_get c.sites site) (λ s. s.keys ≡ [])
+IsWarned c (NoPrefixes site) = IsSomeAnd (slice_get c.sites site) (λ s. s.prefixes ≡ [])
+IsWarned c (NoUnicast node) = HasNoUnicast (addresses c) node
+IsWarned c (SameAddress first node) = (first ≢ node) × IsFirstAlike (addresses c) node first
+IsWarned c (SameIdentity first router) = (first ≢ router) × IsFirstTwin c.routers router first
+IsWarned c (NotAllowed router place) = IsSomeAnd (slice_get c.routers router) (λ r. IsRefused c.sites r place)
+IsWarned c (OtherFamily router server) = IsSomeAnd (slice_get c.routers router) (λ r. HasOtherFamily c.servers r server)

@@ -1,0 +1,41 @@
+//! All warnings of a configuration.
+
+ghost use Rattle.std.specs.Prelude.{◌≡◌, ◌↔◌, [], IsTrue, IfOk, OnErr};
+ghost use Rattle.std.specs.List.{Contains};
+ghost use Rattle.lisp_check.specs.Warning.{IsWarned};
+ghost use Rattle.lisp_check.specs.declared.warning.Warning.{Warning};
+ghost use Rattle.lisp_check.specs.declared.warning.Warning.TheVariants.{NoNodes};
+
+use crate::adding::warn_if;
+use crate::addresses::{addresses, warn_of_addresses};
+use crate::routers::warn_of_routers;
+use crate::sites::warn_of_sites;
+use crate::warning::Warning;
+use lisp_memory::Memory;
+use lisp_records::Addr;
+use lisp_sites::Config;
+use std::alloc::{AllocError, Allocator};
+
+/// What may not be meant in a configuration, in memory of `alloc`: first that there are no nodes, then what is of sites, of the
+/// addresses of nodes, and of routers.
+pub fn warnings<M: Memory + Copy, A: Allocator>(
+    alloc: M,
+    config: &Config<A>,
+) -> Result<Vec<Warning, M>, AllocError>
+    ensures exact { IfOk result (λ given. (w : Warning) → Contains given.items w ↔ IsWarned config.now w) }
+    ensures memory { OnErr result M.may_refuse }
+{
+    let mut warnings = Vec::new(alloc);
+    let addresses = addresses(alloc, config)?;
+    warn_if(&mut warnings, are_none(&addresses), Warning::NoNodes)?;
+    warn_of_sites(&mut warnings, config)?;
+    warn_of_addresses(&mut warnings, &addresses)?;
+    warn_of_routers(&mut warnings, config)?;
+    Ok(warnings)
+}
+
+fn are_none(addresses: &[Addr]) -> bool
+    ensures { IsTrue result ↔ (addresses.now ≡ []) }
+{
+    addresses.is_empty()
+}

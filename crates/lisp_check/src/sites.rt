@@ -1,0 +1,65 @@
+//! Warnings of sites.
+
+ghost use Rattle.std.specs.Prelude.{◌↔◌, length, IsTrue, OnErr};
+ghost use Rattle.lisp_check.specs.Warning.{IsWarned};
+ghost use Rattle.lisp_check.specs.Adding.{AddsWarned, OfFirst, IsOfSite};
+ghost use Rattle.lisp_check.specs.declared.warning.Warning.TheVariants.{NoKeys, NoPrefixes};
+
+use crate::adding::warn_if;
+use crate::place::at;
+use crate::warning::Warning;
+use lisp_memory::Memory;
+use lisp_sites::Config;
+use std::alloc::{AllocError, Allocator};
+
+/// Adds the warnings of all sites.
+pub(crate) fn warn_of_sites<M: Memory, A: Allocator>(
+    warnings: &mut Vec<Warning, M>,
+    config: &Config<A>,
+) -> Result<(), AllocError>
+    ensures added { AddsWarned result warnings.old warnings.new config.now (OfFirst (length config.now.sites) IsOfSite) }
+    ensures memory { OnErr result M.may_refuse }
+{
+    for place in 0..config.sites().as_slice().len() {
+        warn_of_site(warnings, config, place)?;
+    }
+    Ok(())
+}
+
+fn warn_of_site<M: Memory, A: Allocator>(
+    warnings: &mut Vec<Warning, M>,
+    config: &Config<A>,
+    site: usize,
+) -> Result<(), AllocError>
+    ensures added { AddsWarned result warnings.old warnings.new config.now (IsOfSite site) }
+    ensures memory { OnErr result M.may_refuse }
+{
+    warn_if(
+        warnings,
+        has_no_keys(config, site),
+        Warning::NoKeys { site },
+    )?;
+    warn_if(
+        warnings,
+        has_no_prefixes(config, site),
+        Warning::NoPrefixes { site },
+    )
+}
+
+fn has_no_keys<A: Allocator>(config: &Config<A>, site: usize) -> bool
+    ensures { IsTrue result ↔ IsWarned config.now (NoKeys site) }
+{
+    match at(config.sites().as_slice(), site) {
+        Some(site) => site.keys().is_empty(),
+        None => false,
+    }
+}
+
+fn has_no_prefixes<A: Allocator>(config: &Config<A>, site: usize) -> bool
+    ensures { IsTrue result ↔ IsWarned config.now (NoPrefixes site) }
+{
+    match at(config.sites().as_slice(), site) {
+        Some(site) => site.prefixes().is_empty(),
+        None => false,
+    }
+}

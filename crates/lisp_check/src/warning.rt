@@ -1,0 +1,23 @@
+//! What may not be meant in a configuration.
+
+/// A warning of a configuration. Each number is a place in a list of the configuration, from 0 on; a node's counts the
+/// Map-Servers, then the routers.
+#[derive(Clone, Copy, Debug, PartialEq, Eq)]
+pub enum Warning {
+    /// There are no Map-Servers and no routers.
+    NoNodes,
+    /// The site has no keys: none of its routers can register.
+    NoKeys { site: usize },
+    /// The site has no prefixes: nothing can be registered.
+    NoPrefixes { site: usize },
+    /// The node's address is unspecified, multicast or broadcast.
+    NoUnicast { node: usize },
+    /// The node has the address of an earlier one, the first that has it.
+    SameAddress { first: usize, node: usize },
+    /// The router has the Site-ID and xTR-ID of an earlier one, the first that has them.
+    SameIdentity { first: usize, router: usize },
+    /// No prefix of the router's site allows the record: a Map-Server refuses it (55).
+    NotAllowed { router: usize, record: usize },
+    /// The router and its Map-Server are of different address families.
+    OtherFamily { router: usize, server: usize },
+}

@@ -1,0 +1,5 @@
+mod Pouring
+pub mod Silent
+mod SumLaws
+pub mod Telling
+mod WholeLaws

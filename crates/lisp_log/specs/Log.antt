@@ -1,0 +1,106 @@
+-- What a node that runs without an end tells: its lines, but for refusals that repeat others; and how many those were.
+use Rattle.std.specs.Prelude.{◌≡◌, ◌⊎◌, ℕ, ◌+◌, ◌*◌, ◌<◌, ◌≤◌, ◌==◌, Bool, true, false, List, [], ◌∷◌, Option, Some, None, if◌then◌else◌}
+use Rattle.std.specs.List.{flat_map}
+use Rattle.lisp_records.specs.declared.address.Addr.{Addr}
+use Rattle.lisp_policy.specs.Configuration.{ConfigValue}
+use Rattle.lisp_model.specs.Faults.{refusal_number}
+use Rattle.lisp_model.specs.declared.line.Line.TheVariants as lines
+use Rattle.lisp_turns.specs.declared.outside.Printed.{Printed}
+use Rattle.lisp_turns.specs.declared.outside.Printed.TheVariants as printed
+use Rattle.lisp_log.specs.declared.repeats.Repeat.{Repeat}
+use Rattle.lisp_log.specs.declared.silences.Silence.{Silence}
+use Rattle.lisp_log.specs.Repeats.{TellsRefusal}
+use Rattle.lisp_log.specs.Silences.{never_heard, Acknowledges, TellsSilence, NoneSilent}
+use Rattle.lisp_log.specs.Waiting.{WaitingState, nothing_waits, put_line, drops_one}
+use Rattle.lisp_log.specs.Text.{told_text, repeat_text, silent_text, started_text}
+
+pub record LogState : Type 0 where
+  pub config : ConfigValue
+  pub name : List ℕ
+  pub repeats : List Repeat
+  pub second : ℕ
+  pub silences : List Silence
+  pub waiting : WaitingState
+
+-- it says first how many pairs the node's store keeps
+abbrev pub begins : ConfigValue → List ℕ → List ℕ → ℕ → LogState
+begins config name servers pairs = record {
+  config = config;
+  name = name;
+  repeats = [];
+  second = 0;
+  silences = never_heard servers;
+  waiting = put_line nothing_waits (started_text name pairs);
+}
+
+-- a text waits; where memory may be refused, it may be dropped
+abbrev pub Puts : Type 0 → WaitingState → WaitingState → List ℕ → Type 0
+Puts may_refuse old new text = (new ≡ put_line old text) ⊎ (may_refuse × (new ≡ drops_one old))
+
+-- a refusal of a datagram, by its number and source address
+abbrev pub refused_from : Printed → Option (ℕ × Addr)
+refused_from (printed.Heard (lines.Refused node what) from) = Some (refusal_number what, from)
+refused_from _ = None
+
+-- whether a line is told: each is, but for a refusal of a datagram that repeats another
+abbrev pub IsToldOf : Option (ℕ × Addr) → List Repeat → List Repeat → Bool → Type 0
+IsToldOf (Some refusal) old new told = TellsRefusal old new refusal.0 refusal.1 told
+IsToldOf None old new told = (new ≡ old) × (told ≡ true)
+
+abbrev pub PutsIf : Type 0 → Bool → WaitingState → WaitingState → List ℕ → Type 0
+PutsIf may_refuse true old new text = Puts may_refuse old new text
+PutsIf may_refuse false old new text = new ≡ old
+
+-- a router counts what a Map-Server acknowledged
+abbrev pub AcknowledgesBy : Printed → List Silence → List Silence → ℕ → Type 0
+AcknowledgesBy (printed.Heard (lines.Counted router server part key nonce) from) old new now = Acknowledges old new server now
+AcknowledgesBy _ old new now = new ≡ old
+
+-- the node prints a line, at a moment
+pub record TellsLine (may_refuse : Type 0) (old new : LogState) (line : Printed) (cause : Option (List ℕ)) (now : ℕ) : Type 0 where
+  pub told : Bool
+  pub repeats : IsToldOf (refused_from line) old.repeats new.repeats told
+  pub silences : AcknowledgesBy line old.silences new.silences now
+  pub waiting : PutsIf may_refuse told old.waiting new.waiting (told_text old.config old.name cause line)
+  pub rest : new ≡ record old { repeats = new.repeats; silences = new.silences; waiting = new.waiting }
+
+-- each of these texts waits in turn
+abbrev pub PutsAll : Type 0 → WaitingState → WaitingState → List (List ℕ) → Type 0
+PutsAll may_refuse old new [] = new ≡ old
+PutsAll may_refuse old new (text ∷ texts) = (between : WaitingState) × Puts may_refuse old between text × PutsAll may_refuse between new texts
+
+-- the sums of a second that is over: of each entry that counts some
+abbrev pub sum_of : List ℕ → Repeat → List (List ℕ)
+sum_of name r = if r.times == 0 then [] else repeat_text name r ∷ []
+
+abbrev pub sums : List ℕ → List Repeat → List (List ℕ)
+sums name repeats = flat_map (sum_of name) repeats
+
+-- the second of a moment
+abbrev pub IsSecondOf : ℕ → ℕ → Type 0
+IsSecondOf now second = (second * 1000 ≤ now) × (now < second * 1000 + 1000)
+
+-- a second is over where another one is now: its sums wait
+abbrev pub EndsSecond : Type 0 → LogState → LogState → ℕ → Type 0
+EndsSecond may_refuse old new now = (IsSecondOf now old.second × (new ≡ old))
+    ⊎ ((IsSecondOf now old.second → ⊥) × IsSecondOf now new.second × (new.repeats ≡ [])
+    × PutsAll may_refuse old.waiting new.waiting (sums old.name old.repeats)
+    × (new ≡ record old { repeats = []; second = new.second; waiting = new.waiting }))
+
+-- a Map-Server that is silent is told
+pub record TellsOneSilence (may_refuse : Type 0) (old new : LogState) (now : ℕ) (told : ℕ × ℕ) : Type 0 where
+  pub silence : TellsSilence old.silences new.silences now told
+  pub waiting : Puts may_refuse old.waiting new.waiting (silent_text old.config old.name told.0 told.1)
+  pub rest : new ≡ record old { silences = new.silences; waiting = new.waiting }
+
+-- each Map-Server that is silent is told
+abbrev pub TellsSilences : Type 0 → LogState → LogState → ℕ → List (ℕ × ℕ) → Type 0
+TellsSilences may_refuse old new now [] = NoneSilent old.silences now × (new ≡ old)
+TellsSilences may_refuse old new now (told ∷ others) = (between : LogState) × TellsOneSilence may_refuse old between now told × TellsSilences may_refuse between new now others
+
+-- time passes
+pub record Passes (may_refuse : Type 0) (old new : LogState) (now : ℕ) : Type 0 where
+  pub between : LogState
+  pub second : EndsSecond may_refuse old between now
+  pub told : List (ℕ × ℕ)
+  pub silences : TellsSilences may_refuse between new now told

@@ -1,0 +1,107 @@
+-- The texts of lines.
+use Rattle.std.specs.Prelude.{ℕ, ◌==◌, List, [], ◌∷◌, ◌++◌, codes, Option, Some, None, if◌then◌else◌}
+use Rattle.std.specs.Fmt.{decimal}
+use Rattle.lisp_records.specs.declared.address.Addr.{Addr}
+use Rattle.lisp_records.specs.declared.router.RouterId.{RouterId}
+use Rattle.lisp_records.specs.Address.{PrefixValue}
+use Rattle.lisp_policy.specs.Configuration.{ConfigValue}
+use Rattle.lisp_texts.specs.Written.{addr_text, prefix_text}
+use Rattle.lisp_nonces.specs.declared.fault.StoreFault.TheVariants.{Device as DeviceFailed}
+use Rattle.lisp_etr.specs.declared.send_fault.SendFault.TheVariants as sends
+use Rattle.lisp_etr.specs.declared.start_fault.StartFault.TheVariants as starts
+use Rattle.lisp_etr.specs.declared.rotate_fault.RotateFault.TheVariants as rotates
+use Rattle.lisp_admission.specs.declared.notice_fault.NoticeFault.TheVariants as notices
+use Rattle.lisp_admission.specs.declared.refused.Refused.TheVariants as refused
+use Rattle.lisp_model.specs.declared.refusal.Refusal.{Refusal}
+use Rattle.lisp_model.specs.declared.refusal.Refusal.TheVariants as refusals
+use Rattle.lisp_model.specs.declared.line.Line.{Line}
+use Rattle.lisp_model.specs.declared.line.Line.TheVariants as lines
+use Rattle.lisp_lines.specs.Line.{line_words}
+use Rattle.lisp_lines.specs.Name.{node_name, router_name}
+use Rattle.lisp_lines.specs.declared.datagram_place.DatagramPlace.TheVariants.{Hidden}
+use Rattle.lisp_turns.specs.declared.outside.Printed.{Printed}
+use Rattle.lisp_turns.specs.declared.outside.Printed.TheVariants as printed
+use Rattle.lisp_turns.specs.declared.outside.SocketCall.{SocketCall}
+use Rattle.lisp_turns.specs.declared.outside.SocketCall.TheVariants as calls
+use Rattle.lisp_log.specs.declared.repeats.Repeat.{Repeat}
+use Rattle.lisp_log.specs.declared.repeats.Source.{Source}
+use Rattle.lisp_log.specs.declared.repeats.Source.TheVariants.{Address, Others}
+use Rattle.lisp_log.specs.declared.text.Device.{Device}
+use Rattle.lisp_log.specs.declared.text.Device.TheVariants as devices
+
+-- the device that a refusal says has failed: the store
+abbrev pub device_of_refusal : Refusal → Option Device
+device_of_refusal (refusals.Send (sends.Store DeviceFailed)) = Some devices.Store
+device_of_refusal (refusals.Receive (refused.StoreLoad DeviceFailed)) = Some devices.Store
+device_of_refusal (refusals.Receive (refused.StoreSave DeviceFailed)) = Some devices.Store
+device_of_refusal (refusals.Notice (notices.StoreLoad DeviceFailed)) = Some devices.Store
+device_of_refusal (refusals.Notice (notices.StoreSave DeviceFailed)) = Some devices.Store
+device_of_refusal (refusals.Start (starts.Store DeviceFailed)) = Some devices.Store
+device_of_refusal (refusals.Rotate (rotates.Store DeviceFailed)) = Some devices.Store
+device_of_refusal _ = None
+
+abbrev pub device_of_line : Line → Option Device
+device_of_line (lines.Refused node what) = device_of_refusal what
+device_of_line _ = None
+
+abbrev pub device_of : Printed → Option Device
+device_of (printed.Event line) = device_of_line line
+device_of (printed.Heard line from) = device_of_line line
+device_of (printed.Expired router eid) = None
+device_of (printed.Failed call) = Some devices.Socket
+
+-- the kind of an error, and a source address, behind a line
+abbrev pub cause_words : Option (List ℕ) → List ℕ
+cause_words (Some cause) = codes " " ++ cause
+cause_words None = []
+
+abbrev pub source_words : Addr → List ℕ
+source_words from = codes " from " ++ addr_text from
+
+-- the number of a call of a socket that failed
+abbrev pub number_of : SocketCall → ℕ
+number_of calls.Receive = 90
+number_of calls.Send = 91
+
+-- the line of an event, and what caused it; and where the datagram came from that brought it about
+abbrev pub caused_words : ConfigValue → Option (List ℕ) → Line → List ℕ
+caused_words c cause line = line_words c Hidden line ++ cause_words cause
+
+abbrev pub heard_words : ConfigValue → Option (List ℕ) → Line → Addr → List ℕ
+heard_words c cause line from = caused_words c cause line ++ source_words from
+
+-- a row that died, and a call of the socket that failed
+abbrev pub expired_words : ConfigValue → List ℕ → RouterId → PrefixValue → List ℕ
+expired_words c name router eid = codes "expired " ++ name ++ codes " " ++ router_name c router ++ codes " " ++ prefix_text eid
+
+abbrev pub failed_words : List ℕ → SocketCall → List ℕ
+failed_words name call = codes "refused " ++ name ++ codes " " ++ decimal (number_of call)
+
+-- what the node with a name tells
+abbrev pub told_words : ConfigValue → List ℕ → Option (List ℕ) → Printed → List ℕ
+told_words c name cause (printed.Event line) = caused_words c cause line
+told_words c name cause (printed.Heard line from) = heard_words c cause line from
+told_words c name cause (printed.Expired router eid) = expired_words c name router eid
+told_words c name cause (printed.Failed call) = failed_words name call ++ cause_words cause
+
+abbrev pub told_text : ConfigValue → List ℕ → Option (List ℕ) → Printed → List ℕ
+told_text c name cause line = told_words c name cause line ++ 10 ∷ []
+
+-- how many refusals of a number from a source weren't told
+abbrev pub from_text : Source → List ℕ
+from_text (Address a) = addr_text a
+from_text Others = codes "others"
+
+abbrev pub repeat_text : List ℕ → Repeat → List ℕ
+repeat_text name r = codes "refused " ++ name ++ codes " " ++ decimal r.number ++ codes " from " ++ from_text r.source ++ codes " times " ++ decimal r.times ++ 10 ∷ []
+
+-- how long a Map-Server hasn't acknowledged
+abbrev pub silent_text : ConfigValue → List ℕ → ℕ → ℕ → List ℕ
+silent_text c name server ms = codes "silent " ++ name ++ codes " " ++ node_name c server ++ codes " " ++ decimal ms ++ 10 ∷ []
+
+-- how many pairs a store keeps
+abbrev pub count_text : ℕ → List ℕ
+count_text pairs = if pairs == 0 then codes "none" else decimal pairs
+
+abbrev pub started_text : List ℕ → ℕ → List ℕ
+started_text name pairs = codes "started " ++ name ++ codes " nonces " ++ count_text pairs ++ 10 ∷ []

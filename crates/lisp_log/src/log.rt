@@ -1,0 +1,201 @@
+//! What a node that runs without an end tells.
+
+ghost use Rattle.std.specs.Prelude.{◌≡◌, ◌≤◌, ℕ, true, false, string_bytes, OnErr, IfOk};
+ghost use Rattle.std.specs.Option.{option_copied};
+ghost use Rattle.lisp_records.specs.Moment.{max_moment};
+ghost use Rattle.lisp_log.specs.Log.{begins, refused_from, IsToldOf, AcknowledgesBy, TellsLine, sum_of, sums, PutsAll, EndsSecond, TellsOneSilence, Passes};
+ghost use Rattle.lisp_log.specs.Silences.{NoneSilent};
+ghost use Rattle.lisp_log.specs.Waiting.{put_line, drops_one, Pours};
+
+use crate::repeats::{Repeat, Repeats};
+use crate::silences::Silences;
+use crate::text::{repeat_text, silent_text, started_text, told_text};
+use crate::waiting::{Sink, Waiting};
+use lisp_memory::Memory;
+use lisp_model::Line;
+use lisp_records::Addr;
+use lisp_sites::Config;
+use lisp_turns::Printed;
+use std::alloc::{AllocError, Allocator, Global};
+use std::marker::Model;
+
+/// What the node with a name tells: its lines, without the repeats of refusals, which are summed at the end of each
+/// second; which Map-Servers are silent; and what of it waits until it is written. Moments are in ms.
+#[derive(Drop)]
+pub struct Log<'a, A: Allocator = Global> {
+    alloc: A,
+    config: &'a Config,
+    name: &'a str,
+    // The refusals of this second, by number from the start on.
+    repeats: Repeats<A>,
+    second: u64,
+    silences: Silences<A>,
+    waiting: Waiting<A>,
+}
+
+impl<'a, A: Allocator> Model for Log<'a, A> {
+    ghost use Rattle.lisp_log.specs.Log.{LogState};
+
+    ghost Value = { LogState };
+
+    ghost view = { λ l. record { config = l.config.now; name = l.name.now; repeats = l.repeats; second = l.second; silences = l.silences; waiting = l.waiting } };
+}
+
+impl<'a, A: Memory + Copy> Log<'a, A> {
+    /// That of a node with a name, which registers with the Map-Servers of these numbers, and whose store keeps so many
+    /// pairs: it says so in its first line. Takes the memory that it keeps; each line takes and gives back its own.
+    pub fn start(
+        alloc: A,
+        config: &'a Config,
+        name: &'a str,
+        servers: &[usize],
+        pairs: usize,
+    ) -> Result<Log<'a, A>, AllocError>
+        ensures begins { IfOk result (λ l. l ≡ begins config.now name.now servers.now pairs) }
+        ensures memory { OnErr result A.may_refuse }
+    {
+        let repeats = Repeats::new(alloc)?;
+        let silences = Silences::new(alloc, servers)?;
+        let mut waiting = Waiting::new(alloc)?;
+        let started = started_text(alloc, name, pairs)?;
+        waiting.put(started.as_bytes());
+        Ok(Log {
+            alloc,
+            config,
+            name,
+            repeats,
+            second: 0,
+            silences,
+            waiting,
+        })
+    }
+
+    /// The node prints a line, at a moment in ms: it is told, with the kind of the system's error behind it, in a word,
+    /// where there is one. A refusal that repeats another of this second is counted in its place. A line for which no memory
+    /// is had is dropped.
+    pub fn tell(&mut self, line: &Printed, cause: Option<&str>, now: u64)
+        ensures { TellsLine A.may_refuse self.old self.new line.now (option_copied cause.entry) now }
+    {
+        acknowledge(&mut self.silences, line, now);
+        if is_told(&mut self.repeats, line) {
+            let text = told_text(self.alloc, self.config, self.name, cause, line);
+            put_text(&mut self.waiting, text);
+        }
+    }
+
+    /// Time passes, to a moment in ms of at most 2^62: where a second is over, its repeats are summed, each in a line; and
+    /// each Map-Server that is silent is told.
+    pub fn pass(&mut self, now: u64)
+        requires { now ≤ max_moment }
+        ensures { Passes A.may_refuse self.old self.new now }
+    {
+        self.end_second(now);
+        while self.tell_silence(now) {}
+    }
+
+    /// The sink takes what it can of what waits.
+    pub fn pour<S: Sink>(&mut self, sink: &mut S)
+        ensures pours { Pours self.old.waiting self.new.waiting (S.taken sink.old) (S.taken sink.new) }
+        ensures rest { self.new ≡ record self.old { waiting = self.new.waiting } }
+    {
+        self.waiting.pour(sink);
+    }
+
+    // Where another second has begun, what repeated in the last one is summed.
+    fn end_second(&mut self, now: u64)
+        ensures { EndsSecond A.may_refuse self.old self.new now }
+    {
+        let second = now / 1000;
+        if second == self.second {
+            return;
+        }
+        put_sums(
+            self.alloc,
+            self.name,
+            self.repeats.entries(),
+            &mut self.waiting,
+        );
+        self.repeats.clear();
+        self.second = second;
+    }
+
+    // Tells a Map-Server that is silent; whether there was one.
+    fn tell_silence(&mut self, now: u64) -> bool
+        requires { now ≤ max_moment }
+        ensures told { result ≡ true → (told : ℕ × ℕ) × TellsOneSilence A.may_refuse self.old self.new now told }
+        ensures none { result ≡ false → NoneSilent self.old.silences now × (self.new ≡ self.old) }
+    {
+        let Some(told) = self.silences.tells(now) else {
+            return false;
+        };
+        let text = silent_text(self.alloc, self.config, self.name, told.0, told.1);
+        put_text(&mut self.waiting, text);
+        true
+    }
+}
+
+// Whether a line is told; a refusal that repeats another is counted.
+fn is_told<A: Memory + Copy>(repeats: &mut Repeats<A>, line: &Printed) -> bool
+    ensures { IsToldOf (refused_from line.now) repeats.old repeats.new result }
+{
+    match refused_from(line) {
+        Some((number, from)) => repeats.tells(number, from),
+        None => true,
+    }
+}
+
+// The number of a refusal of a datagram, and the datagram's source address.
+fn refused_from(line: &Printed) -> Option<(u16, Addr)>
+    ensures { result ≡ refused_from line.now }
+{
+    match line {
+        Printed::Heard {
+            line: Line::Refused { what, .. },
+            from,
+        } => Some((what.number(), *from)),
+        _ => None,
+    }
+}
+
+// The Map-Server that a line says has acknowledged is no longer silent.
+fn acknowledge<A: Memory + Copy>(silences: &mut Silences<A>, line: &Printed, now: u64)
+    ensures { AcknowledgesBy line.now silences.old silences.new now }
+{
+    if let Printed::Heard {
+        line: Line::Counted { server, .. },
+        ..
+    } = line
+    {
+        silences.acknowledges(*server, now);
+    }
+}
+
+// The sum of each of these entries waits.
+fn put_sums<A: Memory + Copy>(alloc: A, name: &str, entries: &[Repeat], waiting: &mut Waiting<A>)
+    ensures { PutsAll A.may_refuse waiting.old waiting.new (sums name.now entries.now) }
+{
+    for repeat in entries {
+        put_sum(alloc, name, repeat, waiting);
+    }
+}
+
+// The sum of an entry that counts some waits.
+fn put_sum<A: Memory + Copy>(alloc: A, name: &str, repeat: &Repeat, waiting: &mut Waiting<A>)
+    ensures { PutsAll A.may_refuse waiting.old waiting.new (sum_of name.now repeat.now) }
+{
+    if repeat.times > 0 {
+        let text = repeat_text(alloc, name, repeat);
+        put_text(waiting, text);
+    }
+}
+
+// A text waits, if there was memory for it.
+fn put_text<A: Memory + Copy>(waiting: &mut Waiting<A>, text: Result<String<A>, AllocError>)
+    ensures text { IfOk text (λ text. waiting.new ≡ put_line waiting.old (string_bytes text)) }
+    ensures none { OnErr text (waiting.new ≡ drops_one waiting.old) }
+{
+    match text {
+        Ok(text) => waiting.put(text.as_bytes()),
+        Err(_) => waiting.drop_one(),
+    }
+}

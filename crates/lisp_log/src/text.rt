@@ -1,0 +1,240 @@
+//! The texts of lines.
+
+ghost use Rattle.std.specs.Prelude.{◌≡◌, ◌++◌, OnErr};
+ghost use Rattle.std.specs.Option.{option_copied};
+ghost use Rattle.lisp_lines.specs.Front.{Adds, GivesText};
+ghost use Rattle.lisp_log.specs.Text.{device_of, device_of_refusal, number_of, cause_words, caused_words, heard_words, expired_words, failed_words, told_words, told_text, from_text, repeat_text, silent_text, started_text};
+
+use crate::repeats::{Repeat, Source};
+use lisp_admission::{NoticeFault, Refused};
+use lisp_etr::{RotateFault, SendFault, StartFault};
+use lisp_lines::{DatagramPlace, line_text, node_name, router_name};
+use lisp_memory::{FallibleString, Memory};
+use lisp_model::{Line, Refusal};
+use lisp_nonces::StoreFault;
+use lisp_records::{Addr, Prefix, RouterId};
+use lisp_sites::Config;
+use lisp_texts::{addr_to_text, prefix_to_text};
+use lisp_turns::{Printed, SocketCall};
+use std::alloc::{AllocError, Allocator};
+
+/// What of the system's failed, where a line says so.
+#[derive(Clone, Copy, Debug, PartialEq, Eq)]
+pub enum Device {
+    /// The store of nonces.
+    Store,
+    /// The socket.
+    Socket,
+}
+
+/// The device whose failure a line tells; `None` of any other line.
+pub fn device_of(line: &Printed) -> Option<Device>
+    ensures { result ≡ device_of line.now }
+{
+    match line {
+        Printed::Event(Line::Refused { what, .. })
+        | Printed::Heard {
+            line: Line::Refused { what, .. },
+            ..
+        } => device_of_refusal(what),
+        Printed::Failed(_) => Some(Device::Socket),
+        _ => None,
+    }
+}
+
+// The device that a refusal says has failed.
+fn device_of_refusal(refusal: &Refusal) -> Option<Device>
+    ensures { result ≡ device_of_refusal refusal.now }
+{
+    match refusal {
+        Refusal::Send(SendFault::Store(StoreFault::Device))
+        | Refusal::Receive(Refused::StoreLoad(StoreFault::Device))
+        | Refusal::Receive(Refused::StoreSave(StoreFault::Device))
+        | Refusal::Notice(NoticeFault::StoreLoad(StoreFault::Device))
+        | Refusal::Notice(NoticeFault::StoreSave(StoreFault::Device))
+        | Refusal::Start(StartFault::Store(StoreFault::Device))
+        | Refusal::Rotate(RotateFault::Store(StoreFault::Device)) => Some(Device::Store),
+        _ => None,
+    }
+}
+
+/// What the node with a name tells, with its line feed: the line of an event as everywhere; behind it the kind of the
+/// system's error that caused it, in a word, where there is one; and the source address of a datagram.
+pub(crate) fn told_text<A: Memory + Copy, E: Allocator>(
+    alloc: A,
+    config: &Config<E>,
+    name: &str,
+    cause: Option<&str>,
+    line: &Printed,
+) -> Result<String<A>, AllocError>
+    ensures text { GivesText result (told_text config.now name.now (option_copied cause.entry) line.now) }
+    ensures memory { OnErr result A.may_refuse }
+{
+    let mut text = told_words(alloc, config, name, cause, line)?;
+    text.try_push('\n')?;
+    Ok(text)
+}
+
+// What the node with a name tells, without its line feed.
+fn told_words<A: Memory + Copy, E: Allocator>(
+    alloc: A,
+    config: &Config<E>,
+    name: &str,
+    cause: Option<&str>,
+    line: &Printed,
+) -> Result<String<A>, AllocError>
+    ensures text { GivesText result (told_words config.now name.now (option_copied cause.entry) line.now) }
+    ensures memory { OnErr result A.may_refuse }
+{
+    match line {
+        Printed::Event(line) => caused_words(alloc, config, cause, line),
+        Printed::Heard { line, from } => heard_words(alloc, config, cause, line, from),
+        Printed::Expired { router, eid } => expired_words(alloc, config, name, router, eid),
+        Printed::Failed(call) => failed_words(alloc, name, cause, *call),
+    }
+}
+
+// The line of an event, and what caused it.
+fn caused_words<A: Memory, E: Allocator>(
+    alloc: A,
+    config: &Config<E>,
+    cause: Option<&str>,
+    line: &Line,
+) -> Result<String<A>, AllocError>
+    ensures text { GivesText result (caused_words config.now (option_copied cause.entry) line.now) }
+    ensures memory { OnErr result A.may_refuse }
+{
+    let mut text = line_text(alloc, config, line, DatagramPlace::Hidden)?;
+    // The line feed comes last.
+    let _line_feed = text.pop();
+    put_cause(&mut text, cause)?;
+    Ok(text)
+}
+
+// The line of an event that a datagram brought about, what caused it, and where the datagram came from.
+fn heard_words<A: Memory + Copy, E: Allocator>(
+    alloc: A,
+    config: &Config<E>,
+    cause: Option<&str>,
+    line: &Line,
+    from: &Addr,
+) -> Result<String<A>, AllocError>
+    ensures text { GivesText result (heard_words config.now (option_copied cause.entry) line.now from.now) }
+    ensures memory { OnErr result A.may_refuse }
+{
+    let mut text = caused_words(alloc, config, cause, line)?;
+    let from = addr_to_text(alloc, from)?;
+    text.try_write(format_args!(" from {from}"))?;
+    Ok(text)
+}
+
+// A row that died.
+fn expired_words<A: Memory + Copy, E: Allocator>(
+    alloc: A,
+    config: &Config<E>,
+    name: &str,
+    router: &RouterId,
+    eid: &Prefix,
+) -> Result<String<A>, AllocError>
+    ensures text { GivesText result (expired_words config.now name.now router.now eid.now) }
+    ensures memory { OnErr result A.may_refuse }
+{
+    let router = router_name(config, router);
+    let eid = prefix_to_text(alloc, eid)?;
+    String::try_format(alloc, format_args!("expired {name} {router} {eid}"))
+}
+
+// A call of the socket that failed, and what caused it.
+fn failed_words<A: Memory>(
+    alloc: A,
+    name: &str,
+    cause: Option<&str>,
+    call: SocketCall,
+) -> Result<String<A>, AllocError>
+    ensures text { GivesText result (failed_words name.now call ++ cause_words (option_copied cause.entry)) }
+    ensures memory { OnErr result A.may_refuse }
+{
+    let number = number_of(call);
+    let mut text = String::try_format(alloc, format_args!("refused {name} {number}"))?;
+    put_cause(&mut text, cause)?;
+    Ok(text)
+}
+
+// The number of a call of the socket that failed, as operators see it.
+fn number_of(call: SocketCall) -> u16
+    ensures { result ≡ number_of call }
+{
+    match call {
+        SocketCall::Receive => 90,
+        SocketCall::Send => 91,
+    }
+}
+
+// Appends the kind of the system's error, where there is one. Out of memory, it may leave a part of it.
+fn put_cause<A: Memory>(text: &mut String<A>, cause: Option<&str>) -> Result<(), AllocError>
+    ensures text { Adds result text.old text.new (cause_words (option_copied cause.entry)) }
+    ensures memory { OnErr result A.may_refuse }
+{
+    match cause {
+        Some(cause) => text.try_write(format_args!(" {cause}")),
+        None => Ok(()),
+    }
+}
+
+/// How many refusals weren't told, with its line feed.
+pub(crate) fn repeat_text<A: Memory + Copy>(
+    alloc: A,
+    name: &str,
+    repeat: &Repeat,
+) -> Result<String<A>, AllocError>
+    ensures text { GivesText result (repeat_text name.now repeat.now) }
+    ensures memory { OnErr result A.may_refuse }
+{
+    let Repeat { number, times, .. } = *repeat;
+    let source = source_text(alloc, &repeat.source)?;
+    String::try_format(
+        alloc,
+        format_args!("refused {name} {number} from {source} times {times}\n"),
+    )
+}
+
+// Where refused datagrams came from.
+fn source_text<A: Memory>(alloc: A, source: &Source) -> Result<String<A>, AllocError>
+    ensures text { GivesText result (from_text source.now) }
+    ensures memory { OnErr result A.may_refuse }
+{
+    match source {
+        Source::Address(from) => addr_to_text(alloc, from),
+        Source::Others => String::try_from_str(alloc, "others"),
+    }
+}
+
+/// How long a Map-Server hasn't acknowledged, in ms, with its line feed.
+pub(crate) fn silent_text<A: Memory, E: Allocator>(
+    alloc: A,
+    config: &Config<E>,
+    name: &str,
+    server: usize,
+    ms: u64,
+) -> Result<String<A>, AllocError>
+    ensures text { GivesText result (silent_text config.now name.now server ms) }
+    ensures memory { OnErr result A.may_refuse }
+{
+    let server = node_name(config, server);
+    String::try_format(alloc, format_args!("silent {name} {server} {ms}\n"))
+}
+
+/// How many pairs a node's store keeps as it starts, with its line feed.
+pub(crate) fn started_text<A: Memory>(
+    alloc: A,
+    name: &str,
+    pairs: usize,
+) -> Result<String<A>, AllocError>
+    ensures text { GivesText result (started_text name.now pairs) }
+    ensures memory { OnErr result A.may_refuse }
+{
+    if pairs == 0 {
+        return String::try_format(alloc, format_args!("started {name} nonces none\n"));
+    }
+    String::try_format(alloc, format_args!("started {name} nonces {pairs}\n"))
+}

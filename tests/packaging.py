@@ -1,0 +1,195 @@
+#!/usr/bin/env -S python3 -B
+"""packaging.py PROGRAM
+Installs a program as `make install` does, removes it, and packs it: which files there are, what systemd says of the units, what the
+shells complete, that the manual pages have the program's options and the configuration's fields, and that two folders give the same
+package. Prints each check that fails, and what it left out where a tool is missing; ends with 1 where a check fails."""
+import hashlib
+import os
+import re
+import shutil
+import subprocess
+import sys
+import tarfile
+import tempfile
+from pathlib import Path
+
+TOP = Path(__file__).resolve().parent.parent
+program = os.path.abspath(sys.argv[1])
+MODES = {"bin/lispd": 0o755, **dict.fromkeys((
+    "lib/systemd/system/lispd-router@.service", "lib/systemd/system/lispd-server@.service", "share/bash-completion/completions/lispd",
+    "share/doc/lispd/examples/configuration.toml", "share/man/man1/lispd.1", "share/man/man5/lispd.toml.5",
+    "share/zsh/site-functions/_lispd"), 0o644)}
+BASH_COMPLETION, ZSH_COMPLETION = "share/bash-completion/completions/lispd", "share/zsh/site-functions/_lispd"
+GATE, SUMS = "share/doc/lispd/GATE", "share/doc/lispd/SHA256SUMS"
+UNITS, PAGES = [it for it in MODES if it.endswith(".service")], [it for it in MODES if "/man/" in it]
+# What `make dist` reads of the repository.
+SOURCES = ["Makefile", "crates/lispd_cli/src/command_line.rt", "docs", "examples", "packaging", "tools"]
+CLOSING_LINES = "rt: ok; handles allowed: Net\n31 passed, 0 failed\n"
+
+failed = False
+
+
+def check(name, got, wanted):
+    """Prints a check that fails."""
+    global failed
+    if got != wanted:
+        failed = True
+        print(f"packaging.py: {name}: {got!r}, wanted {wanted!r}", flush=True)
+
+
+def is_there(tool, what):
+    """Whether a tool is there; else a line says what was left out."""
+    if not shutil.which(tool):
+        print(f"packaging.py: no {tool} here: {what} not tried")
+    return shutil.which(tool) is not None
+
+
+def ran(*words, **how):
+    """Runs a command: its status, and what it printed."""
+    how = {"stdin": subprocess.DEVNULL, "stdout": subprocess.PIPE, "stderr": subprocess.STDOUT, "text": True, "check": False, **how}
+    done = subprocess.run(words, **how)
+    return done.returncode, done.stdout
+
+
+def make(*words, top=TOP, time=None, **how):
+    """Runs make, as if no other make had called it; SOURCE_DATE_EPOCH is the time."""
+    env = {name: value for name, value in os.environ.items() if not name.startswith("MAKE")}
+    env |= {"SOURCE_DATE_EPOCH": time} if time else {}
+    return ran("make", "-s", "-C", str(top), f"PROGRAM={program}", *words, env=env, **how)
+
+
+def files_of(folder):
+    return {str(it.relative_to(folder)): it.stat().st_mode & 0o777 for it in folder.rglob("*") if it.is_file()}
+
+
+def helps():
+    """What `--help` prints of the program, and of each subcommand by its name."""
+    top = ran(program, "--help")[1]
+    names = re.findall(r"^  (\w+) ", top.partition("Commands:\n")[2].partition("\n\n")[0], re.M)
+    return {"": top, **{name: ran(program, name, "--help")[1] for name in names if name != "help"}}
+
+
+HELPS = helps()
+
+
+def options_in(help_text):
+    """The options of a help."""
+    section = help_text.partition("\nOptions:\n")[2].partition("\n\n")[0]
+    return {name for names in re.findall(r"^ +(?:(-\w), )?(--[\w-]+)", section, re.M) for name in names if name}
+
+
+def installs(room):
+    to = room / "installed"
+    check("make install", make("install", f"DESTDIR={to}", umask=0o077), (0, ""))
+    root = to / "usr/local"
+    check("its files", files_of(to), {f"usr/local/{path}": mode for path, mode in MODES.items()})
+    check("its folders that others can't enter", [str(it) for it in to.rglob("*") if it.is_dir() and it.stat().st_mode & 0o5 != 0o5], [])
+    check("the program", (root / "bin/lispd").read_bytes() == Path(program).read_bytes(), True)
+    for path in (*UNITS, *PAGES):
+        check(f"what isn't filled in of {path}", re.findall(r"@[A-Z]+@", (root / path).read_text().replace("@NAME@", "")), [])
+    for path in UNITS:
+        check(f"the program of {path}", "ExecStart=/usr/local/bin/lispd " in (root / path).read_text(), True)
+    version = ran(program, "--version")[1].strip()
+    check("the version", [page for page in PAGES if f'"{version}"' not in (root / page).read_text()], [])
+    (root / "share/doc/other").mkdir()
+    for _ in range(2):
+        check("make uninstall", make("uninstall", f"DESTDIR={to}"), (0, ""))
+        check("what it leaves", (files_of(to), sorted(os.listdir(root / "share/doc"))), ({}, ["other"]))
+
+
+def units_are_well(root):
+    if is_there("systemd-analyze", "what systemd says of the units was"):
+        for path in UNITS:
+            check(f"verify {path}", ran("systemd-analyze", "verify", "--man=no", f"{root}/{path}"), (0, ""))
+            status, printed = ran("systemd-analyze", "security", "--offline=true", "--threshold=15", f"{root}/{path}")
+            check(f"security {path}: {printed.splitlines()[-1:]}", status, 0)
+
+
+def completed(root, *words):
+    """What bash completes behind these words, the last of which is begun."""
+    script = 'source "$1"; shift; COMP_WORDS=("$@") COMP_CWORD=$(($# - 1)); _lispd "$1" "${@: -1}" "${@: -2:1}"; echo "${COMPREPLY[*]}"'
+    return ran("bash", "-c", script, "bash", f"{root}/{BASH_COMPLETION}", program, *words)[1].split()
+
+
+def bash_completes(root):
+    if not is_there("bash", "what bash completes was"):
+        return
+    check("bash -n", ran("bash", "-n", f"{root}/{BASH_COMPLETION}"), (0, ""))
+    subcommands = [*filter(None, HELPS), "help"]
+    check("subcommands", set(completed(root, "")), {*subcommands, *options_in(HELPS[""])})
+    check("a subcommand", completed(root, "ser"), ["server"])
+    check("the subcommand of help", completed(root, "help", ""), subcommands)
+    for name in filter(None, HELPS):
+        check(f"the options of {name}", set(completed(root, name, "-")), options_in(HELPS[name]))
+    config = str(TOP / "examples/configuration.toml")
+    check("a Map-Server", completed(root, "server", config, ""), ["s1", "s2"])
+    check("a router behind an option", completed(root, "router", "--store", "nonces", config, "r"), ["r1", "r2"])
+    check("all words are there", set(completed(root, "router", config, "r1", "")), options_in(HELPS["router"]))
+    check("a number", completed(root, "router", config, "r1", "--turns", ""), [])
+
+
+def zsh_has_the_options(root):
+    text = (root / ZSH_COMPLETION).read_text()
+    if shutil.which("zsh"):
+        check("zsh -n", ran("zsh", "-n", f"{root}/{ZSH_COMPLETION}"), (0, ""))
+    cases = dict(re.findall(r"^ {16}(\w+)\)\n(.*?) ;;$", text, re.M | re.S))
+    check("the subcommands of zsh", set(cases), {*filter(None, HELPS), "help"})
+    for name in filter(None, HELPS):
+        check(f"the options of {name} in zsh", set(re.findall(r"(?<=[{,'])--?[a-zA-Z-]+(?=[\[,}])", cases[name])), options_in(HELPS[name]))
+
+
+def pages_are_well(root):
+    if is_there("groff", "the layout of the manual pages was"):
+        for path in PAGES:
+            check(f"groff {path}", ran("groff", "-man", "-Tutf8", "-ww", "-z", f"{root}/{path}"), (0, ""))
+    page, options = (root / PAGES[0]).read_text().replace("\\-", "-"), set().union(*map(options_in, HELPS.values()))
+    check("the options of lispd.1", set(re.findall(r"(?<![\w-])--[a-z]+(?:-[a-z]+)*", page)), {it for it in options if it.startswith("--")})
+    fields = set(re.findall(r"^\| `(?:site|server|router)\.(?:\w+\.)?(\w+)` \|", (TOP / "docs/CONFIGURATION.md").read_text(), re.M))
+    check("the fields of lispd.toml.5", fields - set(re.findall(r"\w+", (root / PAGES[1]).read_text())), set())
+
+
+def copied(to, umask):
+    """What `make dist` reads, in a folder of its own."""
+    for path in SOURCES:
+        (to / path).parent.mkdir(parents=True, exist_ok=True)
+        ran("cp", "-r", "--no-preserve=timestamps", str(TOP / path), str(to / path), umask=umask)
+    return to
+
+
+def two_folders_give_one_package(room):
+    log, packages = room / "gate.log", []
+    log.write_text(f"rt: ok; an older run\n1 passed, 0 failed\nproved\n{CLOSING_LINES}")
+    for number, umask in enumerate((0o022, 0o077)):
+        top = copied(room / f"folder-{number}" / ("deeper" * number), umask)
+        check("make dist", make("dist", f"GATE={log}", top=top, time="1700000000", umask=umask), (0, ""))
+        packages += (top / "out").glob("*.tar.gz")
+    version = ran(program, "--version")[1].split()[-1]
+    check("packages", [it.name for it in packages], [f"lispd-{version}.tar.gz"] * 2)
+    if len(packages) < 2:
+        return
+    check("the packages are the same", packages[0].read_bytes() == packages[1].read_bytes(), True)
+    with tarfile.open(packages[0]) as tar:
+        held = {it.name: (it.mode, tar.extractfile(it).read()) for it in tar}
+    front = f"lispd-{version}/"
+    check("its files", {name: mode for name, (mode, _) in held.items()},
+          {front + path: mode for path, mode in {**MODES, GATE: 0o644, SUMS: 0o644}.items()})
+    sums = dict(reversed(line.split("  ")) for line in held[front + SUMS][1].decode().splitlines())
+    check("its sums", sums, {path: hashlib.sha256(held[front + path][1]).hexdigest() for path in [*MODES, GATE]})
+    check("the gate's closing lines", held[front + GATE][1].decode(), CLOSING_LINES)
+    for text in ("", "31 passed, 1 failed\n", f"{CLOSING_LINES}answers.txt: a case\nmake: *** [Makefile:28: test] Error 1\n"):
+        log.write_text(text)
+        check(f"a log that ends in {text[-20:]!r}", make("dist", f"GATE={log}", top=top)[0], 2)
+
+
+with tempfile.TemporaryDirectory() as name:
+    room = Path(name)
+    installs(room)
+    # A folder of its own as PREFIX, so that the program is where the units say.
+    root = room / "prefix"
+    check("make install PREFIX", make("install", f"PREFIX={root}"), (0, ""))
+    units_are_well(root)
+    bash_completes(root)
+    zsh_has_the_options(root)
+    pages_are_well(root)
+    two_folders_give_one_package(room)
+sys.exit(1 if failed else 0)
