@@ -63,18 +63,21 @@ const ACK: [u8; 60] = [
 /// What a turn is to come to: what comes, the line that is printed then, and the message that is sent.
 struct Turn {
     hears: Option<&'static [u8]>,
-    prints: Option<Line>,
+    prints: Option<Printed>,
     sends: Option<&'static [u8]>,
 }
 
 const REGISTERS: Turn = Turn {
     hears: Some(&MAP_REGISTER),
-    prints: Some(Line::Accepted {
-        server: 0,
-        router: ROUTER,
-        key: 1,
-        nonce: 1,
-        datagram: Some(0),
+    prints: Some(Printed::Heard {
+        line: Line::Accepted {
+            server: 0,
+            router: ROUTER,
+            key: 1,
+            nonce: 1,
+            datagram: Some(0),
+        },
+        from: FROM,
     }),
     sends: Some(&MAP_NOTIFY),
 };
@@ -87,20 +90,23 @@ const WAITS: Turn = Turn {
 
 const RESENDS: Turn = Turn {
     hears: None,
-    prints: Some(Line::Resent {
+    prints: Some(Printed::Event(Line::Resent {
         server: 0,
         router: 1,
         datagram: 0,
-    }),
+    })),
     sends: Some(&NOTICE),
 };
 
 const IS_DONE: Turn = Turn {
     hears: Some(&ACK),
-    prints: Some(Line::Done {
-        server: 0,
-        router: ROUTER,
-        nonce: NOTICE_NONCE,
+    prints: Some(Printed::Heard {
+        line: Line::Done {
+            server: 0,
+            router: ROUTER,
+            nonce: NOTICE_NONCE,
+        },
+        from: FROM,
     }),
     sends: None,
 };
@@ -223,10 +229,10 @@ fn takes(
 }
 
 // Whether these lines are that one.
-fn printed(lines: &[Printed], wanted: Option<Line>) -> bool {
+fn printed(lines: &[Printed], wanted: Option<Printed>) -> bool {
     match (lines, wanted) {
         ([], None) => true,
-        ([line], Some(wanted)) => *line == Printed::Event(wanted),
+        ([line], Some(wanted)) => *line == wanted,
         _ => false,
     }
 }
