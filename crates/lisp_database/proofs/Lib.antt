@@ -1,0 +1,6 @@
+mod Texts
+mod Meaning
+mod Saving
+mod Calls
+mod Reading
+mod Loading

@@ -1,0 +1,32 @@
+-- What the three statements are.
+use Rattle.std.proofs.Common.{◌≡◌, List, [], ◌∷◌, Ok, refl}
+use Rattle.sqlite.specs.declared.types.Value.TheVariants.{Null}
+use Rattle.sqlite.specs.Term.{Term, lit, col}
+use Rattle.sqlite.specs.Command.TheVariants.{InsertOr, CreateTable}
+use Rattle.sqlite.specs.Source.TheVariants.{Values}
+use Rattle.sqlite_schema.specs.declared.command.Conflict.TheVariants.{Replace}
+use Rattle.sqlite.specs.Compile.{table_defined_by}
+use Rattle.sqlite_tied.specs.Compute.{everything}
+use Rattle.sqlite.specs.Listing.{understood}
+use Rattle.sqlite.proofs.Callers.{IsPlain, command_of, statement_of}
+use Rattle.lisp_database.specs.Schema.{nonces, nonces_schema, no_schema}
+use Rattle.lisp_database.specs.Table.{create_text, load_text, save_text}
+
+abbrev pub terms : List Term
+terms = lit Null ∷ col 0 0 ∷ col 0 1 ∷ col 0 2 ∷ col 0 3 ∷ col 0 4 ∷ []
+
+create_is : (command_of (understood no_schema create_text) ≡ CreateTable) × (statement_of create_text (understood no_schema create_text) ≡ create_text) × (table_defined_by create_text ≡ Ok nonces)
+unfolding understood everything
+create_is = (refl, refl, refl)
+
+pub save_is : command_of (understood nonces_schema save_text) ≡ InsertOr 0 Replace (Values terms 6) []
+unfolding understood everything
+save_is = refl
+
+pub save_plain : IsPlain (understood nonces_schema save_text)
+unfolding understood everything
+save_plain = (refl, refl)
+
+pub load_plain : IsPlain (understood nonces_schema load_text)
+unfolding understood everything
+load_plain = (refl, refl)

@@ -1,0 +1,24 @@
+-- A pair and a nonce as the values of a row of the table.
+use Rattle.std.specs.Prelude.{ℕ, pos, List, [], ◌∷◌, ◌++◌, codes}
+use Rattle.std.specs.Int.{w64, to_be_bytes}
+use Rattle.hex.specs.Hex.{encode_lower}
+use Rattle.sqlite.specs.declared.types.Value.TheVariants.{Int, Text}
+use Rattle.sqlite.specs.Order.{Row}
+use Rattle.lisp_nonces.specs.declared.pair.PairKind.{PairKind}
+use Rattle.lisp_nonces.specs.declared.pair.PairKind.TheVariants.{Sent, Received, Notice}
+use Rattle.lisp_nonces.specs.declared.pair.Pair.{Pair}
+use Rattle.lisp_store.specs.NonceText.{last_digits}
+
+-- which nonces, in a word
+abbrev pub kind_word : PairKind → List ℕ
+kind_word Sent = codes "sent"
+kind_word Received = codes "received"
+kind_word Notice = codes "notice"
+
+-- kind, Site-ID, xTR-ID and Key ID
+abbrev pub key_of : Pair → Row
+key_of p = Text (kind_word p.kind) ∷ Text (encode_lower (to_be_bytes w64 p.router.site)) ∷ Text (encode_lower p.router.xtr) ∷ Int (pos p.key) ∷ []
+
+-- these and the nonce in 20 decimal digits
+abbrev pub row_of : Pair → ℕ → Row
+row_of p nonce = key_of p ++ Text (last_digits 20 nonce) ∷ []

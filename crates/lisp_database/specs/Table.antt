@@ -1,0 +1,36 @@
+-- The statements on the table, and what a load and a save are by the meaning of SQL.
+use Rattle.std.specs.Prelude.{◌≡◌, ℕ, List, codes, Option, Some, None, Result, Ok, Err}
+use Rattle.sqlite.specs.declared.types.Value.TheVariants.{Text}
+use Rattle.sqlite.specs.Order.{Row, column}
+use Rattle.sqlite.specs.Tree.{Trees}
+use Rattle.sqlite.specs.declared.error.Error.{Error}
+use Rattle.sqlite.specs.declared.error.Error.TheVariants.{QueryReturnedNoRows}
+use Rattle.sqlite.specs.State.{State, Executes, CommitsBy, QueriesRow}
+use Rattle.lisp_nonces.specs.declared.pair.Pair.{Pair}
+use Rattle.lisp_store.specs.NonceText.{last_digits}
+use Rattle.lisp_database.specs.Columns.{key_of, row_of}
+
+-- makes the table
+abbrev pub create_text : List ℕ
+create_text = codes "CREATE TABLE nonces (kind TEXT NOT NULL, site_id TEXT NOT NULL, xtr_id TEXT NOT NULL, key_id INTEGER NOT NULL, nonce TEXT NOT NULL, PRIMARY KEY (kind, site_id, xtr_id, key_id)) STRICT"
+
+-- finds the nonce of a pair
+abbrev pub load_text : List ℕ
+load_text = codes "SELECT nonce FROM nonces WHERE kind = ?1 AND site_id = ?2 AND xtr_id = ?3 AND key_id = ?4"
+
+-- puts the nonce of a pair in the place of the one that it had
+abbrev pub save_text : List ℕ
+save_text = codes "INSERT OR REPLACE INTO nonces (kind, site_id, xtr_id, key_id, nonce) VALUES (?1, ?2, ?3, ?4, ?5)"
+
+-- the save of a nonce is that statement, with the columns of the pair
+abbrev pub Saves : State → State → Pair → ℕ → Result ℕ Error → Type 0
+Saves old new pair nonce answer = Executes save_text (row_of pair nonce) old new answer
+
+-- what a save may commit
+abbrev pub CommitsNonce : State → Pair → ℕ → Trees → Type 0
+CommitsNonce old pair nonce db = CommitsBy save_text (row_of pair nonce) old db
+
+-- the load of a nonce is that query: its first row has the nonce's digits, or it has no row
+abbrev pub Loads : State → State → Pair → Option ℕ → Type 0
+Loads old new pair (Some nonce) = (row : Row) × (column row 0 ≡ Text (last_digits 20 nonce)) × QueriesRow load_text (key_of pair) old new (Ok row)
+Loads old new pair None = QueriesRow load_text (key_of pair) old new (Err QueryReturnedNoRows)
