@@ -132,7 +132,7 @@ fills --version
 
 expect 'a configuration that is checked' 0 @checked/example.txt '' check - < $configuration
 : > ../out/configuration.toml
-expect 'an empty configuration' 0 'warning: no server and no router' '' check - < ../out/configuration.toml
+expect 'an empty configuration' 0 'warning: -: no server and no router' '' check - < ../out/configuration.toml
 
 # Each configuration of checked/, with its warnings.
 for file in checked/*.toml; do
@@ -158,7 +158,7 @@ cp $configuration ../out/configuration.toml
 chmod 600 ../out/configuration.toml
 expect 'a file of its owner alone' 0 @checked/example.txt '' check ../out/configuration.toml
 expect 'no warning, with --strict' 0 @checked/example.txt '' check --strict ../out/configuration.toml
-{ cat checked/example.txt && echo 'warning: others can read the file, and it holds secrets'; } > ../out/wanted
+{ cat checked/example.txt && echo 'warning: ../out/configuration.toml: others can read the file, and it holds secrets'; } > ../out/wanted
 for mode in 640 604; do
     chmod $mode ../out/configuration.toml
     expect "a file of mode $mode" 0 @../out/wanted '' check ../out/configuration.toml

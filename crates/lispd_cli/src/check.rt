@@ -35,7 +35,7 @@ pub fn check_config<R: Input + Files + AllocGlobal, W: Write>(
         Ok(config) => config,
         Err(placed) => return Err(placed_failure(alloc, text, &placed)),
     };
-    Ok(print_checked(alloc, &source, text, &config, writer)?)
+    Ok(print_checked(alloc, path, &source, text, &config, writer)?)
 }
 
 // A fault of a configuration, with its place there and what would be right.
@@ -68,6 +68,7 @@ fn fault_words(alloc: Global, text: &str, placed: &PlacedFault) -> Result<String
 
 fn print_checked<W: Write>(
     alloc: Global,
+    path: &str,
     source: &Source,
     text: &str,
     config: &Config,
@@ -77,7 +78,7 @@ fn print_checked<W: Write>(
     print_config(alloc, config, writer)?;
     for line in &lines {
         print(
-            String::try_format(alloc, format_args!("warning: {line}")),
+            String::try_format(alloc, format_args!("warning: {path}: {line}")),
             writer,
         )?;
     }
