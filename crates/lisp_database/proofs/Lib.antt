@@ -1,6 +1,12 @@
 mod Texts
 mod Meaning
+mod Rows
+mod Keys
 mod Saving
 mod Calls
 mod Reading
 mod Loading
+mod Groups
+mod Making
+mod Greatest
+mod Crashing

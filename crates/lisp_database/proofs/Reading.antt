@@ -20,7 +20,7 @@ is place parameter = op2 (Compare Eq Binary) (col 1 place) (col 0 parameter)
 abbrev pub query : Query
 query = record {
   from = inner 0 end;
-  filter = is 1 0 ∷ is 2 1 ∷ is 3 2 ∷ is 4 3 ∷ [];
+  filter = is 3 2 ∷ is 2 1 ∷ is 4 3 ∷ is 1 0 ∷ [];
   group = None;
   project = col 1 5 ∷ [];
   distinct = false;

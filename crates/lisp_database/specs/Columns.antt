@@ -1,7 +1,8 @@
 -- A pair and a nonce as the values of a row of the table.
-use Rattle.std.specs.Prelude.{ℕ, pos, List, [], ◌∷◌, ◌++◌, codes}
+use Rattle.std.specs.Prelude.{◌≡◌, ◌<◌, ◌^◌, ℕ, pos, List, [], ◌∷◌, ◌++◌, codes, Option, Some}
 use Rattle.std.specs.Int.{w64, to_be_bytes}
 use Rattle.hex.specs.Hex.{encode_lower}
+use Rattle.sqlite.specs.declared.types.Value.{Value}
 use Rattle.sqlite.specs.declared.types.Value.TheVariants.{Int, Text}
 use Rattle.sqlite.specs.Order.{Row}
 use Rattle.lisp_nonces.specs.declared.pair.PairKind.{PairKind}
@@ -19,6 +20,14 @@ kind_word Notice = codes "notice"
 abbrev pub key_of : Pair → Row
 key_of p = Text (kind_word p.kind) ∷ Text (encode_lower (to_be_bytes w64 p.router.site)) ∷ Text (encode_lower p.router.xtr) ∷ Int (pos p.key) ∷ []
 
--- these and the nonce in 20 decimal digits
+-- the nonce in 20 decimal digits
+abbrev pub nonce_column : ℕ → Value
+nonce_column nonce = Text (last_digits 20 nonce)
+
+-- the columns of a pair, and the nonce
 abbrev pub row_of : Pair → ℕ → Row
 row_of p nonce = key_of p ++ Text (last_digits 20 nonce) ∷ []
+
+-- the nonce whose digits they are is found
+abbrev pub FindsNonce : List ℕ → Option ℕ → Type 0
+FindsNonce digits answer = (nonce : ℕ) → nonce < 2 ^ 64 → digits ≡ last_digits 20 nonce → answer ≡ Some nonce

@@ -1,5 +1,5 @@
 pub mod Columns
 pub mod Table
-pub mod Fault
 pub mod Schema
 pub mod Kept
+pub mod Group

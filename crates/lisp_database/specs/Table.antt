@@ -1,22 +1,26 @@
 -- The statements on the table, and what a load and a save are by the meaning of SQL.
-use Rattle.std.specs.Prelude.{◌≡◌, ℕ, List, codes, Option, Some, None, Result, Ok, Err}
+use Rattle.std.specs.Prelude.{◌≡◌, ◌⊎◌, ℕ, List, codes, Option, Some, None, Result, Ok, Err}
 use Rattle.sqlite.specs.declared.types.Value.TheVariants.{Text}
 use Rattle.sqlite.specs.Order.{Row, column}
 use Rattle.sqlite.specs.Tree.{Trees}
 use Rattle.sqlite.specs.declared.error.Error.{Error}
 use Rattle.sqlite.specs.declared.error.Error.TheVariants.{QueryReturnedNoRows}
-use Rattle.sqlite.specs.State.{State, Executes, CommitsBy, QueriesRow}
+use Rattle.sqlite.specs.State.{State, Executes, CommitsBy, CommitsShowing, QueriesRow}
 use Rattle.lisp_nonces.specs.declared.pair.Pair.{Pair}
 use Rattle.lisp_store.specs.NonceText.{last_digits}
 use Rattle.lisp_database.specs.Columns.{key_of, row_of}
 
--- makes the table
+-- makes the table of nonces
 abbrev pub create_text : List ℕ
-create_text = codes "CREATE TABLE nonces (kind TEXT NOT NULL, site_id TEXT NOT NULL, xtr_id TEXT NOT NULL, key_id INTEGER NOT NULL, nonce TEXT NOT NULL, PRIMARY KEY (kind, site_id, xtr_id, key_id)) STRICT"
+create_text = codes "CREATE TABLE nonces (kind TEXT NOT NULL, site_id TEXT NOT NULL, xtr_id TEXT NOT NULL, key_id INTEGER NOT NULL, nonce TEXT NOT NULL, PRIMARY KEY (xtr_id, site_id, key_id, kind)) STRICT"
+
+-- makes the table of who wrote last
+abbrev pub create_writer_text : List ℕ
+create_writer_text = codes "CREATE TABLE writer (machine_id TEXT NOT NULL, boot_id TEXT NOT NULL) STRICT"
 
 -- finds the nonce of a pair
 abbrev pub load_text : List ℕ
-load_text = codes "SELECT nonce FROM nonces WHERE kind = ?1 AND site_id = ?2 AND xtr_id = ?3 AND key_id = ?4"
+load_text = codes "SELECT nonce FROM nonces WHERE xtr_id = ?3 AND site_id = ?2 AND key_id = ?4 AND kind = ?1"
 
 -- puts the nonce of a pair in the place of the one that it had
 abbrev pub save_text : List ℕ
@@ -34,3 +38,11 @@ CommitsNonce old pair nonce db = CommitsBy save_text (row_of pair nonce) old db
 abbrev pub Loads : State → State → Pair → Option ℕ → Type 0
 Loads old new pair (Some nonce) = (row : Row) × (column row 0 ≡ Text (last_digits 20 nonce)) × QueriesRow load_text (key_of pair) old new (Ok row)
 Loads old new pair None = QueriesRow load_text (key_of pair) old new (Err QueryReturnedNoRows)
+
+-- what the query of a load may commit, which is nothing
+abbrev pub CommitsLoad : State → Pair → Trees → Type 0
+CommitsLoad old pair db = CommitsShowing load_text (key_of pair) old db
+
+-- a load that failed answered an error, or a row whose nonce isn't one
+abbrev pub LoadFails : State → State → Pair → Type 0
+LoadFails old new pair = ((row : Row) × QueriesRow load_text (key_of pair) old new (Ok row)) ⊎ ((e : Error) × QueriesRow load_text (key_of pair) old new (Err e))

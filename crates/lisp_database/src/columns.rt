@@ -5,10 +5,26 @@ ghost use Rattle.std.specs.Int.{w64, to_be_bytes};
 ghost use Rattle.std.specs.Str.{IsUtf8};
 ghost use Rattle.hex.specs.Hex.{encode_lower};
 ghost use Rattle.lisp_store.specs.NonceText.{last_digits};
-ghost use Rattle.lisp_database.specs.Columns.{kind_word};
+ghost use Rattle.lisp_store.specs.PairName.{IsPair, AreBytes};
+ghost use Rattle.lisp_database.specs.Columns.{kind_word, FindsNonce};
 
-use lisp_nonces::PairKind;
+use lisp_nonces::{Pair, PairKind};
 use lisp_store::nonce_text;
+
+/// What the types of a pair's parts promise.
+pub fn known(pair: Pair)
+    ensures { IsPair pair }
+{
+    let Pair { router, key, .. } = pair;
+    known_bytes(&router.xtr);
+    let (_site, _key) = (router.site, key);
+}
+
+// Of a slice that is passed in, a proof learns that each element is a byte.
+#[tactic(auto, using(crate::proofs::Keys::bytes_pass))]
+fn known_bytes(bytes: &[u8])
+    ensures { AreBytes bytes.now }
+{}
 
 /// The word for which nonces a pair has: `sent`, `received` or `notice`.
 pub fn kind_word(kind: PairKind) -> &'static str
@@ -53,7 +69,8 @@ pub fn nonce_digits(nonce: u64) -> [u8; 20]
 
 /// The nonce of 20 decimal digits; `None` where a text is no nonce's.
 pub fn nonce_from_digits(digits: &str) -> Option<u64>
-    ensures { IfSome result (λ nonce. digits.now ≡ last_digits 20 nonce) }
+    ensures text { IfSome result (λ nonce. digits.now ≡ last_digits 20 nonce) }
+    ensures only { FindsNonce digits.now result }
 {
     let Ok(nonce) = digits.parse() else {
         return None;

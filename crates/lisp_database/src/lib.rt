@@ -1,14 +1,19 @@
-//! Where a router or a Map-Server keeps its nonces in one SQLite database (`DatabaseStore`): a table of a row for each pair, with
-//! what SQL says of a load and a save (`load_nonce`, `save_nonce`).
+//! The nonces of a router or a Map-Server in one SQLite database: a table of a row for each pair, with what SQL says of a load and a
+//! save (`load_nonce`, `save_nonce`), of groups of saves (`begin`, `commit`), and of who wrote last (`Writer`), over any connection.
 #![tactic(auto)]
 
 mod columns;
 mod crash;
-mod fault;
-mod store;
+mod group;
+mod schema;
 mod table;
+mod tables;
+mod writer;
 
 pub use columns::{kind_word, site_digits, xtr_digits};
 pub use crash::save_and_crash;
-pub use store::DatabaseStore;
-pub use table::{load_nonce, make_table, save_nonce};
+pub use group::{begin, commit};
+pub use schema::is_of_nonces;
+pub use table::{count_pairs, keep_greatest, load_nonce, save_nonce};
+pub use tables::make_tables;
+pub use writer::{Writer, load_writer, save_writer};

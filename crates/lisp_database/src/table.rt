@@ -1,56 +1,51 @@
 //! The table of nonces in a database.
 
-ghost use Rattle.std.specs.Prelude.{◌≡◌, IfOk, IfSome, OnOk};
+ghost use Rattle.std.specs.Prelude.{◌≡◌, Some, false, IsTrue, IfOk, OnOk, OnErr};
 ghost use Rattle.std.specs.Str.{IsUtf8};
 ghost use Rattle.sqlite.specs.declared.types.Value.TheVariants.{Text};
 ghost use Rattle.sqlite.specs.Order.{column};
-ghost use Rattle.sqlite.specs.State.{HasCleanDisk, Survives, QueriesRow};
+ghost use Rattle.sqlite.specs.State.{HasCleanDisk, IsUnchanged, Survives, QueriesRow};
 ghost use Rattle.sqlite.specs.Held.{state};
 ghost use Rattle.lisp_store.specs.NonceText.{last_digits};
 ghost use Rattle.lisp_database.specs.Columns.{key_of};
-ghost use Rattle.lisp_database.specs.Kept.{IsOfNonces, KeepsNonce, SavesNonce};
-ghost use Rattle.lisp_database.specs.Table.{load_text, Saves, CommitsNonce, Loads};
+ghost use Rattle.lisp_database.specs.Kept.{HasTables, IsOfNonces, Keeps, SavesNonce, CommitsSave, LeavesAll, KeepsGreatest, greatest};
+ghost use Rattle.lisp_database.specs.Table.{load_text, Saves, CommitsNonce, Loads, CommitsLoad, LoadFails};
 
-use crate::columns::{kind_word, nonce_digits, nonce_from_digits, site_digits, xtr_digits};
+use crate::columns::{kind_word, known, nonce_digits, nonce_from_digits, site_digits, xtr_digits};
 use lisp_nonces::Pair;
 use sqlite::{Alter, Connection, Error, ErrorCode, Row, params};
 
-/// Makes the table.
-const CREATE: &str =
-    "CREATE TABLE nonces (kind TEXT NOT NULL, site_id TEXT NOT NULL, xtr_id TEXT NOT NULL, key_id INTEGER NOT NULL, nonce TEXT NOT NULL, PRIMARY KEY (kind, site_id, xtr_id, key_id)) STRICT";
-
 /// Finds the nonce of a pair.
 const LOAD: &str =
-    "SELECT nonce FROM nonces WHERE kind = ?1 AND site_id = ?2 AND xtr_id = ?3 AND key_id = ?4";
+    "SELECT nonce FROM nonces WHERE xtr_id = ?3 AND site_id = ?2 AND key_id = ?4 AND kind = ?1";
 
 /// Puts the nonce of a pair in the place of the one that it had.
 const SAVE: &str =
     "INSERT OR REPLACE INTO nonces (kind, site_id, xtr_id, key_id, nonce) VALUES (?1, ?2, ?3, ?4, ?5)";
 
-/// What is no nonce, or no table of nonces.
-const DAMAGED: Error = Error::SqliteFailure(ErrorCode::DatabaseCorrupt);
+/// Counts the pairs.
+const COUNT: &str = "SELECT count(*) FROM nonces";
 
-/// Makes the table, where there is none yet.
-pub fn make_table<S: Alter>(connection: &mut Connection<S>) -> Result<(), Error> {
-    let schema = connection.schema();
-    if schema.tables.is_empty() {
-        connection.execute(CREATE, &[])?;
-    }
-    Ok(())
-}
+/// The error for what is no nonce, or no database of nonces.
+pub const DAMAGED: Error = Error::SqliteFailure(ErrorCode::DatabaseCorrupt);
 
 /// The nonce that is kept for the pair, `None` for nothing.
 pub fn load_nonce<S: Alter>(
     connection: &mut Connection<S>,
     pair: &Pair,
 ) -> Result<Option<u64>, Error>
-    // By the meaning of SQL.
-    ensures loads { HasCleanDisk (state S.Store connection.new) → IfOk result (Loads (state S.Store connection.old) (state S.Store connection.new) pair.now) }
+    // What is kept for the pair.
+    ensures kept { IsOfNonces (state S.Store connection.old).now → HasCleanDisk (state S.Store connection.new)
+        → IfOk result (Keeps (state S.Store connection.old).now.trees pair.now) }
 
-    // Of a database of nonces, what is loaded is kept.
-    ensures kept { IsOfNonces (state S.Store connection.old) → HasCleanDisk (state S.Store connection.new)
-        → IfOk result (λ found. IfSome found (KeepsNonce (state S.Store connection.old).now.trees pair.now)) }
+    // A load changes nothing.
+    ensures unchanged { HasTables (state S.Store connection.old) → HasCleanDisk (state S.Store connection.new)
+        → OnOk result (IsUnchanged (state S.Store connection.old) (state S.Store connection.new)) }
+    ensures failed { HasTables (state S.Store connection.old) → HasCleanDisk (state S.Store connection.new)
+        → OnErr result (LeavesAll (state S.Store connection.old) (state S.Store connection.new)) }
+    ensures crash { Survives (state S.Store connection.old) (state S.Store connection.new) (λ _. ¬ (HasTables (state S.Store connection.old))) }
 {
+    let _schema = connection.schema();
     read_nonce(connection, pair)
 }
 
@@ -60,22 +55,65 @@ pub fn save_nonce<S: Alter>(
     pair: &Pair,
     nonce: u64,
 ) -> Result<usize, Error>
-    // By the meaning of SQL.
-    ensures saves { HasCleanDisk (state S.Store connection.new) → Saves (state S.Store connection.old) (state S.Store connection.new) pair.now nonce result }
-    ensures survives { Survives (state S.Store connection.old) (state S.Store connection.new) (CommitsNonce (state S.Store connection.old) pair.now nonce) }
-
-    // Of a database of nonces, what is saved is kept, and what a crash adds has it.
-    ensures kept { IsOfNonces (state S.Store connection.old) → HasCleanDisk (state S.Store connection.new)
+    // Of a database of nonces, it is kept, and nothing else changes.
+    ensures saved { IsOfNonces (state S.Store connection.old).now → HasCleanDisk (state S.Store connection.new)
         → OnOk result (SavesNonce (state S.Store connection.old) (state S.Store connection.new) pair.now nonce) }
-    ensures crash { IsOfNonces (state S.Store connection.old)
-        → Survives (state S.Store connection.old) (state S.Store connection.new) (λ db. KeepsNonce db pair.now nonce) }
+
+    // A save that failed leaves all as before, or as the last commit left it.
+    ensures failed { HasCleanDisk (state S.Store connection.new)
+        → OnErr result (LeavesAll (state S.Store connection.old) (state S.Store connection.new)) }
+
+    // Outside a transaction, a crash leaves what it could leave before, or the database with the nonce; inside one, what it could before.
+    ensures crash { Survives (state S.Store connection.old) (state S.Store connection.new)
+        (λ db. IsOfNonces (state S.Store connection.old).now → CommitsSave (state S.Store connection.old) pair.now nonce db) }
 {
+    known(*pair);
     write_row(connection, pair, nonce)
+}
+
+/// Keeps the nonce for the pair unless a greater one is kept.
+pub fn keep_greatest<S: Alter>(
+    connection: &mut Connection<S>,
+    pair: &Pair,
+    nonce: u64,
+) -> Result<(), Error>
+    ensures greatest { IsOfNonces (state S.Store connection.old).now → HasCleanDisk (state S.Store connection.new)
+        → OnOk result (KeepsGreatest (state S.Store connection.old) (state S.Store connection.new) pair.now nonce) }
+    ensures failed { HasTables (state S.Store connection.old) → HasCleanDisk (state S.Store connection.new)
+        → OnErr result (LeavesAll (state S.Store connection.old) (state S.Store connection.new)) }
+    ensures crash { Survives (state S.Store connection.old) (state S.Store connection.new)
+        (λ db. IsOfNonces (state S.Store connection.old).now → CommitsSave (state S.Store connection.old) pair.now nonce db) }
+{
+    let kept = load_nonce(connection, pair)?;
+    if is_as_great(kept, nonce) {
+        return Ok(());
+    }
+    save_nonce(connection, pair, nonce)?;
+    Ok(())
+}
+
+// Whether what is kept is as great as the nonce.
+fn is_as_great(kept: Option<u64>, nonce: u64) -> bool
+    ensures stays { IsTrue result → kept ≡ Some (greatest kept nonce) }
+    ensures rises { result ≡ false → greatest kept nonce ≡ nonce }
+{
+    match kept {
+        Some(kept) => nonce <= kept,
+        None => false,
+    }
+}
+
+/// For how many pairs a nonce is kept.
+pub fn count_pairs<S: Alter>(connection: &mut Connection<S>) -> Result<usize, Error> {
+    let count: i64 = connection.query_row(COUNT, &[])?.get(0)?;
+    usize::try_from(count).map_err(|_| DAMAGED)
 }
 
 // The nonce of a pair.
 fn read_nonce<S: Alter>(connection: &mut Connection<S>, pair: &Pair) -> Result<Option<u64>, Error>
     ensures loads { HasCleanDisk (state S.Store connection.new) → IfOk result (Loads (state S.Store connection.old) (state S.Store connection.new) pair.now) }
+    ensures fails { HasCleanDisk (state S.Store connection.new) → OnErr result (LoadFails (state S.Store connection.old) (state S.Store connection.new) pair.now) }
+    ensures survives { Survives (state S.Store connection.old) (state S.Store connection.new) (CommitsLoad (state S.Store connection.old) pair.now) }
 {
     match find_row(connection, pair) {
         Ok(row) => Ok(Some(nonce_in(&row)?)),
@@ -105,6 +143,7 @@ fn write_row<S: Alter>(
 // The row of a pair.
 fn find_row<S: Alter>(connection: &mut Connection<S>, pair: &Pair) -> Result<Row, Error>
     ensures row { HasCleanDisk (state S.Store connection.new) → QueriesRow load_text (key_of pair.now) (state S.Store connection.old) (state S.Store connection.new) result }
+    ensures survives { Survives (state S.Store connection.old) (state S.Store connection.new) (CommitsLoad (state S.Store connection.old) pair.now) }
 {
     let (site, xtr) = (site_digits(pair.router.site), xtr_digits(pair.router.xtr));
     let (kind, key) = (kind_word(pair.kind), u32::from(pair.key));

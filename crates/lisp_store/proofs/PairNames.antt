@@ -1,21 +1,24 @@
 -- The name of a pair's file is that of no other pair.
-use Rattle.std.proofs.Common.{◌≡◌, ℕ, zero, suc, ◌+◌, ◌-◌, ◌/◌, ◌^◌, ◌<◌, ◌≤◌, ◌&&◌, nat_eq, nat_lt, Bool, true, cond, List, [], ◌∷◌, ◌++◌, length, take, drop, append_assoc, slice_index, slice_range, codes, Some, None, refl, sym, ap, ◌∙◌, arith}
+use Rattle.std.proofs.Common.{◌≡◌, ℕ, zero, suc, ◌+◌, ◌-◌, ◌*◌, ◌/◌, ◌^◌, ◌<◌, ◌≤◌, ◌&&◌, nat_eq, nat_lt, Bool, true, false, cond, List, [], ◌∷◌, ◌++◌, length, take, drop, append_assoc, slice_index, slice_range, codes, Option, Some, None, Result, Ok, Err, refl, sym, ap, subst, ◌∙◌, arith}
 use Rattle.std.specs.Cmp.Lexicographic.{pointwise, bytes_decides}
 use Rattle.std.specs.Int.{w64, byte_at, bytes_high_first, to_be_bytes, from_be_bytes}
 use Rattle.std.specs.List.{list_all}
 use Rattle.std.specs.Result.{result_unwrap_or}
 use Rattle.std.specs.Str.{IsAscii, IsUtf8}
-use Rattle.std.proofs.lemmas.Bool.{and_parts, and_from, ltb-true, eqb-true, lt-ltb}
+use Rattle.std.specs.Bool.{then_some}
+use Rattle.std.specs.Prelude.{MatchResult}
+use Rattle.hex.specs.declared.error.FromHexError.{FromHexError}
+use Rattle.std.proofs.lemmas.Bool.{and_parts, and_from, both_ways, ltb-true, eqb-true, lt-ltb}
 use Rattle.std.proofs.lemmas.Str.{IsUtf8-from_ascii, IsAscii-append}
 use Rattle.std.proofs.lemmas.List.{length-append, length-drop, take_all, take-append-le, drop-append-le, drop_at}
 use Rattle.std.proofs.lemmas.Nat.{from_be_bytes-to_be_bytes_8, mod_below}
 use Rattle.std.proofs.lemmas.Option.{cond_some, same_Some}
-use Rattle.hex.specs.Hex.{IsBytes, encode_lower, decode_of, lower_digits}
-use Rattle.hex.proofs.HexLemmas.{length-encode_with, IsAscii-encode_with, decode_of-encode_lower}
+use Rattle.hex.specs.Hex.{IsBytes, encode_lower, decode_of, decode_sized, lower_digits}
+use Rattle.hex.proofs.HexLemmas.{length-encode_with, IsAscii-encode_with, decode_of-encode_lower, decode_sized-twice}
 use Rattle.lisp_nonces.specs.declared.pair.PairKind.{PairKind}
 use Rattle.lisp_nonces.specs.declared.pair.PairKind.TheVariants.{Sent, Received, Notice}
 use Rattle.lisp_nonces.specs.declared.pair.Pair.{Pair}
-use Rattle.lisp_store.specs.PairName.{is_pair, IsPair, AreBytes, kind_letter, kind_of_letter, pair_in, pair_name, pair_of_name, NamesFindPairs, NamesAreOfOnePair, NamesHaveTheirForm}
+use Rattle.lisp_store.specs.PairName.{is_pair, IsPair, AreBytes, kind_letter, kind_of_letter, pair_in, pair_name, pair_of_name, NamesFindPairs, NamesAreOfOnePair, HasFormOfName, NamesHaveTheirForm, ReadsPair}
 
 -- ---- parts of a list
 
@@ -166,6 +169,24 @@ pair_back p is =
     let keys = ap (λ (bytes : List ℕ). slice_index bytes 0) (read_back (p.key ∷ []) _ (byte_alone p.key parts.key) (key_of_name (kind_letter p.kind) site xtr key one sixteen thirty_two two)) in
     λ i. record { kind = kinds i; router = record { site = sites i; xtr = xtrs i }; key = keys i }
 
+-- the parts of a pair's name are the digits of the pair's
+pub digits_of_name : (p : Pair) → IsPair p → (slice_range (pair_name p) 0 1 ≡ kind_letter p.kind) × (slice_range (pair_name p) 2 18 ≡ encode_lower (to_be_bytes w64 p.router.site))
+    × (slice_range (pair_name p) 19 51 ≡ encode_lower p.router.xtr) × (slice_range (pair_name p) 52 54 ≡ encode_lower (p.key ∷ []))
+unfolding pair_name
+digits_of_name p is =
+    let site = encode_lower (to_be_bytes w64 p.router.site) in
+    let xtr = encode_lower p.router.xtr in
+    let key = encode_lower (p.key ∷ []) in
+    let one = length-letter p.kind in
+    let sixteen : length site ≡ 16 = length-encode_with lower_digits (to_be_bytes w64 p.router.site) in
+    let thirty_two : length xtr ≡ 32 = omega (arith, (parts_of p is).xtr, length-encode_with lower_digits p.router.xtr) in
+    let two : length key ≡ 2 = length-encode_with lower_digits (p.key ∷ []) in (
+      letter_of_name (kind_letter p.kind) site xtr key one sixteen thirty_two two,
+      site_of_name (kind_letter p.kind) site xtr key one sixteen thirty_two two,
+      xtr_of_name (kind_letter p.kind) site xtr key one sixteen thirty_two two,
+      key_of_name (kind_letter p.kind) site xtr key one sixteen thirty_two two,
+    )
+
 -- a pair's name has the form of one
 pub names_have_their_form : NamesHaveTheirForm
 unfolding pair_name
@@ -202,6 +223,66 @@ names_find_pairs text p = (name_of_found text p, λ is. ap pair_of_name (sym is.
 
 pub one_pair : NamesAreOfOnePair
 one_pair p q p_is q_is same = same_Some p q (sym (found_by_name p p_is) ∙ ap pair_of_name same ∙ found_by_name q q_is)
+
+-- ---- a pair that is read
+
+-- digits of so many bytes are decoded to them
+pub decoded : (digits bytes : List ℕ) (n : ℕ) → length bytes ≡ n → IsBytes bytes → digits ≡ encode_lower bytes → decode_sized digits n ≡ Ok bytes
+decoded digits bytes n len all is =
+    ap (λ (d : List ℕ). decode_sized d n) is
+    ∙ decode_sized-twice (encode_lower bytes) n (length-encode_with lower_digits bytes ∙ ap (λ (k : ℕ). 2 * k) len)
+    ∙ decode_of-encode_lower bytes all
+
+-- what decoding them answers
+pub decodes : (digits bytes out : List ℕ) (n room : ℕ) (r : Result (Unit {0}) FromHexError) → room ≡ n → length bytes ≡ n → IsBytes bytes → digits ≡ encode_lower bytes
+    → MatchResult (decode_sized digits room) (λ b. (r ≡ Ok tt) × (out ≡ b)) (λ e. r ≡ Err e) → (r ≡ Ok tt) × (out ≡ bytes)
+decodes digits bytes out n room r same len all is h =
+    subst (λ (d : Result (List ℕ) FromHexError). MatchResult d (λ b. (r ≡ Ok tt) × (out ≡ b)) (λ e. r ≡ Err e)) (ap (decode_sized digits) same ∙ decoded digits bytes n len all is) h
+
+-- the parts of the pair whose name a text is, as they are read of it
+pub read_site : (text : List ℕ) (p : Pair) (r : Option (List ℕ)) → ((bytes : List ℕ) → length bytes ≡ 8 → IsBytes bytes → slice_range text 2 18 ≡ encode_lower bytes → r ≡ Some bytes)
+    → IsPair p → pair_name p ≡ text → r ≡ Some (to_be_bytes w64 p.router.site)
+read_site text p r reads is same = reads (to_be_bytes w64 p.router.site) refl (big_endian p.router.site) (ap (λ (t : List ℕ). slice_range t 2 18) (sym same) ∙ (digits_of_name p is).1)
+
+pub read_xtr : (text : List ℕ) (p : Pair) (r : Option (List ℕ)) → ((bytes : List ℕ) → length bytes ≡ 16 → IsBytes bytes → slice_range text 19 51 ≡ encode_lower bytes → r ≡ Some bytes)
+    → IsPair p → pair_name p ≡ text → r ≡ Some p.router.xtr
+read_xtr text p r reads is same = let parts = parts_of p is in reads p.router.xtr parts.xtr parts.bytes (ap (λ (t : List ℕ). slice_range t 19 51) (sym same) ∙ (digits_of_name p is).2)
+
+pub read_key : (text : List ℕ) (p : Pair) (r : Option (List ℕ)) → ((bytes : List ℕ) → length bytes ≡ 1 → IsBytes bytes → slice_range text 52 54 ≡ encode_lower bytes → r ≡ Some bytes)
+    → IsPair p → pair_name p ≡ text → r ≡ Some (p.key ∷ [])
+read_key text p r reads is same = let parts = parts_of p is in reads (p.key ∷ []) refl (byte_alone p.key parts.key) (ap (λ (t : List ℕ). slice_range t 52 54) (sym same) ∙ (digits_of_name p is).3)
+
+pub read_pair : (text site xtr key letter : List ℕ) (p : Pair) → IsPair p → pair_name p ≡ text → slice_range text 0 1 ≡ letter → site ≡ to_be_bytes w64 p.router.site → xtr ≡ p.router.xtr → key ≡ p.key ∷ []
+    → record { kind = kind_of_letter letter; router = record { site = from_be_bytes w64 site; xtr = xtr }; key = slice_index key 0 } ≡ p
+read_pair text site xtr key letter p is same front site_is xtr_is key_is =
+    let kinds : kind_of_letter letter ≡ p.kind = ap kind_of_letter (sym front ∙ ap (λ (t : List ℕ). slice_range t 0 1) (sym same) ∙ (digits_of_name p is).0) ∙ letter_back p.kind in
+    let sites : from_be_bytes w64 site ≡ p.router.site = ap (from_be_bytes w64) site_is ∙ from_be_bytes-to_be_bytes_8 p.router.site (parts_of p is).site in
+    let keys : slice_index key 0 ≡ p.key = ap (λ (bytes : List ℕ). slice_index bytes 0) key_is in
+    λ i. record { kind = kinds i; router = record { site = sites i; xtr = xtr_is i }; key = keys i }
+
+-- a text that is no pair's name
+none_named_by : (text : List ℕ) (r : Option Pair) → pair_of_name text ≡ r → ((p : Pair) → IsPair p → pair_name p ≡ text → ⊥) → r ≡ None
+none_named_by text None is not = refl
+none_named_by text (Some p) is not = let named = name_of_found text p is in absurd (not p named.0 named.1)
+
+pub none_named : (text : List ℕ) → ((p : Pair) → IsPair p → pair_name p ≡ text → ⊥) → pair_of_name text ≡ None
+none_named text not = none_named_by text (pair_of_name text) refl not
+
+-- the test whether a pair that was read has the name
+tested : (text : List ℕ) (p : Pair) → IsPair p → ReadsPair text (Some p) → (b : Bool) → pointwise nat_eq (pair_name p) text ≡ b → then_some b p ≡ pair_of_name text
+tested text p is reads true same = sym (ap pair_of_name (sym ((bytes_decides _ _).0 same)) ∙ found_by_name p is)
+tested text p is reads false other =
+    sym (none_named text (λ q q_is named.
+    let same : p ≡ q = same_Some p q (reads q q_is named) in
+    let all : pointwise nat_eq (pair_name p) text ≡ true = (bytes_decides _ _).1 (ap pair_name same ∙ named) in
+    both_ways (pointwise nat_eq (pair_name p) text) other all))
+
+pub named_by : (text : List ℕ) (p : Pair) → IsPair p → ReadsPair text (Some p) → then_some (pointwise nat_eq (pair_name p) text) p ≡ pair_of_name text
+named_by text p is reads = tested text p is reads (pointwise nat_eq (pair_name p) text) refl
+
+-- no text of another form is a pair's name
+pub formless : (text : List ℕ) → ¬ HasFormOfName text → pair_of_name text ≡ None
+formless text not = none_named text (λ p is same. not (subst HasFormOfName same (names_have_their_form p is)))
 
 -- ---- a name from its parts
 

@@ -51,6 +51,10 @@ pair_in text = record {
 unfoldable pub pair_of_name : List ℕ → Option Pair
 pair_of_name text = if is_pair (pair_in text) && pointwise nat_eq (pair_name (pair_in text)) text then Some (pair_in text) else None
 
+-- what is read of a text is the pair whose name it is, if it is one's
+abbrev pub ReadsPair : List ℕ → Option Pair → Type 0
+ReadsPair text read = (p : Pair) → IsPair p → pair_name p ≡ text → read ≡ Some p
+
 -- a text is as long as a name, and ends as one does
 abbrev pub HasFormOfName : List ℕ → Type 0
 HasFormOfName text = (length text ≡ 60) × IsTrue (ends_with nat_eq text (codes ".nonce"))

@@ -17,7 +17,7 @@ pub use lisp_nonces::{
     FIRST_NOTICE_NONCE, Fate, LAST_ROUTER_NONCE, MAX_NONCE_BLOCK, MemoryStore, NonceStore, Pair,
     PairKind, StoreFault, WorldStore,
 };
-pub use name::{count_pairs, pair_name};
+pub use name::{count_pairs, pair_from_name, pair_name};
 pub use system_folder::{SystemFolder, is_file_there};
 pub use testing::{Failing, Liar, MemoryFolder};
 pub use text::{nonce_from_text, nonce_text};

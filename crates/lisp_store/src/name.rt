@@ -1,11 +1,12 @@
 //! The name of a pair's file.
 
-ghost use Rattle.std.specs.Prelude.{◌≡◌, ◌↔◌, ◌+◌, ◌*◌, [], ◌∷◌, ◌++◌, length, IsTrue};
+ghost use Rattle.std.specs.Prelude.{◌≡◌, ◌↔◌, ℕ, ◌+◌, ◌*◌, List, [], ◌∷◌, ◌++◌, length, Some, IsTrue};
 ghost use Rattle.std.specs.Str.{IsUtf8};
-ghost use Rattle.hex.specs.Hex.{encode_lower};
-ghost use Rattle.lisp_store.specs.PairName.{IsPair, AreBytes, kind_letter, pair_name, HasFormOfName};
+ghost use Rattle.hex.specs.Hex.{IsBytes, encode_lower};
+ghost use Rattle.lisp_store.specs.PairName.{IsPair, AreBytes, kind_letter, kind_of_letter, pair_name, pair_of_name, HasFormOfName, ReadsPair};
 
 use lisp_nonces::{Pair, PairKind};
+use lisp_records::RouterId;
 use std::fs::{self, Files};
 use std::io::{self, ErrorKind};
 
@@ -32,6 +33,18 @@ pub fn pair_name(pair: &Pair) -> [u8; 60]
     put_part(xtr, &pair.router.xtr, b"-");
     put_part(key, &[pair.key], b".nonce");
     name
+}
+
+/// The pair whose file has this name, `None` where it is no pair's.
+pub fn pair_from_name(name: &str) -> Option<Pair>
+    ensures { result ≡ pair_of_name name.now }
+{
+    if !is_name(name) {
+        return None;
+    }
+    let text = name.as_bytes();
+    let pair = pair_in(text)?;
+    (pair_name(&pair).as_slice() == text).then_some(pair)
 }
 
 /// How many pairs a folder of the system keeps nonces for: how many names of its files have the form of a pair's.
@@ -79,6 +92,48 @@ fn letter(kind: PairKind) -> u8
         PairKind::Sent => b's',
         PairKind::Received => b'r',
         PairKind::Notice => b'n',
+    }
+}
+
+// The pair whose parts stand where those of a name do, if they are digits.
+fn pair_in(text: &[u8]) -> Option<Pair>
+    requires { length text.now ≡ 60 }
+    ensures { ReadsPair text.now result }
+{
+    let site = bytes_of(&text[2..18])?;
+    let xtr = bytes_of(&text[19..51])?;
+    let [key]: [u8; 1] = bytes_of(&text[52..54])?;
+    Some(Pair {
+        kind: kind_of_letter(&text[0..1]),
+        router: RouterId {
+            site: u64::from_be_bytes(site),
+            xtr,
+        },
+        key,
+    })
+}
+
+// Which nonces a letter means; `Sent` where it means none.
+fn kind_of_letter(letter: &[u8]) -> PairKind
+    ensures { result ≡ kind_of_letter letter.now }
+{
+    if letter == b"r".as_slice() {
+        PairKind::Received
+    } else if letter == b"n".as_slice() {
+        PairKind::Notice
+    } else {
+        PairKind::Sent
+    }
+}
+
+// The bytes that so many digits are of, if they are.
+fn bytes_of<const N: usize>(digits: &[u8]) -> Option<[u8; N]>
+    ensures { (bytes : List ℕ) → length bytes ≡ N → IsBytes bytes → digits.now ≡ encode_lower bytes → result ≡ Some bytes }
+{
+    let mut bytes = [0; N];
+    match hex::decode_to_slice(digits, &mut bytes) {
+        Ok(()) => Some(bytes),
+        Err(_) => None,
     }
 }
 
