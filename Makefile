@@ -5,7 +5,7 @@
 # make mutants  tries all wrong bodies, over what the gate kept; NAME=lisp_server those of one crate. docs/MUTANTS.log has the last answers
 # make slips    plants wrong definitions: an example of theirs has to refuse each; NAME=lisp_client those of one list
 # make fuzz     plays schedules that are drawn: COUNT of them from SEED on, over out/lispd
-# make bench    measures the codec, the tag and registrations; and of out/lispd the reading of configurations, plays, and a server
+# make bench    measures the codec, the tag and registrations; and of out/lispd saves on a disk, the reading of configurations, plays, and a server
 # make install  installs the program (out/lispd), its manual pages, completions, units and a sample: PREFIX=/usr/local, DESTDIR=
 # make uninstall removes these
 # make dist     packs them as out/lispd-VERSION.tar.gz. GATE=LOG names the log of a `make test`, whose closing lines go with them
@@ -22,10 +22,11 @@ lispd:
 demo: lispd
 	@tools/demo
 
-# No crate may use lisp_memory's own proof that the machine's memory may be refused. Of its definitions others name those of three
-# modules, which have no proof: grep prints whatever else they name.
+# No crate may use lisp_memory's own proof that the machine's memory may be refused (the module Witness), or unfold what says so. Of its
+# definitions others name those of four modules, which have no proof: grep prints whatever else they name.
 test:
-	@! grep -roE 'Rattle\.lisp_memory[.A-Za-z_]*|lisp_memory::(specs|proofs)' crates --include=*.antt --include=*.rt --exclude-dir=lisp_memory --exclude-dir=out | grep -vE ':Rattle\.lisp_memory\.specs\.(Appending|Inserting|Room)\.?$$'
+	@! grep -roE 'Rattle\.lisp_memory[.A-Za-z_]*|lisp_memory::(specs|proofs)' crates --include=*.antt --include=*.rt --exclude-dir=lisp_memory --exclude-dir=out | grep -vE ':Rattle\.lisp_memory\.specs\.(Appending|Inserting|Refusal|Room)\.?$$'
+	@! grep -rE 'Witness|unfolding.*MachineMayRefuse' crates --include=*.antt --include=*.rt --exclude-dir=lisp_memory --exclude-dir=out
 	@tools/slips --compare docs/SLIPS.md
 	rt ci
 	@tests/check.sh crates/lispd_main/out/lispd_main
@@ -44,6 +45,7 @@ fuzz: lispd
 bench: lispd
 	@mkdir -p out
 	@cd crates/lisp_bench && rt run -- measure 2> ../../out/bench.log || { cat ../../out/bench.log >&2; exit 1; }
+	@tools/bench_saves
 	@tools/bench_play
 	@tools/bench_server
 

@@ -2,13 +2,18 @@
 """devices.py PROGRAM [TEST ..]
 What `lispd server`, `router` and `loop` make of the system's calls: their order, and that of lines and datagrams among them; calls
 of files, folders and sockets that fail (failing.c). Prints each check that fails, and ends with 1 where one does."""
+import itertools
+import os
 import re
 import shutil
+import signal
+import time
 from pathlib import Path
 from subprocess import DEVNULL, STDOUT, run
 
-from nodes import (LIMIT, PORT, XTR, check, failing, heard, is_up, killed, map_register, next_line, nonce_in, nonce_text, nonces_in, peer,
-                   ran, run_tests)
+from nodes import (DATABASE, GROUPS, LIMIT, PORT, XTR, answers, check, failing, heard, is_up, killed, map_register, next_line, nonce_in,
+                   nonce_text, nonces_in, peer, ran, run_tests)
+from nonces import LOG_FILE
 
 # What a save is made of, beside its name the call that fails (failing.c) and the end of the path that it is of; NAME is the node's.
 NEW, FILE, FOLDER = ".nonce.new", ".nonce", "/NAME"
@@ -18,9 +23,10 @@ IN_DOUBT = [("renamed", FILE), ("open", FOLDER), ("sync", FOLDER)]
 EIO = "Uncategorized"
 
 
-# The order of system calls.
+# The order of system calls: where the nonces are in files, and where they are in a database, of whose log it tells.
 
 ORDER = ["write new", "sync new", "rename new file", "sync folder", "line", "send"]
+COMMIT = ["write file", "sync file", "line", "send"]
 
 
 def named(path, file):
@@ -56,6 +62,16 @@ def under_strace(trace):
             "trace=write,writev,pwrite64,fsync,fdatasync,sync_file_range,rename,renameat,renameat2,unlink,unlinkat,sendto,sendmsg"]
 
 
+def commits(found):
+    """Calls from the two before the first line on; those that come one behind another and are alike are one."""
+    found = [it for it, _ in itertools.groupby(found)]
+    return found[found.index("line") - 2:]
+
+
+def log_of(here):
+    return Path(f"{here.folder}/s1/{LOG_FILE}")
+
+
 def has_strace():
     if shutil.which("strace") and run(["strace", "-o", "/dev/null", "true"], capture_output=True, check=False).returncode == 0:
         return True
@@ -82,6 +98,39 @@ def a_router_saves_prints_and_sends(here):
     trace, file = f"{here.folder}/trace", here.file("r1", "s")
     here.start(*here.words("router", "r1", "--turns", "1"), under=under_strace(trace)).wait(LIMIT)
     check("a router's calls", calls(trace, file), ORDER * 2)
+
+
+def a_map_server_commits_prints_and_answers(here):
+    """Over a database: what is written to its log is synced once, then come the line and the answer."""
+    if not has_strace():
+        return
+    here.store, trace = DATABASE, f"{here.folder}/trace"
+    process = here.start(*here.words("server", "s1", "--turns", "20"), under=under_strace(trace))
+    is_up(here.s1)
+    with peer(here.r1) as it:
+        for nonce in (1, 2):
+            check(f"nonce {nonce} is answered", nonce_in(here.answer(it, map_register(nonce))), nonce)
+    process.wait(LIMIT)
+    check("a Map-Server's calls", commits(calls(trace, log_of(here))), COMMIT * 2)
+
+
+def a_map_server_commits_groups(here):
+    """What waits is of one group: one sync, then all lines and answers."""
+    if not has_strace():
+        return
+    here.store, trace = GROUPS, f"{here.folder}/trace"
+    process = here.start(*here.words("server", "s1", "--turns", "20"), under=under_strace(trace))
+    is_up(here.s1)
+    program = int(Path(f"/proc/{process.pid}/task/{process.pid}/children").read_text().split()[0])
+    with peer(here.r1) as it:
+        os.kill(program, signal.SIGSTOP)
+        time.sleep(0.2)
+        for xtr in range(100, 120):
+            it.sendto(map_register(7, xtr=xtr), (here.s1, PORT))
+        os.kill(program, signal.SIGCONT)
+        check("its answers", answers(it, 20), [7] * 20)
+    process.wait(LIMIT)
+    check("a Map-Server's calls", commits(calls(trace, log_of(here))), ["write file", "sync file", *["line", "send"] * 20])
 
 
 def a_loop_saves_prints_and_sends(here):
@@ -224,6 +273,7 @@ def a_loop_whose_call_fails(here):
 SAVES = [test(call, path, saves is IN_DOUBT) for test in (a_router_whose_save_fails, a_map_server_whose_save_fails)
          for saves in (UNDONE, IN_DOUBT) for call, path in saves]
 
-run_tests([a_map_server_saves_prints_and_answers, a_router_saves_prints_and_sends, a_loop_saves_prints_and_sends, *SAVES,
+run_tests([a_map_server_saves_prints_and_answers, a_map_server_commits_prints_and_answers, a_map_server_commits_groups,
+           a_router_saves_prints_and_sends, a_loop_saves_prints_and_sends, *SAVES,
            a_start_whose_call_fails, a_load_that_fails, a_socket_whose_call_fails, a_map_server_s_socket_whose_call_fails,
            a_loop_whose_call_fails])

@@ -28,6 +28,8 @@ AT_A_TIME = 16
 # What the first line of a node that runs without an end begins with.
 STARTED = "started "
 SITE, XTR = 1, 10
+# How a node keeps its nonces, by the words that tell it so: in files, in a database, or there in groups (Map-Servers alone).
+FILES, DATABASE, GROUPS = (), ("--database",), ("--database", "--group", "64")
 
 program = os.path.abspath(sys.argv[1]) if sys.argv[1:] else ""
 # The folder of this run, and the front of its addresses.
@@ -52,7 +54,7 @@ class Place:
         self.folder, self.config = folder, f"{folder}/configuration.toml"
         self.front = f"{front}.{number}."
         self.s1, self.s2, self.r1, self.r2 = (f"{self.front}{last}" for last in (11, 12, 21, 22))
-        self.processes = []
+        self.processes, self.store = [], FILES
         Path(self.config).write_text(self.moved(Path(CONFIG).read_text()))
 
     def moved(self, text):
@@ -61,7 +63,7 @@ class Place:
 
     def words(self, kind, name, *more):
         """The words that run a node in the folder."""
-        return (kind, self.config, name, "--store", self.folder, *more)
+        return (kind, self.config, name, "--store", self.folder, *self.store, *more)
 
     def file(self, name, kind, site=SITE, xtr=XTR, key=1):
         """The path of a node's file of a pair: kind s (sent), r (received) or n (notice)."""
@@ -160,6 +162,16 @@ def received(it, patience):
     return found
 
 
+def answers(it, count):
+    """The nonces of so many datagrams that come to a socket of ours, and of those right behind them."""
+    found = []
+    it.settimeout(LIMIT)
+    with contextlib.suppress(TimeoutError):
+        while len(found) < count:
+            found.append(it.recv(65535))
+    return [nonce_in(message) for message in [*found, *received(it, 0.1)]]
+
+
 def heard(*peers):
     """The nonces of what has come at our sockets, in rising order."""
     return sorted(nonce_in(message) for it in peers for message in received(it, 0.1))
@@ -194,13 +206,29 @@ def failing_library(room):
     return library
 
 
-def failing(call, at=1, path="", error=errno.EIO):
-    """The environment in which a call of a kind fails with an error, of a file whose path ends so (see failing.c), and says `!` on
-    standard error: to be given as `env`."""
+def failing(call, at=1, path="", error=errno.EIO, folder=""):
+    """The environment in which a call of a kind fails with an error, of a file whose path ends so or that is in this folder (see
+    failing.c), and says `!` on standard error: to be given as `env`."""
     with lock:
         library = failing_library(room)
     return {**os.environ, "LD_PRELOAD": library, "FAILING_CALL": call, "FAILING_AT": str(at), "FAILING_PATH": path,
-            "FAILING_ERROR": str(error), "FAILING_REPORT": "2"}
+            "FAILING_FOLDER": folder, "FAILING_ERROR": str(error), "FAILING_REPORT": "2"}
+
+
+def with_slow_syncs(microseconds):
+    """The environment in which each sync takes so much longer: to be given as `env`."""
+    with lock:
+        library = failing_library(room)
+    return {**os.environ, "LD_PRELOAD": library, "SYNC_TAKES": str(microseconds)}
+
+
+def over(store, test):
+    """A test over another store, under a name of its own."""
+    def run(here):
+        here.store = store
+        test(here)
+    run.__name__ = "_".join([test.__name__, "over", *(word.strip("-") for word in store or ["files"])])
+    return run
 
 
 def run_test(test, number):
@@ -231,12 +259,12 @@ def free_front(name):
     sys.exit(1)
 
 
-def run_tests(beside, alone=()):
+def run_tests(beside, alone=(), names=None):
     """Runs tests beside each other, then others one by one, or those that the words name; ends the process."""
     global room, front
-    name = os.path.basename(sys.argv[0])
+    name, names = os.path.basename(sys.argv[0]), sys.argv[2:] if names is None else names
     front, keeper = free_front(name)
-    named = [(number, test) for number, test in enumerate([*beside, *alone], 1) if not sys.argv[2:] or test.__name__ in sys.argv[2:]]
+    named = [(number, test) for number, test in enumerate([*beside, *alone], 1) if not names or test.__name__ in names]
     with keeper, tempfile.TemporaryDirectory() as room:
         with ThreadPoolExecutor(AT_A_TIME) as side:
             for it in [side.submit(run_test, test, number) for number, test in named if test in beside]:

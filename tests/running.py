@@ -1,20 +1,27 @@
 #!/usr/bin/env -S python3 -B
 """running.py PROGRAM [TEST ..]
-Runs `lispd server`, `router` and `loop` over real sockets (UDP port 4342 of addresses 127.x.x.x) and files in a temporary folder:
-what they print, what they keep, the faults that end them, and what is left when they are killed at random. Prints each check that
-fails, and ends with 1 where one does."""
+Runs `lispd server`, `router` and `loop` over real sockets (UDP port 4342 of addresses 127.x.x.x) and nonces in a temporary folder, in
+files and in databases: what they print, what they keep, the faults that end them, and what is left when they are killed at random.
+Prints each check that fails, and ends with 1 where one does. `running.py PROGRAM kills 500` kills each kind of node so often, over each
+store."""
 import contextlib
+import errno
 import os
 import random
+import sqlite3
 import subprocess
+import sys
 import time
 from pathlib import Path
 
-from nodes import (EXAMPLES, LIMIT, MAP_NOTIFY, PORT, check, is_up, killed, map_register, next_line, nonce_in, nonce_text, peer, ran,
-                   received, run_tests)
+from nodes import (DATABASE, EXAMPLES, FILES, GROUPS, LIMIT, MAP_NOTIFY, PORT, check, failing, is_bound, is_up, killed, map_register, next_line,
+                   nonce_in, nonce_text, over, peer, ran, received, run_tests, until)
+from nonces import DATABASE_FILE, kept, pair
 
 # How often a Map-Server and a router are killed.
 KILLS = 50
+# How many bytes a small disk has: room for a database and its log. In how many saves a full one runs out of the room that the log has.
+SMALL_DISK, MOST_SAVES = 2 * 1024 * 1024, 1000
 
 
 def a_router_goes_on_above_its_nonces(here):
@@ -78,6 +85,25 @@ def a_folder_is_one_process_s(here):
     check("and after it was killed", ran(*words, "--turns", "1"), (0, "", ""))
 
 
+def a_database_is_one_process_s(here):
+    """While a node runs, sqlite3 doesn't get the database; and a node doesn't start while sqlite3 has it."""
+    here.store = DATABASE
+    words, folder = here.words("router", "r1"), Path(here.folder) / "r1"
+    first = here.start(*words)
+    check("a router is up", is_up(here.r1), True)
+    with contextlib.closing(sqlite3.connect(folder / DATABASE_FILE, timeout=0)) as database:
+        try:
+            database.execute("SELECT * FROM nonces")
+            check("sqlite3 while it runs", "rows", "locked")
+        except sqlite3.OperationalError as error:
+            check("sqlite3 while it runs", str(error), "database is locked")
+    killed(first)
+    with contextlib.closing(sqlite3.connect(folder / DATABASE_FILE)) as database:
+        database.execute("BEGIN EXCLUSIVE")
+        check("a router while sqlite3 has it", ran(*words, "--turns", "1"), (1, "", "lispd: fault 93\n"))
+    check("and when it is free", ran(*words, "--turns", "1")[0], 0)
+
+
 def a_map_server_answers_once(here):
     process = here.start(*here.words("server", "s1"))
     is_up(here.s1)
@@ -99,15 +125,15 @@ def a_loop_prints_what_a_play_prints(here):
         Path(config).write_text(here.moved(configuration))
         Path(file).write_text(script)
         wanted = here.moved(Path(f"{EXAMPLES}/schedules/{name}.out").read_text())
-        check(f"loop {name}", ran("loop", config, file, "--store", f"{here.folder}/{name}"), (0, wanted, ""))
+        check(f"loop {name}", ran("loop", config, file, "--store", f"{here.folder}/{name}", *here.store), (0, wanted, ""))
     Path(file).write_text("send r1 s1\nsend r1 s1\ndeliver 1\ndeliver 1\n")
-    check("a datagram that is lost", ran("loop", here.config, file, "--store", f"{here.folder}/lost"),
+    check("a datagram that is lost", ran("loop", here.config, file, "--store", f"{here.folder}/lost", *here.store),
           (0, "sent r1 s1 key 1 nonce 1 datagram 0\nsent r1 s1 key 1 nonce 2 datagram 1\nlost 1\n"
               "accepted s1 r1 key 1 nonce 2 datagram 2\n", ""))
 
 
 def nothing_is_accepted_again(here):
-    """Kills a Map-Server at a random moment under load; what it accepted before is never accepted again."""
+    """Kills a Map-Server at a random moment under load; what it accepted before is kept, and never accepted again."""
     nonce, last, words = 0, 0, here.words("server", "s1")
     with peer(here.r1) as it:
         for _ in range(KILLS):
@@ -122,6 +148,7 @@ def nothing_is_accepted_again(here):
             accepted = [int(line.split()[6]) for line in lines if line.startswith("accepted ")]
             check("accepted nonces rise", accepted, sorted(set(accepted)))
             last = max([last, *accepted])
+            check(f"nonce {last} is kept", last <= kept(here, "s1").get(pair(), 0) <= nonce, True)
             nonce += 1
             after = here.start(*words)
             is_up(here.s1)
@@ -135,7 +162,7 @@ def nothing_is_accepted_again(here):
 
 
 def nothing_is_sent_again(here):
-    """Kills a router at a random moment; each nonce that it sends is above all those before."""
+    """Kills a router at a random moment; each nonce that it sends is kept, and above all those before."""
     last = 0
     with peer(here.s1) as it:
         for _ in range(KILLS):
@@ -148,34 +175,99 @@ def nothing_is_sent_again(here):
             sent += [nonce_in(message) for message in received(it, 0.01)]
             check(f"nonces above {last}", min(sent) > last, True)
             last = max(last, *sent)
+            check(f"nonce {last} is kept", kept(here, "r1").get(pair("sent"), 0) >= last, True)
+
+
+@contextlib.contextmanager
+def small_disk(here):
+    """A small disk of its own, where the test keeps its nonces; None on a machine that doesn't let us make one."""
+    here.folder += "/disk"
+    os.mkdir(here.folder)
+    made = subprocess.run(["mount", "-t", "tmpfs", "-o", f"size={SMALL_DISK}", "tmpfs", here.folder], capture_output=True, check=False)
+    if made.returncode != 0:
+        print("running.py: no small disk can be made: full disks and those that can't be written were not tried")
+        yield None
+        return
+    try:
+        yield here.folder
+    finally:
+        subprocess.run(["umount", "-l", here.folder], capture_output=True, check=False)
+
+
+def fill(disk):
+    with open(f"{disk}/ballast", "wb", buffering=0) as file, contextlib.suppress(OSError):
+        while file.write(bytes(4096)):
+            pass
 
 
 def a_full_disk(here):
-    """A Map-Server whose disk is full refuses, loses nothing, and goes on once there is room. A machine that doesn't let us
-    make a small disk doesn't run it."""
-    disk = f"{here.folder}/disk"
-    os.mkdir(disk)
-    if subprocess.run(["mount", "-t", "tmpfs", "-o", "size=16k", "tmpfs", disk], capture_output=True, check=False).returncode != 0:
-        print("running.py: no small disk can be made: a full disk was not tried")
-        return
-    try:
-        process = here.start("server", here.config, "s1", "--store", disk)
+    """A Map-Server whose disk is full refuses, or begins anew where it takes groups, loses nothing, and goes on once there is room."""
+    told = "restarted s1" if here.store == GROUPS else f"refused s1 59 store 30 StorageFull from {here.r1}"
+    with small_disk(here) as disk:
+        if not disk:
+            return
+        process = here.start(*here.words("server", "s1"))
         is_up(here.s1)
         with peer(here.r1) as it:
             check("before the disk is full", here.answer(it, map_register(1)) is not None, True)
             check("its line", next_line(process), f"accepted s1 r1 key 1 nonce 1 from {here.r1}")
-            with open(f"{disk}/ballast", "wb", buffering=0) as file, contextlib.suppress(OSError):
-                while file.write(bytes(4096)):
-                    pass
-            it.sendto(map_register(2), (here.s1, PORT))
-            check("on a full disk", next_line(process), f"refused s1 59 store 30 StorageFull from {here.r1}")
+            fill(disk)
+            # (the log of a database may have room for some more)
+            for nonce in range(2, MOST_SAVES):
+                it.sendto(map_register(nonce), (here.s1, PORT))
+                line = next_line(process)
+                if line != f"accepted s1 r1 key 1 nonce {nonce} from {here.r1}":
+                    break
+            check("on a full disk", line[:len(told)], told)
+            check("the answers", [nonce_in(message) for message in received(it, 0.1)], list(range(2, nonce)))
             os.remove(f"{disk}/ballast")
-            it.sendto(map_register(2), (here.s1, PORT))
-            check("with room again", next_line(process), f"accepted s1 r1 key 1 nonce 2 from {here.r1}")
+            check("with room again", here.answer(it, map_register(nonce + 1)) is not None, True)
+            check("its line", next_line(process), f"accepted s1 r1 key 1 nonce {nonce + 1} from {here.r1}")
         killed(process)
-    finally:
-        subprocess.run(["umount", "-l", disk], capture_output=True, check=False)
+        check("what is kept", kept(here, "s1"), {pair(): nonce + 1})
 
 
-run_tests([a_router_goes_on_above_its_nonces, a_router_reads_its_own_file_alone, each_fault_has_its_number, a_folder_is_one_process_s,
-           a_map_server_answers_once, a_loop_prints_what_a_play_prints, nothing_is_accepted_again, nothing_is_sent_again, a_full_disk])
+def a_disk_that_can_t_be_written(here):
+    """No node starts over it; and one under which it comes to be so answers and sends nothing that it can't save."""
+    with small_disk(here) as disk:
+        words = here.words("router", "r1", "--turns", "1")
+        if not disk:
+            return
+        check("it can be written", ran(*words)[0], 0)
+        subprocess.run(["mount", "-o", "remount,ro", disk], check=True)
+        check("it can't be written", ran(*words), (1, "", "lispd: fault 93\n"))
+        subprocess.run(["mount", "-o", "remount,rw", disk], check=True)
+        check("it can be written again", ran(*words)[1], "sent r1 s1 key 1 nonce 3\nsent r1 s2 key 1 nonce 4\n")
+
+
+def a_disk_that_comes_to_be_read_only(here):
+    """From some call on, none that changes a file is done: what a Map-Server answers or tells of is kept nevertheless."""
+    nonce = 0
+    with peer(here.r1) as it:
+        for at in range(1, 60, 4):
+            process = here.start(*here.words("server", "s1"), env=failing("change", at, "", errno.EROFS, f"{here.folder}/s1/"),
+                                 stderr=subprocess.DEVNULL)
+            until(lambda: process.poll() is not None or is_bound(here.s1))
+            told = []
+            for nonce in range(nonce + 1, nonce + 9):
+                told += [nonce] if here.answer(it, map_register(nonce), 0.03) else []
+            told += [int(line.split()[6]) for line in killed(process) if line.startswith("accepted ")]
+            last = max(told, default=0)
+            check(f"call {at}: nonce {last} is kept", kept(here, "s1").get(pair(), 0) >= last, True)
+        here.start(*here.words("server", "s1"))
+        is_up(here.s1)
+        check("with the disk again", here.answer(it, map_register(nonce + 1)) is not None, True)
+
+
+# The tests of what each store keeps.
+SERVERS = [over(store, test) for store in (FILES, DATABASE, GROUPS)
+           for test in (a_folder_is_one_process_s, a_map_server_answers_once, nothing_is_accepted_again, a_full_disk,
+                        a_disk_that_comes_to_be_read_only)]
+ROUTERS = [over(store, test) for store in (FILES, DATABASE)
+           for test in (a_loop_prints_what_a_play_prints, nothing_is_sent_again, a_disk_that_can_t_be_written)]
+
+if sys.argv[2:3] == ["kills"]:
+    KILLS = int(sys.argv[3])
+    run_tests([test for test in (*SERVERS, *ROUTERS) if "again_over" in test.__name__], names=[])
+run_tests([a_router_goes_on_above_its_nonces, a_router_reads_its_own_file_alone, each_fault_has_its_number, a_database_is_one_process_s,
+           *SERVERS, *ROUTERS])

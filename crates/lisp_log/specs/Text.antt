@@ -40,8 +40,10 @@ device_of_refusal (refusals.Start (starts.Store DeviceFailed)) = Some devices.St
 device_of_refusal (refusals.Rotate (rotates.Store DeviceFailed)) = Some devices.Store
 device_of_refusal _ = None
 
+-- and a line: a node restarts where its store couldn't commit
 abbrev pub device_of_line : Line → Option Device
 device_of_line (lines.Refused node what) = device_of_refusal what
+device_of_line (lines.Restarted node) = Some devices.Store
 device_of_line _ = None
 
 abbrev pub device_of : Printed → Option Device

@@ -3,7 +3,7 @@
 ghost use Rattle.std.specs.Prelude.{◌≡◌, ◌++◌, OnErr};
 ghost use Rattle.std.specs.Option.{option_copied};
 ghost use Rattle.lisp_lines.specs.Front.{Adds, GivesText};
-ghost use Rattle.lisp_log.specs.Text.{device_of, device_of_refusal, number_of, cause_words, caused_words, heard_words, expired_words, failed_words, told_words, told_text, from_text, repeat_text, silent_text, started_text};
+ghost use Rattle.lisp_log.specs.Text.{device_of, device_of_line, device_of_refusal, number_of, cause_words, caused_words, heard_words, expired_words, failed_words, told_words, told_text, from_text, repeat_text, silent_text, started_text};
 
 use crate::repeats::{Repeat, Source};
 use lisp_admission::{NoticeFault, Refused};
@@ -32,12 +32,19 @@ pub fn device_of(line: &Printed) -> Option<Device>
     ensures { result ≡ device_of line.now }
 {
     match line {
-        Printed::Event(Line::Refused { what, .. })
-        | Printed::Heard {
-            line: Line::Refused { what, .. },
-            ..
-        } => device_of_refusal(what),
+        Printed::Event(line) | Printed::Heard { line, .. } => device_of_line(line),
+        Printed::Expired { .. } => None,
         Printed::Failed(_) => Some(Device::Socket),
+    }
+}
+
+// A node that runs restarts where its store couldn't commit.
+fn device_of_line(line: &Line) -> Option<Device>
+    ensures { result ≡ device_of_line line.now }
+{
+    match line {
+        Line::Refused { what, .. } => device_of_refusal(what),
+        Line::Restarted { .. } => Some(Device::Store),
         _ => None,
     }
 }

@@ -1,5 +1,6 @@
 //! A Map-Server that takes turns: it answers a Map-Register, and sends a notice again until that is acknowledged (RFC 9301
-//! sections 5.7 and 8.2). Its messages were worked by hand; the tags are from Python's `hmac`.
+//! sections 5.7 and 8.2); and it tells of a group of datagrams once it is committed. Its messages were worked by hand; the tags
+//! are from Python's `hmac`.
 
 ghost use Rattle.std.specs.Prelude.{None, false};
 ghost use Rattle.lisp_turns.specs.Outside.{OutsideState};
@@ -12,7 +13,9 @@ use lisp_nodes::ServerNode;
 use lisp_nonces::{Fate, MemoryStore};
 use lisp_records::{Addr, Bytes, RouterId};
 use lisp_sites::Config;
-use lisp_turns::{Clock, Endpoint, Lines, Outside, Place, Printed, Received, take_turns};
+use lisp_turns::{
+    Clock, Commit, Endpoint, Lines, Outside, Place, Printed, Received, Uncommitted, take_turns,
+};
 use std::alloc::Global;
 
 /// The router.
@@ -60,55 +63,72 @@ const ACK: [u8; 60] = [
     1, 100, 255, 0, 0, 0x05, 0, 1, 192, 0, 2, 1, // its locator
 ];
 
-/// What a turn is to come to: what comes, the line that is printed then, and the message that is sent.
+/// What a turn is to come to: what waits, and what is done then, in its order.
 struct Turn {
-    hears: Option<&'static [u8]>,
-    prints: Option<Printed>,
-    sends: Option<&'static [u8]>,
+    waits: &'static [&'static [u8]],
+    does: [Deed; 3],
 }
 
+/// What a Map-Server is to do outside: the lines that it prints, a refusal by its number; and the messages that it sends, the
+/// answer to the worked Map-Register and its notice.
+#[derive(Clone, Copy)]
+enum Deed {
+    Nothing,
+    Commits,
+    Prints(Printed),
+    Refuses(u16),
+    Answers,
+    Notices,
+}
+
+const ACCEPTED: Printed = Printed::Heard {
+    line: Line::Accepted {
+        server: 0,
+        router: ROUTER,
+        key: 1,
+        nonce: 1,
+        datagram: Some(0),
+    },
+    from: FROM,
+};
+
 const REGISTERS: Turn = Turn {
-    hears: Some(&MAP_REGISTER),
-    prints: Some(Printed::Heard {
-        line: Line::Accepted {
-            server: 0,
-            router: ROUTER,
-            key: 1,
-            nonce: 1,
-            datagram: Some(0),
-        },
-        from: FROM,
-    }),
-    sends: Some(&MAP_NOTIFY),
+    waits: &[&MAP_REGISTER],
+    does: [Deed::Commits, Deed::Prints(ACCEPTED), Deed::Answers],
 };
 
 const WAITS: Turn = Turn {
-    hears: None,
-    prints: None,
-    sends: None,
+    waits: &[],
+    does: [Deed::Nothing; 3],
 };
 
 const RESENDS: Turn = Turn {
-    hears: None,
-    prints: Some(Printed::Event(Line::Resent {
-        server: 0,
-        router: 1,
-        datagram: 0,
-    })),
-    sends: Some(&NOTICE),
+    waits: &[],
+    does: [
+        Deed::Prints(Printed::Event(Line::Resent {
+            server: 0,
+            router: 1,
+            datagram: 0,
+        })),
+        Deed::Notices,
+        Deed::Nothing,
+    ],
 };
 
 const IS_DONE: Turn = Turn {
-    hears: Some(&ACK),
-    prints: Some(Printed::Heard {
-        line: Line::Done {
-            server: 0,
-            router: ROUTER,
-            nonce: NOTICE_NONCE,
-        },
-        from: FROM,
-    }),
-    sends: None,
+    waits: &[&ACK],
+    does: [
+        Deed::Commits,
+        Deed::Prints(Printed::Heard {
+            line: Line::Done {
+                server: 0,
+                router: ROUTER,
+                nonce: NOTICE_NONCE,
+            },
+            from: FROM,
+        }),
+        Deed::Nothing,
+    ],
 };
 
 /// The turns after a notice was sent at 0 ms, each at its moment in ms.
@@ -121,15 +141,52 @@ const TURNS: [(u32, Turn); 7] = [
     (7_000, IS_DONE),
     (100_000, WAITS),
 ];
+/// A Map-Register, the same once more, which is a replay, and a datagram of no bytes.
+const THREE: &[&[u8]] = &[&MAP_REGISTER, &MAP_REGISTER, &[]];
 
-/// What a Map-Server has outside here: its moment, what comes next, and what it printed and sent.
+/// What is done of a group of them, in its order; the refusals are `Replay` and `Read`.
+const GROUP: [Deed; 5] = [
+    Deed::Commits,
+    Deed::Prints(ACCEPTED),
+    Deed::Answers,
+    Deed::Refuses(57),
+    Deed::Refuses(50),
+];
+
+/// How many places a turn has, and how much of that is done then.
+const PLACES: [(usize, usize); 5] = [(0, 3), (1, 3), (2, 4), (3, 5), (64, 5)];
+
+/// What a Map-Server has outside here: its moment, what waits and how many of it were taken, whether its commits are done, and
+/// what it did.
 #[derive(Drop)]
 struct Bench {
     now: u32,
-    next: Option<&'static [u8]>,
-    printed: Vec<Printed>,
-    sent: Vec<(Addr, Bytes)>,
+    waits: &'static [&'static [u8]],
+    taken: usize,
+    commits: bool,
+    did: Vec<Done>,
     alloc: Global,
+}
+
+/// What it did.
+#[derive(Drop)]
+enum Done {
+    Committed,
+    Printed(Printed),
+    Sent(Addr, Bytes),
+}
+
+impl Bench {
+    fn new(alloc: Global, now: u32, waits: &'static [&'static [u8]]) -> Bench {
+        Bench {
+            now,
+            waits,
+            taken: 0,
+            commits: true,
+            did: Vec::new(alloc),
+            alloc,
+        }
+    }
 }
 
 impl Outside for Bench {
@@ -138,17 +195,25 @@ impl Outside for Bench {
 
 impl Endpoint for Bench {
     fn receive(&mut self, buffer: &mut [u8]) -> Received {
-        let Some(bytes) = self.next.take() else {
+        let Some(bytes) = self.waits.get(self.taken) else {
             return Received::Nothing;
         };
+        self.taken = self.taken.saturating_add(1);
         let count = bytes.len().min(buffer.len());
         buffer[..count].copy_from_slice(&bytes[..count]);
         Received::Datagram { from: FROM, count }
     }
 
+    fn poll(&mut self, buffer: &mut [u8]) -> Received {
+        self.receive(buffer)
+    }
+
     fn send(&mut self, to: &Addr, message: &[u8]) -> bool {
         match Vec::from_slice(self.alloc, message) {
-            Ok(bytes) => self.sent.push((*to, Bytes::from_vec(bytes))).is_ok(),
+            Ok(bytes) => self
+                .did
+                .push(Done::Sent(*to, Bytes::from_vec(bytes)))
+                .is_ok(),
             Err(_) => false,
         }
     }
@@ -162,9 +227,16 @@ impl Clock for Bench {
     fn wait(&mut self, _ms: u64) {}
 }
 
+impl Commit for Bench {
+    fn commit(&mut self) -> bool {
+        let _ = self.did.push(Done::Committed);
+        self.commits
+    }
+}
+
 impl Lines for Bench {
     fn print(&mut self, line: &Printed) {
-        let _ = self.printed.push(*line);
+        let _ = self.did.push(Done::Printed(*line));
     }
 
     fn is_cut(&self) -> bool {
@@ -187,6 +259,29 @@ fn a_notice_is_sent_again_until_it_is_acknowledged(rt: HostRuntime) {
     }
 }
 
+#[test]
+fn a_group_is_told_behind_its_commit(rt: HostRuntime) {
+    let config = config(rt.alloc()).expect(&rt, "the configuration");
+    for (places, done) in PLACES {
+        let mut server = server(rt.alloc(), &config).expect(&rt, "the memory");
+        let mut bench = Bench::new(rt.alloc(), 0, THREE);
+        let taken = turns(rt.alloc(), &config, &mut server, places, 1, &mut bench);
+        assert_at(&rt, places, taken == Some(Ok(())));
+        assert_at(&rt, places, did(bench.did.as_slice(), &GROUP[..done]));
+    }
+}
+
+#[test]
+fn a_group_that_is_not_committed_is_not_told(rt: HostRuntime) {
+    let config = config(rt.alloc()).expect(&rt, "the configuration");
+    let mut server = server(rt.alloc(), &config).expect(&rt, "the memory");
+    let mut bench = Bench::new(rt.alloc(), 0, THREE);
+    bench.commits = false;
+    let taken = turns(rt.alloc(), &config, &mut server, 2, 3, &mut bench);
+    assert_at(&rt, 2, taken == Some(Err(Uncommitted { turns_left: 2 })));
+    assert_at(&rt, 1, did(bench.did.as_slice(), &GROUP[..1]));
+}
+
 /// The configuration of one Map-Server and one router.
 fn config(alloc: Global) -> Option<Config> {
     let (configuration, _) = SCHEDULE.split_once("---\n")?;
@@ -207,41 +302,65 @@ fn notifies(server: &mut ServerNode<MemoryStore>) -> bool {
     }
 }
 
-/// Whether it takes the turn: prints that line and sends that message alone.
+/// Whether it takes the turn, with one place: does that, in its order, and nothing else.
 fn takes(
     alloc: Global,
     config: &Config,
     server: &mut ServerNode<MemoryStore>,
     (now, turn): &(u32, Turn),
 ) -> bool {
-    if config.servers().is_empty() {
-        return false;
-    }
-    let mut bench = Bench {
-        now: *now,
-        next: turn.hears,
-        printed: Vec::new(alloc),
-        sent: Vec::new(alloc),
-        alloc,
-    };
-    take_turns(server, &Place { config, number: 0 }, 1, &mut bench);
-    printed(bench.printed.as_slice(), turn.prints) && sent(bench.sent.as_slice(), turn.sends)
+    let mut bench = Bench::new(alloc, *now, turn.waits);
+    let taken = turns(alloc, config, server, 1, 1, &mut bench);
+    taken == Some(Ok(())) && did(bench.did.as_slice(), &turn.does)
 }
 
-// Whether these lines are that one.
-fn printed(lines: &[Printed], wanted: Option<Printed>) -> bool {
-    match (lines, wanted) {
-        ([], None) => true,
-        ([line], Some(wanted)) => *line == wanted,
+/// What comes of so many turns, each of so many places; `None` where no Map-Server is configured.
+fn turns(
+    alloc: Global,
+    config: &Config,
+    server: &mut ServerNode<MemoryStore>,
+    places: usize,
+    turns: u64,
+    bench: &mut Bench,
+) -> Option<Result<(), Uncommitted>> {
+    if config.servers().is_empty() {
+        return None;
+    }
+    let place = Place { config, number: 0 };
+    Some(take_turns(alloc, server, &place, places, turns, bench))
+}
+
+// Whether what was done is that, in its order.
+fn did(done: &[Done], wanted: &[Deed]) -> bool {
+    done.len() <= wanted.len()
+        && wanted
+            .iter()
+            .enumerate()
+            .all(|(at, deed)| is(done.get(at), deed))
+}
+
+fn is(did: Option<&Done>, deed: &Deed) -> bool {
+    match (did, deed) {
+        (None, Deed::Nothing) | (Some(Done::Committed), Deed::Commits) => true,
+        (Some(Done::Printed(line)), Deed::Prints(wanted)) => line == wanted,
+        (Some(Done::Printed(line)), Deed::Refuses(number)) => refuses(line, *number),
+        (Some(Done::Sent(to, bytes)), Deed::Answers) => {
+            *to == FROM && bytes.as_slice() == MAP_NOTIFY.as_slice()
+        }
+        (Some(Done::Sent(to, bytes)), Deed::Notices) => {
+            *to == FROM && bytes.as_slice() == NOTICE.as_slice()
+        }
         _ => false,
     }
 }
 
-// Whether these messages are that one, to the router.
-fn sent(messages: &[(Addr, Bytes)], wanted: Option<&[u8]>) -> bool {
-    match (messages, wanted) {
-        ([], None) => true,
-        ([(to, bytes)], Some(wanted)) => *to == FROM && bytes.as_slice() == wanted,
+// Whether the line tells that refusal of what came from the router.
+fn refuses(line: &Printed, number: u16) -> bool {
+    match line {
+        Printed::Heard {
+            line: Line::Refused { node: 0, what },
+            from,
+        } => *from == FROM && what.number() == number,
         _ => false,
     }
 }

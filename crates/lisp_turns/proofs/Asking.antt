@@ -1,7 +1,7 @@
 -- Calls that were made, one after another.
-use Rattle.std.proofs.Common.{◌≡◌, List, [], ◌++◌, Option, Some, None, refl, sym, ap, ◌∙◌}
+use Rattle.std.proofs.Common.{◌≡◌, List, [], ◌∷◌, ◌++◌, Option, Some, None, refl, sym, ap, ◌∙◌}
 use Rattle.std.proofs.lemmas.List.{append-nil, append_assoc}
-use Rattle.lisp_turns.specs.Outside.{Call, OutsideState, logged}
+use Rattle.lisp_turns.specs.Outside.{Call, OutsideState, Logs, logged}
 use Rattle.lisp_turns.specs.Stretch.{Asks}
 
 pub logged_none : (log : Option (List Call)) → logged [] log ≡ log
@@ -14,6 +14,9 @@ logged_twice xs ys (Some calls) = ap Some (sym (append_assoc ys xs calls))
 
 pub asks_none : (s : OutsideState) → Asks s s []
 asks_none s = ap (λ (log : Option (List Call)). record s { log = log }) (sym (logged_none s.log))
+
+pub asks_one : (a b : OutsideState) (call : Call) → Logs a b call → Asks a b (call ∷ [])
+asks_one a b call logs = logs ∙ (λ i. record { log = logged (call ∷ []) a.log; moment = a.moment; is_cut = sym (ap (λ (s : OutsideState). s.is_cut) logs) i })
 
 pub asks_then : (a b c : OutsideState) (xs ys : List Call) → Asks a b xs → Asks b c ys → Asks a c (ys ++ xs)
 asks_then a b c xs ys first second =

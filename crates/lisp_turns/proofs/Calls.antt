@@ -10,7 +10,7 @@ use Rattle.lisp_model.specs.declared.line.Line.{Line}
 use Rattle.lisp_model.specs.declared.line.Line.TheVariants as lines
 use Rattle.lisp_turns.specs.Act.{numbered}
 use Rattle.lisp_turns.specs.Acts.{send_calls, printed_of}
-use Rattle.lisp_turns.specs.Outside.{Call, Datagram, Nothing, Failed, Receives, Reads, Waits, Prints, Sends, logged}
+use Rattle.lisp_turns.specs.Outside.{Call, Datagram, Nothing, Failed, Receives, Polls, Reads, Waits, Commits, Prints, Sends, logged}
 use Rattle.lisp_turns.specs.Part.{lines_of, sent_of, received_of}
 use Rattle.lisp_turns.specs.declared.outside.Printed.{Printed}
 use Rattle.lisp_turns.specs.declared.outside.Printed.TheVariants as printed
@@ -23,7 +23,9 @@ lines_append (Prints (printed.Heard line from) ∷ cs) ds = ap (λ rest. line �
 lines_append (Prints (printed.Expired router eid) ∷ cs) ds = lines_append cs ds
 lines_append (Prints (printed.Failed call) ∷ cs) ds = lines_append cs ds
 lines_append (Receives r ∷ cs) ds = lines_append cs ds
+lines_append (Polls r ∷ cs) ds = lines_append cs ds
 lines_append (Reads now ∷ cs) ds = lines_append cs ds
+lines_append (Commits done ∷ cs) ds = lines_append cs ds
 lines_append (Waits ms ∷ cs) ds = lines_append cs ds
 lines_append (Sends to bytes taken ∷ cs) ds = lines_append cs ds
 
@@ -32,7 +34,9 @@ sent_append [] ds = refl
 sent_append (Sends to bytes taken ∷ cs) ds = ap (λ rest. (to, bytes) ∷ rest) (sent_append cs ds)
 sent_append (Prints line ∷ cs) ds = sent_append cs ds
 sent_append (Receives r ∷ cs) ds = sent_append cs ds
+sent_append (Polls r ∷ cs) ds = sent_append cs ds
 sent_append (Reads now ∷ cs) ds = sent_append cs ds
+sent_append (Commits done ∷ cs) ds = sent_append cs ds
 sent_append (Waits ms ∷ cs) ds = sent_append cs ds
 
 pub received_append : (cs ds : List Call) → received_of (cs ++ ds) ≡ received_of cs ++ received_of ds
@@ -40,20 +44,30 @@ received_append [] ds = refl
 received_append (Receives (Datagram from bytes) ∷ cs) ds = ap (λ rest. (from, bytes) ∷ rest) (received_append cs ds)
 received_append (Receives Nothing ∷ cs) ds = received_append cs ds
 received_append (Receives Failed ∷ cs) ds = received_append cs ds
+received_append (Polls (Datagram from bytes) ∷ cs) ds = ap (λ rest. (from, bytes) ∷ rest) (received_append cs ds)
+received_append (Polls Nothing ∷ cs) ds = received_append cs ds
+received_append (Polls Failed ∷ cs) ds = received_append cs ds
 received_append (Prints line ∷ cs) ds = received_append cs ds
 received_append (Sends to bytes taken ∷ cs) ds = received_append cs ds
 received_append (Reads now ∷ cs) ds = received_append cs ds
+received_append (Commits done ∷ cs) ds = received_append cs ds
 received_append (Waits ms ∷ cs) ds = received_append cs ds
 
--- of six parts the first, the fourth and the fifth come to nothing
-pub of_parts : {X : Type 0} (f : List Call → List X) → ((cs ds : List Call) → f (cs ++ ds) ≡ f cs ++ f ds) → (a b c d e g : List Call) → f a ≡ [] → f d ≡ [] → f e ≡ []
-    → f (a ++ b ++ c ++ d ++ e ++ g) ≡ f b ++ f c ++ f g
-of_parts f append a b c d e g no_a no_d no_e =
-    append (a ++ b ++ c ++ d ++ e) g
-    ∙ ap (λ l. l ++ f g) (nothing_more (a ++ b ++ c ++ d) e no_e ∙ nothing_more (a ++ b ++ c) d no_d ∙ append (a ++ b) c ∙ ap (λ l. l ++ f c) (append a b ∙ ap (λ l. l ++ f b) no_a))
-  where
-    nothing_more : (xs ys : List Call) → f ys ≡ [] → f (xs ++ ys) ≡ f xs
-    nothing_more xs ys none = append xs ys ∙ ap (λ l. f xs ++ l) none ∙ append-nil (f xs)
+-- of five parts the first and the fourth come to nothing; of four, the first and the third
+module _ {X : Type 0} (f : List Call → List X) (append : (cs ds : List Call) → f (cs ++ ds) ≡ f cs ++ f ds) where
+  nothing_more : (xs ys : List Call) → f ys ≡ [] → f (xs ++ ys) ≡ f xs
+  nothing_more xs ys none = append xs ys ∙ ap (λ l. f xs ++ l) none ∙ append-nil (f xs)
+
+  nothing_first : (xs ys : List Call) → f xs ≡ [] → f (xs ++ ys) ≡ f ys
+  nothing_first xs ys none = append xs ys ∙ ap (λ l. l ++ f ys) none
+
+  pub of_five : (a b c d g : List Call) → f a ≡ [] → f d ≡ [] → f (a ++ b ++ c ++ d ++ g) ≡ f b ++ f c ++ f g
+  of_five a b c d g no_a no_d =
+      append (a ++ b ++ c ++ d) g
+      ∙ ap (λ l. l ++ f g) (nothing_more (a ++ b ++ c) d no_d ∙ append (a ++ b) c ∙ ap (λ l. l ++ f c) (nothing_first a b no_a))
+
+  pub of_four : (a b c g : List Call) → f a ≡ [] → f c ≡ [] → f (a ++ b ++ c ++ g) ≡ f b ++ f g
+  of_four a b c g no_a no_c = append (a ++ b ++ c) g ∙ ap (λ l. l ++ f g) (nothing_more (a ++ b) c no_c ∙ nothing_first a b no_a)
 
 -- a log goes on by nothing, and by calls and more calls
 pub logged_none : (log : Option (List Call)) → log ≡ logged [] log

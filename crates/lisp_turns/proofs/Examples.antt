@@ -21,12 +21,13 @@ use Rattle.lisp_model.specs.Trace.{EventValue, Step}
 use Rattle.lisp_refinement.specs.Nodes.{up_in, fresh_server}
 use Rattle.lisp_refinement.specs.World.{ServerNodeState, RouterNodeState}
 use Rattle.lisp_turns.specs.Acts.{TurnAct, act_calls}
+use Rattle.lisp_turns.specs.Beginning.{IsMute}
 use Rattle.lisp_turns.specs.Due.{IsRegisterDue, IsSend, SendsDue, IsRefused}
 use Rattle.lisp_turns.specs.Node.{NodeState, Server, Router, IsPlaced, Passes, IsDead, TellsDead}
-use Rattle.lisp_turns.specs.Outside.{Datagram, Nothing, Receives, Reads, Prints, Sends}
+use Rattle.lisp_turns.specs.Outside.{Reception, Datagram, Nothing, Failed, Call, Receives, Reads, Commits, Prints, Sends}
 use Rattle.lisp_turns.specs.Part.{IsOwn, ArePrinted, arrivals, sent_of}
 use Rattle.lisp_turns.specs.Pause.{may_try, is_told, failed}
-use Rattle.lisp_turns.specs.Turn.{TurnState, Hears, IsPut, AreDone, DoesDuties, Serves, IsTurn}
+use Rattle.lisp_turns.specs.Turn.{TurnState, Hears, IsGroup, IsPut, AreDone, DoesDuties, Serves, commit_calls, hearing_calls, IsTurn}
 use Rattle.lisp_turns.specs.declared.outside.Printed.TheVariants as printed
 use Rattle.lisp_turns.specs.declared.pause.Pause.{Pause}
 use Rattle.lisp_turns.proofs.DeadRows.{tells_none}
@@ -49,20 +50,24 @@ none_held : (key : RouterId × PrefixValue) (row : RowValue) → row_at silent.c
 unfolding row_at
 none_held key row there = absurd (let clash : ◌≡◌ {A = Option RowValue} None (Some row) = there in cc)
 
-pub silent_turn : (A : Type 0) (config : ConfigValue) → IsTurn A config 0 before after
+pub silent_turn : (A : Type 0) (config : ConfigValue) (places : ℕ) → IsTurn A config 0 places before after
 unfolding notice_at
-silent_turn A config = record {
+silent_turn A config places = record {
   reception = Nothing;
   now = 5;
-  later = omega arith;
-  bound = omega arith;
-  passed = Server silent;
   dead = [];
-  expires = tells_none (Server silent) 5 (λ key dead. none_held key dead.0 dead.1);
+  others = [];
   heard = [];
-  hears = refl;
   between = Server silent;
-  did_hear = refl;
+  hearing = record {
+    later = omega arith;
+    bound = omega arith;
+    passed = Server silent;
+    expires = tells_none (Server silent) 5 (λ key dead. none_held key dead.0 dead.1);
+    group = record { few = omega arith; some = inr refl; datagrams = tt; full = λ is. absurd is };
+    hears = refl;
+    did_hear = refl;
+  };
   left = Server silent;
   withdrawn = (tells_none (Server silent) 5 (λ key dead. none_held key dead.0 dead.1)).passes;
   receives = refl;
@@ -97,16 +102,41 @@ other_kind : (config : ConfigValue) (number : ℕ) (n : RouterNodeState) → num
 other_kind config number n low placed = omega (arith, low, placed.2)
 
 -- a datagram isn't ignored, and what is made of it isn't kept from the operator
-ignored : (from : Addr) (bytes : List ℕ) → Hears 0 (Datagram from bytes) [] → ⊥
-ignored from bytes (a, is, event, told) = absurd (let clash : ◌≡◌ {A = List TurnAct} [] (a ∷ []) = is in cc)
+ignored : (from : Addr) (bytes : List ℕ) → Hears 0 (Datagram from bytes ∷ []) [] → ⊥
+ignored from bytes (a, rest, is, event, told, more) = absurd (let clash : ◌≡◌ {A = List TurnAct} [] (a ∷ rest) = is in cc)
 
-untold : (from : Addr) (bytes : List ℕ) (a : TurnAct) → a.told ≡ false → Hears 0 (Datagram from bytes) (a ∷ []) → ⊥
-untold from bytes a quiet (b, is, event, told) =
+untold : (from : Addr) (bytes : List ℕ) (a : TurnAct) → a.told ≡ false → Hears 0 (Datagram from bytes ∷ []) (a ∷ []) → ⊥
+untold from bytes a quiet (b, rest, is, event, told, more) =
     absurd (true≢false (sym told ∙ ap (λ (l : List TurnAct). first_told l) (sym is) ∙ quiet))
   where
     first_told : List TurnAct → Bool
     first_told [] = false
     first_told (x ∷ xs) = x.told
+
+-- a group has one datagram at least, and no more than its places
+module _ (first : Reception) (a b : Reception) where
+  too_many : IsGroup 2 first (a ∷ b ∷ []) → ⊥
+  too_many group = omega (arith, group.few)
+
+  -- nothing is asked for behind a receive that failed
+  after_failure : IsGroup 9 Failed (a ∷ []) → ⊥
+  after_failure group = by group.some
+    where
+      by : ⊥ ⊎ (a ∷ [] ≡ []) → ⊥
+      by (inl never) = never
+      by (inr is) = absurd (let clash : ◌≡◌ {A = List Reception} (a ∷ []) [] = is in cc)
+
+  -- nor behind one that found none
+  after_none : IsGroup 9 first (a ∷ Nothing ∷ []) → ⊥
+  after_none group = group.datagrams.0
+
+-- what is heard isn't left uncommitted, and none of it is told before the commit
+uncommitted : (a : TurnAct) → commit_calls (a ∷ []) true ≡ [] → ⊥
+uncommitted a is = absurd (let clash : ◌≡◌ {A = List Call} (Commits true ∷ []) [] = is in cc)
+
+silent_until_committed : (from : Addr) (bytes : List ℕ) (now : ℕ) (heard : List TurnAct) (done : Bool) → IsMute (hearing_calls (Datagram from bytes) now [] (Nothing ∷ []) heard done)
+silent_until_committed from bytes now [] done = (refl, refl)
+silent_until_committed from bytes now (a ∷ earlier) done = (refl, refl)
 
 -- the address of the first message
 abbrev address_in : Addr → List (Addr × List ℕ) → Addr

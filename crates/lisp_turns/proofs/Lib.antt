@@ -7,6 +7,7 @@ pub mod NoticedRouters
 pub mod ServingServer
 pub mod Asking
 pub mod Duties
+pub mod Grouping
 pub mod Turning
 pub mod Expiring
 pub mod DeadRows

@@ -1,27 +1,46 @@
 -- What a node does in a turn is its own, and what arrives in it is what was received.
-use Rattle.std.proofs.Common.{◌≡◌, ◌⊎◌, inl, inr, ℕ, Bool, true, false, List, [], ◌∷◌, ◌++◌, refl, sym, ap, subst, ◌∙◌}
+use Rattle.std.proofs.Common.{◌≡◌, ◌⊎◌, inl, inr, ℕ, Bool, true, false, List, [], ◌∷◌, ◌++◌, map, refl, sym, ap, subst, ◌∙◌}
 use Rattle.std.specs.List.{AllByRecursion}
+use Rattle.lisp_records.specs.declared.address.Addr.{Addr}
 use Rattle.lisp_model.specs.Trace.{EventValue}
 use Rattle.lisp_turns.specs.Acts.{TurnAct}
 use Rattle.lisp_turns.specs.Due.{IsDuty}
 use Rattle.lisp_turns.specs.Node.{NodeState}
-use Rattle.lisp_turns.specs.Outside.{Reception, Datagram, Nothing, Failed, Receives}
+use Rattle.lisp_turns.specs.Outside.{Reception, Datagram, Nothing, Failed, Receives, Polls}
 use Rattle.lisp_turns.specs.Part.{IsOwn, arrival, received_of}
 use Rattle.lisp_turns.specs.Turn.{Hears, IsDone, IsPut, AreDone, ServesIf}
 use Rattle.lisp_turns.specs.declared.pause.Pause.{Pause}
 use Rattle.lisp_turns.proofs.Acting.{IsTold, AreOwn, arrived, own_duty, nothing_arrives}
 
 -- what the node makes of a datagram is its own, and is told
-pub heard_own : (number : ℕ) (reception : Reception) (acts : List TurnAct) → Hears number reception acts → AreOwn number acts
-heard_own number (Datagram from bytes) acts (a, is, event, told) = subst (λ (l : List TurnAct). AreOwn number l) (sym is) ((subst (λ (e : EventValue). IsOwn number e) (sym event) refl, inl told), tt)
-heard_own number Nothing acts is = subst (λ (l : List TurnAct). AreOwn number l) (sym is) tt
-heard_own number Failed acts is = subst (λ (l : List TurnAct). AreOwn number l) (sym is) tt
+pub heard_own : (number : ℕ) (receptions : List Reception) (acts : List TurnAct) → Hears number receptions acts → AreOwn number acts
+heard_own number [] acts is = subst (λ (l : List TurnAct). AreOwn number l) (sym is) tt
+heard_own number (Datagram from bytes ∷ earlier) acts (a, rest, is, event, told, more) =
+    subst (λ (l : List TurnAct). AreOwn number l) (sym is) ((subst (λ (e : EventValue). IsOwn number e) (sym event) refl, inl told), heard_own number earlier rest more)
+heard_own number (Nothing ∷ earlier) acts hears = heard_own number earlier acts hears
+heard_own number (Failed ∷ earlier) acts hears = heard_own number earlier acts hears
+
+-- the datagrams that came
+abbrev pub came : List Reception → List (Addr × List ℕ)
+came [] = []
+came (Datagram from bytes ∷ earlier) = (from, bytes) ∷ came earlier
+came (_ ∷ earlier) = came earlier
 
 -- and is all that arrived
-pub heard_arrived : (number : ℕ) (reception : Reception) (acts : List TurnAct) → Hears number reception acts → arrived acts ≡ received_of (Receives reception ∷ [])
-heard_arrived number (Datagram from bytes) acts (a, is, event, told) = ap arrived is ∙ ap (λ (e : EventValue). arrival e ++ []) event
-heard_arrived number Nothing acts is = ap arrived is
-heard_arrived number Failed acts is = ap arrived is
+pub heard_arrived : (number : ℕ) (receptions : List Reception) (acts : List TurnAct) → Hears number receptions acts → arrived acts ≡ came receptions
+heard_arrived number [] acts is = ap arrived is
+heard_arrived number (Datagram from bytes ∷ earlier) acts (a, rest, is, event, told, more) = ap arrived is ∙ (λ i. arrival (event i) ++ heard_arrived number earlier rest more i)
+heard_arrived number (Nothing ∷ earlier) acts hears = heard_arrived number earlier acts hears
+heard_arrived number (Failed ∷ earlier) acts hears = heard_arrived number earlier acts hears
+
+-- they are those that were received first, and polled
+pub polls_came : (others : List Reception) (first : Reception) → received_of (map Polls others ++ Receives first ∷ []) ≡ came (others ++ first ∷ [])
+polls_came [] (Datagram from bytes) = refl
+polls_came [] Nothing = refl
+polls_came [] Failed = refl
+polls_came (Datagram from bytes ∷ earlier) first = ap (λ (l : List (Addr × List ℕ)). (from, bytes) ∷ l) (polls_came earlier first)
+polls_came (Nothing ∷ earlier) first = polls_came earlier first
+polls_came (Failed ∷ earlier) first = polls_came earlier first
 
 -- what was due is the node's own, and is told unless it was refused
 module _ (number : ℕ) where

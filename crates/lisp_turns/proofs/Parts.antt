@@ -1,5 +1,5 @@
 -- What a node prints and sends in its turns is a legal trace's part of it.
-use Rattle.std.proofs.Common.{◌≡◌, ℕ, zero, suc, ◌≤◌, Bool, true, false, List, [], ◌∷◌, ◌++◌, refl, sym, ap, subst, ◌∙◌, append-nil, arith}
+use Rattle.std.proofs.Common.{◌≡◌, ℕ, zero, suc, ◌≤◌, Bool, true, false, List, [], ◌∷◌, ◌++◌, map, refl, sym, ap, subst, ◌∙◌, append-nil, arith}
 use Rattle.std.specs.Prelude.{if◌then◌else◌}
 use Rattle.std.proofs.lemmas.List.{append_assoc}
 use Rattle.lisp_records.specs.declared.address.Addr.{Addr}
@@ -12,18 +12,18 @@ use Rattle.lisp_refinement.specs.World.{WorldState}
 use Rattle.lisp_refinement.specs.Stands.{Stands}
 use Rattle.lisp_turns.specs.Acts.{TurnAct, printed_of, act_calls, acts_calls}
 use Rattle.lisp_turns.specs.Node.{HasNode}
-use Rattle.lisp_turns.specs.Outside.{Call, Reception, Datagram, Nothing, Failed, Receives, Reads, Prints, OutsideState, logged}
+use Rattle.lisp_turns.specs.Outside.{Call, Reception, Datagram, Nothing, Failed, Receives, Polls, Reads, Prints, OutsideState, logged}
 use Rattle.lisp_turns.specs.Part.{lines_of, sent_of, received_of, TurnsAreParts}
 use Rattle.lisp_turns.specs.Pause.{may_try, is_told}
-use Rattle.lisp_turns.specs.Turn.{TurnState, failure_calls, rest_calls, expired_calls, turn_calls, IsTurn, Turns}
+use Rattle.lisp_turns.specs.Turn.{TurnState, failure_calls, rest_calls, expired_calls, commit_calls, hearing_calls, turn_calls, IsTurn, Turns}
 use Rattle.lisp_turns.specs.declared.outside.Printed.TheVariants as printed
 use Rattle.lisp_turns.specs.declared.outside.SocketCall.TheVariants as socket
 use Rattle.lisp_turns.specs.declared.pause.Pause.{Pause}
-use Rattle.lisp_turns.proofs.Calls.{lines_append, sent_append, received_append, of_parts, logged_none, logged_twice, told_calls, told_received}
+use Rattle.lisp_turns.proofs.Calls.{lines_append, sent_append, received_append, of_five, of_four, logged_none, logged_twice, told_calls, told_received}
 use Rattle.lisp_turns.proofs.Reaching.{Reaches, stays_there, goes_further}
 use Rattle.lisp_turns.proofs.Ticking.{tick_reaches}
 use Rattle.lisp_turns.proofs.Acting.{arrived, acts_reach}
-use Rattle.lisp_turns.proofs.OwnActs.{AreServed, heard_own, heard_arrived, are_served}
+use Rattle.lisp_turns.proofs.OwnActs.{AreServed, came, heard_own, heard_arrived, polls_came, are_served}
 
 -- of what is asked for an act nothing is received
 act_receives : (a : TurnAct) → received_of (act_calls a) ≡ []
@@ -61,57 +61,100 @@ expired_says_nothing : (dead : List (RouterId × PrefixValue)) → SaysNothing (
 expired_says_nothing [] = record { no_lines = refl; no_sent = refl; no_received = refl }
 expired_says_nothing (key ∷ dead) = (let rest = expired_says_nothing dead in record { no_lines = rest.no_lines; no_sent = rest.no_sent; no_received = rest.no_received })
 
--- what a turn's calls come to
-module _ (reception : Reception) (receives : Pause) (now : ℕ) (dead : List (RouterId × PrefixValue)) (heard served : List TurnAct) where
-  abbrev all_calls : List Call
-  all_calls = turn_calls reception receives now dead heard served
+commit_says_nothing : (heard : List TurnAct) (done : Bool) → SaysNothing (commit_calls heard done)
+commit_says_nothing [] done = record { no_lines = refl; no_sent = refl; no_received = refl }
+commit_says_nothing (a ∷ earlier) done = record { no_lines = refl; no_sent = refl; no_received = refl }
 
-  abbrev no_rest : SaysNothing (rest_calls reception)
-  no_rest = rest_says_nothing reception
+-- what is polled says no line and sends nothing
+polls_no_lines : (receptions : List Reception) → lines_of (map Polls receptions) ≡ []
+polls_no_lines [] = refl
+polls_no_lines (r ∷ earlier) = polls_no_lines earlier
 
-  abbrev no_failure : SaysNothing (failure_calls reception receives now)
-  no_failure = failure_says_nothing reception receives now
+polls_no_sent : (receptions : List Reception) → sent_of (map Polls receptions) ≡ []
+polls_no_sent [] = refl
+polls_no_sent (r ∷ earlier) = polls_no_sent earlier
+
+-- what a node asks until it heard all says no line and sends nothing, and receives what it heard
+module _ (first : Reception) (now : ℕ) (dead : List (RouterId × PrefixValue)) (others : List Reception) (heard : List TurnAct) (done : Bool) where
+  abbrev no_commit : SaysNothing (commit_calls heard done)
+  no_commit = commit_says_nothing heard done
 
   abbrev no_expired : SaysNothing (expired_calls dead)
   no_expired = expired_says_nothing dead
 
   abbrev first_calls : List Call
-  first_calls = Reads now ∷ Receives reception ∷ []
+  first_calls = Reads now ∷ Receives first ∷ []
 
-  turn_parts : {X : Type 0} (f : List Call → List X) → ((cs ds : List Call) → f (cs ++ ds) ≡ f cs ++ f ds) → f (rest_calls reception) ≡ [] → f (failure_calls reception receives now) ≡ [] → f (expired_calls dead) ≡ []
-      → f all_calls ≡ f (acts_calls served) ++ f (acts_calls heard) ++ f first_calls
-  turn_parts f append = of_parts f append (rest_calls reception) (acts_calls served) (acts_calls heard) (failure_calls reception receives now) (expired_calls dead) first_calls
+  hearing_parts : {X : Type 0} (f : List Call → List X) → ((cs ds : List Call) → f (cs ++ ds) ≡ f cs ++ f ds) → f (commit_calls heard done) ≡ [] → f (expired_calls dead) ≡ []
+      → f (hearing_calls first now dead others heard done) ≡ f (map Polls others) ++ f first_calls
+  hearing_parts f append = of_four f append (commit_calls heard done) (map Polls others) (expired_calls dead) first_calls
+
+  pub hearing_lines : lines_of (hearing_calls first now dead others heard done) ≡ []
+  hearing_lines = hearing_parts lines_of lines_append no_commit.no_lines no_expired.no_lines ∙ ap (λ (l : List Line). l ++ []) (polls_no_lines others)
+
+  pub hearing_sent : sent_of (hearing_calls first now dead others heard done) ≡ []
+  hearing_sent = hearing_parts sent_of sent_append no_commit.no_sent no_expired.no_sent ∙ ap (λ (l : List (Addr × List ℕ)). l ++ []) (polls_no_sent others)
+
+  hearing_received : received_of (hearing_calls first now dead others heard done) ≡ came (others ++ first ∷ [])
+  hearing_received = hearing_parts received_of received_append no_commit.no_received no_expired.no_received
+      ∙ sym (received_append (map Polls others) (Receives first ∷ []))
+      ∙ polls_came others first
+
+-- what a turn's calls come to
+module _ (first : Reception) (receives : Pause) (now : ℕ) (dead : List (RouterId × PrefixValue)) (others : List Reception) (heard served : List TurnAct) where
+  abbrev all_calls : List Call
+  all_calls = turn_calls first receives now dead others heard served
+
+  abbrev no_rest : SaysNothing (rest_calls first)
+  no_rest = rest_says_nothing first
+
+  abbrev no_failure : SaysNothing (failure_calls first receives now)
+  no_failure = failure_says_nothing first receives now
+
+  abbrev hearing : List Call
+  hearing = hearing_calls first now dead others heard true
+
+  turn_parts : {X : Type 0} (f : List Call → List X) → ((cs ds : List Call) → f (cs ++ ds) ≡ f cs ++ f ds) → f (rest_calls first) ≡ [] → f (failure_calls first receives now) ≡ []
+      → f all_calls ≡ f (acts_calls served) ++ f (acts_calls heard) ++ f hearing
+  turn_parts f append = of_five f append (rest_calls first) (acts_calls served) (acts_calls heard) (failure_calls first receives now) hearing
 
   turn_lines : lines_of all_calls ≡ lines_of (acts_calls served) ++ (lines_of (acts_calls heard) ++ [])
-  turn_lines = turn_parts lines_of lines_append no_rest.no_lines no_failure.no_lines no_expired.no_lines ∙ append_assoc (lines_of (acts_calls served)) (lines_of (acts_calls heard)) []
+  turn_lines = turn_parts lines_of lines_append no_rest.no_lines no_failure.no_lines
+      ∙ ap (λ (l : List Line). lines_of (acts_calls served) ++ lines_of (acts_calls heard) ++ l) (hearing_lines first now dead others heard true)
+      ∙ append_assoc (lines_of (acts_calls served)) (lines_of (acts_calls heard)) []
 
   turn_sent : sent_of all_calls ≡ sent_of (acts_calls served) ++ (sent_of (acts_calls heard) ++ [])
-  turn_sent = turn_parts sent_of sent_append no_rest.no_sent no_failure.no_sent no_expired.no_sent ∙ append_assoc (sent_of (acts_calls served)) (sent_of (acts_calls heard)) []
+  turn_sent = turn_parts sent_of sent_append no_rest.no_sent no_failure.no_sent
+      ∙ ap (λ (l : List (Addr × List ℕ)). sent_of (acts_calls served) ++ sent_of (acts_calls heard) ++ l) (hearing_sent first now dead others heard true)
+      ∙ append_assoc (sent_of (acts_calls served)) (sent_of (acts_calls heard)) []
 
-  turn_received : received_of all_calls ≡ received_of (Receives reception ∷ [])
-  turn_received = turn_parts received_of received_append no_rest.no_received no_failure.no_received no_expired.no_received
-      ∙ (λ i. acts_receive served i ++ acts_receive heard i ++ received_of first_calls)
+  turn_received : received_of all_calls ≡ came (others ++ first ∷ [])
+  turn_received = turn_parts received_of received_append no_rest.no_received no_failure.no_received
+      ∙ (λ i. acts_receive served i ++ acts_receive heard i ++ hearing_received first now dead others heard true i)
 
 -- a network goes on by a turn
-module _ (A : Type 0) (config : ConfigValue) (number : ℕ) (s t : TurnState) (turn : IsTurn A config number s t) (w : WorldState) (o : Opening) (T : List Step) (stand : Stands w o T)
+module _ (A : Type 0) (config : ConfigValue) (number places : ℕ) (s t : TurnState) (turn : IsTurn A config number places s t) (w : WorldState) (o : Opening) (T : List Step) (stand : Stands w o T)
     (same : o.config ≡ config) (has : HasNode w number s.node) (clock : w.clock ≡ s.outside.moment) where
   abbrev calls : List Call
-  calls = turn_calls turn.reception s.receives turn.now turn.dead turn.heard turn.served
+  calls = turn_calls turn.reception s.receives turn.now turn.dead turn.others turn.heard turn.served
+
+  abbrev receptions : List Reception
+  receptions = turn.others ++ turn.reception ∷ []
 
   abbrev After : List Line → List (Addr × List ℕ) → List (Addr × List ℕ) → Type 0
   After lines sent received = Reaches number lines sent received t.node turn.now w o T
 
-  ticked : Reaches number [] [] [] turn.passed turn.now w o T
-  ticked = tick_reaches A number s.node turn.passed turn.now w o T stand has (subst (λ m. m ≤ turn.now) (sym clock) turn.later) turn.bound turn.expires.passes
+  ticked : Reaches number [] [] [] turn.hearing.passed turn.now w o T
+  ticked = tick_reaches A number s.node turn.hearing.passed turn.now w o T stand has (subst (λ m. m ≤ turn.now) (sym clock) turn.hearing.later) turn.hearing.bound turn.hearing.expires.passes
 
   hears_reach : Reaches number (lines_of (acts_calls turn.heard) ++ []) (sent_of (acts_calls turn.heard) ++ []) (arrived turn.heard ++ []) turn.between turn.now w o T
-  hears_reach = goes_further number [] (lines_of (acts_calls turn.heard)) [] (sent_of (acts_calls turn.heard)) [] (arrived turn.heard) turn.passed turn.between turn.now turn.now w o T stand ticked
-      (acts_reach A config number turn.passed turn.between turn.now turn.heard turn.did_hear (heard_own number turn.reception turn.heard turn.hears) ticked.left o (ticked.steps ++ T) ticked.stands same ticked.node_is ticked.clock)
+  hears_reach = goes_further number [] (lines_of (acts_calls turn.heard)) [] (sent_of (acts_calls turn.heard)) [] (arrived turn.heard) turn.hearing.passed turn.between turn.now turn.now w o T stand ticked
+      (acts_reach A config number turn.hearing.passed turn.between turn.now turn.heard turn.hearing.did_hear (heard_own number receptions turn.heard turn.hearing.hears) ticked.left o (ticked.steps ++ T) ticked.stands same ticked.node_is ticked.clock)
 
   -- the rows that it withdrew leave at the same moment
   withdrawn : Reaches number (lines_of (acts_calls turn.heard) ++ []) (sent_of (acts_calls turn.heard) ++ []) (arrived turn.heard ++ []) turn.left turn.now w o T
   withdrawn = goes_further number (lines_of (acts_calls turn.heard) ++ []) [] (sent_of (acts_calls turn.heard) ++ []) [] (arrived turn.heard ++ []) [] turn.between turn.left turn.now turn.now w o T stand hears_reach
-      (tick_reaches A number turn.between turn.left turn.now hears_reach.left o (hears_reach.steps ++ T) hears_reach.stands hears_reach.node_is (omega (arith, hears_reach.clock)) turn.bound turn.withdrawn)
+      (tick_reaches A number turn.between turn.left turn.now hears_reach.left o (hears_reach.steps ++ T) hears_reach.stands hears_reach.node_is (omega (arith, hears_reach.clock)) turn.hearing.bound turn.withdrawn)
 
   served : AreServed number turn.served
   served = are_served number (may_try s.sends turn.now) s.sends t.sends turn.now turn.left t.node turn.served turn.serves
@@ -122,14 +165,14 @@ module _ (A : Type 0) (config : ConfigValue) (number : ℕ) (s t : TurnState) (t
       (acts_reach A config number turn.left t.node turn.now turn.served turn.did_serve served.own withdrawn.left o (withdrawn.steps ++ T) withdrawn.stands same withdrawn.node_is withdrawn.clock)
 
   all_arrived : arrived turn.served ++ (arrived turn.heard ++ []) ≡ received_of calls
-  all_arrived = (λ i. served.none i ++ append-nil (arrived turn.heard) i) ∙ heard_arrived number turn.reception turn.heard turn.hears
-      ∙ sym (turn_received turn.reception s.receives turn.now turn.dead turn.heard turn.served)
+  all_arrived = (λ i. served.none i ++ append-nil (arrived turn.heard) i) ∙ heard_arrived number receptions turn.heard turn.hearing.hears
+      ∙ sym (turn_received turn.reception s.receives turn.now turn.dead turn.others turn.heard turn.served)
 
   turn_reaches : After (lines_of calls) (sent_of calls) (received_of calls)
   turn_reaches = subst (λ (p : List Line × List (Addr × List ℕ) × List (Addr × List ℕ)). After p.0 p.1 p.2)
       {x = (lines_of (acts_calls turn.served) ++ (lines_of (acts_calls turn.heard) ++ []), sent_of (acts_calls turn.served) ++ (sent_of (acts_calls turn.heard) ++ []), arrived turn.served ++ (arrived turn.heard ++ []))}
       {y = (lines_of calls, sent_of calls, received_of calls)}
-      (λ i. (sym (turn_lines turn.reception s.receives turn.now turn.dead turn.heard turn.served) i, sym (turn_sent turn.reception s.receives turn.now turn.dead turn.heard turn.served) i, all_arrived i)) serves_reach
+      (λ i. (sym (turn_lines turn.reception s.receives turn.now turn.dead turn.others turn.heard turn.served) i, sym (turn_sent turn.reception s.receives turn.now turn.dead turn.others turn.heard turn.served) i, all_arrived i)) serves_reach
 
 -- so it does by turns
 record GoesOnTo (number : ℕ) (s t : TurnState) (w : WorldState) (o : Opening) (T : List Step) : Type 0 where
@@ -137,12 +180,12 @@ record GoesOnTo (number : ℕ) (s t : TurnState) (w : WorldState) (o : Opening) 
   pub asked : t.outside.log ≡ logged calls s.outside.log
   pub reaches : Reaches number (lines_of calls) (sent_of calls) (received_of calls) t.node t.outside.moment w o T
 
-module _ (A : Type 0) (config : ConfigValue) (number : ℕ) (s m t : TurnState) (w : WorldState) (o : Opening) (T : List Step) (stand : Stands w o T) (same : o.config ≡ config) where
-  next_turn : GoesOnTo number s m w o T → IsTurn A config number m t → GoesOnTo number s t w o T
+module _ (A : Type 0) (config : ConfigValue) (number places : ℕ) (s m t : TurnState) (w : WorldState) (o : Opening) (T : List Step) (stand : Stands w o T) (same : o.config ≡ config) where
+  next_turn : GoesOnTo number s m w o T → IsTurn A config number places m t → GoesOnTo number s t w o T
   next_turn first turn =
       let so_far = first.reaches in
-      let one = turn_reaches A config number m t turn so_far.left o (so_far.steps ++ T) so_far.stands same so_far.node_is so_far.clock in
-      let more : List Call = turn_calls turn.reception m.receives turn.now turn.dead turn.heard turn.served in
+      let one = turn_reaches A config number places m t turn so_far.left o (so_far.steps ++ T) so_far.stands same so_far.node_is so_far.clock in
+      let more : List Call = turn_calls turn.reception m.receives turn.now turn.dead turn.others turn.heard turn.served in
       let both = goes_further number (lines_of first.calls) (lines_of more) (sent_of first.calls) (sent_of more) (received_of first.calls) (received_of more) m.node t.node m.outside.moment turn.now w o T stand so_far one in
       record {
         calls = more ++ first.calls;
@@ -153,18 +196,18 @@ module _ (A : Type 0) (config : ConfigValue) (number : ℕ) (s m t : TurnState) 
             (λ i. (sym (lines_append more first.calls) i, sym (sent_append more first.calls) i, sym (received_append more first.calls) i, sym (ap (λ (x : OutsideState). x.moment) turn.calls) i)) both;
       }
 
-turns_reach : (A : Type 0) (config : ConfigValue) (number count : ℕ) (s t : TurnState) → Turns A config number count s t → (w : WorldState) (o : Opening) (T : List Step) → Stands w o T → o.config ≡ config
+turns_reach : (A : Type 0) (config : ConfigValue) (number places count : ℕ) (s t : TurnState) → Turns A config number places count s t → (w : WorldState) (o : Opening) (T : List Step) → Stands w o T → o.config ≡ config
     → HasNode w number s.node → w.clock ≡ s.outside.moment → GoesOnTo number s t w o T
-turns_reach A config number zero s t is w o T stand same has clock =
+turns_reach A config number places zero s t is w o T stand same has clock =
     subst (λ (x : TurnState). GoesOnTo number s x w o T) (sym is)
     (record { calls = []; asked = logged_none s.outside.log; reaches = stays_there number s.node s.outside.moment w o T stand has clock })
-turns_reach A config number (suc n) s t (between, turns, turn) w o T stand same has clock =
-    next_turn A config number s between t w o T stand same (turns_reach A config number n s between turns w o T stand same has clock) turn
+turns_reach A config number places (suc n) s t (between, turns, turn) w o T stand same has clock =
+    next_turn A config number places s between t w o T stand same (turns_reach A config number places n s between turns w o T stand same has clock) turn
 
 -- and that is a part
 pub turns_are_parts : (A : Type 0) → TurnsAreParts A
-turns_are_parts A config number count s t turns w o T stand same has clock =
-    let all = turns_reach A config number count s t turns w o T stand same has clock in
+turns_are_parts A config number places count s t turns w o T stand same has clock =
+    let all = turns_reach A config number places count s t turns w o T stand same has clock in
     let reaches = all.reaches in
     record {
       calls = all.calls;

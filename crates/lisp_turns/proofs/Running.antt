@@ -1,31 +1,67 @@
 -- What was asked of a node's outside from its start on is a network's part.
-use Rattle.std.proofs.Common.{ℕ, [], Some, sym, ap, ◌∙◌}
+use Rattle.std.proofs.Common.{◌≡◌, ℕ, List, [], false, Some, Ok, Err, refl, sym, ap, ◌∙◌}
 use Rattle.std.proofs.lemmas.List.{append-nil}
 use Rattle.lisp_policy.specs.Configuration.{ConfigValue}
-use Rattle.lisp_turns.specs.Beginning.{RunsAsPart}
+use Rattle.lisp_nonces.specs.Store.{StoreState}
+use Rattle.lisp_model.specs.Network.{IsNetwork}
+use Rattle.std.specs.Prelude.{IsTrue}
+use Rattle.lisp_turns.specs.Beginning.{Begins, IsUnasked, IsWholePart, RunsAsPart}
 use Rattle.lisp_turns.specs.Node.{NodeState}
-use Rattle.lisp_turns.specs.Outside.{OutsideState, logged}
-use Rattle.lisp_turns.specs.Stretch.{StartsTurns}
+use Rattle.lisp_turns.specs.Outside.{Call, OutsideState, logged}
+use Rattle.lisp_turns.specs.Stretch.{beginning, StartsTurns}
+use Rattle.lisp_turns.specs.Turn.{TurnState, UncutTurns, LosesTurn, hearing_calls}
+use Rattle.lisp_turns.specs.declared.turn.Uncommitted.{Uncommitted}
 use Rattle.lisp_turns.proofs.Turning.{turns_are}
-use Rattle.lisp_turns.proofs.Parts.{turns_are_parts}
+use Rattle.lisp_turns.proofs.Parts.{turns_are_parts, hearing_lines, hearing_sent}
 use Rattle.lisp_turns.proofs.Beginnings.{beginnings_open}
 
-pub runs_as_part : {A : Type 0} {config : ConfigValue} {number turns : ℕ} {begun node : NodeState} {before after : OutsideState}
-    → StartsTurns A config number turns begun node before after → RunsAsPart config number begun before after
-runs_as_part {A} {config} {number} {turns} {begun} starts = λ network store honest begins unasked.
-    let first = beginnings_open config number store begun network honest begins in
-    let opening = first.2 in
-    let on = turns_are_parts A config number starts.took.count _ _ (turns_are A config number _ _ _ starts.took.took) first.0 first.1 [] opening.stands opening.config_is opening.has (opening.clock ∙ sym unasked.1) in (
-      on.calls,
-      on.asked ∙ ap (logged on.calls) unasked.0 ∙ ap Some (append-nil on.calls),
+module _ (A : Type 0) (config : ConfigValue) (number places count : ℕ) (begun : NodeState) (before : OutsideState) (last : TurnState)
+    (took : UncutTurns A config number places count (beginning begun before) last) (network : IsNetwork config) (store : StoreState) (honest : IsTrue store.is_honest)
+    (begins : Begins config number store begun) (unasked : IsUnasked before) where
+  -- what was asked in turns
+  record AsksPart : Type 0 where
+    pub calls : List Call
+    pub asked : last.outside.log ≡ Some calls
+    pub part : IsWholePart config number store calls
+
+  asks_part : AsksPart
+  asks_part =
+      let first = beginnings_open config number store begun network honest begins in
+      let opening = first.2 in
+      let on = turns_are_parts A config number places count _ _ (turns_are A config number places _ _ _ took) first.0 first.1 [] opening.stands opening.config_is opening.has (opening.clock ∙ sym unasked.1) in
       record {
-        first = first.0;
-        opening = first.1;
-        config_is = opening.config_is;
-        kept = opening.kept;
-        unsent = opening.bag;
-        steps = on.steps;
-        left = on.left;
-        part = on.part;
-      },
+        calls = on.calls;
+        asked = on.asked ∙ ap (logged on.calls) unasked.0 ∙ ap Some (append-nil on.calls);
+        part = record {
+          first = first.0;
+          opening = first.1;
+          config_is = opening.config_is;
+          kept = opening.kept;
+          unsent = opening.bag;
+          steps = on.steps;
+          left = on.left;
+          part = on.part;
+        };
+      }
+
+-- all turns
+pub starts_as_part : {A : Type 0} {config : ConfigValue} {number places turns : ℕ} {begun node : NodeState} {before after : OutsideState}
+    → StartsTurns A config number places turns begun node before after → RunsAsPart config number begun before after (Ok tt)
+starts_as_part {A} {config} {number} {places} {turns} {begun} {node} {before} starts = λ network store honest begins unasked.
+    let part = asks_part A config number places starts.took.count begun before _ starts.took.took network store honest begins unasked in
+    (part.calls, [], part.asked, (refl, refl), refl, part.part)
+
+-- turns, and one that is lost
+pub loses_as_part : {A : Type 0} {config : ConfigValue} {number places turns : ℕ} {begun : NodeState} {before after : OutsideState} {why : Uncommitted}
+    → LosesTurn A config number places turns why.turns_left (beginning begun before) after → RunsAsPart config number begun before after (Err why)
+loses_as_part {A} {config} {number} {places} {turns} {begun} {before} {after} {why} loses = λ network store honest begins unasked.
+    let part = asks_part A config number places loses.count begun before loses.before loses.took network store honest begins unasked in
+    let turn = loses.lost in
+    let lost = hearing_calls turn.reception turn.now turn.dead turn.others turn.heard false in (
+      part.calls,
+      lost,
+      ap (λ (s : OutsideState). s.log) turn.calls ∙ ap (logged lost) part.asked,
+      (hearing_lines turn.reception turn.now turn.dead turn.others turn.heard false, hearing_sent turn.reception turn.now turn.dead turn.others turn.heard false),
+      tt,
+      part.part,
     )

@@ -1,5 +1,5 @@
 -- How a node that runs begins, and what it does from its start on.
-use Rattle.std.specs.Prelude.{◌≡◌, ℕ, ◌+◌, ◌<◌, IsTrue, List, [], length, Some}
+use Rattle.std.specs.Prelude.{◌≡◌, ℕ, ◌+◌, ◌<◌, IsTrue, List, [], length, Some, ◌++◌, Result, OnOk}
 use Rattle.lisp_policy.specs.Configuration.{ConfigValue}
 use Rattle.lisp_nonces.specs.Store.{StoreState}
 use Rattle.lisp_model.specs.Network.{IsNetwork}
@@ -9,7 +9,8 @@ use Rattle.lisp_refinement.specs.Stands.{Stands}
 use Rattle.lisp_world.specs.Making.{server_over, IsRouterOver, HasStarted}
 use Rattle.lisp_turns.specs.Node.{NodeState, Server, Router, HasNode}
 use Rattle.lisp_turns.specs.Outside.{Call, OutsideState}
-use Rattle.lisp_turns.specs.Part.{IsPart}
+use Rattle.lisp_turns.specs.Part.{IsPart, lines_of, sent_of}
+use Rattle.lisp_turns.specs.declared.turn.Uncommitted.{Uncommitted}
 
 -- the node with a number at its start, over a store: a Map-Server that holds nothing; or a router that started at the moment 0
 abbrev pub Begins : ConfigValue → ℕ → StoreState → NodeState → Type 0
@@ -50,8 +51,13 @@ pub record IsWholePart (config : ConfigValue) (number : ℕ) (store : StoreState
   pub left : WorldState
   pub part : IsPart number calls first left opening [] steps
 
--- so it is with what was asked so far, for each store over which the node began, if that is honest, in a network
-abbrev pub RunsAsPart : ConfigValue → ℕ → NodeState → OutsideState → OutsideState → Type 0
-RunsAsPart config number begun before after = IsNetwork config → (store : StoreState) → IsTrue store.is_honest
+-- what was asked in a turn that is lost: no line of an event, and no message
+abbrev pub IsMute : List Call → Type 0
+IsMute calls = (lines_of calls ≡ []) × (sent_of calls ≡ [])
+
+-- So it is with what was asked so far, for each store over which the node began, if that is honest, in a network. Of a turn that is
+-- lost others see nothing: to them its datagrams never arrived.
+abbrev pub RunsAsPart : ConfigValue → ℕ → NodeState → OutsideState → OutsideState → Result (Unit {0}) Uncommitted → Type 0
+RunsAsPart config number begun before after result = IsNetwork config → (store : StoreState) → IsTrue store.is_honest
     → Begins config number store begun → IsUnasked before
-    → (calls : List Call) × (after.log ≡ Some calls) × IsWholePart config number store calls
+    → (calls lost : List Call) × (after.log ≡ Some (lost ++ calls)) × IsMute lost × OnOk result (lost ≡ []) × IsWholePart config number store calls

@@ -8,5 +8,6 @@ pub mod Due
 pub mod Pause
 pub mod Turn
 pub mod Stretch
+pub mod Group
 pub mod Part
 pub mod Beginning

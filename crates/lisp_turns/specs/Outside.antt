@@ -1,4 +1,4 @@
--- What a node has outside: its socket, its clock and its lines; and what was asked of them and answered.
+-- What a node has outside: its socket, its clock, the commits of its store and its lines; and what was asked of them and answered.
 use Rattle.std.specs.Prelude.{◌≡◌, ℕ, ◌≤◌, Bool, List, [], ◌∷◌, ◌++◌, length, take, Option}
 use Rattle.std.specs.Option.{option_map}
 use Rattle.lisp_records.specs.declared.address.Addr.{Addr}
@@ -13,12 +13,15 @@ pub data Reception : Type 0 where
   Nothing : Reception
   Failed : Reception
 
--- something that was asked of what is outside, with the answer: a receive; a reading of the clock; a wait, in ms; a line; a
--- send of bytes to an address, and whether the socket took them
+-- something that was asked of what is outside, with the answer: a receive; a poll, which waits for nothing; a reading of the clock; a
+-- wait, in ms; a commit of what was saved, and whether that was done; a line; a send of bytes to an address, and whether the socket
+-- took them
 pub data Call : Type 0 where
   Receives : Reception → Call
+  Polls : Reception → Call
   Reads : ℕ → Call
   Waits : ℕ → Call
+  Commits : Bool → Call
   Prints : Printed → Call
   Sends : Addr → List ℕ → Bool → Call
 

@@ -14,7 +14,7 @@ use Rattle.lisp_refinement.specs.Events.{address_of}
 use Rattle.lisp_refinement.specs.Stands.{Stands}
 use Rattle.lisp_turns.specs.Act.{numbered}
 use Rattle.lisp_turns.specs.Node.{HasNode}
-use Rattle.lisp_turns.specs.Outside.{Call, Receives, Prints, Sends, Datagram, logged}
+use Rattle.lisp_turns.specs.Outside.{Call, Receives, Polls, Prints, Sends, Datagram, logged}
 use Rattle.lisp_turns.specs.Turn.{TurnState, Turns}
 use Rattle.lisp_turns.specs.declared.outside.Printed.TheVariants as printed
 
@@ -65,6 +65,7 @@ sent_of (_ ∷ calls) = sent_of calls
 abbrev pub received_of : List Call → List (Addr × List ℕ)
 received_of [] = []
 received_of (Receives (Datagram from bytes) ∷ calls) = (from, bytes) ∷ received_of calls
+received_of (Polls (Datagram from bytes) ∷ calls) = (from, bytes) ∷ received_of calls
 received_of (_ ∷ calls) = received_of calls
 
 -- a message as a datagram of a network
@@ -92,6 +93,6 @@ pub record GoesOn (number : ℕ) (s t : TurnState) (w : WorldState) (o : Opening
 
 -- so it is with each network and however many turns
 abbrev pub TurnsAreParts : Type 0 → Type 0
-TurnsAreParts A = (config : ConfigValue) (number count : ℕ) (s t : TurnState) → Turns A config number count s t
+TurnsAreParts A = (config : ConfigValue) (number places count : ℕ) (s t : TurnState) → Turns A config number places count s t
     → (w : WorldState) (o : Opening) (T : List Step) → Stands w o T → o.config ≡ config → HasNode w number s.node
     → w.clock ≡ s.outside.moment → GoesOn number s t w o T

@@ -1,5 +1,5 @@
 -- Stretches of a turn, and turns from the start on.
-use Rattle.std.specs.Prelude.{◌≡◌, ◌≢◌, ℕ, Bool, List, [], ◌∷◌, ◌++◌, length, Option}
+use Rattle.std.specs.Prelude.{◌≡◌, ◌≢◌, ℕ, Bool, true, false, List, [], ◌∷◌, ◌++◌, length, map, Option, Result, Ok, Err}
 use Rattle.std.specs.List.{All, AllByRecursion, AllPairs}
 use Rattle.lisp_records.specs.declared.address.Addr.{Addr}
 use Rattle.lisp_records.specs.declared.router.RouterId.{RouterId}
@@ -9,11 +9,12 @@ use Rattle.lisp_model.specs.Trace.{EventValue}
 use Rattle.lisp_turns.specs.Acts.{TurnAct, DoesAll, acts_calls, send_calls}
 use Rattle.lisp_turns.specs.Due.{IsDuty, IsSend, SendsDue}
 use Rattle.lisp_turns.specs.Node.{NodeState, TellsDead}
-use Rattle.lisp_turns.specs.Outside.{Reception, Call, Prints, OutsideState, logged}
+use Rattle.lisp_turns.specs.Outside.{Reception, Call, Polls, Prints, OutsideState, logged}
 use Rattle.lisp_turns.specs.Pause.{no_pause}
-use Rattle.lisp_turns.specs.Turn.{TurnState, Hears, expired_calls, failure_calls, receives_after, IsDone, DoesDuties, Serves, TakesTurns}
+use Rattle.lisp_turns.specs.Turn.{TurnState, Hears, IsGroup, commit_calls, expired_calls, failure_calls, receives_after, IsDone, DoesDuties, Serves, IsTurn, IsLostTurn, TakesTurns, LosesTurn}
 use Rattle.lisp_turns.specs.declared.outside.Printed.{Printed}
 use Rattle.lisp_turns.specs.declared.pause.Pause.{Pause}
+use Rattle.lisp_turns.specs.declared.turn.Uncommitted.{Uncommitted}
 use Rattle.lisp_turns.specs.declared.turn.Station.{Station}
 
 -- a node at its station, between turns
@@ -35,14 +36,23 @@ pub record Expires (old new : NodeState) (now : ℕ) (before after : OutsideStat
   pub told : TellsDead old new now dead
   pub asked : Asks before after (expired_calls dead)
 
--- a node took in what was received, at a moment: what it made of a datagram is told, and so is a failure, once a minute
-pub record TakesIn (A : Type 0) (config : ConfigValue) (number : ℕ) (old new : NodeState) (now : ℕ) (reception : Reception)
-    (receives left : Pause) (before after : OutsideState) : Type 0 where
+-- what was heard is told, and so is a failure of the socket, once a minute; nothing is, where the commit wasn't done
+abbrev pub told_calls : Bool → Reception → List TurnAct → Pause → ℕ → List Call
+told_calls true first heard receives now = acts_calls heard ++ failure_calls first receives now
+told_calls false first heard receives now = []
+
+-- a node heard what was received first, and a group of the datagrams that waited, at a moment; the commit of it was done or not; and
+-- what is told then was told
+pub record TakesIn (A : Type 0) (config : ConfigValue) (number places : ℕ) (old new : NodeState) (now : ℕ) (first : Reception)
+    (receives left : Pause) (before after : OutsideState) (done : Bool) : Type 0 where
+  pub others : List Reception
   pub heard : List TurnAct
-  pub hears : Hears number reception heard
+  pub group : IsGroup places first others
+  pub hears : Hears number (others ++ first ∷ []) heard
   pub did : DoesAll A config number old new now heard
-  pub left_is : left ≡ receives_after reception receives now
-  pub asked : Asks before after (acts_calls heard ++ failure_calls reception receives now)
+  pub some : done ≡ false → heard ≢ []
+  pub left_is : left ≡ receives_after first receives now
+  pub asked : Asks before after (told_calls done first heard receives now ++ commit_calls heard done ++ map Polls others)
 
 -- a node did what was due at a moment, until so many acts were done and told, of which none is due any more, and no other became due
 pub record HasServed (A : Type 0) (config : ConfigValue) (number : ℕ) (old new : NodeState) (now count : ℕ)
@@ -74,11 +84,26 @@ pub record ServesDue (A : Type 0) (config : ConfigValue) (number : ℕ) (old new
   pub serves : Serves number old new now pause left served
   pub asked : Asks before after (acts_calls served)
 
--- so many turns from a start on, with no failure before it, or fewer where a line couldn't be printed
-pub record StartsTurns (A : Type 0) (config : ConfigValue) (number turns : ℕ) (begun node : NodeState) (before after : OutsideState)
+-- a turn was taken, or was lost
+abbrev pub EndsTurn : Type 0 → ConfigValue → (number places : ℕ) → (old new : TurnState) → (done : Bool) → Type 0
+EndsTurn A config number places old new true = IsTurn A config number places old new
+EndsTurn A config number places old new false = IsLostTurn A config number places old new.outside
+
+-- a node that begins, with no failure before
+abbrev pub beginning : NodeState → OutsideState → TurnState
+beginning node outside = record { node = node; receives = no_pause; sends = no_pause; outside = outside }
+
+-- so many turns from a start on, or fewer where a line couldn't be printed
+pub record StartsTurns (A : Type 0) (config : ConfigValue) (number places turns : ℕ) (begun node : NodeState) (before after : OutsideState)
     : Type 0 where
   pub receives : Pause
   pub sends : Pause
-  pub took : TakesTurns A config number turns
-      (record { node = begun; receives = no_pause; sends = no_pause; outside = before })
+  pub took : TakesTurns A config number places turns (beginning begun before)
       (record { node = node; receives = receives; sends = sends; outside = after })
+
+-- turns from a start on: all of them, or until one is lost
+abbrev pub EndsTurns : Type 0 → ConfigValue → (number places turns : ℕ) → (begun node : NodeState) → (before after : OutsideState)
+    → Result (Unit {0}) Uncommitted → Type 0
+EndsTurns A config number places turns begun node before after (Ok _) = StartsTurns A config number places turns begun node before after
+EndsTurns A config number places turns begun node before after (Err lost) =
+    LosesTurn A config number places turns lost.turns_left (beginning begun before) after

@@ -1,6 +1,7 @@
--- A turn of a node: a datagram, if one comes; then what is due.
-use Rattle.std.specs.Prelude.{◌≡◌, ◌≢◌, ◌⊎◌, ℕ, zero, suc, ◌-◌, ◌^◌, ◌<◌, ◌≤◌, Bool, true, false, List, [], ◌∷◌, ◌++◌, length, map, if◌then◌else◌}
+-- A turn of a node: a group of datagrams, if one comes; then what is due.
+use Rattle.std.specs.Prelude.{◌≡◌, ◌≢◌, ◌⊎◌, ℕ, zero, suc, ◌-◌, ◌^◌, ◌<◌, ◌≤◌, Bool, true, false, List, [], ◌∷◌, ◌++◌, length, map, drop, ◌+◌, if◌then◌else◌}
 use Rattle.std.specs.List.{AllByRecursion, AllPairs}
+use Rattle.lisp_memory.specs.Refusal.{MachineMayRefuse}
 use Rattle.lisp_records.specs.declared.router.RouterId.{RouterId}
 use Rattle.lisp_records.specs.Address.{PrefixValue}
 use Rattle.lisp_records.specs.Moment.{second, max_moment}
@@ -9,7 +10,7 @@ use Rattle.lisp_model.specs.declared.event.Event.TheVariants as events
 use Rattle.lisp_turns.specs.Node.{NodeState, Passes, TellsDead}
 use Rattle.lisp_turns.specs.Acts.{TurnAct, DoesAll, acts_calls}
 use Rattle.lisp_turns.specs.Due.{IsDuty, IsSend, SendsDue, IsRefused, NothingDue}
-use Rattle.lisp_turns.specs.Outside.{Reception, Datagram, Failed, Call, Receives, Reads, Waits, Prints, OutsideState, logged}
+use Rattle.lisp_turns.specs.Outside.{Reception, Datagram, Failed, Call, Receives, Polls, Reads, Waits, Commits, Prints, OutsideState, logged}
 use Rattle.lisp_turns.specs.Pause.{may_try, is_told, failed}
 use Rattle.lisp_turns.specs.declared.outside.Printed.TheVariants as printed
 use Rattle.lisp_turns.specs.declared.outside.SocketCall.TheVariants as calls
@@ -22,10 +23,29 @@ pub record TurnState : Type 0 where
   pub sends : Pause
   pub outside : OutsideState
 
--- of a datagram the node makes one act, which is told: it is given the bytes as they came, from where they came
-abbrev pub Hears : ℕ → Reception → List TurnAct → Type 0
-Hears number (Datagram from bytes) acts = (a : TurnAct) × (acts ≡ a ∷ []) × (a.event ≡ events.Junk number from bytes) × (a.told ≡ true)
-Hears number _ acts = acts ≡ []
+-- of each datagram the node makes one act, which is told: it is given the bytes as they came, from where they came; the newest first
+abbrev pub Hears : ℕ → List Reception → List TurnAct → Type 0
+Hears number [] acts = acts ≡ []
+Hears number (Datagram from bytes ∷ earlier) acts = (a : TurnAct) × (rest : List TurnAct) × (acts ≡ a ∷ rest)
+    × (a.event ≡ events.Junk number from bytes) × (a.told ≡ true) × Hears number earlier rest
+Hears number (_ ∷ earlier) acts = Hears number earlier acts
+
+abbrev pub IsDatagram : Reception → Type 0
+IsDatagram (Datagram from bytes) = Unit {0}
+IsDatagram _ = ⊥
+
+-- the newest that was received is a datagram, if anything was
+abbrev pub EndsInDatagram : List Reception → Type 0
+EndsInDatagram [] = Unit {0}
+EndsInDatagram (newest ∷ earlier) = IsDatagram newest
+
+-- The group of a turn: behind the first datagram, those that waited already, until none did, or the group had so many places taken, or
+-- memory for one more was refused; the newest first. Where none came first, no more is asked for.
+pub record IsGroup (places : ℕ) (first : Reception) (others : List Reception) : Type 0 where
+  pub few : length others ≤ places - 1
+  pub some : IsDatagram first ⊎ (others ≡ [])
+  pub datagrams : AllByRecursion IsDatagram (drop 1 others)
+  pub full : IsDatagram first → EndsInDatagram others → (length others ≡ places - 1) ⊎ MachineMayRefuse
 
 -- a socket that failed is a line, once a minute, and a second's rest at the end of the turn; nothing else
 abbrev pub failure_calls : Reception → Pause → ℕ → List Call
@@ -82,38 +102,66 @@ Serves number before after now pause left acts = ServesIf (may_try pause now) nu
 abbrev pub expired_calls : List (RouterId × PrefixValue) → List Call
 expired_calls dead = map (λ key. Prints (printed.Expired key.0 key.1)) dead
 
--- what is asked outside in a turn, the newest first
-abbrev pub turn_calls : Reception → Pause → ℕ → (dead : List (RouterId × PrefixValue)) → (heard served : List TurnAct) → List Call
-turn_calls reception receives now dead heard served =
-    rest_calls reception ++ acts_calls served ++ acts_calls heard ++ failure_calls reception receives now
-    ++ expired_calls dead ++ Reads now ∷ Receives reception ∷ []
+-- what was heard is committed, if anything was
+abbrev pub commit_calls : List TurnAct → Bool → List Call
+commit_calls [] done = []
+commit_calls (a ∷ earlier) done = Commits done ∷ []
 
--- One turn. It takes one datagram at most, reads the clock once, drops the dead rows and tells each, makes of the datagram what
--- the node makes of it at that moment, and then does what is due.
-pub record IsTurn (A : Type 0) (config : ConfigValue) (number : ℕ) (old new : TurnState) : Type 0 where
-  pub reception : Reception
-  pub now : ℕ
+-- What is asked outside in a turn until what was heard is committed, the newest first: others see nothing of it, but that rows died.
+abbrev pub hearing_calls : (first : Reception) → ℕ → (dead : List (RouterId × PrefixValue)) → (others : List Reception) → List TurnAct → Bool → List Call
+hearing_calls first now dead others heard done =
+    commit_calls heard done ++ map Polls others ++ expired_calls dead ++ Reads now ∷ Receives first ∷ []
+
+-- and in a whole turn: the lines and the answers come behind the commit
+abbrev pub turn_calls : (first : Reception) → Pause → ℕ → (dead : List (RouterId × PrefixValue)) → (others : List Reception) → (heard served : List TurnAct) → List Call
+turn_calls first receives now dead others heard served =
+    rest_calls first ++ acts_calls served ++ acts_calls heard ++ failure_calls first receives now ++ hearing_calls first now dead others heard true
+
+-- What a node hears in a turn. It takes a datagram, if one comes, reads the clock once, drops the dead rows and tells each, takes the
+-- datagrams that wait, and makes of each what the node makes of it at that moment.
+pub record IsHearing (A : Type 0) (config : ConfigValue) (number places : ℕ) (old : TurnState) (between : NodeState) (now : ℕ)
+    (first : Reception) (dead : List (RouterId × PrefixValue)) (others : List Reception) (heard : List TurnAct) : Type 0 where
   pub later : old.outside.moment ≤ now
   pub bound : now ≤ max_moment
   pub passed : NodeState
-  pub dead : List (RouterId × PrefixValue)
   pub expires : TellsDead old.node passed now dead
-  pub heard : List TurnAct
-  pub hears : Hears number reception heard
-  pub between : NodeState
+  pub group : IsGroup places first others
+  pub hears : Hears number (others ++ first ∷ []) heard
   pub did_hear : DoesAll A config number passed between now heard
+
+-- One turn: what it hears is committed, and then told, and then it does what is due.
+pub record IsTurn (A : Type 0) (config : ConfigValue) (number places : ℕ) (old new : TurnState) : Type 0 where
+  pub reception : Reception
+  pub now : ℕ
+  pub dead : List (RouterId × PrefixValue)
+  pub others : List Reception
+  pub heard : List TurnAct
+  pub between : NodeState
+  pub hearing : IsHearing A config number places old between now reception dead others heard
   pub left : NodeState
   pub withdrawn : Passes between left now
   pub receives : new.receives ≡ receives_after reception old.receives now
   pub served : List TurnAct
   pub did_serve : DoesAll A config number left new.node now served
   pub serves : Serves number left new.node now old.sends new.sends served
-  pub calls : new.outside ≡ record { log = logged (turn_calls reception old.receives now dead heard served) old.outside.log; moment = now; is_cut = new.outside.is_cut }
+  pub calls : new.outside ≡ record { log = logged (turn_calls reception old.receives now dead others heard served) old.outside.log; moment = now; is_cut = new.outside.is_cut }
+
+-- A turn that is lost: what it heard couldn't be committed. No line of it and no answer goes out, and no turn follows it.
+pub record IsLostTurn (A : Type 0) (config : ConfigValue) (number places : ℕ) (old : TurnState) (outside : OutsideState) : Type 0 where
+  pub reception : Reception
+  pub now : ℕ
+  pub dead : List (RouterId × PrefixValue)
+  pub others : List Reception
+  pub heard : List TurnAct
+  pub between : NodeState
+  pub hearing : IsHearing A config number places old between now reception dead others heard
+  pub some : heard ≢ []
+  pub calls : outside ≡ record { log = logged (hearing_calls reception now dead others heard false) old.outside.log; moment = now; is_cut = outside.is_cut }
 
 -- so many turns
-abbrev pub Turns : Type 0 → ConfigValue → ℕ → ℕ → TurnState → TurnState → Type 0
-Turns A config number zero old new = new ≡ old
-Turns A config number (suc n) old new = (between : TurnState) × Turns A config number n old between × IsTurn A config number between new
+abbrev pub Turns : Type 0 → ConfigValue → ℕ → ℕ → ℕ → TurnState → TurnState → Type 0
+Turns A config number places zero old new = new ≡ old
+Turns A config number places (suc n) old new = (between : TurnState) × Turns A config number places n old between × IsTurn A config number places between new
 
 -- each line of so many turns could be printed
 abbrev pub IsUncut : ℕ → TurnState → Type 0
@@ -121,14 +169,23 @@ IsUncut zero s = Unit {0}
 IsUncut (suc n) s = s.outside.is_cut ≡ false
 
 -- so many turns, each of which but the first follows one whose lines could be printed
-abbrev pub UncutTurns : Type 0 → ConfigValue → ℕ → ℕ → TurnState → TurnState → Type 0
-UncutTurns A config number zero old new = new ≡ old
-UncutTurns A config number (suc n) old new = (between : TurnState) × UncutTurns A config number n old between × IsUncut n between
-    × IsTurn A config number between new
+abbrev pub UncutTurns : Type 0 → ConfigValue → ℕ → ℕ → ℕ → TurnState → TurnState → Type 0
+UncutTurns A config number places zero old new = new ≡ old
+UncutTurns A config number places (suc n) old new = (between : TurnState) × UncutTurns A config number places n old between × IsUncut n between
+    × IsTurn A config number places between new
 
 -- so many turns, or fewer where a line couldn't be printed, and then none after it
-pub record TakesTurns (A : Type 0) (config : ConfigValue) (number turns : ℕ) (old new : TurnState) : Type 0 where
+pub record TakesTurns (A : Type 0) (config : ConfigValue) (number places turns : ℕ) (old new : TurnState) : Type 0 where
   pub count : ℕ
   pub few : count ≤ turns
-  pub took : UncutTurns A config number count old new
+  pub took : UncutTurns A config number places count old new
   pub cut : count < turns → new.outside.is_cut ≡ true
+
+-- turns, and then one that is lost, behind which so many are left
+pub record LosesTurn (A : Type 0) (config : ConfigValue) (number places turns left : ℕ) (old : TurnState) (outside : OutsideState) : Type 0 where
+  pub count : ℕ
+  pub counted : count + 1 + left ≡ turns
+  pub before : TurnState
+  pub took : UncutTurns A config number places count old before
+  pub uncut : IsUncut count before
+  pub lost : IsLostTurn A config number places before outside

@@ -7,6 +7,7 @@ mod act;
 mod outside;
 mod pause;
 mod place;
+mod telling;
 
 // The nodes.
 mod node;
@@ -14,11 +15,12 @@ mod router;
 mod server;
 
 // Their turns.
+mod group;
 pub mod laws;
 mod turn;
 
 pub use act::Act;
 pub use node::Node;
-pub use outside::{Clock, Endpoint, Lines, Outside, Printed, Received, SocketCall};
+pub use outside::{Clock, Commit, Endpoint, Lines, Outside, Printed, Received, SocketCall};
 pub use place::Place;
-pub use turn::take_turns;
+pub use turn::{Uncommitted, take_turns};

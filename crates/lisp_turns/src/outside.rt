@@ -1,7 +1,7 @@
-//! What a node has outside: a socket, a clock, and where its lines go. A node is proved over any that keep these contracts.
+//! What a node has outside: a socket, a clock, the commits of its store, and where its lines go. A node is proved over any that keep these contracts.
 
 ghost use Rattle.std.specs.Prelude.{◌≡◌, length};
-ghost use Rattle.lisp_turns.specs.Outside.{OutsideState, Logs, LogsLine, ReadsClock, reception, FitsBuffer, Receives, Waits, Sends};
+ghost use Rattle.lisp_turns.specs.Outside.{OutsideState, Logs, LogsLine, ReadsClock, reception, FitsBuffer, Receives, Polls, Commits, Waits, Sends};
 
 use lisp_model::Line;
 use lisp_records::{Addr, Prefix, RouterId};
@@ -68,6 +68,12 @@ pub trait Endpoint: Outside {
         ensures within { FitsBuffer result buffer.new }
         ensures room { length buffer.new ≡ length buffer.old };
 
+    /// The next datagram that waits already, taken into `buffer`; `Nothing` where none does. It waits for none.
+    fn poll(&mut self, buffer: &mut [u8]) -> Received
+        ensures asked { Logs (Self.seen self.old) (Self.seen self.new) (Polls (reception result buffer.new)) }
+        ensures within { FitsBuffer result buffer.new }
+        ensures room { length buffer.new ≡ length buffer.old };
+
     /// Sends a message to an address; whether the socket took it.
     fn send(&mut self, to: &Addr, message: &[u8]) -> bool
         ensures { Logs (Self.seen self.old) (Self.seen self.new) (Sends to.now message.now result) };
@@ -82,6 +88,14 @@ pub trait Clock: Outside {
     /// Lets so many ms pass.
     fn wait(&mut self, ms: u64)
         ensures { Logs (Self.seen self.old) (Self.seen self.new) (Waits ms) };
+}
+
+/// Where what a node's store saved is committed.
+pub trait Commit: Outside {
+    /// Commits what was saved since the last commit, so that no crash takes it away; whether that was done. Where it wasn't, it is
+    /// open what the store keeps of it.
+    fn commit(&mut self) -> bool
+        ensures { Logs (Self.seen self.old) (Self.seen self.new) (Commits result) };
 }
 
 /// Where a node's lines go.

@@ -5,15 +5,15 @@ ghost use Rattle.lisp_records.specs.Moment.{max_moment};
 ghost use Rattle.lisp_turns.specs.Node.{IsPlaced, Passes};
 ghost use Rattle.lisp_turns.specs.Outside.{FitsBuffer, reception};
 ghost use Rattle.lisp_turns.specs.Beginning.{RunsAsPart};
-ghost use Rattle.lisp_turns.specs.Turn.{IsTurn, rest_calls};
-ghost use Rattle.lisp_turns.specs.Stretch.{Asks, Expires, Tells, TakesIn, ServesAll, ServesDue, StartsTurns, at_station};
+ghost use Rattle.lisp_turns.specs.Turn.{rest_calls};
+ghost use Rattle.lisp_turns.specs.Stretch.{Asks, Expires, TakesIn, ServesAll, ServesDue, EndsTurn, EndsTurns, at_station};
 
-use crate::act::Act;
+use crate::group::{hear, hear_others, tell_others};
 use crate::node::Node;
-use crate::outside::{Clock, Endpoint, Lines, Printed, Received, SocketCall};
+use crate::outside::{Clock, Commit, Endpoint, Lines, Printed, Received, SocketCall};
 use crate::pause::{Pause, RETRY_MS};
 use crate::place::Place;
-use lisp_records::{Addr, Bytes};
+use crate::telling::tell;
 use std::alloc::Global;
 
 /// The most bytes of a datagram.
@@ -23,62 +23,87 @@ const MOST_BYTES: usize = 65_535;
 #[derive(Drop)]
 struct Station<'a> {
     place: Place<'a>,
+    // How many datagrams a turn takes at most, but at least one.
+    places: usize,
     // When a failure of its socket is told again.
     receives: Pause,
     // When what is due is tried again after it was refused, and that is told again.
     sends: Pause,
 }
 
+/// A turn was lost: what it heard couldn't be committed. The node has to begin anew over its store.
+#[derive(Clone, Copy, Debug, PartialEq, Eq)]
+pub struct Uncommitted {
+    /// How many turns were left behind it.
+    pub turns_left: u64,
+}
+
 /// Takes so many turns, from a node's start on; none after one in which a line couldn't be printed. A turn takes one datagram,
-/// or none where none comes in time, drops the rows that are dead, answers the datagram to where it came from, and then sends
-/// what is due: a Map-Register of each part of a router's database to each Map-Server, at most one of each, or each notice of
-/// a Map-Server (RFC 9301 sections 5.7 and 8.2), until one is refused. Each event is a line, and so is each row that dies. A
-/// socket that fails is a line, too, once a minute, and a second's rest; what was refused is tried again a second later, and
-/// told once a minute.
-pub fn take_turns<N: Node, O: Endpoint + Clock + Lines>(
+/// or none where none comes in time, and then those that wait already, `places` in all, at least one; drops the rows that are dead;
+/// commits what the node saved; answers each datagram to where it came from, in their order; and then sends what is due: a Map-Register
+/// of each part of a router's database to each Map-Server, at most one of each, or each notice of a Map-Server (RFC 9301 sections 5.7
+/// and 8.2), until one is refused. Each event is a line, and so is each row that dies. No line of a datagram and no answer goes out
+/// before the commit. A socket that fails is a line, too, once a minute, and a second's rest; what was refused is tried again a second
+/// later, and told once a minute.
+///
+/// `Uncommitted` where the commit of a turn failed: no line of a datagram of that turn and no answer went out, and no turn follows it.
+pub fn take_turns<N: Node, O: Endpoint + Clock + Commit + Lines>(
+    alloc: Global,
     node: &mut N,
     place: &Place,
+    places: usize,
     turns: u64,
     outside: &mut O,
-)
+) -> Result<(), Uncommitted>
     requires { IsPlaced place.now.config.now place.now.number (N.state node.old) }
-    ensures turns { StartsTurns Global place.now.config.now place.now.number turns (N.state node.old) (N.state node.new) (O.seen outside.old) (O.seen outside.new) }
-    ensures part { RunsAsPart place.now.config.now place.now.number (N.state node.old) (O.seen outside.old) (O.seen outside.new) }
+    ensures turns { EndsTurns Global place.now.config.now place.now.number places turns (N.state node.old) (N.state node.new) (O.seen outside.old) (O.seen outside.new) result }
+    ensures part { RunsAsPart place.now.config.now place.now.number (N.state node.old) (O.seen outside.old) (O.seen outside.new) result }
     ensures placed { IsPlaced place.now.config.now place.now.number (N.state node.new) }
 {
     let mut station = Station {
         place: *place,
+        places,
         receives: Pause::NONE,
         sends: Pause::NONE,
     };
     let mut buffer = [0; MOST_BYTES];
-    for _ in 0..turns {
-        turn(node, &mut station, &mut buffer, outside);
+    for number in 0..turns {
+        if !turn(alloc, node, &mut station, &mut buffer, outside) {
+            let turns_left = turns - number - 1;
+            return Err(Uncommitted { turns_left });
+        }
         if outside.is_cut() {
-            return;
+            return Ok(());
         }
     }
+    Ok(())
 }
 
-// A datagram is taken into `buffer` and answered, and what is due is sent.
-fn turn<N: Node, O: Endpoint + Clock + Lines>(
+// Datagrams are taken into `buffer` and answered, and what is due is sent. Whether what it heard was committed: where it wasn't,
+// it ends there.
+fn turn<N: Node, O: Endpoint + Clock + Commit + Lines>(
+    alloc: Global,
     node: &mut N,
     station: &mut Station,
     buffer: &mut [u8],
     outside: &mut O,
-)
+) -> bool
     requires { IsPlaced station.old.place.config.now station.old.place.number (N.state node.old) }
-    ensures turn { IsTurn Global station.old.place.config.now station.old.place.number (at_station (N.state node.old) station.old (O.seen outside.old)) (at_station (N.state node.new) station.new (O.seen outside.new)) }
+    ensures turn { EndsTurn Global station.old.place.config.now station.old.place.number station.old.places (at_station (N.state node.old) station.old (O.seen outside.old)) (at_station (N.state node.new) station.new (O.seen outside.new)) result }
     ensures placed { IsPlaced station.old.place.config.now station.old.place.number (N.state node.new) }
     ensures place { station.new.place ≡ station.old.place }
+    ensures places { station.new.places ≡ station.old.places }
 {
     let received = outside.receive(buffer);
     let now = outside.now();
     expire(node, now, outside);
-    take_in(node, station, received, buffer, now, outside);
+    if !take_in(alloc, node, station, received, buffer, now, outside) {
+        return false;
+    }
     drop_withdrawn(node, now);
     serve_due(node, station, now, outside);
     rest(received, outside);
+    true
 }
 
 // Time passes, and each row that dies is told.
@@ -100,27 +125,43 @@ fn drop_withdrawn<N: Node>(node: &mut N, now: u64)
     while let Some(_withdrawn) = node.expire(now) {}
 }
 
-// What was received, in a buffer, is heard, or told as a failure.
-fn take_in<N: Node, O: Endpoint + Lines>(
+// What was received, in a buffer, is heard with what waits, committed and then told; or it is told as a failure. Whether what was
+// heard was committed: where it wasn't, nothing is told.
+fn take_in<N: Node, O: Endpoint + Commit + Lines>(
+    alloc: Global,
     node: &mut N,
     station: &mut Station,
     received: Received,
-    bytes: &[u8],
+    buffer: &mut [u8],
     now: u64,
     outside: &mut O,
-)
+) -> bool
     requires bound { now ≤ max_moment }
-    requires within { FitsBuffer received bytes.now }
+    requires within { FitsBuffer received buffer.old }
     requires placed { IsPlaced station.old.place.config.now station.old.place.number (N.state node.old) }
-    ensures takes { TakesIn Global station.old.place.config.now station.old.place.number (N.state node.old) (N.state node.new) now (reception received bytes.now) station.old.receives station.new.receives (O.seen outside.old) (O.seen outside.new) }
+    ensures takes { TakesIn Global station.old.place.config.now station.old.place.number station.old.places (N.state node.old) (N.state node.new) now (reception received buffer.old) station.old.receives station.new.receives (O.seen outside.old) (O.seen outside.new) result }
     ensures placed { IsPlaced station.old.place.config.now station.old.place.number (N.state node.new) }
     ensures place { station.new.place ≡ station.old.place }
+    ensures places { station.new.places ≡ station.old.places }
     ensures sends { station.new.sends ≡ station.old.sends }
 {
     match received {
         Received::Datagram { from, count } => {
-            let Act { line, message } = node.hear(&station.place, from, &bytes[..count], now);
-            tell(&Printed::Heard { line, from }, &message, outside);
+            let first = hear(node, &station.place, from, &buffer[..count], now);
+            let others = hear_others(
+                alloc,
+                node,
+                &station.place,
+                station.places,
+                buffer,
+                now,
+                outside,
+            );
+            if !outside.commit() {
+                return false;
+            }
+            first.tell(outside);
+            tell_others(&others, outside);
         }
         Received::Nothing => {}
         Received::Failed => {
@@ -129,6 +170,7 @@ fn take_in<N: Node, O: Endpoint + Lines>(
             }
         }
     }
+    true
 }
 
 // Does what is due, but for a second after something that was due was refused.
@@ -143,6 +185,7 @@ fn serve_due<N: Node, O: Endpoint + Lines>(
     ensures serves { ServesDue Global station.old.place.config.now station.old.place.number (N.state node.old) (N.state node.new) now station.old.sends station.new.sends (O.seen outside.old) (O.seen outside.new) }
     ensures placed { IsPlaced station.old.place.config.now station.old.place.number (N.state node.new) }
     ensures place { station.new.place ≡ station.old.place }
+    ensures places { station.new.places ≡ station.old.places }
     ensures receives { station.new.receives ≡ station.old.receives }
 {
     if station.sends.may_try(now) {
@@ -162,6 +205,7 @@ fn serve_all<N: Node, O: Endpoint + Lines>(
     ensures serves { ServesAll Global station.old.place.config.now station.old.place.number (N.state node.old) (N.state node.new) now station.old.sends station.new.sends (O.seen outside.old) (O.seen outside.new) }
     ensures placed { IsPlaced station.old.place.config.now station.old.place.number (N.state node.new) }
     ensures place { station.new.place ≡ station.old.place }
+    ensures places { station.new.places ≡ station.old.places }
     ensures receives { station.new.receives ≡ station.old.receives }
 {
     for _ in 0..u64::MAX {
@@ -175,18 +219,6 @@ fn serve_all<N: Node, O: Endpoint + Lines>(
             return;
         }
         tell(&Printed::Event(act.line), &act.message, outside);
-    }
-}
-
-// Prints a line, and then sends the message behind it, if there is one. A socket that fails is a line, too.
-fn tell<O: Endpoint + Lines>(line: &Printed, message: &Option<(Addr, Bytes)>, outside: &mut O)
-    ensures { Tells (O.seen outside.old) (O.seen outside.new) line.now message.now }
-{
-    outside.print(line);
-    if let Some((to, message)) = message {
-        if !outside.send(to, message.as_slice()) {
-            outside.print(&Printed::Failed(SocketCall::Send));
-        }
     }
 }
 

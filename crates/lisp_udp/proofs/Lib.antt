@@ -1,3 +1,4 @@
+pub mod LivesInOrder
 pub mod Written
 pub mod Places
 pub mod Sending

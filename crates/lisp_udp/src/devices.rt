@@ -3,12 +3,14 @@
 ghost use Rattle.std.specs.Prelude.{None};
 ghost use Rattle.lisp_udp.specs.Moments.{moment_of};
 
+use crate::group::Group;
 use crate::printer::Printer;
 use crate::socket::NodeSocket;
 use crate::stopwatch::Stopwatch;
+use lisp_database_store::SystemTable;
 use lisp_records::Addr;
 use lisp_script::RunFault;
-use lisp_turns::{Clock, Endpoint, Lines, Outside, Printed, Received};
+use lisp_turns::{Clock, Commit, Endpoint, Lines, Outside, Printed, Received};
 use std::net::Net;
 use std::thread;
 use std::time::Duration;
@@ -18,23 +20,27 @@ const RECEIVE_TIMEOUT_MS: u64 = 100;
 
 /// A node's socket, its clock, and where its lines go. Of what the system makes of their calls nothing is known.
 #[derive(Drop)]
-pub(crate) struct Devices<'a, R, P> {
+pub(crate) struct Devices<'a, R, T, P> {
     rt: &'a R,
     socket: NodeSocket,
+    // None where each datagram is taken alone, and each save is committed by itself.
+    group: Option<Group<'a, T>>,
     stopwatch: Stopwatch,
     printer: P,
 }
 
-impl<'a, R: Net + std::time::Clock, P: Printer + Drop> Devices<'a, R, P> {
-    /// Those of a node at an address; it is 0 ms now. Fault: 92.
+impl<'a, R: Net + std::time::Clock, T: SystemTable, P: Printer + Drop> Devices<'a, R, T, P> {
+    /// Those of a node at an address, which takes datagrams in groups where there is a `group`; it is 0 ms now. Fault: 92.
     pub(crate) fn open(
         rt: &'a R,
         address: &Addr,
+        group: Option<Group<'a, T>>,
         printer: P,
-    ) -> Result<Devices<'a, R, P>, RunFault> {
+    ) -> Result<Devices<'a, R, T, P>, RunFault> {
         Ok(Devices {
             rt,
             socket: NodeSocket::bind(rt, address, RECEIVE_TIMEOUT_MS)?,
+            group,
             stopwatch: Stopwatch::start(rt)?,
             printer,
         })
@@ -46,13 +52,23 @@ impl<'a, R: Net + std::time::Clock, P: Printer + Drop> Devices<'a, R, P> {
     }
 }
 
-impl<R, P: Printer> Outside for Devices<'_, R, P> {
+impl<R, T, P: Printer> Outside for Devices<'_, R, T, P> {
     ghost seen = { λ d. record { log = None; moment = moment_of d.stopwatch.last; is_cut = P.cut d.printer } };
 }
 
-impl<R, P: Printer> Endpoint for Devices<'_, R, P> {
+impl<R, T: SystemTable, P: Printer> Endpoint for Devices<'_, R, T, P> {
     fn receive(&mut self, buffer: &mut [u8]) -> Received {
-        self.socket.receive(buffer)
+        match &mut self.group {
+            None => self.socket.receive(buffer),
+            Some(group) => group.receive(&mut self.socket, buffer),
+        }
+    }
+
+    fn poll(&mut self, buffer: &mut [u8]) -> Received {
+        match &mut self.group {
+            None => self.socket.poll(buffer),
+            Some(group) => group.poll(&mut self.socket, buffer),
+        }
     }
 
     fn send(&mut self, to: &Addr, message: &[u8]) -> bool {
@@ -60,7 +76,17 @@ impl<R, P: Printer> Endpoint for Devices<'_, R, P> {
     }
 }
 
-impl<R: std::time::Clock, P: Printer> Clock for Devices<'_, R, P> {
+impl<R, T: SystemTable, P: Printer> Commit for Devices<'_, R, T, P> {
+    /// Does nothing where each save is committed by itself.
+    fn commit(&mut self) -> bool {
+        match &self.group {
+            None => true,
+            Some(group) => group.commit(),
+        }
+    }
+}
+
+impl<R: std::time::Clock, T, P: Printer> Clock for Devices<'_, R, T, P> {
     fn now(&mut self) -> u64 {
         let now = self.stopwatch.now(self.rt);
         self.printer.pass(now);
@@ -72,7 +98,7 @@ impl<R: std::time::Clock, P: Printer> Clock for Devices<'_, R, P> {
     }
 }
 
-impl<R, P: Printer> Lines for Devices<'_, R, P> {
+impl<R, T, P: Printer> Lines for Devices<'_, R, T, P> {
     fn print(&mut self, line: &Printed) {
         self.printer
             .print(line, self.socket.failure(), self.stopwatch.told());

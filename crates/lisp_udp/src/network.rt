@@ -1,6 +1,6 @@
 //! A network whose datagrams go over sockets.
 
-ghost use Rattle.std.specs.Prelude.{◌≡◌, ◌+◌, IfOk, OnOk, length, map, drop};
+ghost use Rattle.std.specs.Prelude.{◌≡◌, IfOk, OnOk, length, map, drop};
 ghost use Rattle.lisp_player.specs.Playing.{Wrote};
 ghost use Rattle.lisp_script.specs.Command.{command_value};
 ghost use Rattle.lisp_udp.specs.Network.{awaited, TellsAwaited, SendsAll, TakesCommand};
@@ -11,6 +11,8 @@ use crate::datagrams::Sockets;
 use crate::entry::entry_at;
 use crate::folder::{LockedFolder, open_folder};
 use crate::output::flush;
+use crate::storage::Storage;
+use lisp_database_store::{DatabaseStore, SystemTable};
 use lisp_memory::{FallibleVec, Memory};
 use lisp_model::Event;
 use lisp_nonces::WorldStore;
@@ -26,41 +28,48 @@ use std::fs::{File, Files};
 use std::io::{ErrorKind, Write};
 use std::net::Net;
 
-/// Plays a script over a network whose nodes keep their nonces in the folders `dir`/NAME, and send each datagram for a node
-/// over UDP too. `deliver K` takes the next datagram that comes to where datagram K was sent, within 1,000 ms: where it is
+/// Plays a script over a network whose nodes keep their nonces in the folders `dir`/NAME, in files or databases, and send each datagram
+/// for a node over UDP too. `deliver K` takes the next datagram that comes to where datagram K was sent, within 1,000 ms: where it is
 /// datagram K, byte for byte, the event is taken, else it prints `lost K`. Where datagram K isn't there, or goes to no node,
-/// the event is taken at once. Every other command is taken as `play` takes it. A socket that fails is the line
-/// `refused NAME 90` (receive) or 91 (send), and it goes on.
+/// the event is taken at once. Every other command is taken as `play` takes it, so a save is committed by itself, whatever the group. A
+/// socket that fails is the line `refused NAME 90` (receive) or 91 (send), and it goes on.
 ///
 /// Faults, in this order: those of the configuration's file (93, 87, 89, 95, then its own); of the script's file (93, 87,
-/// 89, 95, then that of its first faulty line); 93 for the folders; 74 to 76 where no network can be made; 92 for the
-/// sockets; 88 where a line can't be written. 97 is out of memory.
-pub fn run_loop<R: Files<File = File> + Net + AllocGlobal + Clone + Drop, W: Write>(
-    rt: &R,
+/// 89, 95, then that of its first faulty line); 93 for the folders, then for what is in them, as for `run_server`; 74 to 76 where no
+/// network can be made; 92 for the sockets; 88 where a line can't be written. 97 is out of memory.
+pub fn run_loop<T: SystemTable, W: Write>(
+    rt: &HostRuntime,
     config: &str,
     file: &str,
     dir: &str,
+    storage: Storage,
     writer: &mut W,
 ) -> Result<(), RunFault> {
     let config = read_config(rt, config)?;
-    run_script(rt, &config, file, dir, writer)
+    run_script::<T, W>(rt, &config, file, dir, storage, writer)
 }
 
-fn run_script<R: Files<File = File> + Net + AllocGlobal + Clone + Drop, W: Write>(
-    rt: &R,
+fn run_script<T: SystemTable, W: Write>(
+    rt: &HostRuntime,
     config: &Config,
     file: &str,
     dir: &str,
+    storage: Storage,
     writer: &mut W,
 ) -> Result<(), RunFault> {
     let commands = read_script(rt, config, file)?;
     let failure = Cell::new(None);
-    // The locks keep other processes out of the folders.
-    let Folders {
-        stores,
-        locks: _locks,
-    } = open_folders(rt, config, dir, &failure)?;
-    run_over(rt, config, stores, &commands, writer)
+    let folders = open_folders(rt, config, dir)?;
+    match storage {
+        Storage::Files => {
+            let stores = file_stores(rt, &folders, &failure)?;
+            run_over(rt, config, stores, &commands, writer)
+        }
+        Storage::Database { .. } => {
+            let stores = database_stores::<T>(rt, &folders, &failure)?;
+            run_over(rt, config, stores, &commands, writer)
+        }
+    }
 }
 
 // Runs commands in the network over the stores, with a socket for each node. Faults: 74 to 76, 92, 97, 88.
@@ -84,43 +93,49 @@ fn run_over<R: Net + AllocGlobal, S: WorldStore + Drop, W: Write>(
     network.run(commands, writer)
 }
 
-/// The stores of all nodes, Map-Servers first, and the locks of their folders.
-#[derive(Drop)]
-struct Folders<'a, R> {
-    stores: Vec<FileStore<SystemFolder<'a, R>>>,
-    locks: Vec<File>,
-}
-
-// The folder of each node. `failure` holds the kind of the last error of their devices.
-fn open_folders<'a, R: Files<File = File> + AllocGlobal + Clone + Drop>(
+// The folder of each node, Map-Servers first.
+fn open_folders<R: Files<File = File> + AllocGlobal>(
     rt: &R,
     config: &Config,
     dir: &str,
-    failure: &'a Cell<Option<ErrorKind>>,
-) -> Result<Folders<'a, R>, RunFault>
-    ensures { IfOk result (λ folders. length folders.stores.items ≡ node_count config.now) }
+) -> Result<Vec<LockedFolder>, RunFault>
+    ensures { IfOk result (λ folders. length folders.items ≡ node_count config.now) }
 {
-    let mut folders = Folders {
-        stores: Vec::new(rt.alloc()),
-        locks: Vec::new(rt.alloc()),
-    };
+    let mut folders = Vec::new(rt.alloc());
     for number in 0..config.node_count() {
-        let folder = open_folder(rt, dir, entry_at(config, number).name, failure)?;
-        folders.add(folder)?;
+        folders.try_push(open_folder(rt, dir, entry_at(config, number).name)?)?;
     }
     Ok(folders)
 }
 
-impl<'a, R: Drop> Folders<'a, R> {
-    // Another folder, too. Fault: 97.
-    fn add(&mut self, folder: LockedFolder<'a, R>) -> Result<(), RunFault>
-        ensures { OnOk result (length self.new.stores.items ≡ length self.old.stores.items + 1) }
-    {
-        let LockedFolder { store, lock, .. } = folder;
-        self.stores.try_push(store)?;
-        self.locks.try_push(lock)?;
-        Ok(())
+// A store in the files of each folder. `failure` holds the kind of the last error of their devices.
+fn file_stores<'a>(
+    rt: &HostRuntime,
+    folders: &Vec<LockedFolder>,
+    failure: &'a Cell<Option<ErrorKind>>,
+) -> Result<Vec<FileStore<SystemFolder<'a, HostRuntime>>>, RunFault>
+    ensures { IfOk result (λ stores. length stores.items ≡ length folders.now.items) }
+{
+    let mut stores = Vec::new(rt.alloc());
+    for folder in folders {
+        stores.try_push(folder.file_store(rt, failure)?)?;
     }
+    Ok(stores)
+}
+
+// A store in a database of each folder. `failure` holds the kind of the last error of their devices.
+fn database_stores<'a, T: SystemTable>(
+    rt: &HostRuntime,
+    folders: &Vec<LockedFolder>,
+    failure: &'a Cell<Option<ErrorKind>>,
+) -> Result<Vec<DatabaseStore<'a, T>>, RunFault>
+    ensures { IfOk result (λ stores. length stores.items ≡ length folders.now.items) }
+{
+    let mut stores = Vec::new(rt.alloc());
+    for folder in folders {
+        stores.try_push(DatabaseStore::over(folder.database(rt)?, failure))?;
+    }
+    Ok(stores)
 }
 
 /// A network that runs.

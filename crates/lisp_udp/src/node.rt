@@ -1,145 +1,148 @@
 //! A node of either kind that runs: a Map-Server or a site router, on its socket and over its folder.
 
-ghost use Rattle.std.specs.Prelude.{◌≡◌, Err, IsErr, IfOk, IfErr, OnOk};
-ghost use Rattle.lisp_nonces.specs.Store.{StoreState};
-ghost use Rattle.lisp_turns.specs.Beginning.{Begins};
-ghost use Rattle.lisp_turns.specs.Node.{IsPlaced};
 ghost use Rattle.lisp_udp.specs.Nodes.{IsNode};
-ghost use Rattle.lisp_udp.specs.Running.{RunsOver, TakesItsTurns};
 
 use crate::devices::Devices;
 use crate::entry::{NodeKind, entry_at, number_named, servers_of};
-use crate::folder::{LockedFolder, open_folder};
+use crate::folder::open_folder;
+use crate::group::Group;
 use crate::journal::Journal;
+use crate::life::run_over;
 use crate::line_writer::LineWriter;
-use crate::router::start_router;
-use crate::server::start_server;
+use crate::lives::live;
+use crate::printer::Printer;
+use crate::storage::{NodeStore, Storage};
+use lisp_database_store::{DatabaseStore, SharedDatabase, SystemTable};
 use lisp_nonces::WorldStore;
 use lisp_script::{RunFault, read_config};
 use lisp_sites::Config;
-use lisp_turns::{Endpoint, Lines, Node, Place, take_turns};
-use std::alloc::Global;
 use std::cell::Cell;
-use std::fs::{File, Files};
-use std::io::Write;
-use std::net::Net;
-use std::time::Clock;
+use std::io::{ErrorKind, Write};
 
 /// Runs the node of a kind with a name for so many turns, as `run_server` and `run_router` do.
-pub(crate) fn run<R: Files<File = File> + Net + Clock + AllocGlobal + Clone + Drop, W: Write>(
-    rt: &R,
+pub(crate) fn run<T: SystemTable, W: Write>(
+    rt: &HostRuntime,
     config: &str,
     kind: NodeKind,
     name: &str,
     dir: &str,
+    storage: Storage,
     turns: u64,
     writer: &mut W,
 ) -> Result<(), RunFault> {
     let config = read_config(rt, config)?;
-    run_in(rt, &config, kind, name, dir, turns, writer)
+    run_in::<T, W>(rt, &config, kind, name, dir, storage, turns, writer)
 }
 
-fn run_in<R: Files<File = File> + Net + Clock + AllocGlobal + Clone + Drop, W: Write>(
-    rt: &R,
+fn run_in<T: SystemTable, W: Write>(
+    rt: &HostRuntime,
     config: &Config,
     kind: NodeKind,
     name: &str,
     dir: &str,
+    storage: Storage,
     turns: u64,
     writer: &mut W,
 ) -> Result<(), RunFault> {
     let number = number_named(config, kind, name)?;
     let failure = Cell::new(None);
-    // The lock keeps other processes out of the folder.
-    let LockedFolder {
-        store,
-        lock: _lock,
-        ..
-    } = open_folder(rt, dir, name, &failure)?;
+    let folder = open_folder(rt, dir, name)?;
+    let store = folder.open_store::<T>(rt, storage, &failure)?;
     let printer = LineWriter::new(rt.alloc(), config, name, writer);
-    let devices = Devices::open(rt, entry_at(config, number).address, printer);
-    let devices = run_over(rt.alloc(), config, number, store, turns, devices)?;
-    devices.into_printer().end()
+    run_in_store(rt, config, number, store, &failure, turns, printer)?.end()
 }
 
 /// Runs the node of a kind with a name without an end, as `keep_server_running` and `keep_router_running` do.
-pub(crate) fn keep_running<R: Files<File = File> + Net + Clock + AllocGlobal + Clone + Drop>(
-    rt: &R,
+pub(crate) fn keep_running<T: SystemTable>(
+    rt: &HostRuntime,
     config: &str,
     kind: NodeKind,
     name: &str,
     dir: &str,
+    storage: Storage,
     is_known: bool,
 ) -> Result<(), RunFault> {
     let config = read_config(rt, config)?;
-    keep_in(rt, &config, kind, name, dir, is_known)
+    keep_in::<T>(rt, &config, kind, name, dir, storage, is_known)
 }
 
-fn keep_in<R: Files<File = File> + Net + Clock + AllocGlobal + Clone + Drop>(
-    rt: &R,
+fn keep_in<T: SystemTable>(
+    rt: &HostRuntime,
     config: &Config,
     kind: NodeKind,
     name: &str,
     dir: &str,
+    storage: Storage,
     is_known: bool,
 ) -> Result<(), RunFault> {
     let number = number_named(config, kind, name)?;
     let failure = Cell::new(None);
-    let folder = open_folder(rt, dir, name, &failure)?;
-    let pairs = folder.pairs(rt, is_known)?;
-    // The lock keeps other processes out of the folder.
-    let LockedFolder {
-        store,
-        lock: _lock,
-        ..
-    } = folder;
+    let folder = open_folder(rt, dir, name)?;
+    let mut store = folder.open_store::<T>(rt, storage, &failure)?;
+    let pairs = folder.pairs(rt, &mut store, is_known)?;
     let servers = servers_of(config, number);
     let journal = Journal::open(rt, config, name, servers, pairs, &failure)?;
-    let devices = Devices::open(rt, entry_at(config, number).address, journal);
-    run_over(rt.alloc(), config, number, store, u64::MAX, devices)?;
+    run_in_store(rt, config, number, store, &failure, u64::MAX, journal)?;
     Ok(())
 }
 
-// Runs the node with a number over its store, in so many turns: a Map-Server that holds nothing, or a router that starts at 0 ms.
-// What is outside is given back. Faults: those of the start, then that of what is outside.
-fn run_over<S: WorldStore + Drop, O: Endpoint + lisp_turns::Clock + Lines + Drop>(
-    alloc: Global,
+// Runs the node with a number over its store, in so many turns. Where its lines went is given back. `failure` holds the kind of
+// the last error of the store's device.
+fn run_in_store<T: SystemTable, P: Printer + Drop>(
+    rt: &HostRuntime,
+    config: &Config,
+    number: usize,
+    store: NodeStore<'_, T>,
+    failure: &Cell<Option<ErrorKind>>,
+    turns: u64,
+    printer: P,
+) -> Result<P, RunFault>
+    requires { IsNode config.now number }
+{
+    match store {
+        NodeStore::Files(store) => run_alone::<T, _, P>(rt, config, number, store, turns, printer),
+        NodeStore::Database { database, group } if group <= 1 => {
+            let store = DatabaseStore::over(database, failure);
+            run_alone::<T, _, P>(rt, config, number, store, turns, printer)
+        }
+        NodeStore::Database { database, group } => {
+            let database = SharedDatabase::over(database, failure);
+            run_in_groups(rt, config, number, &database, group, turns, printer)
+        }
+    }
+}
+
+// Runs the node with a number over a store that commits each save by itself.
+fn run_alone<T: SystemTable, S: WorldStore + Drop, P: Printer + Drop>(
+    rt: &HostRuntime,
     config: &Config,
     number: usize,
     store: S,
     turns: u64,
-    outside: Result<O, RunFault>,
-) -> Result<O, RunFault>
+    printer: P,
+) -> Result<P, RunFault>
     requires { IsNode config.now number }
-    ensures part { RunsOver O.seen config.now number (S.seen store) outside result }
-    ensures turns { TakesItsTurns Global O.seen config.now number (S.seen store) turns outside result }
-    ensures device { IfErr outside (λ fault. IsErr result) }
 {
-    if number < config.servers().len() {
-        let server = start_server(alloc, config, number, store);
-        run_at(config, number, server, turns, outside)
-    } else {
-        let router = start_router(alloc, config, number, store);
-        run_at(config, number, router, turns, outside)
-    }
+    let devices = Devices::<_, T, _>::open(rt, entry_at(config, number).address, None, printer);
+    let life = run_over(rt.alloc(), config, number, store, 1, turns, devices)?;
+    Ok(life.outside.into_printer())
 }
 
-// Runs the node with a number, if it starts.
-fn run_at<N: Node + Drop, O: Endpoint + lisp_turns::Clock + Lines + Drop>(
+// Runs the node with a number over a database, to which groups of so many datagrams are committed.
+fn run_in_groups<T: SystemTable, P: Printer + Drop>(
+    rt: &HostRuntime,
     config: &Config,
     number: usize,
-    node: Result<N, RunFault>,
+    database: &SharedDatabase<'_, T>,
+    places: u8,
     turns: u64,
-    outside: Result<O, RunFault>,
-) -> Result<O, RunFault>
-    requires { IfOk node (λ n. IsPlaced config.now number (N.state n)) }
-    ensures part { (store : StoreState) → IfOk node (λ n. Begins config.now number store (N.state n)) → RunsOver O.seen config.now number store outside result }
-    ensures turns { (store : StoreState) → IfOk node (λ n. Begins config.now number store (N.state n)) → TakesItsTurns Global O.seen config.now number store turns outside result }
-    ensures start { IfErr node (λ fault. result ≡ Err fault) }
-    ensures device { OnOk node (IfErr outside (λ fault. result ≡ Err fault)) }
+    printer: P,
+) -> Result<P, RunFault>
+    requires { IsNode config.now number }
 {
-    let mut node = node?;
-    let mut outside = outside?;
-    take_turns(&mut node, &Place { config, number }, turns, &mut outside);
-    Ok(outside)
+    let group = Group::new(rt.alloc(), places, database)?;
+    let devices = Devices::open(rt, entry_at(config, number).address, Some(group), printer);
+    let places = usize::from(places);
+    let outside = live(rt.alloc(), config, number, database, places, turns, devices)?;
+    Ok(outside.into_printer())
 }

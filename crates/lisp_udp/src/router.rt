@@ -8,16 +8,15 @@ ghost use Rattle.lisp_world.specs.Making.{HasStarted};
 
 use crate::entry::NodeKind;
 use crate::node::{keep_running, run};
+use crate::storage::Storage;
+use lisp_database_store::SystemTable;
 use lisp_nodes::{RouterNode, Start};
 use lisp_nonces::WorldStore;
 use lisp_script::RunFault;
 use lisp_sites::Config;
 use lisp_world::router_node;
 use std::alloc::Global;
-use std::fs::{File, Files};
 use std::io::Write;
-use std::net::Net;
-use std::time::Clock;
 
 /// Runs the site router with a name for so many turns. A turn takes one datagram, or none where none comes within 100 ms,
 /// and then sends a Map-Register of each part of its database that is due to each Map-Server, at most one of each part
@@ -27,22 +26,25 @@ use std::time::Clock;
 /// store fails, or its nonces are spent.
 ///
 /// Faults, in this order: those of the configuration's file (93, 87, 89, 95, then its own); 70 where no node has the name,
-/// 71 where a Map-Server has it; 93 for the folder; 35 or 36 where the router doesn't start; 92 for the socket and the clock;
-/// 88 where a line can't be written, at the end of its turn. 97 is out of memory.
-pub fn run_router<R: Files<File = File> + Net + Clock + AllocGlobal + Clone + Drop, W: Write>(
-    rt: &R,
+/// 71 where a Map-Server has it; 93 for the folder, for a database that stands there where `storage` is files, and for a database or
+/// the files that it takes over; 35 or 36 where the router doesn't start; 92 for the socket and the clock; 88 where a line can't be
+/// written, at the end of its turn. 97 is out of memory.
+pub fn run_router<T: SystemTable, W: Write>(
+    rt: &HostRuntime,
     config: &str,
     name: &str,
     dir: &str,
+    storage: Storage,
     turns: u32,
     writer: &mut W,
 ) -> Result<(), RunFault> {
-    run(
+    run::<T, W>(
         rt,
         config,
         NodeKind::Router,
         name,
         dir,
+        storage,
         u64::from(turns),
         writer,
     )
@@ -50,18 +52,19 @@ pub fn run_router<R: Files<File = File> + Net + Clock + AllocGlobal + Clone + Dr
 
 /// Runs a site router as `run_router` does, until the process is killed: for 2^64 - 1 turns. Its lines go through a log to standard
 /// output, which never ends or delays it: what can't be written at once waits, or is dropped and counted. The first line says how
-/// many pairs the folder keeps nonces for.
+/// many pairs the node keeps nonces for.
 ///
-/// Faults as those of `run_router`, without 88. 93 is also told where the folder can't be read, or keeps no nonces and `is_known` says
-/// that it should.
-pub fn keep_router_running<R: Files<File = File> + Net + Clock + AllocGlobal + Clone + Drop>(
-    rt: &R,
+/// Faults as those of `run_router`, without 88. 93 is also told where the nonces can't be counted, or there are none and
+/// `is_known` says that there are some.
+pub fn keep_router_running<T: SystemTable>(
+    rt: &HostRuntime,
     config: &str,
     name: &str,
     dir: &str,
+    storage: Storage,
     is_known: bool,
 ) -> Result<(), RunFault> {
-    keep_running(rt, config, NodeKind::Router, name, dir, is_known)
+    keep_running::<T>(rt, config, NodeKind::Router, name, dir, storage, is_known)
 }
 
 /// The router with a number over its store, started at 0 ms. Faults: 35, 36, 97.

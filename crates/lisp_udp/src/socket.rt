@@ -1,11 +1,12 @@
 //! The UDP socket of a node: one of the devices, whose calls are the system's.
 
-ghost use Rattle.std.specs.Prelude.{None, false};
+ghost use Rattle.std.specs.Prelude.{◌≡◌, ◌≤◌, None, false, length, IfOk};
+ghost use Rattle.lisp_turns.specs.Outside.{FitsBuffer};
 
 use lisp_records::Addr;
 use lisp_script::RunFault;
 use lisp_turns::{Endpoint, Outside, Received};
-use std::io::ErrorKind;
+use std::io::{self, ErrorKind};
 use std::net::{IpAddr, Ipv4Addr, Ipv6Addr, Net, SocketAddr, UdpSocket};
 use std::time::Duration;
 
@@ -16,6 +17,8 @@ const PORT: u16 = 4342;
 #[derive(Drop)]
 pub(crate) struct NodeSocket {
     socket: UdpSocket,
+    // Whether its calls wait, a receive for its time limit.
+    waits: bool,
     // The kind of the last failure.
     failure: Option<ErrorKind>,
 }
@@ -33,6 +36,7 @@ impl NodeSocket {
         match socket.set_read_timeout(Some(Duration::from_millis(timeout_ms))) {
             Ok(()) => Ok(NodeSocket {
                 socket,
+                waits: true,
                 failure: None,
             }),
             Err(_) => Err(RunFault::BIND),
@@ -43,15 +47,13 @@ impl NodeSocket {
     pub(crate) fn failure(&self) -> Option<ErrorKind> {
         self.failure
     }
-}
 
-impl Outside for NodeSocket {
-    ghost seen = { λ _. record { log = None; moment = 0; is_cut = false } };
-}
-
-impl Endpoint for NodeSocket {
-    fn receive(&mut self, buffer: &mut [u8]) -> Received {
-        match self.socket.recv_from(buffer) {
+    // The next datagram.
+    fn next(&mut self, buffer: &mut [u8], waits: bool) -> Received
+        ensures within { FitsBuffer result buffer.new }
+        ensures room { length buffer.new ≡ length buffer.old }
+    {
+        match self.try_next(buffer, waits) {
             Ok((count, from)) => Received::Datagram {
                 from: address_of(&from),
                 count,
@@ -68,9 +70,44 @@ impl Endpoint for NodeSocket {
         }
     }
 
+    fn try_next(&mut self, buffer: &mut [u8], waits: bool) -> io::Result<(usize, SocketAddr)>
+        ensures within { IfOk result (λ next. next.0 ≤ length buffer.new) }
+        ensures room { length buffer.new ≡ length buffer.old }
+    {
+        self.set_waits(waits)?;
+        self.socket.recv_from(buffer)
+    }
+
+    fn try_send(&mut self, to: &Addr, message: &[u8]) -> io::Result<usize> {
+        self.set_waits(true)?;
+        self.socket.send_to(message, at(to))
+    }
+
+    fn set_waits(&mut self, waits: bool) -> io::Result<()> {
+        if self.waits != waits {
+            self.socket.set_nonblocking(!waits)?;
+            self.waits = waits;
+        }
+        Ok(())
+    }
+}
+
+impl Outside for NodeSocket {
+    ghost seen = { λ _. record { log = None; moment = 0; is_cut = false } };
+}
+
+impl Endpoint for NodeSocket {
+    fn receive(&mut self, buffer: &mut [u8]) -> Received {
+        self.next(buffer, true)
+    }
+
+    fn poll(&mut self, buffer: &mut [u8]) -> Received {
+        self.next(buffer, false)
+    }
+
     /// To UDP port 4342 of the address.
     fn send(&mut self, to: &Addr, message: &[u8]) -> bool {
-        match self.socket.send_to(message, at(to)) {
+        match self.try_send(to, message) {
             Ok(_) => true,
             Err(error) => {
                 self.failure = Some(error.kind());

@@ -1,11 +1,16 @@
 //! The functions of the program `lispd`, whose `main` is a crate of its own: one Map-Register, given as a line of hexadecimal
 //! digits, is answered as a fresh Map-Server would answer it (`answer`); a schedule is played over a network
-//! (`lisp_player::play`); nodes run on sockets and files (`run_server`, `run_router`), and so does a whole network
-//! (`run_loop`); a configuration is checked (`check_config`), and a number explained (`explain`).
+//! (`lisp_player::play`); nodes run on sockets (`run_server`, `run_router`), and so does a whole network (`run_loop`), over any kind
+//! of database, and over SQLite's (`run_task`); a configuration is checked (`check_config`), and a number explained (`explain`).
 #![tactic(auto)]
 
 pub use lisp_answer::{AnswerFault, AnswerSetup, answer};
+pub use lisp_database_store::SystemTable;
 pub use lisp_refusals::{ExplainFault, explain, explain_all};
 pub use lisp_script::{InputFault, PlayFault, RunFault};
-pub use lisp_udp::{keep_router_running, keep_server_running, run_loop, run_router, run_server};
+pub use lisp_sqlite::{Task, run_task};
+pub use lisp_udp::{
+    Storage, Stretch, Subject, keep_router_running, keep_server_running, run_loop, run_router,
+    run_server, run_subject,
+};
 pub use lispd_cli::{AnswerOption, Failure, ProgramFault, SetupFault, check_config, setup};

@@ -11,7 +11,7 @@ use Rattle.lisp_script.specs.declared.play_fault.PlayFault.TheVariants as play_f
 use Rattle.lispd_cli.specs.declared.fault.SetupFault.{SetupFault}
 use Rattle.lispd_cli.specs.declared.fault.SetupFault.TheVariants as setup_faults
 use Rattle.lispd_cli.specs.declared.fault.ProgramFault.{ProgramFault}
-use Rattle.lispd_cli.specs.declared.fault.ProgramFault.TheVariants.{Words, Setup, Answer, File, Play, Turns, Known, Run, Explain, Warnings}
+use Rattle.lispd_cli.specs.declared.fault.ProgramFault.TheVariants.{Words, Setup, Answer, File, Play, Turns, Known, Group, GroupOfFiles, Run, Explain, Warnings}
 
 abbrev pub setup_fault_number : SetupFault → ℕ
 setup_fault_number (setup_faults.BadOption _) = 98
@@ -29,6 +29,8 @@ program_fault_number File = 93
 program_fault_number (Play fault) = play_fault_number fault
 program_fault_number Turns = 98
 program_fault_number Known = 98
+program_fault_number Group = 98
+program_fault_number GroupOfFiles = 98
 program_fault_number (Run fault) = fault.number
 program_fault_number (Explain fault) = explain_fault_number fault
 program_fault_number Warnings = 25
@@ -41,6 +43,8 @@ program_fault_status File = 1
 program_fault_status (Play fault) = play_fault_status fault
 program_fault_status Turns = 2
 program_fault_status Known = 2
+program_fault_status Group = 2
+program_fault_status GroupOfFiles = 2
 program_fault_status (Run fault) = run_status fault.number
 program_fault_status (Explain fault) = explain_fault_status fault
 program_fault_status Warnings = 2

@@ -4,6 +4,7 @@ use crate::argument::Argument;
 use crate::help::{
     ABOUT, ANSWER_ABOUT, ANSWER_EXAMPLE, CHECK_ABOUT, CHECK_WARNS, EXPLAIN_ABOUT, LINE_EXAMPLE,
     LOOP_ABOUT, LOOP_FORM, NODE_RUNS, PLAY_ABOUT, PLAY_FORM, ROUTER_ABOUT, SERVER_ABOUT,
+    SERVER_GROUPS,
 };
 use crate::option::AnswerOption;
 use clap::Command;
@@ -26,6 +27,12 @@ pub const NUMBER: &str = "N";
 
 /// The option for the folder of the nonces.
 pub const STORE: &str = "store";
+
+/// The switch of nodes whose nonces are in a database.
+pub const DATABASE: &str = "database";
+
+/// The option for how many datagrams are committed together.
+pub const GROUP: &str = "group";
 
 /// The option for the number of turns.
 pub const TURNS: &str = "turns";
@@ -81,14 +88,37 @@ static SUBCOMMANDS: [Subcommand; 7] = [
     Subcommand {
         name: "server",
         about: SERVER_ABOUT,
-        after_help: Some(NODE_RUNS),
-        arguments: NODE_ARGUMENTS,
+        after_help: Some(SERVER_GROUPS),
+        arguments: &[
+            CONFIG_ARGUMENT,
+            NAME_ARGUMENT,
+            STORE_ARGUMENT,
+            DATABASE_ARGUMENT,
+            Argument::Value {
+                name: GROUP,
+                letters: "N",
+                is_required: false,
+                help: "How many datagrams that wait it takes in a turn at most, whose nonces are saved with one sync, from 1 (the \
+default) to 64; only with --database",
+            },
+            TURNS_ARGUMENT,
+            KNOWN_ARGUMENT,
+            WORDS_ARGUMENT,
+        ],
     },
     Subcommand {
         name: "router",
         about: ROUTER_ABOUT,
         after_help: Some(NODE_RUNS),
-        arguments: NODE_ARGUMENTS,
+        arguments: &[
+            CONFIG_ARGUMENT,
+            NAME_ARGUMENT,
+            STORE_ARGUMENT,
+            DATABASE_ARGUMENT,
+            TURNS_ARGUMENT,
+            KNOWN_ARGUMENT,
+            WORDS_ARGUMENT,
+        ],
     },
     Subcommand {
         name: "loop",
@@ -102,6 +132,7 @@ static SUBCOMMANDS: [Subcommand; 7] = [
                 help: "The script",
             },
             STORE_ARGUMENT,
+            DATABASE_ARGUMENT,
             WORDS_ARGUMENT,
         ],
     },
@@ -136,33 +167,16 @@ static SUBCOMMANDS: [Subcommand; 7] = [
     },
 ];
 
-/// The arguments of `server` and `router`.
-const NODE_ARGUMENTS: &[Argument] = &[
-    CONFIG_ARGUMENT,
-    Argument::Word {
-        name: NAME,
-        is_required: true,
-        help: "The node's name there",
-    },
-    STORE_ARGUMENT,
-    Argument::Value {
-        name: TURNS,
-        letters: "N",
-        is_required: false,
-        help: "How many turns it takes, each of which waits at most 100 ms for a datagram, from 0 to 4294967295; left out, it \
-runs until it is killed",
-    },
-    Argument::Switch {
-        name: KNOWN,
-        help: "Don't start where the store keeps no nonces; not with --turns",
-    },
-    WORDS_ARGUMENT,
-];
-
 const CONFIG_ARGUMENT: Argument = Argument::Word {
     name: CONFIG,
     is_required: true,
     help: "The configuration, TOML",
+};
+
+const NAME_ARGUMENT: Argument = Argument::Word {
+    name: NAME,
+    is_required: true,
+    help: "The node's name there",
 };
 
 const STORE_ARGUMENT: Argument = Argument::Value {
@@ -170,6 +184,25 @@ const STORE_ARGUMENT: Argument = Argument::Value {
     letters: "DIR",
     is_required: true,
     help: "The folder of the nonces, made if it isn't there; each node has a folder of its name in it",
+};
+
+const DATABASE_ARGUMENT: Argument = Argument::Switch {
+    name: DATABASE,
+    help: "Keep the nonces of each node in a SQLite database there, nonces.db, which takes over those in files; left out, they \
+are in files",
+};
+
+const TURNS_ARGUMENT: Argument = Argument::Value {
+    name: TURNS,
+    letters: "N",
+    is_required: false,
+    help: "How many turns it takes, each of which waits at most 100 ms for a datagram, from 0 to 4294967295; left out, it runs \
+until it is killed",
+};
+
+const KNOWN_ARGUMENT: Argument = Argument::Switch {
+    name: KNOWN,
+    help: "Don't start where the store keeps no nonces; not with --turns",
 };
 
 const WORDS_ARGUMENT: Argument = Argument::Switch {

@@ -78,6 +78,12 @@ pub enum ProgramFault {
     /// `--known` comes with `--turns`.
     #[error("--known isn't taken with --turns")]
     Known,
+    /// `--group` has another form than it takes.
+    #[error("--group takes a whole number from 1 to 64")]
+    Group,
+    /// `--group` comes without `--database`.
+    #[error("--group is taken only with --database")]
+    GroupOfFiles,
     /// A node or network on sockets and files ended before its end.
     #[error("the program stopped")]
     Run(RunFault),
@@ -90,12 +96,17 @@ pub enum ProgramFault {
 }
 
 impl ProgramFault {
-    /// The number that operators see: `Words`, `Turns` and `Known` 98, `File` 93, `Warnings` 25, or that of the fault inside.
+    /// The number that operators see: `Words`, `Turns`, `Known`, `Group` and `GroupOfFiles` 98, `File` 93, `Warnings` 25, or that of
+    /// the fault inside.
     pub const fn number(&self) -> u16
         ensures { result ≡ program_fault_number self.now }
     {
         match self {
-            ProgramFault::Words | ProgramFault::Turns | ProgramFault::Known => 98,
+            ProgramFault::Words
+            | ProgramFault::Turns
+            | ProgramFault::Known
+            | ProgramFault::Group
+            | ProgramFault::GroupOfFiles => 98,
             ProgramFault::Setup(fault) => fault.number(),
             ProgramFault::Answer(fault) => fault.number(),
             ProgramFault::File => 93,
@@ -106,7 +117,7 @@ impl ProgramFault {
         }
     }
 
-    /// The exit status: `Words`, `Turns`, `Known` and `Warnings` 2, `File` 1, or that of the fault inside.
+    /// The exit status: `Words`, `Turns`, `Known`, `Group`, `GroupOfFiles` and `Warnings` 2, `File` 1, or that of the fault inside.
     pub fn status(&self) -> u8
         ensures { result ≡ program_fault_status self.now }
     {
@@ -114,6 +125,8 @@ impl ProgramFault {
             ProgramFault::Words
             | ProgramFault::Turns
             | ProgramFault::Known
+            | ProgramFault::Group
+            | ProgramFault::GroupOfFiles
             | ProgramFault::Warnings => 2,
             ProgramFault::Setup(fault) => fault.status(),
             ProgramFault::Answer(fault) => fault.status(),

@@ -58,10 +58,17 @@ pub(crate) const NODE_RUNS: &str =
 Example:
   lispd router examples/configuration.toml r1 --store nonces --turns 10";
 
+/// How long a Map-Server runs and what it saves together, for its help.
+pub(crate) const SERVER_GROUPS: &str =
+    "Nonces are saved before their messages are answered, so it may be killed at any time (SIGINT and SIGTERM end it at once).
+
+Example:
+  lispd server examples/configuration.toml s1 --store nonces --database --group 64";
+
 /// What `loop` does, for its help.
 pub(crate) const LOOP_ABOUT: &str =
     "Play a script over a network of a configuration whose datagrams go over UDP, and whose nodes keep \
-their nonces in files";
+their nonces in files, or in databases";
 
 /// What a delivery is there, for its help.
 pub(crate) const LOOP_FORM: &str =

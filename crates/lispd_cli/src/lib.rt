@@ -18,11 +18,13 @@ mod subcommands;
 mod words;
 
 pub use check::check_config;
-pub use command_line::{CONFIG, FILE, KNOWN, NAME, NUMBER, STORE, STRICT, TURNS, WORDS, command};
+pub use command_line::{
+    CONFIG, DATABASE, FILE, GROUP, KNOWN, NAME, NUMBER, STORE, STRICT, TURNS, WORDS, command,
+};
 pub use failure::Failure;
 pub use fault::{ProgramFault, SetupFault};
 pub use option::AnswerOption;
 pub use options::setup;
 pub use reporting::{InWords, report};
 pub use subcommands::run_alone;
-pub use words::{NodeWords, node_words, tells_words, word};
+pub use words::{NodeWords, is_given, node_words, tells_words, word};

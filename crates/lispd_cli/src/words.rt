@@ -1,11 +1,15 @@
 //! The words of the command line, as `clap` matched them.
 
-ghost use Rattle.std.specs.Prelude.{◌≡◌, true, IfOk};
+ghost use Rattle.std.specs.Prelude.{◌≡◌, ◌≢◌, ◌≤◌, true, codes, None, IfOk, IfSome};
+ghost use Rattle.clap.specs.Words.{first_value, found_of};
 
-use crate::command_line::{CHECK, CONFIG, KNOWN, NAME, STORE, TURNS, WORDS};
+use crate::command_line::{CHECK, CONFIG, DATABASE, GROUP, KNOWN, NAME, STORE, TURNS, WORDS};
 use crate::fault::ProgramFault;
 use clap::ArgMatches;
 use lisp_texts::number_from_text;
+
+/// The most datagrams that are committed together.
+const MOST_TOGETHER: u64 = 64;
 
 /// A word that the subcommand requires.
 pub fn word<'a>(words: &ArgMatches<'a>, name: &str) -> &'a str {
@@ -42,24 +46,34 @@ pub struct NodeWords<'a> {
     pub turns: Option<u32>,
     /// It doesn't start where the store keeps no nonces.
     pub is_known: bool,
+    /// Its nonces are in a database, not in files.
+    pub has_database: bool,
+    /// How many datagrams it takes in a turn at most, whose nonces are committed together; 1 where they are in files.
+    pub group: u8,
 }
 
 /// The words of `server` and `router`. Faults, all 98: `ProgramFault::Turns` where the turns have another form than they take,
-/// `ProgramFault::Known` where `--known` comes with them.
+/// `ProgramFault::Known` where `--known` comes with them, `ProgramFault::Group` where the group has another form than it takes,
+/// `ProgramFault::GroupOfFiles` where `--group` comes without `--database`.
 pub fn node_words<'a>(words: &ArgMatches<'a>) -> Result<NodeWords<'a>, ProgramFault>
     ensures known { IfOk result (λ w. w.is_known ≡ true → w.turns ≡ None) }
+    ensures database { IfOk result (λ w. first_value (found_of words.now) (codes "group") ≢ None → w.has_database ≡ true) }
+    ensures group { IfOk result (λ w. (1 ≤ w.group) × (w.group ≤ 64)) }
 {
     let turns = turns(words)?;
     let is_known = is_given(words, KNOWN);
     if is_known && turns.is_some() {
         return Err(ProgramFault::Known);
     }
+    let has_database = is_given(words, DATABASE);
     Ok(NodeWords {
         config: word(words, CONFIG),
         name: word(words, NAME),
         dir: word(words, STORE),
         turns,
         is_known,
+        has_database,
+        group: group(words, has_database)?,
     })
 }
 
@@ -71,5 +85,29 @@ fn turns(words: &ArgMatches<'_>) -> Result<Option<u32>, ProgramFault> {
     match number_from_text(text).map(u32::try_from) {
         Some(Ok(turns)) => Ok(Some(turns)),
         _ => Err(ProgramFault::Turns),
+    }
+}
+
+// How many datagrams a node takes in a turn at most. Faults: `Group`, `GroupOfFiles`.
+fn group(words: &ArgMatches<'_>, has_database: bool) -> Result<u8, ProgramFault>
+    ensures database { IfOk result (λ _. first_value (found_of words.now) (codes "group") ≢ None → has_database ≡ true) }
+    ensures bounds { IfOk result (λ group. (1 ≤ group) × (group ≤ 64)) }
+{
+    let Some(text) = words.get_str(GROUP) else {
+        return Ok(1);
+    };
+    let group = group_in(text).ok_or(ProgramFault::Group)?;
+    if !has_database {
+        return Err(ProgramFault::GroupOfFiles);
+    }
+    Ok(group)
+}
+
+fn group_in(text: &str) -> Option<u8>
+    ensures { IfSome result (λ group. (1 ≤ group) × (group ≤ 64)) }
+{
+    match number_from_text(text) {
+        Some(group) if 1 <= group && group <= MOST_TOGETHER => Some(group as u8),
+        _ => None,
     }
 }

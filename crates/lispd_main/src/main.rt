@@ -10,12 +10,9 @@ use clap::error::ErrorKind as WordsErrorKind;
 use lisp_answer::AnswerFault;
 use lispd_cli::{Failure, ProgramFault, SetupFault, command, report, tells_words};
 use std::env;
-use std::fs::File;
 use std::io::{self, ErrorKind, IsTerminal};
-use std::net::Net;
 use std::process::ExitCode;
-use std::rt::{Env, Files};
-use std::time::Clock;
+use std::rt::Env;
 
 /// Out of memory before a subcommand runs.
 const OUT_OF_MEMORY: ProgramFault = ProgramFault::Setup(SetupFault::OutOfMemory);
@@ -46,11 +43,7 @@ fn collect_words<R: Env + AllocGlobal>(rt: &R) -> io::Result<Vec<String>> {
 }
 
 // Runs what the words ask for, and reports the fault that ended it.
-fn run<R: Print + Eprint + Input + Files<File = File> + Net + Clock + AllocGlobal + Clone + Drop>(
-    rt: &R,
-    words: &[String],
-    is_terminal: bool,
-) -> ExitCode {
+fn run(rt: &HostRuntime, words: &[String], is_terminal: bool) -> ExitCode {
     let Ok(command) = command(rt.alloc()) else {
         return report(rt, &Failure::from(OUT_OF_MEMORY), words, is_terminal);
     };
@@ -63,9 +56,12 @@ fn run<R: Print + Eprint + Input + Files<File = File> + Net + Clock + AllocGloba
     }
 }
 
-fn run_matches<
-    R: Print + Eprint + Input + Files<File = File> + Net + Clock + AllocGlobal + Clone + Drop,
->(rt: &R, words: &[String], matches: &ArgMatches<'_>, is_terminal: bool) -> ExitCode {
+fn run_matches(
+    rt: &HostRuntime,
+    words: &[String],
+    matches: &ArgMatches<'_>,
+    is_terminal: bool,
+) -> ExitCode {
     match run_subcommand(rt, matches) {
         Ok(()) => ExitCode::SUCCESS,
         Err(failure) => report(rt, &failure, words, is_terminal || tells_words(matches)),

@@ -1,18 +1,19 @@
 //! What each subcommand runs.
 
 use clap::ArgMatches;
+use lisp_database_store::SystemTable;
 use lisp_player::play;
-use lisp_script::PlayFault;
-use lisp_udp::{keep_router_running, keep_server_running, run_loop, run_router, run_server};
+use lisp_script::{PlayFault, RunFault};
+use lisp_sqlite::{Task, run_task};
+use lisp_udp::{Storage, Stretch, Subject, run_subject};
 use lispd_cli::{
-    CONFIG, FILE, Failure, NodeWords, ProgramFault, STORE, node_words, run_alone, word,
+    CONFIG, DATABASE, FILE, Failure, NodeWords, ProgramFault, STORE, is_given, node_words,
+    run_alone, word,
 };
 use std::alloc::Global;
-use std::fs::{self, File};
+use std::fs;
 use std::io::{self, BufReader, Read, Write};
-use std::net::Net;
 use std::rt::Files;
-use std::time::Clock;
 
 /// The name of standard input.
 const STANDARD_INPUT: &str = "-";
@@ -25,16 +26,15 @@ enum NodeKind {
 }
 
 /// Runs the subcommand that the words name; with none, `answer`.
-pub(crate) fn run_subcommand<
-    R: Print + Input + Files<File = File> + Net + Clock + AllocGlobal + Clone + Drop,
->(rt: &R, matches: &ArgMatches<'_>) -> Result<(), Failure> {
+pub(crate) fn run_subcommand(rt: &HostRuntime, matches: &ArgMatches<'_>) -> Result<(), Failure> {
     run_named(rt, matches.subcommand(), &mut io::writer(rt))
 }
 
-fn run_named<
-    R: Print + Input + Files<File = File> + Net + Clock + AllocGlobal + Clone + Drop,
-    W: Write,
->(rt: &R, named: Option<(&str, &ArgMatches<'_>)>, writer: &mut W) -> Result<(), Failure> {
+fn run_named<W: Write>(
+    rt: &HostRuntime,
+    named: Option<(&str, &ArgMatches<'_>)>,
+    writer: &mut W,
+) -> Result<(), Failure> {
     let Some((name, words)) = named else {
         return run_alone(rt, named, writer);
     };
@@ -48,8 +48,8 @@ fn run_named<
     Ok(ran?)
 }
 
-fn run_node<R: Files<File = File> + Net + Clock + AllocGlobal + Clone + Drop, W: Write>(
-    rt: &R,
+fn run_node<W: Write>(
+    rt: &HostRuntime,
     kind: NodeKind,
     words: &ArgMatches<'_>,
     writer: &mut W,
@@ -60,25 +60,79 @@ fn run_node<R: Files<File = File> + Net + Clock + AllocGlobal + Clone + Drop, W:
         dir,
         turns,
         is_known,
+        has_database,
+        group,
     } = node_words(words)?;
-    let ran = match (kind, turns) {
-        (NodeKind::Server, Some(turns)) => run_server(rt, config, name, dir, turns, writer),
-        (NodeKind::Server, None) => keep_server_running(rt, config, name, dir, is_known),
-        (NodeKind::Router, Some(turns)) => run_router(rt, config, name, dir, turns, writer),
-        (NodeKind::Router, None) => keep_router_running(rt, config, name, dir, is_known),
+    let stretch = match turns {
+        Some(turns) => Stretch::Turns(turns),
+        None => Stretch::Endless { is_known },
     };
-    Ok(ran?)
+    let subject = match kind {
+        NodeKind::Server => Subject::Server { name, stretch },
+        NodeKind::Router => Subject::Router { name, stretch },
+    };
+    let run = Run {
+        rt,
+        config,
+        dir,
+        storage: storage(has_database, group),
+        subject,
+        writer,
+    };
+    run_task(run)?;
+    Ok(())
 }
 
-fn run_network<R: Files<File = File> + Net + AllocGlobal + Clone + Drop, W: Write>(
-    rt: &R,
+/// A node or a network that is to run.
+#[derive(Drop)]
+struct Run<'a, W> {
+    rt: &'a HostRuntime,
+    config: &'a str,
+    dir: &'a str,
+    storage: Storage,
+    subject: Subject<'a>,
+    writer: &'a mut W,
+}
+
+impl<W: Write> Task for Run<'_, W> {
+    type Output = Result<(), RunFault>;
+
+    fn run<T: SystemTable>(self) -> Result<(), RunFault> {
+        run_subject::<T, W>(
+            self.rt,
+            self.config,
+            self.dir,
+            self.storage,
+            self.subject,
+            self.writer,
+        )
+    }
+}
+
+fn storage(has_database: bool, group: u8) -> Storage {
+    if has_database {
+        Storage::Database { group }
+    } else {
+        Storage::Files
+    }
+}
+
+fn run_network<W: Write>(
+    rt: &HostRuntime,
     words: &ArgMatches<'_>,
     writer: &mut W,
 ) -> Result<(), ProgramFault> {
-    let config = word(words, CONFIG);
-    let file = word(words, FILE);
-    let dir = word(words, STORE);
-    run_loop(rt, config, file, dir, writer)?;
+    let run = Run {
+        rt,
+        config: word(words, CONFIG),
+        dir: word(words, STORE),
+        storage: storage(is_given(words, DATABASE), 1),
+        subject: Subject::Network {
+            script: word(words, FILE),
+        },
+        writer,
+    };
+    run_task(run)?;
     Ok(())
 }
 

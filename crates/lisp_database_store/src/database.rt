@@ -1,0 +1,210 @@
+//! A database of nonces in the system's files.
+
+ghost use Rattle.std.specs.Prelude.{◌≡◌, Some, Ok, IfOk, IfErr, OnOk, OnErr, IsTrue, None};
+ghost use Rattle.sqlite.specs.State.{HasCleanDisk, IsUnchanged};
+ghost use Rattle.lisp_nonces.specs.declared.fault.StoreFault.{StoreFault};
+ghost use Rattle.lisp_database.specs.Group.{BeginsGroup, CommitsGroup};
+ghost use Rattle.lisp_database.specs.Kept.{HasTables, IsOfNonces, Keeps, SavesNonce, KeepsGreatest};
+ghost use Rattle.lisp_database_store.specs.Fault.{load_fault};
+ghost use Rattle.lisp_database_store.specs.Table.{ShowsOpen, StaysOpen, IsCommitted, IsWaiting};
+
+use crate::fault::Failure;
+use crate::new_file::place_empty;
+use crate::table::SystemTable;
+use lisp_database::Writer;
+use lisp_memory::FallibleString;
+use lisp_nonces::{Pair, StoreFault};
+use sqlite::Error;
+use std::io::ErrorKind;
+
+/// A database of one row for each pair, in a file of the system's, which sqlite3 reads while the node doesn't run. The log beside
+/// the file, named with `-wal` added, is part of it. After a call that failed by the device the next one opens the file anew, since
+/// it is in doubt what the disk has.
+///
+/// That the disk returns what was synced, and that nobody else writes the two files or takes them away, is a premise.
+#[derive(Drop)]
+pub struct Database<T> {
+    rt: HostRuntime,
+    path: String,
+    // None after a call that failed by the device.
+    table: Option<T>,
+}
+
+impl<T: SystemTable> Database<T> {
+    /// Opens the database at `path`, or makes it, with the `application_id` of these databases, "LISP", and the `user_version` 1. `Device` where the file can't be opened, read or written, `Damaged` where it holds
+    /// no database of nonces.
+    pub fn open(rt: &HostRuntime, path: &str) -> Result<Database<T>, Failure> {
+        place_empty(rt, path)?;
+        let mut database = Database {
+            rt: rt.clone()?,
+            path: String::try_from_str(rt.alloc(), path)?,
+            table: None,
+        };
+        database.table = Some(database.opened()?);
+        Ok(database)
+    }
+
+    /// The nonce that is kept for the pair, `None` for nothing. `Damaged` where its row has another form.
+    pub fn load(&mut self, pair: &Pair) -> Result<Option<u64>, Failure>
+        ensures kept { IfOk result (λ found. StaysOpen T.Table.shows self.old.table self.new.table (λ old new. IsOfNonces old.now → HasCleanDisk new → Keeps old.now.trees pair.now found)) }
+        ensures unchanged { OnOk result (StaysOpen T.Table.shows self.old.table self.new.table (λ old new. HasTables old → HasCleanDisk new → IsUnchanged old new)) }
+    {
+        let mut table = self.opened()?;
+        let answer = table.load(pair);
+        self.answered(table, answer)
+    }
+
+    /// Keeps the nonce for the pair, and is done once that is committed, outside a transaction. `Device` whatever failed.
+    pub fn save(&mut self, pair: &Pair, nonce: u64) -> Result<(), Failure>
+        ensures saved { OnOk result (StaysOpen T.Table.shows self.old.table self.new.table (λ old new. IsOfNonces old.now → HasCleanDisk new → SavesNonce old new pair.now nonce)) }
+        ensures device { IfErr result (λ failure. failure.fault ≡ StoreFault.Device) }
+        ensures anew { OnErr result (self.new.table ≡ None) }
+    {
+        let mut table = self.opened_to_write()?;
+        let answer = table.save(pair, nonce);
+        self.written(table, answer)
+    }
+
+    /// How many pairs it keeps nonces for.
+    pub fn pairs(&mut self) -> Result<usize, Failure> {
+        let mut table = self.opened()?;
+        let answer = table.count_pairs();
+        self.answered(table, answer)
+    }
+
+    /// Keeps the nonce for the pair, unless it has a greater one. `Device` whatever failed.
+    pub(crate) fn keep_greatest(&mut self, pair: &Pair, nonce: u64) -> Result<(), Failure>
+        ensures greatest { OnOk result (StaysOpen T.Table.shows self.old.table self.new.table (λ old new. IsOfNonces old.now → HasCleanDisk new → KeepsGreatest old new pair.now nonce)) }
+        ensures device { IfErr result (λ failure. failure.fault ≡ StoreFault.Device) }
+        ensures anew { OnErr result (self.new.table ≡ None) }
+    {
+        let mut table = self.opened_to_write()?;
+        let answer = table.keep_greatest(pair, nonce);
+        self.written(table, answer)
+    }
+
+    /// Who wrote last, `None` for nobody.
+    pub(crate) fn load_writer(&mut self) -> Result<Option<Writer>, Failure> {
+        let mut table = self.opened()?;
+        let answer = table.load_writer();
+        self.answered(table, answer)
+    }
+
+    /// Keeps who wrote last. `Device` whatever failed.
+    pub(crate) fn save_writer(&mut self, writer: &Writer) -> Result<(), Failure>
+        ensures device { IfErr result (λ failure. failure.fault ≡ StoreFault.Device) }
+        ensures anew { OnErr result (self.new.table ≡ None) }
+    {
+        let mut table = self.opened_to_write()?;
+        let answer = table.save_writer(writer);
+        self.written(table, answer)
+    }
+
+    /// Begins a transaction: saves wait for `commit`. `Device` whatever failed, also where one is open already.
+    pub(crate) fn begin(&mut self) -> Result<(), Failure>
+        ensures begun { OnOk result (StaysOpen T.Table.shows self.old.table self.new.table (λ old new. HasTables old → HasCleanDisk new → BeginsGroup old new)) }
+        ensures device { IfErr result (λ failure. failure.fault ≡ StoreFault.Device) }
+        ensures anew { OnErr result (self.new.table ≡ None) }
+    {
+        let mut table = self.opened_to_write()?;
+        let answer = table.begin();
+        self.written(table, answer)
+    }
+
+    /// Commits the transaction, and is done once that is synced. `Device` whatever failed, also where none is open.
+    pub(crate) fn commit(&mut self) -> Result<(), Failure>
+        ensures committed { OnOk result (StaysOpen T.Table.shows self.old.table self.new.table (λ old new. HasTables old → HasCleanDisk new → CommitsGroup old new)) }
+        ensures settled { OnOk result (ShowsOpen T.Table.shows self.new.table IsCommitted) }
+        ensures device { IfErr result (λ failure. failure.fault ≡ StoreFault.Device) }
+        ensures anew { OnErr result (self.new.table ≡ None) }
+    {
+        let mut table = self.opened_to_write()?;
+        match table.commit() {
+            Ok(()) if !table.has_transaction() => {
+                self.table = Some(table);
+                Ok(())
+            }
+            Ok(()) => Err(Failure::of_device(ErrorKind::Other)),
+            Err(error) => Err(Failure::of_save(error)),
+        }
+    }
+
+    /// Whether a transaction is open. One is rolled back by a call that fails for memory or by the device.
+    pub(crate) fn has_transaction(&self) -> bool
+        ensures { IsTrue result → ShowsOpen T.Table.shows self.now.table IsWaiting }
+    {
+        match &self.table {
+            Some(table) => table.has_transaction(),
+            None => false,
+        }
+    }
+
+    /// Closes the files, so that the next call opens them anew. A transaction that is open is dropped.
+    pub(crate) fn close(&mut self)
+        ensures { self.new.table ≡ None }
+    {
+        self.table = None;
+    }
+
+    // The database, which is opened where it isn't open.
+    fn opened(&mut self) -> Result<T, Failure>
+        ensures same { (c : _) → self.old.table ≡ Some c → result ≡ Ok c }
+        ensures taken { self.new.table ≡ None }
+    {
+        if let Some(table) = self.table.take() {
+            return Ok(table);
+        }
+        let mut table = T::open(&self.rt, self.path.as_str())?;
+        table.make_tables()?;
+        Ok(table)
+    }
+
+    // The same, for a call that writes.
+    fn opened_to_write(&mut self) -> Result<T, Failure>
+        ensures same { (c : _) → self.old.table ≡ Some c → result ≡ Ok c }
+        ensures taken { self.new.table ≡ None }
+        ensures device { IfErr result (λ failure. failure.fault ≡ StoreFault.Device) }
+    {
+        match self.opened() {
+            Ok(table) => Ok(table),
+            Err(failure) => Err(Failure::of_device(failure.kind)),
+        }
+    }
+
+    // The answer of a call that reads; the database stays open unless its device failed.
+    fn answered<V: Drop>(&mut self, table: T, answer: Result<V, Error>) -> Result<V, Failure>
+        ensures ok { IfOk result (λ value. (answer ≡ Ok value) × (self.new.table ≡ Some table)) }
+        ensures done { IfOk answer (λ value. result ≡ Ok value) }
+        ensures fault { IfErr answer (λ error. IfErr result (λ failure. failure.fault ≡ load_fault error)) }
+    {
+        match answer {
+            Ok(value) => {
+                self.table = Some(table);
+                Ok(value)
+            }
+            Err(error) => {
+                let failure = Failure::from(error);
+                if failure.fault != StoreFault::Device {
+                    self.table = Some(table);
+                }
+                Err(failure)
+            }
+        }
+    }
+
+    // The answer of a call that writes; the database stays open if that was done.
+    fn written<V: Drop>(&mut self, table: T, answer: Result<V, Error>) -> Result<(), Failure>
+        ensures ok { OnOk result ((value : _) × (answer ≡ Ok value) × (self.new.table ≡ Some table)) }
+        ensures done { OnOk answer (result ≡ Ok tt) }
+        ensures anew { OnErr result (self.new.table ≡ self.old.table) }
+        ensures device { IfErr result (λ failure. failure.fault ≡ StoreFault.Device) }
+    {
+        match answer {
+            Ok(_) => {
+                self.table = Some(table);
+                Ok(())
+            }
+            Err(error) => Err(Failure::of_save(error)),
+        }
+    }
+}

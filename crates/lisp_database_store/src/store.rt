@@ -1,0 +1,93 @@
+//! A store whose saves are committed one by one.
+
+ghost use Rattle.std.specs.Prelude.{◌≡◌, ◌≤◌, ⊤, false, Ok, Err, IfOk, IfErr, IsErrOf};
+ghost use Rattle.std.specs.FinMap.{empty};
+ghost use Rattle.lisp_nonces.specs.declared.fault.StoreFault.{StoreFault};
+ghost use Rattle.lisp_nonces.specs.declared.fate.Fate.TheVariants.{Done};
+ghost use Rattle.lisp_store.specs.File.{CountsFault};
+
+use crate::database::Database;
+use crate::fault::Failure;
+use crate::table::SystemTable;
+use lisp_nonces::{Fate, NonceStore, Pair, StoreFault, WorldStore};
+use std::cell::Cell;
+use std::io::ErrorKind;
+
+/// A store in a database of the system's, each of whose saves is a transaction of its own, and is done once that is synced.
+///
+/// That the disk returns what was synced is a premise, so the store is called neither honest nor quiet nor obedient. No call lowers
+/// its count of faults, and one that answers `Device` or `Damaged` raises it, up to 2^64 - 1. It may run out of memory whatever the
+/// memory: SQLite doesn't say why it did.
+#[derive(Drop)]
+pub struct DatabaseStore<'a, T> {
+    database: Database<T>,
+    faults: u64,
+    // The kind of the last failure.
+    failure: &'a Cell<Option<ErrorKind>>,
+}
+
+impl<'a, T: SystemTable> DatabaseStore<'a, T> {
+    /// A store over a database that is open. `failure` holds the kind of the last error from now on.
+    pub fn over(database: Database<T>, failure: &'a Cell<Option<ErrorKind>>) -> DatabaseStore<'a, T>
+        ensures faults { (⟦<Self as NonceStore>⟧.seen result).faults ≡ 0 }
+    {
+        DatabaseStore {
+            database,
+            faults: 0,
+            failure,
+        }
+    }
+}
+
+impl<T: SystemTable> NonceStore for DatabaseStore<'_, T> {
+    ghost seen = { λ s. record { kept = empty; faults = s.faults; is_honest = false; is_quiet = false; is_obedient = false; fate = Done } };
+
+    ghost may_refuse = { ⊤ };
+
+    /// `Damaged` where the file holds no database, no table of nonces, or a nonce of another form.
+    fn load(&mut self, pair: &Pair) -> Result<Option<u64>, StoreFault> {
+        let loaded = self.database.load(pair);
+        self.counted(loaded)
+    }
+
+    /// `Device` whatever failed, also memory: the commit may have been under way.
+    fn save(&mut self, pair: &Pair, nonce: u64) -> Result<(), StoreFault> {
+        let saved = self.database.save(pair, nonce);
+        self.counted(saved)
+    }
+}
+
+impl<T: SystemTable> WorldStore for DatabaseStore<'_, T> {
+    /// Does nothing: what becomes of its calls is the disk's affair.
+    fn arm(&mut self, _fate: Fate) {}
+
+    /// Does nothing: the database is what a crash left.
+    fn restart(&mut self, _pick: u64) {}
+
+    /// Does nothing: the database is what is left of it.
+    fn lose(&mut self) {}
+}
+
+impl<T> DatabaseStore<'_, T> {
+    // The answer of a call. A fault is counted, unless memory ran out, and the kind of its error is told.
+    fn counted<V: Drop>(&mut self, answer: Result<V, Failure>) -> Result<V, StoreFault>
+        ensures done { IfOk answer (λ value. result ≡ Ok value) }
+        ensures same { IfOk result (λ value. answer ≡ Ok value) }
+        ensures fault { IfErr answer (λ failure. result ≡ Err failure.fault) }
+        ensures counts { IfErr result (CountsFault self.old.faults self.new.faults) }
+        ensures memory { IsErrOf result StoreFault.OutOfMemory → self.new.faults ≡ self.old.faults }
+        ensures rises { self.old.faults ≤ self.new.faults }
+        ensures database { self.new.database ≡ self.old.database }
+    {
+        match answer {
+            Ok(value) => Ok(value),
+            Err(failure) => {
+                if failure.fault != StoreFault::OutOfMemory {
+                    self.faults = self.faults.saturating_add(1);
+                    self.failure.set(Some(failure.kind));
+                }
+                Err(failure.fault)
+            }
+        }
+    }
+}

@@ -1,0 +1,25 @@
+//! SQLite's databases in the system's files, for what is written over databases of any kind.
+#![tactic(auto)]
+
+use lisp_database_store::{SqliteTable, SystemDisk, SystemTable};
+use sqlite::File;
+
+/// What is to be done over databases of any kind.
+pub trait Task {
+    /// What comes of it.
+    type Output;
+
+    /// Does it over databases of the kind `T`.
+    fn run<T: SystemTable>(self) -> Self::Output;
+}
+
+/// Does a task over SQLite's databases in the system's files.
+pub fn run_task<K: Task>(task: K) -> K::Output {
+    run_on::<File, K>(task)
+}
+
+// Does a task over SQLite's databases on a disk of this kind. A function of its own, since a proof over a value with all fields of
+// SQLite's connection and of the system's files needs more memory than one over either.
+fn run_on<D: SystemDisk, K: Task>(task: K) -> K::Output {
+    task.run::<SqliteTable<D>>()
+}

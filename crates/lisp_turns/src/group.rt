@@ -1,0 +1,112 @@
+//! The datagrams of a turn: the node hears one after the other, and tells of them once what it saved is committed.
+
+ghost use Rattle.std.specs.Prelude.{◌≡◌, reverse};
+ghost use Rattle.lisp_model.specs.declared.event.Event.TheVariants as events;
+ghost use Rattle.lisp_turns.specs.Acts.{DoesOne};
+ghost use Rattle.lisp_turns.specs.Node.{IsPlaced};
+ghost use Rattle.lisp_turns.specs.Group.{HearsNext, HearsOthers, TellsEach};
+ghost use Rattle.lisp_turns.specs.Stretch.{Tells};
+ghost use Rattle.lisp_turns.specs.declared.outside.Printed.TheVariants as printed;
+
+use crate::act::Act;
+use crate::node::Node;
+use crate::outside::{Endpoint, Lines, Printed, Received};
+use crate::place::Place;
+use crate::telling::tell;
+use lisp_memory::FallibleVec;
+use lisp_records::Addr;
+use std::alloc::Global;
+
+/// What a node made of a datagram, which isn't told yet.
+#[derive(Drop)]
+pub(crate) struct Heard {
+    /// Where the datagram came from.
+    from: Addr,
+    /// What the node made of it.
+    act: Act,
+}
+
+impl Heard {
+    /// Its line is printed, and then its message is sent, if there is one.
+    pub(crate) fn tell<O: Endpoint + Lines>(&self, outside: &mut O)
+        ensures { Tells (O.seen outside.old) (O.seen outside.new) (printed.Heard self.now.act.line self.now.from) self.now.act.message }
+    {
+        let line = Printed::Heard {
+            line: self.act.line,
+            from: self.from,
+        };
+        tell(&line, &self.act.message, outside);
+    }
+}
+
+/// The node hears bytes that came from an address.
+pub(crate) fn hear<N: Node>(
+    node: &mut N,
+    place: &Place,
+    from: Addr,
+    bytes: &[u8],
+    now: u64,
+) -> Heard
+    requires { IsPlaced place.now.config.now place.now.number (N.state node.old) }
+    ensures does { DoesOne Global place.now.config.now place.now.number (N.state node.old) (N.state node.new) now (events.Junk place.now.number from bytes.now) result.act }
+    ensures from { result.from ≡ from }
+    ensures placed { IsPlaced place.now.config.now place.now.number (N.state node.new) }
+{
+    let act = node.hear(place, from, bytes, now);
+    Heard { from, act }
+}
+
+/// Behind the first datagram the node hears those that wait already, so that it heard so many at most: until none waits, or
+/// memory for one more is refused.
+pub(crate) fn hear_others<N: Node, O: Endpoint>(
+    alloc: Global,
+    node: &mut N,
+    place: &Place,
+    places: usize,
+    buffer: &mut [u8],
+    now: u64,
+    outside: &mut O,
+) -> Vec<Heard>
+    requires { IsPlaced place.now.config.now place.now.number (N.state node.old) }
+    ensures hears { HearsOthers Global place.now.config.now place.now.number places (N.state node.old) (N.state node.new) now (reverse result.items) (O.seen outside.old) (O.seen outside.new) }
+    ensures placed { IsPlaced place.now.config.now place.now.number (N.state node.new) }
+{
+    let mut others = Vec::new(alloc);
+    for _ in 1..places {
+        if others.make_room(1).is_err() {
+            break;
+        }
+        let Some(next) = hear_next(node, place, buffer, now, outside) else {
+            break;
+        };
+        let _ = others.try_push(next);
+    }
+    others
+}
+
+// The node hears the next datagram that waits already, if one does.
+fn hear_next<N: Node, O: Endpoint>(
+    node: &mut N,
+    place: &Place,
+    buffer: &mut [u8],
+    now: u64,
+    outside: &mut O,
+) -> Option<Heard>
+    requires { IsPlaced place.now.config.now place.now.number (N.state node.old) }
+    ensures hears { HearsNext Global place.now.config.now place.now.number (N.state node.old) (N.state node.new) now result (O.seen outside.old) (O.seen outside.new) }
+    ensures placed { IsPlaced place.now.config.now place.now.number (N.state node.new) }
+{
+    let Received::Datagram { from, count } = outside.poll(buffer) else {
+        return None;
+    };
+    Some(hear(node, place, from, &buffer[..count], now))
+}
+
+/// What the node made of the datagrams behind the first is told, in their order.
+pub(crate) fn tell_others<O: Endpoint + Lines>(others: &Vec<Heard>, outside: &mut O)
+    ensures { TellsEach (reverse others.now.items) (O.seen outside.old) (O.seen outside.new) }
+{
+    for heard in others {
+        heard.tell(outside);
+    }
+}

@@ -1,0 +1,51 @@
+-- The lives of a node that begins anew behind each turn that is lost.
+use Rattle.std.specs.Prelude.{◌≡◌, ◌⊎◌, ℕ, zero, suc, true, false}
+use Rattle.lisp_records.specs.Moment.{second}
+use Rattle.lisp_policy.specs.Configuration.{ConfigValue}
+use Rattle.lisp_nonces.specs.Store.{StoreState}
+use Rattle.lisp_model.specs.declared.line.Line.TheVariants as lines
+use Rattle.lisp_turns.specs.Beginning.{Begins}
+use Rattle.lisp_turns.specs.Node.{NodeState}
+use Rattle.lisp_turns.specs.Outside.{OutsideState, Logs, LogsLine, Waits}
+use Rattle.lisp_turns.specs.Stretch.{StartsTurns, beginning}
+use Rattle.lisp_turns.specs.Turn.{LosesTurn}
+use Rattle.lisp_turns.specs.declared.outside.Printed.TheVariants as printed
+
+-- a node says that it restarted, and a second passes
+pub record SaysRestarted (number : ℕ) (old new : OutsideState) : Type 0 where
+  pub said : OutsideState
+  pub line : LogsLine old said (printed.Event (lines.Restarted number))
+  pub rests : Logs said new (Waits second)
+
+-- a life whose last turn is lost, with so many turns left behind it: it begins over a store, and says at its end that it restarted
+pub record LosesLife (A : Type 0) (config : ConfigValue) (number places turns left : ℕ) (old new : OutsideState) : Type 0 where
+  pub store : StoreState
+  pub begun : NodeState
+  pub begins : Begins config number store begun
+  pub lost : OutsideState
+  pub loses : LosesTurn A config number places turns left (beginning begun old) lost
+  pub says : SaysRestarted number lost new
+
+-- a life that takes all its turns, or fewer where a line couldn't be printed: it begins over a store, too
+pub record EndsLife (A : Type 0) (config : ConfigValue) (number places turns : ℕ) (old new : OutsideState) : Type 0 where
+  pub store : StoreState
+  pub begun : NodeState
+  pub begins : Begins config number store begun
+  pub node : NodeState
+  pub takes : StartsTurns A config number places turns begun node old new
+
+-- so many lives whose last turn is lost, one behind the other: each takes the turns that the one before left
+abbrev pub LosesLives : Type 0 → ConfigValue → (number places turns left : ℕ) → ℕ → OutsideState → OutsideState → Type 0
+LosesLives A config number places turns left zero old new = (left ≡ turns) × (new ≡ old)
+LosesLives A config number places turns left (suc n) old new = (more : ℕ) × (between : OutsideState) × LosesLives A config number places turns more n old between
+    × LosesLife A config number places more left between new × (new.is_cut ≡ false)
+
+-- All lives: those whose last turn is lost, and one behind them. That takes the turns that are left; or its last turn is lost, too,
+-- and the line that says so couldn't be printed.
+pub record Lives (A : Type 0) (config : ConfigValue) (number places turns : ℕ) (old new : OutsideState) : Type 0 where
+  pub count : ℕ
+  pub left : ℕ
+  pub between : OutsideState
+  pub lost : LosesLives A config number places turns left count old between
+  pub last : EndsLife A config number places left between new
+      ⊎ ((unused : ℕ) × LosesLife A config number places left unused between new × (new.is_cut ≡ true))

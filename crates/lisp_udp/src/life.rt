@@ -1,0 +1,73 @@
+//! A life of a node, from its start over its store until its turns end.
+
+ghost use Rattle.std.specs.Prelude.{◌≡◌, Err, IsErr, IfOk, IfErr, OnOk};
+ghost use Rattle.lisp_nonces.specs.Store.{StoreState};
+ghost use Rattle.lisp_turns.specs.Beginning.{Begins};
+ghost use Rattle.lisp_turns.specs.Node.{IsPlaced};
+ghost use Rattle.lisp_udp.specs.Nodes.{IsNode};
+ghost use Rattle.lisp_udp.specs.Running.{RunsOver, TakesItsTurns};
+
+use crate::router::start_router;
+use crate::server::start_server;
+use lisp_nonces::WorldStore;
+use lisp_script::RunFault;
+use lisp_sites::Config;
+use lisp_turns::{Clock, Commit, Endpoint, Lines, Node, Place, Uncommitted, take_turns};
+use std::alloc::Global;
+
+/// What is outside a node whose turns ended.
+#[derive(Drop)]
+pub(crate) struct Life<O> {
+    /// What is outside.
+    pub(crate) outside: O,
+    /// Whether its turns ended in one that was lost.
+    pub(crate) ended: Result<(), Uncommitted>,
+}
+
+/// Runs the node with a number over its store, in so many turns of so many datagrams: a Map-Server that holds nothing, or a router
+/// that starts at 0 ms. Faults: those of the start, then that of what is outside.
+pub(crate) fn run_over<S: WorldStore + Drop, O: Endpoint + Clock + Commit + Lines + Drop>(
+    alloc: Global,
+    config: &Config,
+    number: usize,
+    store: S,
+    places: usize,
+    turns: u64,
+    outside: Result<O, RunFault>,
+) -> Result<Life<O>, RunFault>
+    requires { IsNode config.now number }
+    ensures part { RunsOver O.seen config.now number (S.seen store) outside result }
+    ensures turns { TakesItsTurns Global O.seen config.now number (S.seen store) places turns outside result }
+    ensures device { IfErr outside (λ fault. IsErr result) }
+{
+    if number < config.servers().len() {
+        let server = start_server(alloc, config, number, store);
+        run_at(alloc, config, number, server, places, turns, outside)
+    } else {
+        let router = start_router(alloc, config, number, store);
+        run_at(alloc, config, number, router, places, turns, outside)
+    }
+}
+
+// Runs the node with a number, if it starts.
+fn run_at<N: Node + Drop, O: Endpoint + Clock + Commit + Lines + Drop>(
+    alloc: Global,
+    config: &Config,
+    number: usize,
+    node: Result<N, RunFault>,
+    places: usize,
+    turns: u64,
+    outside: Result<O, RunFault>,
+) -> Result<Life<O>, RunFault>
+    requires { IfOk node (λ n. IsPlaced config.now number (N.state n)) }
+    ensures part { (store : StoreState) → IfOk node (λ n. Begins config.now number store (N.state n)) → RunsOver O.seen config.now number store outside result }
+    ensures turns { (store : StoreState) → IfOk node (λ n. Begins config.now number store (N.state n)) → TakesItsTurns Global O.seen config.now number store places turns outside result }
+    ensures start { IfErr node (λ fault. result ≡ Err fault) }
+    ensures device { OnOk node (IfErr outside (λ fault. result ≡ Err fault)) }
+{
+    let mut node = node?;
+    let mut outside = outside?;
+    let place = Place { config, number };
+    let ended = take_turns(alloc, &mut node, &place, places, turns, &mut outside);
+    Ok(Life { outside, ended })
+}

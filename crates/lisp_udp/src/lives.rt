@@ -1,0 +1,61 @@
+//! The lives of a node that begins anew where its store couldn't commit.
+
+ghost use Rattle.std.specs.Prelude.{IfOk};
+ghost use Rattle.lisp_udp.specs.Lives.{Lives, SaysRestarted};
+ghost use Rattle.lisp_udp.specs.Nodes.{IsNode};
+
+use crate::life::{Life, run_over};
+use lisp_database_store::{GroupStore, SharedDatabase, SystemTable};
+use lisp_model::Line;
+use lisp_script::RunFault;
+use lisp_sites::Config;
+use lisp_turns::{Clock, Commit, Endpoint, Lines, Printed, Uncommitted};
+use std::alloc::Global;
+
+/// How long a node rests before it begins anew, in ms.
+const REST_MS: u64 = 1_000;
+
+/// Runs the node with a number over a store in the database, in so many turns of so many datagrams. Where a turn couldn't be
+/// committed, it says that it restarted, rests, and begins anew over a store in that database, with the turns that are left: as a
+/// crash would have it. What is outside is given back. Faults: those of the start, then that of what is outside; at a later start 97.
+pub(crate) fn live<T: SystemTable, O: Endpoint + Clock + Commit + Lines + Drop>(
+    alloc: Global,
+    config: &Config,
+    number: usize,
+    database: &SharedDatabase<'_, T>,
+    places: usize,
+    turns: u64,
+    outside: Result<O, RunFault>,
+) -> Result<O, RunFault>
+    requires { IsNode config.now number }
+    ensures { IfOk outside (λ before. IfOk result (λ after. Lives Global config.now number places turns (O.seen before) (O.seen after))) }
+{
+    let store = GroupStore::over(database);
+    let mut life = run_over(alloc, config, number, store, places, turns, outside)?;
+    while let Err(Uncommitted { turns_left }) = life.ended {
+        let mut outside = life.outside;
+        rest(number, &mut outside);
+        if outside.is_cut() {
+            return Ok(outside);
+        }
+        let store = GroupStore::over(database);
+        life = run_over(
+            alloc,
+            config,
+            number,
+            store,
+            places,
+            turns_left,
+            Ok(outside),
+        )?;
+    }
+    Ok(life.outside)
+}
+
+// The node with a number says that it restarted, and rests.
+fn rest<O: Clock + Lines>(number: usize, outside: &mut O)
+    ensures { SaysRestarted number (O.seen outside.old) (O.seen outside.new) }
+{
+    outside.print(&Printed::Event(Line::Restarted { node: number }));
+    outside.wait(REST_MS);
+}

@@ -1,0 +1,148 @@
+"""What tools/bench_saves and tools/bench_server share: the disks that they measure on, a Map-Server, routers, and how pairs stand in
+a database. The first word of the command is the program, which is out/lispd where there is none."""
+import hmac
+import os
+import shutil
+import socket
+import subprocess
+import sys
+import time
+from typing import NamedTuple
+
+TOP = os.path.dirname(os.path.dirname(os.path.abspath(__file__)))
+OUT, MEMORY = f"{TOP}/out", "/dev/shm"
+MILLISECOND = 1_000
+PROGRAM = sys.argv[1] if sys.argv[1:] else f"{TOP}/out/lispd"
+SERVER, PORT = "127.0.0.11", 4342
+# How long an answer may take, in seconds.
+LIMIT = 30
+INSERT = "INSERT INTO nonces (kind, site_id, xtr_id, key_id, nonce) VALUES (?, ?, ?, ?, ?)"
+CONFIG = """[[site]]
+id = "0000000000000001"
+[[site.key]]
+id = 1
+secret = "736563726574"
+[[site.prefix]]
+eid = "10.0.0.0/8"
+more_specifics = true
+[[server]]
+name = "s1"
+address = "ADDRESS"
+"""
+
+
+class Disk(NamedTuple):
+    """Where files are made, and the environment in which programs run over them."""
+
+    name: str
+    folder: str
+    environment: dict
+
+
+def slow(microseconds):
+    """A disk in memory each of whose syncs takes so long; None where there is no C compiler."""
+    if shutil.which("cc") is None:
+        return None
+    os.makedirs(OUT, exist_ok=True)
+    library = f"{OUT}/bench_slow.so"
+    source = f"{TOP}/tools/bench_slow.c"
+    subprocess.run(["cc", "-O1", "-Wall", "-shared", "-fPIC", "-o", library, source, "-ldl"], check=True)
+    environment = {**os.environ, "LD_PRELOAD": library, "SLOW_MICROSECONDS": str(microseconds)}
+    return Disk(f"memory whose syncs take {microseconds / MILLISECOND:g} ms", MEMORY, environment)
+
+
+def disks():
+    """The disk of this folder, memory, and memory as a disk whose syncs take a millisecond."""
+    os.makedirs(OUT, exist_ok=True)
+    found = [Disk("this folder's disk", OUT, dict(os.environ)), Disk("memory", MEMORY, dict(os.environ)), slow(MILLISECOND)]
+    return [disk for disk in found if disk is not None]
+
+
+def row(number, nonce=0):
+    """The row of what is received from the router with a number as its xTR-ID, at site 1."""
+    return "received", f"{1:016x}", f"{number:032x}", 1, f"{nonce:020}"
+
+
+def sqlite():
+    """Python's module of SQLite in C; None where it isn't installed."""
+    try:
+        import sqlite3
+    except ImportError:
+        return None
+    return sqlite3
+
+
+def fill(path, pairs):
+    """Puts a row of each of so many pairs into a database that no program has open; whether SQLite in C is there to do it."""
+    if sqlite() is None:
+        return False
+    connection = sqlite().connect(path, isolation_level=None)
+    connection.execute("BEGIN")
+    connection.execute("DELETE FROM nonces")
+    connection.executemany(INSERT, (row(number) for number in range(pairs)))
+    connection.execute("COMMIT")
+    connection.execute("PRAGMA wal_checkpoint(TRUNCATE)")
+    connection.close()
+    return True
+
+
+def map_register(router, nonce, first, count):
+    """A Map-Register of a router with records of so many host prefixes, from one of 10.0.0.0/8 on (RFC 9301 section 5.6)."""
+    records = b"".join(bytes.fromhex("000005a000201000000000010a") + (first + place).to_bytes(3, "big") for place in range(count))
+    front = bytes([0x3A, 0, 1, count]) + nonce.to_bytes(8, "big") + bytes.fromhex("01020010")
+    behind = records + router.to_bytes(16, "big") + (1).to_bytes(8, "big")
+    tag = hmac.digest(b"secret", front + bytes(16) + behind, "sha256")[:16]
+    return front + tag + behind
+
+
+class Server:
+    """A Map-Server at an address, with its nonces in a folder."""
+
+    def __init__(self, disk, folder, words, address=SERVER):
+        config = f"{folder}/configuration.toml"
+        with open(config, "w", encoding="utf-8") as file:
+            file.write(CONFIG.replace("ADDRESS", address))
+        start = time.monotonic()
+        self.process = subprocess.Popen(
+            [PROGRAM, "server", config, "s1", "--store", folder, *words], env=disk.environment, stdout=subprocess.PIPE
+        )
+        started = self.process.stdout.readline()
+        if not started.startswith(b"started "):
+            raise SystemExit(f"the Map-Server didn't start: {started}")
+        self.start_seconds = time.monotonic() - start
+        # Takes what it prints.
+        self.reader = subprocess.Popen(["cat"], stdin=self.process.stdout, stdout=subprocess.DEVNULL)
+
+    def resident_kb(self):
+        with open(f"/proc/{self.process.pid}/status", encoding="ascii") as file:
+            return next(int(line.split()[1]) for line in file if line.startswith("VmRSS"))
+
+    def __enter__(self):
+        return self
+
+    def __exit__(self, *_):
+        self.process.kill()
+        self.process.wait()
+        self.process.stdout.close()
+        self.reader.wait()
+
+
+class Router:
+    """A socket at a router's address."""
+
+    def __init__(self, number, server=SERVER):
+        self.number, self.server = number, server
+        self.nonce = time.time_ns()
+        self.socket = socket.socket(socket.AF_INET, socket.SOCK_DGRAM)
+        self.socket.bind((f"127.0.1.{number}", PORT))
+        self.socket.settimeout(LIMIT)
+
+    def send(self, xtr=None, first=None, count=1):
+        """Sends a Map-Register of so many host prefixes; where nothing is said, of the one with the router's number."""
+        self.nonce += 1
+        xtr, first = (self.number if it is None else it for it in (xtr, first))
+        self.socket.sendto(map_register(xtr, self.nonce, first, count), (self.server, PORT))
+
+    def answered(self):
+        """Waits for a Map-Notify."""
+        self.socket.recv(65535)
