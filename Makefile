@@ -1,4 +1,4 @@
-# make run      answers a sample Map-Register, proved or not: one to two minutes on a fresh machine
+# make run      answers a sample Map-Register, proved or not: two to three minutes on a fresh machine
 # make lispd    proves the program and builds it as out/lispd
 # make demo     a Map-Server and two routers on loopback, of which the Map-Server is killed and comes back: some seconds
 # make test     the gate: proves everything from nothing, tries the wrong bodies, runs the tests and the samples
