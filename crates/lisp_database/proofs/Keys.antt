@@ -39,7 +39,7 @@ pub tie : (a b : Value) → equal Binary a b ≡ true → value_cmp a b ≡ Equa
 unfolding binary
 tie a b h = tied _ (value_cmp a b) h
 
-alike : (v : Value) → is_null v ≡ false → equal Binary v v ≡ true
+pub alike : (v : Value) → is_null v ≡ false → equal Binary v v ≡ true
 unfolding binary
 alike v some = rw (some, tied_itself value_cmp_total v) refl
 

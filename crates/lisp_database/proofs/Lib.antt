@@ -2,6 +2,8 @@ mod Texts
 mod Meaning
 mod Rows
 mod Keys
+mod Alone
+mod Picking
 mod Saving
 mod Calls
 mod Reading

@@ -1,47 +1,38 @@
 -- What a load finds in the table.
-use Rattle.std.proofs.Common.{◌≡◌, ◌⊎◌, inl, inr, ℕ, List, [], ◌∷◌, length, map, filter, flat_map, Bool, true, false, not, ◌&&◌, cond, Option, Some, None, Result, Ok, Err, Ordering, Less, Equal, Greater, append-nil, refl, sym, ap, subst, ◌∙◌, true≢false, arith}
+use Rattle.std.proofs.Common.{◌≡◌, ◌⊎◌, inl, inr, ℕ, List, [], ◌∷◌, length, map, filter, Bool, cond, Option, Some, None, Result, Ok, Err, append-nil, refl, sym, ap, subst, ◌∙◌, arith}
 use Rattle.std.specs.List.{list_all}
 use Rattle.std.specs.List.Sorted.{IsPermutation}
-use Rattle.std.specs.Ordering.{is_ne}
 use Rattle.std.specs.Prelude.{IfOk, OnOk, OnErr}
-use Rattle.std.proofs.lemmas.Bool.{cases_Bool, and_parts, and_from, not-true, false_from_ne_true}
-use Rattle.std.proofs.lemmas.Cmp.{tied_itself}
 use Rattle.std.proofs.lemmas.List.Sorted.{length_permutation}
 use Rattle.sqlite.specs.declared.error.Error.{Error}
 use Rattle.sqlite.specs.declared.error.Error.TheVariants.{QueryReturnedNoRows}
 use Rattle.sqlite.specs.declared.types.Value.TheVariants.{Null}
-use Rattle.sqlite.specs.Order.{Row, column, value_cmp}
-use Rattle.sqlite.specs.Ops.{binary, is_true, from_truth}
+use Rattle.sqlite.specs.Order.{Row, column}
 use Rattle.sqlite.specs.Term.{Env, holds}
 use Rattle.sqlite.specs.Query.{IsAnswer, output, Output, page}
 use Rattle.sqlite.specs.Program.{overlay}
-use Rattle.sqlite.specs.Tree.{Trees, rowid}
+use Rattle.sqlite.specs.Tree.{Trees}
 use Rattle.sqlite.specs.Effect.{Database, IsDatabase, RefusesToRead}
 use Rattle.sqlite.specs.State.{State, IsLive, IsUnchanged, IsNotRun, Survives, Shown, QueriesRow, FailsToQuery, CommitsShowing, store_error}
 use Rattle.sqlite.specs.Listing.{understood}
-use Rattle.sqlite_value.specs.Keys.{plain, first_key}
-use Rattle.sqlite_value.proofs.OrderLemmas.{value_cmp_total}
-use Rattle.sqlite_trees.specs.Tree.{IsTable}
-use Rattle.sqlite_trees.specs.View.{is_int}
+use Rattle.sqlite_value.specs.Keys.{first_key}
 use Rattle.sqlite_trees.specs.declared.error.StoreError.{StoreError}
 use Rattle.sqlite_trees.specs.declared.error.StoreError.TheVariants.{OutOfMemory, Io, Corrupt, Full, Broken, Unstorable}
-use Rattle.sqlite_rules.specs.Lists.{Has}
-use Rattle.sqlite_schema.specs.Rules.{agree, differ, clashes, guards, Keeps as Keep}
+use Rattle.sqlite_schema.specs.Rules.{Keeps as Keep}
 use Rattle.sqlite_schema.specs.declared.schema.Constraint.TheVariants.{Unique}
-use Rattle.sqlite_rules.proofs.KeyLemmas.{agree_back, agree_chain}
-use Rattle.sqlite_rules.proofs.ListLemmas.{all_has, has_filtered, some_from}
-use Rattle.sqlite_rules.proofs.TableLemmas.{int_is}
+use Rattle.sqlite_rules.proofs.ListLemmas.{has_filtered}
 use Rattle.sqlite_catalog.proofs.LayoutLemmas.{ascending_filter}
-use Rattle.sqlite_rules.proofs.PlaceLemmas.{tied_same}
 use Rattle.sqlite.proofs.Callers.{IsPlain, command_of, first_as, reads_as, one_permutation, never_commits}
 use Rattle.sqlite.proofs.StateLemmas.{survives_weaker}
 use Rattle.lisp_nonces.specs.declared.pair.Pair.{Pair}
 use Rattle.lisp_database.specs.Columns.{key_of, nonce_column}
-use Rattle.lisp_database.specs.Schema.{key_places, nonces, nonces_index, nonces_schema}
+use Rattle.lisp_database.specs.Schema.{nonces_schema}
 use Rattle.lisp_database.specs.Table.{load_text, Loads, LoadFails}
 use Rattle.lisp_database.specs.Kept.{HasTables, IsOfNonces, is_row_of, rows_of, Keeps, LeavesAll}
 use Rattle.lisp_database.proofs.Meaning.{load_plain}
 use Rattle.lisp_database.proofs.Reading.{query, load_is, load_unlisted}
+use Rattle.lisp_database.proofs.Alone.{at_most_one, same_row}
+use Rattle.lisp_database.proofs.Picking.{picked}
 
 no_items : {X : Type 0} (xs : List X) → length xs ≡ 0 → xs ≡ []
 no_items [] h = refl
@@ -49,42 +40,12 @@ no_items (x ∷ xs) h = absurd (omega (arith, h))
 
 -- ---- a pair has one row at most
 
-not_apart : (o : Ordering) → is_true (from_truth (Some (is_ne o))) ≡ false → o ≡ Equal
-not_apart Less h = absurd (true≢false h)
-not_apart Equal h = refl
-not_apart Greater h = absurd (true≢false h)
-
-ids_tie : (a b : Row) → is_int (rowid a) ≡ true → is_int (rowid b) ≡ true → differ (rowid a) (rowid b) ≡ false → value_cmp (rowid a) (rowid b) ≡ Equal
-unfolding binary
-ids_tie a b a_int b_int h =
-    let p = int_is (rowid a) a_int in
-    let q = int_is (rowid b) b_int in
-    rw (p, q) (not_apart _ (rw (p, q) at h))
-
-at_most_one : (rows : List Row) → IsTable rows → ((a b : Row) → Has rows a → Has rows b → a ≡ b) → (rows ≡ []) ⊎ ((row : Row) × (rows ≡ row ∷ []))
-at_most_one [] up same = inl refl
-at_most_one (r ∷ []) up same = inr (r, refl)
-at_most_one (r ∷ s ∷ more) up same =
-    let lower = subst (λ (x : Row). value_cmp (rowid r) (rowid x) ≡ Less) (sym (same r s (inl refl) (inr (inl refl)))) up.0.0 in
-    absurd (let tied = tied_itself value_cmp_total (rowid r) in cc)
-
 module _ (pair : Pair) (db : Database) (has : IsOfNonces db) (is : IsDatabase db) where
-  same_row : (a b : Row) → Has (db.trees 0) a → Has (db.trees 0) b → is_row_of pair a ≡ true → is_row_of pair b ≡ true → a ≡ b
-  same_row a b a_there b_there a_its b_its =
-      let places : List ℕ = 2 ∷ 1 ∷ 3 ∷ 0 ∷ [] in
-      let one_key = agree_chain plain key_places places key_places a (key_of pair) b a_its (agree_back plain key_places places b (key_of pair) b_its) in
-      let rules = subst (λ s. Keep Unique s db.trees) has.tables (is.obeys.rules Unique) in
-      let clash = guards nonces_index nonces && clashes plain key_places (db.trees 0) b in
-      let none = not-true clash (and_parts (not clash) true (all_has _ (db.trees 0) b rules.0 b_there)).0 in
-      let near = false_from_ne_true (differ (rowid a) (rowid b)) (λ apart.
-      true≢false (sym (some_from (λ x. agree plain key_places x key_places b && differ (rowid x) (rowid b)) (db.trees 0) a a_there (and_from _ _ one_key apart)) ∙ none)) in
-      tied_same (db.trees 0) a b has.rows.0 a_there b_there (ids_tie a b (all_has _ (db.trees 0) a has.rows.1 a_there) (all_has _ (db.trees 0) b has.rows.1 b_there) near)
-
   one_row : (rows_of db.trees pair ≡ []) ⊎ ((row : Row) × (rows_of db.trees pair ≡ row ∷ []))
   one_row = at_most_one (rows_of db.trees pair) (ascending_filter _ (is_row_of pair) (db.trees 0) has.rows.0) (λ a b h k.
       let p = has_filtered (is_row_of pair) (db.trees 0) a h in
       let q = has_filtered (is_row_of pair) (db.trees 0) b k in
-      same_row a b p.0 q.0 p.1 q.1)
+      same_row pair db.trees has.rows (subst (λ s. Keep Unique s db.trees) has.tables (is.obeys.rules Unique)) a b p.0 q.0 p.1 q.1)
 
 -- ---- the answer of the query
 
@@ -94,10 +55,6 @@ module _ (pair : Pair) (db : Trees) where
 
   abbrev chosen : Row → Bool
   chosen r = list_all (holds (env r)) query.filter
-
-  picked : (rows : List Row) → flat_map (λ r. cond (chosen r) (env r ∷ []) []) rows ≡ map env (filter chosen rows)
-  picked [] = refl
-  picked (r ∷ rows) = elim (cases_Bool (chosen r)) [ inl passes ↦ rw passes (ap (◌∷◌ (env r)) (picked rows)) | inr fails ↦ rw fails (picked rows) ]
 
   same_test : (r : Row) → chosen r ≡ is_row_of pair r
   unfolding first_key
@@ -112,7 +69,7 @@ module _ (pair : Pair) (db : Trees) where
 
   answer_is : (answer : List Row) → IsAnswer query db (key_of pair) answer → (rows_of db pair ≡ []) ⊎ ((row : Row) × (rows_of db pair ≡ row ∷ [])) → answer ≡ map nonce_row (rows_of db pair)
   answer_is answer a its =
-      let kept : a.kept ≡ map (output query) (map env (rows_of db pair)) = a.distinct ∙ ap (map (output query)) (a.grouped ∙ picked (db 0) ∙ ap (map env) (its_are (db 0))) in
+      let kept : a.kept ≡ map (output query) (map env (rows_of db pair)) = a.distinct ∙ ap (map (output query)) (a.grouped ∙ picked chosen env (db 0) ∙ ap (map env) (its_are (db 0))) in
       elim its [
         | inl none ↦
             let empty = length_permutation a.kept a.ordered a.same in

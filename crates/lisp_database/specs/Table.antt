@@ -22,9 +22,9 @@ create_writer_text = codes "CREATE TABLE writer (machine_id TEXT NOT NULL, boot_
 abbrev pub load_text : List ℕ
 load_text = codes "SELECT nonce FROM nonces WHERE xtr_id = ?3 AND site_id = ?2 AND key_id = ?4 AND kind = ?1"
 
--- puts the nonce of a pair in the place of the one that it had
+-- puts the row of a pair in, or in the place of the one that the pair has
 abbrev pub save_text : List ℕ
-save_text = codes "INSERT OR REPLACE INTO nonces (kind, site_id, xtr_id, key_id, nonce) VALUES (?1, ?2, ?3, ?4, ?5)"
+save_text = codes "INSERT INTO nonces (kind, site_id, xtr_id, key_id, nonce) VALUES (?1, ?2, ?3, ?4, ?5) ON CONFLICT DO UPDATE SET kind = ?1, site_id = ?2, xtr_id = ?3, key_id = ?4, nonce = ?5"
 
 -- the save of a nonce is that statement, with the columns of the pair
 abbrev pub Saves : State → State → Pair → ℕ → Result ℕ Error → Type 0

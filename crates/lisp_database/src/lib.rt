@@ -1,5 +1,5 @@
 //! The nonces of a router or a Map-Server in one SQLite database: a table of a row for each pair, with what SQL says of a load and a
-//! save (`load_nonce`, `save_nonce`), of groups of saves (`begin`, `commit`), and of who wrote last (`Writer`), over any connection.
+//! save (`load_nonce`, `save_nonce`), of groups of saves (`begin`, `commit`), and of who wrote last (`load_writer`), over any connection.
 #![tactic(auto)]
 
 mod columns;
@@ -16,4 +16,4 @@ pub use group::{begin, commit};
 pub use schema::is_of_nonces;
 pub use table::{count_pairs, keep_greatest, load_nonce, save_nonce};
 pub use tables::make_tables;
-pub use writer::{Writer, load_writer, save_writer};
+pub use writer::{load_writer, save_writer};

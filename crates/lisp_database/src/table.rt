@@ -4,7 +4,8 @@ ghost use Rattle.std.specs.Prelude.{◌≡◌, Some, false, IsTrue, IfOk, OnOk, 
 ghost use Rattle.std.specs.Str.{IsUtf8};
 ghost use Rattle.sqlite.specs.declared.types.Value.TheVariants.{Text};
 ghost use Rattle.sqlite.specs.Order.{column};
-ghost use Rattle.sqlite.specs.State.{HasCleanDisk, IsUnchanged, Survives, QueriesRow};
+ghost use Rattle.sqlite.specs.State.{HasCleanDisk, IsUnchanged, Survives, QueriesRow, CommitsShowing};
+ghost use Rattle.sqlite.specs.Values.{bound};
 ghost use Rattle.sqlite.specs.Held.{state};
 ghost use Rattle.lisp_store.specs.NonceText.{last_digits};
 ghost use Rattle.lisp_database.specs.Columns.{key_of};
@@ -14,14 +15,15 @@ ghost use Rattle.lisp_database.specs.Table.{load_text, Saves, CommitsNonce, Load
 use crate::columns::{kind_word, known, nonce_digits, nonce_from_digits, site_digits, xtr_digits};
 use lisp_nonces::Pair;
 use sqlite::{Alter, Connection, Error, ErrorCode, Row, params};
+use sqlite_value::value::ValueRef;
 
 /// Finds the nonce of a pair.
 const LOAD: &str =
     "SELECT nonce FROM nonces WHERE xtr_id = ?3 AND site_id = ?2 AND key_id = ?4 AND kind = ?1";
 
-/// Puts the nonce of a pair in the place of the one that it had.
+/// Puts the row of a pair in, or in the place of the one that the pair has.
 const SAVE: &str =
-    "INSERT OR REPLACE INTO nonces (kind, site_id, xtr_id, key_id, nonce) VALUES (?1, ?2, ?3, ?4, ?5)";
+    "INSERT INTO nonces (kind, site_id, xtr_id, key_id, nonce) VALUES (?1, ?2, ?3, ?4, ?5) ON CONFLICT DO UPDATE SET kind = ?1, site_id = ?2, xtr_id = ?3, key_id = ?4, nonce = ?5";
 
 /// Counts the pairs.
 const COUNT: &str = "SELECT count(*) FROM nonces";
@@ -147,7 +149,15 @@ fn find_row<S: Alter>(connection: &mut Connection<S>, pair: &Pair) -> Result<Row
 {
     let (site, xtr) = (site_digits(pair.router.site), xtr_digits(pair.router.xtr));
     let (kind, key) = (kind_word(pair.kind), u32::from(pair.key));
-    connection.query_row(LOAD, params![kind, text(&site), text(&xtr), key])
+    query_row(connection, params![kind, text(&site), text(&xtr), key])
+}
+
+// The row with a key.
+fn query_row<S: Alter>(connection: &mut Connection<S>, key: &[ValueRef<'_>]) -> Result<Row, Error>
+    ensures row { HasCleanDisk (state S.Store connection.new) → QueriesRow load_text (bound key.now) (state S.Store connection.old) (state S.Store connection.new) result }
+    ensures survives { Survives (state S.Store connection.old) (state S.Store connection.new) (CommitsShowing load_text (bound key.now) (state S.Store connection.old)) }
+{
+    connection.query_row(LOAD, key)
 }
 
 // The nonce in the first column of a row.

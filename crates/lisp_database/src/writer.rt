@@ -1,5 +1,6 @@
-//! Who wrote a database last.
+//! The row of who wrote a database last.
 
+use lisp_store::Writer;
 use sqlite::{Alter, Connection, Error, Row, params};
 
 /// Finds who wrote last.
@@ -10,13 +11,6 @@ const CHANGE: &str = "UPDATE writer SET machine_id = ?1, boot_id = ?2";
 
 /// Puts the first writer in.
 const SAVE: &str = "INSERT INTO writer (machine_id, boot_id) VALUES (?1, ?2)";
-
-/// Who wrote a database last: a machine, and a start of that machine.
-#[derive(Debug, Drop, PartialEq, Eq)]
-pub struct Writer {
-    pub machine_id: String,
-    pub boot_id: String,
-}
 
 /// Who wrote last, `None` for nobody yet.
 pub fn load_writer<S: Alter>(connection: &mut Connection<S>) -> Result<Option<Writer>, Error> {

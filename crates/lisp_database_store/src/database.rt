@@ -8,12 +8,12 @@ ghost use Rattle.lisp_database.specs.Kept.{HasTables, IsOfNonces, Keeps, SavesNo
 ghost use Rattle.lisp_database_store.specs.Fault.{load_fault};
 ghost use Rattle.lisp_database_store.specs.Table.{ShowsOpen, StaysOpen, IsCommitted, IsWaiting};
 
-use crate::fault::Failure;
+use crate::failure::Failure;
 use crate::new_file::place_empty;
 use crate::table::SystemTable;
-use lisp_database::Writer;
 use lisp_memory::FallibleString;
 use lisp_nonces::{Pair, StoreFault};
+use lisp_store::Writer;
 use sqlite::Error;
 use std::io::ErrorKind;
 
@@ -31,9 +31,11 @@ pub struct Database<T> {
 }
 
 impl<T: SystemTable> Database<T> {
-    /// Opens the database at `path`, or makes it, with the `application_id` of these databases, "LISP", and the `user_version` 1. `Device` where the file can't be opened, read or written, `Damaged` where it holds
-    /// no database of nonces.
-    pub fn open(rt: &HostRuntime, path: &str) -> Result<Database<T>, Failure> {
+    /// Opens the database at `path`, or makes it, with the `application_id` of these databases, "LISP", and the `user_version` 1.
+    /// `Device` where the file can't be opened, read or written, `Damaged` where it holds no database of nonces.
+    pub fn open(rt: &HostRuntime, path: &str) -> Result<Database<T>, Failure>
+        ensures tables { IfOk result (λ database. ShowsOpen T.Table.shows database.table HasTables) }
+    {
         place_empty(rt, path)?;
         let mut database = Database {
             rt: rt.clone()?,
@@ -150,13 +152,12 @@ impl<T: SystemTable> Database<T> {
     fn opened(&mut self) -> Result<T, Failure>
         ensures same { (c : _) → self.old.table ≡ Some c → result ≡ Ok c }
         ensures taken { self.new.table ≡ None }
+        ensures tables { self.old.table ≡ None → IfOk result (λ table. HasTables (T.Table.shows table)) }
     {
         if let Some(table) = self.table.take() {
             return Ok(table);
         }
-        let mut table = T::open(&self.rt, self.path.as_str())?;
-        table.make_tables()?;
-        Ok(table)
+        Ok(open_table(&self.rt, self.path.as_str())?)
     }
 
     // The same, for a call that writes.
@@ -207,4 +208,13 @@ impl<T: SystemTable> Database<T> {
             Err(error) => Err(Failure::of_save(error)),
         }
     }
+}
+
+// Opens the file at `path`, and makes the tables where it has none.
+fn open_table<T: SystemTable>(rt: &HostRuntime, path: &str) -> Result<T, Error>
+    ensures { IfOk result (λ table. HasTables (T.Table.shows table)) }
+{
+    let mut table = T::open(rt, path)?;
+    table.make_tables()?;
+    Ok(table)
 }

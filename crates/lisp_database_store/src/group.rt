@@ -7,7 +7,7 @@ ghost use Rattle.lisp_database_store.specs.Groups.{StaysLost, Waits, LosesGroup,
 ghost use Rattle.lisp_database_store.specs.declared.group.Group.{Group};
 
 use crate::database::Database;
-use crate::fault::Failure;
+use crate::failure::Failure;
 use crate::table::SystemTable;
 use lisp_nonces::{Pair, StoreFault};
 use std::io::ErrorKind;

@@ -3,7 +3,7 @@
 #![tactic(auto)]
 
 mod database;
-mod fault;
+mod failure;
 mod group;
 mod group_store;
 mod new_file;
@@ -14,9 +14,9 @@ mod taking;
 mod writer;
 
 pub use database::Database;
-pub use fault::Failure;
+pub use failure::Failure;
 pub use group_store::GroupStore;
+pub use lisp_store::Change;
 pub use shared::SharedDatabase;
 pub use store::DatabaseStore;
 pub use table::{SqliteTable, SystemDisk, SystemTable, Table};
-pub use writer::Change;

@@ -4,7 +4,7 @@ ghost use Rattle.std.specs.Prelude.{◌≡◌, Ok, Err, IfOk, IfErr};
 ghost use Rattle.lisp_nonces.specs.declared.fault.StoreFault.{StoreFault};
 
 use crate::database::Database;
-use crate::fault::Failure;
+use crate::failure::Failure;
 use crate::group::Groups;
 use crate::table::SystemTable;
 use lisp_nonces::{Pair, StoreFault};

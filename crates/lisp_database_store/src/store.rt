@@ -7,7 +7,7 @@ ghost use Rattle.lisp_nonces.specs.declared.fate.Fate.TheVariants.{Done};
 ghost use Rattle.lisp_store.specs.File.{CountsFault};
 
 use crate::database::Database;
-use crate::fault::Failure;
+use crate::failure::Failure;
 use crate::table::SystemTable;
 use lisp_nonces::{Fate, NonceStore, Pair, StoreFault, WorldStore};
 use std::cell::Cell;

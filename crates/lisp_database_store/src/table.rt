@@ -8,10 +8,11 @@ ghost use Rattle.lisp_database.specs.Kept.{HasTables, IsOfNonces, Keeps, SavesNo
 ghost use Rattle.lisp_database_store.specs.Table.{IsCommitted, IsWaiting};
 
 use lisp_database::{
-    Writer, begin, commit, count_pairs, keep_greatest, load_nonce, load_writer, make_tables,
-    save_nonce, save_writer,
+    begin, commit, count_pairs, keep_greatest, load_nonce, load_writer, make_tables, save_nonce,
+    save_writer,
 };
 use lisp_nonces::Pair;
+use lisp_store::Writer;
 use sqlite::{Alter, Connection, Error, File, FileStore};
 use sqlite_disk::Disk;
 
@@ -20,7 +21,8 @@ pub trait Table: Drop {
     ghost shows: { Self → State };
 
     /// Makes the tables, where the database has nothing in it. An error where it has others.
-    fn make_tables(&mut self) -> Result<(), Error>;
+    fn make_tables(&mut self) -> Result<(), Error>
+        ensures { OnOk result (HasTables (Self.shows self.new)) };
 
     /// The nonce that is kept for the pair, `None` for nothing.
     fn load(&mut self, pair: &Pair) -> Result<Option<u64>, Error>

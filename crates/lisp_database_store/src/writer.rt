@@ -1,44 +1,16 @@
 //! Who wrote a database last.
 
-ghost use Rattle.std.specs.Prelude.{◌≡◌, ◌≢◌, ◌≤◌, [], IfOk, length};
-ghost use Rattle.std.specs.String.{string_bytes};
-
 use crate::database::Database;
-use crate::fault::Failure;
+use crate::failure::Failure;
 use crate::table::SystemTable;
-use lisp_database::Writer;
-use lisp_memory::FallibleString;
-use std::alloc::AllocError;
-use std::fs;
-use std::io::{self, Read};
+use lisp_store::{Change, Writer};
 use std::rt::Files;
-
-/// The machine's id, made when the system was installed.
-const MACHINE_ID: &str = "/etc/machine-id";
-
-/// The boot's id, made when the system started.
-const BOOT_ID: &str = "/proc/sys/kernel/random/boot_id";
-
-/// More bytes than an id has.
-const ROOM: usize = 64;
-
-/// What is another than at the last writer.
-#[derive(Clone, Copy, Debug, PartialEq, Eq)]
-pub struct Change {
-    /// The machine.
-    pub machine: bool,
-    /// The start of the machine.
-    pub boot: bool,
-}
 
 impl<T: SystemTable> Database<T> {
     /// Compares the machine and its start with those of the last writer, and keeps the new ones where they differ. What can't be read
     /// now, or couldn't be then, is no change. Takes memory. `Device` whatever failed as they are kept.
     pub fn sign<R: Files + AllocGlobal>(&mut self, rt: &R) -> Result<Change, Failure> {
-        let now = Writer {
-            machine_id: read_id(rt, MACHINE_ID)?,
-            boot_id: read_id(rt, BOOT_ID)?,
-        };
+        let now = Writer::of_this_start(rt)?;
         let Some(last) = self.load_writer()? else {
             self.save_writer(&now)?;
             return Ok(Change {
@@ -46,60 +18,10 @@ impl<T: SystemTable> Database<T> {
                 boot: false,
             });
         };
-        let change = compared(&last, &now);
-        if is_news(&last, &now) {
-            self.save_writer(&joined(last, now))?;
+        let change = Change::between(&last, &now);
+        if now.is_news(&last) {
+            self.save_writer(&now.joined(last))?;
         }
         Ok(change)
     }
-}
-
-// What is another than at the last writer, where both are known.
-fn compared(last: &Writer, now: &Writer) -> Change {
-    Change {
-        machine: is_other(last.machine_id.as_str(), now.machine_id.as_str()),
-        boot: is_other(last.boot_id.as_str(), now.boot_id.as_str()),
-    }
-}
-
-// Whether two ids are known, and are not the same.
-fn is_other(last: &str, now: &str) -> bool {
-    !last.is_empty() && !now.is_empty() && last != now
-}
-
-// Whether something is known of this writer that isn't kept.
-fn is_news(last: &Writer, now: &Writer) -> bool {
-    (!now.machine_id.is_empty() && last.machine_id != now.machine_id)
-        || (!now.boot_id.is_empty() && last.boot_id != now.boot_id)
-}
-
-// This writer, with what is known of the last one in the place of what isn't known of it.
-fn joined(last: Writer, now: Writer) -> Writer {
-    Writer {
-        machine_id: known(last.machine_id, now.machine_id),
-        boot_id: known(last.boot_id, now.boot_id),
-    }
-}
-
-// The last id, where there is none now.
-fn known(last: String, now: String) -> String
-    ensures none { string_bytes now ≡ [] → result ≡ last }
-    ensures some { string_bytes now ≢ [] → result ≡ now }
-{
-    if now.is_empty() { last } else { now }
-}
-
-// An id in a file, without the white space around it; an empty text where it can't be read.
-fn read_id<R: Files + AllocGlobal>(rt: &R, path: &str) -> Result<String, AllocError> {
-    let mut buffer = [0; ROOM];
-    let count = read_front(rt, path, &mut buffer).unwrap_or(0);
-    let id = str::from_utf8(&buffer[..count]).unwrap_or("");
-    String::try_from_str(rt.alloc(), id.trim())
-}
-
-// Reads the front of a file: how many bytes that are.
-fn read_front<R: Files>(rt: &R, path: &str, buffer: &mut [u8]) -> io::Result<usize>
-    ensures { IfOk result (λ count. count ≤ length buffer.new) }
-{
-    fs::open(rt, path)?.read(buffer)
 }

@@ -1,11 +1,9 @@
 -- What is asked of a node of a network that stands for a trace.
-use Rattle.std.proofs.Common.{Bor, ◌≡◌, ℕ, suc, ◌+◌, ◌-◌, ◌<◌, ◌≤◌, nat_lt, Bool, true, false, List, [], ◌++◌, length, take, get_or, Option, Some, None, refl, sym, ap, subst, ◌∙◌, arith}
+use Rattle.std.proofs.Common.{Bor, ◌≡◌, ℕ, ◌+◌, ◌-◌, ◌<◌, ◌≤◌, nat_lt, Bool, true, false, List, length, Option, Some, None, refl, sym, ap, subst, ◌∙◌, arith}
 use Rattle.std.specs.Prelude.{is_some, slice_get, slice_index_or, if◌then◌else◌}
 use Rattle.std.specs.List.{flat_map}
 use Rattle.std.specs.Option.{option_map, option_and_then, unwrap_or}
 use Rattle.std.proofs.lemmas.Bool.{ltb-true, ltb-false, lt-ltb, le-ltb}
-use Rattle.std.proofs.Math.Seq.{take-suc}
-use Rattle.std.proofs.lemmas.List.{flat_map_more}
 use Rattle.std.proofs.lemmas.Option.{slice_get_within}
 use Rattle.lisp_records.specs.declared.address.Addr.{Addr}
 use Rattle.lisp_records.specs.declared.router.RouterId.{RouterId}
@@ -27,7 +25,8 @@ use Rattle.lisp_refinement.specs.Asked.{ServerTells, RouterTells}
 use Rattle.lisp_refinement.proofs.Gets.{none_is_some, same_some, get_within}
 use Rattle.lisp_refinement.proofs.Asking.{servers_tell, routers_tell}
 use Rattle.lisp_lines.specs.Query.{hold_text, ack_text, ask_text, due_text, due_server, due_router}
-use Rattle.lisp_player.specs.Asked.{Where, Holds, Asks, Acknowledges, IsDue, IsDueAtRouter, OfTraces, CountedFrom, acked_parts, router_in, due_of, due_in, is_router, of_router, down_text, fault_text, missing_text}
+use Rattle.lisp_asked.specs.Router.{CountedFrom, due_of, due_in}
+use Rattle.lisp_player.specs.Asked.{Where, Holds, Asks, Acknowledges, IsDue, IsDueAtRouter, OfTraces, acked_parts, router_in, is_router, of_router, down_text, fault_text, missing_text}
 use Rattle.lisp_model.specs.declared.world_fault.WorldFault.{WorldFault}
 use Rattle.lisp_model.specs.declared.world_fault.WorldFault.TheVariants.{NoNode, WrongKind}
 
@@ -252,14 +251,6 @@ acks_down w c router entry text found at is = down_told w c router text (counts 
 
 pub acks_missing : (w : WorldState) (c : ConfigValue) (router : ℕ) (text : List ℕ) → None ≡ router_in c router → text ≡ missing_text c router → OfTraces w c (λ o T. Acknowledges o T router text)
 acks_missing w c router text found is = none_told w c router text (counts router) found is
-
--- one line more
-pub counted_more : (f : ℕ → List ℕ) (servers : List ℕ) (place : ℕ) (before after : List ℕ) → place < length servers → before ≡ flat_map f (take place servers)
-    → after ≡ before ++ f (get_or servers place 0) → after ≡ flat_map f (take (place + 1) servers)
-counted_more f servers place before after within so_far grown =
-    let next : suc place ≡ place + 1 = omega arith in
-    grown ∙ ap (λ (t : List ℕ). t ++ f (get_or servers place 0)) so_far ∙ flat_map_more f [] (take place servers) (get_or servers place 0)
-    ∙ ap (flat_map f) (sym (take-suc servers place 0 within)) ∙ ap (λ (n : ℕ). flat_map f (take n servers)) next
 
 -- which Map-Server is due to a router, and of which part
 abbrev dues : ℕ → Opening → List Step → List ℕ

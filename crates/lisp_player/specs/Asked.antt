@@ -1,8 +1,7 @@
 -- The text of what is asked of a node, by the trace alone.
-use Rattle.std.specs.Prelude.{◌≡◌, ℕ, ◌+◌, nat_lt, Bool, true, false, map, slice_get, List, [], ◌∷◌, ◌++◌, length, codes, Option, Some, None, Result, String, string_bytes, IfOk, if◌then◌else◌}
+use Rattle.std.specs.Prelude.{◌≡◌, ℕ, ◌+◌, nat_lt, Bool, true, false, map, List, [], ◌∷◌, ◌++◌, length, codes, Option, Some, None, Result, String, string_bytes, IfOk, if◌then◌else◌}
 use Rattle.std.specs.Fmt.{decimal}
 use Rattle.std.specs.List.{flat_map}
-use Rattle.std.specs.Option.{option_and_then, option_map}
 use Rattle.lisp_records.specs.declared.address.Addr.{Addr}
 use Rattle.lisp_records.specs.declared.router.RouterId.{RouterId}
 use Rattle.lisp_lookup.specs.declared.answer.Answer.{Answer}
@@ -15,8 +14,7 @@ use Rattle.lisp_model.specs.Counted.{acked}
 use Rattle.lisp_model.specs.Numbers.{part_numbers}
 use Rattle.lisp_model.specs.Timers.{due_part}
 use Rattle.lisp_model.specs.Answer.{IsAnswer}
-use Rattle.lisp_etr.specs.Etr.{EtrState, due_at}
-use Rattle.lisp_etr.specs.Rounds.{acked_at, first_part}
+use Rattle.lisp_etr.specs.Rounds.{first_part}
 use Rattle.lisp_refinement.specs.World.{WorldState}
 use Rattle.lisp_refinement.specs.Stands.{Stands}
 use Rattle.lisp_refinement.specs.Asked.{IsNextNotice}
@@ -26,6 +24,7 @@ use Rattle.lisp_model.specs.Faults.{world_fault_number}
 use Rattle.lisp_lines.specs.declared.datagram_place.DatagramPlace.TheVariants.{Shown}
 use Rattle.lisp_lines.specs.Line.{line_text}
 use Rattle.lisp_lines.specs.Query.{hold_text, ack_text, ask_text, due_text, due_server, due_router}
+use Rattle.lisp_asked.specs.Router.{due_of}
 
 -- a fault of the network
 abbrev pub fault_text : WorldFault → List ℕ
@@ -70,10 +69,6 @@ is_router c node = if nat_lt node (length c.servers) then false else nat_lt node
 abbrev pub Acknowledges : Opening → List Step → ℕ → List ℕ → Type 0
 Acknowledges o T router text = text ≡ (if is_router o.config router then acks_text o T router else missing_text o.config router)
 
--- the Map-Server at a place of a list, and the part that is due there
-abbrev pub due_of : List ℕ → Option (ℕ × ℕ) → Option (ℕ × ℕ)
-due_of servers due = option_and_then (λ d. option_map (λ server. (server, d.1)) (slice_get servers d.0)) due
-
 -- to which router a notice is due; which Map-Server is due to a router, and of which part
 abbrev pub due_at_router : Opening → List Step → ℕ → List ℕ
 due_at_router o T router = of_router o T router (due_text o.config router (due_server o.config (due_of (router_at o.config router).servers (first_part (due_part o T router) (router_at o.config router).servers))))
@@ -95,19 +90,6 @@ OfTraces w c P = (o : Opening) (T : List Step) → Stands w o T → o.config ≡
 abbrev pub SaysOfTraces : {E Z : Type 0} → Result (String Z) E → WorldState → ConfigValue → (Opening → List Step → List ℕ → Type 0) → Type 0
 SaysOfTraces result w c P = IfOk result (λ text. OfTraces w c (λ o T. P o T (string_bytes text)))
 
--- what a router counted last of each part from each of these Map-Servers, by its rounds
-abbrev pub CountedFrom : EtrState → List ℕ → (ℕ → List (Option (ℕ × ℕ))) → Type 0
-CountedFrom etr servers counted = (place server : ℕ) → slice_get servers place ≡ Some server → acked_at etr.rounds place ≡ counted server
-
--- a text, where there is one, has lines for each of these Map-Servers: what the router counted last of each part from it
-abbrev pub ListsCounts : {E Z : Type 0} → Result (String Z) E → ConfigValue → ℕ → EtrState → List ℕ → Type 0
-ListsCounts result c router etr servers = IfOk result
-    (λ text. (counted : ℕ → List (Option (ℕ × ℕ))) → CountedFrom etr servers counted → string_bytes text ≡ flat_map (λ server. ack_text c router server (counted server)) servers)
-
 -- the router of a configuration with a number
 abbrev pub router_in : ConfigValue → ℕ → Option RouterEntryValue
 router_in c node = if is_router c node then Some (router_at c node) else None
-
--- the Map-Server of a list that is due first, and the part, by the rounds of its router at a moment
-abbrev pub due_in : EtrState → List ℕ → ℕ → Option (ℕ × ℕ)
-due_in etr servers now = due_of servers (due_at etr now)

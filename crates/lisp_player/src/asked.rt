@@ -3,12 +3,10 @@
 ghost use Rattle.std.specs.Prelude.{◌≡◌, IfOk, OnErr};
 ghost use Rattle.std.specs.Option.{option_map};
 ghost use Rattle.std.specs.String.{string_bytes};
-ghost use Rattle.lisp_player.specs.Asked.{Acknowledges, Asks, Holds, IsDue, IsDueAtRouter, ListsCounts, SaysOfTraces, due_in, fault_text, missing_text, router_in};
+ghost use Rattle.lisp_player.specs.Asked.{Acknowledges, Asks, Holds, IsDue, IsDueAtRouter, SaysOfTraces, fault_text, missing_text, router_in};
 
-use lisp_etr::Etr;
-use lisp_lines::{
-    DatagramPlace, ask_text, due_router_text, due_server_text, hold_text, line_text, put_acks,
-};
+use lisp_asked::{RouterQuestion, ServerQuestion, router_answer, server_answer};
+use lisp_lines::{DatagramPlace, line_text};
 use lisp_memory::{FallibleString, Memory};
 use lisp_model::Line;
 use lisp_nonces::WorldStore;
@@ -30,9 +28,14 @@ pub(crate) fn hold_lines<S: WorldStore, A: Memory + Copy, E: Allocator>(
     let Some(core) = world.server(server) else {
         return missing_line(alloc, config, server);
     };
-    let now = world.clock();
-    let rows = core.held(now)?;
-    hold_text(alloc, config, server, now, &rows)
+    server_answer(
+        alloc,
+        config,
+        server,
+        core,
+        ServerQuestion::Hold,
+        world.clock(),
+    )
 }
 
 /// Who answers for an address at a Map-Server.
@@ -49,8 +52,14 @@ pub(crate) fn ask_line<S: WorldStore, A: Memory + Copy, E: Allocator>(
     let Some(core) = world.server(server) else {
         return missing_line(alloc, config, server);
     };
-    let answer = core.answer(addr, world.clock());
-    ask_text(alloc, config, server, addr, &answer)
+    server_answer(
+        alloc,
+        config,
+        server,
+        core,
+        ServerQuestion::Ask(*addr),
+        world.clock(),
+    )
 }
 
 /// What a router counted last of each part from each of its Map-Servers.
@@ -67,7 +76,15 @@ pub(crate) fn ack_lines<S: WorldStore, A: Memory + Copy, E: Allocator>(
         return missing_line(alloc, config, router);
     };
     match world.router(router) {
-        Some(etr) => counted_lines(alloc, etr, config, router, entry.servers.as_slice()),
+        Some(etr) => router_answer(
+            alloc,
+            config,
+            router,
+            entry.servers.as_slice(),
+            etr,
+            RouterQuestion::Acks,
+            world.clock(),
+        ),
         None => line_text(alloc, config, &Line::Down { router }, DatagramPlace::Shown),
     }
 }
@@ -83,7 +100,14 @@ pub(crate) fn due_line<S: WorldStore, A: Memory + Copy, E: Allocator>(
     ensures memory { OnErr result A.may_refuse }
 {
     match world.server(node) {
-        Some(core) => { due_router_text(alloc, config, node, core.due_notices(world.clock())) }
+        Some(core) => server_answer(
+            alloc,
+            config,
+            node,
+            core,
+            ServerQuestion::Due,
+            world.clock(),
+        ),
         None => due_at_router(alloc, world, config, node),
     }
 }
@@ -102,10 +126,15 @@ fn due_at_router<S: WorldStore, A: Memory + Copy, E: Allocator>(
         return missing_line(alloc, config, node);
     };
     match world.router(node) {
-        Some(etr) => {
-            let due = due_server(etr, entry.servers.as_slice(), world.clock());
-            due_server_text(alloc, config, node, due)
-        }
+        Some(etr) => router_answer(
+            alloc,
+            config,
+            node,
+            entry.servers.as_slice(),
+            etr,
+            RouterQuestion::Due,
+            world.clock(),
+        ),
         None => line_text(
             alloc,
             config,
@@ -113,33 +142,6 @@ fn due_at_router<S: WorldStore, A: Memory + Copy, E: Allocator>(
             DatagramPlace::Shown,
         ),
     }
-}
-
-// The first of these Map-Servers that is due to a router at a moment, and the first part that is due there.
-fn due_server<A: Memory + Copy>(etr: &Etr<A>, servers: &[usize], now: u64) -> Option<(usize, usize)>
-    ensures { result ≡ due_in etr.now servers.now now }
-{
-    let (place, part) = etr.due(now)?;
-    let server = servers.get(place)?;
-    Some((*server, part))
-}
-
-// The lines of these Map-Servers: what a router counted last of each part from it.
-fn counted_lines<A: Memory + Copy, E: Allocator>(
-    alloc: A,
-    etr: &Etr<A>,
-    config: &Config<E>,
-    router: usize,
-    servers: &[usize],
-) -> Result<String<A>, AllocError>
-    ensures told { ListsCounts result config.now router etr.now servers.now }
-    ensures memory { OnErr result A.may_refuse }
-{
-    let mut text = String::new(alloc);
-    for (place, server) in servers.iter().enumerate() {
-        put_acks(&mut text, config, router, *server, etr.acked(place))?;
-    }
-    Ok(text)
 }
 
 // The router of a configuration with a number.

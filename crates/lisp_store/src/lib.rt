@@ -1,5 +1,5 @@
-//! Where routers and Map-Servers keep their nonces: stores in the files of a folder (`FileStore`, `Folder`) and in memory; and
-//! for tests a folder in memory (`MemoryFolder`), a store of which a call fails (`Failing`), and one that keeps no promise about
+//! Where routers and Map-Servers keep their nonces: stores in the files of a folder (`FileStore`, `Folder`) and in memory; what
+//! another store takes over of these files (`read_nonces`, `put_aside`), and who wrote one last (`Writer`); and for tests a folder in memory (`MemoryFolder`), a store of which a call fails (`Failing`), and one that keeps no promise about
 //! nonces (`Liar`).
 #![tactic(auto)]
 
@@ -7,9 +7,11 @@ mod file;
 mod folder;
 pub mod laws;
 mod name;
+mod nonce_file;
 mod system_folder;
 mod testing;
 mod text;
+mod writer;
 
 pub use file::FileStore;
 pub use folder::{Folder, FolderFault};
@@ -18,6 +20,8 @@ pub use lisp_nonces::{
     PairKind, StoreFault, WorldStore,
 };
 pub use name::{count_pairs, pair_from_name, pair_name};
+pub use nonce_file::{NonceFile, put_aside, read_nonces};
 pub use system_folder::{SystemFolder, is_file_there};
 pub use testing::{Failing, Liar, MemoryFolder};
 pub use text::{nonce_from_text, nonce_text};
+pub use writer::{Change, Writer};

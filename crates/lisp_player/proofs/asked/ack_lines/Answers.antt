@@ -8,7 +8,7 @@ pub returns-in_default-clause-told : goal.returns-in_default-clause-told
 returns-in_default-clause-told g c = IfOk-weaker c.missing_line.result _ _ (λ text is. acks_missing c.args.world.now c.args.config.now c.args.router (string_bytes text) c.in_default.ensures is) c.missing_line.ensures.text
 
 pub returns-in-Some-router-clause-told : goal.returns-in-Some-router-clause-told
-returns-in-Some-router-clause-told g c = IfOk-weaker c.counted_lines.result _ _ (λ text is. acks_told c.args.world.now c.args.config.now c.args.router c.in-Some.entry.now c.in-Some-router.etr.now c.as_slice.result.now (string_bytes text) c.in-Some.ensures c.in-Some-router.ensures (search rules) is) c.counted_lines.ensures.told
+returns-in-Some-router-clause-told g c = IfOk-weaker c.router_answer.result _ _ (λ text is. acks_told c.args.world.now c.args.config.now c.args.router c.in-Some.entry.now c.in-Some-router.etr.now c.as_slice.result.now (string_bytes text) c.in-Some.ensures c.in-Some-router.ensures (search rules) is) c.router_answer.ensures.told
 
 pub returns-in-None-clause-told : goal.returns-in-None-clause-told
 returns-in-None-clause-told g c = IfOk-weaker c.line_text.result _ _ (λ text is. acks_down c.args.world.now c.args.config.now c.args.router c.in-Some.entry.now (string_bytes text) c.in-Some.ensures c.in-None.ensures is) c.line_text.ensures.text

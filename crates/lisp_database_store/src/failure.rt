@@ -2,7 +2,7 @@
 
 ghost use Rattle.std.specs.Prelude.{◌≡◌};
 ghost use Rattle.lisp_nonces.specs.declared.fault.StoreFault.{StoreFault};
-ghost use Rattle.lisp_database_store.specs.Fault.{load_fault};
+ghost use Rattle.lisp_database_store.specs.Fault.{code_fault, load_fault};
 
 use lisp_nonces::StoreFault;
 use sqlite::{Error, ErrorCode};
@@ -23,10 +23,7 @@ impl Failure {
     pub(crate) fn of_save(error: Error) -> Failure
         ensures { result.fault ≡ StoreFault.Device }
     {
-        Failure {
-            fault: StoreFault::Device,
-            kind: error_kind(error),
-        }
+        Failure::of_device(Failure::from(error).kind)
     }
 
     /// A device that failed, with an error of this kind.
@@ -43,10 +40,17 @@ impl Failure {
 impl From<Error> for Failure {
     ghost from_gives = { λ error failure. failure.fault ≡ load_fault error };
 
+    /// That of an open or a load: `Damaged` where the file holds no database, or not the table of nonces.
     fn from(error: Error) -> Failure {
-        Failure {
-            fault: load_fault(error),
-            kind: error_kind(error),
+        match error {
+            Error::SqliteFailure(code) => Failure {
+                fault: code_fault(code),
+                kind: code_kind(code),
+            },
+            _ => Failure {
+                fault: StoreFault::Damaged,
+                kind: ErrorKind::Other,
+            },
         }
     }
 }
@@ -71,10 +75,17 @@ impl From<io::Error> for Failure {
     fn from(error: io::Error) -> Failure {
         match error.kind() {
             ErrorKind::OutOfMemory => OUT_OF_MEMORY,
+            ErrorKind::InvalidData => DAMAGED,
             kind => Failure::of_device(kind),
         }
     }
 }
+
+/// A file that holds no nonce.
+const DAMAGED: Failure = Failure {
+    fault: StoreFault::Damaged,
+    kind: ErrorKind::InvalidData,
+};
 
 /// No memory.
 const OUT_OF_MEMORY: Failure = Failure {
@@ -82,31 +93,28 @@ const OUT_OF_MEMORY: Failure = Failure {
     kind: ErrorKind::OutOfMemory,
 };
 
-/// The fault of an open or a load: `Damaged` where the file holds no database, or not the table of nonces.
-pub(crate) fn load_fault(error: Error) -> StoreFault
-    ensures { result ≡ load_fault error }
+// What a store is told of a failure.
+fn code_fault(code: ErrorCode) -> StoreFault
+    ensures { result ≡ code_fault code }
 {
-    match error {
-        Error::SqliteFailure(ErrorCode::OutOfMemory) => StoreFault::OutOfMemory,
-        Error::SqliteFailure(
-            ErrorCode::SystemIoFailure
-            | ErrorCode::DiskFull
-            | ErrorCode::Closed
-            | ErrorCode::CannotOpen
-            | ErrorCode::DatabaseBusy,
-        ) => StoreFault::Device,
+    match code {
+        ErrorCode::OutOfMemory => StoreFault::OutOfMemory,
+        ErrorCode::SystemIoFailure
+        | ErrorCode::DiskFull
+        | ErrorCode::Closed
+        | ErrorCode::CannotOpen
+        | ErrorCode::DatabaseBusy => StoreFault::Device,
         _ => StoreFault::Damaged,
     }
 }
 
-// The kind of the system's errors that tells most of what failed.
-fn error_kind(error: Error) -> ErrorKind {
-    match error {
-        Error::SqliteFailure(ErrorCode::OutOfMemory) => ErrorKind::OutOfMemory,
-        Error::SqliteFailure(ErrorCode::DiskFull) => ErrorKind::StorageFull,
-        Error::SqliteFailure(ErrorCode::DatabaseBusy) => ErrorKind::ResourceBusy,
-        Error::SqliteFailure(ErrorCode::DatabaseCorrupt | ErrorCode::NotADatabase) =>
-            ErrorKind::InvalidData,
+// The kind of the system's errors that tells most of a failure.
+fn code_kind(code: ErrorCode) -> ErrorKind {
+    match code {
+        ErrorCode::OutOfMemory => ErrorKind::OutOfMemory,
+        ErrorCode::DiskFull => ErrorKind::StorageFull,
+        ErrorCode::DatabaseBusy => ErrorKind::ResourceBusy,
+        ErrorCode::DatabaseCorrupt | ErrorCode::NotADatabase => ErrorKind::InvalidData,
         _ => ErrorKind::Other,
     }
 }
