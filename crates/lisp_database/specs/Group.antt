@@ -1,5 +1,5 @@
 -- Saves that one commit keeps together.
-use Rattle.std.specs.Prelude.{◌≡◌, ℕ, false, List, codes, IsTrue}
+use Rattle.std.specs.Prelude.{◌≡◌, ℕ, true, false, List, codes, IsTrue}
 use Rattle.sqlite.specs.Tree.{Trees}
 use Rattle.sqlite.specs.State.{State}
 
@@ -23,3 +23,11 @@ pub record CommitsGroup (old new : State) : Type 0 where
   pub now : new.now ≡ old.now
   pub committed : new.committed ≡ old.now
   pub durable : (db : Trees) → new.may_leave db → db ≡ old.now.trees
+
+-- saves wait for a commit
+abbrev pub IsWaiting : State → Type 0
+IsWaiting s = s.in_transaction ≡ true
+
+-- nothing waits for one
+abbrev pub IsCommitted : State → Type 0
+IsCommitted s = IsTrue s.is_open → s.now ≡ s.committed

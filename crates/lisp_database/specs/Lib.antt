@@ -3,3 +3,5 @@ pub mod Table
 pub mod Schema
 pub mod Kept
 pub mod Group
+pub mod Fault
+pub mod Meaning

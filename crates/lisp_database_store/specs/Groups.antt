@@ -1,19 +1,17 @@
 -- Saves that wait for one commit.
 use Rattle.std.specs.Prelude.{◌≡◌, ◌⊎◌, None}
-use Rattle.sqlite.specs.State.{State, HasCleanDisk}
-use Rattle.lisp_database.specs.Group.{CommitsGroup}
-use Rattle.lisp_database.specs.Kept.{HasTables}
 use Rattle.lisp_database_store.specs.declared.group.Group.{Group}
 use Rattle.lisp_database_store.specs.declared.group.Group.TheVariants.{Empty, Waiting, Lost}
 use Rattle.lisp_database_store.specs.declared.group.Groups.{Groups}
-use Rattle.lisp_database_store.specs.Table.{ShowsOpen, StaysOpen, IsCommitted, IsWaiting}
+use Rattle.lisp_database_store.specs.Meaning.{Meaning}
+use Rattle.lisp_database_store.specs.Table.{IsOpen, StaysOpen}
 
 -- what a call that failed makes of a group: it is lost, unless no save waits
 abbrev pub lost_group : Group → Group
 lost_group Empty = Empty
 lost_group _ = Lost
 
--- What follows is of a database whose saves wait, in a table T that shows a state.
+-- What follows is of a database whose saves wait, in a table T.
 module _ {T : Type 0} where
   -- a group that is lost stays so
   abbrev pub StaysLost : Groups T → Groups T → Type 0
@@ -24,16 +22,18 @@ module _ {T : Type 0} where
     pub group : new.group ≡ lost_group old.group
     pub closes : old.group ≡ Empty → new.database.table ≡ None
 
-  -- a save is part of the group: it waits in the transaction
-  abbrev pub Waits : (T → State) → Groups T → Type 0
-  Waits shows groups = (groups.group ≡ Waiting) × ShowsOpen shows groups.database.table IsWaiting
+  -- What follows is told in the words of the table.
+  module _ (means : Meaning T) where
+    -- a save is part of the group: it waits in the transaction
+    abbrev pub Waits : Groups T → Type 0
+    Waits groups = (groups.group ≡ Waiting) × IsOpen groups.database.table means.is_waiting
 
-  -- what a commit that was done made of a group that waited: the saves are committed, and nothing waits any more
-  pub record CommitsAll (shows : T → State) (old new : Groups T) : Type 0 where
-    pub waited : old.group ≡ Waiting
-    pub committed : StaysOpen shows old.database.table new.database.table (λ s t. HasTables s → HasCleanDisk t → CommitsGroup s t)
-    pub settled : ShowsOpen shows new.database.table IsCommitted
+    -- what a commit that was done made of a group that waited: the saves are committed, and nothing waits any more
+    pub record CommitsAll (old new : Groups T) : Type 0 where
+      pub waited : old.group ≡ Waiting
+      pub committed : StaysOpen old.database.table new.database.table (λ s t. means.has_tables s → means.has_clean_disk t → means.commits_group s t)
+      pub settled : IsOpen new.database.table means.is_committed
 
-  -- a commit that was done: there was nothing to commit, and nothing was asked; or all is committed
-  abbrev pub IsDone : (T → State) → Groups T → Groups T → Type 0
-  IsDone shows old new = ((old.group ≡ Empty) × (new ≡ old)) ⊎ CommitsAll shows old new
+    -- a commit that was done: there was nothing to commit, and nothing was asked; or all is committed
+    abbrev pub IsDone : Groups T → Groups T → Type 0
+    IsDone old new = ((old.group ≡ Empty) × (new ≡ old)) ⊎ CommitsAll old new

@@ -1,3 +1,4 @@
 pub mod Fault
+pub mod Meaning
 pub mod Table
 pub mod Groups

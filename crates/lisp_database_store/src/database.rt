@@ -1,12 +1,8 @@
 //! A database of nonces in the system's files.
 
 ghost use Rattle.std.specs.Prelude.{◌≡◌, Some, Ok, IfOk, IfErr, OnOk, OnErr, IsTrue, None};
-ghost use Rattle.sqlite.specs.State.{HasCleanDisk, IsUnchanged};
 ghost use Rattle.lisp_nonces.specs.declared.fault.StoreFault.{StoreFault};
-ghost use Rattle.lisp_database.specs.Group.{BeginsGroup, CommitsGroup};
-ghost use Rattle.lisp_database.specs.Kept.{HasTables, IsOfNonces, Keeps, SavesNonce, KeepsGreatest};
-ghost use Rattle.lisp_database_store.specs.Fault.{load_fault};
-ghost use Rattle.lisp_database_store.specs.Table.{ShowsOpen, StaysOpen, IsCommitted, IsWaiting};
+ghost use Rattle.lisp_database_store.specs.Table.{IsOpen, StaysOpen};
 
 use crate::failure::Failure;
 use crate::new_file::place_empty;
@@ -14,7 +10,6 @@ use crate::table::SystemTable;
 use lisp_memory::FallibleString;
 use lisp_nonces::{Pair, StoreFault};
 use lisp_store::Writer;
-use sqlite::Error;
 use std::io::ErrorKind;
 
 /// A database of one row for each pair, in a file of the system's, which sqlite3 reads while the node doesn't run. The log beside
@@ -34,7 +29,7 @@ impl<T: SystemTable> Database<T> {
     /// Opens the database at `path`, or makes it, with the `application_id` of these databases, "LISP", and the `user_version` 1.
     /// `Device` where the file can't be opened, read or written, `Damaged` where it holds no database of nonces.
     pub fn open(rt: &HostRuntime, path: &str) -> Result<Database<T>, Failure>
-        ensures tables { IfOk result (λ database. ShowsOpen T.Table.shows database.table HasTables) }
+        ensures tables { IfOk result (λ database. IsOpen database.table T.Table.means.has_tables) }
     {
         place_empty(rt, path)?;
         let mut database = Database {
@@ -48,8 +43,9 @@ impl<T: SystemTable> Database<T> {
 
     /// The nonce that is kept for the pair, `None` for nothing. `Damaged` where its row has another form.
     pub fn load(&mut self, pair: &Pair) -> Result<Option<u64>, Failure>
-        ensures kept { IfOk result (λ found. StaysOpen T.Table.shows self.old.table self.new.table (λ old new. IsOfNonces old.now → HasCleanDisk new → Keeps old.now.trees pair.now found)) }
-        ensures unchanged { OnOk result (StaysOpen T.Table.shows self.old.table self.new.table (λ old new. HasTables old → HasCleanDisk new → IsUnchanged old new)) }
+        ensures kept { IfOk result (λ found. StaysOpen self.old.table self.new.table (λ old new. T.Table.means.is_of_nonces old → T.Table.means.has_clean_disk new → T.Table.means.keeps old pair.now found)) }
+        ensures unchanged { OnOk result (StaysOpen self.old.table self.new.table (λ old new. T.Table.means.has_tables old → T.Table.means.has_clean_disk new → T.Table.means.is_unchanged old new)) }
+        ensures anew { IfErr result (λ failure. failure.fault ≡ StoreFault.Device → self.new.table ≡ None) }
     {
         let mut table = self.opened()?;
         let answer = table.load(pair);
@@ -58,7 +54,7 @@ impl<T: SystemTable> Database<T> {
 
     /// Keeps the nonce for the pair, and is done once that is committed, outside a transaction. `Device` whatever failed.
     pub fn save(&mut self, pair: &Pair, nonce: u64) -> Result<(), Failure>
-        ensures saved { OnOk result (StaysOpen T.Table.shows self.old.table self.new.table (λ old new. IsOfNonces old.now → HasCleanDisk new → SavesNonce old new pair.now nonce)) }
+        ensures saved { OnOk result (StaysOpen self.old.table self.new.table (λ old new. T.Table.means.is_of_nonces old → T.Table.means.has_clean_disk new → T.Table.means.saves_nonce old new pair.now nonce)) }
         ensures device { IfErr result (λ failure. failure.fault ≡ StoreFault.Device) }
         ensures anew { OnErr result (self.new.table ≡ None) }
     {
@@ -68,7 +64,9 @@ impl<T: SystemTable> Database<T> {
     }
 
     /// How many pairs it keeps nonces for.
-    pub fn pairs(&mut self) -> Result<usize, Failure> {
+    pub fn pairs(&mut self) -> Result<usize, Failure>
+        ensures anew { IfErr result (λ failure. failure.fault ≡ StoreFault.Device → self.new.table ≡ None) }
+    {
         let mut table = self.opened()?;
         let answer = table.count_pairs();
         self.answered(table, answer)
@@ -76,7 +74,7 @@ impl<T: SystemTable> Database<T> {
 
     /// Keeps the nonce for the pair, unless it has a greater one. `Device` whatever failed.
     pub(crate) fn keep_greatest(&mut self, pair: &Pair, nonce: u64) -> Result<(), Failure>
-        ensures greatest { OnOk result (StaysOpen T.Table.shows self.old.table self.new.table (λ old new. IsOfNonces old.now → HasCleanDisk new → KeepsGreatest old new pair.now nonce)) }
+        ensures greatest { OnOk result (StaysOpen self.old.table self.new.table (λ old new. T.Table.means.is_of_nonces old → T.Table.means.has_clean_disk new → T.Table.means.keeps_greatest old new pair.now nonce)) }
         ensures device { IfErr result (λ failure. failure.fault ≡ StoreFault.Device) }
         ensures anew { OnErr result (self.new.table ≡ None) }
     {
@@ -86,7 +84,9 @@ impl<T: SystemTable> Database<T> {
     }
 
     /// Who wrote last, `None` for nobody.
-    pub(crate) fn load_writer(&mut self) -> Result<Option<Writer>, Failure> {
+    pub(crate) fn load_writer(&mut self) -> Result<Option<Writer>, Failure>
+        ensures anew { IfErr result (λ failure. failure.fault ≡ StoreFault.Device → self.new.table ≡ None) }
+    {
         let mut table = self.opened()?;
         let answer = table.load_writer();
         self.answered(table, answer)
@@ -104,7 +104,7 @@ impl<T: SystemTable> Database<T> {
 
     /// Begins a transaction: saves wait for `commit`. `Device` whatever failed, also where one is open already.
     pub(crate) fn begin(&mut self) -> Result<(), Failure>
-        ensures begun { OnOk result (StaysOpen T.Table.shows self.old.table self.new.table (λ old new. HasTables old → HasCleanDisk new → BeginsGroup old new)) }
+        ensures begun { OnOk result (StaysOpen self.old.table self.new.table (λ old new. T.Table.means.has_tables old → T.Table.means.has_clean_disk new → T.Table.means.begins_group old new)) }
         ensures device { IfErr result (λ failure. failure.fault ≡ StoreFault.Device) }
         ensures anew { OnErr result (self.new.table ≡ None) }
     {
@@ -115,8 +115,8 @@ impl<T: SystemTable> Database<T> {
 
     /// Commits the transaction, and is done once that is synced. `Device` whatever failed, also where none is open.
     pub(crate) fn commit(&mut self) -> Result<(), Failure>
-        ensures committed { OnOk result (StaysOpen T.Table.shows self.old.table self.new.table (λ old new. HasTables old → HasCleanDisk new → CommitsGroup old new)) }
-        ensures settled { OnOk result (ShowsOpen T.Table.shows self.new.table IsCommitted) }
+        ensures committed { OnOk result (StaysOpen self.old.table self.new.table (λ old new. T.Table.means.has_tables old → T.Table.means.has_clean_disk new → T.Table.means.commits_group old new)) }
+        ensures settled { OnOk result (IsOpen self.new.table T.Table.means.is_committed) }
         ensures device { IfErr result (λ failure. failure.fault ≡ StoreFault.Device) }
         ensures anew { OnErr result (self.new.table ≡ None) }
     {
@@ -127,13 +127,13 @@ impl<T: SystemTable> Database<T> {
                 Ok(())
             }
             Ok(()) => Err(Failure::of_device(ErrorKind::Other)),
-            Err(error) => Err(Failure::of_save(error)),
+            Err(failure) => Err(Failure::of_device(failure.kind)),
         }
     }
 
     /// Whether a transaction is open. One is rolled back by a call that fails for memory or by the device.
     pub(crate) fn has_transaction(&self) -> bool
-        ensures { IsTrue result → ShowsOpen T.Table.shows self.now.table IsWaiting }
+        ensures { IsTrue result → IsOpen self.now.table T.Table.means.is_waiting }
     {
         match &self.table {
             Some(table) => table.has_transaction(),
@@ -152,12 +152,12 @@ impl<T: SystemTable> Database<T> {
     fn opened(&mut self) -> Result<T, Failure>
         ensures same { (c : _) → self.old.table ≡ Some c → result ≡ Ok c }
         ensures taken { self.new.table ≡ None }
-        ensures tables { self.old.table ≡ None → IfOk result (λ table. HasTables (T.Table.shows table)) }
+        ensures tables { self.old.table ≡ None → IfOk result T.Table.means.has_tables }
     {
         if let Some(table) = self.table.take() {
             return Ok(table);
         }
-        Ok(open_table(&self.rt, self.path.as_str())?)
+        open_table(&self.rt, self.path.as_str())
     }
 
     // The same, for a call that writes.
@@ -173,28 +173,19 @@ impl<T: SystemTable> Database<T> {
     }
 
     // The answer of a call that reads; the database stays open unless its device failed.
-    fn answered<V: Drop>(&mut self, table: T, answer: Result<V, Error>) -> Result<V, Failure>
-        ensures ok { IfOk result (λ value. (answer ≡ Ok value) × (self.new.table ≡ Some table)) }
-        ensures done { IfOk answer (λ value. result ≡ Ok value) }
-        ensures fault { IfErr answer (λ error. IfErr result (λ failure. failure.fault ≡ load_fault error)) }
+    fn answered<V: Drop>(&mut self, table: T, answer: Result<V, Failure>) -> Result<V, Failure>
+        ensures same { result ≡ answer }
+        ensures open { OnOk result (self.new.table ≡ Some table) }
+        ensures anew { IfErr result (λ failure. failure.fault ≡ StoreFault.Device → self.new.table ≡ self.old.table) }
     {
-        match answer {
-            Ok(value) => {
-                self.table = Some(table);
-                Ok(value)
-            }
-            Err(error) => {
-                let failure = Failure::from(error);
-                if failure.fault != StoreFault::Device {
-                    self.table = Some(table);
-                }
-                Err(failure)
-            }
+        if !matches!(&answer, Err(failure) if failure.fault == StoreFault::Device) {
+            self.table = Some(table);
         }
+        answer
     }
 
     // The answer of a call that writes; the database stays open if that was done.
-    fn written<V: Drop>(&mut self, table: T, answer: Result<V, Error>) -> Result<(), Failure>
+    fn written<V: Drop>(&mut self, table: T, answer: Result<V, Failure>) -> Result<(), Failure>
         ensures ok { OnOk result ((value : _) × (answer ≡ Ok value) × (self.new.table ≡ Some table)) }
         ensures done { OnOk answer (result ≡ Ok tt) }
         ensures anew { OnErr result (self.new.table ≡ self.old.table) }
@@ -205,14 +196,14 @@ impl<T: SystemTable> Database<T> {
                 self.table = Some(table);
                 Ok(())
             }
-            Err(error) => Err(Failure::of_save(error)),
+            Err(failure) => Err(Failure::of_device(failure.kind)),
         }
     }
 }
 
 // Opens the file at `path`, and makes the tables where it has none.
-fn open_table<T: SystemTable>(rt: &HostRuntime, path: &str) -> Result<T, Error>
-    ensures { IfOk result (λ table. HasTables (T.Table.shows table)) }
+fn open_table<T: SystemTable>(rt: &HostRuntime, path: &str) -> Result<T, Failure>
+    ensures { IfOk result T.Table.means.has_tables }
 {
     let mut table = T::open(rt, path)?;
     table.make_tables()?;

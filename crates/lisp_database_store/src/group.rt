@@ -2,7 +2,7 @@
 
 ghost use Rattle.std.specs.Prelude.{◌≡◌, Ok, IfErr, OnOk, OnErr, IsErr, None};
 ghost use Rattle.lisp_nonces.specs.declared.fault.StoreFault.{StoreFault};
-ghost use Rattle.lisp_database_store.specs.Table.{ShowsOpen, IsWaiting};
+ghost use Rattle.lisp_database_store.specs.Table.{IsOpen};
 ghost use Rattle.lisp_database_store.specs.Groups.{StaysLost, Waits, LosesGroup, IsDone};
 ghost use Rattle.lisp_database_store.specs.declared.group.Group.{Group};
 
@@ -59,7 +59,7 @@ impl<T: SystemTable> Groups<T> {
 
     /// Makes the save of a nonce part of the group. `Device` whatever failed.
     pub fn save(&mut self, pair: &Pair, nonce: u64) -> Result<(), Failure>
-        ensures waits { OnOk result (Waits T.Table.shows self.new) }
+        ensures waits { OnOk result (Waits T.Table.means self.new) }
         ensures lost { self.old.group ≡ Group.Lost → IsErr result }
         ensures loses { OnErr result (LosesGroup self.old self.new) }
         ensures device { IfErr result (λ failure. failure.fault ≡ StoreFault.Device) }
@@ -75,7 +75,7 @@ impl<T: SystemTable> Groups<T> {
     /// Commits the group, and is done once that is synced; asks nothing of the disk where no save waits. `Device` whatever failed, also
     /// an earlier call of the group: the next call opens the file anew then.
     pub fn commit(&mut self) -> Result<(), Failure>
-        ensures done { OnOk result (IsDone T.Table.shows self.old self.new) }
+        ensures done { OnOk result (IsDone T.Table.means self.old self.new) }
         ensures lost { self.old.group ≡ Group.Lost → IsErr result }
         ensures anew { OnErr result (self.new.database.table ≡ None) }
         ensures empty { self.new.group ≡ Group.Empty }
@@ -93,7 +93,7 @@ impl<T: SystemTable> Groups<T> {
 
     // Saves a nonce in the transaction of the group, which the first save begins.
     fn begun_and_saved(&mut self, pair: &Pair, nonce: u64) -> Result<(), Failure>
-        ensures waits { OnOk result (ShowsOpen T.Table.shows self.new.database.table IsWaiting) }
+        ensures waits { OnOk result (IsOpen self.new.database.table T.Table.means.is_waiting) }
         ensures lost { self.old.group ≡ Group.Lost → IsErr result }
         ensures same { self.new.group ≡ self.old.group }
         ensures device { IfErr result (λ failure. failure.fault ≡ StoreFault.Device) }

@@ -1,7 +1,7 @@
 //! The take-over of nonces that are kept in files.
 
 ghost use Rattle.std.specs.Prelude.{OnOk};
-ghost use Rattle.lisp_database_store.specs.Table.{ShowsOpen, IsCommitted};
+ghost use Rattle.lisp_database_store.specs.Table.{IsOpen};
 
 use crate::database::Database;
 use crate::failure::Failure;
@@ -33,7 +33,7 @@ impl<T: SystemTable> Database<T> {
 
     // Keeps the greater nonce of each pair, in one transaction.
     fn keep_all(&mut self, found: &[NonceFile]) -> Result<(), Failure>
-        ensures committed { OnOk result (ShowsOpen T.Table.shows self.new.table IsCommitted) }
+        ensures committed { OnOk result (IsOpen self.new.table T.Table.means.is_committed) }
     {
         self.begin()?;
         for file in found {
@@ -49,7 +49,7 @@ impl<T: SystemTable> Database<T> {
         dir: &str,
         files: &[NonceFile],
     ) -> io::Result<()>
-        requires { ShowsOpen T.Table.shows self.now.table IsCommitted }
+        requires { IsOpen self.now.table T.Table.means.is_committed }
     {
         put_aside(rt, dir, files)
     }

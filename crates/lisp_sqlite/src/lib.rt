@@ -1,8 +1,9 @@
 //! SQLite's databases in the system's files, for what is written over databases of any kind.
 #![tactic(auto)]
 
-use lisp_database_store::{SqliteTable, SystemDisk, SystemTable};
-use sqlite::File;
+use lisp_database::{SqliteTable, SystemDisk, SystemStore};
+use lisp_database_store::SystemTable;
+use sqlite::{File, FileStore};
 
 /// What is to be done over databases of any kind.
 pub trait Task {
@@ -18,8 +19,13 @@ pub fn run_task<K: Task>(task: K) -> K::Output {
     run_on::<File, K>(task)
 }
 
-// Does a task over SQLite's databases on a disk of this kind. A function of its own, since a proof over a value with all fields of
-// SQLite's connection and of the system's files needs more memory than one over either.
+// Does a task over SQLite's databases on a disk of this kind. This and the next one are functions of their own, since a proof over a
+// value with all fields of SQLite's connection, of its store and of the system's files needs more memory than one over each.
 fn run_on<D: SystemDisk, K: Task>(task: K) -> K::Output {
-    task.run::<SqliteTable<D>>()
+    run_over::<FileStore<D>, K>(task)
+}
+
+// Does a task over SQLite's databases in a store of this kind.
+fn run_over<S: SystemStore, K: Task>(task: K) -> K::Output {
+    task.run::<SqliteTable<S>>()
 }

@@ -6,3 +6,4 @@ pub mod PairName
 pub mod KeptFiles
 pub mod NonceText
 pub mod NonceLine
+pub mod Writer

@@ -1,7 +1,7 @@
 //! Who wrote a store last.
 
-ghost use Rattle.std.specs.Prelude.{◌≡◌, ◌≢◌, ◌≤◌, [], IfOk, length};
-ghost use Rattle.std.specs.String.{string_bytes};
+ghost use Rattle.std.specs.Prelude.{◌↔◌, ◌≤◌, IsTrue, IfOk, length};
+ghost use Rattle.lisp_store.specs.Writer.{IsOther, IsNew, IsNews, TellsChange, KeepsKnown};
 
 use lisp_memory::FallibleString;
 use std::alloc::AllocError;
@@ -46,13 +46,18 @@ impl Writer {
     }
 
     /// Whether something is known of this writer that the last one hadn't.
-    pub fn is_news(&self, last: &Writer) -> bool {
-        (!self.machine_id.is_empty() && last.machine_id != self.machine_id)
-            || (!self.boot_id.is_empty() && last.boot_id != self.boot_id)
+    pub fn is_news(&self, last: &Writer) -> bool
+        ensures { IsTrue result ↔ IsNews last.now self.now }
+    {
+        is_new(last.machine_id.as_str(), self.machine_id.as_str())
+            || is_new(last.boot_id.as_str(), self.boot_id.as_str())
     }
 
     /// This writer, with what is known of the last one in the place of what isn't known of it.
-    pub fn joined(self, last: Writer) -> Writer {
+    pub fn joined(self, last: Writer) -> Writer
+        ensures machine { KeepsKnown last.machine_id self.machine_id result.machine_id }
+        ensures boot { KeepsKnown last.boot_id self.boot_id result.boot_id }
+    {
         Writer {
             machine_id: known(last.machine_id, self.machine_id),
             boot_id: known(last.boot_id, self.boot_id),
@@ -62,7 +67,9 @@ impl Writer {
 
 impl Change {
     /// What is another than at the last writer, where both are known.
-    pub fn between(last: &Writer, now: &Writer) -> Change {
+    pub fn between(last: &Writer, now: &Writer) -> Change
+        ensures { TellsChange last.now now.now result }
+    {
         Change {
             machine: is_other(last.machine_id.as_str(), now.machine_id.as_str()),
             boot: is_other(last.boot_id.as_str(), now.boot_id.as_str()),
@@ -71,14 +78,22 @@ impl Change {
 }
 
 // Whether two ids are known, and are not the same.
-fn is_other(last: &str, now: &str) -> bool {
+fn is_other(last: &str, now: &str) -> bool
+    ensures { IsTrue result ↔ IsOther last.now now.now }
+{
     !last.is_empty() && !now.is_empty() && last != now
+}
+
+// Whether an id is known now, and wasn't the last.
+fn is_new(last: &str, now: &str) -> bool
+    ensures { IsTrue result ↔ IsNew last.now now.now }
+{
+    !now.is_empty() && last != now
 }
 
 // The last id, where there is none now.
 fn known(last: String, now: String) -> String
-    ensures none { string_bytes now ≡ [] → result ≡ last }
-    ensures some { string_bytes now ≢ [] → result ≡ now }
+    ensures { KeepsKnown last now result }
 {
     if now.is_empty() { last } else { now }
 }

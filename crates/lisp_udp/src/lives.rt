@@ -5,7 +5,7 @@ ghost use Rattle.lisp_udp.specs.Lives.{Lives, SaysRestarted};
 ghost use Rattle.lisp_udp.specs.Nodes.{IsNode};
 
 use crate::life::{Life, run_over};
-use lisp_database_store::{GroupStore, SharedDatabase, SystemTable};
+use lisp_database_store::{SharedDatabase, SystemTable};
 use lisp_model::Line;
 use lisp_script::RunFault;
 use lisp_sites::Config;
@@ -30,7 +30,7 @@ pub(crate) fn live<T: SystemTable, O: Endpoint + Clock + Commit + Lines + Drop>(
     requires { IsNode config.now number }
     ensures { IfOk outside (λ before. IfOk result (λ after. Lives Global config.now number places turns (O.seen before) (O.seen after))) }
 {
-    let store = GroupStore::over(database);
+    let store = database.store();
     let mut life = run_over(alloc, config, number, store, places, turns, outside)?;
     while let Err(Uncommitted { turns_left }) = life.ended {
         let mut outside = life.outside;
@@ -38,7 +38,7 @@ pub(crate) fn live<T: SystemTable, O: Endpoint + Clock + Commit + Lines + Drop>(
         if outside.is_cut() {
             return Ok(outside);
         }
-        let store = GroupStore::over(database);
+        let store = database.store();
         life = run_over(
             alloc,
             config,

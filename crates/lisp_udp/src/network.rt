@@ -12,7 +12,7 @@ use crate::entry::entry_at;
 use crate::folder::{LockedFolder, open_folder};
 use crate::output::flush;
 use crate::storage::Storage;
-use lisp_database_store::{DatabaseStore, SystemTable};
+use lisp_database_store::{Database, DatabaseStore, SystemTable};
 use lisp_memory::{FallibleVec, Memory};
 use lisp_model::Event;
 use lisp_nonces::WorldStore;
@@ -128,7 +128,7 @@ fn database_stores<'a, T: SystemTable>(
     rt: &HostRuntime,
     folders: &Vec<LockedFolder>,
     failure: &'a Cell<Option<ErrorKind>>,
-) -> Result<Vec<DatabaseStore<'a, T>>, RunFault>
+) -> Result<Vec<DatabaseStore<'a, Database<T>>>, RunFault>
     ensures { IfOk result (λ stores. length stores.items ≡ length folders.now.items) }
 {
     let mut stores = Vec::new(rt.alloc());

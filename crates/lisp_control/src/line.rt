@@ -1,0 +1,89 @@
+//! A line of a user's.
+
+ghost use Rattle.std.specs.Prelude.{◌≡◌, ◌==◌, ◌∷◌, ◌++◌, map, IfOk, OnErr};
+ghost use Rattle.std.specs.List.{before_first, after_first};
+ghost use Rattle.std.specs.String.{string_bytes};
+ghost use Rattle.lisp_records.specs.Result.{Reads};
+ghost use Rattle.lisp_script.specs.Command.{command_value};
+ghost use Rattle.lisp_script.specs.Fault.{Gives};
+ghost use Rattle.lisp_script.specs.Spelling.{script_of};
+ghost use Rattle.lisp_control.specs.Question.{question_value, question_in, named, what_of, only};
+
+use crate::question::Question;
+use lisp_memory::{FallibleString, Memory};
+use lisp_script::{Command, ScriptWhat, parse_script};
+use lisp_sites::Config;
+use std::alloc::{AllocError, Allocator};
+
+/// What a line asks of the node with a number and a name: a line of a script, in which the name is left out that stands behind the
+/// first word. Faults: those of such a line, 80 to 86; 80 also for what isn't asked of a node, and where the line is a comment or
+/// ends before the text does.
+pub fn question_in<A: Memory + Copy, E: Allocator>(
+    alloc: A,
+    config: &Config<E>,
+    number: usize,
+    name: &str,
+    line: &str,
+) -> Result<Question<A>, ScriptWhat>
+    ensures { Gives A.may_refuse question_value result (question_in config.now number name.now line.now) }
+{
+    let text = named(alloc, name, line)?;
+    let commands = commands_in(alloc, config, text.as_str())?;
+    Question::from_command(config, number, only(commands)?)
+}
+
+// The line with the name behind its first word.
+fn named<A: Memory>(alloc: A, name: &str, line: &str) -> Result<String<A>, AllocError>
+    ensures text { IfOk result (λ text. string_bytes text ≡ named name.now line.now) }
+    ensures memory { OnErr result A.may_refuse }
+{
+    let (word, rest) = parted(line);
+    joined(alloc, word, name, rest)
+}
+
+// Three words, with spaces between them.
+fn joined<A: Memory>(alloc: A, word: &str, name: &str, rest: &str) -> Result<String<A>, AllocError>
+    ensures text { IfOk result (λ text. string_bytes text ≡ word.now ++ 32 ∷ name.now ++ 32 ∷ rest.now) }
+    ensures memory { OnErr result A.may_refuse }
+{
+    String::try_format(alloc, format_args!("{word} {name} {rest}"))
+}
+
+// The first word of a line, and what is behind the space there.
+fn parted(line: &str) -> (&str, &str)
+    ensures word { result.0.now ≡ before_first (λ b. b == 32) line.now }
+    ensures rest { result.1.now ≡ after_first (λ b. b == 32) line.now }
+{
+    match line.split_once(' ') {
+        Some(parts) => parts,
+        None => (line, ""),
+    }
+}
+
+// The commands of a script.
+fn commands_in<A: Memory + Copy, E: Allocator>(
+    alloc: A,
+    config: &Config<E>,
+    text: &str,
+) -> Result<Vec<Command<A>, A>, ScriptWhat>
+    ensures { Gives A.may_refuse (λ commands. map command_value commands.items) result (what_of (script_of config.now text.now)) }
+{
+    match parse_script(alloc, config, text) {
+        Ok(commands) => Ok(commands),
+        Err(fault) => Err(fault.what),
+    }
+}
+
+// The only one of some commands.
+fn only<A: Allocator>(commands: Vec<Command<A>, A>) -> Result<Command<A>, ScriptWhat>
+    ensures { Reads command_value result (only (map command_value commands.items)) }
+{
+    let mut commands = commands.into_iter();
+    let Some(command) = commands.next() else {
+        return Err(ScriptWhat::Word);
+    };
+    match commands.next() {
+        Some(_) => Err(ScriptWhat::Word),
+        None => Ok(command),
+    }
+}

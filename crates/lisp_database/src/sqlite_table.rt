@@ -1,0 +1,117 @@
+//! A connection as the table of a node's database.
+
+ghost use Rattle.std.specs.Prelude.{◌≡◌, Ok, IfOk, IfErr};
+ghost use Rattle.lisp_database.specs.Fault.{load_fault};
+ghost use Rattle.lisp_database.specs.Meaning.{sqlite_meaning};
+
+use crate::failure::failure_of;
+use crate::group::{begin, commit};
+use crate::table::{count_pairs, keep_greatest, load_nonce, save_nonce};
+use crate::tables::make_tables;
+use crate::writer::{load_writer, save_writer};
+use lisp_database_store::{Failure, SystemTable, Table};
+use lisp_nonces::Pair;
+use lisp_store::Writer;
+use sqlite::{Alter, Connection, Error, File, FileStore};
+use sqlite_disk::Disk;
+
+/// SQLite's connection, as the table of a node's database: its calls are the functions of this crate.
+#[derive(Drop)]
+pub struct SqliteTable<S: Alter> {
+    connection: Connection<S>,
+}
+
+impl<S: Alter + Drop> Table for SqliteTable<S> {
+    ghost means = { sqlite_meaning S.Store };
+
+    #[tactic(auto, unfolding(crate::specs::Meaning::sqlite_meaning))]
+    fn make_tables(&mut self) -> Result<(), Failure> {
+        told(make_tables(&mut self.connection))
+    }
+
+    #[tactic(auto, unfolding(crate::specs::Meaning::sqlite_meaning))]
+    fn load(&mut self, pair: &Pair) -> Result<Option<u64>, Failure> {
+        told(load_nonce(&mut self.connection, pair))
+    }
+
+    #[tactic(auto, unfolding(crate::specs::Meaning::sqlite_meaning))]
+    fn save(&mut self, pair: &Pair, nonce: u64) -> Result<(), Failure> {
+        told(save_nonce(&mut self.connection, pair, nonce))?;
+        Ok(())
+    }
+
+    #[tactic(auto, unfolding(crate::specs::Meaning::sqlite_meaning))]
+    fn keep_greatest(&mut self, pair: &Pair, nonce: u64) -> Result<(), Failure> {
+        told(keep_greatest(&mut self.connection, pair, nonce))
+    }
+
+    #[tactic(auto, unfolding(crate::specs::Meaning::sqlite_meaning))]
+    fn begin(&mut self) -> Result<(), Failure> {
+        told(begin(&mut self.connection))
+    }
+
+    #[tactic(auto, unfolding(crate::specs::Meaning::sqlite_meaning))]
+    fn commit(&mut self) -> Result<(), Failure> {
+        told(commit(&mut self.connection))
+    }
+
+    #[tactic(auto, unfolding(crate::specs::Meaning::sqlite_meaning))]
+    fn has_transaction(&self) -> bool {
+        !self.connection.is_autocommit()
+    }
+
+    fn count_pairs(&mut self) -> Result<usize, Failure> {
+        told(count_pairs(&mut self.connection))
+    }
+
+    fn load_writer(&mut self) -> Result<Option<Writer>, Failure> {
+        told(load_writer(&mut self.connection))
+    }
+
+    fn save_writer(&mut self, writer: &Writer) -> Result<(), Failure> {
+        told(save_writer(&mut self.connection, writer))
+    }
+}
+
+// The answer of a call, with its error as the database has it.
+fn told<V: Drop>(answer: Result<V, Error>) -> Result<V, Failure>
+    ensures done { IfOk answer (λ value. result ≡ Ok value) }
+    ensures same { IfOk result (λ value. answer ≡ Ok value) }
+    ensures fault { IfErr answer (λ error. IfErr result (λ failure. failure.fault ≡ load_fault error)) }
+{
+    match answer {
+        Ok(value) => Ok(value),
+        Err(error) => Err(failure_of(error)),
+    }
+}
+
+/// A store of the system's, over which SQLite opens databases by a path.
+pub trait SystemStore: Alter + Drop {
+    /// Opens the database at `path`, or an empty one where nothing is there.
+    fn open(rt: &HostRuntime, path: &str) -> Result<Connection<Self>, Error>;
+}
+
+impl<S: SystemStore> SystemTable for SqliteTable<S> {
+    fn open(rt: &HostRuntime, path: &str) -> Result<SqliteTable<S>, Failure> {
+        let connection = told(S::open(rt, path))?;
+        Ok(SqliteTable { connection })
+    }
+}
+
+/// A disk of the system's, on which such a store is.
+pub trait SystemDisk: Disk + Drop {
+    /// As `SystemStore::open`.
+    fn open(rt: &HostRuntime, path: &str) -> Result<Connection<FileStore<Self>>, Error>;
+}
+
+impl<D: SystemDisk> SystemStore for FileStore<D> {
+    fn open(rt: &HostRuntime, path: &str) -> Result<Connection<FileStore<D>>, Error> {
+        D::open(rt, path)
+    }
+}
+
+impl SystemDisk for File {
+    fn open(rt: &HostRuntime, path: &str) -> Result<Connection<FileStore<File>>, Error> {
+        Connection::open(rt, path)
+    }
+}
