@@ -15,9 +15,10 @@ use lisp_script::{Command, ScriptWhat, parse_script};
 use lisp_sites::Config;
 use std::alloc::{AllocError, Allocator};
 
-/// What a line asks of the node with a number and a name: a line of a script, in which the name is left out that stands behind the
-/// first word. Faults: those of such a line, 80 to 86; 80 also for what isn't asked of a node, and where the line is a comment or
-/// ends before the text does.
+/// What a line asks of the node with a number and a name: the name is put behind the first word, and the line is read as a script's.
+///
+/// Faults: those of such a line, 80 to 86. 80 is also told where the command is no question and no order for a node, or is for
+/// another node, and where the text has no command, or more than one.
 pub fn question_in<A: Memory + Copy, E: Allocator>(
     alloc: A,
     config: &Config<E>,
