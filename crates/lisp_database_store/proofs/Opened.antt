@@ -1,6 +1,8 @@
--- What a call makes of a table that was open.
-use Rattle.std.proofs.Common.{◌≡◌, Option, Some, Result, Ok, Err, IfOk, refl, sym, subst, ◌∙◌}
+-- What a call makes of a table that it used.
+use Rattle.std.proofs.Common.{◌≡◌, Option, Some, None, Result, Ok, Err, IfOk, refl, sym, subst, ◌∙◌}
 use Rattle.std.specs.Prelude.{OnOk}
+use Rattle.lisp_database_store.specs.Meaning.{Meaning}
+use Rattle.lisp_database_store.specs.Table.{Uses}
 
 -- what is said of an answer that is done, and of its value
 pub of_value : {V F : Type 0} (R : Type 0) (Q : V → Type 0) (r : Result V F) → ((v : V) → r ≡ Ok v → R → Q v) → OnOk r R → IfOk r Q
@@ -14,9 +16,13 @@ of_done R Q (Err e) f h = tt
 same_value : {C F : Type 0} (r : Result C F) (a b : C) → r ≡ Ok a → r ≡ Ok b → a ≡ b
 same_value r a b x y = let e = sym x ∙ y in cc
 
--- the table that was there is the one that was used, and the one that it became is there
-pub stays : {C F : Type 0} (before after : Option C) (opened : Result C F) (used became : C) (P : C → C → Type 0)
-    → ((c : C) → before ≡ Some c → opened ≡ Ok c) → opened ≡ Ok used → after ≡ Some became → P used became
-    → (c : C) → before ≡ Some c → (d : C) × (after ≡ Some d) × P c d
-stays {C} before after opened used became P base was now h c is =
-    (became, now, subst (λ (x : C). P x became) (same_value opened used c was (base c is)) h)
+-- the table that was there, or that was opened, is the one that was used, and the one that it became is there
+pub uses : {C F : Type 0} (means : Meaning C) (before after : Option C) (opened : Result C F) (used became : C) (P : C → C → Type 0)
+    → ((c : C) → before ≡ Some c → opened ≡ Ok c) → (before ≡ None → IfOk opened means.has_tables) → opened ≡ Ok used → after ≡ Some became → P used became
+    → Uses means before after P
+uses means before after opened used became P base tables was now h = record {
+  used = used;
+  same = λ t is. same_value opened t used (base t is) was;
+  anew = λ none. subst (λ r. IfOk r means.has_tables) was (tables none);
+  left = (became, now, h);
+}

@@ -1,10 +1,11 @@
 -- Saves that wait for one commit.
-use Rattle.std.specs.Prelude.{◌≡◌, ◌⊎◌, None}
+use Rattle.std.specs.Prelude.{◌≡◌, ◌⊎◌, ℕ, Option, None}
+use Rattle.lisp_nonces.specs.declared.pair.Pair.{Pair}
 use Rattle.lisp_database_store.specs.declared.group.Group.{Group}
 use Rattle.lisp_database_store.specs.declared.group.Group.TheVariants.{Empty, Waiting, Lost}
 use Rattle.lisp_database_store.specs.declared.group.Groups.{Groups}
 use Rattle.lisp_database_store.specs.Meaning.{Meaning}
-use Rattle.lisp_database_store.specs.Table.{IsOpen, StaysOpen}
+use Rattle.lisp_database_store.specs.Table.{IsOpen, Saves, Begins, Commits}
 
 -- what a call that failed makes of a group: it is lost, unless no save waits
 abbrev pub lost_group : Group → Group
@@ -28,10 +29,17 @@ module _ {T : Type 0} where
     abbrev pub Waits : Groups T → Type 0
     Waits groups = (groups.group ≡ Waiting) × IsOpen groups.database.table means.is_waiting
 
+    -- a save kept a nonce for a pair, in the transaction that waited or in one that it began
+    pub record JoinsGroup (old new : Groups T) (pair : Pair) (nonce : ℕ) : Type 0 where
+      pub table : Option T
+      pub waited : old.group ≡ Waiting → table ≡ old.database.table
+      pub began : old.group ≡ Empty → Begins means old.database.table table
+      pub saved : Saves means table new.database.table pair nonce
+
     -- what a commit that was done made of a group that waited: the saves are committed, and nothing waits any more
     pub record CommitsAll (old new : Groups T) : Type 0 where
       pub waited : old.group ≡ Waiting
-      pub committed : StaysOpen old.database.table new.database.table (λ s t. means.has_tables s → means.has_clean_disk t → means.commits_group s t)
+      pub committed : Commits means old.database.table new.database.table
       pub settled : IsOpen new.database.table means.is_committed
 
     -- a commit that was done: there was nothing to commit, and nothing was asked; or all is committed

@@ -2,9 +2,11 @@
 
 ghost use Rattle.std.specs.Prelude.{◌≡◌, Some, Ok, IfOk, IfErr, OnOk, OnErr, IsTrue, None};
 ghost use Rattle.lisp_nonces.specs.declared.fault.StoreFault.{StoreFault};
-ghost use Rattle.lisp_database_store.specs.Table.{IsOpen, StaysOpen};
+ghost use Rattle.lisp_database_store.specs.Keeper.{any_keeper, any_keeper_keeps};
+ghost use Rattle.lisp_database_store.specs.Table.{IsOpen, Finds, LeavesAll, Saves, SavesGreatest, Begins, Commits};
 
 use crate::failure::Failure;
+use crate::keeper::Keeper;
 use crate::new_file::place_empty;
 use crate::table::SystemTable;
 use lisp_memory::FallibleString;
@@ -43,8 +45,8 @@ impl<T: SystemTable> Database<T> {
 
     /// The nonce that is kept for the pair, `None` for nothing. `Damaged` where its row has another form.
     pub fn load(&mut self, pair: &Pair) -> Result<Option<u64>, Failure>
-        ensures kept { IfOk result (λ found. StaysOpen self.old.table self.new.table (λ old new. T.Table.means.is_of_nonces old → T.Table.means.has_clean_disk new → T.Table.means.keeps old pair.now found)) }
-        ensures unchanged { OnOk result (StaysOpen self.old.table self.new.table (λ old new. T.Table.means.has_tables old → T.Table.means.has_clean_disk new → T.Table.means.is_unchanged old new)) }
+        ensures kept { IfOk result (Finds T.Table.means self.old.table self.new.table pair.now) }
+        ensures unchanged { OnOk result (LeavesAll T.Table.means self.old.table self.new.table) }
         ensures anew { IfErr result (λ failure. failure.fault ≡ StoreFault.Device → self.new.table ≡ None) }
     {
         let mut table = self.opened()?;
@@ -54,7 +56,7 @@ impl<T: SystemTable> Database<T> {
 
     /// Keeps the nonce for the pair, and is done once that is committed, outside a transaction. `Device` whatever failed.
     pub fn save(&mut self, pair: &Pair, nonce: u64) -> Result<(), Failure>
-        ensures saved { OnOk result (StaysOpen self.old.table self.new.table (λ old new. T.Table.means.is_of_nonces old → T.Table.means.has_clean_disk new → T.Table.means.saves_nonce old new pair.now nonce)) }
+        ensures saved { OnOk result (Saves T.Table.means self.old.table self.new.table pair.now nonce) }
         ensures device { IfErr result (λ failure. failure.fault ≡ StoreFault.Device) }
         ensures anew { OnErr result (self.new.table ≡ None) }
     {
@@ -74,7 +76,7 @@ impl<T: SystemTable> Database<T> {
 
     /// Keeps the nonce for the pair, unless it has a greater one. `Device` whatever failed.
     pub(crate) fn keep_greatest(&mut self, pair: &Pair, nonce: u64) -> Result<(), Failure>
-        ensures greatest { OnOk result (StaysOpen self.old.table self.new.table (λ old new. T.Table.means.is_of_nonces old → T.Table.means.has_clean_disk new → T.Table.means.keeps_greatest old new pair.now nonce)) }
+        ensures greatest { OnOk result (SavesGreatest T.Table.means self.old.table self.new.table pair.now nonce) }
         ensures device { IfErr result (λ failure. failure.fault ≡ StoreFault.Device) }
         ensures anew { OnErr result (self.new.table ≡ None) }
     {
@@ -104,7 +106,7 @@ impl<T: SystemTable> Database<T> {
 
     /// Begins a transaction: saves wait for `commit`. `Device` whatever failed, also where one is open already.
     pub(crate) fn begin(&mut self) -> Result<(), Failure>
-        ensures begun { OnOk result (StaysOpen self.old.table self.new.table (λ old new. T.Table.means.has_tables old → T.Table.means.has_clean_disk new → T.Table.means.begins_group old new)) }
+        ensures begun { OnOk result (Begins T.Table.means self.old.table self.new.table) }
         ensures device { IfErr result (λ failure. failure.fault ≡ StoreFault.Device) }
         ensures anew { OnErr result (self.new.table ≡ None) }
     {
@@ -115,7 +117,7 @@ impl<T: SystemTable> Database<T> {
 
     /// Commits the transaction, and is done once that is synced. `Device` whatever failed, also where none is open.
     pub(crate) fn commit(&mut self) -> Result<(), Failure>
-        ensures committed { OnOk result (StaysOpen self.old.table self.new.table (λ old new. T.Table.means.has_tables old → T.Table.means.has_clean_disk new → T.Table.means.commits_group old new)) }
+        ensures committed { OnOk result (Commits T.Table.means self.old.table self.new.table) }
         ensures settled { OnOk result (IsOpen self.new.table T.Table.means.is_committed) }
         ensures device { IfErr result (λ failure. failure.fault ≡ StoreFault.Device) }
         ensures anew { OnErr result (self.new.table ≡ None) }
@@ -164,6 +166,7 @@ impl<T: SystemTable> Database<T> {
     fn opened_to_write(&mut self) -> Result<T, Failure>
         ensures same { (c : _) → self.old.table ≡ Some c → result ≡ Ok c }
         ensures taken { self.new.table ≡ None }
+        ensures tables { self.old.table ≡ None → IfOk result T.Table.means.has_tables }
         ensures device { IfErr result (λ failure. failure.fault ≡ StoreFault.Device) }
     {
         match self.opened() {
@@ -199,6 +202,25 @@ impl<T: SystemTable> Database<T> {
             Err(failure) => Err(Failure::of_device(failure.kind)),
         }
     }
+}
+
+/// That the disk returns what was synced is a premise, so nothing is said of what it keeps.
+impl<T: SystemTable> Keeper for Database<T> {
+    ghost seen = { λ _. any_keeper };
+
+    ghost finds = { λ old new. Finds T.Table.means old.table new.table };
+
+    ghost saves = { λ old new. Saves T.Table.means old.table new.table };
+
+    fn load_nonce(&mut self, pair: &Pair) -> Result<Option<u64>, Failure> {
+        self.load(pair)
+    }
+
+    fn save_nonce(&mut self, pair: &Pair, nonce: u64) -> Result<(), Failure> {
+        self.save(pair, nonce)
+    }
+
+    ghost has_values = { λ _. any_keeper_keeps };
 }
 
 // Opens the file at `path`, and makes the tables where it has none.

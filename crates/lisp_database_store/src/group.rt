@@ -1,9 +1,9 @@
 //! Saves that are committed together.
 
-ghost use Rattle.std.specs.Prelude.{◌≡◌, Ok, IfErr, OnOk, OnErr, IsErr, None};
+ghost use Rattle.std.specs.Prelude.{◌≡◌, Ok, IfOk, IfErr, OnOk, OnErr, IsErr, None};
 ghost use Rattle.lisp_nonces.specs.declared.fault.StoreFault.{StoreFault};
-ghost use Rattle.lisp_database_store.specs.Table.{IsOpen};
-ghost use Rattle.lisp_database_store.specs.Groups.{StaysLost, Waits, LosesGroup, IsDone};
+ghost use Rattle.lisp_database_store.specs.Table.{IsOpen, Finds, LeavesAll, Begins};
+ghost use Rattle.lisp_database_store.specs.Groups.{StaysLost, Waits, JoinsGroup, LosesGroup, IsDone};
 ghost use Rattle.lisp_database_store.specs.declared.group.Group.{Group};
 
 use crate::database::Database;
@@ -46,6 +46,8 @@ impl<T: SystemTable> Groups<T> {
 
     /// The nonce that the pair has with the saves of the group, `None` for nothing. `Damaged` where its row has another form.
     pub fn load(&mut self, pair: &Pair) -> Result<Option<u64>, Failure>
+        ensures kept { IfOk result (Finds T.Table.means self.old.database.table self.new.database.table pair.now) }
+        ensures unchanged { OnOk result (LeavesAll T.Table.means self.old.database.table self.new.database.table) }
         ensures lost { self.old.group ≡ Group.Lost → IsErr result }
         ensures stays { StaysLost self.old self.new }
         ensures loses { IfErr result (λ failure. failure.fault ≡ StoreFault.Device → LosesGroup self.old self.new) }
@@ -59,6 +61,7 @@ impl<T: SystemTable> Groups<T> {
 
     /// Makes the save of a nonce part of the group. `Device` whatever failed.
     pub fn save(&mut self, pair: &Pair, nonce: u64) -> Result<(), Failure>
+        ensures saved { OnOk result (JoinsGroup T.Table.means self.old self.new pair.now nonce) }
         ensures waits { OnOk result (Waits T.Table.means self.new) }
         ensures lost { self.old.group ≡ Group.Lost → IsErr result }
         ensures loses { OnErr result (LosesGroup self.old self.new) }
@@ -93,6 +96,7 @@ impl<T: SystemTable> Groups<T> {
 
     // Saves a nonce in the transaction of the group, which the first save begins.
     fn begun_and_saved(&mut self, pair: &Pair, nonce: u64) -> Result<(), Failure>
+        ensures saved { OnOk result (JoinsGroup T.Table.means self.old self.new pair.now nonce) }
         ensures waits { OnOk result (IsOpen self.new.database.table T.Table.means.is_waiting) }
         ensures lost { self.old.group ≡ Group.Lost → IsErr result }
         ensures same { self.new.group ≡ self.old.group }
@@ -108,6 +112,8 @@ impl<T: SystemTable> Groups<T> {
 
     // Begins the transaction of the group, if that isn't done.
     fn begin(&mut self) -> Result<(), Failure>
+        ensures begun { self.old.group ≡ Group.Empty → OnOk result (Begins T.Table.means self.old.database.table self.new.database.table) }
+        ensures waited { self.old.group ≡ Group.Waiting → self.new.database ≡ self.old.database }
         ensures lost { self.old.group ≡ Group.Lost → IsErr result }
         ensures same { self.new.group ≡ self.old.group }
         ensures device { IfErr result (λ failure. failure.fault ≡ StoreFault.Device) }
@@ -122,6 +128,7 @@ impl<T: SystemTable> Groups<T> {
     // The answer of a load, which loses the group where the device failed or the transaction was rolled back.
     fn noted(&mut self, answer: Result<Option<u64>, Failure>) -> Result<Option<u64>, Failure>
         ensures same { result ≡ answer }
+        ensures unchanged { OnOk result (self.new ≡ self.old) }
         ensures stays { StaysLost self.old self.new }
         ensures loses { IfErr result (λ failure. failure.fault ≡ StoreFault.Device → LosesGroup self.old self.new) }
     {

@@ -5,6 +5,7 @@
 mod database;
 mod failure;
 mod group;
+mod keeper;
 mod new_file;
 mod shared;
 mod store;
@@ -14,7 +15,8 @@ mod writer;
 
 pub use database::Database;
 pub use failure::Failure;
+pub use keeper::Keeper;
 pub use lisp_store::Change;
 pub use shared::SharedDatabase;
-pub use store::{DatabaseStore, Keeper};
+pub use store::DatabaseStore;
 pub use table::{SystemTable, Table};

@@ -1,56 +1,24 @@
 //! A store of a node's nonces in a database.
 
-ghost use Rattle.std.specs.Prelude.{◌≡◌, ◌≤◌, ⊤, false, Ok, Err, IfOk, IfErr, IsErrOf};
-ghost use Rattle.std.specs.FinMap.{empty};
+ghost use Rattle.std.specs.Prelude.{◌≡◌, ◌≢◌, ◌≤◌, ⊤, Ok, Err, IfOk, IfErr, OnOk, IsErrOf};
 ghost use Rattle.lisp_nonces.specs.declared.fault.StoreFault.{StoreFault};
-ghost use Rattle.lisp_nonces.specs.declared.fate.Fate.TheVariants.{Done};
+ghost use Rattle.lisp_nonces.specs.Promises.{LoadsIfHonest, KeepsListsIfHonest, KeepsOthersIfHonest, SavesIfHonest, DoubtsIfHonest, KeepsTooIfObedient, IsOfDevice, LoadFailsAsArmed};
+ghost use Rattle.lisp_nonces.specs.Store.{Proceeds, Rose, MayLoad, MaySave, MayFailSave};
 ghost use Rattle.lisp_store.specs.File.{CountsFault};
+ghost use Rattle.lisp_database_store.specs.Keeper.{store_over};
 
-use crate::database::Database;
 use crate::failure::Failure;
-use crate::shared::SharedDatabase;
-use crate::table::SystemTable;
+use crate::keeper::Keeper;
 use lisp_nonces::{Fate, NonceStore, Pair, StoreFault, WorldStore};
 use std::cell::Cell;
 use std::io::ErrorKind;
 
-/// What keeps the nonces of a `DatabaseStore`: a database of its own, each of whose saves is committed by itself, or one that is
-/// shared, whose saves wait for a commit.
-pub trait Keeper: Drop {
-    /// The nonce that is kept for the pair, `None` for nothing. `Damaged` where its row has another form.
-    fn load_nonce(&mut self, pair: &Pair) -> Result<Option<u64>, Failure>;
-
-    /// Keeps the nonce for the pair. `Device` whatever failed: a commit may have been under way.
-    fn save_nonce(&mut self, pair: &Pair, nonce: u64) -> Result<(), Failure>
-        ensures { IfErr result (λ failure. failure.fault ≡ StoreFault.Device) };
-}
-
-impl<T: SystemTable> Keeper for Database<T> {
-    fn load_nonce(&mut self, pair: &Pair) -> Result<Option<u64>, Failure> {
-        self.load(pair)
-    }
-
-    fn save_nonce(&mut self, pair: &Pair, nonce: u64) -> Result<(), Failure> {
-        self.save(pair, nonce)
-    }
-}
-
-impl<T: SystemTable> Keeper for &SharedDatabase<'_, T> {
-    fn load_nonce(&mut self, pair: &Pair) -> Result<Option<u64>, Failure> {
-        self.load(pair)
-    }
-
-    fn save_nonce(&mut self, pair: &Pair, nonce: u64) -> Result<(), Failure> {
-        self.save(pair, nonce)
-    }
-}
-
 /// A store in a database of the system's. Over a `Database`, a save is done once that is synced; over a `SharedDatabase`, it is in
 /// doubt until the commit.
 ///
-/// That the disk returns what was synced is a premise, so the store is called neither honest nor quiet nor obedient. No call lowers
-/// its count of faults, and one that answers `Device` or `Damaged` raises it, up to 2^64 - 1. It may run out of memory whatever the
-/// memory: SQLite doesn't say why it did.
+/// Over an honest keeper it is an honest store; it is called neither quiet nor obedient. No call lowers its count of faults, and one
+/// that answers `Device` or `Damaged` raises it, up to 2^64 - 1. It may run out of memory whatever the memory: SQLite doesn't say why
+/// it did.
 #[derive(Drop)]
 pub struct DatabaseStore<'a, K> {
     keeper: K,
@@ -62,7 +30,7 @@ pub struct DatabaseStore<'a, K> {
 impl<'a, K: Keeper> DatabaseStore<'a, K> {
     /// A store over a database that is open. `failure` holds the kind of the last error from now on.
     pub fn over(keeper: K, failure: &'a Cell<Option<ErrorKind>>) -> DatabaseStore<'a, K>
-        ensures faults { (⟦<Self as NonceStore>⟧.seen result).faults ≡ 0 }
+        ensures { (⟦<Self as NonceStore>⟧.seen result) ≡ store_over (K.seen keeper) 0 }
     {
         DatabaseStore {
             keeper,
@@ -73,19 +41,44 @@ impl<'a, K: Keeper> DatabaseStore<'a, K> {
 }
 
 impl<K: Keeper> NonceStore for DatabaseStore<'_, K> {
-    ghost seen = { λ s. record { kept = empty; faults = s.faults; is_honest = false; is_quiet = false; is_obedient = false; fate = Done } };
+    ghost seen = { λ s. store_over (K.seen s.keeper) s.faults };
 
     ghost may_refuse = { ⊤ };
 
     /// `Damaged` where the file holds no database, no table of nonces, or a nonce of another form; `Device` also where an earlier call
     /// since the last commit failed by the device.
-    fn load(&mut self, pair: &Pair) -> Result<Option<u64>, StoreFault> {
+    fn load(&mut self, pair: &Pair) -> Result<Option<u64>, StoreFault>
+        ensures found { IfOk result (K.finds self.old.keeper self.new.keeper pair.now) }
+
+        // What every store promises.
+        ensures member { LoadsIfHonest (⟦<Self as NonceStore>⟧.seen self.old) pair.now result }
+        ensures same { KeepsListsIfHonest (⟦<Self as NonceStore>⟧.seen self.old) (⟦<Self as NonceStore>⟧.seen self.new) }
+        ensures loads { OnOk result (MayLoad (⟦<Self as NonceStore>⟧.seen self.old)) }
+        ensures load_fails { IfErr result (LoadFailsAsArmed (⟦<Self as NonceStore>⟧.seen self.old)) }
+        ensures cause { IfErr result (IsOfDevice (⟦<Self as NonceStore>⟧.seen self.old) (⟦<Self as NonceStore>⟧.seen self.new)) }
+        ensures refused { IsErrOf result StoreFault.OutOfMemory → ⟦<Self as NonceStore>⟧.seen self.new ≡ ⟦<Self as NonceStore>⟧.seen self.old }
+        ensures proceeds { Proceeds (⟦<Self as NonceStore>⟧.seen self.old) (⟦<Self as NonceStore>⟧.seen self.new) }
+    {
         let loaded = self.keeper.load_nonce(pair);
         self.counted(loaded)
     }
 
     /// `Device` whatever failed, also memory, or an earlier call since the last commit.
-    fn save(&mut self, pair: &Pair, nonce: u64) -> Result<(), StoreFault> {
+    fn save(&mut self, pair: &Pair, nonce: u64) -> Result<(), StoreFault>
+        ensures saved { OnOk result (K.saves self.old.keeper self.new.keeper pair.now nonce) }
+
+        // What every store promises.
+        ensures done { SavesIfHonest (⟦<Self as NonceStore>⟧.seen self.old) (⟦<Self as NonceStore>⟧.seen self.new) pair.now nonce result }
+        ensures doubt { DoubtsIfHonest (⟦<Self as NonceStore>⟧.seen self.old) (⟦<Self as NonceStore>⟧.seen self.new) pair.now nonce result }
+        ensures others { KeepsOthersIfHonest (⟦<Self as NonceStore>⟧.seen self.old) (⟦<Self as NonceStore>⟧.seen self.new) pair.now }
+        ensures saves { OnOk result (MaySave (⟦<Self as NonceStore>⟧.seen self.old)) }
+        ensures save_fails { IsErrOf result StoreFault.Device → MayFailSave (⟦<Self as NonceStore>⟧.seen self.old) }
+        ensures doubted { KeepsTooIfObedient (⟦<Self as NonceStore>⟧.seen self.old) (⟦<Self as NonceStore>⟧.seen self.new) pair.now nonce result }
+        ensures sound { result ≢ Err StoreFault.Damaged }
+        ensures cause { IsErrOf result StoreFault.Device → Rose (⟦<Self as NonceStore>⟧.seen self.old) (⟦<Self as NonceStore>⟧.seen self.new) }
+        ensures refused { IsErrOf result StoreFault.OutOfMemory → ⟦<Self as NonceStore>⟧.seen self.new ≡ ⟦<Self as NonceStore>⟧.seen self.old }
+        ensures proceeds { Proceeds (⟦<Self as NonceStore>⟧.seen self.old) (⟦<Self as NonceStore>⟧.seen self.new) }
+    {
         let saved = self.keeper.save_nonce(pair, nonce);
         self.counted(saved)
     }
@@ -111,6 +104,7 @@ impl<K> DatabaseStore<'_, K> {
         ensures counts { IfErr result (CountsFault self.old.faults self.new.faults) }
         ensures memory { IsErrOf result StoreFault.OutOfMemory → self.new.faults ≡ self.old.faults }
         ensures rises { self.old.faults ≤ self.new.faults }
+        ensures keeper { self.new.keeper ≡ self.old.keeper }
     {
         match answer {
             Ok(value) => Ok(value),

@@ -58,15 +58,15 @@ router_left w number place new act is =
     ap (λ (k : ℕ). record w { bag = w.bag ++ datagrams (address_of w number) act.message; routers = slice_set w.routers k new }) (place_is number (length w.servers) place is)
 
 -- a router that is up keeps its place where it keeps as many rounds
-module _ (config : ConfigValue) (number : ℕ) (old new : RouterNodeState) (etr left : EtrState) (was : old.core ≡ Up etr) (is : new ≡ record old { core = Up left; store = new.store })
+module _ (config : ConfigValue) (number : ℕ) (old new : RouterNodeState) (etr left : EtrState) (was : old.core ≡ Up etr) (is : new.core ≡ Up left) (listed : new.servers ≡ old.servers)
     (same : length left.rounds ≡ length etr.rounds) (placed : IsPlaced config number (Router old)) where
   rounds_up : HasRounds new
   rounds_up e up =
-      let its : left ≡ e = same_some left e (sym (ap (λ (n : RouterNodeState). up_in n.core) is) ∙ up) in
-      ap (λ (x : EtrState). length x.rounds) (sym its) ∙ same ∙ placed.5 etr (ap up_in was) ∙ sym (ap (λ (n : RouterNodeState). length n.servers) is)
+      let its : left ≡ e = same_some left e (sym (ap up_in is) ∙ up) in
+      ap (λ (x : EtrState). length x.rounds) (sym its) ∙ same ∙ placed.5 etr (ap up_in was) ∙ sym (ap (λ (l : List ℕ). length l) listed)
 
   pub placed_up : IsPlaced config number (Router new)
-  placed_up = (placed.0, placed.1, placed.2, placed.3, ap (λ (n : RouterNodeState). n.servers) is ∙ placed.4, rounds_up)
+  placed_up = (placed.0, placed.1, placed.2, placed.3, listed ∙ placed.4, rounds_up)
 
 -- what it hears leaves as many
 heard_length : {A : Type 0} (etr : EtrState) (answer : Result (Seen A) NotifyFault) {left : EtrState} → left ≡ etr_after etr answer → length left.rounds ≡ length etr.rounds
@@ -147,7 +147,7 @@ module _ (A : Type 0) (config : ConfigValue) (number : ℕ) (from : Addr) (bytes
 
       at : (core : RouterCoreState) → old.core ≡ core → RouterHears A none number old new Done from bytes core line (datagram_to (address_of none number) from reply) → Keeps new
       at (Up e) is up = record {
-        placed = placed_up config number old new up.hears.etr up.hears.left up.hears.was up.hears.is (heard_length up.hears.etr up.answer up.hears.call.after) placed;
+        placed = placed_up config number old new up.hears.etr up.hears.left up.hears.was (ap (λ (n : RouterNodeState). n.core) up.hears.is) (ap (λ (n : RouterNodeState). n.servers) up.hears.is) (heard_length up.hears.etr up.answer up.hears.call.after) placed;
         plain = up.said ∙ sym (router_numbered number 0 old.servers up.hears.etr.config.key_id up.answer) ∙ ap (numbered 0) (sym up.said);
       }
       at (Down settings database) is down = record {

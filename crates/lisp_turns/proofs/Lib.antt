@@ -5,6 +5,9 @@ pub mod ServingDue
 pub mod ServingRouter
 pub mod NoticedRouters
 pub mod ServingServer
+pub mod Obeying
+pub mod ObeyingServer
+pub mod ObeyingRouter
 pub mod Asking
 pub mod Duties
 pub mod Grouping

@@ -104,7 +104,7 @@ module _ (config : ConfigValue) (number server part now : ℕ) (old new : Router
   does_one placed = record {
     does = does;
     made = (refl, (answer, sends, told));
-    placed = placed_up config number old new sends.etr sends.left sends.was sends.is (same_length answer sends.call.call) placed;
+    placed = placed_up config number old new sends.etr sends.left sends.was its_core listed (same_length answer sends.call.call) placed;
     plain = plain answer told;
   }
 

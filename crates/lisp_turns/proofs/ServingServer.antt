@@ -1,7 +1,6 @@
 -- A Map-Server sends a notice again: each network that has it takes the event.
-use Rattle.std.proofs.Common.{Global, ◌≡◌, ℕ, ◌+◌, ◌<◌, true, false, true≢false, List, [], length, Option, Some, None, Result, Ok, Err, refl, sym, ap, subst, ◌∙◌, arith}
-use Rattle.std.specs.Prelude.{◌-◌, nat_le, nat_lt, slice_get, slice_index_or}
-use Rattle.std.specs.FinMap.{empty}
+use Rattle.std.proofs.Common.{Global, ◌≡◌, ℕ, ◌+◌, ◌<◌, true, true≢false, List, length, Option, Some, None, Result, Ok, Err, refl, sym, ap, subst, ◌∙◌, arith}
+use Rattle.std.specs.Prelude.{◌-◌, nat_le, nat_lt, slice_get}
 use Rattle.std.specs.Option.{unwrap_or}
 use Rattle.std.proofs.lemmas.Bool.{and_parts, leb-true, ltb-true}
 use Rattle.std.proofs.lemmas.Option.{slice_get-get_or, slice_get_within}
@@ -10,14 +9,13 @@ use Rattle.lisp_records.specs.declared.router.RouterId.{RouterId}
 use Rattle.lisp_records.specs.Router.{router_eq}
 use Rattle.lisp_records.proofs.RouterLaws.{router_eq-Decides}
 use Rattle.lisp_policy.specs.Configuration.{ConfigValue, RouterEntryValue}
-use Rattle.lisp_nonces.specs.declared.fate.Fate.TheVariants.{Done}
 use Rattle.lisp_admission.specs.declared.notice_fault.NoticeFault.{NoticeFault}
 use Rattle.lisp_server.specs.Notices.{StandingNoticeValue, notice_at, is_due_at}
 use Rattle.lisp_model.specs.declared.event.Event.TheVariants as events
 use Rattle.lisp_model.specs.Trace.{Step, Opening, router_at}
 use Rattle.lisp_model.specs.Timers.{notices, notice_to}
 use Rattle.lisp_model.proofs.CleanLemmas.{in_find}
-use Rattle.lisp_refinement.specs.World.{ServerNodeState, RouterNodeState, Down, WorldState}
+use Rattle.lisp_refinement.specs.World.{ServerNodeState, RouterNodeState, WorldState}
 use Rattle.lisp_refinement.specs.Events.{address_of, ChangesNoticesAlone, NodeResends, SaysResendAnswer}
 use Rattle.lisp_refinement.specs.Stands.{Stands}
 use Rattle.lisp_refinement.proofs.NoticeParts.{its_router, kept_stands}
@@ -26,7 +24,7 @@ use Rattle.lisp_turns.specs.Acts.{Does, DoesOne, datagrams}
 use Rattle.lisp_turns.specs.Node.{Server, IsPlaced}
 use Rattle.lisp_turns.specs.Serving.{number_of, resend_act}
 use Rattle.lisp_turns.proofs.NoticedRouters.{IsConfigured, configured}
-use Rattle.lisp_turns.proofs.ServingPlaces.{FirstPlace, first, router_is_at}
+use Rattle.lisp_turns.proofs.ServingPlaces.{FirstPlace, first, router_is_at, some_at}
 
 -- the router of a network that has an identity, by its number
 pub record HasRouter (w : WorldState) (number : ℕ) (me : RouterId) : Type 0 where
@@ -39,28 +37,13 @@ pub record HasRouter (w : WorldState) (number : ℕ) (me : RouterId) : Type 0 wh
 module _ (w : WorldState) (o : Opening) (T : List Step) (stand : Stands w o T) (me : RouterId) where
   -- each router that is configured is there
   at_place : FirstPlace (λ (r : RouterEntryValue). router_eq r.me me) o.config.routers → HasRouter w (number_of o.config me) me
-  at_place f = record {
+  at_place f = let node = some_at w.routers f.place (omega (arith, slice_get_within o.config.routers f.place f.element f.there, stand.steps.routers)) in record {
     place = f.place;
     is = ap (λ (p : Option ℕ). length o.config.servers + unwrap_or p (length o.config.routers)) f.is ∙ ap (λ (n : ℕ). n + f.place) (sym stand.steps.servers);
-    node = node;
-    there = there;
-    its = (stand.routers f.place node there).me ∙ ap (λ (r : RouterEntryValue). r.me) (router_is_at o.config (length o.config.servers + f.place) f.place f.element refl f.there) ∙ (router_eq-Decides f.element.me me).0 f.passes;
+    node = node.0;
+    there = node.1;
+    its = (stand.routers f.place node.0 node.1).me ∙ ap (λ (r : RouterEntryValue). r.me) (router_is_at o.config (length o.config.servers + f.place) f.place f.element refl f.there) ∙ (router_eq-Decides f.element.me me).0 f.passes;
   }
-    where
-      any : RouterNodeState
-      any = record {
-        me = me;
-        servers = [];
-        used = record { since_loss = []; before_loss = [] };
-        core = Down (record { me = me; key_id = 0; secret = []; servers = []; proxy = false; use_ttl = false; nonce_block = 0 }) [];
-        store = record { kept = empty; faults = 0; fate = Done; is_honest = false; is_quiet = false; is_obedient = false };
-      }
-
-      node : RouterNodeState
-      node = slice_index_or w.routers f.place any
-
-      there : slice_get w.routers f.place ≡ Some node
-      there = (let low = slice_get_within o.config.routers f.place f.element f.there in slice_get-get_or w.routers f.place any (omega (arith, low, stand.steps.routers)))
 
   has_router : IsConfigured o me → HasRouter w (number_of o.config me) me
   has_router c =

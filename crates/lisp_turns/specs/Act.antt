@@ -20,6 +20,9 @@ numbered n (lines.Notice server router key nonce datagram) = lines.Notice server
 numbered n (lines.Resent server router datagram) = lines.Resent server router n
 numbered n line = line
 
--- a node with a number refused
+-- a line alone; a node with a number refused
+abbrev pub line_act : Line → ActValue
+line_act line = record { line = line; message = None }
+
 abbrev pub refused_act : ℕ → Refusal → ActValue
-refused_act node what = record { line = lines.Refused node what; message = None }
+refused_act node what = line_act (lines.Refused node what)

@@ -1,5 +1,6 @@
 pub mod Outside
 pub mod Node
+pub mod Order
 pub mod Act
 pub mod Serving
 pub mod Made

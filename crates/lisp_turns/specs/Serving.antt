@@ -41,3 +41,14 @@ SendAct config number server part (Err fault) act = act ≡ refused_act number (
 abbrev pub resend_act : ℕ → ℕ → Result (Addr × List ℕ) NoticeFault → ActValue
 resend_act number router (Ok sent) = record { line = lines.Resent number router 0; message = Some sent }
 resend_act number router (Err fault) = refused_act number (refusals.Notice fault)
+
+-- a Map-Server sent a router a notice, whose Key ID and nonce are told
+pub record NoticeSentAct (number router : ℕ) (sent : Addr × List ℕ) (act : ActValue) : Type 0 where
+  pub head : Head
+  pub read : head_at sent.1 ≡ Some head
+  pub is : act ≡ record { line = lines.Notice number router head.key_id head.nonce 0; message = Some sent }
+
+-- or it refused to
+abbrev pub NoticeAct : ℕ → ℕ → Result (Addr × List ℕ) NoticeFault → ActValue → Type 0
+NoticeAct number router (Ok sent) act = NoticeSentAct number router sent act
+NoticeAct number router (Err fault) act = act ≡ refused_act number (refusals.Notice fault)

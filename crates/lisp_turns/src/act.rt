@@ -1,7 +1,7 @@
 //! What a node did of itself, or made of a datagram.
 
 ghost use Rattle.std.specs.Prelude.{◌≡◌, ◌↔◌, IsTrue};
-ghost use Rattle.lisp_turns.specs.Act.{refused_act};
+ghost use Rattle.lisp_turns.specs.Act.{line_act, refused_act};
 ghost use Rattle.lisp_turns.specs.Due.{IsRefused};
 ghost use Rattle.lisp_turns.specs.Serving.{answer_act};
 
@@ -38,14 +38,21 @@ impl Act {
         Act { line, message }
     }
 
+    /// A line alone.
+    pub(crate) fn line(line: Line) -> Act
+        ensures { result ≡ line_act line }
+    {
+        Act {
+            line,
+            message: None,
+        }
+    }
+
     /// The node with a number refused.
     pub(crate) fn refused(node: usize, what: Refusal) -> Act
         ensures { result ≡ refused_act node what }
     {
-        Act {
-            line: Line::Refused { node, what },
-            message: None,
-        }
+        Act::line(Line::Refused { node, what })
     }
 
     /// Whether the node refused.

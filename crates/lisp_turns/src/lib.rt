@@ -11,6 +11,7 @@ mod telling;
 
 // The nodes.
 mod node;
+mod order;
 mod router;
 mod server;
 
@@ -21,6 +22,7 @@ mod turn;
 
 pub use act::Act;
 pub use node::Node;
+pub use order::Order;
 pub use outside::{Clock, Commit, Endpoint, Lines, Outside, Printed, Received, SocketCall};
 pub use place::Place;
 pub use turn::{Uncommitted, take_turns};

@@ -1,16 +1,19 @@
 //! A node of either kind that takes turns.
 
-ghost use Rattle.std.specs.Prelude.{◌≡◌, ◌≤◌, None, IfSome};
+ghost use Rattle.std.specs.Prelude.{◌≡◌, ◌≤◌, None, IfOk, IfErr, IfSome, OnErr};
 ghost use Rattle.lisp_records.specs.Moment.{max_moment};
 ghost use Rattle.lisp_model.specs.declared.event.Event.TheVariants as events;
 ghost use Rattle.lisp_model.specs.Memory.{MayTell};
 ghost use Rattle.lisp_turns.specs.Acts.{DoesOne};
 ghost use Rattle.lisp_turns.specs.Due.{NothingDue, DoesDuty};
 ghost use Rattle.lisp_turns.specs.Node.{NodeState, IsPlaced, DropsRow, NoneDead};
+ghost use Rattle.lisp_turns.specs.Order.{event_of, IsFault};
 
 use crate::act::Act;
+use crate::order::Order;
 use crate::place::Place;
 use lisp_memory::Memory;
+use lisp_model::WorldFault;
 use lisp_records::{Addr, Prefix, RouterId};
 use std::alloc::Global;
 
@@ -33,6 +36,17 @@ pub trait Node {
         requires { IsPlaced place.now.config.now place.now.number (state self.old) }
         ensures does { DoesOne Global place.now.config.now place.now.number (state self.old) (state self.new) now (events.Junk place.now.number from bytes.now) result }
         ensures tells { MayTell ⟦<Global as Memory>⟧.may_refuse store_may_refuse result.line };
+
+    /// It does what a user tells it, at a moment; a refusal of its core is a line. What keeps it from being told so changes nothing:
+    /// `NoNode` where no node has the number, `WrongKind` where the order isn't for a node of its kind, or names a Map-Server,
+    /// `UnknownKey` where the router's site has no such key, `KeyUsed` where the router used it before its store was lost.
+    fn obey(&mut self, place: &Place, order: Order, now: u64) -> Result<Act, WorldFault>
+        requires bound { now ≤ max_moment }
+        requires placed { IsPlaced place.now.config.now place.now.number (state self.old) }
+        ensures does { IfOk result (DoesOne Global place.now.config.now place.now.number (state self.old) (state self.new) now (event_of place.now.number order)) }
+        ensures fault { IfErr result (IsFault place.now.config.now place.now.number (state self.old) (event_of place.now.number order)) }
+        ensures same { OnErr result (state self.new ≡ state self.old) }
+        ensures tells { IfOk result (λ act. MayTell ⟦<Global as Memory>⟧.may_refuse store_may_refuse act.line) };
 
     /// It does what is due first at a moment: sends a Map-Register, or a notice again; `None` where nothing is due, and it is
     /// left unchanged. A Map-Register that it sent isn't due any more at that moment, and no other becomes so.

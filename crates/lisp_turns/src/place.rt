@@ -1,11 +1,14 @@
 //! Where a node stands in a configuration.
 
-ghost use Rattle.std.specs.Prelude.{◌≡◌, ◌<◌, ◌≤◌, length, position};
+ghost use Rattle.std.specs.Prelude.{◌≡◌, ◌<◌, ◌≤◌, true, IfOk, length, position};
 ghost use Rattle.lisp_records.specs.Router.{router_eq};
 ghost use Rattle.lisp_policy.specs.Configuration.{IsConfig};
-ghost use Rattle.lisp_model.specs.Trace.{router_at, address_at};
+ghost use Rattle.lisp_model.specs.Trace.{is_router, router_at, address_at};
+ghost use Rattle.lisp_world.specs.Faults.{refusal_of};
+ghost use Rattle.lisp_turns.specs.Order.{name_fault};
 ghost use Rattle.lisp_turns.specs.Serving.{number_of};
 
+use lisp_model::WorldFault;
 use lisp_records::{Addr, RouterId};
 use lisp_sites::{Config, RouterEntry};
 
@@ -43,6 +46,23 @@ impl<'a> Place<'a> {
         let config = self.config;
         let entry = &config.servers()[server];
         entry.address
+    }
+
+    /// The identity of the router with a number: `NoNode` where no node has it, `WrongKind` where a Map-Server has.
+    pub(crate) fn identity_of(&self, router: usize) -> Result<RouterId, WorldFault>
+        ensures router { IfOk result (λ me. is_router self.now.config.now router ≡ true) }
+        ensures me { IfOk result (λ me. me ≡ (router_at self.now.config.now router).me) }
+        ensures fault { refusal_of result ≡ name_fault self.now.config.now router }
+    {
+        if router >= self.config.node_count() {
+            return Err(WorldFault::NoNode);
+        }
+        let servers = self.config.servers().len();
+        if router < servers {
+            return Err(WorldFault::WrongKind);
+        }
+        let entry = &self.config.routers()[router - servers];
+        Ok(entry.me)
     }
 
     /// The number of the router with an identity; one that no node has where it isn't configured.

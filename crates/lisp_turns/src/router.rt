@@ -1,23 +1,31 @@
 //! A site router (ETR) that takes turns.
 
-ghost use Rattle.std.specs.Prelude.{◌≡◌, ◌<◌, ◌≤◌, None, IfOk, IfSome, IsSome, length};
+ghost use Rattle.std.specs.Prelude.{◌≡◌, ◌<◌, ◌≤◌, None, IfOk, IfErr, IfSome, IsSome, OnErr, length};
 ghost use Rattle.lisp_records.specs.Moment.{max_moment};
 ghost use Rattle.lisp_messages.specs.Head.{head_at};
+ghost use Rattle.lisp_nonces.specs.declared.fate.Fate.TheVariants.{Done};
 ghost use Rattle.lisp_model.specs.Memory.{MayTell};
+ghost use Rattle.lisp_model.specs.declared.event.Event.TheVariants as events;
+ghost use Rattle.lisp_world.specs.Asked.{asked_rotate_line};
+ghost use Rattle.lisp_turns.specs.Act.{line_act};
+ghost use Rattle.lisp_turns.specs.Acts.{DoesOne};
 ghost use Rattle.lisp_turns.specs.Due.{IsRegisterDue, NothingDue, DoesDuty};
 ghost use Rattle.lisp_turns.specs.Node.{Router as RouterNodeOf, IsPlaced};
+ghost use Rattle.lisp_turns.specs.Order.{IsFault};
 ghost use Rattle.lisp_turns.specs.Serving.{SentAct, SendAct};
 
 use crate::act::Act;
 use crate::node::Node;
+use crate::order::Order;
 use crate::place::Place;
-use lisp_etr::SendFault;
+use lisp_admission::key_at;
+use lisp_etr::{RotateFault, SendFault};
 use lisp_memory::Memory;
 use lisp_messages::Head;
-use lisp_model::{Line, Refusal};
+use lisp_model::{Line, Refusal, WorldFault};
 use lisp_nodes::{Arrival, RouterNode, router_hears};
 use lisp_nonces::{Fate, WorldStore};
-use lisp_records::{Addr, Bytes, Prefix, RouterId};
+use lisp_records::{Addr, Bytes, Database, Prefix, RouterId};
 use std::alloc::Global;
 
 impl<S: WorldStore> Node for RouterNode<S> {
@@ -41,6 +49,17 @@ impl<S: WorldStore> Node for RouterNode<S> {
         };
         let (line, reply) = router_hears(self, place.number, how, bytes);
         Act::answer(line, from, reply)
+    }
+
+    fn obey(&mut self, place: &Place, order: Order, now: u64) -> Result<Act, WorldFault> {
+        match order {
+            Order::Notice { router } => {
+                place.identity_of(router)?;
+                Err(WorldFault::WrongKind)
+            }
+            Order::Change { db } => Ok(change(self, place, db, now)),
+            Order::Rotate { key } => rotate(self, place, key, now),
+        }
     }
 
     fn serve(&mut self, place: &Place, now: u64) -> Option<Act> {
@@ -119,5 +138,59 @@ fn sent(place: &Place, due: Due, message: Bytes) -> Act
             datagram: 0,
         },
         message: Some((place.address_of_server(due.server), message)),
+    }
+}
+
+// Has the router register another database, where it is up.
+fn change<S: WorldStore>(router: &mut RouterNode<S>, place: &Place, db: Database, now: u64) -> Act
+    requires placed { IsPlaced place.now.config.now place.now.number (RouterNodeOf router.old) }
+    ensures does { DoesOne Global place.now.config.now place.now.number (RouterNodeOf router.old) (RouterNodeOf router.new) now (events.Change place.now.number db) result }
+    ensures tells { MayTell ⟦<Global as Memory>⟧.may_refuse S.may_refuse result.line }
+{
+    let records = db.records().len();
+    let line = if router.change(db, now) {
+        Line::Changed {
+            router: place.number,
+            records,
+        }
+    } else {
+        Line::Down {
+            router: place.number,
+        }
+    };
+    Act::line(line)
+}
+
+// Has the router go over to another key of its site, where it is up. Not to one that it used before its store was lost.
+fn rotate<S: WorldStore>(
+    router: &mut RouterNode<S>,
+    place: &Place,
+    key: u8,
+    now: u64,
+) -> Result<Act, WorldFault>
+    requires placed { IsPlaced place.now.config.now place.now.number (RouterNodeOf router.old) }
+    ensures does { IfOk result (DoesOne Global place.now.config.now place.now.number (RouterNodeOf router.old) (RouterNodeOf router.new) now (events.Rotate place.now.number key Done)) }
+    ensures fault { IfErr result (IsFault place.now.config.now place.now.number (RouterNodeOf router.old) (events.Rotate place.now.number key Done)) }
+    ensures same { OnErr result (router.new ≡ router.old) }
+    ensures tells { IfOk result (λ act. MayTell ⟦<Global as Memory>⟧.may_refuse S.may_refuse act.line) }
+{
+    let Some(secret) = key_at(place.config.sites(), router.me().site, key) else {
+        return Err(WorldFault::UnknownKey);
+    };
+    if router.used_before_loss(key) {
+        return Err(WorldFault::KeyUsed);
+    }
+    let answer = router.rotate(key, secret.copy(), Fate::Done, now);
+    Ok(rotated(place.number, key, answer))
+}
+
+// The act of a router with a number that was told to go over to a key.
+fn rotated(router: usize, key: u8, answer: Option<Result<(), RotateFault>>) -> Act
+    ensures { result ≡ line_act (asked_rotate_line router key answer) }
+{
+    match answer {
+        Some(Ok(())) => Act::line(Line::Rotated { router, key }),
+        Some(Err(fault)) => Act::refused(router, Refusal::Rotate(fault)),
+        None => Act::line(Line::Down { router }),
     }
 }

@@ -1,19 +1,24 @@
 //! A Map-Server that takes turns.
 
-ghost use Rattle.std.specs.Prelude.{◌≡◌, ◌<◌, ◌≤◌, length, true};
+ghost use Rattle.std.specs.Prelude.{◌≡◌, ◌<◌, ◌≤◌, IfOk, IsSome, length, true};
 ghost use Rattle.lisp_records.specs.Moment.{max_moment};
+ghost use Rattle.lisp_messages.specs.Head.{head_at};
+ghost use Rattle.lisp_nonces.specs.declared.fate.Fate.TheVariants.{Done};
 ghost use Rattle.lisp_server.specs.Notices.{notice_at, is_due_at};
 ghost use Rattle.lisp_model.specs.Memory.{MayTell};
 ghost use Rattle.lisp_model.specs.declared.event.Event.TheVariants as events;
+ghost use Rattle.lisp_model.specs.Trace.{is_router, router_at};
 ghost use Rattle.lisp_turns.specs.Acts.{DoesOne};
 ghost use Rattle.lisp_turns.specs.Node.{Server as ServerNodeOf, IsPlaced};
-ghost use Rattle.lisp_turns.specs.Serving.{number_of, resend_act};
+ghost use Rattle.lisp_turns.specs.Serving.{number_of, resend_act, NoticeAct};
 
 use crate::act::Act;
 use crate::node::Node;
+use crate::order::Order;
 use crate::place::Place;
 use lisp_memory::Memory;
-use lisp_model::{Line, Refusal};
+use lisp_messages::Head;
+use lisp_model::{Line, Refusal, WorldFault};
 use lisp_nodes::{Arrival, ServerNode, server_hears};
 use lisp_nonces::{Fate, WorldStore};
 use lisp_records::{Addr, Bytes, Prefix, RouterId};
@@ -40,6 +45,14 @@ impl<S: WorldStore> Node for ServerNode<S> {
         };
         let (line, reply) = server_hears(self, place.number, how, bytes);
         Act::answer(line, from, reply)
+    }
+
+    fn obey(&mut self, place: &Place, order: Order, now: u64) -> Result<Act, WorldFault> {
+        let Order::Notice { router } = order else {
+            return Err(WorldFault::WrongKind);
+        };
+        let me = place.identity_of(router)?;
+        Ok(notify(self, place, router, &me, now))
     }
 
     fn serve(&mut self, place: &Place, now: u64) -> Option<Act> {
@@ -78,6 +91,48 @@ fn resent(server: usize, router: usize, answer: Result<(Addr, Bytes), NoticeFaul
             },
             message: Some(message),
         },
+        Err(fault) => Act::refused(server, Refusal::Notice(fault)),
+    }
+}
+
+// Sends a notice to the router with a number, whose identity is given.
+fn notify<S: WorldStore>(
+    server: &mut ServerNode<S>,
+    place: &Place,
+    router: usize,
+    me: &RouterId,
+    now: u64,
+) -> Act
+    requires bound { now ≤ max_moment }
+    requires placed { IsPlaced place.now.config.now place.now.number (ServerNodeOf server.old) }
+    requires router { is_router place.now.config.now router ≡ true }
+    requires me { me.now ≡ (router_at place.now.config.now router).me }
+    ensures does { DoesOne Global place.now.config.now place.now.number (ServerNodeOf server.old) (ServerNodeOf server.new) now (events.Notice place.now.number router Done) result }
+    ensures tells { MayTell ⟦<Global as Memory>⟧.may_refuse S.may_refuse result.line }
+{
+    let answer = server.notify(Fate::Done, me, now);
+    noticed(place.number, router, answer)
+}
+
+// The act of a Map-Server with a number that was told to send a notice to the router with another one.
+fn noticed(server: usize, router: usize, answer: Result<(Addr, Bytes), NoticeFault>) -> Act
+    requires { IfOk answer (λ sent. IsSome (head_at sent.1)) }
+    ensures { NoticeAct server router answer result }
+{
+    match answer {
+        Ok((to, message)) => {
+            let Head { key_id, nonce } = Head::read(message.as_slice()).unwrap();
+            Act {
+                line: Line::Notice {
+                    server,
+                    router,
+                    key: key_id,
+                    nonce,
+                    datagram: 0,
+                },
+                message: Some((to, message)),
+            }
+        }
         Err(fault) => Act::refused(server, Refusal::Notice(fault)),
     }
 }

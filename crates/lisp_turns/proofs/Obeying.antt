@@ -1,0 +1,113 @@
+-- What keeps a node from being told something is the fault of each network that has it.
+use Rattle.std.proofs.Common.{◌≡◌, ℕ, ◌+◌, ◌<◌, Bool, true, false, List, length, length-append, map, Option, Some, None, refl, sym, ap, ◌∙◌, arith}
+use Rattle.std.specs.Prelude.{◌||◌, ◌-◌, not, nat_le, nat_lt, if◌then◌else◌}
+use Rattle.std.proofs.lemmas.Bool.{and_parts, leb-true, ltb-true, lt-ltb, le-ltb, lt-leb}
+use Rattle.std.proofs.lemmas.List.{length-map}
+use Rattle.lisp_policy.specs.Configuration.{ServerEntryValue, RouterEntryValue}
+use Rattle.lisp_model.specs.Trace.{Step, Opening, is_router, router_at}
+use Rattle.lisp_model.specs.declared.world_fault.WorldFault.{WorldFault}
+use Rattle.lisp_model.specs.declared.world_fault.WorldFault.TheVariants.{NoNode, WrongKind}
+use Rattle.lisp_refinement.specs.World.{WorldState}
+use Rattle.lisp_refinement.specs.Stands.{Stands}
+use Rattle.lisp_refinement.proofs.Gets.{none_is_some}
+use Rattle.lisp_world.specs.Faults.{router_fault, pair_fault}
+use Rattle.lisp_turns.specs.Order.{name_fault}
+use Rattle.lisp_turns.proofs.ServingServer.{HasRouter}
+use Rattle.lisp_turns.proofs.ServingPlaces.{some_at}
+
+-- the fault of a name alone, and beside a node that is a Map-Server or a router
+abbrev alone : Bool → Bool → Option WorldFault
+alone missing server = if missing then Some NoNode else if server then Some WrongKind else None
+
+abbrev beside : Bool → Bool → Bool → Option WorldFault
+beside is_server missing server = if missing || false then Some NoNode else if server || not is_server then Some WrongKind else None
+
+-- a name beside a Map-Server has its own fault
+beside_server : (missing server : Bool) → beside true missing server ≡ alone missing server
+beside_server true server = refl
+beside_server false true = refl
+beside_server false false = refl
+
+-- and beside a router, too; one that has none is of the wrong kind
+beside_router : (missing server : Bool) (fault : WorldFault) → alone missing server ≡ Some fault → beside false missing server ≡ Some fault
+beside_router true server fault is = is
+beside_router false true fault is = is
+beside_router false false fault is = absurd (none_is_some is)
+
+beside_another : (missing server : Bool) → alone missing server ≡ None → beside false missing server ≡ Some WrongKind
+beside_another true server is = absurd (none_is_some (sym is))
+beside_another false true is = refl
+beside_another false false is = refl
+
+module _ (w : WorldState) (o : Opening) (T : List Step) (stand : Stands w o T) where
+  abbrev servers : ℕ
+  servers = length o.config.servers
+
+  abbrev nodes : ℕ
+  nodes = servers + length o.config.routers
+
+  node_count : length w.addresses ≡ nodes
+  node_count =
+      ap (λ l. length l) stand.steps.addresses
+      ∙ length-append (map (λ (s : ServerEntryValue). s.address) o.config.servers) (map (λ (r : RouterEntryValue). r.address) o.config.routers)
+      ∙ (λ i. length-map o.config.servers (λ (s : ServerEntryValue). s.address) i + length-map o.config.routers (λ (r : RouterEntryValue). r.address) i)
+
+  -- the fault of a name is that in the configuration
+  pub named : (router : ℕ) → router_fault w router ≡ name_fault o.config router
+  named router = λ i. alone (nat_le (node_count i) router) (nat_lt router (stand.steps.servers i))
+
+  -- the fault of a router beside a node, by what this one is
+  by_kind : (number router : ℕ) (is_server : Bool) → nat_le nodes number ≡ false → nat_lt number servers ≡ is_server
+      → pair_fault w router number ≡ beside is_server (nat_le nodes router) (nat_lt router servers)
+  by_kind number router is_server there kind =
+      (λ i. if nat_le (node_count i) router || nat_le (node_count i) number then Some NoNode
+      else if nat_lt router (stand.steps.servers i) || not (nat_lt number (stand.steps.servers i)) then Some WrongKind else None)
+      ∙ (λ i. if nat_le nodes router || there i then Some NoNode else if nat_lt router servers || not (kind i) then Some WrongKind else None)
+
+  -- beside a Map-Server
+  module _ (number : ℕ) (low : number < servers) where
+    pub at_server : (router : ℕ) → pair_fault w router number ≡ name_fault o.config router
+    at_server router =
+        by_kind number router true (lt-leb nodes number (omega (arith, low))) (lt-ltb number servers low)
+        ∙ beside_server (nat_le nodes router) (nat_lt router servers)
+
+    -- which is no router
+    pub no_router : router_fault w number ≡ Some WrongKind
+    no_router = named number ∙ (λ i. alone (lt-leb nodes number (omega (arith, low)) i) (lt-ltb number servers low i))
+
+  -- beside a router
+  module _ (number place : ℕ) (is : number ≡ servers + place) (within : place < length o.config.routers) where
+    at_router : (router : ℕ) → pair_fault w router number ≡ beside false (nat_le nodes router) (nat_lt router servers)
+    at_router router = by_kind number router false (lt-leb nodes number (omega (arith, is, within))) (le-ltb number servers (omega (arith, is)))
+
+    pub its_name : (router : ℕ) (fault : WorldFault) → name_fault o.config router ≡ Some fault → pair_fault w router number ≡ Some fault
+    its_name router fault has = at_router router ∙ beside_router (nat_le nodes router) (nat_lt router servers) fault has
+
+    pub another : (router : ℕ) → name_fault o.config router ≡ None → pair_fault w router number ≡ Some WrongKind
+    another router none = at_router router ∙ beside_another (nat_le nodes router) (nat_lt router servers) none
+
+    -- which has no fault itself
+    pub no_fault : router_fault w number ≡ None
+    no_fault = named number ∙ (λ i. alone (lt-leb nodes number (omega (arith, is, within)) i) (le-ltb number servers (omega (arith, is)) i))
+
+  -- the router with a number is there
+  module _ (router : ℕ) (kind : is_router o.config router ≡ true) where
+    parts : (nat_le servers router ≡ true) × (nat_lt router nodes ≡ true)
+    parts = and_parts (nat_le servers router) (nat_lt router nodes) kind
+
+    high : length w.servers + (router - length w.servers) ≡ router
+    high = omega (arith, leb-true servers router parts.0, stand.steps.servers)
+
+    low : router - length w.servers < length w.routers
+    low = omega (arith, leb-true servers router parts.0, ltb-true router nodes parts.1, stand.steps.servers, stand.steps.routers)
+
+    pub there : HasRouter w router (router_at o.config router).me
+    there =
+        let node = some_at w.routers (router - length w.servers) low in
+        record {
+          place = router - length w.servers;
+          is = sym high;
+          node = node.0;
+          there = node.1;
+          its = (stand.routers (router - length w.servers) node.0 node.1).me ∙ ap (λ (k : ℕ). (router_at o.config k).me) (ap (λ (n : ℕ). n + (router - length w.servers)) (sym stand.steps.servers) ∙ high);
+        }
