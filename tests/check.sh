@@ -3,7 +3,7 @@
 # Runs the program (out/lispd, where none is named) over the cases of answers.txt, the schedules, the lines of
 # refused.txt, files that can't be read or written, bytes that were changed (changed.py), beside a plain list of rows
 # (rows.py), with calls that fail (failing.py), over schedules that are drawn (fuzz.py), and on sockets and files
-# (running.py, databases.py, groups.py, devices.py, folders.py, timing.py, addresses.py, output.py), and of what is
+# (running.py, databases.py, groups.py, control.py, devices.py, folders.py, timing.py, addresses.py, output.py), and of what is
 # installed (packaging.py). Prints each run that differs from what is wanted, and ends with 1 where one does.
 case ${1-} in
     '') program=../out/lispd ;;
@@ -242,6 +242,7 @@ expect 'a database of 17 parts' 2 '' 'lispd: fault 84 line 1' play ../out/schedu
 ./running.py "$program" || failed=1
 ./databases.py "$program" || failed=1
 ./groups.py "$program" || failed=1
+./control.py "$program" || failed=1
 ./devices.py "$program" || failed=1
 ./folders.py "$program" || failed=1
 ./timing.py "$program" || failed=1

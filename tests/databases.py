@@ -19,6 +19,8 @@ from nodes import (DATABASE, FILES, GROUPS, LIMIT, PORT, SITE, XTR, check, faili
                    nonce_in, over, peer, ran, received, run_tests, until)
 from nonces import DATABASE_FILE, END, LOG_FILE, MOST, TAKEN, changed, in_database, in_files, kept, pair, put_file
 
+# What isn't copied with a folder: the socket of a node.
+UNCOPIED = shutil.ignore_patterns("control")
 # How a node ends that can't use its database; and how it ends without a turn.
 UNUSABLE, UNMOVED = (1, "", "lispd: fault 93\n"), (0, "", "")
 # What a node ends with for want of memory.
@@ -40,7 +42,7 @@ def a_database_tells_of_itself(here):
     wanted = {pair(xtr=XTR): 1, pair(xtr=XTR + 1): 2**63, pair(xtr=XTR + 2): MOST - 1, pair(xtr=2**127 | XTR): 2**63 - 1,
               pair(xtr=2**64): 10**19}
     check("its nonces", kept(here, "s1"), wanted)
-    check("its files", {"lock", DATABASE_FILE, LOG_FILE} >= set(os.listdir(f"{here.folder}/s1")), True)
+    check("its files", {"control", "lock", DATABASE_FILE, LOG_FILE} >= set(os.listdir(f"{here.folder}/s1")), True)
     process = here.start(*here.words("server", "s1"))
     check("its first line", process.stdout.readline(), "started s1 nonces 5\n")
     # (each from an address of its own: refusals of one number and one source are summed)
@@ -243,7 +245,7 @@ def killed_while_older_files_are_taken(here):
     shutil.move(folder, source)
     for of, nonce in older.items():
         put_file(source, of, nonce)
-    for at in killed_runs(here, words, "kill", folder, lambda it: shutil.copytree(source, it)):
+    for at in killed_runs(here, words, "kill", folder, lambda it: shutil.copytree(source, it, ignore=UNCOPIED)):
         check(f"kill {at}: none is lowered", at_least(in_database(folder), OLD), True)
         check(f"kill {at}: one of both has each", at_least(in_database(folder), greatest) or in_files(folder) == older, True)
         check(f"kill {at}: the next start", ran(*words), UNMOVED)
@@ -449,7 +451,7 @@ def a_router_whose_call_fails(call, error):
             shutil.move(folder, source)
             for at in range(1, MOST_CALLS):
                 shutil.rmtree(folder, ignore_errors=True)
-                shutil.copytree(source, folder)
+                shutil.copytree(source, folder, ignore=UNCOPIED)
                 status, output, told = ran(*words, env=failing(call, at, "", error, f"{folder}/"))
                 sent = [int(line.split()[-1]) for line in output.splitlines() if line.startswith("sent ")]
                 there = kept(here, "r1").get(pair("sent"), 0)

@@ -48,11 +48,11 @@ def call(name, rest, file):
 
 
 def calls(trace, *files):
-    """The calls that strace wrote down, as they are to these files, but for those of other files."""
+    """The calls that strace wrote down, as they are to these files, but for those of other files and of the node's control socket."""
     found = []
     for line in Path(trace).read_text().splitlines():
         match = re.match(r"(?:\d+ +)?(\w+)\((.*)", line)
-        if match and (words := [call(*match.groups(), file) for file in files]):
+        if match and '/control"' not in line and (words := [call(*match.groups(), file) for file in files]):
             found.append(min(words, key=len))
     return found
 

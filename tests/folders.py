@@ -109,7 +109,7 @@ def a_new_file_that_a_crash_left(here):
     for nonce, left in enumerate((b"a new file that a crash left, longer than that of a nonce", nonce_text(99), b""), 1):
         Path(f"{file}.new").write_bytes(left)
         check(f"beside {left!r}", ran(*here.words("router", "r2", "--turns", "1")), (0, f"sent r2 s1 key 1 nonce {nonce}\n", ""))
-        check("its files", (file.read_bytes(), sorted(os.listdir(file.parent))), (nonce_text(nonce), ["lock", file.name]))
+        check("its files", (file.read_bytes(), sorted(os.listdir(file.parent))), (nonce_text(nonce), ["control", "lock", file.name]))
 
 
 def things_in_the_place_of_a_map_server_s_file(here):
@@ -282,7 +282,7 @@ def a_map_server_keeps_pairs_apart(here):
             check(f"pair {pair}", nonce_in(here.answer(it, message)), 5)
         killed(process)
         check("its files", sorted(os.listdir(f"{here.folder}/s1")),
-              sorted(["lock", *(here.file("s1", "r", *pair).name for pair in PAIRS)]))
+              sorted(["control", "lock", *(here.file("s1", "r", *pair).name for pair in PAIRS)]))
         process = here.start(*here.words("server", "s1"))
         is_up(here.s1)
     # (each from an address of its own: refusals of one number and one source are summed)
@@ -303,7 +303,7 @@ def routers_keep_pairs_apart(here):
         check(f"pair {PAIRS[number]}", ran("router", str(one), "node", "--store", here.folder, "--turns", "1"),
               (0, f"sent node s1 key {PAIRS[number][2]} nonce 1\n", ""))
     check("their files", sorted(os.listdir(f"{here.folder}/node")),
-          sorted(["lock", *(here.file("node", "s", *pair).name for pair in PAIRS)]))
+          sorted(["control", "lock", *(here.file("node", "s", *pair).name for pair in PAIRS)]))
 
 
 # A terminal.

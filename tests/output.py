@@ -368,7 +368,7 @@ def closed_descriptors(here):
         killed(process)
         file = here.file("s1", "r")
         check("its nonces", file.read_bytes(), nonce_text(nonce))
-        check("its files", {it.name: it.stat().st_size for it in file.parent.iterdir()}, {"lock": 0, file.name: 27})
+        check("its files", {it.name: it.stat().st_size for it in file.parent.iterdir()}, {"control": 0, "lock": 0, file.name: 27})
 
 
 # Refusals that repeat.

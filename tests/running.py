@@ -29,7 +29,7 @@ def a_router_goes_on_above_its_nonces(here):
     check("a router's first turn", ran(*words), (0, "sent r1 s1 key 1 nonce 1\nsent r1 s2 key 1 nonce 2\n", ""))
     path = here.file("r1", "s")
     check("its file", path.read_bytes(), nonce_text(2))
-    check("its folder", sorted(os.listdir(path.parent)), ["lock", path.name])
+    check("its folder", sorted(os.listdir(path.parent)), ["control", "lock", path.name])
     check("the next run", ran(*words), (0, "sent r1 s1 key 1 nonce 3\nsent r1 s2 key 1 nonce 4\n", ""))
     check("no turn", ran(*words[:-1], "0"), (0, "", ""))
 

@@ -1,11 +1,11 @@
 -- What a line of a user's asks of a node: a line of a script, without the node's name.
-use Rattle.std.specs.Prelude.{ℕ, ◌==◌, nat_lt, Bool, false, List, [], ◌∷◌, ◌++◌, length, Result, Ok, Err, if◌then◌else◌}
+use Rattle.std.specs.Prelude.{ℕ, ◌==◌, nat_lt, List, [], ◌∷◌, ◌++◌, length, Option, Some, None, Result, Ok, Err, if◌then◌else◌}
 use Rattle.std.specs.List.{before_first, after_first}
 use Rattle.lisp_records.specs.Result.{◌>>=◌}
 use Rattle.lisp_policy.specs.Configuration.{ConfigValue}
 use Rattle.lisp_nonces.specs.declared.fate.Fate.TheVariants.{Done}
 use Rattle.lisp_model.specs.declared.event.Event.TheVariants as events
-use Rattle.lisp_model.specs.Trace.{EventValue, event_value}
+use Rattle.lisp_model.specs.Trace.{EventValue}
 use Rattle.lisp_script.specs.Command.{CommandValue}
 use Rattle.lisp_script.specs.Spelling.{script_of}
 use Rattle.lisp_script.specs.declared.command.Command.TheVariants as commands
@@ -14,40 +14,37 @@ use Rattle.lisp_script.specs.declared.fault.ScriptWhat.{ScriptWhat}
 use Rattle.lisp_script.specs.declared.fault.ScriptWhat.TheVariants as whats
 use Rattle.lisp_asked.specs.declared.server.ServerQuestion.TheVariants as of_server
 use Rattle.lisp_asked.specs.declared.router.RouterQuestion.TheVariants as of_router
+use Rattle.lisp_turns.specs.declared.order.Order.{Order}
+use Rattle.lisp_turns.specs.declared.order.Order.TheVariants as orders
 use Rattle.lisp_control.specs.declared.question.Question.{Question}
 use Rattle.lisp_control.specs.declared.question.Question.TheVariants.{Server, Router, Tell}
 
--- a question, wherever its parts lie in memory
-abbrev pub QuestionValue : Type 0
-QuestionValue = Question (Unit {0})
+-- what an event tells the node with a number to do: its store's calls are done
+abbrev pub order_of : ℕ → EventValue → Option Order
+order_of number (events.Notice server router Done) = if server == number then Some (orders.Notice router) else None
+order_of number (events.Change router db) = if router == number then Some (orders.Change db) else None
+order_of number (events.Rotate router key Done) = if router == number then Some (orders.Rotate key) else None
+order_of number _ = None
 
-abbrev pub question_value : {A : Type 0} → Question A → QuestionValue
-question_value (Server question) = Server question
-question_value (Router question) = Router question
-question_value (Tell event) = Tell (event_value event)
-
--- one tells the node with a number to do this: its store's calls are done
-abbrev pub is_told : ℕ → EventValue → Bool
-is_told number (events.Notice server router Done) = server == number
-is_told number (events.Rotate router key Done) = router == number
-is_told number (events.Change router db) = router == number
-is_told number _ = false
+abbrev pub told : Option Order → Result Question ScriptWhat
+told (Some order) = Ok (Tell order)
+told None = Err whats.Word
 
 -- what is due at it
-abbrev pub due_at : ConfigValue → ℕ → QuestionValue
+abbrev pub due_at : ConfigValue → ℕ → Question
 due_at c number = if nat_lt number (length c.servers) then Server of_server.Due else Router of_router.Due
 
 -- what is asked of the node with the number, and of no other
-abbrev pub asked_of : ℕ → ℕ → QuestionValue → Result QuestionValue ScriptWhat
+abbrev pub asked_of : ℕ → ℕ → Question → Result Question ScriptWhat
 asked_of number node question = if node == number then Ok question else Err whats.Word
 
 -- what a command asks of the node with a number
-abbrev pub question_of : ConfigValue → ℕ → CommandValue → Result QuestionValue ScriptWhat
+abbrev pub question_of : ConfigValue → ℕ → CommandValue → Result Question ScriptWhat
 question_of c number (commands.Hold server) = asked_of number server (Server of_server.Hold)
 question_of c number (commands.Ask server addr) = asked_of number server (Server (of_server.Ask addr))
 question_of c number (commands.Acks router) = asked_of number router (Router of_router.Acks)
 question_of c number (commands.Due node) = asked_of number node (due_at c number)
-question_of c number (commands.Act event) = if is_told number event then Ok (Tell event) else Err whats.Word
+question_of c number (commands.Act event) = told (order_of number event)
 
 -- the line with the name of a node behind its first word, which ends at a space (32)
 abbrev pub named : List ℕ → List ℕ → List ℕ
@@ -64,7 +61,7 @@ only (command ∷ []) = Ok command
 only _ = Err whats.Word
 
 -- what a line asks of the node with a number and a name
-abbrev pub question_in : ConfigValue → ℕ → List ℕ → List ℕ → Result QuestionValue ScriptWhat
+abbrev pub question_in : ConfigValue → ℕ → List ℕ → List ℕ → Result Question ScriptWhat
 question_in c number name line = do
   commands ← what_of (script_of c (named name line))
   command ← only commands

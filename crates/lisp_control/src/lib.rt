@@ -1,8 +1,11 @@
-//! What a user asks of a node that runs, or tells it to do: a line of a script, without the node's name.
+//! What a user asks of a node that runs, or tells it to do, a line of a script without the node's name; and what the node answers, the
+//! lines of a schedule.
 #![tactic(auto)]
 
+mod answer;
 mod line;
 mod question;
 
+pub use answer::{answer_text, fault_text, outcome_text};
 pub use line::question_in;
 pub use question::Question;

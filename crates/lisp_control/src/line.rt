@@ -7,26 +7,26 @@ ghost use Rattle.lisp_records.specs.Result.{Reads};
 ghost use Rattle.lisp_script.specs.Command.{command_value};
 ghost use Rattle.lisp_script.specs.Fault.{Gives};
 ghost use Rattle.lisp_script.specs.Spelling.{script_of};
-ghost use Rattle.lisp_control.specs.Question.{question_value, question_in, named, what_of, only};
+ghost use Rattle.lisp_control.specs.Question.{question_in, named, what_of, only};
 
 use crate::question::Question;
 use lisp_memory::{FallibleString, Memory};
 use lisp_script::{Command, ScriptWhat, parse_script};
 use lisp_sites::Config;
-use std::alloc::{AllocError, Allocator};
+use std::alloc::{AllocError, Global};
 
 /// What a line asks of the node with a number and a name: the name is put behind the first word, and the line is read as a script's.
 ///
 /// Faults: those of such a line, 80 to 86. 80 is also told where the command is no question and no order for a node, or is for
 /// another node, and where the text has no command, or more than one.
-pub fn question_in<A: Memory + Copy, E: Allocator>(
-    alloc: A,
-    config: &Config<E>,
+pub fn question_in(
+    alloc: Global,
+    config: &Config,
     number: usize,
     name: &str,
     line: &str,
-) -> Result<Question<A>, ScriptWhat>
-    ensures { Gives A.may_refuse question_value result (question_in config.now number name.now line.now) }
+) -> Result<Question, ScriptWhat>
+    ensures { Gives ⟦<Global as Memory>⟧.may_refuse (λ question. question) result (question_in config.now number name.now line.now) }
 {
     let text = named(alloc, name, line)?;
     let commands = commands_in(alloc, config, text.as_str())?;
@@ -62,12 +62,8 @@ fn parted(line: &str) -> (&str, &str)
 }
 
 // The commands of a script.
-fn commands_in<A: Memory + Copy, E: Allocator>(
-    alloc: A,
-    config: &Config<E>,
-    text: &str,
-) -> Result<Vec<Command<A>, A>, ScriptWhat>
-    ensures { Gives A.may_refuse (λ commands. map command_value commands.items) result (what_of (script_of config.now text.now)) }
+fn commands_in(alloc: Global, config: &Config, text: &str) -> Result<Vec<Command>, ScriptWhat>
+    ensures { Gives ⟦<Global as Memory>⟧.may_refuse (λ commands. map command_value commands.items) result (what_of (script_of config.now text.now)) }
 {
     match parse_script(alloc, config, text) {
         Ok(commands) => Ok(commands),
@@ -76,7 +72,7 @@ fn commands_in<A: Memory + Copy, E: Allocator>(
 }
 
 // The only one of some commands.
-fn only<A: Allocator>(commands: Vec<Command<A>, A>) -> Result<Command<A>, ScriptWhat>
+fn only(commands: Vec<Command>) -> Result<Command, ScriptWhat>
     ensures { Reads command_value result (only (map command_value commands.items)) }
 {
     let mut commands = commands.into_iter();

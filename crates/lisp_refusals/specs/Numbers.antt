@@ -61,7 +61,7 @@ refusals_of_a_socket = 90 ∷ 91 ∷ []
 
 -- faults of the program
 abbrev pub faults_of_the_program : List ℕ
-faults_of_the_program = 87 ∷ 88 ∷ 89 ∷ 92 ∷ 93 ∷ 95 ∷ 96 ∷ 97 ∷ 98 ∷ []
+faults_of_the_program = 87 ∷ 88 ∷ 89 ∷ 92 ∷ 93 ∷ 95 ∷ 96 ∷ 97 ∷ 98 ∷ 99 ∷ []
 
 -- the numbers of each section, in the order of the document
 unfoldable pub numbers : List (List ℕ)

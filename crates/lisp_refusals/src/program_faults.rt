@@ -110,5 +110,13 @@ error, with status 2. Help and the version, if asked for, go to standard output,
             status: "2",
             remedy: "see `lispd --help`, and the help of the subcommand",
         },
+        Row {
+            number: 99,
+            carried: "",
+            name: "",
+            meaning: "`lispd ask` or `lispd tell`: no node runs over the folder, or it didn't answer: it couldn't save what it was told, or ended",
+            status: "1",
+            remedy: "check the folder, which is that of the node, DIR/NAME; ask the node that runs there, or see its log",
+        },
     ],
 };

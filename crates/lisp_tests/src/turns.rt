@@ -8,13 +8,14 @@ ghost use Rattle.lisp_turns.specs.Outside.{OutsideState};
 use crate::messages::MAP_REGISTER;
 use crate::playing::SCHEDULE;
 use crate::support::assert_at;
-use lisp_model::Line;
+use lisp_model::{Line, WorldFault};
 use lisp_nodes::ServerNode;
-use lisp_nonces::{Fate, MemoryStore};
+use lisp_nonces::MemoryStore;
 use lisp_records::{Addr, Bytes, RouterId};
 use lisp_sites::Config;
 use lisp_turns::{
-    Clock, Commit, Endpoint, Lines, Outside, Place, Printed, Received, Uncommitted, take_turns,
+    Clock, Commit, Control, Endpoint, Lines, NodeCore, Order, Outside, Place, Printed, Received,
+    Uncommitted, take_turns,
 };
 use std::alloc::Global;
 
@@ -63,9 +64,10 @@ const ACK: [u8; 60] = [
     1, 100, 255, 0, 0, 0x05, 0, 1, 192, 0, 2, 1, // its locator
 ];
 
-/// What a turn is to come to: what waits, and what is done then, in its order.
+/// What a turn is to come to: what waits; whether a user tells the Map-Server to send a notice; and what is done then, in its order.
 struct Turn {
     waits: &'static [&'static [u8]],
+    is_told: bool,
     does: [Deed; 3],
 }
 
@@ -94,16 +96,35 @@ const ACCEPTED: Printed = Printed::Heard {
 
 const REGISTERS: Turn = Turn {
     waits: &[&MAP_REGISTER],
+    is_told: false,
     does: [Deed::Commits, Deed::Prints(ACCEPTED), Deed::Answers],
+};
+
+const NOTIFIES: Turn = Turn {
+    waits: &[],
+    is_told: true,
+    does: [
+        Deed::Commits,
+        Deed::Prints(Printed::Event(Line::Notice {
+            server: 0,
+            router: 1,
+            key: 1,
+            nonce: NOTICE_NONCE,
+            datagram: 0,
+        })),
+        Deed::Notices,
+    ],
 };
 
 const WAITS: Turn = Turn {
     waits: &[],
+    is_told: false,
     does: [Deed::Nothing; 3],
 };
 
 const RESENDS: Turn = Turn {
     waits: &[],
+    is_told: false,
     does: [
         Deed::Prints(Printed::Event(Line::Resent {
             server: 0,
@@ -117,6 +138,7 @@ const RESENDS: Turn = Turn {
 
 const IS_DONE: Turn = Turn {
     waits: &[&ACK],
+    is_told: false,
     does: [
         Deed::Commits,
         Deed::Prints(Printed::Heard {
@@ -131,8 +153,10 @@ const IS_DONE: Turn = Turn {
     ],
 };
 
-/// The turns after a notice was sent at 0 ms, each at its moment in ms.
-const TURNS: [(u32, Turn); 7] = [
+/// The turns, each at its moment in ms.
+const TURNS: [(u32, Turn); 9] = [
+    (0, REGISTERS),
+    (0, NOTIFIES),
     (2_999, WAITS),
     (3_000, RESENDS),
     (3_001, WAITS),
@@ -156,13 +180,14 @@ const GROUP: [Deed; 5] = [
 /// How many places a turn has, and how much of that is done then.
 const PLACES: [(usize, usize); 5] = [(0, 3), (1, 3), (2, 4), (3, 5), (64, 5)];
 
-/// What a Map-Server has outside here: its moment, what waits and how many of it were taken, whether its commits are done, and
-/// what it did.
+/// What a Map-Server has outside here: its moment, what waits and how many of it were taken, whether a user tells it to send the router a
+/// notice, whether its commits are done, and what it did.
 #[derive(Drop)]
 struct Bench {
     now: u32,
     waits: &'static [&'static [u8]],
     taken: usize,
+    is_told: bool,
     commits: bool,
     did: Vec<Done>,
     alloc: Global,
@@ -182,6 +207,7 @@ impl Bench {
             now,
             waits,
             taken: 0,
+            is_told: false,
             commits: true,
             did: Vec::new(alloc),
             alloc,
@@ -234,6 +260,19 @@ impl Commit for Bench {
     }
 }
 
+impl Control for Bench {
+    fn listen(&mut self) -> Option<Order> {
+        self.is_told.then_some(Order::Notice { router: 1 })
+    }
+
+    fn answer(
+        &mut self,
+        _core: NodeCore<'_>,
+        _now: u64,
+        _outcome: Option<Result<Line, WorldFault>>,
+    ) {}
+}
+
 impl Lines for Bench {
     fn print(&mut self, line: &Printed) {
         let _ = self.did.push(Done::Printed(*line));
@@ -248,12 +287,6 @@ impl Lines for Bench {
 fn a_notice_is_sent_again_until_it_is_acknowledged(rt: HostRuntime) {
     let config = config(rt.alloc()).expect(&rt, "the configuration");
     let mut server = server(rt.alloc(), &config).expect(&rt, "the memory");
-    assert_at(
-        &rt,
-        0,
-        takes(rt.alloc(), &config, &mut server, &(0, REGISTERS)),
-    );
-    assert_at(&rt, 1, notifies(&mut server));
     for (at, turn) in TURNS.iter().enumerate() {
         assert_at(&rt, at, takes(rt.alloc(), &config, &mut server, turn));
     }
@@ -294,14 +327,6 @@ fn server(alloc: Global, config: &Config) -> Option<ServerNode<MemoryStore>> {
     Some(ServerNode::start(alloc, sites, MemoryStore::new(alloc)))
 }
 
-/// Whether it makes the notice at 0 ms.
-fn notifies(server: &mut ServerNode<MemoryStore>) -> bool {
-    match server.notify(Fate::Done, &ROUTER, 0) {
-        Ok((to, bytes)) => to == FROM && bytes.as_slice() == NOTICE.as_slice(),
-        Err(_) => false,
-    }
-}
-
 /// Whether it takes the turn, with one place: does that, in its order, and nothing else.
 fn takes(
     alloc: Global,
@@ -310,6 +335,7 @@ fn takes(
     (now, turn): &(u32, Turn),
 ) -> bool {
     let mut bench = Bench::new(alloc, *now, turn.waits);
+    bench.is_told = turn.is_told;
     let taken = turns(alloc, config, server, 1, 1, &mut bench);
     taken == Some(Ok(())) && did(bench.did.as_slice(), &turn.does)
 }

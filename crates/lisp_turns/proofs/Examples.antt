@@ -1,5 +1,5 @@
 -- Examples: a turn that is one, and near misses, each but for one thing: what the definitions don't allow.
-use Rattle.std.proofs.Common.{◌≡◌, ◌⊎◌, inl, inr, ℕ, ◌-◌, ◌^◌, ◌<◌, Bool, true, false, true≢false, List, [], ◌∷◌, length, Option, Some, None, refl, sym, ap, subst, ◌∙◌, arith}
+use Rattle.std.proofs.Common.{◌≡◌, ◌⊎◌, inl, inr, ℕ, ◌-◌, ◌^◌, ◌<◌, Bool, true, false, true≢false, List, [], ◌∷◌, length, Option, Some, None, Ok, refl, sym, ap, subst, ◌∙◌, arith}
 use Rattle.std.specs.Prelude.{if◌then◌else◌}
 use Rattle.std.specs.FinMap.{empty}
 use Rattle.std.specs.Option.{option_and_then}
@@ -20,14 +20,17 @@ use Rattle.lisp_model.specs.declared.line.Line.TheVariants as lines
 use Rattle.lisp_model.specs.Trace.{EventValue, Step}
 use Rattle.lisp_refinement.specs.Nodes.{up_in, fresh_server}
 use Rattle.lisp_refinement.specs.World.{ServerNodeState, RouterNodeState}
+use Rattle.lisp_turns.specs.Act.{ActValue}
 use Rattle.lisp_turns.specs.Acts.{TurnAct, act_calls}
 use Rattle.lisp_turns.specs.Beginning.{IsMute}
 use Rattle.lisp_turns.specs.Due.{IsRegisterDue, IsSend, SendsDue, IsRefused}
-use Rattle.lisp_turns.specs.Node.{NodeState, Server, Router, IsPlaced, Passes, IsDead, TellsDead}
-use Rattle.lisp_turns.specs.Outside.{Reception, Datagram, Nothing, Failed, Call, Receives, Reads, Commits, Prints, Sends}
+use Rattle.lisp_turns.specs.Node.{NodeState, ServerCore, Server, Router, IsPlaced, Passes, IsDead, TellsDead}
+use Rattle.lisp_turns.specs.Obeying.{Obeys}
+use Rattle.lisp_turns.specs.Outside.{Reception, Datagram, Nothing, Failed, Call, Receives, Reads, Commits, Prints, Sends, Listens, Answers}
 use Rattle.lisp_turns.specs.Part.{IsOwn, ArePrinted, arrivals, sent_of}
 use Rattle.lisp_turns.specs.Pause.{may_try, is_told, failed}
 use Rattle.lisp_turns.specs.Turn.{TurnState, Hears, IsGroup, IsPut, AreDone, DoesDuties, Serves, commit_calls, hearing_calls, IsTurn}
+use Rattle.lisp_turns.specs.declared.order.Order.{Order}
 use Rattle.lisp_turns.specs.declared.outside.Printed.TheVariants as printed
 use Rattle.lisp_turns.specs.declared.pause.Pause.{Pause}
 use Rattle.lisp_turns.proofs.DeadRows.{tells_none}
@@ -43,7 +46,7 @@ abbrev pub before : TurnState
 before = record { node = Server silent; receives = none_failed; sends = none_failed; outside = record { log = Some []; moment = 0; is_cut = false } }
 
 abbrev pub after : TurnState
-after = record before { outside = record { log = Some (Reads 5 ∷ Receives Nothing ∷ []); moment = 5; is_cut = false } }
+after = record before { outside = record { log = Some (Answers (ServerCore silent.core) 5 None ∷ Listens None ∷ Reads 5 ∷ Receives Nothing ∷ []); moment = 5; is_cut = false } }
 
 -- it holds no row, so none that is dead
 none_held : (key : RouterId × PrefixValue) (row : RowValue) → row_at silent.core.rows key.0 key.1 ≡ Some row → ⊥
@@ -56,17 +59,20 @@ silent_turn A config places = record {
   reception = Nothing;
   now = 5;
   dead = [];
-  others = [];
-  heard = [];
+  intake = record { others = []; heard = []; order = None; outcome = None; taken = false };
   between = Server silent;
   hearing = record {
     later = omega arith;
     bound = omega arith;
     passed = Server silent;
     expires = tells_none (Server silent) 5 (λ key dead. none_held key dead.0 dead.1);
-    group = record { few = omega arith; some = inr refl; datagrams = tt; full = λ is. absurd is };
-    hears = refl;
-    did_hear = refl;
+    takes = record {
+      group = record { few = omega arith; some = inr refl; datagrams = tt; full = λ is. absurd is };
+      hears = refl;
+      between = Server silent;
+      did_hear = refl;
+      obeys = refl;
+    };
   };
   left = Server silent;
   withdrawn = (tells_none (Server silent) 5 (λ key dead. none_held key dead.0 dead.1)).passes;
@@ -134,9 +140,21 @@ module _ (first : Reception) (a b : Reception) where
 uncommitted : (a : TurnAct) → commit_calls (a ∷ []) true ≡ [] → ⊥
 uncommitted a is = absurd (let clash : ◌≡◌ {A = List Call} (Commits true ∷ []) [] = is in cc)
 
-silent_until_committed : (from : Addr) (bytes : List ℕ) (now : ℕ) (heard : List TurnAct) (done : Bool) → IsMute (hearing_calls (Datagram from bytes) now [] (Nothing ∷ []) heard done)
+silent_until_committed : (from : Addr) (bytes : List ℕ) (now : ℕ) (heard : List TurnAct) (done : Bool)
+    → IsMute (hearing_calls 0 (Datagram from bytes) now [] (record { others = Nothing ∷ []; heard = heard; order = None; outcome = None; taken = false }) done)
 silent_until_committed from bytes now [] done = (refl, refl)
 silent_until_committed from bytes now (a ∷ earlier) done = (refl, refl)
+
+-- what a user tells isn't left undone, nor done where nobody tells it
+undone : (A : Type 0) (config : ConfigValue) (old new : NodeState) (now : ℕ) (order : Order) → Obeys A config 0 old new now (Some order) None → ⊥
+undone A config old new now order obeys = obeys
+
+untold_order : (A : Type 0) (config : ConfigValue) (old new : NodeState) (now : ℕ) (act : ActValue) → Obeys A config 0 old new now None (Some (Ok act)) → ⊥
+untold_order A config old new now act obeys = obeys
+
+-- and another node's order isn't the node's own
+other_order : IsOwn 0 (events.Rotate 1 7 Done) → ⊥
+other_order own = omega (arith, own)
 
 -- the address of the first message
 abbrev address_in : Addr → List (Addr × List ℕ) → Addr

@@ -1,20 +1,27 @@
--- The datagrams of a turn: one after the other is heard, and then told.
-use Rattle.std.proofs.Common.{◌≡◌, ◌⊎◌, inl, inr, ℕ, ◌+◌, ◌-◌, ◌<◌, ◌≤◌, Bool, true, false, true≢false, List, [], ◌∷◌, ◌++◌, length, map, drop, reverse, Some, None, refl, sym, ap, subst, ◌∙◌, arith}
-use Rattle.std.specs.Prelude.{◌≢◌}
+-- What a node takes in in a turn: one datagram after the other is heard, and an order is done; and then all is told.
+use Rattle.std.proofs.Common.{◌≡◌, ◌⊎◌, inl, inr, ℕ, ◌+◌, ◌-◌, ◌<◌, ◌≤◌, Bool, true, false, true≢false, List, [], ◌∷◌, ◌++◌, length, map, drop, reverse, Option, Some, None, Ok, Err, refl, sym, ap, subst, ◌∙◌, arith}
+use Rattle.std.specs.Prelude.{◌≢◌, if◌then◌else◌}
 use Rattle.std.specs.List.{AllByRecursion}
 use Rattle.std.proofs.lemmas.List.{append_assoc, reverse-append}
 use Rattle.lisp_memory.specs.Refusal.{MachineMayRefuse}
 use Rattle.lisp_records.specs.declared.address.Addr.{Addr}
 use Rattle.lisp_policy.specs.Configuration.{ConfigValue}
 use Rattle.lisp_model.specs.declared.event.Event.TheVariants as events
-use Rattle.lisp_turns.specs.Acts.{TurnAct, DoesOne, DoesAll, send_calls, acts_calls}
-use Rattle.lisp_turns.specs.Group.{HearsEach, IsHeard, HearsNext, HearsOthers, TellsEach}
-use Rattle.lisp_turns.specs.Node.{NodeState}
-use Rattle.lisp_turns.specs.Outside.{Reception, Datagram, Nothing, Failed, Call, Polls, Commits, Prints, OutsideState, Logs}
-use Rattle.lisp_turns.specs.Pause.{failed}
+use Rattle.lisp_model.specs.declared.line.Line.{Line}
+use Rattle.lisp_model.specs.declared.world_fault.WorldFault.{WorldFault}
+use Rattle.lisp_turns.specs.Act.{ActValue}
+use Rattle.lisp_turns.specs.Acts.{TurnAct, DoesOne, DoesAll, send_calls, acts_calls, printed_of}
+use Rattle.lisp_turns.specs.Group.{HearsEach, IsHeard, HearsNext, HearsOthers, HearsGroup, TakesAll, has_acts, TellsEach, TellsOutcome, TellsAll}
+use Rattle.lisp_turns.specs.Node.{NodeState, core_of}
+use Rattle.lisp_turns.specs.Obeying.{Outcome, Obeys, obeyed, answer_of}
+use Rattle.lisp_turns.specs.Order.{event_of}
+use Rattle.lisp_turns.specs.Outside.{Reception, Datagram, Nothing, Failed, Call, Polls, Commits, Prints, Listens, Answers, OutsideState, Logs}
 use Rattle.lisp_turns.specs.Stretch.{Asks, Tells, TakesIn}
-use Rattle.lisp_turns.specs.Turn.{Hears, IsDatagram, IsGroup, failure_calls, commit_calls}
+use Rattle.lisp_turns.specs.Turn.{Hears, IsDatagram, IsGroup, Intake, acts_of, IsTakenIn, receives_after, failure_calls, commit_calls}
 use Rattle.lisp_turns.specs.declared.group.Heard.{Heard}
+use Rattle.lisp_turns.specs.declared.order.Order.{Order}
+use Rattle.lisp_turns.specs.declared.order.Order.TheVariants.{Notice, Change, Rotate}
+use Rattle.lisp_turns.specs.declared.outside.Printed.{Printed}
 use Rattle.lisp_turns.specs.declared.outside.Printed.TheVariants as printed
 use Rattle.lisp_turns.specs.declared.pause.Pause.{Pause}
 use Rattle.lisp_turns.proofs.Asking.{asks_none, asks_one, asks_then, asks_same}
@@ -28,6 +35,11 @@ tells_more told h before s after so_far tells =
 pub tells_first : (others : List Heard) (h : Heard) (before s after : OutsideState) → Tells before s (printed.Heard h.act.line h.from) h.act.message → TellsEach others s after → TellsEach (others ++ h ∷ []) before after
 tells_first [] h before s after tells same = (before, refl, subst (λ (t : OutsideState). Tells before t (printed.Heard h.act.line h.from) h.act.message) (sym same) tells)
 tells_first (newest ∷ earlier) h before s after tells (between, more, last) = (between, tells_first earlier h before s between tells more, last)
+
+-- there is one
+abbrev any : {X : Type 0} → List X → Bool
+any [] = false
+any (x ∷ xs) = true
 
 module _ (A : Type 0) (config : ConfigValue) (number now : ℕ) where
   module _ (received : List Reception) (heard : List Heard) (old between new : NodeState) where
@@ -56,9 +68,10 @@ module _ (A : Type 0) (config : ConfigValue) (number now : ℕ) where
   hears_first (Nothing ∷ earlier) heard old between new from bytes first from_is does hears = hears_first earlier heard old between new from bytes first from_is does hears
   hears_first (Failed ∷ earlier) heard old between new from bytes first from_is does hears = hears_first earlier heard old between new from bytes first from_is does hears
 
-  -- the acts of a turn, which were told
+  -- the acts of a turn's datagrams, which were told
   pub record Acted (received : List Reception) (heard : List Heard) (old new : NodeState) (before after : OutsideState) : Type 0 where
     pub acts : List TurnAct
+    pub any_acts : any acts ≡ any heard
     pub hears : Hears number received acts
     pub did : DoesAll A config number old new now acts
     pub asked : Asks before after (acts_calls acts)
@@ -66,6 +79,7 @@ module _ (A : Type 0) (config : ConfigValue) (number now : ℕ) where
   pub acted : (received : List Reception) (heard : List Heard) (old new : NodeState) (before after : OutsideState) → HearsEach A config number now received heard old new → TellsEach heard before after → Acted received heard old new before after
   acted [] heard old new before after (none, same) tells = record {
     acts = [];
+    any_acts = sym (ap any none);
     hears = refl;
     did = same;
     asked = subst (λ (s : OutsideState). Asks before s []) (sym (subst (λ (l : List Heard). TellsEach l before after) none tells)) (asks_none before);
@@ -75,42 +89,34 @@ module _ (A : Type 0) (config : ConfigValue) (number now : ℕ) where
       let so_far = acted earlier rest old between before told.0 hears told.1 in
       record {
         acts = record { event = events.Junk number from bytes; act = newest.act; told = true; taken = told.2.taken } ∷ so_far.acts;
+        any_acts = sym (ap any is);
         hears = (_, so_far.acts, refl, refl, refl, so_far.hears);
         did = (between, so_far.did, does);
         asked = asks_then before told.0 after (acts_calls so_far.acts) _ so_far.asked
             (subst (λ (a : Addr). Asks told.0 after (send_calls newest.act.message told.2.taken ++ Prints (printed.Heard newest.act.line a) ∷ [])) from_is told.2.asked);
       }
-  acted (Nothing ∷ earlier) heard old new before after hears tells = (let a = acted earlier heard old new before after hears tells in record { acts = a.acts; hears = a.hears; did = a.did; asked = a.asked })
-  acted (Failed ∷ earlier) heard old new before after hears tells = (let a = acted earlier heard old new before after hears tells in record { acts = a.acts; hears = a.hears; did = a.did; asked = a.asked })
+  acted (Nothing ∷ earlier) heard old new before after hears tells = (let a = acted earlier heard old new before after hears tells in record { acts = a.acts; any_acts = a.any_acts; hears = a.hears; did = a.did; asked = a.asked })
+  acted (Failed ∷ earlier) heard old new before after hears tells = (let a = acted earlier heard old new before after hears tells in record { acts = a.acts; any_acts = a.any_acts; hears = a.hears; did = a.did; asked = a.asked })
 
   -- and those which weren't
-  pub record Untold (received : List Reception) (old new : NodeState) : Type 0 where
+  pub record Untold (received : List Reception) (heard : List Heard) (old new : NodeState) : Type 0 where
     pub acts : List TurnAct
+    pub any_acts : any acts ≡ any heard
     pub hears : Hears number received acts
     pub did : DoesAll A config number old new now acts
 
-  pub untold : (received : List Reception) (heard : List Heard) (old new : NodeState) → HearsEach A config number now received heard old new → Untold received old new
-  untold [] heard old new (none, same) = record { acts = []; hears = refl; did = same }
+  pub untold : (received : List Reception) (heard : List Heard) (old new : NodeState) → HearsEach A config number now received heard old new → Untold received heard old new
+  untold [] heard old new (none, same) = record { acts = []; any_acts = sym (ap any none); hears = refl; did = same }
   untold (Datagram from bytes ∷ earlier) heard old new (newest, rest, between, is, from_is, hears, does) =
       let so_far = untold earlier rest old between hears in
       record {
         acts = record { event = events.Junk number from bytes; act = newest.act; told = true; taken = false } ∷ so_far.acts;
+        any_acts = sym (ap any is);
         hears = (_, so_far.acts, refl, refl, refl, so_far.hears);
         did = (between, so_far.did, does);
       }
-  untold (Nothing ∷ earlier) heard old new hears = (let a = untold earlier heard old new hears in record { acts = a.acts; hears = a.hears; did = a.did })
-  untold (Failed ∷ earlier) heard old new hears = (let a = untold earlier heard old new hears in record { acts = a.acts; hears = a.hears; did = a.did })
-
--- of a group something was heard
-some_heard : (number : ℕ) (others : List Reception) (from : Addr) (bytes : List ℕ) (acts : List TurnAct) → Hears number (others ++ Datagram from bytes ∷ []) acts → acts ≢ []
-some_heard number [] from bytes acts (a, rest, is, event, told, more) none = absurd (let clash : ◌≡◌ {A = List TurnAct} [] (a ∷ rest) = sym none ∙ is in cc)
-some_heard number (Datagram where_from text ∷ earlier) from bytes acts (a, rest, is, event, told, more) none = absurd (let clash : ◌≡◌ {A = List TurnAct} [] (a ∷ rest) = sym none ∙ is in cc)
-some_heard number (Nothing ∷ earlier) from bytes acts hears none = some_heard number earlier from bytes acts hears none
-some_heard number (Failed ∷ earlier) from bytes acts hears none = some_heard number earlier from bytes acts hears none
-
-commits_some : (acts : List TurnAct) (done : Bool) → acts ≢ [] → commit_calls acts done ≡ Commits done ∷ []
-commits_some [] done some = absurd (some refl)
-commits_some (a ∷ earlier) done some = refl
+  untold (Nothing ∷ earlier) heard old new hears = (let a = untold earlier heard old new hears in record { acts = a.acts; any_acts = a.any_acts; hears = a.hears; did = a.did })
+  untold (Failed ∷ earlier) heard old new hears = (let a = untold earlier heard old new hears in record { acts = a.acts; any_acts = a.any_acts; hears = a.hears; did = a.did })
 
 -- a node heard some of the datagrams that waited, so many, and goes on
 pub record HeardSome (A : Type 0) (config : ConfigValue) (number places : ℕ) (old new : NodeState) (now count : ℕ) (heard : List Heard) (before after : OutsideState) : Type 0 where
@@ -179,79 +185,136 @@ module _ {A : Type 0} {config : ConfigValue} {number places : ℕ} {old : NodeSt
       by (inl more) = inl (omega (arith, so_far.counted, so_far.few, more))
       by (inr refused) = inr refused
 
--- a group was heard, and its commit was done or not
-module _ (A : Type 0) (config : ConfigValue) (number places : ℕ) (old between new : NodeState) (now : ℕ) (from : Addr) (bytes : List ℕ) (first : Heard) (heard : List Heard) (receives : Pause)
-    (before s : OutsideState) (does : DoesOne A config number old between now (events.Junk number from bytes) first.act) (from_is : first.from ≡ from)
-    (hears : HearsOthers A config number places between new now heard before s) where
-  abbrev received : List Reception
-  received = hears.others ++ Datagram from bytes ∷ []
-
-  all_heard : HearsEach A config number now received (heard ++ first ∷ []) old new
-  all_heard = hears_first A config number now hears.others heard old between new from bytes first from_is does hears.hears
-
-  is_group : IsGroup places (Datagram from bytes) hears.others
-  is_group = record { few = hears.few; some = inl tt; datagrams = hears.datagrams; full = λ is datagram. hears.full datagram }
-
-  module _ (committed : OutsideState) where
-    asks_commit : (done : Bool) (acts : List TurnAct) → Hears number received acts → Logs s committed (Commits done) → Asks before committed (commit_calls acts done ++ map Polls hears.others)
-    asks_commit done acts heard_acts commits =
-        asks_then before s committed (map Polls hears.others) (commit_calls acts done) hears.asked
-        (subst (λ (l : List Call). Asks s committed l) (sym (commits_some acts done (some_heard number hears.others from bytes acts heard_acts))) (asks_one s committed (Commits done) commits))
-
-    pub takes_group : (told after : OutsideState) → Logs s committed (Commits true) → Tells committed told (printed.Heard first.act.line first.from) first.act.message → TellsEach heard told after
-        → TakesIn A config number places old new now (Datagram from bytes) receives receives before after true
-    takes_group told after commits tells others_told =
-        let all = acted A config number now received (heard ++ first ∷ []) old new committed after all_heard (tells_first heard first committed told after tells others_told) in
-        record {
-          others = hears.others;
-          heard = all.acts;
-          group = is_group;
-          hears = all.hears;
-          did = all.did;
-          some = λ is. some_heard number hears.others from bytes all.acts all.hears;
-          left_is = refl;
-          asked = rw append_assoc (asks_then before committed after _ _ (asks_commit true all.acts all.hears commits) (asks_same committed after _ all.asked));
-        }
-
-    pub loses_group : Logs s committed (Commits false) → TakesIn A config number places old new now (Datagram from bytes) receives receives before committed false
-    loses_group commits =
-        let all = untold A config number now received (heard ++ first ∷ []) old new all_heard in
-        record {
-          others = hears.others;
-          heard = all.acts;
-          group = is_group;
-          hears = all.hears;
-          did = all.did;
-          some = λ is. some_heard number hears.others from bytes all.acts all.hears;
-          left_is = refl;
-          asked = asks_commit false all.acts all.hears commits;
-        }
+-- a group was heard, behind a first datagram
+module _ (A : Type 0) (config : ConfigValue) (number places : ℕ) (old between new : NodeState) (now : ℕ) (from : Addr) (bytes : List ℕ) (first : Heard) (heard : List Heard) (before after : OutsideState)
+    (does : DoesOne A config number old between now (events.Junk number from bytes) first.act) (from_is : first.from ≡ from) (hears : HearsOthers A config number places between new now heard before after) where
+  pub hears_group : HearsGroup A config number places old new now (Datagram from bytes) (heard ++ first ∷ []) before after
+  hears_group = record {
+    others = hears.others;
+    group = record { few = hears.few; some = inl tt; datagrams = hears.datagrams; full = λ is datagram. hears.full datagram };
+    hears = hears_first A config number now hears.others heard old between new from bytes first from_is does hears.hears;
+    asked = hears.asked;
+  }
 
 -- nothing came first, or the socket failed
-module _ (A : Type 0) (config : ConfigValue) (number places : ℕ) (node : NodeState) (now : ℕ) (receives : Pause) (before : OutsideState) where
+module _ (A : Type 0) (config : ConfigValue) (number places : ℕ) (node : NodeState) (now : ℕ) (before : OutsideState) where
   none_group : (first : Reception) → (IsDatagram first → ⊥) → IsGroup places first []
   none_group first other = record { few = omega arith; some = inr refl; datagrams = tt; full = λ is. absurd (other is) }
 
-  pub takes_nothing : TakesIn A config number places node node now Nothing receives receives before before true
-  takes_nothing = record {
-    others = [];
-    heard = [];
-    group = none_group Nothing (λ is. is);
-    hears = refl;
-    did = refl;
-    some = λ is. absurd (true≢false is);
-    left_is = refl;
-    asked = asks_none before;
-  }
+  pub hears_none : HearsGroup A config number places node node now Nothing [] before before
+  hears_none = record { others = []; group = none_group Nothing (λ is. is); hears = (refl, refl); asked = asks_none before }
 
-  pub takes_failure : (left : Pause) (after : OutsideState) → left ≡ failed receives now → Asks before after (failure_calls Failed receives now) → TakesIn A config number places node node now Failed receives left before after true
-  takes_failure left after left_is asked = record {
-    others = [];
-    heard = [];
-    group = none_group Failed (λ is. is);
-    hears = refl;
-    did = refl;
-    some = λ is. absurd (true≢false is);
-    left_is = left_is;
-    asked = asks_same before after _ (asks_same before after _ asked);
-  }
+  pub hears_failure : HearsGroup A config number places node node now Failed [] before before
+  hears_failure = record { others = []; group = none_group Failed (λ is. is); hears = (refl, refl); asked = asks_none before }
+
+-- what is to be committed, by whether a node did something
+abbrev pub to_commit : Bool → Bool → List Call
+to_commit has done = if has then Commits done ∷ [] else []
+
+-- it is committed, where there are acts
+heard_commits : (heard : List Heard) (acts : List TurnAct) (done : Bool) → any acts ≡ any heard → commit_calls acts done ≡ to_commit (any heard) done
+heard_commits [] [] done same = refl
+heard_commits [] (a ∷ acts) done same = absurd (true≢false same)
+heard_commits (h ∷ heard) [] done same = absurd (true≢false (sym same))
+heard_commits (h ∷ heard) (a ∷ acts) done same = refl
+
+any_none : (heard : List Heard) → has_acts heard None ≡ any heard
+any_none [] = refl
+any_none (h ∷ heard) = refl
+
+any_fault : (heard : List Heard) (fault : WorldFault) → has_acts heard (Some (Err fault)) ≡ any heard
+any_fault [] fault = refl
+any_fault (h ∷ heard) fault = refl
+
+any_act : (heard : List Heard) (act : ActValue) → has_acts heard (Some (Ok act)) ≡ true
+any_act [] act = refl
+any_act (h ∷ heard) act = refl
+
+-- there are acts where something is to be committed
+some_acts : (acts : List TurnAct) (done : Bool) → commit_calls acts done ≡ Commits done ∷ [] → acts ≢ []
+some_acts acts done is none = absurd (let clash : ◌≡◌ {A = List Call} [] (Commits done ∷ []) = sym (ap (λ (l : List TurnAct). commit_calls l done) none) ∙ is in cc)
+
+-- an order's line is that of an event
+event_line : (number : ℕ) (order : Order) (line : Line) → printed_of (event_of number order) line ≡ printed.Event line
+event_line number (Notice router) line = refl
+event_line number (Change db) line = refl
+event_line number (Rotate key) line = refl
+
+module _ (A : Type 0) (config : ConfigValue) (number now : ℕ) (between new : NodeState) where
+  taken_commits : (order : Option Order) (outcome : Outcome) → Obeys A config number between new now order outcome → (taken : Bool) (heard : List Heard) (acts : List TurnAct) (done : Bool) → any acts ≡ any heard
+      → commit_calls (obeyed number order outcome taken ++ acts) done ≡ to_commit (has_acts heard outcome) done
+  taken_commits (Some order) (Some (Ok act)) obeys taken heard acts done same = ap (λ (b : Bool). to_commit b done) (sym (any_act heard act))
+  taken_commits (Some order) (Some (Err fault)) obeys taken heard acts done same = heard_commits heard acts done same ∙ ap (λ (b : Bool). to_commit b done) (sym (any_fault heard fault))
+  taken_commits None None obeys taken heard acts done same = heard_commits heard acts done same ∙ ap (λ (b : Bool). to_commit b done) (sym (any_none heard))
+  taken_commits None (Some outcome) obeys taken heard acts done same = absurd obeys
+  taken_commits (Some order) None obeys taken heard acts done same = absurd obeys
+
+  -- what came of an order is told behind what was heard
+  taken_told : (order : Option Order) (outcome : Outcome) → Obeys A config number between new now order outcome → (acts : List TurnAct) (before s after : OutsideState) → Asks before s (acts_calls acts)
+      → TellsOutcome outcome s after → (taken : Bool) × Asks before after (acts_calls (obeyed number order outcome taken ++ acts))
+  taken_told (Some order) (Some (Ok act)) obeys acts before s after asked tells = (
+    tells.taken,
+    asks_then before s after (acts_calls acts) _ asked
+        (subst (λ (p : Printed). Asks s after (send_calls act.message tells.taken ++ Prints p ∷ [])) (sym (event_line number order act.line)) tells.asked),
+  )
+  taken_told (Some order) (Some (Err fault)) obeys acts before s after asked same = (false, subst (λ (t : OutsideState). Asks before t (acts_calls acts)) (sym same) asked)
+  taken_told None None obeys acts before s after asked same = (false, subst (λ (t : OutsideState). Asks before t (acts_calls acts)) (sym same) asked)
+  taken_told None (Some outcome) obeys acts before s after asked tells = absurd obeys
+  taken_told (Some order) None obeys acts before s after asked tells = absurd obeys
+
+told_last : (acts failure commit asked : List Call) → acts ++ (failure ++ (commit ++ asked)) ≡ ((acts ++ failure) ++ commit) ++ asked
+told_last acts failure commit asked = simp append_assoc
+
+-- a node took in what came; and its commit was done or not
+module _ (A : Type 0) (config : ConfigValue) (number places : ℕ) (old new : NodeState) (now : ℕ) (first : Reception) (heard : List Heard) (outcome : Outcome) (receives : Pause)
+    (before s : OutsideState) (takes : TakesAll A config number places old new now first heard outcome before s) where
+  abbrev received : List Reception
+  received = takes.hears.others ++ first ∷ []
+
+  abbrev asked_first : List Call
+  asked_first = Listens takes.order ∷ map Polls takes.hears.others
+
+  listened : Asks before s asked_first
+  listened = asks_then before takes.listening s (map Polls takes.hears.others) (Listens takes.order ∷ []) takes.hears.asked takes.asked
+
+  abbrev intake_of : List TurnAct → Bool → Intake
+  intake_of acts taken = record { others = takes.hears.others; heard = acts; order = takes.order; outcome = outcome; taken = taken }
+
+  taken_in : (acts : List TurnAct) (taken : Bool) → Hears number received acts → DoesAll A config number old takes.between now acts → IsTakenIn A config number places old new now first (intake_of acts taken)
+  taken_in acts taken hears did = record { group = takes.hears.group; hears = hears; between = takes.between; did_hear = did; obeys = takes.obeys }
+
+  commits : (acts : List TurnAct) (taken done : Bool) → any acts ≡ any heard → commit_calls (acts_of number (intake_of acts taken)) done ≡ to_commit (has_acts heard outcome) done
+  commits acts taken done same = taken_commits A config number now takes.between new takes.order outcome takes.obeys taken heard acts done same
+
+  pub loses : (after : OutsideState) → has_acts heard outcome ≡ true → Logs s after (Commits false) → TakesIn A config number places old new now first receives receives before after false
+  loses after has logs =
+      let all = untold A config number now received heard old takes.between takes.hears.hears in
+      let committed = commits all.acts false false all.any_acts ∙ ap (λ (b : Bool). to_commit b false) has in
+      record {
+        intake = intake_of all.acts false;
+        takes = taken_in all.acts false all.hears all.did;
+        some = λ is. some_acts (acts_of number (intake_of all.acts false)) false committed;
+        left_is = λ is. absurd (true≢false (sym is));
+        asked = asks_then before s after asked_first (commit_calls (acts_of number (intake_of all.acts false)) false) listened (subst (λ (l : List Call). Asks s after l) (sym committed) (asks_one s after (Commits false) logs));
+      }
+
+  pub takes_in : (committed failed told after : OutsideState) (left : Pause) → Asks s committed (to_commit (has_acts heard outcome) true) → left ≡ receives_after first receives now
+      → Asks committed failed (failure_calls first receives now) → TellsAll heard outcome failed told → Logs told after (Answers (core_of new) now (answer_of outcome))
+      → TakesIn A config number places old new now first receives left before after true
+  takes_in committed failed told after left commits_asked left_is failure tells answers =
+      let all = acted A config number now received heard old takes.between failed tells.0 takes.hears.hears tells.1 in
+      let last = taken_told A config number now takes.between new takes.order outcome takes.obeys all.acts failed tells.0 told all.asked tells.2 in
+      let intake = intake_of all.acts last.0 in
+      let first_asked = asks_then before s committed asked_first (commit_calls (acts_of number intake) true) listened
+      (subst (λ (l : List Call). Asks s committed l) (sym (commits all.acts last.0 true all.any_acts)) commits_asked) in
+      let second_asked = asks_then before committed failed _ (failure_calls first receives now) first_asked failure in
+      let third_asked = asks_then before failed told _ (acts_calls (acts_of number intake)) second_asked last.1 in
+      record {
+        intake = intake;
+        takes = taken_in all.acts last.0 all.hears all.did;
+        some = λ is. absurd (true≢false is);
+        left_is = λ is. left_is;
+        asked = subst (λ (l : List Call). Asks before after (Answers (core_of new) now (answer_of outcome) ∷ l))
+            (told_last (acts_calls (acts_of number intake)) (failure_calls first receives now) (commit_calls (acts_of number intake) true) asked_first)
+            (asks_then before told after _ (Answers (core_of new) now (answer_of outcome) ∷ []) third_asked (asks_one told after (Answers (core_of new) now (answer_of outcome)) answers));
+      }

@@ -1,14 +1,19 @@
 -- What a node does in a turn is its own, and what arrives in it is what was received.
-use Rattle.std.proofs.Common.{◌≡◌, ◌⊎◌, inl, inr, ℕ, Bool, true, false, List, [], ◌∷◌, ◌++◌, map, refl, sym, ap, subst, ◌∙◌}
+use Rattle.std.proofs.Common.{◌≡◌, ◌⊎◌, inl, inr, ℕ, Bool, true, false, List, [], ◌∷◌, ◌++◌, map, Option, Some, None, Ok, Err, refl, sym, ap, subst, ◌∙◌}
 use Rattle.std.specs.List.{AllByRecursion}
 use Rattle.lisp_records.specs.declared.address.Addr.{Addr}
 use Rattle.lisp_model.specs.Trace.{EventValue}
-use Rattle.lisp_turns.specs.Acts.{TurnAct}
+use Rattle.lisp_policy.specs.Configuration.{ConfigValue}
+use Rattle.lisp_turns.specs.Acts.{TurnAct, DoesAll}
 use Rattle.lisp_turns.specs.Due.{IsDuty}
 use Rattle.lisp_turns.specs.Node.{NodeState}
+use Rattle.lisp_turns.specs.Obeying.{Outcome, Obeys, obeyed}
+use Rattle.lisp_turns.specs.Order.{event_of}
 use Rattle.lisp_turns.specs.Outside.{Reception, Datagram, Nothing, Failed, Receives, Polls}
 use Rattle.lisp_turns.specs.Part.{IsOwn, arrival, received_of}
 use Rattle.lisp_turns.specs.Turn.{Hears, IsDone, IsPut, AreDone, ServesIf}
+use Rattle.lisp_turns.specs.declared.order.Order.{Order}
+use Rattle.lisp_turns.specs.declared.order.Order.TheVariants.{Notice, Change, Rotate}
 use Rattle.lisp_turns.specs.declared.pause.Pause.{Pause}
 use Rattle.lisp_turns.proofs.Acting.{IsTold, AreOwn, arrived, own_duty, nothing_arrives}
 
@@ -41,6 +46,38 @@ polls_came [] Failed = refl
 polls_came (Datagram from bytes ∷ earlier) first = ap (λ (l : List (Addr × List ℕ)). (from, bytes) ∷ l) (polls_came earlier first)
 polls_came (Nothing ∷ earlier) first = polls_came earlier first
 polls_came (Failed ∷ earlier) first = polls_came earlier first
+
+-- what a user tells the node is its own, and nothing arrives by it
+told_own : (number : ℕ) (order : Order) → IsOwn number (event_of number order)
+told_own number (Notice router) = refl
+told_own number (Change db) = refl
+told_own number (Rotate key) = refl
+
+told_arrives : (number : ℕ) (order : Order) → arrival (event_of number order) ≡ []
+told_arrives number (Notice router) = refl
+told_arrives number (Change db) = refl
+told_arrives number (Rotate key) = refl
+
+pub taken_own : (number : ℕ) (order : Option Order) (outcome : Outcome) (taken : Bool) (heard : List TurnAct) → AreOwn number heard → AreOwn number (obeyed number order outcome taken ++ heard)
+taken_own number (Some order) (Some (Ok act)) taken heard own = ((told_own number order, inl refl), own)
+taken_own number (Some order) (Some (Err fault)) taken heard own = own
+taken_own number (Some order) None taken heard own = own
+taken_own number None outcome taken heard own = own
+
+pub taken_arrived : (number : ℕ) (order : Option Order) (outcome : Outcome) (taken : Bool) (heard : List TurnAct) → arrived (obeyed number order outcome taken ++ heard) ≡ arrived heard
+taken_arrived number (Some order) (Some (Ok act)) taken heard = ap (λ (l : List (Addr × List ℕ)). l ++ arrived heard) (told_arrives number order)
+taken_arrived number (Some order) (Some (Err fault)) taken heard = refl
+taken_arrived number (Some order) None taken heard = refl
+taken_arrived number None outcome taken heard = refl
+
+-- the acts of what a node took in
+module _ (A : Type 0) (config : ConfigValue) (number now : ℕ) (old between new : NodeState) (heard : List TurnAct) (did : DoesAll A config number old between now heard) where
+  pub taken_did : (order : Option Order) (outcome : Outcome) (taken : Bool) → Obeys A config number between new now order outcome → DoesAll A config number old new now (obeyed number order outcome taken ++ heard)
+  taken_did (Some order) (Some (Ok act)) taken obeys = (between, did, obeys)
+  taken_did (Some order) (Some (Err fault)) taken obeys = subst (λ (n : NodeState). DoesAll A config number old n now heard) (sym obeys.0) did
+  taken_did (Some order) None taken obeys = absurd obeys
+  taken_did None (Some outcome) taken obeys = absurd obeys
+  taken_did None None taken obeys = subst (λ (n : NodeState). DoesAll A config number old n now heard) (sym obeys) did
 
 -- what was due is the node's own, and is told unless it was refused
 module _ (number : ℕ) where

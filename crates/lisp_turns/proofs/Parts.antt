@@ -10,20 +10,21 @@ use Rattle.lisp_model.specs.declared.line.Line.{Line}
 use Rattle.lisp_model.specs.Trace.{Step, Opening}
 use Rattle.lisp_refinement.specs.World.{WorldState}
 use Rattle.lisp_refinement.specs.Stands.{Stands}
-use Rattle.lisp_turns.specs.Acts.{TurnAct, printed_of, act_calls, acts_calls}
-use Rattle.lisp_turns.specs.Node.{HasNode}
-use Rattle.lisp_turns.specs.Outside.{Call, Reception, Datagram, Nothing, Failed, Receives, Polls, Reads, Prints, OutsideState, logged}
+use Rattle.lisp_turns.specs.Acts.{TurnAct, DoesAll, printed_of, act_calls, acts_calls}
+use Rattle.lisp_turns.specs.Node.{NodeState, core_of, HasNode}
+use Rattle.lisp_turns.specs.Obeying.{answer_of}
+use Rattle.lisp_turns.specs.Outside.{Call, Reception, Datagram, Nothing, Failed, Receives, Polls, Reads, Prints, Listens, Answers, OutsideState, logged}
 use Rattle.lisp_turns.specs.Part.{lines_of, sent_of, received_of, TurnsAreParts}
 use Rattle.lisp_turns.specs.Pause.{may_try, is_told}
-use Rattle.lisp_turns.specs.Turn.{TurnState, failure_calls, rest_calls, expired_calls, commit_calls, hearing_calls, turn_calls, IsTurn, Turns}
+use Rattle.lisp_turns.specs.Turn.{TurnState, Intake, acts_of, IsTakenIn, failure_calls, rest_calls, expired_calls, commit_calls, hearing_calls, turn_calls, IsTurn, Turns}
 use Rattle.lisp_turns.specs.declared.outside.Printed.TheVariants as printed
 use Rattle.lisp_turns.specs.declared.outside.SocketCall.TheVariants as socket
 use Rattle.lisp_turns.specs.declared.pause.Pause.{Pause}
 use Rattle.lisp_turns.proofs.Calls.{lines_append, sent_append, received_append, of_five, of_four, logged_none, logged_twice, told_calls, told_received}
 use Rattle.lisp_turns.proofs.Reaching.{Reaches, stays_there, goes_further}
 use Rattle.lisp_turns.proofs.Ticking.{tick_reaches}
-use Rattle.lisp_turns.proofs.Acting.{arrived, acts_reach}
-use Rattle.lisp_turns.proofs.OwnActs.{AreServed, came, heard_own, heard_arrived, polls_came, are_served}
+use Rattle.lisp_turns.proofs.Acting.{AreOwn, arrived, acts_reach}
+use Rattle.lisp_turns.proofs.OwnActs.{AreServed, came, heard_own, heard_arrived, polls_came, taken_own, taken_arrived, taken_did, are_served}
 
 -- of what is asked for an act nothing is received
 act_receives : (a : TurnAct) → received_of (act_calls a) ≡ []
@@ -74,10 +75,16 @@ polls_no_sent : (receptions : List Reception) → sent_of (map Polls receptions)
 polls_no_sent [] = refl
 polls_no_sent (r ∷ earlier) = polls_no_sent earlier
 
--- what a node asks until it heard all says no line and sends nothing, and receives what it heard
-module _ (first : Reception) (now : ℕ) (dead : List (RouterId × PrefixValue)) (others : List Reception) (heard : List TurnAct) (done : Bool) where
-  abbrev no_commit : SaysNothing (commit_calls heard done)
-  no_commit = commit_says_nothing heard done
+-- what a node asks until it took in all says no line and sends nothing, and receives what it heard
+module _ (number : ℕ) (first : Reception) (now : ℕ) (dead : List (RouterId × PrefixValue)) (intake : Intake) (done : Bool) where
+  abbrev acts : List TurnAct
+  acts = acts_of number intake
+
+  abbrev asks : List Call
+  asks = hearing_calls number first now dead intake done
+
+  abbrev no_commit : SaysNothing (commit_calls acts done)
+  no_commit = commit_says_nothing acts done
 
   abbrev no_expired : SaysNothing (expired_calls dead)
   no_expired = expired_says_nothing dead
@@ -85,25 +92,28 @@ module _ (first : Reception) (now : ℕ) (dead : List (RouterId × PrefixValue))
   abbrev first_calls : List Call
   first_calls = Reads now ∷ Receives first ∷ []
 
-  hearing_parts : {X : Type 0} (f : List Call → List X) → ((cs ds : List Call) → f (cs ++ ds) ≡ f cs ++ f ds) → f (commit_calls heard done) ≡ [] → f (expired_calls dead) ≡ []
-      → f (hearing_calls first now dead others heard done) ≡ f (map Polls others) ++ f first_calls
-  hearing_parts f append = of_four f append (commit_calls heard done) (map Polls others) (expired_calls dead) first_calls
+  hearing_parts : {X : Type 0} (f : List Call → List X) → ((cs ds : List Call) → f (cs ++ ds) ≡ f cs ++ f ds) → f (commit_calls acts done) ≡ [] → f (expired_calls dead) ≡ []
+      → f asks ≡ f (Listens intake.order ∷ map Polls intake.others) ++ f first_calls
+  hearing_parts f append = of_four f append (commit_calls acts done) (Listens intake.order ∷ map Polls intake.others) (expired_calls dead) first_calls
 
-  pub hearing_lines : lines_of (hearing_calls first now dead others heard done) ≡ []
-  hearing_lines = hearing_parts lines_of lines_append no_commit.no_lines no_expired.no_lines ∙ ap (λ (l : List Line). l ++ []) (polls_no_lines others)
+  pub hearing_lines : lines_of asks ≡ []
+  hearing_lines = hearing_parts lines_of lines_append no_commit.no_lines no_expired.no_lines ∙ ap (λ (l : List Line). l ++ []) (polls_no_lines intake.others)
 
-  pub hearing_sent : sent_of (hearing_calls first now dead others heard done) ≡ []
-  hearing_sent = hearing_parts sent_of sent_append no_commit.no_sent no_expired.no_sent ∙ ap (λ (l : List (Addr × List ℕ)). l ++ []) (polls_no_sent others)
+  pub hearing_sent : sent_of asks ≡ []
+  hearing_sent = hearing_parts sent_of sent_append no_commit.no_sent no_expired.no_sent ∙ ap (λ (l : List (Addr × List ℕ)). l ++ []) (polls_no_sent intake.others)
 
-  hearing_received : received_of (hearing_calls first now dead others heard done) ≡ came (others ++ first ∷ [])
+  hearing_received : received_of asks ≡ came (intake.others ++ first ∷ [])
   hearing_received = hearing_parts received_of received_append no_commit.no_received no_expired.no_received
-      ∙ sym (received_append (map Polls others) (Receives first ∷ []))
-      ∙ polls_came others first
+      ∙ sym (received_append (map Polls intake.others) (Receives first ∷ []))
+      ∙ polls_came intake.others first
 
 -- what a turn's calls come to
-module _ (first : Reception) (receives : Pause) (now : ℕ) (dead : List (RouterId × PrefixValue)) (others : List Reception) (heard served : List TurnAct) where
+module _ (number : ℕ) (first : Reception) (receives : Pause) (now : ℕ) (dead : List (RouterId × PrefixValue)) (intake : Intake) (node : NodeState) (served : List TurnAct) where
   abbrev all_calls : List Call
-  all_calls = turn_calls first receives now dead others heard served
+  all_calls = turn_calls number first receives now dead intake node served
+
+  abbrev told : List Call
+  told = acts_calls (acts_of number intake)
 
   abbrev no_rest : SaysNothing (rest_calls first)
   no_rest = rest_says_nothing first
@@ -112,34 +122,51 @@ module _ (first : Reception) (receives : Pause) (now : ℕ) (dead : List (Router
   no_failure = failure_says_nothing first receives now
 
   abbrev hearing : List Call
-  hearing = hearing_calls first now dead others heard true
+  hearing = hearing_calls number first now dead intake true
+
+  abbrev answered : List Call
+  answered = Answers (core_of node) now (answer_of intake.outcome) ∷ told
 
   turn_parts : {X : Type 0} (f : List Call → List X) → ((cs ds : List Call) → f (cs ++ ds) ≡ f cs ++ f ds) → f (rest_calls first) ≡ [] → f (failure_calls first receives now) ≡ []
-      → f all_calls ≡ f (acts_calls served) ++ f (acts_calls heard) ++ f hearing
-  turn_parts f append = of_five f append (rest_calls first) (acts_calls served) (acts_calls heard) (failure_calls first receives now) hearing
+      → f all_calls ≡ f (acts_calls served) ++ f answered ++ f hearing
+  turn_parts f append none_one none_two =
+      ap (λ (l : List Call). f (l ++ hearing)) (sym (append_assoc (rest_calls first ++ acts_calls served) answered (failure_calls first receives now)))
+      ∙ of_five f append (rest_calls first) (acts_calls served) answered (failure_calls first receives now) hearing none_one none_two
 
-  turn_lines : lines_of all_calls ≡ lines_of (acts_calls served) ++ (lines_of (acts_calls heard) ++ [])
+  turn_lines : lines_of all_calls ≡ lines_of (acts_calls served) ++ (lines_of told ++ [])
   turn_lines = turn_parts lines_of lines_append no_rest.no_lines no_failure.no_lines
-      ∙ ap (λ (l : List Line). lines_of (acts_calls served) ++ lines_of (acts_calls heard) ++ l) (hearing_lines first now dead others heard true)
-      ∙ append_assoc (lines_of (acts_calls served)) (lines_of (acts_calls heard)) []
+      ∙ ap (λ (l : List Line). lines_of (acts_calls served) ++ lines_of told ++ l) (hearing_lines number first now dead intake true)
+      ∙ append_assoc (lines_of (acts_calls served)) (lines_of told) []
 
-  turn_sent : sent_of all_calls ≡ sent_of (acts_calls served) ++ (sent_of (acts_calls heard) ++ [])
+  turn_sent : sent_of all_calls ≡ sent_of (acts_calls served) ++ (sent_of told ++ [])
   turn_sent = turn_parts sent_of sent_append no_rest.no_sent no_failure.no_sent
-      ∙ ap (λ (l : List (Addr × List ℕ)). sent_of (acts_calls served) ++ sent_of (acts_calls heard) ++ l) (hearing_sent first now dead others heard true)
-      ∙ append_assoc (sent_of (acts_calls served)) (sent_of (acts_calls heard)) []
+      ∙ ap (λ (l : List (Addr × List ℕ)). sent_of (acts_calls served) ++ sent_of told ++ l) (hearing_sent number first now dead intake true)
+      ∙ append_assoc (sent_of (acts_calls served)) (sent_of told) []
 
-  turn_received : received_of all_calls ≡ came (others ++ first ∷ [])
+  turn_received : received_of all_calls ≡ came (intake.others ++ first ∷ [])
   turn_received = turn_parts received_of received_append no_rest.no_received no_failure.no_received
-      ∙ (λ i. acts_receive served i ++ acts_receive heard i ++ hearing_received first now dead others heard true i)
+      ∙ (λ i. acts_receive served i ++ acts_receive (acts_of number intake) i ++ hearing_received number first now dead intake true i)
 
 -- a network goes on by a turn
 module _ (A : Type 0) (config : ConfigValue) (number places : ℕ) (s t : TurnState) (turn : IsTurn A config number places s t) (w : WorldState) (o : Opening) (T : List Step) (stand : Stands w o T)
     (same : o.config ≡ config) (has : HasNode w number s.node) (clock : w.clock ≡ s.outside.moment) where
   abbrev calls : List Call
-  calls = turn_calls turn.reception s.receives turn.now turn.dead turn.others turn.heard turn.served
+  calls = turn_calls number turn.reception s.receives turn.now turn.dead turn.intake turn.between turn.served
 
   abbrev receptions : List Reception
-  receptions = turn.others ++ turn.reception ∷ []
+  receptions = turn.intake.others ++ turn.reception ∷ []
+
+  abbrev its_acts : List TurnAct
+  its_acts = acts_of number turn.intake
+
+  abbrev takes : IsTakenIn A config number places turn.hearing.passed turn.between turn.now turn.reception turn.intake
+  takes = turn.hearing.takes
+
+  did : DoesAll A config number turn.hearing.passed turn.between turn.now its_acts
+  did = taken_did A config number turn.now turn.hearing.passed takes.between turn.between turn.intake.heard takes.did_hear turn.intake.order turn.intake.outcome turn.intake.taken takes.obeys
+
+  own : AreOwn number its_acts
+  own = taken_own number turn.intake.order turn.intake.outcome turn.intake.taken turn.intake.heard (heard_own number receptions turn.intake.heard takes.hears)
 
   abbrev After : List Line → List (Addr × List ℕ) → List (Addr × List ℕ) → Type 0
   After lines sent received = Reaches number lines sent received t.node turn.now w o T
@@ -147,32 +174,34 @@ module _ (A : Type 0) (config : ConfigValue) (number places : ℕ) (s t : TurnSt
   ticked : Reaches number [] [] [] turn.hearing.passed turn.now w o T
   ticked = tick_reaches A number s.node turn.hearing.passed turn.now w o T stand has (subst (λ m. m ≤ turn.now) (sym clock) turn.hearing.later) turn.hearing.bound turn.hearing.expires.passes
 
-  hears_reach : Reaches number (lines_of (acts_calls turn.heard) ++ []) (sent_of (acts_calls turn.heard) ++ []) (arrived turn.heard ++ []) turn.between turn.now w o T
-  hears_reach = goes_further number [] (lines_of (acts_calls turn.heard)) [] (sent_of (acts_calls turn.heard)) [] (arrived turn.heard) turn.hearing.passed turn.between turn.now turn.now w o T stand ticked
-      (acts_reach A config number turn.hearing.passed turn.between turn.now turn.heard turn.hearing.did_hear (heard_own number receptions turn.heard turn.hearing.hears) ticked.left o (ticked.steps ++ T) ticked.stands same ticked.node_is ticked.clock)
+  hears_reach : Reaches number (lines_of (acts_calls its_acts) ++ []) (sent_of (acts_calls its_acts) ++ []) (arrived its_acts ++ []) turn.between turn.now w o T
+  hears_reach = goes_further number [] (lines_of (acts_calls its_acts)) [] (sent_of (acts_calls its_acts)) [] (arrived its_acts) turn.hearing.passed turn.between turn.now turn.now w o T stand ticked
+      (acts_reach A config number turn.hearing.passed turn.between turn.now its_acts did own ticked.left o (ticked.steps ++ T) ticked.stands same ticked.node_is ticked.clock)
 
   -- the rows that it withdrew leave at the same moment
-  withdrawn : Reaches number (lines_of (acts_calls turn.heard) ++ []) (sent_of (acts_calls turn.heard) ++ []) (arrived turn.heard ++ []) turn.left turn.now w o T
-  withdrawn = goes_further number (lines_of (acts_calls turn.heard) ++ []) [] (sent_of (acts_calls turn.heard) ++ []) [] (arrived turn.heard ++ []) [] turn.between turn.left turn.now turn.now w o T stand hears_reach
+  withdrawn : Reaches number (lines_of (acts_calls its_acts) ++ []) (sent_of (acts_calls its_acts) ++ []) (arrived its_acts ++ []) turn.left turn.now w o T
+  withdrawn = goes_further number (lines_of (acts_calls its_acts) ++ []) [] (sent_of (acts_calls its_acts) ++ []) [] (arrived its_acts ++ []) [] turn.between turn.left turn.now turn.now w o T stand hears_reach
       (tick_reaches A number turn.between turn.left turn.now hears_reach.left o (hears_reach.steps ++ T) hears_reach.stands hears_reach.node_is (omega (arith, hears_reach.clock)) turn.hearing.bound turn.withdrawn)
 
   served : AreServed number turn.served
   served = are_served number (may_try s.sends turn.now) s.sends t.sends turn.now turn.left t.node turn.served turn.serves
 
-  serves_reach : After (lines_of (acts_calls turn.served) ++ (lines_of (acts_calls turn.heard) ++ [])) (sent_of (acts_calls turn.served) ++ (sent_of (acts_calls turn.heard) ++ [])) (arrived turn.served ++ (arrived turn.heard ++ []))
-  serves_reach = goes_further number (lines_of (acts_calls turn.heard) ++ []) (lines_of (acts_calls turn.served)) (sent_of (acts_calls turn.heard) ++ []) (sent_of (acts_calls turn.served)) (arrived turn.heard ++ []) (arrived turn.served)
+  serves_reach : After (lines_of (acts_calls turn.served) ++ (lines_of (acts_calls its_acts) ++ [])) (sent_of (acts_calls turn.served) ++ (sent_of (acts_calls its_acts) ++ [])) (arrived turn.served ++ (arrived its_acts ++ []))
+  serves_reach = goes_further number (lines_of (acts_calls its_acts) ++ []) (lines_of (acts_calls turn.served)) (sent_of (acts_calls its_acts) ++ []) (sent_of (acts_calls turn.served)) (arrived its_acts ++ []) (arrived turn.served)
       turn.left t.node turn.now turn.now w o T stand withdrawn
       (acts_reach A config number turn.left t.node turn.now turn.served turn.did_serve served.own withdrawn.left o (withdrawn.steps ++ T) withdrawn.stands same withdrawn.node_is withdrawn.clock)
 
-  all_arrived : arrived turn.served ++ (arrived turn.heard ++ []) ≡ received_of calls
-  all_arrived = (λ i. served.none i ++ append-nil (arrived turn.heard) i) ∙ heard_arrived number receptions turn.heard turn.hearing.hears
-      ∙ sym (turn_received turn.reception s.receives turn.now turn.dead turn.others turn.heard turn.served)
+  all_arrived : arrived turn.served ++ (arrived its_acts ++ []) ≡ received_of calls
+  all_arrived = (λ i. served.none i ++ append-nil (arrived its_acts) i)
+      ∙ taken_arrived number turn.intake.order turn.intake.outcome turn.intake.taken turn.intake.heard
+      ∙ heard_arrived number receptions turn.intake.heard takes.hears
+      ∙ sym (turn_received number turn.reception s.receives turn.now turn.dead turn.intake turn.between turn.served)
 
   turn_reaches : After (lines_of calls) (sent_of calls) (received_of calls)
   turn_reaches = subst (λ (p : List Line × List (Addr × List ℕ) × List (Addr × List ℕ)). After p.0 p.1 p.2)
-      {x = (lines_of (acts_calls turn.served) ++ (lines_of (acts_calls turn.heard) ++ []), sent_of (acts_calls turn.served) ++ (sent_of (acts_calls turn.heard) ++ []), arrived turn.served ++ (arrived turn.heard ++ []))}
+      {x = (lines_of (acts_calls turn.served) ++ (lines_of (acts_calls its_acts) ++ []), sent_of (acts_calls turn.served) ++ (sent_of (acts_calls its_acts) ++ []), arrived turn.served ++ (arrived its_acts ++ []))}
       {y = (lines_of calls, sent_of calls, received_of calls)}
-      (λ i. (sym (turn_lines turn.reception s.receives turn.now turn.dead turn.others turn.heard turn.served) i, sym (turn_sent turn.reception s.receives turn.now turn.dead turn.others turn.heard turn.served) i, all_arrived i)) serves_reach
+      (λ i. (sym (turn_lines number turn.reception s.receives turn.now turn.dead turn.intake turn.between turn.served) i, sym (turn_sent number turn.reception s.receives turn.now turn.dead turn.intake turn.between turn.served) i, all_arrived i)) serves_reach
 
 -- so it does by turns
 record GoesOnTo (number : ℕ) (s t : TurnState) (w : WorldState) (o : Opening) (T : List Step) : Type 0 where
@@ -185,7 +214,7 @@ module _ (A : Type 0) (config : ConfigValue) (number places : ℕ) (s m t : Turn
   next_turn first turn =
       let so_far = first.reaches in
       let one = turn_reaches A config number places m t turn so_far.left o (so_far.steps ++ T) so_far.stands same so_far.node_is so_far.clock in
-      let more : List Call = turn_calls turn.reception m.receives turn.now turn.dead turn.others turn.heard turn.served in
+      let more : List Call = turn_calls number turn.reception m.receives turn.now turn.dead turn.intake turn.between turn.served in
       let both = goes_further number (lines_of first.calls) (lines_of more) (sent_of first.calls) (sent_of more) (received_of first.calls) (received_of more) m.node t.node m.outside.moment turn.now w o T stand so_far one in
       record {
         calls = more ++ first.calls;

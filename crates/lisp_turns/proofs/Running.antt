@@ -57,11 +57,11 @@ pub loses_as_part : {A : Type 0} {config : ConfigValue} {number places turns : �
 loses_as_part {A} {config} {number} {places} {turns} {begun} {before} {after} {why} loses = λ network store honest begins unasked.
     let part = asks_part A config number places loses.count begun before loses.before loses.took network store honest begins unasked in
     let turn = loses.lost in
-    let lost = hearing_calls turn.reception turn.now turn.dead turn.others turn.heard false in (
+    let lost = hearing_calls number turn.reception turn.now turn.dead turn.intake false in (
       part.calls,
       lost,
       ap (λ (s : OutsideState). s.log) turn.calls ∙ ap (logged lost) part.asked,
-      (hearing_lines turn.reception turn.now turn.dead turn.others turn.heard false, hearing_sent turn.reception turn.now turn.dead turn.others turn.heard false),
+      (hearing_lines number turn.reception turn.now turn.dead turn.intake false, hearing_sent number turn.reception turn.now turn.dead turn.intake false),
       tt,
       part.part,
     )

@@ -4,9 +4,9 @@ use Rattle.std.proofs.lemmas.List.{append_assoc}
 use Rattle.lisp_policy.specs.Configuration.{ConfigValue}
 use Rattle.lisp_turns.specs.Acts.{acts_calls}
 use Rattle.lisp_turns.specs.Node.{NodeState, Passes}
-use Rattle.lisp_turns.specs.Outside.{Reception, Call, Receives, Polls, Reads, OutsideState, Logs, ReadsClock, logged}
+use Rattle.lisp_turns.specs.Outside.{Reception, Call, Receives, Polls, Reads, Listens, OutsideState, Logs, ReadsClock, logged}
 use Rattle.lisp_turns.specs.Pause.{no_pause}
-use Rattle.lisp_turns.specs.Turn.{TurnState, IsHearing, IsTurn, IsLostTurn, Turns, UncutTurns, IsUncut, LosesTurn, commit_calls, expired_calls, failure_calls, rest_calls, hearing_calls, turn_calls}
+use Rattle.lisp_turns.specs.Turn.{TurnState, acts_of, IsHearing, IsTurn, IsLostTurn, Turns, UncutTurns, IsUncut, LosesTurn, commit_calls, telling_calls, expired_calls, rest_calls, hearing_calls, turn_calls}
 use Rattle.lisp_turns.specs.Stretch.{Asks, Expires, told_calls, TakesIn, ServesDue, beginning, StartsTurns}
 use Rattle.lisp_turns.specs.declared.pause.Pause.{Pause}
 use Rattle.lisp_turns.proofs.Asking.{asks_then, logged_twice}
@@ -18,8 +18,8 @@ pub uncut_more : (n : ℕ) (s : TurnState) → s.outside.is_cut ≡ false → Is
 uncut_more n s uncut = subst (λ (k : ℕ). IsUncut k s) (one_more n) uncut
 
 -- what is asked in a turn, in the stretches of it
-regroup : (rest due made failure commit others dead first : List Call) → (rest ++ (due ++ (made ++ failure ++ commit ++ others)) ++ dead) ++ first ≡ rest ++ due ++ made ++ failure ++ (commit ++ others ++ dead ++ first)
-regroup rest due made failure commit others dead first = simp append_assoc
+regroup : (rest due told commit others dead first : List Call) → (rest ++ (due ++ (told ++ commit ++ others)) ++ dead) ++ first ≡ rest ++ due ++ told ++ (commit ++ others ++ dead ++ first)
+regroup rest due told commit others dead first = simp append_assoc
 
 module _ (A : Type 0) (config : ConfigValue) (number places : ℕ) where
   module _ (node passed between : NodeState) (receives receives_left sends : Pause) (s asked_once begun expired heard : OutsideState) (reception : Reception) (now : ℕ) (done : Bool)
@@ -28,15 +28,13 @@ module _ (A : Type 0) (config : ConfigValue) (number places : ℕ) where
     abbrev old : TurnState
     old = record { node = node; receives = receives; sends = sends; outside = s }
 
-    is_hearing : IsHearing A config number places old between now reception expires.dead takes.others takes.heard
+    is_hearing : IsHearing A config number places old between now reception expires.dead takes.intake
     is_hearing = record {
       later = subst (λ (t : OutsideState). t.moment ≤ now) logs reads.later;
       bound = reads.bound;
       passed = passed;
       expires = expires.told;
-      group = takes.group;
-      hears = takes.hears;
-      did_hear = takes.did;
+      takes = takes.takes;
     }
 
     -- what was asked first
@@ -60,36 +58,35 @@ module _ (A : Type 0) (config : ConfigValue) (number places : ℕ) where
           is_cut = after.is_cut;
         })
 
+    -- what was asked while it took in
+    abbrev asked_in : Bool → List Call
+    asked_in b = told_calls number b reception receives now takes.intake between ++ commit_calls (acts_of number takes.intake) b ++ Listens takes.intake.order ∷ map Polls takes.intake.others
+
     -- it is lost
     pub turn_lost : done ≡ false → IsLostTurn A config number places old heard
     turn_lost is =
-        let commits = commit_calls takes.heard false ++ map Polls takes.others in
-        let asked = asks_then begun expired heard _ commits expires.asked (subst (λ (b : Bool). Asks expired heard (told_calls b reception takes.heard receives now ++ commit_calls takes.heard b ++ map Polls takes.others)) is takes.asked) in
+        let asked = asks_then begun expired heard _ (asked_in false) expires.asked (subst (λ (b : Bool). Asks expired heard (asked_in b)) is takes.asked) in
         record {
           reception = reception;
           now = now;
           dead = expires.dead;
-          others = takes.others;
-          heard = takes.heard;
+          intake = takes.intake;
           between = between;
           hearing = is_hearing;
           some = takes.some is;
-          calls = asked_all heard _ (hearing_calls reception now expires.dead takes.others takes.heard false) asked refl;
+          calls = asked_all heard _ (hearing_calls number reception now expires.dead takes.intake false) asked refl;
         }
 
     -- or goes on
     module _ (swept left : NodeState) (sends_left : Pause) (served after : OutsideState) (is : done ≡ true)
         (withdrawn : Passes between swept now) (serves : ServesDue A config number swept left now sends sends_left heard served) (rests : Asks served after (rest_calls reception)) where
       -- what was asked then
-      abbrev heard_calls : Bool → List Call
-      heard_calls b = told_calls b reception takes.heard receives now ++ commit_calls takes.heard b ++ map Polls takes.others
-
       abbrev later_calls : List Call
-      later_calls = rest_calls reception ++ (acts_calls serves.served ++ heard_calls true) ++ expired_calls expires.dead
+      later_calls = rest_calls reception ++ (acts_calls serves.served ++ asked_in true) ++ expired_calls expires.dead
 
       later_asked : Asks begun after later_calls
       later_asked = asks_then begun expired after _ _ expires.asked
-          (asks_then expired served after _ _ (asks_then expired heard served _ _ (subst (λ (b : Bool). Asks expired heard (heard_calls b)) is takes.asked) serves.asked) rests)
+          (asks_then expired served after _ _ (asks_then expired heard served _ _ (subst (λ (b : Bool). Asks expired heard (asked_in b)) is takes.asked) serves.asked) rests)
 
       pub turn_made : IsTurn A config number places old (record { node = left; receives = receives_left; sends = sends_left; outside = after })
       turn_made =
@@ -97,18 +94,18 @@ module _ (A : Type 0) (config : ConfigValue) (number places : ℕ) where
             reception = reception;
             now = now;
             dead = expires.dead;
-            others = takes.others;
-            heard = takes.heard;
+            intake = takes.intake;
             between = between;
             hearing = is_hearing;
             left = swept;
             withdrawn = withdrawn;
-            receives = takes.left_is;
+            receives = takes.left_is is;
             served = serves.served;
             did_serve = serves.did;
             serves = serves.serves;
-            calls = asked_all after later_calls (turn_calls reception receives now expires.dead takes.others takes.heard serves.served) later_asked
-                (regroup (rest_calls reception) (acts_calls serves.served) (acts_calls takes.heard) (failure_calls reception receives now) (commit_calls takes.heard true) (map Polls takes.others) (expired_calls expires.dead) first_calls);
+            calls = asked_all after later_calls (turn_calls number reception receives now expires.dead takes.intake between serves.served) later_asked
+                (regroup (rest_calls reception) (acts_calls serves.served) (telling_calls number reception receives now takes.intake between) (commit_calls (acts_of number takes.intake) true)
+                (Listens takes.intake.order ∷ map Polls takes.intake.others) (expired_calls expires.dead) first_calls);
           }
 
   -- a turn more, after turns whose lines could be printed

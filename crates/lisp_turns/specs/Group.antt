@@ -1,15 +1,17 @@
--- The datagrams of a turn: a node hears one after the other, and tells of them later.
-use Rattle.std.specs.Prelude.{◌≡◌, ◌⊎◌, ℕ, ◌-◌, ◌≤◌, List, [], ◌∷◌, length, map, drop, Option, Some, None}
+-- What a node takes in in a turn: it hears one datagram after the other, does what a user tells it, and tells of that later.
+use Rattle.std.specs.Prelude.{◌≡◌, ◌⊎◌, ℕ, ◌-◌, ◌≤◌, Bool, true, false, List, [], ◌∷◌, ◌++◌, length, map, drop, Option, Some, None, Ok}
 use Rattle.std.specs.List.{AllByRecursion}
 use Rattle.lisp_memory.specs.Refusal.{MachineMayRefuse}
 use Rattle.lisp_policy.specs.Configuration.{ConfigValue}
 use Rattle.lisp_model.specs.declared.event.Event.TheVariants as events
 use Rattle.lisp_turns.specs.Acts.{DoesOne}
 use Rattle.lisp_turns.specs.Node.{NodeState}
-use Rattle.lisp_turns.specs.Outside.{Reception, Datagram, Polls, OutsideState}
+use Rattle.lisp_turns.specs.Obeying.{Outcome, Obeys}
+use Rattle.lisp_turns.specs.Outside.{Reception, Datagram, Polls, Listens, OutsideState}
 use Rattle.lisp_turns.specs.Stretch.{Asks, Tells}
-use Rattle.lisp_turns.specs.Turn.{IsDatagram, EndsInDatagram}
+use Rattle.lisp_turns.specs.Turn.{IsDatagram, EndsInDatagram, IsGroup}
 use Rattle.lisp_turns.specs.declared.group.Heard.{Heard}
+use Rattle.lisp_turns.specs.declared.order.Order.{Order}
 use Rattle.lisp_turns.specs.declared.outside.Printed.TheVariants as printed
 
 -- a node heard each datagram of what was received, the newest first: it was given the bytes as they came, from where they came
@@ -45,8 +47,45 @@ pub record HearsOthers (A : Type 0) (config : ConfigValue) (number places : ℕ)
   pub hears : HearsEach A config number now others heard old new
   pub asked : Asks before after (map Polls others)
 
+-- a node heard the group of a turn, the newest first
+pub record HearsGroup (A : Type 0) (config : ConfigValue) (number places : ℕ) (old new : NodeState) (now : ℕ) (first : Reception) (heard : List Heard)
+    (before after : OutsideState) : Type 0 where
+  pub others : List Reception
+  pub group : IsGroup places first others
+  pub hears : HearsEach A config number now (others ++ first ∷ []) heard old new
+  pub asked : Asks before after (map Polls others)
+
+-- and it did what a user told it
+pub record TakesAll (A : Type 0) (config : ConfigValue) (number places : ℕ) (old new : NodeState) (now : ℕ) (first : Reception) (heard : List Heard)
+    (outcome : Outcome) (before after : OutsideState) : Type 0 where
+  pub between : NodeState
+  pub listening : OutsideState
+  pub hears : HearsGroup A config number places old between now first heard before listening
+  pub order : Option Order
+  pub obeys : Obeys A config number between new now order outcome
+  pub asked : Asks listening after (Listens order ∷ [])
+
+-- what it made of the datagrams, the newest first, and what came of an order
+pub record IntakeValue : Type 0 where
+  pub heard : List Heard
+  pub outcome : Outcome
+
+-- it did something
+abbrev pub has_acts : List Heard → Outcome → Bool
+has_acts (h ∷ earlier) outcome = true
+has_acts [] (Some (Ok act)) = true
+has_acts [] _ = false
+
 -- what a node heard was told, in its order; the newest first
 abbrev pub TellsEach : List Heard → OutsideState → OutsideState → Type 0
 TellsEach [] before after = after ≡ before
 TellsEach (h ∷ earlier) before after = (between : OutsideState) × TellsEach earlier before between
     × Tells between after (printed.Heard h.act.line h.from) h.act.message
+
+-- what came of an order was told behind that
+abbrev pub TellsOutcome : Outcome → OutsideState → OutsideState → Type 0
+TellsOutcome (Some (Ok act)) before after = Tells before after (printed.Event act.line) act.message
+TellsOutcome _ before after = after ≡ before
+
+abbrev pub TellsAll : List Heard → Outcome → OutsideState → OutsideState → Type 0
+TellsAll heard outcome before after = (between : OutsideState) × TellsEach heard before between × TellsOutcome outcome between after

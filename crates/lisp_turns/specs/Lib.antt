@@ -1,11 +1,12 @@
-pub mod Outside
 pub mod Node
 pub mod Order
+pub mod Outside
 pub mod Act
 pub mod Serving
 pub mod Made
 pub mod Acts
 pub mod Due
+pub mod Obeying
 pub mod Pause
 pub mod Turn
 pub mod Stretch

@@ -1,19 +1,36 @@
 -- A node of either kind, and its place in a network.
-use Rattle.std.specs.Prelude.{◌≡◌, ◌≢◌, ◌↔◌, ℕ, ◌+◌, ◌-◌, ◌<◌, false, List, length, slice_get, slice_set, Some}
+use Rattle.std.specs.Prelude.{◌≡◌, ◌≢◌, ◌↔◌, ℕ, ◌+◌, ◌-◌, ◌<◌, false, List, length, slice_get, slice_set, Option, Some}
 use Rattle.std.specs.List.{AllPairs, Contains}
+use Rattle.std.specs.Option.{option_map}
 use Rattle.lisp_records.specs.declared.router.RouterId.{RouterId}
 use Rattle.lisp_records.specs.Address.{PrefixValue}
 use Rattle.lisp_records.specs.Row.{RowValue, is_alive}
 use Rattle.lisp_lookup.specs.Table.{row_at, DropsDead}
 use Rattle.lisp_policy.specs.Configuration.{ConfigValue, RouterEntryValue}
 use Rattle.lisp_etr.specs.Etr.{EtrState}
+use Rattle.lisp_server.specs.Server.{ServerState}
 use Rattle.lisp_refinement.specs.Nodes.{up_in}
 use Rattle.lisp_refinement.specs.World.{ServerNodeState, RouterNodeState, WorldState}
 use Rattle.lisp_refinement.specs.Events.{ExpiresNode}
+use Rattle.lisp_turns.specs.declared.node_core.NodeCore.{NodeCore}
+use Rattle.lisp_turns.specs.declared.node_core.NodeCore.TheVariants as cores
 
 pub data NodeState : Type 0 where
   Server : ServerNodeState → NodeState
   Router : RouterNodeState → NodeState
+
+-- the core of a node, which its users ask; of a router that is down there is none
+pub data CoreState : Type 0 where
+  ServerCore : ServerState → CoreState
+  RouterCore : Option EtrState → CoreState
+
+abbrev pub core_of : NodeState → CoreState
+core_of (Server n) = ServerCore n.core
+core_of (Router n) = RouterCore (up_in n.core)
+
+abbrev pub core_value : NodeCore → CoreState
+core_value (cores.Server core) = ServerCore core.now
+core_value (cores.Router core) = RouterCore (option_map (λ etr. etr.now) core)
 
 -- the node has this number in a network: Map-Servers first, then routers
 abbrev pub HasNode : WorldState → ℕ → NodeState → Type 0

@@ -1,8 +1,13 @@
--- What a node has outside: its socket, its clock, the commits of its store and its lines; and what was asked of them and answered.
-use Rattle.std.specs.Prelude.{◌≡◌, ℕ, ◌≤◌, Bool, List, [], ◌∷◌, ◌++◌, length, take, Option}
+-- What a node has outside: its socket, its clock, the commits of its store, its lines and its users; and what was asked of them and
+-- answered.
+use Rattle.std.specs.Prelude.{◌≡◌, ℕ, ◌≤◌, Bool, List, [], ◌∷◌, ◌++◌, length, take, Option, Result}
 use Rattle.std.specs.Option.{option_map}
 use Rattle.lisp_records.specs.declared.address.Addr.{Addr}
 use Rattle.lisp_records.specs.Moment.{max_moment}
+use Rattle.lisp_model.specs.declared.line.Line.{Line}
+use Rattle.lisp_model.specs.declared.world_fault.WorldFault.{WorldFault}
+use Rattle.lisp_turns.specs.Node.{CoreState}
+use Rattle.lisp_turns.specs.declared.order.Order.{Order}
 use Rattle.lisp_turns.specs.declared.outside.Printed.{Printed}
 use Rattle.lisp_turns.specs.declared.outside.Received.{Received}
 use Rattle.lisp_turns.specs.declared.outside.Received.TheVariants as received
@@ -15,7 +20,8 @@ pub data Reception : Type 0 where
 
 -- something that was asked of what is outside, with the answer: a receive; a poll, which waits for nothing; a reading of the clock; a
 -- wait, in ms; a commit of what was saved, and whether that was done; a line; a send of bytes to an address, and whether the socket
--- took them
+-- took them; a look for what a user tells the node, with the order, if there is one; an answer to the user, by the node's core at a
+-- moment, and what came of the order
 pub data Call : Type 0 where
   Receives : Reception → Call
   Polls : Reception → Call
@@ -24,6 +30,8 @@ pub data Call : Type 0 where
   Commits : Bool → Call
   Prints : Printed → Call
   Sends : Addr → List ℕ → Bool → Call
+  Listens : Option Order → Call
+  Answers : CoreState → ℕ → Option (Result Line WorldFault) → Call
 
 -- all that was asked, the newest first, where that is known; the last moment that the clock told, in ms, 0 before; and
 -- whether a line couldn't be printed

@@ -19,12 +19,15 @@ use Rattle.lisp_turns.specs.Turn.{TurnState, Turns}
 use Rattle.lisp_turns.specs.declared.outside.Printed.TheVariants as printed
 
 -- the events of one node of a network: time passes, bytes from anywhere arrive at it, it sends a Map-Register, or sends a
--- notice again
+-- notice again; and what a user tells it
 abbrev pub IsOwn : ℕ → EventValue → Type 0
 IsOwn number (events.Tick ms) = Unit {0}
 IsOwn number (events.Junk to from bytes) = to ≡ number
 IsOwn number (events.Send router server part Done) = router ≡ number
 IsOwn number (events.Resend server router) = server ≡ number
+IsOwn number (events.Notice server router Done) = server ≡ number
+IsOwn number (events.Change router db) = router ≡ number
+IsOwn number (events.Rotate router key Done) = router ≡ number
 IsOwn number _ = ⊥
 
 -- a line that need not be printed: time passed; or what was due was refused, perhaps not for the first time in a minute

@@ -9,9 +9,9 @@ use Rattle.lisp_model.specs.Trace.{EventValue}
 use Rattle.lisp_turns.specs.Acts.{TurnAct, DoesAll, acts_calls, send_calls}
 use Rattle.lisp_turns.specs.Due.{IsDuty, IsSend, SendsDue}
 use Rattle.lisp_turns.specs.Node.{NodeState, TellsDead}
-use Rattle.lisp_turns.specs.Outside.{Reception, Call, Polls, Prints, OutsideState, logged}
+use Rattle.lisp_turns.specs.Outside.{Reception, Call, Polls, Listens, Prints, OutsideState, logged}
 use Rattle.lisp_turns.specs.Pause.{no_pause}
-use Rattle.lisp_turns.specs.Turn.{TurnState, Hears, IsGroup, commit_calls, expired_calls, failure_calls, receives_after, IsDone, DoesDuties, Serves, IsTurn, IsLostTurn, TakesTurns, LosesTurn}
+use Rattle.lisp_turns.specs.Turn.{TurnState, Intake, acts_of, IsTakenIn, commit_calls, telling_calls, expired_calls, receives_after, IsDone, DoesDuties, Serves, IsTurn, IsLostTurn, TakesTurns, LosesTurn}
 use Rattle.lisp_turns.specs.declared.outside.Printed.{Printed}
 use Rattle.lisp_turns.specs.declared.pause.Pause.{Pause}
 use Rattle.lisp_turns.specs.declared.turn.Uncommitted.{Uncommitted}
@@ -36,23 +36,19 @@ pub record Expires (old new : NodeState) (now : ℕ) (before after : OutsideStat
   pub told : TellsDead old new now dead
   pub asked : Asks before after (expired_calls dead)
 
--- what was heard is told, and so is a failure of the socket, once a minute; nothing is, where the commit wasn't done
-abbrev pub told_calls : Bool → Reception → List TurnAct → Pause → ℕ → List Call
-told_calls true first heard receives now = acts_calls heard ++ failure_calls first receives now
-told_calls false first heard receives now = []
+-- what was taken in is told, and so is a failure of the socket; nothing is, where the commit wasn't done
+abbrev pub told_calls : ℕ → Bool → Reception → Pause → ℕ → Intake → NodeState → List Call
+told_calls number true first receives now intake node = telling_calls number first receives now intake node
+told_calls number false first receives now intake node = []
 
--- a node heard what was received first, and a group of the datagrams that waited, at a moment; the commit of it was done or not; and
--- what is told then was told
+-- behind what was received first, a node took in what waited at a moment; the commit of it was done or not; and what is told then was told
 pub record TakesIn (A : Type 0) (config : ConfigValue) (number places : ℕ) (old new : NodeState) (now : ℕ) (first : Reception)
     (receives left : Pause) (before after : OutsideState) (done : Bool) : Type 0 where
-  pub others : List Reception
-  pub heard : List TurnAct
-  pub group : IsGroup places first others
-  pub hears : Hears number (others ++ first ∷ []) heard
-  pub did : DoesAll A config number old new now heard
-  pub some : done ≡ false → heard ≢ []
-  pub left_is : left ≡ receives_after first receives now
-  pub asked : Asks before after (told_calls done first heard receives now ++ commit_calls heard done ++ map Polls others)
+  pub intake : Intake
+  pub takes : IsTakenIn A config number places old new now first intake
+  pub some : done ≡ false → acts_of number intake ≢ []
+  pub left_is : done ≡ true → left ≡ receives_after first receives now
+  pub asked : Asks before after (told_calls number done first receives now intake new ++ commit_calls (acts_of number intake) done ++ Listens intake.order ∷ map Polls intake.others)
 
 -- a node did what was due at a moment, until so many acts were done and told, of which none is due any more, and no other became due
 pub record HasServed (A : Type 0) (config : ConfigValue) (number : ℕ) (old new : NodeState) (now count : ℕ)

@@ -1,5 +1,5 @@
--- A turn of a node: a group of datagrams, if one comes; then what is due.
-use Rattle.std.specs.Prelude.{◌≡◌, ◌≢◌, ◌⊎◌, ℕ, zero, suc, ◌-◌, ◌^◌, ◌<◌, ◌≤◌, Bool, true, false, List, [], ◌∷◌, ◌++◌, length, map, drop, ◌+◌, if◌then◌else◌}
+-- A turn of a node: a group of datagrams, if one comes, and what a user tells it; then what is due.
+use Rattle.std.specs.Prelude.{◌≡◌, ◌≢◌, ◌⊎◌, ℕ, zero, suc, ◌-◌, ◌^◌, ◌<◌, ◌≤◌, Bool, true, false, List, [], ◌∷◌, ◌++◌, length, map, drop, ◌+◌, Option, if◌then◌else◌}
 use Rattle.std.specs.List.{AllByRecursion, AllPairs}
 use Rattle.lisp_memory.specs.Refusal.{MachineMayRefuse}
 use Rattle.lisp_records.specs.declared.router.RouterId.{RouterId}
@@ -7,11 +7,13 @@ use Rattle.lisp_records.specs.Address.{PrefixValue}
 use Rattle.lisp_records.specs.Moment.{second, max_moment}
 use Rattle.lisp_policy.specs.Configuration.{ConfigValue}
 use Rattle.lisp_model.specs.declared.event.Event.TheVariants as events
-use Rattle.lisp_turns.specs.Node.{NodeState, Passes, TellsDead}
+use Rattle.lisp_turns.specs.Node.{NodeState, core_of, Passes, TellsDead}
 use Rattle.lisp_turns.specs.Acts.{TurnAct, DoesAll, acts_calls}
 use Rattle.lisp_turns.specs.Due.{IsDuty, IsSend, SendsDue, IsRefused, NothingDue}
-use Rattle.lisp_turns.specs.Outside.{Reception, Datagram, Failed, Call, Receives, Polls, Reads, Waits, Commits, Prints, OutsideState, logged}
+use Rattle.lisp_turns.specs.Obeying.{Outcome, Obeys, obeyed, answer_of}
+use Rattle.lisp_turns.specs.Outside.{Reception, Datagram, Failed, Call, Receives, Polls, Reads, Waits, Commits, Prints, Listens, Answers, OutsideState, logged}
 use Rattle.lisp_turns.specs.Pause.{may_try, is_told, failed}
+use Rattle.lisp_turns.specs.declared.order.Order.{Order}
 use Rattle.lisp_turns.specs.declared.outside.Printed.TheVariants as printed
 use Rattle.lisp_turns.specs.declared.outside.SocketCall.TheVariants as calls
 use Rattle.lisp_turns.specs.declared.pause.Pause.{Pause}
@@ -102,61 +104,85 @@ Serves number before after now pause left acts = ServesIf (may_try pause now) nu
 abbrev pub expired_calls : List (RouterId × PrefixValue) → List Call
 expired_calls dead = map (λ key. Prints (printed.Expired key.0 key.1)) dead
 
--- what was heard is committed, if anything was
+-- What a node took in in a turn: the datagrams that waited behind the first one, and what it made of all; and what a user told it, with
+-- what came of that.
+pub record Intake : Type 0 where
+  pub others : List Reception
+  pub heard : List TurnAct
+  pub order : Option Order
+  pub outcome : Outcome
+  pub taken : Bool
+
+-- its acts, the newest first
+abbrev pub acts_of : ℕ → Intake → List TurnAct
+acts_of number intake = obeyed number intake.order intake.outcome intake.taken ++ intake.heard
+
+-- what was saved in acts is committed, if there were any
 abbrev pub commit_calls : List TurnAct → Bool → List Call
 commit_calls [] done = []
 commit_calls (a ∷ earlier) done = Commits done ∷ []
 
--- What is asked outside in a turn until what was heard is committed, the newest first: others see nothing of it, but that rows died.
-abbrev pub hearing_calls : (first : Reception) → ℕ → (dead : List (RouterId × PrefixValue)) → (others : List Reception) → List TurnAct → Bool → List Call
-hearing_calls first now dead others heard done =
-    commit_calls heard done ++ map Polls others ++ expired_calls dead ++ Reads now ∷ Receives first ∷ []
+-- What is asked outside in a turn until what was taken in is committed, the newest first: others see nothing of it, but that rows died.
+abbrev pub hearing_calls : ℕ → (first : Reception) → ℕ → (dead : List (RouterId × PrefixValue)) → Intake → Bool → List Call
+hearing_calls number first now dead intake done =
+    commit_calls (acts_of number intake) done ++ (Listens intake.order ∷ map Polls intake.others) ++ expired_calls dead ++ Reads now ∷ Receives first ∷ []
 
--- and in a whole turn: the lines and the answers come behind the commit
-abbrev pub turn_calls : (first : Reception) → Pause → ℕ → (dead : List (RouterId × PrefixValue)) → (others : List Reception) → (heard served : List TurnAct) → List Call
-turn_calls first receives now dead others heard served =
-    rest_calls first ++ acts_calls served ++ acts_calls heard ++ failure_calls first receives now ++ hearing_calls first now dead others heard true
+-- and behind the commit: a failure of the socket, the lines and the answers, and last what the user is told
+abbrev pub telling_calls : ℕ → (first : Reception) → Pause → ℕ → Intake → NodeState → List Call
+telling_calls number first receives now intake node =
+    (Answers (core_of node) now (answer_of intake.outcome) ∷ acts_calls (acts_of number intake)) ++ failure_calls first receives now
 
--- What a node hears in a turn. It takes a datagram, if one comes, reads the clock once, drops the dead rows and tells each, takes the
--- datagrams that wait, and makes of each what the node makes of it at that moment.
+-- and in a whole turn
+abbrev pub turn_calls : ℕ → (first : Reception) → Pause → ℕ → (dead : List (RouterId × PrefixValue)) → Intake → NodeState → (served : List TurnAct) → List Call
+turn_calls number first receives now dead intake node served =
+    rest_calls first ++ acts_calls served ++ telling_calls number first receives now intake node ++ hearing_calls number first now dead intake true
+
+-- What a node takes in: it takes the datagrams that wait behind the first one, and makes of each what it makes of it at that moment; and
+-- then it does what a user tells it.
+pub record IsTakenIn (A : Type 0) (config : ConfigValue) (number places : ℕ) (old new : NodeState) (now : ℕ) (first : Reception) (intake : Intake)
+    : Type 0 where
+  pub group : IsGroup places first intake.others
+  pub hears : Hears number (intake.others ++ first ∷ []) intake.heard
+  pub between : NodeState
+  pub did_hear : DoesAll A config number old between now intake.heard
+  pub obeys : Obeys A config number between new now intake.order intake.outcome
+
+-- What a node hears in a turn. It takes a datagram, if one comes, reads the clock once, drops the dead rows and tells each, and takes in
+-- what waits.
 pub record IsHearing (A : Type 0) (config : ConfigValue) (number places : ℕ) (old : TurnState) (between : NodeState) (now : ℕ)
-    (first : Reception) (dead : List (RouterId × PrefixValue)) (others : List Reception) (heard : List TurnAct) : Type 0 where
+    (first : Reception) (dead : List (RouterId × PrefixValue)) (intake : Intake) : Type 0 where
   pub later : old.outside.moment ≤ now
   pub bound : now ≤ max_moment
   pub passed : NodeState
   pub expires : TellsDead old.node passed now dead
-  pub group : IsGroup places first others
-  pub hears : Hears number (others ++ first ∷ []) heard
-  pub did_hear : DoesAll A config number passed between now heard
+  pub takes : IsTakenIn A config number places passed between now first intake
 
--- One turn: what it hears is committed, and then told, and then it does what is due.
+-- One turn: what it takes in is committed, and then told, and then it does what is due.
 pub record IsTurn (A : Type 0) (config : ConfigValue) (number places : ℕ) (old new : TurnState) : Type 0 where
   pub reception : Reception
   pub now : ℕ
   pub dead : List (RouterId × PrefixValue)
-  pub others : List Reception
-  pub heard : List TurnAct
+  pub intake : Intake
   pub between : NodeState
-  pub hearing : IsHearing A config number places old between now reception dead others heard
+  pub hearing : IsHearing A config number places old between now reception dead intake
   pub left : NodeState
   pub withdrawn : Passes between left now
   pub receives : new.receives ≡ receives_after reception old.receives now
   pub served : List TurnAct
   pub did_serve : DoesAll A config number left new.node now served
   pub serves : Serves number left new.node now old.sends new.sends served
-  pub calls : new.outside ≡ record { log = logged (turn_calls reception old.receives now dead others heard served) old.outside.log; moment = now; is_cut = new.outside.is_cut }
+  pub calls : new.outside ≡ record { log = logged (turn_calls number reception old.receives now dead intake between served) old.outside.log; moment = now; is_cut = new.outside.is_cut }
 
--- A turn that is lost: what it heard couldn't be committed. No line of it and no answer goes out, and no turn follows it.
+-- A turn that is lost: what it took in couldn't be committed. No line of it and no answer goes out, and no turn follows it.
 pub record IsLostTurn (A : Type 0) (config : ConfigValue) (number places : ℕ) (old : TurnState) (outside : OutsideState) : Type 0 where
   pub reception : Reception
   pub now : ℕ
   pub dead : List (RouterId × PrefixValue)
-  pub others : List Reception
-  pub heard : List TurnAct
+  pub intake : Intake
   pub between : NodeState
-  pub hearing : IsHearing A config number places old between now reception dead others heard
-  pub some : heard ≢ []
-  pub calls : outside ≡ record { log = logged (hearing_calls reception now dead others heard false) old.outside.log; moment = now; is_cut = outside.is_cut }
+  pub hearing : IsHearing A config number places old between now reception dead intake
+  pub some : acts_of number intake ≢ []
+  pub calls : outside ≡ record { log = logged (hearing_calls number reception now dead intake false) old.outside.log; moment = now; is_cut = outside.is_cut }
 
 -- so many turns
 abbrev pub Turns : Type 0 → ConfigValue → ℕ → ℕ → ℕ → TurnState → TurnState → Type 0

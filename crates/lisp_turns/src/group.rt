@@ -1,10 +1,12 @@
 //! The datagrams of a turn: the node hears one after the other, and tells of them once what it saved is committed.
 
-ghost use Rattle.std.specs.Prelude.{◌≡◌, reverse};
+ghost use Rattle.std.specs.Prelude.{◌≡◌, ◌≤◌, ◌++◌, reverse};
+ghost use Rattle.std.specs.Option.{option_to_list};
 ghost use Rattle.lisp_model.specs.declared.event.Event.TheVariants as events;
 ghost use Rattle.lisp_turns.specs.Acts.{DoesOne};
 ghost use Rattle.lisp_turns.specs.Node.{IsPlaced};
-ghost use Rattle.lisp_turns.specs.Group.{HearsNext, HearsOthers, TellsEach};
+ghost use Rattle.lisp_turns.specs.Group.{HearsNext, HearsOthers, HearsGroup, TellsEach};
+ghost use Rattle.lisp_turns.specs.Outside.{FitsBuffer, reception};
 ghost use Rattle.lisp_turns.specs.Stretch.{Tells};
 ghost use Rattle.lisp_turns.specs.declared.outside.Printed.TheVariants as printed;
 
@@ -39,14 +41,8 @@ impl Heard {
     }
 }
 
-/// The node hears bytes that came from an address.
-pub(crate) fn hear<N: Node>(
-    node: &mut N,
-    place: &Place,
-    from: Addr,
-    bytes: &[u8],
-    now: u64,
-) -> Heard
+// The node hears bytes that came from an address.
+fn hear<N: Node>(node: &mut N, place: &Place, from: Addr, bytes: &[u8], now: u64) -> Heard
     requires { IsPlaced place.now.config.now place.now.number (N.state node.old) }
     ensures does { DoesOne Global place.now.config.now place.now.number (N.state node.old) (N.state node.new) now (events.Junk place.now.number from bytes.now) result.act }
     ensures from { result.from ≡ from }
@@ -56,9 +52,34 @@ pub(crate) fn hear<N: Node>(
     Heard { from, act }
 }
 
-/// Behind the first datagram the node hears those that wait already, so that it heard so many at most: until none waits, or
-/// memory for one more is refused.
-pub(crate) fn hear_others<N: Node, O: Endpoint>(
+/// The node hears the first datagram, where one was received in a buffer, and those that wait behind it, so that it heard `places` at
+/// most.
+pub(crate) fn hear_group<N: Node, O: Endpoint>(
+    alloc: Global,
+    node: &mut N,
+    place: &Place,
+    places: usize,
+    received: Received,
+    buffer: &mut [u8],
+    now: u64,
+    outside: &mut O,
+) -> (Option<Heard>, Vec<Heard>)
+    requires within { FitsBuffer received buffer.old }
+    requires placed { IsPlaced place.now.config.now place.now.number (N.state node.old) }
+    ensures hears { HearsGroup Global place.now.config.now place.now.number places (N.state node.old) (N.state node.new) now (reception received buffer.old) (reverse result.1.items ++ option_to_list result.0) (O.seen outside.old) (O.seen outside.new) }
+    ensures placed { IsPlaced place.now.config.now place.now.number (N.state node.new) }
+{
+    let Received::Datagram { from, count } = received else {
+        return (None, Vec::new(alloc));
+    };
+    let first = hear(node, place, from, &buffer[..count], now);
+    let others = hear_others(alloc, node, place, places, buffer, now, outside);
+    (Some(first), others)
+}
+
+// Behind the first datagram the node hears those that wait already, so that it heard so many at most: until none waits, or
+// memory for one more is refused.
+fn hear_others<N: Node, O: Endpoint>(
     alloc: Global,
     node: &mut N,
     place: &Place,

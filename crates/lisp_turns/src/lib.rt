@@ -11,18 +11,23 @@ mod telling;
 
 // The nodes.
 mod node;
+mod node_core;
 mod order;
 mod router;
 mod server;
 
 // Their turns.
 mod group;
+mod intake;
 pub mod laws;
 mod turn;
 
 pub use act::Act;
 pub use node::Node;
+pub use node_core::NodeCore;
 pub use order::Order;
-pub use outside::{Clock, Commit, Endpoint, Lines, Outside, Printed, Received, SocketCall};
+pub use outside::{
+    Clock, Commit, Control, Endpoint, Lines, Outside, Printed, Received, SocketCall,
+};
 pub use place::Place;
 pub use turn::{Uncommitted, take_turns};

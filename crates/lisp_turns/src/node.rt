@@ -6,10 +6,11 @@ ghost use Rattle.lisp_model.specs.declared.event.Event.TheVariants as events;
 ghost use Rattle.lisp_model.specs.Memory.{MayTell};
 ghost use Rattle.lisp_turns.specs.Acts.{DoesOne};
 ghost use Rattle.lisp_turns.specs.Due.{NothingDue, DoesDuty};
-ghost use Rattle.lisp_turns.specs.Node.{NodeState, IsPlaced, DropsRow, NoneDead};
+ghost use Rattle.lisp_turns.specs.Node.{NodeState, core_of, core_value, IsPlaced, DropsRow, NoneDead};
 ghost use Rattle.lisp_turns.specs.Order.{event_of, IsFault};
 
 use crate::act::Act;
+use crate::node_core::NodeCore;
 use crate::order::Order;
 use crate::place::Place;
 use lisp_memory::Memory;
@@ -23,6 +24,10 @@ pub trait Node {
 
     // Its store's memory may be refused.
     ghost store_may_refuse: { Type 0 };
+
+    /// Its core.
+    fn core(&self) -> NodeCore<'_>
+        ensures { core_value result ≡ core_of (state self.now) };
 
     /// Time passes: a Map-Server drops a row that is dead at a moment. Answers whose it was, the router and its EID-Prefix;
     /// `None` where no row is dead, and then nothing changes.

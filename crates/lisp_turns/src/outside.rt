@@ -1,9 +1,13 @@
-//! What a node has outside: a socket, a clock, the commits of its store, and where its lines go. A node is proved over any that keep these contracts.
+//! What a node has outside: a socket, a clock, the commits of its store, where its lines go, and its users. A node is proved over any that
+//! keep these contracts.
 
 ghost use Rattle.std.specs.Prelude.{◌≡◌, length};
-ghost use Rattle.lisp_turns.specs.Outside.{OutsideState, Logs, LogsLine, ReadsClock, reception, FitsBuffer, Receives, Polls, Commits, Waits, Sends};
+ghost use Rattle.lisp_turns.specs.Node.{core_value};
+ghost use Rattle.lisp_turns.specs.Outside.{OutsideState, Logs, LogsLine, ReadsClock, reception, FitsBuffer, Receives, Polls, Commits, Waits, Sends, Listens, Answers};
 
-use lisp_model::Line;
+use crate::node_core::NodeCore;
+use crate::order::Order;
+use lisp_model::{Line, WorldFault};
 use lisp_records::{Addr, Prefix, RouterId};
 
 /// What came of waiting for a datagram.
@@ -107,4 +111,15 @@ pub trait Lines: Outside {
     /// Whether a line couldn't be printed, so that the node is to end.
     fn is_cut(&self) -> bool
         ensures { result ≡ (Self.seen self.now).is_cut };
+}
+
+/// Where a user asks a node that runs, and tells it what to do.
+pub trait Control: Outside {
+    /// What a user tells the node, if one does. It waits for none.
+    fn listen(&mut self) -> Option<Order>
+        ensures { Logs (Self.seen self.old) (Self.seen self.new) (Listens result) };
+
+    /// Answers the user, if there is one: what came of the order; or what was asked, by the node's core at a moment, in ms.
+    fn answer(&mut self, core: NodeCore<'_>, now: u64, outcome: Option<Result<Line, WorldFault>>)
+        ensures { Logs (Self.seen self.old) (Self.seen self.new) (Answers (core_value core.entry) now outcome) };
 }

@@ -16,6 +16,7 @@ ghost use Rattle.lisp_turns.specs.Serving.{SentAct, SendAct};
 
 use crate::act::Act;
 use crate::node::Node;
+use crate::node_core::NodeCore;
 use crate::order::Order;
 use crate::place::Place;
 use lisp_admission::key_at;
@@ -34,6 +35,10 @@ impl<S: WorldStore> Node for RouterNode<S> {
     ghost state = { λ n. Router n };
 
     ghost store_may_refuse = { S.may_refuse };
+
+    fn core(&self) -> NodeCore<'_> {
+        NodeCore::Router(self.etr())
+    }
 
     /// A router holds no rows.
     fn expire(&mut self, _now: u64) -> Option<(RouterId, Prefix)> {

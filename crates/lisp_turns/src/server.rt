@@ -14,6 +14,7 @@ ghost use Rattle.lisp_turns.specs.Serving.{number_of, resend_act, NoticeAct};
 
 use crate::act::Act;
 use crate::node::Node;
+use crate::node_core::NodeCore;
 use crate::order::Order;
 use crate::place::Place;
 use lisp_memory::Memory;
@@ -31,6 +32,10 @@ impl<S: WorldStore> Node for ServerNode<S> {
     ghost state = { λ n. Server n };
 
     ghost store_may_refuse = { S.may_refuse };
+
+    fn core(&self) -> NodeCore<'_> {
+        NodeCore::Server(ServerNode::core(self))
+    }
 
     fn expire(&mut self, now: u64) -> Option<(RouterId, Prefix)> {
         self.expire_one(now)
@@ -56,7 +61,7 @@ impl<S: WorldStore> Node for ServerNode<S> {
     }
 
     fn serve(&mut self, place: &Place, now: u64) -> Option<Act> {
-        let router = self.core().due_notices(now)?;
+        let router = ServerNode::core(self).due_notices(now)?;
         Some(resend(self, place, &router, now))
     }
 }

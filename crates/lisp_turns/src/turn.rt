@@ -5,12 +5,12 @@ ghost use Rattle.lisp_records.specs.Moment.{max_moment};
 ghost use Rattle.lisp_turns.specs.Node.{IsPlaced, Passes};
 ghost use Rattle.lisp_turns.specs.Outside.{FitsBuffer, reception};
 ghost use Rattle.lisp_turns.specs.Beginning.{RunsAsPart};
-ghost use Rattle.lisp_turns.specs.Turn.{rest_calls};
+ghost use Rattle.lisp_turns.specs.Turn.{failure_calls, receives_after, rest_calls};
 ghost use Rattle.lisp_turns.specs.Stretch.{Asks, Expires, TakesIn, ServesAll, ServesDue, EndsTurn, EndsTurns, at_station};
 
-use crate::group::{hear, hear_others, tell_others};
+use crate::intake::Intake;
 use crate::node::Node;
-use crate::outside::{Clock, Commit, Endpoint, Lines, Printed, Received, SocketCall};
+use crate::outside::{Clock, Commit, Control, Endpoint, Lines, Printed, Received, SocketCall};
 use crate::pause::{Pause, RETRY_MS};
 use crate::place::Place;
 use crate::telling::tell;
@@ -40,14 +40,15 @@ pub struct Uncommitted {
 
 /// Takes so many turns, from a node's start on; none after one in which a line couldn't be printed. A turn takes one datagram,
 /// or none where none comes in time, and then those that wait already, `places` in all, at least one; drops the rows that are dead;
-/// commits what the node saved; answers each datagram to where it came from, in their order; and then sends what is due: a Map-Register
+/// does what a user tells it, if one does; commits what the node saved; answers each datagram to where it came from, in their order, and
+/// last the user; and then sends what is due: a Map-Register
 /// of each part of a router's database to each Map-Server, at most one of each, or each notice of a Map-Server (RFC 9301 sections 5.7
-/// and 8.2), until one is refused. Each event is a line, and so is each row that dies. No line of a datagram and no answer goes out
-/// before the commit. A socket that fails is a line, too, once a minute, and a second's rest; what was refused is tried again a second
+/// and 8.2), until one is refused. Each event is a line, and so is each row that dies. No line of a datagram or of a user's, and no answer,
+/// goes out before the commit. A socket that fails is a line, too, once a minute, and a second's rest; what was refused is tried again a second
 /// later, and told once a minute.
 ///
 /// `Uncommitted` where the commit of a turn failed: no line of a datagram of that turn and no answer went out, and no turn follows it.
-pub fn take_turns<N: Node, O: Endpoint + Clock + Commit + Lines>(
+pub fn take_turns<N: Node, O: Endpoint + Clock + Commit + Lines + Control>(
     alloc: Global,
     node: &mut N,
     place: &Place,
@@ -81,7 +82,7 @@ pub fn take_turns<N: Node, O: Endpoint + Clock + Commit + Lines>(
 
 // Datagrams are taken into `buffer` and answered, and what is due is sent. Whether what it heard was committed: where it wasn't,
 // it ends there.
-fn turn<N: Node, O: Endpoint + Clock + Commit + Lines>(
+fn turn<N: Node, O: Endpoint + Clock + Commit + Lines + Control>(
     alloc: Global,
     node: &mut N,
     station: &mut Station,
@@ -125,9 +126,9 @@ fn drop_withdrawn<N: Node>(node: &mut N, now: u64)
     while let Some(_withdrawn) = node.expire(now) {}
 }
 
-// What was received, in a buffer, is heard with what waits, committed and then told; or it is told as a failure. Whether what was
-// heard was committed: where it wasn't, nothing is told.
-fn take_in<N: Node, O: Endpoint + Commit + Lines>(
+// What was received, in a buffer, is taken in with what waits, committed and then told; a failure of the socket is told, too. Whether what
+// was taken in was committed: where it wasn't, nothing is told.
+fn take_in<N: Node, O: Endpoint + Commit + Lines + Control>(
     alloc: Global,
     node: &mut N,
     station: &mut Station,
@@ -145,32 +146,29 @@ fn take_in<N: Node, O: Endpoint + Commit + Lines>(
     ensures places { station.new.places ≡ station.old.places }
     ensures sends { station.new.sends ≡ station.old.sends }
 {
-    match received {
-        Received::Datagram { from, count } => {
-            let first = hear(node, &station.place, from, &buffer[..count], now);
-            let others = hear_others(
-                alloc,
-                node,
-                &station.place,
-                station.places,
-                buffer,
-                now,
-                outside,
-            );
-            if !outside.commit() {
-                return false;
-            }
-            first.tell(outside);
-            tell_others(&others, outside);
-        }
-        Received::Nothing => {}
-        Received::Failed => {
-            if station.receives.fail(now) {
-                outside.print(&Printed::Failed(SocketCall::Receive));
-            }
+    let place = &station.place;
+    let places = station.places;
+    let intake = Intake::take(alloc, node, place, places, received, buffer, now, outside);
+    if intake.has_acts() && !outside.commit() {
+        return false;
+    }
+    tell_failure(received, &mut station.receives, now, outside);
+    intake.tell(outside);
+    outside.answer(node.core(), now, intake.answer());
+    true
+}
+
+// A socket that failed is told, once a minute.
+fn tell_failure<O: Lines>(received: Received, receives: &mut Pause, now: u64, outside: &mut O)
+    requires { now ≤ max_moment }
+    ensures pause { (buffer : List ℕ) → receives.new ≡ receives_after (reception received buffer) receives.old now }
+    ensures told { (buffer : List ℕ) → Asks (O.seen outside.old) (O.seen outside.new) (failure_calls (reception received buffer) receives.old now) }
+{
+    if let Received::Failed = received {
+        if receives.fail(now) {
+            outside.print(&Printed::Failed(SocketCall::Receive));
         }
     }
-    true
 }
 
 // Does what is due, but for a second after something that was due was refused.

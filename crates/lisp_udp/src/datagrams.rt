@@ -36,9 +36,13 @@ pub(crate) struct NamedSocket<'a, E: Endpoint> {
 }
 
 impl<'a, E: Endpoint> Model for NamedSocket<'a, E> {
+    ghost use Rattle.std.specs.Coded.{codes};
+    ghost use Rattle.lisp_server.specs.LastNonces.{nonces_code};
     ghost use Rattle.lisp_udp.specs.Sockets.{SocketValue};
 
     ghost Value = { SocketValue };
+
+    ghost coded = { Prim.hlevel (codes, nonces_code) };
 
     ghost view = { λ s. record { name = s.name.now; address = s.address; seen = E.seen s.socket } };
 }

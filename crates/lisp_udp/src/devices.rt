@@ -3,14 +3,18 @@
 ghost use Rattle.std.specs.Prelude.{None};
 ghost use Rattle.lisp_udp.specs.Moments.{moment_of};
 
+use crate::control::ControlSocket;
 use crate::group::Group;
 use crate::printer::Printer;
 use crate::socket::NodeSocket;
 use crate::stopwatch::Stopwatch;
 use lisp_database_store::SystemTable;
+use lisp_model::{Line, WorldFault};
 use lisp_records::Addr;
 use lisp_script::RunFault;
-use lisp_turns::{Clock, Commit, Endpoint, Lines, Outside, Printed, Received};
+use lisp_turns::{
+    Clock, Commit, Control, Endpoint, Lines, NodeCore, Order, Outside, Printed, Received,
+};
 use std::net::Net;
 use std::thread;
 use std::time::Duration;
@@ -18,13 +22,18 @@ use std::time::Duration;
 /// How long a turn of a node waits for a datagram, in ms.
 const RECEIVE_TIMEOUT_MS: u64 = 100;
 
-/// A node's socket, its clock, and where its lines go. Of what the system makes of their calls nothing is known.
+/// And while somebody is connected to its control socket.
+const BUSY_TIMEOUT_MS: u64 = 1;
+
+/// A node's socket, its clock, where its lines go, and where it is asked. Of what the system makes of their calls nothing is known.
 #[derive(Drop)]
 pub(crate) struct Devices<'a, R, T, P> {
     rt: &'a R,
     socket: NodeSocket,
     // None where each datagram is taken alone, and each save is committed by itself.
     group: Option<Group<'a, T>>,
+    // None where it couldn't be opened.
+    control: Option<ControlSocket<'a>>,
     stopwatch: Stopwatch,
     printer: P,
 }
@@ -35,12 +44,14 @@ impl<'a, R: Net + std::time::Clock, T: SystemTable, P: Printer + Drop> Devices<'
         rt: &'a R,
         address: &Addr,
         group: Option<Group<'a, T>>,
+        control: Option<ControlSocket<'a>>,
         printer: P,
     ) -> Result<Devices<'a, R, T, P>, RunFault> {
         Ok(Devices {
             rt,
             socket: NodeSocket::bind(rt, address, RECEIVE_TIMEOUT_MS)?,
             group,
+            control,
             stopwatch: Stopwatch::start(rt)?,
             printer,
         })
@@ -58,6 +69,10 @@ impl<R, T, P: Printer> Outside for Devices<'_, R, T, P> {
 
 impl<R, T: SystemTable, P: Printer> Endpoint for Devices<'_, R, T, P> {
     fn receive(&mut self, buffer: &mut [u8]) -> Received {
+        self.socket.set_timeout(match &self.control {
+            Some(control) if control.is_busy() => BUSY_TIMEOUT_MS,
+            _ => RECEIVE_TIMEOUT_MS,
+        });
         match &mut self.group {
             None => self.socket.receive(buffer),
             Some(group) => group.receive(&mut self.socket, buffer),
@@ -82,6 +97,19 @@ impl<R, T: SystemTable, P: Printer> Commit for Devices<'_, R, T, P> {
         match &self.group {
             None => true,
             Some(group) => group.commit(),
+        }
+    }
+}
+
+impl<R, T, P: Printer> Control for Devices<'_, R, T, P> {
+    fn listen(&mut self) -> Option<Order> {
+        let now = self.stopwatch.told();
+        self.control.as_mut()?.listen(now)
+    }
+
+    fn answer(&mut self, core: NodeCore<'_>, now: u64, outcome: Option<Result<Line, WorldFault>>) {
+        if let Some(control) = &mut self.control {
+            control.answer(core, now, outcome);
         }
     }
 }

@@ -1,5 +1,7 @@
 //! The folders in which nodes keep their nonces.
 
+use crate::connection::AskedNode;
+use crate::control::ControlSocket;
 use crate::storage::{NodeStore, Storage};
 use lisp_database_store::{Change, Database, Failure, SystemTable};
 use lisp_memory::FallibleString;
@@ -108,6 +110,22 @@ impl LockedFolder {
             Some(0) if is_known => Err(RunFault::FILE),
             Some(pairs) => Ok(pairs),
             None => Err(RunFault::FILE),
+        }
+    }
+
+    /// Where the node is asked; `None` where that can't be made, which is a warning on standard error.
+    pub(crate) fn control<'a>(
+        &self,
+        rt: &HostRuntime,
+        node: AskedNode<'a>,
+    ) -> Option<ControlSocket<'a>> {
+        let path = self.path.as_str();
+        match ControlSocket::open(rt, path, node) {
+            Ok(control) => Some(control),
+            Err(error) => {
+                let _ = eprintln!(rt; "warning: {path}: nobody can ask the node: {error}");
+                None
+            }
         }
     }
 

@@ -4,6 +4,8 @@
 #![tactic(auto)]
 
 // What each node has: a place, a folder, and the system's devices.
+mod connection;
+mod control;
 mod devices;
 mod entry;
 mod folder;

@@ -12,7 +12,7 @@ use crate::server::start_server;
 use lisp_nonces::WorldStore;
 use lisp_script::RunFault;
 use lisp_sites::Config;
-use lisp_turns::{Clock, Commit, Endpoint, Lines, Node, Place, Uncommitted, take_turns};
+use lisp_turns::{Clock, Commit, Control, Endpoint, Lines, Node, Place, Uncommitted, take_turns};
 use std::alloc::Global;
 
 /// What is outside a node whose turns ended.
@@ -26,7 +26,7 @@ pub(crate) struct Life<O> {
 
 /// Runs the node with a number over its store, in so many turns of so many datagrams: a Map-Server that holds nothing, or a router
 /// that starts at 0 ms. Faults: those of the start, then that of what is outside.
-pub(crate) fn run_over<S: WorldStore + Drop, O: Endpoint + Clock + Commit + Lines + Drop>(
+pub(crate) fn run_over<S: WorldStore + Drop, O: Endpoint + Clock + Commit + Lines + Control + Drop>(
     alloc: Global,
     config: &Config,
     number: usize,
@@ -50,7 +50,7 @@ pub(crate) fn run_over<S: WorldStore + Drop, O: Endpoint + Clock + Commit + Line
 }
 
 // Runs the node with a number, if it starts.
-fn run_at<N: Node + Drop, O: Endpoint + Clock + Commit + Lines + Drop>(
+fn run_at<N: Node + Drop, O: Endpoint + Clock + Commit + Lines + Control + Drop>(
     alloc: Global,
     config: &Config,
     number: usize,

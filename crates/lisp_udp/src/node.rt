@@ -2,6 +2,8 @@
 
 ghost use Rattle.lisp_udp.specs.Nodes.{IsNode};
 
+use crate::connection::AskedNode;
+use crate::control::ControlSocket;
 use crate::devices::Devices;
 use crate::entry::{NodeKind, entry_at, number_named, servers_of};
 use crate::folder::open_folder;
@@ -48,8 +50,9 @@ fn run_in<T: SystemTable, W: Write>(
     let failure = Cell::new(None);
     let folder = open_folder(rt, dir, name)?;
     let store = folder.open_store::<T>(rt, storage, &failure)?;
+    let control = folder.control(rt, asked_node(rt, config, number, name));
     let printer = LineWriter::new(rt.alloc(), config, name, writer);
-    run_in_store(rt, config, number, store, &failure, turns, printer)?.end()
+    run_in_store(rt, config, number, store, &failure, control, turns, printer)?.end()
 }
 
 /// Runs the node of a kind with a name without an end, as `keep_server_running` and `keep_router_running` do.
@@ -81,9 +84,34 @@ fn keep_in<T: SystemTable>(
     let mut store = folder.open_store::<T>(rt, storage, &failure)?;
     let pairs = folder.pairs(rt, &mut store, is_known)?;
     let servers = servers_of(config, number);
+    let control = folder.control(rt, asked_node(rt, config, number, name));
     let journal = Journal::open(rt, config, name, servers, pairs, &failure)?;
-    run_in_store(rt, config, number, store, &failure, u64::MAX, journal)?;
+    run_in_store(
+        rt,
+        config,
+        number,
+        store,
+        &failure,
+        control,
+        u64::MAX,
+        journal,
+    )?;
     Ok(())
+}
+
+// The node with a number and a name, as its users ask it.
+fn asked_node<'a>(
+    rt: &HostRuntime,
+    config: &'a Config,
+    number: usize,
+    name: &'a str,
+) -> AskedNode<'a> {
+    AskedNode {
+        alloc: rt.alloc(),
+        config,
+        number,
+        name,
+    }
 }
 
 // Runs the node with a number over its store, in so many turns. Where its lines went is given back. `failure` holds the kind of
@@ -94,54 +122,63 @@ fn run_in_store<T: SystemTable, P: Printer + Drop>(
     number: usize,
     store: NodeStore<'_, T>,
     failure: &Cell<Option<ErrorKind>>,
+    control: Option<ControlSocket<'_>>,
     turns: u64,
     printer: P,
 ) -> Result<P, RunFault>
     requires { IsNode config.now number }
 {
     match store {
-        NodeStore::Files(store) => run_alone::<T, _, P>(rt, config, number, store, turns, printer),
+        NodeStore::Files(store) => {
+            run_alone::<T, _, P>(rt, config, number, store, control, turns, printer)
+        }
         NodeStore::Database { database, group } if group <= 1 => {
             let store = DatabaseStore::over(database, failure);
-            run_alone::<T, _, P>(rt, config, number, store, turns, printer)
+            run_alone::<T, _, P>(rt, config, number, store, control, turns, printer)
         }
         NodeStore::Database { database, group } => {
             let database = SharedDatabase::over(database, failure);
-            run_in_groups(rt, config, number, &database, group, turns, printer)
+            run_in_groups(
+                rt, config, number, &database, group, control, turns, printer,
+            )
         }
     }
 }
 
 // Runs the node with a number over a store that commits each save by itself.
-fn run_alone<T: SystemTable, S: WorldStore + Drop, P: Printer + Drop>(
-    rt: &HostRuntime,
+fn run_alone<'a, T: SystemTable, S: WorldStore + Drop, P: Printer + Drop>(
+    rt: &'a HostRuntime,
     config: &Config,
     number: usize,
     store: S,
+    control: Option<ControlSocket<'a>>,
     turns: u64,
     printer: P,
 ) -> Result<P, RunFault>
     requires { IsNode config.now number }
 {
-    let devices = Devices::<_, T, _>::open(rt, entry_at(config, number).address, None, printer);
+    let address = entry_at(config, number).address;
+    let devices = Devices::<_, T, _>::open(rt, address, None, control, printer);
     let life = run_over(rt.alloc(), config, number, store, 1, turns, devices)?;
     Ok(life.outside.into_printer())
 }
 
 // Runs the node with a number over a database, to which groups of so many datagrams are committed.
-fn run_in_groups<T: SystemTable, P: Printer + Drop>(
-    rt: &HostRuntime,
+fn run_in_groups<'a, T: SystemTable, P: Printer + Drop>(
+    rt: &'a HostRuntime,
     config: &Config,
     number: usize,
-    database: &SharedDatabase<'_, T>,
+    database: &'a SharedDatabase<'a, T>,
     places: u8,
+    control: Option<ControlSocket<'a>>,
     turns: u64,
     printer: P,
 ) -> Result<P, RunFault>
     requires { IsNode config.now number }
 {
     let group = Group::new(rt.alloc(), places, database)?;
-    let devices = Devices::open(rt, entry_at(config, number).address, Some(group), printer);
+    let address = entry_at(config, number).address;
+    let devices = Devices::open(rt, address, Some(group), control, printer);
     let places = usize::from(places);
     let outside = live(rt.alloc(), config, number, database, places, turns, devices)?;
     Ok(outside.into_printer())

@@ -19,6 +19,8 @@ pub(crate) struct NodeSocket {
     socket: UdpSocket,
     // Whether its calls wait, a receive for its time limit.
     waits: bool,
+    // The time limit, in ms.
+    timeout_ms: u64,
     // The kind of the last failure.
     failure: Option<ErrorKind>,
 }
@@ -37,9 +39,21 @@ impl NodeSocket {
             Ok(()) => Ok(NodeSocket {
                 socket,
                 waits: true,
+                timeout_ms,
                 failure: None,
             }),
             Err(_) => Err(RunFault::BIND),
+        }
+    }
+
+    /// From now on a receive waits so many ms, where the system takes that.
+    pub(crate) fn set_timeout(&mut self, timeout_ms: u64) {
+        if self.timeout_ms == timeout_ms {
+            return;
+        }
+        let timeout = Duration::from_millis(timeout_ms);
+        if self.socket.set_read_timeout(Some(timeout)).is_ok() {
+            self.timeout_ms = timeout_ms;
         }
     }
 

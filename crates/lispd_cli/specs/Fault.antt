@@ -11,7 +11,7 @@ use Rattle.lisp_script.specs.declared.play_fault.PlayFault.TheVariants as play_f
 use Rattle.lispd_cli.specs.declared.fault.SetupFault.{SetupFault}
 use Rattle.lispd_cli.specs.declared.fault.SetupFault.TheVariants as setup_faults
 use Rattle.lispd_cli.specs.declared.fault.ProgramFault.{ProgramFault}
-use Rattle.lispd_cli.specs.declared.fault.ProgramFault.TheVariants.{Words, Setup, Answer, File, Play, Turns, Known, Group, GroupOfFiles, Run, Explain, Warnings}
+use Rattle.lispd_cli.specs.declared.fault.ProgramFault.TheVariants.{Words, Setup, Answer, File, Play, Turns, Known, Group, GroupOfFiles, Run, Explain, Unanswered, Warnings}
 
 abbrev pub setup_fault_number : SetupFault → ℕ
 setup_fault_number (setup_faults.BadOption _) = 98
@@ -33,6 +33,7 @@ program_fault_number Group = 98
 program_fault_number GroupOfFiles = 98
 program_fault_number (Run fault) = fault.number
 program_fault_number (Explain fault) = explain_fault_number fault
+program_fault_number Unanswered = 99
 program_fault_number Warnings = 25
 
 abbrev pub program_fault_status : ProgramFault → ℕ
@@ -47,6 +48,7 @@ program_fault_status Group = 2
 program_fault_status GroupOfFiles = 2
 program_fault_status (Run fault) = run_status fault.number
 program_fault_status (Explain fault) = explain_fault_status fault
+program_fault_status Unanswered = 1
 program_fault_status Warnings = 2
 
 -- the faulty line of a script

@@ -2,9 +2,9 @@
 
 use crate::argument::Argument;
 use crate::help::{
-    ABOUT, ANSWER_ABOUT, ANSWER_EXAMPLE, CHECK_ABOUT, CHECK_WARNS, EXPLAIN_ABOUT, LINE_EXAMPLE,
-    LOOP_ABOUT, LOOP_FORM, NODE_RUNS, PLAY_ABOUT, PLAY_FORM, ROUTER_ABOUT, SERVER_ABOUT,
-    SERVER_GROUPS,
+    ABOUT, ANSWER_ABOUT, ANSWER_EXAMPLE, ASK_ABOUT, ASK_FORM, CHECK_ABOUT, CHECK_WARNS,
+    EXPLAIN_ABOUT, LINE_EXAMPLE, LOOP_ABOUT, LOOP_FORM, NODE_RUNS, PLAY_ABOUT, PLAY_FORM,
+    ROUTER_ABOUT, SERVER_ABOUT, SERVER_GROUPS, TELL_ABOUT, TELL_FORM,
 };
 use crate::option::AnswerOption;
 use clap::Command;
@@ -21,6 +21,12 @@ pub const CONFIG: &str = "CONFIG";
 
 /// The name of a node.
 pub const NAME: &str = "NAME";
+
+/// The folder of a node that runs.
+pub const FOLDER: &str = "FOLDER";
+
+/// What the node is asked or told.
+pub const QUESTION: &str = "WORD";
 
 /// The number of `explain`, and what stands behind it in a line.
 pub const NUMBER: &str = "N";
@@ -55,7 +61,7 @@ struct Subcommand {
 }
 
 /// The subcommands, in the order of the help.
-static SUBCOMMANDS: [Subcommand; 7] = [
+static SUBCOMMANDS: [Subcommand; 9] = [
     Subcommand {
         name: "answer",
         about: ANSWER_ABOUT,
@@ -137,6 +143,18 @@ default) to 64; only with --database",
         ],
     },
     Subcommand {
+        name: "ask",
+        about: ASK_ABOUT,
+        after_help: Some(ASK_FORM),
+        arguments: &[FOLDER_ARGUMENT, QUESTION_ARGUMENT, WORDS_ARGUMENT],
+    },
+    Subcommand {
+        name: "tell",
+        about: TELL_ABOUT,
+        after_help: Some(TELL_FORM),
+        arguments: &[FOLDER_ARGUMENT, QUESTION_ARGUMENT, WORDS_ARGUMENT],
+    },
+    Subcommand {
         name: CHECK,
         about: CHECK_ABOUT,
         after_help: Some(CHECK_WARNS),
@@ -177,6 +195,17 @@ const NAME_ARGUMENT: Argument = Argument::Word {
     name: NAME,
     is_required: true,
     help: "The node's name there",
+};
+
+const FOLDER_ARGUMENT: Argument = Argument::Word {
+    name: FOLDER,
+    is_required: true,
+    help: "The folder of the node's nonces, DIR/NAME",
+};
+
+const QUESTION_ARGUMENT: Argument = Argument::Words {
+    name: QUESTION,
+    help: "The words, without the node's name",
 };
 
 const STORE_ARGUMENT: Argument = Argument::Value {

@@ -90,14 +90,17 @@ pub enum ProgramFault {
     /// The number has another form than `explain` takes, is that of nothing, or its text can't be written.
     #[error(transparent)]
     Explain(ExplainFault),
+    /// No node runs over the folder, or it didn't answer.
+    #[error("no node answers there: it doesn't run, or ended")]
+    Unanswered,
     /// The configuration has warnings, and `--strict` was given.
     #[error("the configuration has warnings, and --strict was given")]
     Warnings,
 }
 
 impl ProgramFault {
-    /// The number that operators see: `Words`, `Turns`, `Known`, `Group` and `GroupOfFiles` 98, `File` 93, `Warnings` 25, or that of
-    /// the fault inside.
+    /// The number that operators see: `Words`, `Turns`, `Known`, `Group` and `GroupOfFiles` 98, `File` 93, `Unanswered` 99,
+    /// `Warnings` 25, or that of the fault inside.
     pub const fn number(&self) -> u16
         ensures { result ≡ program_fault_number self.now }
     {
@@ -113,11 +116,13 @@ impl ProgramFault {
             ProgramFault::Play(fault) => fault.number(),
             ProgramFault::Run(fault) => fault.number,
             ProgramFault::Explain(fault) => fault.number(),
+            ProgramFault::Unanswered => 99,
             ProgramFault::Warnings => 25,
         }
     }
 
-    /// The exit status: `Words`, `Turns`, `Known`, `Group`, `GroupOfFiles` and `Warnings` 2, `File` 1, or that of the fault inside.
+    /// The exit status: `Words`, `Turns`, `Known`, `Group`, `GroupOfFiles` and `Warnings` 2, `File` and `Unanswered` 1, or that of the
+    /// fault inside.
     pub fn status(&self) -> u8
         ensures { result ≡ program_fault_status self.now }
     {
@@ -130,7 +135,7 @@ impl ProgramFault {
             | ProgramFault::Warnings => 2,
             ProgramFault::Setup(fault) => fault.status(),
             ProgramFault::Answer(fault) => fault.status(),
-            ProgramFault::File => 1,
+            ProgramFault::File | ProgramFault::Unanswered => 1,
             ProgramFault::Play(fault) => fault.status(),
             ProgramFault::Run(fault) => fault.status(),
             ProgramFault::Explain(fault) => fault.status(),
@@ -156,6 +161,17 @@ impl From<SetupFault> for ProgramFault {
 
     fn from(why: SetupFault) -> ProgramFault {
         ProgramFault::Setup(why)
+    }
+}
+
+impl From<AllocError> for ProgramFault {
+    ghost use Rattle.lispd_cli.specs.declared.fault.SetupFault.TheVariants.{OutOfMemory};
+    ghost use Rattle.lispd_cli.specs.declared.fault.ProgramFault.TheVariants.{Setup};
+
+    ghost from_gives = { λ _ fault. fault ≡ Setup OutOfMemory };
+
+    fn from(_error: AllocError) -> ProgramFault {
+        ProgramFault::Setup(SetupFault::OutOfMemory)
     }
 }
 

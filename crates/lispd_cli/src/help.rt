@@ -75,6 +75,36 @@ pub(crate) const LOOP_FORM: &str =
     "The script is as in `lispd play --help`, in a file of its own. `deliver NUMBER` takes the next datagram that \
 comes to where that datagram was sent, and prints `lost NUMBER` where it is another or none comes in a second.";
 
+/// What `ask` does, for its help.
+pub(crate) const ASK_ABOUT: &str =
+    "Ask a Map-Server or router that runs, and print its answer, the lines of a schedule";
+
+/// What a node is asked, for its help.
+pub(crate) const ASK_FORM: &str = "A Map-Server is asked:
+  hold          which rows it holds
+  ask ADDRESS   who answers for the address
+  due           to which router it has a notice to send again
+and a router:
+  acks          what it counted of each Map-Server
+  due           to which Map-Server it has a Map-Register to send
+
+Example:
+  lispd ask nonces/s1 hold";
+
+/// What `tell` does, for its help.
+pub(crate) const TELL_ABOUT: &str =
+    "Tell a Map-Server or router that runs what to do, and print what it comes to";
+
+/// What a node is told, for its help.
+pub(crate) const TELL_FORM: &str = "A Map-Server is told:
+  notice ROUTER       to send the router an unsolicited Map-Notify of what it holds of it
+and a router:
+  change RECORD ..    to register these records from now on, or `empty`; the configuration stays as it is
+  rotate KEY          to go over to another key of its site; the configuration stays as it is
+
+Example:
+  lispd tell nonces/s1 notice r1";
+
 /// What `check` does, for its help.
 pub(crate) const CHECK_ABOUT: &str =
     "Read a configuration, and print what was understood: a line for each site, Map-Server and router, then its warnings";

@@ -1,8 +1,9 @@
 //! The words of the program `lispd`: its subcommands with their arguments and help, the options of `answer`, what is reported
-//! of a fault that ends it; and the subcommands that need no network.
+//! of a fault that ends it; the subcommands that need no network, and those that ask a node that runs.
 #![tactic(auto)]
 
 mod argument;
+mod asking;
 mod check;
 mod command_line;
 mod explanation;
@@ -17,9 +18,11 @@ mod source;
 mod subcommands;
 mod words;
 
+pub use asking::{Errand, ask_node};
 pub use check::check_config;
 pub use command_line::{
-    CONFIG, DATABASE, FILE, GROUP, KNOWN, NAME, NUMBER, STORE, STRICT, TURNS, WORDS, command,
+    CONFIG, DATABASE, FILE, FOLDER, GROUP, KNOWN, NAME, NUMBER, QUESTION, STORE, STRICT, TURNS,
+    WORDS, command,
 };
 pub use failure::Failure;
 pub use fault::{ProgramFault, SetupFault};

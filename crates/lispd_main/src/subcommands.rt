@@ -7,8 +7,8 @@ use lisp_script::{PlayFault, RunFault};
 use lisp_sqlite::{Task, run_task};
 use lisp_udp::{Storage, Stretch, Subject, run_subject};
 use lispd_cli::{
-    CONFIG, DATABASE, FILE, Failure, NodeWords, ProgramFault, STORE, is_given, node_words,
-    run_alone, word,
+    CONFIG, DATABASE, Errand, FILE, Failure, NodeWords, ProgramFault, STORE, ask_node, is_given,
+    node_words, run_alone, word,
 };
 use std::alloc::Global;
 use std::fs;
@@ -43,6 +43,8 @@ fn run_named<W: Write>(
         "server" => run_node(rt, NodeKind::Server, words, writer),
         "router" => run_node(rt, NodeKind::Router, words, writer),
         "loop" => run_network(rt, words, writer),
+        "ask" => ask_node(rt, Errand::Ask, words, writer),
+        "tell" => ask_node(rt, Errand::Tell, words, writer),
         _ => return run_alone(rt, named, writer),
     };
     Ok(ran?)

@@ -1,0 +1,90 @@
+//! What a node that runs answers its user.
+
+ghost use Rattle.std.specs.Prelude.{◌≡◌, IfOk, OnErr};
+ghost use Rattle.std.specs.String.{string_bytes};
+ghost use Rattle.lisp_turns.specs.Node.{core_value};
+ghost use Rattle.lisp_control.specs.Answer.{Answers, fault_text, numbered, outcome_text, servers_of};
+
+use crate::question::Question;
+use lisp_asked::{router_answer, server_answer};
+use lisp_lines::{DatagramPlace, line_text};
+use lisp_memory::{FallibleString, Memory};
+use lisp_model::{Line, WorldFault};
+use lisp_script::ScriptWhat;
+use lisp_sites::Config;
+use lisp_turns::NodeCore;
+use std::alloc::{AllocError, Global};
+
+/// The lines that answer a question to the node with a number, by its core at a moment, in ms: those of a schedule. A router that is
+/// down says so; a question for a node of the other kind, and what is an order, is the fault 80.
+pub fn answer_text(
+    alloc: Global,
+    config: &Config,
+    number: usize,
+    core: NodeCore<'_>,
+    question: &Question,
+    now: u64,
+) -> Result<String, AllocError>
+    ensures told { IfOk result (λ text. Answers config.now number (core_value core.entry) question.now now (string_bytes text)) }
+    ensures memory { OnErr result ⟦<Global as Memory>⟧.may_refuse }
+{
+    match (question, core) {
+        (Question::Server(question), NodeCore::Server(core)) => {
+            server_answer(alloc, config, number, core, *question, now)
+        }
+        (Question::Router(question), NodeCore::Router(Some(core))) => {
+            let servers = servers_of(config, number);
+            router_answer(alloc, config, number, servers, core, *question, now)
+        }
+        (Question::Router(_), NodeCore::Router(None)) => {
+            let line = Line::Down { router: number };
+            line_text(alloc, config, &line, DatagramPlace::Hidden)
+        }
+        _ => fault_text(alloc, ScriptWhat::Word),
+    }
+}
+
+/// The line that answers an order: that of the event, or the fault that keeps the node from being told so.
+pub fn outcome_text(
+    alloc: Global,
+    config: &Config,
+    outcome: &Result<Line, WorldFault>,
+) -> Result<String, AllocError>
+    ensures told { IfOk result (λ text. string_bytes text ≡ outcome_text config.now outcome.now) }
+    ensures memory { OnErr result ⟦<Global as Memory>⟧.may_refuse }
+{
+    match outcome {
+        Ok(line) => line_text(alloc, config, line, DatagramPlace::Hidden),
+        Err(fault) => numbered(alloc, fault.number()),
+    }
+}
+
+/// The line that answers what is no question.
+pub fn fault_text(alloc: Global, what: ScriptWhat) -> Result<String, AllocError>
+    ensures told { IfOk result (λ text. string_bytes text ≡ fault_text what) }
+    ensures memory { OnErr result ⟦<Global as Memory>⟧.may_refuse }
+{
+    numbered(alloc, what.number())
+}
+
+// The Map-Servers that the node with a number registers with; a Map-Server registers with none.
+fn servers_of(config: &Config, number: usize) -> &[usize]
+    ensures { result.now ≡ servers_of config.now number }
+{
+    let servers = config.servers().len();
+    if number < servers {
+        return &[];
+    }
+    match config.routers().get(number - servers) {
+        Some(router) => router.servers.as_slice(),
+        None => &[],
+    }
+}
+
+// The line of a fault with a number.
+fn numbered(alloc: Global, number: u16) -> Result<String, AllocError>
+    ensures told { IfOk result (λ text. string_bytes text ≡ numbered number) }
+    ensures memory { OnErr result ⟦<Global as Memory>⟧.may_refuse }
+{
+    String::try_format(alloc, format_args!("fault {number}\n"))
+}

@@ -1,0 +1,213 @@
+//! A connection of a user's, for one question: a line, then the lines that answer it, and the end.
+
+use lisp_control::{Question, answer_text, fault_text, outcome_text, question_in};
+use lisp_memory::FallibleVec;
+use lisp_model::{Line, WorldFault};
+use lisp_script::ScriptWhat;
+use lisp_sites::Config;
+use lisp_turns::{NodeCore, Order};
+use std::alloc::{AllocError, Global};
+use std::io::{ErrorKind, Read, Write};
+use std::os::unix::net::UnixStream;
+
+/// How long a connection lasts at most, in ms.
+const MOST_MS: u64 = 100;
+
+/// The most bytes of a line, its line feed among them.
+const MOST_BYTES: usize = 65_536;
+
+/// How many bytes are read at once.
+const ROOM: usize = 4_096;
+
+/// How often a turn reads from a connection, or writes to it.
+const MOST_CALLS: usize = 64;
+
+/// A node that is asked.
+#[derive(Clone, Copy)]
+pub(crate) struct AskedNode<'a> {
+    /// The memory that answers lie in.
+    pub(crate) alloc: Global,
+    /// The configuration.
+    pub(crate) config: &'a Config,
+    /// The node's number.
+    pub(crate) number: usize,
+    /// Its name.
+    pub(crate) name: &'a str,
+}
+
+/// A connection, which is dropped at a moment.
+#[derive(Drop)]
+pub(crate) struct Connection {
+    stream: UnixStream,
+    // From this moment on it is dropped, in ms.
+    end: u64,
+    stage: Stage,
+}
+
+/// How far it is.
+#[derive(Drop)]
+enum Stage {
+    /// These bytes of its line came.
+    Asks(Vec<u8>),
+    /// The question waits for its answer.
+    Asked(Question),
+    /// The node was told the order.
+    Told,
+    /// So many bytes of the answer are written.
+    Answered {
+        /// The answer.
+        text: String,
+        /// How many bytes of it.
+        written: usize,
+    },
+    /// It ended, or failed.
+    Ended,
+}
+
+impl Stage {
+    // There is an answer, unless memory for it was refused.
+    fn answered(text: Result<String, AllocError>) -> Stage {
+        match text {
+            Ok(text) => Stage::Answered { text, written: 0 },
+            Err(_) => Stage::Ended,
+        }
+    }
+}
+
+impl Connection {
+    /// A connection that was made at a moment, in ms. `None` where it can't be used. Takes no memory.
+    pub(crate) fn new(alloc: Global, stream: UnixStream, now: u64) -> Option<Connection> {
+        stream.set_nonblocking(true).ok()?;
+        Some(Connection {
+            stream,
+            end: now.saturating_add(MOST_MS),
+            stage: Stage::Asks(Vec::new(alloc)),
+        })
+    }
+
+    /// Whether it isn't to be dropped yet.
+    pub(crate) fn is_in_time(&self, now: u64) -> bool {
+        now < self.end
+    }
+
+    /// Whether it has something to do yet.
+    pub(crate) fn goes_on(&self) -> bool {
+        !matches!(self.stage, Stage::Ended)
+    }
+
+    /// Reads what came of its line. What that tells the node, if it is whole and does.
+    pub(crate) fn listen(&mut self, node: &AskedNode<'_>) -> Option<Order> {
+        let Stage::Asks(line) = &mut self.stage else {
+            return None;
+        };
+        match read_line(&mut self.stream, line) {
+            Heard::Whole => {}
+            Heard::Waits => return None,
+            Heard::Ended => {
+                self.stage = Stage::Ended;
+                return None;
+            }
+        }
+        let (stage, order) = asked(node, line.as_slice());
+        self.stage = stage;
+        order
+    }
+
+    /// Answers by the node's core at a moment, in ms, or by what came of the order; and writes what the connection takes.
+    pub(crate) fn answer(
+        &mut self,
+        node: &AskedNode<'_>,
+        core: NodeCore<'_>,
+        now: u64,
+        outcome: Option<Result<Line, WorldFault>>,
+    ) {
+        let AskedNode {
+            alloc,
+            config,
+            number,
+            ..
+        } = *node;
+        let text = match (&self.stage, &outcome) {
+            (Stage::Asked(question), _) => {
+                answer_text(alloc, config, number, core, question, now)
+            }
+            (Stage::Told, Some(outcome)) => outcome_text(alloc, config, outcome),
+            _ => return self.write(),
+        };
+        self.stage = Stage::answered(text);
+        self.write();
+    }
+
+    // Writes what the connection takes.
+    fn write(&mut self) {
+        let Stage::Answered { text, written } = &mut self.stage else {
+            return;
+        };
+        for _ in 0..MOST_CALLS {
+            let rest = &text.as_bytes()[(*written).min(text.len())..];
+            if rest.is_empty() {
+                self.stage = Stage::Ended;
+                return;
+            }
+            match self.stream.write(rest) {
+                Ok(count) => *written = written.saturating_add(count),
+                Err(error) if error.kind() == ErrorKind::WouldBlock => return,
+                Err(_) => {
+                    self.stage = Stage::Ended;
+                    return;
+                }
+            }
+        }
+    }
+}
+
+/// What came of a line.
+enum Heard {
+    /// It is whole.
+    Whole,
+    /// Not all of it came yet.
+    Waits,
+    /// It ended before that, was too long, or the connection failed.
+    Ended,
+}
+
+// Puts what came of a line behind what came of it before.
+fn read_line(stream: &mut UnixStream, line: &mut Vec<u8>) -> Heard {
+    let mut buffer = [0; ROOM];
+    for _ in 0..MOST_CALLS {
+        let count = match stream.read(&mut buffer) {
+            Ok(0) => return Heard::Ended,
+            Ok(count) => count.min(ROOM),
+            Err(error) if error.kind() == ErrorKind::WouldBlock => return Heard::Waits,
+            Err(_) => return Heard::Ended,
+        };
+        let bytes = &buffer[..count];
+        let is_long = line.len().saturating_add(count) > MOST_BYTES;
+        if is_long || line.make_room_for(bytes).is_err() {
+            return Heard::Ended;
+        }
+        let _ = line.extend_from_slice(bytes);
+        if bytes.contains(&b'\n') {
+            return Heard::Whole;
+        }
+    }
+    Heard::Waits
+}
+
+// What a line asks of the node, or tells it.
+fn asked(node: &AskedNode<'_>, bytes: &[u8]) -> (Stage, Option<Order>) {
+    match question_of(node, bytes) {
+        Ok(Question::Tell(order)) => (Stage::Told, Some(order)),
+        Ok(question) => (Stage::Asked(question), None),
+        Err(what) => (Stage::answered(fault_text(node.alloc, what)), None),
+    }
+}
+
+fn question_of(node: &AskedNode<'_>, bytes: &[u8]) -> Result<Question, ScriptWhat> {
+    let end = bytes.iter().position(|byte| *byte == b'\n');
+    let line = match str::from_utf8(&bytes[..end.unwrap_or(bytes.len())]) {
+        Ok(line) => line,
+        Err(_) => return Err(ScriptWhat::Word),
+    };
+    question_in(node.alloc, node.config, node.number, node.name, line)
+}
