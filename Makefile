@@ -48,6 +48,7 @@ bench: lispd
 	@tools/bench_saves
 	@tools/bench_play
 	@tools/bench_server
+	@tools/bench_asked
 
 PREFIX = /usr/local
 PROGRAM = out/lispd

@@ -4,15 +4,21 @@ What `lispd ask` and `lispd tell` make of nodes that run, and what clients that 
 ends with 1 where one does."""
 import contextlib
 import os
+import re
 import socket
 import subprocess
 import time
 from pathlib import Path
 
-from nodes import (FILES, GROUPS, LIMIT, check, is_up, killed, map_register, nonce_in, over, peer, program, ran, run_tests, until)
+from nodes import (FILES, GROUPS, LIMIT, PORT, check, is_up, killed, map_register, nonce_in, over, peer, program, ran, run_tests, until,
+                   with_slow_syncs)
 
-# How long a connection lasts at most, and how long a node may take for a question beside one that misbehaves, in seconds.
+# How long a client may say or take nothing, and how long a node may take for a question beside one that misbehaves, in seconds.
 MOST, PROMPT = 0.1, 0.3
+# How long a sync takes where a test makes it slow, in ms.
+SLOW_MS = 20
+# How many Map-Registers of 255 records make many rows.
+MANY = 157
 # The record of router r1 in the configuration, and another one.
 RECORD, OTHER = "10.1.0.0/16=1440+192.0.2.1", "10.1.0.0/16=5+192.0.2.9"
 UNANSWERED = (1, "", "lispd: fault 99\n")
@@ -27,9 +33,9 @@ def tell(here, name, *words):
     return ran("tell", f"{here.folder}/{name}", *words)
 
 
-def up(here, kind, name, address, *more):
+def up(here, kind, name, address, **how):
     """A node that runs, once it listens."""
-    process = here.start(*here.words(kind, name, *more))
+    process = here.start(*here.words(kind, name), **how)
     is_up(address)
     check(f"the socket of {name}", until(lambda: ask(here, name, "due")[0] == 0), True)
     return process
@@ -55,6 +61,45 @@ def a_map_server_is_asked(here):
     check("it doesn't run", ask(here, "s1", "hold"), UNANSWERED)
 
 
+def counts(here, name):
+    """What is counted of a node: of each word the number, and of refusals that of each number."""
+    status, text, wrongs = ask(here, name, "counts")
+    check(f"counts of {name}", (status, wrongs, [line for line in text.splitlines() if not line.startswith(f"counts {name} ")]), (0, "", []))
+    return dict(line.removeprefix(f"counts {name} ").rsplit(" ", 1) for line in text.splitlines())
+
+
+def what_is_counted(here):
+    """Which routers it heard, how many lines of each kind it printed, and what it has, in lines and for Prometheus."""
+    process = up(here, "server", "s1", here.s1, env=with_slow_syncs(SLOW_MS * 1000))
+    check("nobody was heard", ask(here, "s1", "routers"), (0, "routers s1 0\n", ""))
+    check("nothing is counted", counts(here, "s1"), {"rows": "0", "sites": "0", "standing_notices": "0", "longest_save_ms": "0"})
+    with peer(here.r1) as it:
+        for nonce in (7, 8):
+            check("its answer", nonce_in(here.answer(it, map_register(nonce))), nonce)
+        it.sendto(b"junk", (here.s1, PORT))
+        it.sendto(map_register(8), (here.s1, PORT))
+        check("both are refused", until(lambda: "counts s1 refused 57 1\n" in ask(here, "s1", "counts")[1]), True)
+        check("a notice", tell(here, "s1", "notice", "r1")[0], 0)
+    found = counts(here, "s1")
+    found.pop("resent", None)
+    check("how long a save takes", SLOW_MS <= int(found.pop("longest_save_ms")) < LIMIT * 1000, True)
+    check("what is counted", found, {"accepted": "2", "notice": "1", "refused 50": "1", "refused 57": "1",
+                                     "rows": "1", "sites": "1", "standing_notices": "1"})
+    status, text, wrongs = ask(here, "s1", "routers")
+    age = text.partition(" age ")[2].partition(" ")[0]
+    check("its router", (status, text, wrongs),
+          (0, f"routers s1 1\nrouter r1 from {here.r1} key 1 nonce 8 age {age} rows 1\n", ""))
+    check("its age", 0 <= int(age) < LIMIT * 1000, True)
+    status, text, wrongs = ask(here, "s1", "counts", "--prometheus")
+    lines = [line for line in text.splitlines() if line[0] != "#" and "resent" not in line]
+    check("metrics", (status, wrongs, lines[:-1]), (0, "", [
+        'lisp_lines_total{node="s1",line="accepted"} 2', 'lisp_lines_total{node="s1",line="notice"} 1',
+        'lisp_refusals_total{node="s1",number="50"} 1', 'lisp_refusals_total{node="s1",number="57"} 1',
+        'lisp_rows{node="s1"} 1', 'lisp_sites{node="s1"} 1', 'lisp_standing_notices{node="s1"} 1']))
+    check("the longest save", re.fullmatch(r'lisp_longest_save_seconds\{node="s1"\} \d+e-3', lines[-1]) is not None, True)
+    killed(process)
+
+
 def a_map_server_is_told(here):
     """A notice that it is told to send is that of a schedule: line, message, acknowledgement."""
     process = up(here, "server", "s1", here.s1)
@@ -77,8 +122,13 @@ def a_router_is_told(here):
     router = up(here, "router", "r1", here.r1)
     check("it registers", until(lambda: ask(here, "s1", "hold")[1].startswith("hold s1 1\n")), True)
     check("it is acknowledged", until(lambda: ask(here, "r1", "acks")[1].startswith("acks r1 s1 key 1 nonce ")), True)
+    check("its records", ask(here, "r1", "records"), (0, f"records r1 1\nrecord {RECORD}/1/100/255/0\n", ""))
     check("another database", tell(here, "r1", "change", OTHER), (0, "change r1 records 1\n", ""))
+    check("its records then", ask(here, "r1", "records"), (0, f"records r1 1\nrecord {OTHER}/1/100/255/0\n", ""))
     check("it is registered", until(lambda: "192.0.2.9" in ask(here, "s1", "hold")[1]), True)
+    found = counts(here, "r1")
+    check("what it counts", (found["change"], found["records"], int(found["sent"]) >= int(found["counted"]) >= 1, "rows" in found),
+          ("1", "1", True, False))
     check("its own key", tell(here, "r1", "rotate", "1")[:2], (0, "refused r1 37\n"))
     check("no key of its site", tell(here, "r1", "rotate", "200"), (0, "fault 78\n", ""))
     check("the configuration", Path(here.config).read_text(), before)
@@ -90,7 +140,7 @@ def wrong_words(here):
     """What is no question, and no order, for a node is a fault of the words, and changes nothing."""
     process = up(here, "server", "s1", here.s1)
     for words, number in ((["hold", "s1"], 81), (["acks"], 82), (["ask", "10.1"], 84), (["tick", "5"], 81), (["resend", "r1"], 80),
-                          ([], 80), (["notice", "r1"], 80)):
+                          ([], 80), (["notice", "r1"], 80), (["records"], 80), (["counts", "s1"], 80), (["hold", "--prometheus"], 81)):
         check(f"ask {words}", ask(here, "s1", *words), wrong(number))
     for words, number in ((["hold"], 80), (["notice", "r9"], 82), (["notice", "r1", "doubt"], 80), (["change", RECORD], 82), ([], 80)):
         check(f"tell {words}", tell(here, "s1", *words), wrong(number))
@@ -128,13 +178,35 @@ def clients_that_misbehave(here):
         prompt(here, name)
     for _ in range(3):
         connected(here).close()
-    prompt(here, "closed early", PROMPT + 4 * MOST)
+    prompt(here, "closed early")
     held = [connected(here) for _ in range(5)]
     with peer(here.r1) as it:
         check("a datagram", nonce_in(here.answer(it, map_register(7))), 7)
     check("they are dropped in turn", until(lambda: ask(here, "s1", "due")[0] == 0), True)
     for it in held:
         it.close()
+    killed(process)
+
+
+def a_client_that_takes_nothing_of_many_rows(here):
+    """It is dropped, and the node goes on beside it; one that takes them gets them all."""
+    process = up(here, "server", "s1", here.s1)
+    with peer(here.r1) as it:
+        for place in range(MANY):
+            records = [bytes.fromhex("000005a000201000000000010a01") + bytes([place, host]) for host in range(255)]
+            check("its answer", nonce_in(here.answer(it, map_register(place + 1, records=records))), place + 1)
+        for nonce in range(MANY + 1, MANY + 4):
+            with connected(here) as deaf:
+                deaf.sendall(b"hold\n")
+                check("it begins", deaf.recv(5), b"hold ")
+                begun = time.monotonic()
+                check("a datagram", nonce_in(here.answer(it, map_register(nonce))), nonce)
+                check("it is answered soon", time.monotonic() - begun < PROMPT, True)
+                prompt(here, "takes nothing", PROMPT + 2 * MOST)
+    rows = MANY * 255 + 1
+    status, text, wrongs = ask(here, "s1", "hold")
+    check("all rows", (status, text.startswith(f"hold s1 {rows}\n"), text.count("\n"), wrongs), (0, True, rows + 1, ""))
+    check("its router", f" rows {rows}\n" in ask(here, "s1", "routers")[1], True)
     killed(process)
 
 
@@ -160,6 +232,6 @@ def a_killed_process_leaves_its_socket(here):
 
 
 run_tests([
-    *(over(store, test) for store in (FILES, GROUPS) for test in (a_map_server_is_asked, a_map_server_is_told)),
+    *(over(store, test) for store in (FILES, GROUPS) for test in (a_map_server_is_asked, a_map_server_is_told, what_is_counted)),
     a_router_is_told, wrong_words, another_user_is_refused, a_killed_process_leaves_its_socket,
-], alone=[clients_that_misbehave])
+], alone=[clients_that_misbehave, a_client_that_takes_nothing_of_many_rows])

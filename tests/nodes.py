@@ -28,6 +28,8 @@ AT_A_TIME = 16
 # What the first line of a node that runs without an end begins with.
 STARTED = "started "
 SITE, XTR = 1, 10
+# The record of the worked Map-Register.
+RECORD = bytes.fromhex("000005a001101000000000010a0100000164ff0000050001c0000201")
 # How a node keeps its nonces, by the words that tell it so: in files, in a database, or there in groups (Map-Servers alone).
 FILES, DATABASE, GROUPS = (), ("--database",), ("--database", "--group", "64")
 
@@ -127,10 +129,10 @@ def nonce_text(nonce):
     return b"nonce %020d\n" % nonce
 
 
-def map_register(nonce, secret=b"secret", site=SITE, xtr=XTR, key=1):
-    """The worked Map-Register of router r1 under another nonce, secret, identity or key (RFC 9301 section 5.6)."""
-    front = bytes.fromhex("3a000101") + nonce.to_bytes(8, "big") + bytes([key]) + bytes.fromhex("020010")
-    behind = bytes.fromhex("000005a001101000000000010a0100000164ff0000050001c0000201") + xtr.to_bytes(16, "big") + site.to_bytes(8, "big")
+def map_register(nonce, secret=b"secret", site=SITE, xtr=XTR, key=1, records=(RECORD,)):
+    """The worked Map-Register of router r1 under another nonce, secret, identity or key, or with other records (RFC 9301 section 5.6)."""
+    front = bytes.fromhex("3a0001") + bytes([len(records)]) + nonce.to_bytes(8, "big") + bytes([key]) + bytes.fromhex("020010")
+    behind = b"".join(records) + xtr.to_bytes(16, "big") + site.to_bytes(8, "big")
     tag = hmac.new(secret, front + bytes(16) + behind, hashlib.sha256).digest()[:16]
     return front + tag + behind
 

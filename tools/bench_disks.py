@@ -1,4 +1,4 @@
-"""What tools/bench_saves and tools/bench_server share: the disks that they measure on, a Map-Server, routers, and how pairs stand in
+"""What tools/bench_saves, tools/bench_server and tools/bench_asked share: the disks that they measure on, a Map-Server, routers, and how pairs stand in
 a database. The first word of the command is the program, which is out/lispd where there is none."""
 import hmac
 import os

@@ -6,8 +6,9 @@ use Rattle.lisp_policy.specs.Configuration.{ConfigValue}
 use Rattle.lisp_etr.specs.Etr.{EtrState, due_at}
 use Rattle.lisp_etr.specs.Rounds.{acked_at}
 use Rattle.lisp_lines.specs.Query.{ack_text, due_text, due_server}
+use Rattle.lisp_lines.specs.Records.{records_text}
 use Rattle.lisp_asked.specs.declared.router.RouterQuestion.{RouterQuestion}
-use Rattle.lisp_asked.specs.declared.router.RouterQuestion.TheVariants.{Acks, Due}
+use Rattle.lisp_asked.specs.declared.router.RouterQuestion.TheVariants.{Acks, Due, Records}
 
 -- what it counted last of each part from each of its Map-Servers, by its rounds
 abbrev pub CountedFrom : EtrState → List ℕ → (ℕ → List (Option (ℕ × ℕ))) → Type 0
@@ -29,3 +30,4 @@ due_in etr servers now = due_of servers (due_at etr now)
 abbrev pub TellsRouter : ConfigValue → ℕ → List ℕ → EtrState → RouterQuestion → ℕ → List ℕ → Type 0
 TellsRouter c number servers etr Acks now text = ListsCounts c number servers etr text
 TellsRouter c number servers etr Due now text = text ≡ due_text c number (due_server c (due_in etr servers now))
+TellsRouter c number servers etr Records now text = text ≡ records_text c number etr.database

@@ -5,7 +5,7 @@ ghost use Rattle.std.specs.String.{string_bytes};
 ghost use Rattle.lisp_asked.specs.Router.{ListsCounts, TellsRouter, due_in};
 
 use lisp_etr::Etr;
-use lisp_lines::{due_server_text, put_acks};
+use lisp_lines::{due_server_text, put_acks, records_text};
 use lisp_memory::Memory;
 use lisp_sites::Config;
 use std::alloc::{AllocError, Allocator};
@@ -17,6 +17,8 @@ pub enum RouterQuestion {
     Acks,
     /// Which Map-Server is due, and of which part of its database.
     Due,
+    /// Which records it registers.
+    Records,
 }
 
 /// The lines that answer a question to the router with a number, which registers with the Map-Servers with these numbers, by its core
@@ -36,6 +38,7 @@ pub fn router_answer<A: Memory + Copy, E: Allocator>(
     match question {
         RouterQuestion::Acks => counts(alloc, config, number, servers, core),
         RouterQuestion::Due => due_server_text(alloc, config, number, due(servers, core, now)),
+        RouterQuestion::Records => records_text(alloc, config, number, core.database().records()),
     }
 }
 

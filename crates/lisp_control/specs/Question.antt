@@ -1,6 +1,7 @@
 -- What a line of a user's asks of a node: a line of a script, without the node's name.
-use Rattle.std.specs.Prelude.{ℕ, ◌==◌, nat_lt, List, [], ◌∷◌, ◌++◌, length, Option, Some, None, Result, Ok, Err, if◌then◌else◌}
-use Rattle.std.specs.List.{before_first, after_first}
+use Rattle.std.specs.Prelude.{ℕ, ◌==◌, nat_lt, List, [], ◌∷◌, ◌++◌, length, codes, Option, Some, None, Result, Ok, Err, if◌then◌else◌}
+use Rattle.std.specs.List.{before_first, after_first, find}
+use Rattle.std.specs.Option.{option_map}
 use Rattle.lisp_records.specs.Result.{◌>>=◌}
 use Rattle.lisp_policy.specs.Configuration.{ConfigValue}
 use Rattle.lisp_nonces.specs.declared.fate.Fate.TheVariants.{Done}
@@ -8,6 +9,7 @@ use Rattle.lisp_model.specs.declared.event.Event.TheVariants as events
 use Rattle.lisp_model.specs.Trace.{EventValue}
 use Rattle.lisp_script.specs.Command.{CommandValue}
 use Rattle.lisp_script.specs.Spelling.{script_of}
+use Rattle.lisp_script.specs.Words.{is_word}
 use Rattle.lisp_script.specs.declared.command.Command.TheVariants as commands
 use Rattle.lisp_script.specs.declared.fault.ScriptFault.{ScriptFault}
 use Rattle.lisp_script.specs.declared.fault.ScriptWhat.{ScriptWhat}
@@ -17,7 +19,8 @@ use Rattle.lisp_asked.specs.declared.router.RouterQuestion.TheVariants as of_rou
 use Rattle.lisp_turns.specs.declared.order.Order.{Order}
 use Rattle.lisp_turns.specs.declared.order.Order.TheVariants as orders
 use Rattle.lisp_control.specs.declared.question.Question.{Question}
-use Rattle.lisp_control.specs.declared.question.Question.TheVariants.{Server, Router, Tell}
+use Rattle.lisp_control.specs.declared.question.Question.TheVariants.{Server, Router, Routers, Counts, Tell}
+use Rattle.lisp_statistics.specs.declared.counts.Format.TheVariants as formats
 
 -- what an event tells the node with a number to do: its store's calls are done
 abbrev pub order_of : ℕ → EventValue → Option Order
@@ -60,9 +63,25 @@ abbrev pub only : List CommandValue → Result CommandValue ScriptWhat
 only (command ∷ []) = Ok command
 only _ = Err whats.Word
 
--- what a line asks of the node with a number and a name
-abbrev pub question_in : ConfigValue → ℕ → List ℕ → List ℕ → Result Question ScriptWhat
-question_in c number name line = do
+-- what a line asks as a script's
+abbrev pub question_in_script : ConfigValue → ℕ → List ℕ → List ℕ → Result Question ScriptWhat
+question_in_script c number name line = do
   commands ← what_of (script_of c (named name line))
   command ← only commands
   question_of c number command
+
+-- what is asked that no script has a word for
+abbrev pub own_words : List (List ℕ × Question)
+own_words = (codes "records", Router of_router.Records) ∷ (codes "routers", Routers) ∷ (codes "counts", Counts formats.Lines)
+    ∷ (codes "counts --prometheus", Counts formats.Prometheus) ∷ []
+
+abbrev pub own_question : List ℕ → Option Question
+own_question line = option_map (λ p. p.1) (find (λ p. is_word p.0 line) own_words)
+
+abbrev pub or_read : Option Question → Result Question ScriptWhat → Result Question ScriptWhat
+or_read (Some question) read = Ok question
+or_read None read = read
+
+-- what a line asks of the node with a number and a name
+abbrev pub question_in : ConfigValue → ℕ → List ℕ → List ℕ → Result Question ScriptWhat
+question_in c number name line = or_read (own_question line) (question_in_script c number name line)

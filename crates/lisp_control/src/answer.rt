@@ -3,7 +3,7 @@
 ghost use Rattle.std.specs.Prelude.{◌≡◌, IfOk, OnErr};
 ghost use Rattle.std.specs.String.{string_bytes};
 ghost use Rattle.lisp_turns.specs.Node.{core_value};
-ghost use Rattle.lisp_control.specs.Answer.{Answers, fault_text, numbered, outcome_text, servers_of};
+ghost use Rattle.lisp_control.specs.Answer.{Answers, TellsCounts, TellsRouters, fault_text, gauge, numbered, outcome_text, servers_of};
 
 use crate::question::Question;
 use lisp_asked::{router_answer, server_answer};
@@ -11,21 +11,24 @@ use lisp_lines::{DatagramPlace, line_text};
 use lisp_memory::{FallibleString, Memory};
 use lisp_model::{Line, WorldFault};
 use lisp_script::ScriptWhat;
+use lisp_server::Server;
 use lisp_sites::Config;
+use lisp_statistics::{Figure, Format, Gauge, Statistics, count_sites, counts_text, routers_text};
 use lisp_turns::NodeCore;
 use std::alloc::{AllocError, Global};
 
-/// The lines that answer a question to the node with a number, by its core at a moment, in ms: those of a schedule. A router that is
-/// down says so; a question for a node of the other kind, and what is an order, is the fault 80.
+/// The lines that answer a question to the node with a number, by its core at a moment, in ms, and what is counted of it: those of a schedule,
+/// where it has some. A router that is down says so; a question for a node of the other kind, and what is an order, is the fault 80.
 pub fn answer_text(
     alloc: Global,
     config: &Config,
     number: usize,
     core: NodeCore<'_>,
+    statistics: &Statistics,
     question: &Question,
     now: u64,
 ) -> Result<String, AllocError>
-    ensures told { IfOk result (λ text. Answers config.now number (core_value core.entry) question.now now (string_bytes text)) }
+    ensures told { IfOk result (λ text. Answers config.now number (core_value core.entry) statistics.now question.now now (string_bytes text)) }
     ensures memory { OnErr result ⟦<Global as Memory>⟧.may_refuse }
 {
     match (question, core) {
@@ -40,8 +43,72 @@ pub fn answer_text(
             let line = Line::Down { router: number };
             line_text(alloc, config, &line, DatagramPlace::Hidden)
         }
+        (Question::Routers, NodeCore::Server(core)) => {
+            routers(alloc, config, number, core, statistics, now)
+        }
+        (Question::Counts(format), core) => {
+            counts(alloc, config, number, core, statistics, *format, now)
+        }
         _ => fault_text(alloc, ScriptWhat::Word),
     }
+}
+
+// Which routers the Map-Server with a number heard, with their rows at a moment.
+fn routers(
+    alloc: Global,
+    config: &Config,
+    number: usize,
+    core: &Server,
+    statistics: &Statistics,
+    now: u64,
+) -> Result<String, AllocError>
+    ensures told { IfOk result (λ text. TellsRouters config.now number core.now statistics.now now (string_bytes text)) }
+    ensures memory { OnErr result ⟦<Global as Memory>⟧.may_refuse }
+{
+    let rows = core.held(now)?;
+    routers_text(alloc, config, number, statistics, &rows, now)
+}
+
+// What is counted of the node with a number, and what it has at a moment.
+fn counts(
+    alloc: Global,
+    config: &Config,
+    number: usize,
+    core: NodeCore<'_>,
+    statistics: &Statistics,
+    format: Format,
+    now: u64,
+) -> Result<String, AllocError>
+    ensures told { IfOk result (λ text. TellsCounts config.now number (core_value core.entry) statistics.now format now (string_bytes text)) }
+    ensures memory { OnErr result ⟦<Global as Memory>⟧.may_refuse }
+{
+    let save = gauge(Figure::LongestSave, statistics.longest_save());
+    match core {
+        NodeCore::Server(core) => {
+            let rows = core.held(now)?;
+            let gauges = [
+                gauge(Figure::Rows, rows.len() as u64),
+                gauge(Figure::Sites, count_sites(&rows)),
+                gauge(Figure::StandingNotices, core.count_notices() as u64),
+                save,
+            ];
+            counts_text(alloc, config, number, format, statistics, &gauges)
+        }
+        NodeCore::Router(Some(core)) => {
+            let records = core.database().records().len() as u64;
+            let gauges = [gauge(Figure::Records, records), save];
+            counts_text(alloc, config, number, format, statistics, &gauges)
+        }
+        NodeCore::Router(None) => {
+            counts_text(alloc, config, number, format, statistics, &[save])
+        }
+    }
+}
+
+fn gauge(figure: Figure, value: u64) -> Gauge
+    ensures { result ≡ gauge figure value }
+{
+    Gauge { figure, value }
 }
 
 /// The line that answers an order: that of the event, or the fault that keeps the node from being told so.

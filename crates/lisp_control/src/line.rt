@@ -7,15 +7,18 @@ ghost use Rattle.lisp_records.specs.Result.{Reads};
 ghost use Rattle.lisp_script.specs.Command.{command_value};
 ghost use Rattle.lisp_script.specs.Fault.{Gives};
 ghost use Rattle.lisp_script.specs.Spelling.{script_of};
-ghost use Rattle.lisp_control.specs.Question.{question_in, named, what_of, only};
+ghost use Rattle.lisp_control.specs.Question.{question_in, own_question, question_in_script, named, what_of, only};
 
 use crate::question::Question;
+use lisp_asked::RouterQuestion;
 use lisp_memory::{FallibleString, Memory};
 use lisp_script::{Command, ScriptWhat, parse_script};
 use lisp_sites::Config;
+use lisp_statistics::Format;
 use std::alloc::{AllocError, Global};
 
-/// What a line asks of the node with a number and a name: the name is put behind the first word, and the line is read as a script's.
+/// What a line asks of the node with a number and a name: `records`, `routers`, `counts` and `counts --prometheus` by themselves; of any other
+/// line the name is put behind the first word, and it is read as a script's.
 ///
 /// Faults: those of such a line, 80 to 86. 80 is also told where the command is no question and no order for a node, or is for
 /// another node, and where the text has no command, or more than one.
@@ -27,6 +30,35 @@ pub fn question_in(
     line: &str,
 ) -> Result<Question, ScriptWhat>
     ensures { Gives ⟦<Global as Memory>⟧.may_refuse (λ question. question) result (question_in config.now number name.now line.now) }
+{
+    match own_question(line) {
+        Some(question) => Ok(question),
+        None => question_in_script(alloc, config, number, name, line),
+    }
+}
+
+// What is asked that no script has a word for.
+fn own_question(line: &str) -> Option<Question>
+    ensures { result ≡ own_question line.now }
+{
+    match line {
+        "records" => Some(Question::Router(RouterQuestion::Records)),
+        "routers" => Some(Question::Routers),
+        "counts" => Some(Question::Counts(Format::Lines)),
+        "counts --prometheus" => Some(Question::Counts(Format::Prometheus)),
+        _ => None,
+    }
+}
+
+// What a line asks as a script's.
+fn question_in_script(
+    alloc: Global,
+    config: &Config,
+    number: usize,
+    name: &str,
+    line: &str,
+) -> Result<Question, ScriptWhat>
+    ensures { Gives ⟦<Global as Memory>⟧.may_refuse (λ question. question) result (question_in_script config.now number name.now line.now) }
 {
     let text = named(alloc, name, line)?;
     let commands = commands_in(alloc, config, text.as_str())?;

@@ -10,6 +10,7 @@ use lisp_model::Event;
 use lisp_nonces::Fate;
 use lisp_script::{Command, ScriptWhat};
 use lisp_sites::Config;
+use lisp_statistics::Format;
 use lisp_turns::Order;
 
 /// What a user asks of a node that runs, or tells it to do.
@@ -19,6 +20,10 @@ pub enum Question {
     Server(ServerQuestion),
     /// What a router answers by its core.
     Router(RouterQuestion),
+    /// Which routers a Map-Server heard since its start.
+    Routers,
+    /// What is counted of the node since its start.
+    Counts(Format),
     /// What the node is to do.
     Tell(Order),
 }

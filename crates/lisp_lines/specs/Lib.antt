@@ -5,3 +5,4 @@ pub mod Line
 pub mod Parts
 pub mod Query
 pub mod Writing
+pub mod Records

@@ -7,6 +7,7 @@ mod datagram_place;
 mod line;
 mod name;
 mod query;
+mod records;
 mod writing;
 
 pub use carried::put_carried;
@@ -14,4 +15,5 @@ pub use datagram_place::DatagramPlace;
 pub use line::line_text;
 pub use name::{node_name, router_name};
 pub use query::{ask_text, due_router_text, due_server_text, hold_text, put_acks};
+pub use records::records_text;
 pub use writing::{write_line, write_text};

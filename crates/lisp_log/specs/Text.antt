@@ -22,7 +22,7 @@ use Rattle.lisp_lines.specs.declared.datagram_place.DatagramPlace.TheVariants.{H
 use Rattle.lisp_turns.specs.declared.outside.Printed.{Printed}
 use Rattle.lisp_turns.specs.declared.outside.Printed.TheVariants as printed
 use Rattle.lisp_turns.specs.declared.outside.SocketCall.{SocketCall}
-use Rattle.lisp_turns.specs.declared.outside.SocketCall.TheVariants as calls
+use Rattle.lisp_turns.specs.Outside.{call_number}
 use Rattle.lisp_log.specs.declared.repeats.Repeat.{Repeat}
 use Rattle.lisp_log.specs.declared.repeats.Source.{Source}
 use Rattle.lisp_log.specs.declared.repeats.Source.TheVariants.{Address, Others}
@@ -60,11 +60,6 @@ cause_words None = []
 abbrev pub source_words : Addr → List ℕ
 source_words from = codes " from " ++ addr_text from
 
--- the number of a call of a socket that failed
-abbrev pub number_of : SocketCall → ℕ
-number_of calls.Receive = 90
-number_of calls.Send = 91
-
 -- the line of an event, and what caused it; and where the datagram came from that brought it about
 abbrev pub caused_words : ConfigValue → Option (List ℕ) → Line → List ℕ
 caused_words c cause line = line_words c Hidden line ++ cause_words cause
@@ -77,7 +72,7 @@ abbrev pub expired_words : ConfigValue → List ℕ → RouterId → PrefixValue
 expired_words c name router eid = codes "expired " ++ name ++ codes " " ++ router_name c router ++ codes " " ++ prefix_text eid
 
 abbrev pub failed_words : List ℕ → SocketCall → List ℕ
-failed_words name call = codes "refused " ++ name ++ codes " " ++ decimal (number_of call)
+failed_words name call = codes "refused " ++ name ++ codes " " ++ decimal (call_number call)
 
 -- what the node with a name tells
 abbrev pub told_words : ConfigValue → List ℕ → Option (List ℕ) → Printed → List ℕ

@@ -3,7 +3,7 @@
 ghost use Rattle.std.specs.Prelude.{◌≡◌, ◌++◌, OnErr};
 ghost use Rattle.std.specs.Option.{option_copied};
 ghost use Rattle.lisp_lines.specs.Front.{Adds, GivesText};
-ghost use Rattle.lisp_log.specs.Text.{device_of, device_of_line, device_of_refusal, number_of, cause_words, caused_words, heard_words, expired_words, failed_words, told_words, told_text, from_text, repeat_text, silent_text, started_text};
+ghost use Rattle.lisp_log.specs.Text.{device_of, device_of_line, device_of_refusal, cause_words, caused_words, heard_words, expired_words, failed_words, told_words, told_text, from_text, repeat_text, silent_text, started_text};
 
 use crate::repeats::{Repeat, Source};
 use lisp_admission::{NoticeFault, Refused};
@@ -161,20 +161,10 @@ fn failed_words<A: Memory>(
     ensures text { GivesText result (failed_words name.now call ++ cause_words (option_copied cause.entry)) }
     ensures memory { OnErr result A.may_refuse }
 {
-    let number = number_of(call);
+    let number = call.number();
     let mut text = String::try_format(alloc, format_args!("refused {name} {number}"))?;
     put_cause(&mut text, cause)?;
     Ok(text)
-}
-
-// The number of a call of the socket that failed, as operators see it.
-fn number_of(call: SocketCall) -> u16
-    ensures { result ≡ number_of call }
-{
-    match call {
-        SocketCall::Receive => 90,
-        SocketCall::Send => 91,
-    }
 }
 
 // Appends the kind of the system's error, where there is one. Out of memory, it may leave a part of it.

@@ -1,6 +1,6 @@
 //! The Map-Server.
 
-ghost use Rattle.std.specs.Prelude.{◌≡◌, ◌≤◌, None, true, IfOk, IfErr, IfSome, IsErrOf, OnErr};
+ghost use Rattle.std.specs.Prelude.{◌≡◌, ◌≤◌, None, true, IfOk, IfErr, IfSome, IsErrOf, OnErr, length};
 ghost use Rattle.std.specs.List.{All};
 ghost use Rattle.lisp_nonces.specs.Store.{Proceeds};
 ghost use Rattle.lisp_messages.specs.Reading.{HasHead};
@@ -93,6 +93,13 @@ impl<A: Allocator + Copy> Server<A> {
         ensures one_each { OneForEach self.now.notices }
     {
         self.tables.notices.due(now)
+    }
+
+    /// How many notices stand: they aren't acknowledged yet. Takes no memory.
+    pub fn count_notices(&self) -> usize
+        ensures { result ≡ length self.now.notices }
+    {
+        self.tables.notices.count()
     }
 
     /// Who answers for an address at a time, in ms, by the rows that are held: of those whose prefix has

@@ -1,6 +1,6 @@
 //! The unsolicited Map-Notifies (notices) of a Map-Server that stand, at most one for each router.
 
-ghost use Rattle.std.specs.Prelude.{◌≡◌, ◌≤◌, [], Some, OnOk, OnErr, IfOk, IfErr, MatchResult, position};
+ghost use Rattle.std.specs.Prelude.{◌≡◌, ◌≤◌, [], Some, OnOk, OnErr, IfOk, IfErr, MatchResult, length, position};
 ghost use Rattle.lisp_records.specs.Moment.{max_moment};
 ghost use Rattle.std.specs.List.{find};
 ghost use Rattle.std.specs.Option.{option_map};
@@ -44,6 +44,13 @@ impl<A: Allocator> StandingNotices<A> {
         StandingNotices {
             items: Vec::new(alloc),
         }
+    }
+
+    /// How many stand.
+    pub(crate) fn count(&self) -> usize
+        ensures { result ≡ length self.now.notices }
+    {
+        self.items.len()
     }
 
     /// Keeps a notice, in place of an earlier one to its router. Takes no memory.

@@ -11,12 +11,19 @@ use Rattle.lisp_turns.specs.declared.order.Order.{Order}
 use Rattle.lisp_turns.specs.declared.outside.Printed.{Printed}
 use Rattle.lisp_turns.specs.declared.outside.Received.{Received}
 use Rattle.lisp_turns.specs.declared.outside.Received.TheVariants as received
+use Rattle.lisp_turns.specs.declared.outside.SocketCall.{SocketCall}
+use Rattle.lisp_turns.specs.declared.outside.SocketCall.TheVariants as calls
 
 -- what came of waiting for a datagram: one from an address; none in time; or the socket failed
 pub data Reception : Type 0 where
   Datagram : Addr → List ℕ → Reception
   Nothing : Reception
   Failed : Reception
+
+-- the number of a call of a socket that failed, as operators see it
+abbrev pub call_number : SocketCall → ℕ
+call_number calls.Receive = 90
+call_number calls.Send = 91
 
 -- something that was asked of what is outside, with the answer: a receive; a poll, which waits for nothing; a reading of the clock; a
 -- wait, in ms; a commit of what was saved, and whether that was done; a line; a send of bytes to an address, and whether the socket

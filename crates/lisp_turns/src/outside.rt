@@ -3,7 +3,7 @@
 
 ghost use Rattle.std.specs.Prelude.{◌≡◌, length};
 ghost use Rattle.lisp_turns.specs.Node.{core_value};
-ghost use Rattle.lisp_turns.specs.Outside.{OutsideState, Logs, LogsLine, ReadsClock, reception, FitsBuffer, Receives, Polls, Commits, Waits, Sends, Listens, Answers};
+ghost use Rattle.lisp_turns.specs.Outside.{call_number, OutsideState, Logs, LogsLine, ReadsClock, reception, FitsBuffer, Receives, Polls, Commits, Waits, Sends, Listens, Answers};
 
 use crate::node_core::NodeCore;
 use crate::order::Order;
@@ -33,6 +33,18 @@ pub enum SocketCall {
     Receive,
     /// A send.
     Send,
+}
+
+impl SocketCall {
+    /// The number that operators see.
+    pub const fn number(&self) -> u16
+        ensures { result ≡ call_number self.now }
+    {
+        match self {
+            SocketCall::Receive => 90,
+            SocketCall::Send => 91,
+        }
+    }
 }
 
 /// What a node prints: a line. A node that runs has no number for its datagrams: those of its lines are 0.

@@ -10,16 +10,11 @@ use Rattle.lisp_script.specs.declared.run_fault.RunFault.{RunFault}
 use Rattle.lisp_turns.specs.declared.outside.Printed.{Printed}
 use Rattle.lisp_turns.specs.declared.outside.Printed.TheVariants as printed
 use Rattle.lisp_turns.specs.declared.outside.SocketCall.{SocketCall}
-use Rattle.lisp_turns.specs.declared.outside.SocketCall.TheVariants as calls
-
--- the number of a call of a socket that failed
-abbrev pub number_of : SocketCall → ℕ
-number_of calls.Receive = 90
-number_of calls.Send = 91
+use Rattle.lisp_turns.specs.Outside.{call_number}
 
 -- its line, by the node's name
 abbrev pub failed_text : List ℕ → SocketCall → List ℕ
-failed_text name call = codes "refused " ++ name ++ codes " " ++ decimal (number_of call) ++ 10 ∷ []
+failed_text name call = codes "refused " ++ name ++ codes " " ++ decimal (call_number call) ++ 10 ∷ []
 
 -- the line of an event, without the number of its datagram, or of a socket that failed; of a row that died nothing
 abbrev pub printed_text : ConfigValue → List ℕ → Printed → List ℕ

@@ -5,13 +5,17 @@ use lisp_memory::FallibleVec;
 use lisp_model::{Line, WorldFault};
 use lisp_script::ScriptWhat;
 use lisp_sites::Config;
+use lisp_statistics::Statistics;
 use lisp_turns::{NodeCore, Order};
 use std::alloc::{AllocError, Global};
 use std::io::{ErrorKind, Read, Write};
 use std::os::unix::net::UnixStream;
 
-/// How long a connection lasts at most, in ms.
-const MOST_MS: u64 = 100;
+/// How long a connection may take for its line, and for each 65,536 bytes of its answer, in ms.
+pub(crate) const MOST_MS: u64 = 100;
+
+/// How many bytes of its answer it has to take in that time.
+const FEWEST_TAKEN: usize = 65_536;
 
 /// The most bytes of a line, its line feed among them.
 const MOST_BYTES: usize = 65_536;
@@ -41,6 +45,10 @@ pub(crate) struct Connection {
     stream: UnixStream,
     // From this moment on it is dropped, in ms.
     end: u64,
+    // How many bytes of its answer it took since its time began.
+    taken: usize,
+    // Its time is to begin anew.
+    is_renewed: bool,
     stage: Stage,
 }
 
@@ -81,18 +89,21 @@ impl Connection {
         Some(Connection {
             stream,
             end: now.saturating_add(MOST_MS),
+            taken: 0,
+            is_renewed: false,
             stage: Stage::Asks(Vec::new(alloc)),
         })
     }
 
-    /// Whether it isn't to be dropped yet.
-    pub(crate) fn is_in_time(&self, now: u64) -> bool {
-        now < self.end
-    }
-
-    /// Whether it has something to do yet.
-    pub(crate) fn goes_on(&self) -> bool {
-        !matches!(self.stage, Stage::Ended)
+    /// Whether it goes on behind a turn at a moment, in ms: it has something to do yet, and its time isn't over. That begins anew where its
+    /// answer was made, and where it took enough of that.
+    pub(crate) fn goes_on(&mut self, now: u64) -> bool {
+        if self.is_renewed {
+            self.end = now.saturating_add(MOST_MS);
+            self.taken = 0;
+            self.is_renewed = false;
+        }
+        now < self.end && !matches!(self.stage, Stage::Ended)
     }
 
     /// Reads what came of its line. What that tells the node, if it is whole and does.
@@ -113,11 +124,13 @@ impl Connection {
         order
     }
 
-    /// Answers by the node's core at a moment, in ms, or by what came of the order; and writes what the connection takes.
+    /// Answers by the node's core at a moment, in ms, and what is counted of it, or by what came of the order; and writes what the
+    /// connection takes.
     pub(crate) fn answer(
         &mut self,
         node: &AskedNode<'_>,
         core: NodeCore<'_>,
+        statistics: &Statistics,
         now: u64,
         outcome: Option<Result<Line, WorldFault>>,
     ) {
@@ -129,12 +142,13 @@ impl Connection {
         } = *node;
         let text = match (&self.stage, &outcome) {
             (Stage::Asked(question), _) => {
-                answer_text(alloc, config, number, core, question, now)
+                answer_text(alloc, config, number, core, statistics, question, now)
             }
             (Stage::Told, Some(outcome)) => outcome_text(alloc, config, outcome),
             _ => return self.write(),
         };
         self.stage = Stage::answered(text);
+        self.is_renewed = true;
         self.write();
     }
 
@@ -150,7 +164,11 @@ impl Connection {
                 return;
             }
             match self.stream.write(rest) {
-                Ok(count) => *written = written.saturating_add(count),
+                Ok(count) => {
+                    *written = written.saturating_add(count);
+                    self.taken = self.taken.saturating_add(count);
+                    self.is_renewed |= self.taken >= FEWEST_TAKEN;
+                }
                 Err(error) if error.kind() == ErrorKind::WouldBlock => return,
                 Err(_) => {
                     self.stage = Stage::Ended;

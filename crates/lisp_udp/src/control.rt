@@ -1,8 +1,9 @@
 //! The Unix socket at which a node that runs is asked, and told what to do: one of the devices.
 
-use crate::connection::{AskedNode, Connection};
+use crate::connection::{AskedNode, Connection, MOST_MS};
 use lisp_memory::FallibleString;
 use lisp_model::{Line, WorldFault};
+use lisp_statistics::Statistics;
 use lisp_turns::{NodeCore, Order};
 use std::fs::{self, Files, Permissions};
 use std::io;
@@ -23,6 +24,8 @@ pub(crate) struct ControlSocket<'a> {
     node: AskedNode<'a>,
     listener: UnixListener,
     connection: Option<Connection>,
+    // Until this moment somebody may ask again, in ms.
+    busy_until: u64,
 }
 
 impl<'a> ControlSocket<'a> {
@@ -38,50 +41,62 @@ impl<'a> ControlSocket<'a> {
         let writers = fs::metadata(rt, folder)?.permissions().mode() & WRITERS;
         fs::set_permissions(rt, path.as_str(), Permissions::from_mode(writers))?;
         listener.set_nonblocking(true)?;
+        drop_waiting(&listener);
         Ok(ControlSocket {
             node,
             listener,
             connection: None,
+            busy_until: 0,
         })
     }
 
-    /// Whether somebody is connected.
-    pub(crate) fn is_busy(&self) -> bool {
-        self.connection.is_some()
+    /// Whether somebody is connected, or was so lately that another question may come soon, at a moment in ms.
+    pub(crate) fn is_busy(&self, now: u64) -> bool {
+        self.connection.is_some() || now < self.busy_until
     }
 
     /// What a user tells the node at a moment, in ms, if one does. Waits for nobody.
     pub(crate) fn listen(&mut self, now: u64) -> Option<Order> {
-        let mut connection = self.current(now)?;
+        let mut connection = match self.connection.take() {
+            Some(connection) => connection,
+            None => self.next(now)?,
+        };
         let order = connection.listen(&self.node);
         self.connection = Some(connection);
         order
     }
 
-    /// Answers the user, if there is one, as far as the connection takes it.
+    /// Answers the user, if there is one, as far as the connection takes it: by the node's core at a moment, in ms, and what is counted
+    /// of it, or by what came of the order. Then a connection whose time is over is dropped.
     pub(crate) fn answer(
         &mut self,
         core: NodeCore<'_>,
+        statistics: &Statistics,
         now: u64,
         outcome: Option<Result<Line, WorldFault>>,
     ) {
         let Some(mut connection) = self.connection.take() else {
             return;
         };
-        connection.answer(&self.node, core, now, outcome);
-        if connection.goes_on() {
+        connection.answer(&self.node, core, statistics, now, outcome);
+        if connection.goes_on(now) {
             self.connection = Some(connection);
         }
     }
 
-    // The connection that is served, or else the next one that waits.
-    fn current(&mut self, now: u64) -> Option<Connection> {
-        if let Some(connection) = self.connection.take() {
-            if connection.is_in_time(now) {
-                return Some(connection);
-            }
-        }
+    // The next connection that waits.
+    fn next(&mut self, now: u64) -> Option<Connection> {
         let (stream, _) = self.listener.accept().ok()?;
+        self.busy_until = now.saturating_add(MOST_MS);
         Connection::new(self.node.alloc, stream, now)
+    }
+}
+
+// Drops who connected before the socket had its mode: it may be anybody.
+fn drop_waiting(listener: &UnixListener) {
+    for _ in 0..u32::MAX {
+        if listener.accept().is_err() {
+            return;
+        }
     }
 }

@@ -1,20 +1,29 @@
 //! What a node that runs has outside: the system's socket and clock, and where its lines go.
 
 ghost use Rattle.std.specs.Prelude.{None};
+ghost use Rattle.lisp_records.specs.Router.{router_cmp};
+ghost use Rattle.lisp_statistics.specs.Hearing.{heard_in};
+ghost use Rattle.lisp_statistics.specs.Kind.{kind_of};
+ghost use Rattle.lisp_statistics.specs.Statistics.{CountsLine, HearsLine};
+ghost use Rattle.lisp_turns.specs.Outside.{LogsLine};
 ghost use Rattle.lisp_udp.specs.Moments.{moment_of};
 
 use crate::control::ControlSocket;
 use crate::group::Group;
 use crate::printer::Printer;
+use crate::save_times::SaveTimes;
 use crate::socket::NodeSocket;
 use crate::stopwatch::Stopwatch;
 use lisp_database_store::SystemTable;
+use lisp_memory::Memory;
 use lisp_model::{Line, WorldFault};
 use lisp_records::Addr;
 use lisp_script::RunFault;
+use lisp_statistics::{LineKind, Statistics};
 use lisp_turns::{
     Clock, Commit, Control, Endpoint, Lines, NodeCore, Order, Outside, Printed, Received,
 };
+use std::alloc::Global;
 use std::net::Net;
 use std::thread;
 use std::time::Duration;
@@ -22,7 +31,7 @@ use std::time::Duration;
 /// How long a turn of a node waits for a datagram, in ms.
 const RECEIVE_TIMEOUT_MS: u64 = 100;
 
-/// And while somebody is connected to its control socket.
+/// And while somebody is connected to its control socket, or was lately.
 const BUSY_TIMEOUT_MS: u64 = 1;
 
 /// A node's socket, its clock, where its lines go, and where it is asked. Of what the system makes of their calls nothing is known.
@@ -35,16 +44,24 @@ pub(crate) struct Devices<'a, R, T, P> {
     // None where it couldn't be opened.
     control: Option<ControlSocket<'a>>,
     stopwatch: Stopwatch,
+    statistics: Statistics,
+    saves: &'a SaveTimes<'a, R>,
     printer: P,
 }
 
-impl<'a, R: Net + std::time::Clock, T: SystemTable, P: Printer + Drop> Devices<'a, R, T, P> {
+impl<'a, R: Net + std::time::Clock + AllocGlobal, T: SystemTable, P: Printer + Drop> Devices<
+    'a,
+    R,
+    T,
+    P,
+> {
     /// Those of a node at an address, which takes datagrams in groups where there is a `group`; it is 0 ms now. Fault: 92.
     pub(crate) fn open(
         rt: &'a R,
         address: &Addr,
         group: Option<Group<'a, T>>,
         control: Option<ControlSocket<'a>>,
+        saves: &'a SaveTimes<'a, R>,
         printer: P,
     ) -> Result<Devices<'a, R, T, P>, RunFault> {
         Ok(Devices {
@@ -53,6 +70,8 @@ impl<'a, R: Net + std::time::Clock, T: SystemTable, P: Printer + Drop> Devices<'
             group,
             control,
             stopwatch: Stopwatch::start(rt)?,
+            statistics: Statistics::start(rt.alloc()),
+            saves,
             printer,
         })
     }
@@ -70,7 +89,7 @@ impl<R, T, P: Printer> Outside for Devices<'_, R, T, P> {
 impl<R, T: SystemTable, P: Printer> Endpoint for Devices<'_, R, T, P> {
     fn receive(&mut self, buffer: &mut [u8]) -> Received {
         self.socket.set_timeout(match &self.control {
-            Some(control) if control.is_busy() => BUSY_TIMEOUT_MS,
+            Some(control) if control.is_busy(self.stopwatch.told()) => BUSY_TIMEOUT_MS,
             _ => RECEIVE_TIMEOUT_MS,
         });
         match &mut self.group {
@@ -91,25 +110,29 @@ impl<R, T: SystemTable, P: Printer> Endpoint for Devices<'_, R, T, P> {
     }
 }
 
-impl<R, T: SystemTable, P: Printer> Commit for Devices<'_, R, T, P> {
-    /// Does nothing where each save is committed by itself.
+impl<R: std::time::Clock, T: SystemTable, P: Printer> Commit for Devices<'_, R, T, P> {
+    /// Does nothing where each save is committed by itself. A commit of a group is timed as a save.
     fn commit(&mut self) -> bool {
-        match &self.group {
-            None => true,
-            Some(group) => group.commit(),
-        }
+        let Some(group) = &self.group else {
+            return true;
+        };
+        let begun = self.saves.begin();
+        let is_done = group.commit();
+        self.saves.end(begun);
+        is_done
     }
 }
 
-impl<R, T, P: Printer> Control for Devices<'_, R, T, P> {
+impl<R: std::time::Clock, T, P: Printer> Control for Devices<'_, R, T, P> {
     fn listen(&mut self) -> Option<Order> {
         let now = self.stopwatch.told();
         self.control.as_mut()?.listen(now)
     }
 
     fn answer(&mut self, core: NodeCore<'_>, now: u64, outcome: Option<Result<Line, WorldFault>>) {
+        self.statistics.note_save(self.saves.longest());
         if let Some(control) = &mut self.control {
-            control.answer(core, now, outcome);
+            control.answer(core, &self.statistics, now, outcome);
         }
     }
 }
@@ -127,9 +150,14 @@ impl<R: std::time::Clock, T, P: Printer> Clock for Devices<'_, R, T, P> {
 }
 
 impl<R, T, P: Printer> Lines for Devices<'_, R, T, P> {
-    fn print(&mut self, line: &Printed) {
-        self.printer
-            .print(line, self.socket.failure(), self.stopwatch.told());
+    fn print(&mut self, line: &Printed)
+        ensures logs { LogsLine (⟦<Self as Outside>⟧.seen self.old) (⟦<Self as Outside>⟧.seen self.new) line.now }
+        ensures counts { CountsLine ⟦<LineKind as Ord>⟧.cmp ⟦<Global as Memory>⟧.may_refuse self.old.statistics self.new.statistics (kind_of line.now) }
+        ensures hears { HearsLine router_cmp ⟦<Global as Memory>⟧.may_refuse self.old.statistics self.new.statistics (heard_in line.now (moment_of self.old.stopwatch.last)) }
+    {
+        let now = self.stopwatch.told();
+        self.statistics.tell(line, now);
+        self.printer.print(line, self.socket.failure(), now);
     }
 
     fn is_cut(&self) -> bool {

@@ -10,6 +10,7 @@ mod devices;
 mod entry;
 mod folder;
 mod group;
+mod save_times;
 mod socket;
 mod stopwatch;
 mod storage;

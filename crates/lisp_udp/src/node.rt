@@ -13,6 +13,7 @@ use crate::life::run_over;
 use crate::line_writer::LineWriter;
 use crate::lives::live;
 use crate::printer::Printer;
+use crate::save_times::{SaveTimes, TimedStore};
 use crate::storage::{NodeStore, Storage};
 use lisp_database_store::{DatabaseStore, SharedDatabase, SystemTable};
 use lisp_nonces::WorldStore;
@@ -128,18 +129,19 @@ fn run_in_store<T: SystemTable, P: Printer + Drop>(
 ) -> Result<P, RunFault>
     requires { IsNode config.now number }
 {
+    let saves = SaveTimes::new(rt);
     match store {
-        NodeStore::Files(store) => {
-            run_alone::<T, _, P>(rt, config, number, store, control, turns, printer)
-        }
+        NodeStore::Files(store) => run_alone::<T, _, P>(
+            rt, config, number, store, &saves, control, turns, printer,
+        ),
         NodeStore::Database { database, group } if group <= 1 => {
             let store = DatabaseStore::over(database, failure);
-            run_alone::<T, _, P>(rt, config, number, store, control, turns, printer)
+            run_alone::<T, _, P>(rt, config, number, store, &saves, control, turns, printer)
         }
         NodeStore::Database { database, group } => {
             let database = SharedDatabase::over(database, failure);
             run_in_groups(
-                rt, config, number, &database, group, control, turns, printer,
+                rt, config, number, &database, group, &saves, control, turns, printer,
             )
         }
     }
@@ -151,6 +153,7 @@ fn run_alone<'a, T: SystemTable, S: WorldStore + Drop, P: Printer + Drop>(
     config: &Config,
     number: usize,
     store: S,
+    saves: &'a SaveTimes<'a, HostRuntime>,
     control: Option<ControlSocket<'a>>,
     turns: u64,
     printer: P,
@@ -158,7 +161,8 @@ fn run_alone<'a, T: SystemTable, S: WorldStore + Drop, P: Printer + Drop>(
     requires { IsNode config.now number }
 {
     let address = entry_at(config, number).address;
-    let devices = Devices::<_, T, _>::open(rt, address, None, control, printer);
+    let devices = Devices::<_, T, _>::open(rt, address, None, control, saves, printer);
+    let store = TimedStore::over(store, saves);
     let life = run_over(rt.alloc(), config, number, store, 1, turns, devices)?;
     Ok(life.outside.into_printer())
 }
@@ -170,6 +174,7 @@ fn run_in_groups<'a, T: SystemTable, P: Printer + Drop>(
     number: usize,
     database: &'a SharedDatabase<'a, T>,
     places: u8,
+    saves: &'a SaveTimes<'a, HostRuntime>,
     control: Option<ControlSocket<'a>>,
     turns: u64,
     printer: P,
@@ -178,7 +183,7 @@ fn run_in_groups<'a, T: SystemTable, P: Printer + Drop>(
 {
     let group = Group::new(rt.alloc(), places, database)?;
     let address = entry_at(config, number).address;
-    let devices = Devices::open(rt, address, Some(group), control, printer);
+    let devices = Devices::open(rt, address, Some(group), control, saves, printer);
     let places = usize::from(places);
     let outside = live(rt.alloc(), config, number, database, places, turns, devices)?;
     Ok(outside.into_printer())

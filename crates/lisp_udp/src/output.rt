@@ -5,7 +5,7 @@ ghost use Rattle.std.specs.Io.KnownBytes.{Keeps};
 ghost use Rattle.lisp_lines.specs.Front.{GivesText};
 ghost use Rattle.lisp_output.specs.Output.{Writes};
 ghost use Rattle.lisp_script.specs.RunFault.{numbered};
-ghost use Rattle.lisp_udp.specs.Printing.{printed_text, failed_text, lost_text, number_of, WritesSome, IsPrintingFault};
+ghost use Rattle.lisp_udp.specs.Printing.{printed_text, failed_text, lost_text, WritesSome, IsPrintingFault};
 
 use lisp_lines::{DatagramPlace, line_text, write_text};
 use lisp_memory::FallibleString;
@@ -80,18 +80,8 @@ fn printed_text(
 fn failed_text(alloc: Global, name: &str, call: SocketCall) -> Result<String, AllocError>
     ensures { GivesText result (failed_text name.now call) }
 {
-    let number = number_of(call);
+    let number = call.number();
     String::try_format(alloc, format_args!("refused {name} {number}\n"))
-}
-
-// The number that operators see where a call of a socket fails.
-fn number_of(call: SocketCall) -> u64
-    ensures { result ≡ number_of call }
-{
-    match call {
-        SocketCall::Receive => 90,
-        SocketCall::Send => 91,
-    }
 }
 
 fn lost_text(alloc: Global, datagram: usize) -> Result<String, AllocError>

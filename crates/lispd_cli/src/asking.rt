@@ -1,8 +1,11 @@
 //! What a node that runs is asked, and told to do.
 
-use crate::command_line::{FOLDER, QUESTION};
+ghost use Rattle.std.specs.Prelude.{◌≡◌};
+ghost use Rattle.lispd_cli.specs.Asking.{errand_of, first_word};
+
+use crate::command_line::{FOLDER, PROMETHEUS, QUESTION};
 use crate::fault::ProgramFault;
-use crate::words::word;
+use crate::words::{is_given, word};
 use clap::ArgMatches;
 use lisp_answer::AnswerFault;
 use lisp_memory::FallibleString;
@@ -13,9 +16,13 @@ use std::io::{self, Write};
 use std::net::Net;
 use std::os::unix::net::UnixStream;
 use std::rt::Files;
+use std::time::Duration;
 
-/// The first words of what a node is told; it is asked the others.
-const ORDERS: [&str; 3] = ["change", "notice", "rotate"];
+/// How long the next part of an answer may take, in seconds.
+const PATIENCE: u64 = 10;
+
+/// The first words of answers that tell in their first line how many lines follow.
+const LISTS: [&str; 3] = ["hold", "records", "routers"];
 
 /// Whether a node is asked, or told what to do.
 #[derive(Clone, Copy, Debug, PartialEq, Eq)]
@@ -34,46 +41,59 @@ pub fn ask_node<R: Files + Net + AllocGlobal, W: Write>(
     words: &ArgMatches<'_>,
     writer: &mut W,
 ) -> Result<(), ProgramFault> {
-    let line = line(rt.alloc(), words)?;
-    if errand_of(line.as_str()) != errand {
+    let question = question(rt.alloc(), words)?;
+    if errand_of(question.as_str()) != errand {
         return Err(bad_line(ScriptWhat::Word.number()));
     }
     let path = String::try_format(rt.alloc(), format_args!("{}/control", word(words, FOLDER)))?;
-    let Ok(answer) = answer(rt, path.as_str(), line.as_str()) else {
+    let Ok(answer) = answer(rt, path.as_str(), question.as_str()) else {
         return Err(ProgramFault::Unanswered);
     };
     print_answer(answer.as_str(), writer)
 }
 
-// The words of the question, in a line.
-fn line(alloc: Global, words: &ArgMatches<'_>) -> Result<String, AllocError> {
-    let mut line = String::new(alloc);
-    if let Some(question) = words.get_strs(QUESTION) {
-        for word in question {
-            if !line.is_empty() {
-                line.try_push(' ')?;
+// The words of the question, with a space between them.
+fn question(alloc: Global, words: &ArgMatches<'_>) -> Result<String, AllocError> {
+    let mut question = String::new(alloc);
+    if let Some(words) = words.get_strs(QUESTION) {
+        for word in words {
+            if !question.is_empty() {
+                question.try_push(' ')?;
             }
-            line.try_write(word)?;
+            question.try_write(word)?;
         }
     }
-    line.try_push('\n')?;
-    Ok(line)
+    if is_given(words, PROMETHEUS) {
+        question.try_write(" --prometheus")?;
+    }
+    Ok(question)
 }
 
-// Whether a node is asked the line, or told it.
-fn errand_of(line: &str) -> Errand {
-    let first = line.split([' ', '\n']).next().unwrap_or(line);
-    if ORDERS.contains(&first) {
-        Errand::Tell
-    } else {
-        Errand::Ask
+// Whether a node is asked the question, or told it: by its first word.
+fn errand_of(question: &str) -> Errand
+    ensures { result ≡ errand_of question.now }
+{
+    match first_word(question) {
+        "change" | "notice" | "rotate" => Errand::Tell,
+        _ => Errand::Ask,
     }
 }
 
-// What the node answers to a line at its socket.
-fn answer<R: Files + Net + AllocGlobal>(rt: &R, path: &str, line: &str) -> io::Result<String> {
+fn first_word(question: &str) -> &str
+    ensures { result.now ≡ first_word question.now }
+{
+    match question.split_once(' ') {
+        Some((first, _)) => first,
+        None => question,
+    }
+}
+
+// What the node answers to a question at its socket.
+fn answer<R: Files + Net + AllocGlobal>(rt: &R, path: &str, question: &str) -> io::Result<String> {
     let mut stream = UnixStream::connect(rt, path)?;
-    stream.write_all(line.as_bytes())?;
+    stream.set_read_timeout(Some(Duration::from_secs(PATIENCE)))?;
+    stream.write_all(question.as_bytes())?;
+    stream.write_all(b"\n")?;
     io::read_to_string(rt.alloc(), stream)
 }
 
@@ -82,6 +102,9 @@ fn print_answer<W: Write>(answer: &str, writer: &mut W) -> Result<(), ProgramFau
     let Some(lines) = answer.strip_suffix('\n') else {
         return Err(ProgramFault::Unanswered);
     };
+    if !is_whole(lines) {
+        return Err(ProgramFault::Unanswered);
+    }
     match lines
         .strip_prefix("fault ")
         .and_then(|text| number_from_text(text))
@@ -93,6 +116,19 @@ fn print_answer<W: Write>(answer: &str, writer: &mut W) -> Result<(), ProgramFau
             Err(_) => Err(ProgramFault::Answer(AnswerFault::Write)),
         },
     }
+}
+
+// Whether no line of an answer is missing, where its first line tells how many follow.
+fn is_whole(lines: &str) -> bool {
+    let mut lines = lines.split('\n');
+    let head = lines.next().unwrap_or("");
+    if !LISTS.contains(&first_word(head)) {
+        return true;
+    }
+    let following = head
+        .rsplit_once(' ')
+        .and_then(|(_, number)| number_from_text(number));
+    following == Some(lines.count() as u64)
 }
 
 fn bad_line(number: u16) -> ProgramFault {

@@ -25,6 +25,9 @@ pub const NAME: &str = "NAME";
 /// The folder of a node that runs.
 pub const FOLDER: &str = "FOLDER";
 
+/// In the text format of Prometheus.
+pub const PROMETHEUS: &str = "prometheus";
+
 /// What the node is asked or told.
 pub const QUESTION: &str = "WORD";
 
@@ -146,7 +149,15 @@ default) to 64; only with --database",
         name: "ask",
         about: ASK_ABOUT,
         after_help: Some(ASK_FORM),
-        arguments: &[FOLDER_ARGUMENT, QUESTION_ARGUMENT, WORDS_ARGUMENT],
+        arguments: &[
+            FOLDER_ARGUMENT,
+            QUESTION_ARGUMENT,
+            Argument::Switch {
+                name: PROMETHEUS,
+                help: "Print what `counts` tells in the text format of Prometheus",
+            },
+            WORDS_ARGUMENT,
+        ],
     },
     Subcommand {
         name: "tell",

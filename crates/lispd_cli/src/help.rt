@@ -76,17 +76,20 @@ pub(crate) const LOOP_FORM: &str =
 comes to where that datagram was sent, and prints `lost NUMBER` where it is another or none comes in a second.";
 
 /// What `ask` does, for its help.
-pub(crate) const ASK_ABOUT: &str =
-    "Ask a Map-Server or router that runs, and print its answer, the lines of a schedule";
+pub(crate) const ASK_ABOUT: &str = "Ask a Map-Server or router that runs, and print its answer";
 
 /// What a node is asked, for its help.
 pub(crate) const ASK_FORM: &str = "A Map-Server is asked:
   hold          which rows it holds
   ask ADDRESS   who answers for the address
+  routers       which routers it heard since its start, and when
   due           to which router it has a notice to send again
-and a router:
+a router:
+  records       which records it registers
   acks          what it counted of each Map-Server
   due           to which Map-Server it has a Map-Register to send
+and both:
+  counts        how many lines of each kind it printed since its start; and its rows, sites and notices, or its records
 
 Example:
   lispd ask nonces/s1 hold";

@@ -7,7 +7,7 @@ use Rattle.lisp_script.specs.declared.fault.ScriptWhat.{ScriptWhat}
 use Rattle.lisp_control.specs.Question.{question_of, what_of, only}
 use Rattle.lisp_control.specs.declared.question.Question.{Question}
 use Rattle.lisp_control.proofs.Asking.{gives_same}
-use Rattle.lisp_control.proofs.line.question_in.Goals as goal
+use Rattle.lisp_control.proofs.line.question_in_script.Goals as goal
 
 pub returns : goal.returns
 returns c =

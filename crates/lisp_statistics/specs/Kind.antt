@@ -1,0 +1,60 @@
+-- Which lines are counted together: those of one first word, and of refusals those of one number.
+use Rattle.std.specs.Prelude.{◌≡◌, ℕ, List, codes, Option, Some, None}
+use Rattle.lisp_lines.specs.Parts.{verb}
+use Rattle.lisp_model.specs.Faults.{refusal_number}
+use Rattle.lisp_model.specs.declared.line.Line.{Line}
+use Rattle.lisp_model.specs.declared.line.Line.TheVariants as lines
+use Rattle.lisp_turns.specs.Outside.{call_number}
+use Rattle.lisp_turns.specs.declared.outside.Printed.{Printed}
+use Rattle.lisp_turns.specs.declared.outside.Printed.TheVariants as printed
+use Rattle.lisp_statistics.specs.declared.kind.LineKind.{LineKind}
+use Rattle.lisp_statistics.specs.declared.kind.LineKind.TheVariants as kinds
+
+-- of a datagram that reached no node, of time, and of a store that was lost no node tells that runs
+abbrev pub kind_of_line : Line → Option LineKind
+kind_of_line (lines.Accepted server router key nonce datagram) = Some kinds.Accepted
+kind_of_line (lines.Changed router records) = Some kinds.Changed
+kind_of_line (lines.Counted router server part key nonce) = Some kinds.Counted
+kind_of_line (lines.Done server router nonce) = Some kinds.Done
+kind_of_line (lines.Down router) = Some kinds.Down
+kind_of_line (lines.Notice server router key nonce datagram) = Some kinds.Notice
+kind_of_line (lines.Noticed router server nonce datagram) = Some kinds.Noticed
+kind_of_line (lines.Resent server router datagram) = Some kinds.Resent
+kind_of_line (lines.Restarted node) = Some kinds.Restarted
+kind_of_line (lines.Rotated router key) = Some kinds.Rotated
+kind_of_line (lines.Sent router server part key nonce datagram) = Some kinds.Sent
+kind_of_line (lines.Refused node what) = Some (kinds.Refused (refusal_number what))
+kind_of_line (lines.Nowhere datagram) = None
+kind_of_line (lines.Ticked ms now) = None
+kind_of_line (lines.Emptied router key) = None
+
+abbrev pub kind_of : Printed → Option LineKind
+kind_of (printed.Event line) = kind_of_line line
+kind_of (printed.Heard line from) = kind_of_line line
+kind_of (printed.Expired router eid) = Some kinds.Expired
+kind_of (printed.Failed call) = Some (kinds.Refused (call_number call))
+
+-- the first word of its lines
+abbrev pub kind_word : LineKind → List ℕ
+kind_word kinds.Accepted = codes "accepted"
+kind_word kinds.Changed = codes "change"
+kind_word kinds.Counted = codes "counted"
+kind_word kinds.Done = codes "done"
+kind_word kinds.Down = codes "down"
+kind_word kinds.Expired = codes "expired"
+kind_word kinds.Notice = codes "notice"
+kind_word kinds.Noticed = codes "noticed"
+kind_word kinds.Resent = codes "resent"
+kind_word kinds.Restarted = codes "restarted"
+kind_word kinds.Rotated = codes "rotated"
+kind_word kinds.Sent = codes "sent"
+kind_word (kinds.Refused number) = codes "refused"
+
+-- the number of its refusals
+abbrev pub kind_number : LineKind → Option ℕ
+kind_number (kinds.Refused number) = Some number
+kind_number _ = None
+
+-- it is the first word of the text of each of them
+abbrev pub WordsBeginLines : Type 0
+WordsBeginLines = (line : Line) (kind : LineKind) → kind_of_line line ≡ Some kind → verb line ≡ kind_word kind

@@ -1,0 +1,7 @@
+pub mod Kind
+pub mod Hearing
+pub mod Statistics
+pub mod Gauge
+pub mod Counts
+pub mod Routers
+pub mod Sites

@@ -1,0 +1,39 @@
+-- What is counted of a node since its start.
+use Rattle.std.specs.Prelude.{◌≡◌, ◌⊎◌, ℕ, ◌+◌, ◌-◌, ◌^◌, min, max, Option, Some, None, unwrap_or}
+use Rattle.std.specs.BTreeMap.{BTreeMap, get, IsEmpty, IsUnchanged, Updates}
+use Rattle.std.specs.declared.cmp.Ordering.{Ordering}
+use Rattle.lisp_records.specs.declared.router.RouterId.{RouterId}
+use Rattle.lisp_statistics.specs.declared.hearing.Hearing.{Hearing}
+use Rattle.lisp_statistics.specs.declared.kind.LineKind.{LineKind}
+use Rattle.lisp_statistics.specs.declared.statistics.Statistics.{Statistics}
+
+-- nothing was printed, nobody was heard, and nothing was saved
+pub record Begins {A : Type 0} (s : Statistics A) : Type 0 where
+  pub tallies : IsEmpty s.tallies
+  pub heard : IsEmpty s.heard
+  pub save : s.longest_save ≡ 0
+
+-- a key has a value now, and no other key another one; where memory is refused for a key that is new, all is as it was
+abbrev pub Sets : {K X : Type 0} → (K → K → Ordering) → Type 0 → BTreeMap K X → BTreeMap K X → K → X → Type 0
+Sets cmp may_refuse old new key value = Updates cmp old new key (Some value) ⊎ (may_refuse × (get cmp old key ≡ None) × IsUnchanged old new)
+
+-- how many lines of a kind there were
+abbrev pub tally_of : (LineKind → LineKind → Ordering) → BTreeMap LineKind ℕ → LineKind → ℕ
+tally_of cmp tallies kind = unwrap_or (get cmp tallies kind) 0
+
+-- there is one more of a kind, up to 2^64 - 1
+abbrev pub Counts : (LineKind → LineKind → Ordering) → Type 0 → BTreeMap LineKind ℕ → BTreeMap LineKind ℕ → LineKind → Type 0
+Counts cmp may_refuse old new kind = Sets cmp may_refuse old new kind (min (tally_of cmp old kind + 1) (2 ^ 64 - 1))
+
+abbrev pub CountsLine : {A : Type 0} → (LineKind → LineKind → Ordering) → Type 0 → Statistics A → Statistics A → Option LineKind → Type 0
+CountsLine cmp may_refuse old new (Some kind) = Counts cmp may_refuse old.tallies new.tallies kind
+CountsLine cmp may_refuse old new None = new.tallies ≡ old.tallies
+
+-- a router was heard
+abbrev pub HearsLine : {A : Type 0} → (RouterId → RouterId → Ordering) → Type 0 → Statistics A → Statistics A → Option (RouterId × Hearing) → Type 0
+HearsLine cmp may_refuse old new (Some heard) = Sets cmp may_refuse old.heard new.heard heard.0 heard.1
+HearsLine cmp may_refuse old new None = new.heard ≡ old.heard
+
+-- a save took so many ms
+abbrev pub saved : {A : Type 0} → Statistics A → ℕ → Statistics A
+saved s ms = record s { longest_save = max s.longest_save ms }

@@ -1,0 +1,25 @@
+//! What is counted of a node that runs, since its start: the lines of each kind that it prints, the routers that it heard, and how long
+//! its longest save took; and the text of this.
+#![tactic(auto)]
+
+// What is kept.
+mod hearing;
+mod kind;
+mod statistics;
+
+// What it is beside: the node as it stands.
+mod gauge;
+mod sites;
+
+// The text of both.
+mod counts;
+pub mod laws;
+mod routers;
+
+pub use counts::{Format, counts_text};
+pub use gauge::{Figure, Gauge};
+pub use hearing::Hearing;
+pub use kind::LineKind;
+pub use routers::routers_text;
+pub use sites::count_sites;
+pub use statistics::Statistics;

@@ -1,0 +1,138 @@
+//! The text of the routers that a Map-Server heard.
+
+ghost use Rattle.std.specs.Prelude.{◌≡◌, ℕ, List, IfOk, OnOk, OnErr, length};
+ghost use Rattle.std.specs.List.{flat_map};
+ghost use Rattle.lisp_lines.specs.Front.{Adds, GivesText};
+ghost use Rattle.lisp_records.specs.Router.{router_cmp};
+ghost use Rattle.lisp_statistics.specs.Routers.{CountsRows, rows_in, AddsRow, routers_text, routers_head, router_text, counted_text, hearing_words};
+
+use crate::hearing::Hearing;
+use crate::statistics::Statistics;
+use lisp_lines::{node_name, router_name};
+use lisp_memory::{FallibleMap, FallibleString, Memory};
+use lisp_records::{RouterId, Row};
+use lisp_sites::Config;
+use lisp_texts::addr_to_text;
+use std::alloc::{AllocError, Allocator};
+use std::collections::BTreeMap;
+
+/// The routers that the Map-Server with a number heard since its start, which holds these rows at a moment, in ms: a line with their number,
+/// then one for each, by Site-ID, then xTR-ID: where its last accepted Map-Register came from, under which key and nonce, how many ms ago,
+/// and how many of the rows are its.
+pub fn routers_text<A: Memory + Copy, B: Memory + Copy, E: Allocator, F: Allocator>(
+    alloc: A,
+    config: &Config<E>,
+    number: usize,
+    statistics: &Statistics<B>,
+    rows: &[Row<F>],
+    now: u64,
+) -> Result<String<A>, AllocError>
+    ensures text { GivesText result (routers_text config.now number now rows.now statistics.now.heard.entries) }
+    ensures memory { OnErr result A.may_refuse }
+{
+    let counts = count_rows(alloc, rows)?;
+    let heard = &statistics.heard;
+    let mut text = routers_head(alloc, node_name(config, number), heard.len())?;
+    put_routers(alloc, &mut text, config, &counts, heard, now)?;
+    Ok(text)
+}
+
+// Appends the line of each router, with its rows by these counts. Out of memory, it may leave a part of them.
+fn put_routers<A: Memory + Copy, B: Memory + Copy, E: Allocator>(
+    alloc: A,
+    text: &mut String<A>,
+    config: &Config<E>,
+    counts: &BTreeMap<RouterId, u64, A>,
+    heard: &BTreeMap<RouterId, Hearing, B>,
+    now: u64,
+) -> Result<(), AllocError>
+    ensures text { Adds result text.old text.new (flat_map (counted_text config.now now counts.now) heard.now.entries) }
+    ensures memory { OnErr result A.may_refuse }
+{
+    for (router, hearing) in heard {
+        let rows = rows_in(counts, router);
+        put_router(alloc, text, config, router, hearing, now, rows)?;
+    }
+    Ok(())
+}
+
+// The line before the routers of a Map-Server: how many they are.
+fn routers_head<A: Memory>(alloc: A, server: &str, routers: usize) -> Result<String<A>, AllocError>
+    ensures text { GivesText result (routers_head server.now routers) }
+    ensures memory { OnErr result A.may_refuse }
+{
+    String::try_format(alloc, format_args!("routers {server} {routers}\n"))
+}
+
+// Appends the line of a router. Out of memory, it may leave a part of it.
+#[tactic(auto, using(crate::proofs::Counting::steps))]
+fn put_router<A: Memory + Copy, E: Allocator>(
+    alloc: A,
+    text: &mut String<A>,
+    config: &Config<E>,
+    router: &RouterId,
+    hearing: &Hearing,
+    now: u64,
+    rows: u64,
+) -> Result<(), AllocError>
+    ensures text { Adds result text.old text.new (router_text config.now now router.now hearing.now rows) }
+    ensures memory { OnErr result A.may_refuse }
+{
+    let name = router_name(config, router);
+    let from = addr_to_text(alloc, &hearing.from)?;
+    text.try_write(format_args!("router {name} from {from}"))?;
+    put_hearing(text, hearing, now)?;
+    text.try_write(format_args!(" rows {rows}\n"))
+}
+
+// Appends under which key and nonce a router was heard, and how long before a moment. Out of memory, it may leave a part of it.
+fn put_hearing<A: Memory>(
+    text: &mut String<A>,
+    hearing: &Hearing,
+    now: u64,
+) -> Result<(), AllocError>
+    ensures text { Adds result text.old text.new (hearing_words now hearing.now) }
+    ensures memory { OnErr result A.may_refuse }
+{
+    let (key, nonce) = (hearing.key, hearing.nonce);
+    let age = now.saturating_sub(hearing.at);
+    text.try_write(format_args!(" key {key} nonce {nonce} age {age}"))
+}
+
+// How many of these rows each router has.
+fn count_rows<A: Memory + Copy, F: Allocator>(
+    alloc: A,
+    rows: &[Row<F>],
+) -> Result<BTreeMap<RouterId, u64, A>, AllocError>
+    ensures counts { IfOk result (λ counts. CountsRows counts rows.now) }
+    ensures memory { OnErr result A.may_refuse }
+{
+    let mut counts = BTreeMap::new(alloc);
+    for row in rows {
+        add_row(&mut counts, &row.router)?;
+    }
+    Ok(counts)
+}
+
+// One more row of a router.
+fn add_row<A: Memory + Copy>(
+    counts: &mut BTreeMap<RouterId, u64, A>,
+    router: &RouterId,
+) -> Result<(), AllocError>
+    ensures adds { OnOk result (AddsRow counts.old counts.new router.now) }
+    ensures memory { OnErr result A.may_refuse }
+{
+    let rows = rows_in(counts, router);
+    counts.try_insert(*router, rows.saturating_add(1))?;
+    Ok(())
+}
+
+// How many rows a router has by these counts.
+fn rows_in<A: Memory + Copy>(counts: &BTreeMap<RouterId, u64, A>, router: &RouterId) -> u64
+    ensures { result ≡ rows_in counts.now router.now }
+{
+    match counts.get(router) {
+        Some(rows) => *rows,
+        None => 0,
+    }
+}
