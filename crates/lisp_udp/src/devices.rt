@@ -31,8 +31,9 @@ use std::time::Duration;
 /// How long a turn of a node waits for a datagram, in ms.
 const RECEIVE_TIMEOUT_MS: u64 = 100;
 
-/// And while somebody is connected to its control socket, or was lately.
-const BUSY_TIMEOUT_MS: u64 = 1;
+/// How long it rests where none waits while somebody is connected to its control socket, or was lately, in microseconds: a time limit of a
+/// socket is rounded up to some ms.
+const BUSY_REST_US: u64 = 200;
 
 /// A node's socket, its clock, where its lines go, and where it is asked. Of what the system makes of their calls nothing is known.
 #[derive(Drop)]
@@ -82,20 +83,32 @@ impl<'a, R: Net + std::time::Clock + AllocGlobal, T: SystemTable, P: Printer + D
     }
 }
 
+impl<R, T, P> Devices<'_, R, T, P> {
+    // Whether somebody is connected to its control socket, or was lately.
+    fn is_busy(&self) -> bool {
+        match &self.control {
+            Some(control) => control.is_busy(self.stopwatch.told()),
+            None => false,
+        }
+    }
+}
+
 impl<R, T, P: Printer> Outside for Devices<'_, R, T, P> {
     ghost seen = { λ d. record { log = None; moment = moment_of d.stopwatch.last; is_cut = P.cut d.printer } };
 }
 
-impl<R, T: SystemTable, P: Printer> Endpoint for Devices<'_, R, T, P> {
+impl<R: std::time::Clock, T: SystemTable, P: Printer> Endpoint for Devices<'_, R, T, P> {
     fn receive(&mut self, buffer: &mut [u8]) -> Received {
-        self.socket.set_timeout(match &self.control {
-            Some(control) if control.is_busy(self.stopwatch.told()) => BUSY_TIMEOUT_MS,
-            _ => RECEIVE_TIMEOUT_MS,
-        });
-        match &mut self.group {
+        let is_busy = self.is_busy();
+        self.socket.set_receive_waits(!is_busy);
+        let received = match &mut self.group {
             None => self.socket.receive(buffer),
             Some(group) => group.receive(&mut self.socket, buffer),
+        };
+        if is_busy && received == Received::Nothing {
+            let _ = thread::sleep(self.rt, Duration::from_micros(BUSY_REST_US));
         }
+        received
     }
 
     fn poll(&mut self, buffer: &mut [u8]) -> Received {

@@ -19,8 +19,8 @@ pub(crate) struct NodeSocket {
     socket: UdpSocket,
     // Whether its calls wait, a receive for its time limit.
     waits: bool,
-    // The time limit, in ms.
-    timeout_ms: u64,
+    // Whether a receive waits.
+    receive_waits: bool,
     // The kind of the last failure.
     failure: Option<ErrorKind>,
 }
@@ -39,22 +39,16 @@ impl NodeSocket {
             Ok(()) => Ok(NodeSocket {
                 socket,
                 waits: true,
-                timeout_ms,
+                receive_waits: true,
                 failure: None,
             }),
             Err(_) => Err(RunFault::BIND),
         }
     }
 
-    /// From now on a receive waits so many ms, where the system takes that.
-    pub(crate) fn set_timeout(&mut self, timeout_ms: u64) {
-        if self.timeout_ms == timeout_ms {
-            return;
-        }
-        let timeout = Duration::from_millis(timeout_ms);
-        if self.socket.set_read_timeout(Some(timeout)).is_ok() {
-            self.timeout_ms = timeout_ms;
-        }
+    /// Whether a receive waits from now on, or takes only what waits already.
+    pub(crate) fn set_receive_waits(&mut self, receive_waits: bool) {
+        self.receive_waits = receive_waits;
     }
 
     /// The kind of the last error of a call that failed.
@@ -112,7 +106,7 @@ impl Outside for NodeSocket {
 
 impl Endpoint for NodeSocket {
     fn receive(&mut self, buffer: &mut [u8]) -> Received {
-        self.next(buffer, true)
+        self.next(buffer, self.receive_waits)
     }
 
     fn poll(&mut self, buffer: &mut [u8]) -> Received {
