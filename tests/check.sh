@@ -2,9 +2,10 @@
 # check.sh [PROGRAM]
 # Runs the program (out/lispd, where none is named) over the cases of answers.txt, the schedules, the lines of
 # refused.txt, files that can't be read or written, bytes that were changed (changed.py), beside a plain list of rows
-# (rows.py), with calls that fail (failing.py), over schedules that are drawn (fuzz.py), and on sockets and files
-# (running.py, databases.py, groups.py, control.py, devices.py, folders.py, timing.py, addresses.py, output.py), and of what is
-# installed (packaging.py). Prints each run that differs from what is wanted, and ends with 1 where one does.
+# (rows.py), with calls that fail (failing.py), over schedules of chance (fuzz.py), as pictures (draw.py), on sockets
+# and files (running.py, databases.py, groups.py, control.py, devices.py, folders.py, timing.py, addresses.py,
+# output.py), and of what is installed (packaging.py). Prints each run that differs from what is wanted, and ends with
+# 1 where one does.
 case ${1-} in
     '') program=../out/lispd ;;
     /*) program=$1 ;;
@@ -90,7 +91,7 @@ done < answers.txt
 run_case
 [ $runs -gt 0 ] || failed=1
 
-for schedule in ../examples/schedules/*.schedule schedules/*/*.schedule; do
+for schedule in ../examples/schedules/*.schedule ../examples/attacks/*.schedule schedules/*/*.schedule; do
     plays "$schedule"
 done
 
@@ -127,6 +128,8 @@ fills() {
 
 fills
 fills play $exchange.schedule
+fills draw $exchange.schedule
+fills draw --text $exchange.schedule
 fills --help
 fills --version
 
@@ -239,6 +242,7 @@ expect 'a database of 17 parts' 2 '' 'lispd: fault 84 line 1' play ../out/schedu
 ./rows.py "$program" || failed=1
 ./failing.py "$program" || failed=1
 ./fuzz.py "$program" 1 200 || failed=1
+./draw.py "$program" || failed=1
 ./running.py "$program" || failed=1
 ./databases.py "$program" || failed=1
 ./groups.py "$program" || failed=1

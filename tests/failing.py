@@ -139,6 +139,15 @@ def refuse_text(folder, words):
             wrong(f"lispd {' '.join(words)}", "growth", at, (status, output, error))
 
 
+def refuse_picture(folder, words):
+    """A picture is whole, or there is none and a fault; or it shows that a node was refused memory."""
+    printed = subprocess.run([program, *words], capture_output=True, text=True, timeout=LIMIT, check=False).stdout
+    for at, (status, output, error) in each(folder, "growth", words, b""):
+        is_whole = status == 0 and not error and (output == printed or TOLD.search(output))
+        if not is_whole and not (status == 1 and not output and ENDED.fullmatch(error)):
+            wrong(f"lispd {' '.join(words)}", "growth", at, (status, output, error))
+
+
 def fail_streams(folder, words, given, printed):
     """Reads that fail are fault 87, unless they were interrupted, and not again and again; writes that fail are fault 88, and
     leave whole writes."""
@@ -173,6 +182,8 @@ with tempfile.TemporaryDirectory() as room, concurrent.futures.ThreadPoolExecuto
     asked = [side.submit(refuse_growth, room, it) for it in schedules]
     asked += [side.submit(refuse_text, room, words)
               for words in (["check", str(EXAMPLES / "configuration.toml")], ["explain"], ["explain", "57"], ["--help"])]
+    drawn = str(EXAMPLES / "schedules" / "05-server-save-kept.schedule")
+    asked += [side.submit(refuse_picture, room, words) for words in (["draw", drawn], ["draw", "--text", drawn])]
     asked.append(side.submit(refuse_answer, room))
     line, answer = (EXAMPLES / "map-register.hex").read_bytes(), (EXAMPLES / "map-notify.hex").read_text()
     asked += [side.submit(fail_streams, room, [], line, answer), side.submit(bound_reads, room, [], line, answer, len(line))]

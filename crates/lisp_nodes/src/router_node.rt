@@ -128,6 +128,13 @@ impl<S: WorldStore, A: Allocator> RouterNode<S, A> {
             RouterCore::Down { .. } => None,
         }
     }
+
+    /// Its store. Takes no memory.
+    pub fn store(&self) -> &S
+        ensures { S.seen result.now ≡ self.now.store }
+    {
+        &self.store
+    }
 }
 
 impl<S: WorldStore, A: Memory + Copy> RouterNode<S, A> {

@@ -49,6 +49,13 @@ impl<S: WorldStore, A: Allocator> ServerNode<S, A> {
     {
         &self.core
     }
+
+    /// Its store. Takes no memory.
+    pub fn store(&self) -> &S
+        ensures { S.seen result.now ≡ self.now.store }
+    {
+        &self.store
+    }
 }
 
 impl<S: WorldStore, A: Memory + Copy> ServerNode<S, A> {

@@ -103,6 +103,19 @@ impl<A: Allocator + Copy> MemoryStore<A> {
 }
 
 impl<A: Allocator> MemoryStore<A> {
+    /// A pair that something was saved for, by its place, from 0 on; `None` at a place behind the last.
+    pub fn pair_at(&self, place: usize) -> Option<Pair> {
+        Some(self.entries.get(place)?.pair)
+    }
+
+    /// The values that may be kept for a pair, at least one: more only where saves were in doubt, `None` where nothing was saved.
+    pub fn kept(&self, pair: &Pair) -> &[Option<u64>]
+        ensures values { result.now ≡ kept_at self.now.kept pair.now }
+        ensures some { 0 < length result.now }
+    {
+        values_of(&self.entries, pair)
+    }
+
     /// Counts that a device failed.
     pub fn count_fault(&mut self)
         ensures once { self.new ≡ failed_once self.old }

@@ -2,4 +2,5 @@ mod Queries
 mod Failures
 mod Taking
 mod Leading
+mod Telling
 mod Beginning

@@ -1,3 +1,4 @@
 pub mod Asked
+pub mod Outcomes
 pub mod Playing
 pub mod Schedule

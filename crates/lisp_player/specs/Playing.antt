@@ -1,5 +1,5 @@
 -- What commands print: the text of a legal trace, a line for each event, and the lines of each query.
-use Rattle.std.specs.Prelude.{◌≡◌, ◌⊎◌, ℕ, ◌<◌, List, [], ◌∷◌, ◌++◌, length, take, slice_get, Option, Some, Result, String, string_bytes, IfOk, OnErr}
+use Rattle.std.specs.Prelude.{◌≡◌, ◌⊎◌, ℕ, ◌<◌, List, [], ◌∷◌, ◌++◌, length, take, slice_get, Option, Some, Result, string_bytes, IfOk, OnErr}
 use Rattle.std.specs.Io.KnownBytes.{Appends}
 use Rattle.lisp_nonces.specs.declared.fate.Fate.TheVariants.{Done}
 use Rattle.lisp_model.specs.Trace.{EventValue, Step, Opening, addresses, shown_store, fate_of}
@@ -18,6 +18,7 @@ use Rattle.lisp_script.specs.declared.command.Command.TheVariants.{Act, Hold, Ac
 use Rattle.lisp_script.specs.declared.command.Command.{Command}
 use Rattle.lisp_script.specs.Command.{CommandValue, command_value}
 use Rattle.lisp_policy.specs.Configuration.{ConfigValue}
+use Rattle.lisp_player.specs.declared.outcome.Outcome.{Outcome}
 use Rattle.lisp_player.specs.Asked.{OfTraces, fault_text, Holds, Asks, Acknowledges, IsDue}
 
 -- In what follows A is where answers lie; `nodes` says that memory may be refused to the nodes, `stores` that it may be
@@ -95,9 +96,9 @@ abbrev pub Loses : Type 0 → Type 0 → Type 0 → WorldState → WorldState �
 Loses A nodes stores old new c order = (new ≡ old) ⊎ ((text : List ℕ) × CommandLeads A nodes stores old new c order text)
 
 -- at Ok the text is what a command printed; at Err it was not taken, or its text was lost
-module _ {F E Z : Type 0} (result : Result (String Z) E) where
+module _ {F E Z : Type 0} (result : Result (Outcome Z) E) where
   abbrev pub Leads : Type 0 → Type 0 → Type 0 → WorldState → WorldState → ConfigValue → Command F → Type 0
-  Leads A nodes stores old new c command = IfOk result (λ text. CommandLeads A nodes stores old new c (command_value command) (string_bytes text))
+  Leads A nodes stores old new c command = IfOk result (λ outcome. CommandLeads A nodes stores old new c (command_value command) (string_bytes outcome.text))
 
   abbrev pub LosesText : Type 0 → Type 0 → Type 0 → WorldState → WorldState → ConfigValue → Command F → Type 0
   LosesText A nodes stores old new c command = OnErr result (Loses A nodes stores old new c (command_value command))

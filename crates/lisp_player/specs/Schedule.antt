@@ -60,6 +60,13 @@ RefusesInput may_refuse input faults.TooLong = most_bytes < length input
 RefusesInput may_refuse input (faults.World why) = IsUnmade may_refuse input why
 RefusesInput may_refuse input fault = IsFaulty may_refuse input fault
 
+-- a fault in which no reader and no writer has a part
+abbrev pub IsOfInput : PlayFault → Type 0
+IsOfInput faults.Read = ⊥
+IsOfInput faults.TooLong = ⊥
+IsOfInput faults.Write = ⊥
+IsOfInput _ = Unit {0}
+
 -- a store that keeps nothing, whose device never failed, and that does what it is armed with
 pub record IsEmpty (s : ShownStore) : Type 0 where
   pub kept : s.kept ≡ empty

@@ -7,7 +7,7 @@ ghost use Rattle.lisp_script.specs.PlayFault.{IsWritingFault};
 ghost use Rattle.lisp_player.specs.Playing.{Loses, WroteOne, Wrote, StopsAt, BreaksOne, Breaks};
 ghost use Rattle.lisp_script.specs.declared.play_fault.PlayFault.TheVariants as faults;
 
-use crate::command::command_text;
+use crate::command::command_outcome;
 use lisp_lines::write_text;
 use lisp_memory::Memory;
 use lisp_nonces::WorldStore;
@@ -67,6 +67,6 @@ fn play_one<S: WorldStore, A: Memory + Copy, E: Allocator, F: Allocator, W: Writ
     ensures memory { IsErrOf result PlayFault.OutOfMemory → A.may_refuse }
     ensures faults { IfErr result (λ fault. IsWritingFault fault) }
 {
-    let text = command_text(alloc, world, config, command)?;
+    let text = command_outcome(alloc, world, config, command)?.text;
     write_text(&text, writer)
 }

@@ -83,8 +83,8 @@ fn play_commands<A: Memory + Copy, E: Allocator, F: Allocator, W: Write>(
     play_on(alloc, &mut world, config, commands, writer)
 }
 
-// A network of a configuration, over stores that keep nothing.
-fn begin<A: Memory + Copy, E: Allocator>(
+/// A network of a configuration, over stores that keep nothing.
+pub(crate) fn begin<A: Memory + Copy, E: Allocator>(
     alloc: A,
     config: &Config<E>,
 ) -> Result<World<MemoryStore<A>, A>, PlayFault>

@@ -1,5 +1,6 @@
 -- Which rows of a table have a number, and what is written of them.
 use Rattle.std.specs.Prelude.{◌≡◌, ℕ, Bool, List, [], ◌∷◌, ◌++◌, codes, Option, Some, None, nat_eq, if◌then◌else◌}
+use Rattle.std.specs.Option.{option_map}
 use Rattle.std.specs.List.{list_any, find, flat_map}
 use Rattle.std.specs.Fmt.{decimal}
 use Rattle.std.specs.Io.KnownBytes.{Appends}
@@ -19,21 +20,17 @@ has_row number section = list_any (has_number number) section.rows.now
 abbrev pub is_in : ℕ → List Section → Bool
 is_in number sections = list_any (has_row number) sections
 
--- what an operator does about the first row with the number
-abbrev pub remedy_of : Option Row → Option (List ℕ)
-remedy_of None = None
-remedy_of (Some row) = Some row.remedy.now
+-- the first row with the number, of the first section that has one
+abbrev pub first_of : ℕ → Option Section → Option Row
+first_of number None = None
+first_of number (Some section) = find (has_number number) section.rows.now
 
-abbrev pub first_remedy : ℕ → Option Section → Option (List ℕ)
-first_remedy number None = None
-first_remedy number (Some section) = remedy_of (find (has_number number) section.rows.now)
+abbrev pub first_in : ℕ → List Section → Option Row
+first_in number sections = first_of number (find (has_row number) sections)
 
-abbrev pub remedy_in : ℕ → List Section → Option (List ℕ)
-remedy_in number sections = first_remedy number (find (has_row number) sections)
-
--- that is what a table with the numbers says, where it says anything
-abbrev pub IsRemedy : ℕ → Option (List ℕ) → Type 0
-IsRemedy number remedy = (sections : List Section) × HasNumbers sections × (remedy ≡ remedy_in number sections)
+-- that is what this row of a table with the numbers tells, where there is one
+abbrev pub IsToldOf : {X : Type 0} → (Row → X) → ℕ → Option X → Type 0
+IsToldOf tells number told = (sections : List Section) × HasNumbers sections × (told ≡ option_map tells (first_in number sections))
 
 -- a mark, where a text is there
 unfoldable pub mark_at : List ℕ → List ℕ → List ℕ

@@ -19,4 +19,4 @@ mod table;
 pub use document::explain_all;
 pub use explaining::{explain, is_known};
 pub use fault::ExplainFault;
-pub use first_row::remedy;
+pub use first_row::{meaning, name, remedy};

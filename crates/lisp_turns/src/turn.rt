@@ -41,11 +41,10 @@ pub struct Uncommitted {
 /// Takes so many turns, from a node's start on; none after one in which a line couldn't be printed. A turn takes one datagram,
 /// or none where none comes in time, and then those that wait already, `places` in all, at least one; drops the rows that are dead;
 /// does what a user tells it, if one does; commits what the node saved; answers each datagram to where it came from, in their order, and
-/// last the user; and then sends what is due: a Map-Register
-/// of each part of a router's database to each Map-Server, at most one of each, or each notice of a Map-Server (RFC 9301 sections 5.7
-/// and 8.2), until one is refused. Each event is a line, and so is each row that dies. No line of a datagram or of a user's, and no answer,
-/// goes out before the commit. A socket that fails is a line, too, once a minute, and a second's rest; what was refused is tried again a second
-/// later, and told once a minute.
+/// last the user; and then sends what is due: a Map-Register of each part of a router's database to each Map-Server, at most one of
+/// each, or each notice of a Map-Server (RFC 9301 sections 5.7 and 8.2), until one is refused. Each event is a line, and so is each
+/// row that dies. No line of a datagram or of a user's, and no answer, goes out before the commit. A socket that fails is a line, too,
+/// once a minute, and a second's rest; what was refused is tried again a second later, and told once a minute.
 ///
 /// `Uncommitted` where the commit of a turn failed: no line of a datagram of that turn and no answer went out, and no turn follows it.
 pub fn take_turns<N: Node, O: Endpoint + Clock + Commit + Lines + Control>(

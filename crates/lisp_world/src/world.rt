@@ -2,7 +2,7 @@
 
 ghost use Rattle.std.specs.Prelude.{◌≡◌, length, slice_get};
 ghost use Rattle.std.specs.Option.{option_map};
-ghost use Rattle.lisp_refinement.specs.Nodes.{server_at, etr_at};
+ghost use Rattle.lisp_refinement.specs.Nodes.{server_at, etr_at, store_at};
 
 use lisp_etr::Etr;
 use lisp_nodes::{Datagram, RouterNode, ServerNode};
@@ -82,5 +82,15 @@ impl<S: WorldStore, A: Allocator> World<S, A> {
             return None;
         }
         self.routers.get(node - self.servers.len())?.etr()
+    }
+
+    /// The store of the node with a number; `None` where no node has it. Takes no memory.
+    pub fn store(&self, node: usize) -> Option<&S>
+        ensures { option_map (λ s. S.seen s.now) result ≡ store_at self.now node }
+    {
+        if node < self.servers.len() {
+            return Some(self.servers.get(node)?.store());
+        }
+        Some(self.routers.get(node - self.servers.len())?.store())
     }
 }

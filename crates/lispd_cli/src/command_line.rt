@@ -2,9 +2,9 @@
 
 use crate::argument::Argument;
 use crate::help::{
-    ABOUT, ANSWER_ABOUT, ANSWER_EXAMPLE, ASK_ABOUT, ASK_FORM, CHECK_ABOUT, CHECK_WARNS,
-    EXPLAIN_ABOUT, LINE_EXAMPLE, LOOP_ABOUT, LOOP_FORM, NODE_RUNS, PLAY_ABOUT, PLAY_FORM,
-    ROUTER_ABOUT, SERVER_ABOUT, SERVER_GROUPS, TELL_ABOUT, TELL_FORM,
+    ABOUT, ANSWER_ABOUT, ANSWER_EXAMPLE, ASK_ABOUT, ASK_FORM, CHECK_ABOUT, CHECK_WARNS, DRAW_ABOUT,
+    DRAW_FORM, EXPLAIN_ABOUT, LINE_EXAMPLE, LOOP_ABOUT, LOOP_FORM, NODE_RUNS, PLAY_ABOUT,
+    PLAY_FORM, ROUTER_ABOUT, SERVER_ABOUT, SERVER_GROUPS, TELL_ABOUT, TELL_FORM,
 };
 use crate::option::AnswerOption;
 use clap::Command;
@@ -13,7 +13,7 @@ use std::alloc::{AllocError, Global};
 /// The subcommand that checks a configuration.
 pub const CHECK: &str = "check";
 
-/// The argument of `play` and `loop`.
+/// The argument of `play`, `draw` and `loop`.
 pub const FILE: &str = "FILE";
 
 /// The configuration of `server`, `router`, `loop` and `check`.
@@ -52,6 +52,9 @@ pub const KNOWN: &str = "known";
 /// The switch of `check` that makes warnings a fault.
 pub const STRICT: &str = "strict";
 
+/// The switch of `draw` for lines of text.
+pub const TEXT: &str = "text";
+
 /// The switch for a fault in words.
 pub const WORDS: &str = "words";
 
@@ -64,7 +67,7 @@ struct Subcommand {
 }
 
 /// The subcommands, in the order of the help.
-static SUBCOMMANDS: [Subcommand; 9] = [
+static SUBCOMMANDS: [Subcommand; 10] = [
     Subcommand {
         name: "answer",
         about: ANSWER_ABOUT,
@@ -90,6 +93,23 @@ static SUBCOMMANDS: [Subcommand; 9] = [
                 name: FILE,
                 is_required: true,
                 help: "The schedule; `-` for standard input",
+            },
+            WORDS_ARGUMENT,
+        ],
+    },
+    Subcommand {
+        name: "draw",
+        about: DRAW_ABOUT,
+        after_help: Some(DRAW_FORM),
+        arguments: &[
+            Argument::Word {
+                name: FILE,
+                is_required: true,
+                help: "The schedule; `-` for standard input",
+            },
+            Argument::Switch {
+                name: TEXT,
+                help: "As lines of text, of at most 100 characters of ASCII",
             },
             WORDS_ARGUMENT,
         ],

@@ -40,6 +40,24 @@ store fails.
 Example:
   lispd play examples/schedules/01-exchange.schedule";
 
+/// What `draw` does, for its help.
+pub(crate) const DRAW_ABOUT: &str =
+    "Play a schedule, as `play` does, and draw what happens at each node and under way: as an image (SVG), or as text for a terminal";
+
+/// How its picture is read, for its help.
+pub(crate) const DRAW_FORM: &str =
+    "Each node that something happens to has a line, and time runs down. An arrow is a datagram, \
+from where it was sent to where it
+arrives; one that arrives again has an arrow again; a stub never arrives. A dot is an event, a cross a refusal with its number and
+meaning, a ring around it a store that fails; where a line is broken the node started again. Above 600 commands there are arrows and
+signs alone.
+As text, where the first eight such nodes have a line: `o` an event, `X` a refusal, `?` a store that fails, `=` a start, `!` a router that is down, `#` a question, `x` the end of a
+datagram that never arrives.
+
+Examples:
+  lispd draw examples/schedules/02-replay.schedule > picture.svg
+  lispd draw --text examples/schedules/02-replay.schedule";
+
 /// What `server` does, for its help.
 pub(crate) const SERVER_ABOUT: &str =
     "Run a Map-Server of a configuration at its address, UDP port 4342, and print what each datagram \

@@ -21,8 +21,8 @@ mod words;
 pub use asking::{Errand, ask_node};
 pub use check::check_config;
 pub use command_line::{
-    CONFIG, DATABASE, FILE, FOLDER, GROUP, KNOWN, NAME, NUMBER, QUESTION, STORE, STRICT, TURNS,
-    WORDS, command,
+    CONFIG, DATABASE, FILE, FOLDER, GROUP, KNOWN, NAME, NUMBER, QUESTION, STORE, STRICT, TEXT,
+    TURNS, WORDS, command,
 };
 pub use failure::Failure;
 pub use fault::{ProgramFault, SetupFault};

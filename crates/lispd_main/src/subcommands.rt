@@ -2,13 +2,14 @@
 
 use clap::ArgMatches;
 use lisp_database_store::SystemTable;
+use lisp_picture::{Form, draw};
 use lisp_player::play;
 use lisp_script::{PlayFault, RunFault};
 use lisp_sqlite::{Task, run_task};
 use lisp_udp::{Storage, Stretch, Subject, run_subject};
 use lispd_cli::{
-    CONFIG, DATABASE, Errand, FILE, Failure, NodeWords, ProgramFault, STORE, ask_node, is_given,
-    node_words, run_alone, word,
+    CONFIG, DATABASE, Errand, FILE, Failure, NodeWords, ProgramFault, STORE, TEXT, ask_node,
+    is_given, node_words, run_alone, word,
 };
 use std::alloc::Global;
 use std::fs;
@@ -39,7 +40,8 @@ fn run_named<W: Write>(
         return run_alone(rt, named, writer);
     };
     let ran = match name {
-        "play" => run_play(rt, words, writer),
+        "play" => run_schedule(rt, words, Outlet::Lines, writer),
+        "draw" => run_draw(rt, words, writer),
         "server" => run_node(rt, NodeKind::Server, words, writer),
         "router" => run_node(rt, NodeKind::Router, words, writer),
         "loop" => run_network(rt, words, writer),
@@ -138,39 +140,67 @@ fn run_network<W: Write>(
     Ok(())
 }
 
-// Plays the schedule of a file.
-fn run_play<R: Input + Files + AllocGlobal, W: Write>(
+/// What becomes of a schedule that is played.
+#[derive(Clone, Copy)]
+enum Outlet {
+    /// Its lines are printed.
+    Lines,
+    /// Its picture is.
+    Picture(Form),
+}
+
+fn run_draw<R: Input + Files + AllocGlobal, W: Write>(
     rt: &R,
     words: &ArgMatches<'_>,
     writer: &mut W,
 ) -> Result<(), ProgramFault> {
+    let form = if is_given(words, TEXT) {
+        Form::Text
+    } else {
+        Form::Svg
+    };
+    run_schedule(rt, words, Outlet::Picture(form), writer)
+}
+
+// Plays the schedule of a file.
+fn run_schedule<R: Input + Files + AllocGlobal, W: Write>(
+    rt: &R,
+    words: &ArgMatches<'_>,
+    outlet: Outlet,
+    writer: &mut W,
+) -> Result<(), ProgramFault> {
     let name = word(words, FILE);
     if name == STANDARD_INPUT {
-        return play_from(rt.alloc(), &mut rt.reader(), writer);
+        return play_from(rt.alloc(), outlet, &mut rt.reader(), writer);
     }
     match fs::open(rt, name) {
-        Ok(file) => play_file(rt.alloc(), file, writer),
+        Ok(file) => play_file(rt.alloc(), outlet, file, writer),
         Err(_) => Err(ProgramFault::File),
     }
 }
 
 fn play_file<R: Read + Drop, W: Write>(
     alloc: Global,
+    outlet: Outlet,
     file: R,
     writer: &mut W,
 ) -> Result<(), ProgramFault> {
     match BufReader::new(alloc, file) {
-        Ok(mut reader) => play_from(alloc, &mut reader, writer),
+        Ok(mut reader) => play_from(alloc, outlet, &mut reader, writer),
         Err(_) => Err(ProgramFault::Play(PlayFault::OutOfMemory)),
     }
 }
 
-// As `play`. It promises nothing, so that nothing need be proved of standard input.
+// As `play` or `draw`. It promises nothing, so that nothing need be proved of standard input.
 fn play_from<R: Read, W: Write>(
     alloc: Global,
+    outlet: Outlet,
     reader: &mut R,
     writer: &mut W,
 ) -> Result<(), ProgramFault> {
-    play(alloc, alloc, reader, writer)?;
+    match outlet {
+        Outlet::Lines => play(alloc, alloc, reader, writer)?,
+        Outlet::Picture(form) => draw(alloc, alloc, form, reader, writer)?,
+    }
     Ok(())
 }

@@ -4,12 +4,12 @@ use Rattle.lisp_player.proofs.Taking.{at_ok}
 use Rattle.lisp_player.proofs.playing.play_one.Goals as goal
 
 pub returns-clause-plays : goal.returns-clause-plays
-returns-clause-plays g c = at_ok c.write_text.result _ _ (λ wrote. record { text = string_bytes c.in_ok-text.text; written = rw c.deref.ensures at wrote; turns = c.in_ok-text.ensures.turns }) c.write_text.ensures.ok
+returns-clause-plays g c = at_ok c.write_text.result _ _ (λ wrote. record { text = string_bytes c.in_ok-text.field-0.text; written = rw c.deref.ensures at wrote; turns = c.in_ok-text.ensures.turns }) c.write_text.ensures.ok
 
 pub returns-clause-breaks : goal.returns-clause-breaks
 returns-clause-breaks g c = λ is.
     let written = rw c.deref.ensures at (of_err c.write_text.result is c.write_text.ensures.front) in
-    record { text = string_bytes c.in_ok-text.text; turns = c.in_ok-text.ensures.turns; written = written }
+    record { text = string_bytes c.in_ok-text.field-0.text; turns = c.in_ok-text.ensures.turns; written = written }
 
 pub returns-clause-keeps : goal.returns-clause-keeps
 returns-clause-keeps g c = only_write _ c.write_text.ensures.fault

@@ -1,0 +1,4 @@
+mod Adding
+mod Lines
+mod Elements
+mod Ladders

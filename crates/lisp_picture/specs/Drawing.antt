@@ -1,0 +1,40 @@
+-- What is drawn of an input.
+use Rattle.std.specs.Prelude.{◌≡◌, ◌≢◌, ℕ, List, [], length, Option, Some, Result, Ok, OnOk, IfErr, IfSome}
+use Rattle.std.specs.Io.KnownBytes.{Appends, Keeps}
+use Rattle.lisp_policy.specs.Configuration.{ConfigValue}
+use Rattle.lisp_script.specs.Command.{CommandValue}
+use Rattle.lisp_script.specs.declared.play_fault.PlayFault.{PlayFault}
+use Rattle.lisp_script.specs.declared.play_fault.PlayFault.TheVariants as faults
+use Rattle.lisp_player.specs.declared.outcome.Outcome.{Outcome}
+use Rattle.lisp_player.specs.Outcomes.{texts}
+use Rattle.lisp_player.specs.Schedule.{Played, schedule_in}
+use Rattle.lisp_picture.specs.declared.form.Form.{Form}
+use Rattle.lisp_picture.specs.declared.form.Form.TheVariants.{Svg, Text}
+use Rattle.lisp_picture.specs.Picture.{IsPicture, texts_of}
+use Rattle.lisp_picture.specs.Ladder.{IsLadder}
+
+-- the text is a picture, in this form, of what commands came to
+abbrev pub Pictures : {A : Type 0} → Form → List (Outcome A) → List ℕ → Type 0
+Pictures {A = A} Svg outcomes picture = (title : List ℕ) × IsPicture A title (texts_of outcomes) picture
+Pictures Text outcomes picture = IsLadder (length outcomes) picture
+
+-- what was written is a picture of the schedule of an input: of an outcome of each of its commands, whose lines are those
+-- that a play of it prints
+pub record Draws (A may_refuse : Type 0) (form : Form) (input : List ℕ) (before after : Option (List ℕ)) : Type 0 where
+  pub config : ConfigValue
+  pub orders : List CommandValue
+  pub asked : schedule_in input ≡ Ok (config, orders)
+  pub outcomes : List (Outcome A)
+  pub each : length outcomes ≡ length orders
+  pub played : Played A may_refuse input (λ orders. orders) (Some []) (Some (texts outcomes))
+  pub picture : List ℕ
+  pub drawn : Pictures form outcomes picture
+  pub written : Appends before after picture
+
+-- at Ok that is so of what was left of a reader, where that is known
+abbrev pub IsDrawn : {X W : Type 0} → Result X PlayFault → Type 0 → Type 0 → Form → Option (List ℕ) → (W → Option (List ℕ)) → W → W → Type 0
+IsDrawn result A may_refuse form input contents before after = OnOk result (IfSome input (λ input. Draws A may_refuse form input (contents before) (contents after)))
+
+-- at all faults but that of writing nothing was written
+abbrev pub IsSilent : {X W : Type 0} → Result X PlayFault → (W → Option (List ℕ)) → W → W → Type 0
+IsSilent result contents before after = IfErr result (λ fault. fault ≢ faults.Write → Keeps (contents before) (contents after))

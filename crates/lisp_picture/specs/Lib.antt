@@ -1,0 +1,4 @@
+pub mod Markup
+pub mod Picture
+pub mod Ladder
+pub mod Drawing

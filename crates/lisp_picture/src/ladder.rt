@@ -1,0 +1,174 @@
+//! A picture as lines of text.
+
+ghost use Rattle.std.specs.Prelude.{IfOk, OnErr, OnOk, length};
+ghost use Rattle.std.specs.String.{string_bytes};
+ghost use Rattle.lisp_picture.specs.Ladder.{AddsLines, AddsEvent, AddsEvents, IsLadder};
+
+use crate::heading::kind_text;
+use crate::ladder_row::{Cells, put_line, put_numbered};
+use crate::notes::add_notes;
+use crate::rungs::Rungs;
+use crate::sign::Sign;
+use crate::story::{Story, story_of};
+use crate::table::table;
+use crate::wrap::Lines;
+use lisp_lines::node_name;
+use lisp_memory::{FallibleString, Memory};
+use lisp_player::{History, Outcome};
+use lisp_script::Command;
+use std::alloc::AllocError;
+
+/// The picture of a schedule that was played as lines of text, for a terminal: at most 100 characters each, all of them of
+/// ASCII and printable. Each command has its lines, in their order, of which the first begins with its number, from 1 on.
+pub fn ladder_text<A: Memory + Copy>(
+    alloc: A,
+    title: &str,
+    history: &History<A>,
+) -> Result<String<A>, AllocError>
+    ensures ladder { IfOk result (λ text. IsLadder (length history.now.outcomes.items) (string_bytes text)) }
+    ensures memory { OnErr result A.may_refuse }
+{
+    let story = story_of(alloc, history)?;
+    let rungs = Rungs::new(&story.nodes);
+    let mut text = String::new(alloc);
+    put_heading(alloc, &mut text, title, history, &rungs)?;
+    put_events(alloc, &mut text, history, &story, &rungs)?;
+    Ok(text)
+}
+
+// Appends the title, and the names of the nodes, each above its line.
+fn put_heading<A: Memory + Copy>(
+    alloc: A,
+    text: &mut String<A>,
+    title: &str,
+    history: &History<A>,
+    rungs: &Rungs<'_>,
+) -> Result<(), AllocError>
+    ensures lines { OnOk result (AddsLines (string_bytes text.old) (string_bytes text.new)) }
+    ensures memory { OnErr result A.may_refuse }
+{
+    put_wrapped(alloc, text, title)?;
+    for (place, node) in rungs.nodes.iter().enumerate() {
+        let mut cells = rungs.cells(place);
+        let kind = kind_text(alloc, &history.config, *node)?;
+        let name = node_name(&history.config, *node);
+        let words = String::try_format(alloc, format_args!("{name} ({kind})"))?;
+        cells.write(rungs.at(place), &words);
+        put_line(text, &cells)?;
+    }
+    let others = history
+        .config
+        .node_count()
+        .saturating_sub(rungs.nodes.len());
+    if others > 0 {
+        let words = String::try_format(alloc, format_args!("({others} more nodes have no line)"))?;
+        put_wrapped(alloc, text, &words)?;
+    }
+    Ok(())
+}
+
+// Appends words in whole lines.
+fn put_wrapped<A: Memory + Copy>(
+    alloc: A,
+    text: &mut String<A>,
+    words: &str,
+) -> Result<(), AllocError>
+    ensures lines { OnOk result (AddsLines (string_bytes text.old) (string_bytes text.new)) }
+    ensures memory { OnErr result A.may_refuse }
+{
+    let mut lines = Lines::new(alloc, Cells::WIDTH);
+    lines.add(words)?;
+    for line in lines.into_lines().iter() {
+        let mut cells = Cells::blank();
+        cells.write(0, line);
+        put_line(text, &cells)?;
+    }
+    Ok(())
+}
+
+fn put_events<A: Memory + Copy>(
+    alloc: A,
+    text: &mut String<A>,
+    history: &History<A>,
+    story: &Story<A>,
+    rungs: &Rungs<'_>,
+) -> Result<(), AllocError>
+    ensures events { OnOk result (AddsEvents (length history.now.outcomes.items) (string_bytes text.old) (string_bytes text.new)) }
+    ensures memory { OnErr result A.may_refuse }
+{
+    for (place, outcome) in history.outcomes.iter().enumerate() {
+        put_event(
+            alloc,
+            text,
+            history,
+            story,
+            rungs,
+            place,
+            place + 1,
+            outcome,
+        )?;
+    }
+    Ok(())
+}
+
+// Appends the lines of the command with a place, and a number.
+fn put_event<A: Memory + Copy>(
+    alloc: A,
+    text: &mut String<A>,
+    history: &History<A>,
+    story: &Story<A>,
+    rungs: &Rungs<'_>,
+    place: usize,
+    number: usize,
+    outcome: &Outcome<A>,
+) -> Result<(), AllocError>
+    ensures event { OnOk result (AddsEvent number (string_bytes text.old) (string_bytes text.new)) }
+    ensures memory { OnErr result A.may_refuse }
+{
+    let lines = words(alloc, history, rungs, place, outcome)?;
+    let mut cells = rungs.drawn(story, place);
+    if let Some(line) = lines.first() {
+        cells.write(rungs.words_at(), line);
+    }
+    put_numbered(alloc, text, number, &cells)?;
+    put_more(text, rungs, lines.get(1..).unwrap_or(&[]))
+}
+
+// Appends lines of words behind those of the nodes.
+fn put_more<A: Memory + Copy>(
+    text: &mut String<A>,
+    rungs: &Rungs<'_>,
+    lines: &[String<A>],
+) -> Result<(), AllocError>
+    ensures lines { OnOk result (AddsLines (string_bytes text.old) (string_bytes text.new)) }
+    ensures memory { OnErr result A.may_refuse }
+{
+    for line in lines {
+        let mut cells = rungs.cells(rungs.nodes.len());
+        cells.write(rungs.words_at(), line);
+        put_line(text, &cells)?;
+    }
+    Ok(())
+}
+
+// The words of a command: its lines, and what they mean.
+fn words<A: Memory + Copy>(
+    alloc: A,
+    history: &History<A>,
+    rungs: &Rungs<'_>,
+    place: usize,
+    outcome: &Outcome<A>,
+) -> Result<Vec<String<A>, A>, AllocError>
+    ensures memory { OnErr result A.may_refuse }
+{
+    let mut lines = Lines::new(alloc, rungs.words_width());
+    let Some(command) = history.commands.get(place) else {
+        return Ok(lines.into_lines());
+    };
+    let has_heading = matches!(command, Command::Hold(_));
+    for line in table(alloc, &outcome.text, has_heading)?.iter() {
+        lines.add(line)?;
+    }
+    add_notes(alloc, &mut lines, &history.config, command, outcome)?;
+    Ok(lines.into_lines())
+}

@@ -1,0 +1,163 @@
+//! What a picture says of a command beside its line.
+
+ghost use Rattle.std.specs.Prelude.{OnErr};
+
+use crate::wrap::Lines;
+use lisp_lines::{node_name, router_name};
+use lisp_memory::{FallibleString, Memory};
+use lisp_model::{Event, Line, Refusal};
+use lisp_nonces::{Fate, PairKind};
+use lisp_player::{KeptNonce, Outcome};
+use lisp_refusals::{meaning, name};
+use lisp_script::Command;
+use lisp_sites::Config;
+use lisp_texts::{addr_to_text, number_from_text};
+use std::alloc::{AllocError, Allocator};
+
+/// Appends what isn't in the line of a command: where bytes come from outside, what the store did, what a refusal means, what
+/// the store of a node that starts again kept.
+pub(crate) fn add_notes<A: Memory + Copy>(
+    alloc: A,
+    lines: &mut Lines<A>,
+    config: &Config<A>,
+    command: &Command<A>,
+    outcome: &Outcome<A>,
+) -> Result<(), AllocError>
+    ensures memory { OnErr result A.may_refuse }
+{
+    if let Command::Act(Event::Junk { from, bytes, .. }) = command {
+        let source = addr_to_text(alloc, from)?;
+        let length = bytes.as_slice().len();
+        add(
+            alloc,
+            lines,
+            format_args!("{length} bytes from outside, which tell {source} as their source"),
+        )?;
+    }
+    if let Some(words) = fate_words(command) {
+        lines.add(words)?;
+    }
+    match &outcome.line {
+        Some(Line::Refused { what, .. }) => add_refusal(alloc, lines, what),
+        Some(Line::Restarted { .. } | Line::Emptied { .. }) => {
+            add_kept(alloc, lines, config, outcome)
+        }
+        None => add_fault(alloc, lines, &outcome.text),
+        _ => Ok(()),
+    }
+}
+
+fn add<A: Memory + Copy, D: std::fmt::Display + Drop>(
+    alloc: A,
+    lines: &mut Lines<A>,
+    words: D,
+) -> Result<(), AllocError>
+    ensures memory { OnErr result A.may_refuse }
+{
+    let text = String::try_format(alloc, words)?;
+    lines.add(&text)
+}
+
+// What a store does that is armed with a fate.
+fn fate_words<A: Allocator>(command: &Command<A>) -> Option<&'static str> {
+    let fate = match command {
+        Command::Act(
+            Event::Send { fate, .. }
+            | Event::Deliver { fate, .. }
+            | Event::Rotate { fate, .. }
+            | Event::Notice { fate, .. },
+        ) => *fate,
+        _ => Fate::Done,
+    };
+    match fate {
+        Fate::Done => None,
+        Fate::Doubt => Some("In doubt: each save fails now, and what it saved may be kept or not."),
+        Fate::LoadFails => Some("Each load of the store fails now."),
+    }
+}
+
+// What a refusal means.
+fn add_refusal<A: Memory + Copy>(
+    alloc: A,
+    lines: &mut Lines<A>,
+    refusal: &Refusal,
+) -> Result<(), AllocError>
+    ensures memory { OnErr result A.may_refuse }
+{
+    add_number(alloc, lines, refusal.number())
+}
+
+// What keeps the network from taking an event, by the line that tells its number.
+fn add_fault<A: Memory + Copy>(alloc: A, lines: &mut Lines<A>, text: &str) -> Result<(), AllocError>
+    ensures memory { OnErr result A.may_refuse }
+{
+    let Some(number) = text.trim().strip_prefix("fault ") else {
+        return Ok(());
+    };
+    match number_from_text(number).map(u16::try_from) {
+        Some(Ok(number)) => add_number(alloc, lines, number),
+        _ => Ok(()),
+    }
+}
+
+// A number, its name and what it means.
+fn add_number<A: Memory + Copy>(
+    alloc: A,
+    lines: &mut Lines<A>,
+    number: u16,
+) -> Result<(), AllocError>
+    ensures memory { OnErr result A.may_refuse }
+{
+    let name = name(number).unwrap_or("");
+    let meaning = meaning(number).unwrap_or("");
+    add(alloc, lines, format_args!("{number} {name}: {meaning}"))
+}
+
+// What a store kept.
+fn add_kept<A: Memory + Copy>(
+    alloc: A,
+    lines: &mut Lines<A>,
+    config: &Config<A>,
+    outcome: &Outcome<A>,
+) -> Result<(), AllocError>
+    ensures memory { OnErr result A.may_refuse }
+{
+    if outcome.kept_count == 0 {
+        return lines.add("Its store keeps nothing.");
+    }
+    lines.add("Its store keeps:")?;
+    for kept in outcome.kept.iter() {
+        add_nonce(alloc, lines, config, kept)?;
+    }
+    let left = outcome.kept_count.saturating_sub(outcome.kept.len());
+    if left > 0 {
+        add(alloc, lines, format_args!("and {left} more"))?;
+    }
+    Ok(())
+}
+
+fn add_nonce<A: Memory + Copy>(
+    alloc: A,
+    lines: &mut Lines<A>,
+    config: &Config<A>,
+    kept: &KeptNonce,
+) -> Result<(), AllocError>
+    ensures memory { OnErr result A.may_refuse }
+{
+    let router = router_name(config, &kept.pair.router);
+    let what = kind_words(kept.pair.kind);
+    let (key, nonce) = (kept.pair.key, kept.nonce);
+    add(
+        alloc,
+        lines,
+        format_args!("{what} {router}, key {key}: nonce {nonce}"),
+    )
+}
+
+const fn kind_words(kind: PairKind) -> &'static str {
+    match kind {
+        PairKind::Sent => "sent by",
+        PairKind::Received => "received from",
+        PairKind::Notice => "notices for",
+    }
+}

@@ -1,0 +1,135 @@
+#!/usr/bin/env -S python3 -B
+"""draw.py PROGRAM
+
+Draws schedules: those of examples/, each of which has its picture beside it; and some that a picture has to bear: 10,000 commands,
+comments with markup and control characters, more nodes than a text has room for. Looks at each picture as a document of XML, and at
+each text for its width. Prints what is wrong, and ends with 1 where something is."""
+import subprocess
+import sys
+import xml.etree.ElementTree as ElementTree
+from pathlib import Path
+
+HERE = Path(__file__).resolve().parent
+EXAMPLES = HERE.parent / "examples"
+LIMIT = 60
+SVG = "{http://www.w3.org/2000/svg}"
+SHAPES = {SVG + tag for tag in ("svg", "title", "style", "defs", "marker", "path", "circle", "rect", "text", "line", "use", "g")}
+MOST_BYTES = 2_100_000
+MOST_CHARACTERS = 100
+
+program = sys.argv[1]
+failed = []
+
+
+def check(what, found, wanted):
+    if found != wanted:
+        failed.append(what)
+        print(f"{what}: {found!r}, wanted {wanted!r}")
+
+
+def run(*words, text):
+    return subprocess.run([program, *words], input=text.encode(), capture_output=True, timeout=LIMIT, check=False)
+
+
+def lines_of(text):
+    """What is played of a schedule, the first line of each command: the lines of a `hold` and of `acks` behind theirs are left out."""
+    script = text.split("\n---\n", 1)[1].splitlines()
+    commands = [line.split() for line in script if line.strip() and not line.startswith("#")]
+    played = run("play", "-", text=text).stdout.decode().splitlines()
+    firsts, place = [], 0
+    for command in commands:
+        firsts.append(played[place])
+        place += 1
+        while place < len(played) and (played[place].startswith("row ") or command[0] == "acks" and played[place].startswith("acks ")):
+            place += 1
+    return firsts
+
+
+def looks_at_image(name, text):
+    """A document of shapes alone, with an element for each command, in order, which has the first of its lines."""
+    done = run("draw", "-", text=text)
+    check(f"{name}, status and standard error", (done.returncode, done.stderr), (0, b""))
+    root = ElementTree.fromstring(done.stdout)
+    check(f"{name}, tags", sorted({it.tag for it in root.iter()} - SHAPES), [])
+    elements = root.findall(SVG + "g")
+    check(f"{name}, numbers", [it.get("id") for it in elements], [f"e{number + 1}" for number in range(len(elements))])
+    check(f"{name}, lines", [it.find(SVG + "title").text for it in elements], lines_of(text))
+    check(f"{name}, references", b"http" in done.stdout.replace(b'xmlns="http://www.w3.org/2000/svg"', b""), False)
+    return done.stdout, root
+
+
+def looks_at_text(name, text):
+    """Lines of at most 100 printable characters of ASCII; those that begin with a number are those of the commands, in order."""
+    done = run("draw", "--text", "-", text=text)
+    check(f"{name} as text, status and standard error", (done.returncode, done.stderr), (0, b""))
+    lines = done.stdout.decode("ascii").splitlines()
+    check(f"{name} as text, lines", [line for line in lines if len(line) > MOST_CHARACTERS or not line.isprintable()], [])
+    numbers = [int(line.split(" ", 1)[0]) for line in lines if line[:1].isdigit()]
+    check(f"{name} as text, numbers", numbers, list(range(1, len(lines_of(text)) + 1)))
+    return lines
+
+
+def pictures_are_those_beside():
+    found = sorted([*(EXAMPLES / "schedules").glob("*.schedule"), *(EXAMPLES / "attacks").glob("*.schedule")])
+    for schedule in found:
+        drawn, _ = looks_at_image(schedule.name, schedule.read_text())
+        looks_at_text(schedule.name, schedule.read_text())
+        check(f"the picture of {schedule.name}", drawn == schedule.with_suffix(".svg").read_bytes(), True)
+    check("some pictures", len(found) > 20, True)
+
+
+def ten_thousand_commands():
+    sent = [f"send r1 s1\ndeliver {2 * place}\ndeliver {2 * place + 1}\ntick 1\n" for place in range(2500)]
+    drawn, root = looks_at_image("10,000 commands", f"{configuration()}---\n{''.join(sent)}")
+    check("the size of 10,000 commands", len(drawn) <= MOST_BYTES, True)
+    check("what is left out", any("10000 events" in (it.text or "") for it in root.iter(SVG + "text")), True)
+
+
+def strange_comments():
+    for comment in ("<script>alert(1)</script> & </title> \"'", "\x1b[31m\x07\x7f\x9b", "\ufffe\uffff\ufffd", "ü 統", "", "]]> <!-- -->"):
+        text = f"{configuration()}---\n#{comment}\nsend r1 s1\ndeliver 0\n"
+        _, root = looks_at_image(f"the comment {comment!r}", text)
+        shown = "".join(it if it.isprintable() and it not in "\ufffe\uffff" else "?" for it in comment.strip(" "))
+        check(f"the title of {comment!r}", root.find(SVG + "title").text or "", shown)
+        looks_at_text(f"the comment {comment!r}", text)
+
+
+def many_nodes():
+    names = [f"r{place:031}" for place in range(12)]
+    routers = [f"""[[router]]
+name = "{name}"
+address = "127.0.1.{place + 1}"
+site = "0000000000000001"
+xtr = "{place + 1:032x}"
+key = 1
+servers = ["s1"]
+records = ["10.1.0.0/16=1440{'+192.0.2.1' * 40}"]
+""" for place, name in enumerate(names)]
+    script = "".join(f"send {name} s1\ndeliver {2 * place}\ndeliver {2 * place + 1}\n" for place, name in enumerate(names))
+    text = f"{configuration().split('[[router]]')[0]}{''.join(routers)}---\n{script}hold s1\nrestart s1 0\n"
+    looks_at_image("12 routers", text)
+    lines = looks_at_text("12 routers", text)
+    check("nodes that have no line", any("more nodes have no line" in line for line in lines), True)
+
+
+def faults():
+    check("no node", run("draw", "-", text="---\n").returncode, 0)
+    broken = configuration().encode() + b"---\n# \xff\n"
+    done = subprocess.run([program, "draw", "-"], input=broken, capture_output=True, timeout=LIMIT, check=False)
+    check("a comment that isn't UTF-8", (done.returncode, done.stdout, done.stderr), (2, b"", b"lispd: fault 95\n"))
+    for words, text, status, error in ((["no-such.schedule"], "", 1, b"lispd: fault 93\n"), (["-"], "a = 1\n", 2, b"lispd: fault 96\n"),
+                                       (["-"], configuration() + "---\nsend r1\n", 2, b"lispd: fault 81 line 1\n")):
+        for form in ([], ["--text"]):
+            done = run("draw", *form, *words, text=text)
+            check(f"draw {form} {words}", (done.returncode, done.stdout, done.stderr), (status, b"", error))
+
+
+def configuration():
+    lines = (EXAMPLES / "configuration.toml").read_text().splitlines(keepends=True)
+    return "".join(line for line in lines if not line.startswith("#"))
+
+
+for test in (pictures_are_those_beside, ten_thousand_commands, strange_comments, many_nodes, faults):
+    test()
+print(f"{len(failed)} wrong pictures", file=sys.stderr)
+sys.exit(1 if failed else 0)
