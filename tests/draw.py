@@ -82,7 +82,12 @@ def ten_thousand_commands():
     sent = [f"send r1 s1\ndeliver {2 * place}\ndeliver {2 * place + 1}\ntick 1\n" for place in range(2500)]
     drawn, root = looks_at_image("10,000 commands", f"{configuration()}---\n{''.join(sent)}")
     check("the size of 10,000 commands", len(drawn) <= MOST_BYTES, True)
-    check("what is left out", any("10000 events" in (it.text or "") for it in root.iter(SVG + "text")), True)
+    check("what is left out", any("10000 commands" in (it.text or "") for it in root.iter(SVG + "text")), True)
+    lost = "".join(f"send r1 s1{' doubt' * (place == 604)}\n" for place in range(605))
+    _, root = looks_at_image("605 commands", f"{configuration()}---\n{lost}deliver 999\n")
+    uses = [it.get("href") for it in root.iter(SVG + "use")]
+    check("stubs above 600", len([it for it in root.iter(SVG + "line") if it.get("class") == "lost"]), 604)
+    check("rings and bars above 600", (uses.count("#doubt"), uses.count("#untaken")), (1, 1))
 
 
 def strange_comments():
@@ -109,7 +114,28 @@ records = ["10.1.0.0/16=1440{'+192.0.2.1' * 40}"]
     text = f"{configuration().split('[[router]]')[0]}{''.join(routers)}---\n{script}hold s1\nrestart s1 0\n"
     looks_at_image("12 routers", text)
     lines = looks_at_text("12 routers", text)
-    check("nodes that have no line", any("more nodes have no line" in line for line in lines), True)
+    check("nodes that have no line", [line for line in lines if line.startswith("(")], ["(nodes without a line: 1 idle, 5 busy)"])
+
+
+def what_is_told_of_stores():
+    text = (HERE / "schedules" / "messages" / "notice-and-restart.schedule").read_text()
+    for form in ([], ["--text"]):
+        told = run("draw", *form, "-", text=text).stdout.decode()
+        check(f"draw {form} of what is kept of notices", ("sent in notices: nonce" in told, "for other" in told), (True, False))
+
+
+def titles():
+    for title, shown in (("# 7 commands", "7 commands"), ("#no space", "no space"), ("#", "")):
+        text = f"{title}\n{configuration()}---\nsend r1 s1\n"
+        check(f"the title {title!r}", looks_at_image(title, text)[1].find(SVG + "title").text or "", shown)
+        check(f"the title {title!r} as text", looks_at_text(title, text)[0], f"# {shown}".rstrip())
+
+
+def where_a_map_notify_goes():
+    """It is for the node that the Map-Register came from, and not for the router that this names: nothing happens to that one."""
+    junk = (EXAMPLES / "map-register.hex").read_text().strip()
+    lines = looks_at_text("from a stranger", f"{configuration()}---\njunk s1 192.0.2.77 {junk}\n")
+    check("one line", len([line for line in lines if "(Map-Server" in line or "(router" in line]), 1)
 
 
 def faults():
@@ -129,7 +155,8 @@ def configuration():
     return "".join(line for line in lines if not line.startswith("#"))
 
 
-for test in (pictures_are_those_beside, ten_thousand_commands, strange_comments, many_nodes, faults):
+for test in (pictures_are_those_beside, ten_thousand_commands, strange_comments, many_nodes, what_is_told_of_stores, titles,
+             where_a_map_notify_goes, faults):
     test()
 print(f"{len(failed)} wrong pictures", file=sys.stderr)
 sys.exit(1 if failed else 0)

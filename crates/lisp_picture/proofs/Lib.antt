@@ -2,3 +2,4 @@ mod Adding
 mod Lines
 mod Elements
 mod Ladders
+mod NoMarkup

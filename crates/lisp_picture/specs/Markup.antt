@@ -1,7 +1,7 @@
 -- What a picture is made of, as a document of XML has it. Texts can't be markup there.
-use Rattle.std.specs.Prelude.{◌≡◌, ℕ, ◌&&◌, ◌||◌, nat_lt, nat_eq, Bool, List, ◌++◌, codes, Result, String, string_bytes, OnOk, if◌then◌else◌}
+use Rattle.std.specs.Prelude.{◌≡◌, ◌≢◌, ℕ, ◌&&◌, ◌||◌, nat_lt, nat_eq, Bool, List, ◌++◌, codes, Result, String, string_bytes, OnOk, if◌then◌else◌}
 use Rattle.std.specs.Fmt.{decimal}
-use Rattle.std.specs.List.{flat_map}
+use Rattle.std.specs.List.{flat_map, AllByRecursion}
 use Rattle.std.specs.Char.{encode_utf8}
 use Rattle.std.specs.Str.{chars}
 use Rattle.lisp_picture.specs.declared.point.Point.{Point}
@@ -29,6 +29,10 @@ written c =
 -- and a text
 abbrev pub escaped : List ℕ → List ℕ
 escaped words = flat_map written (chars words)
+
+-- there is no byte that begins or ends an element, or ends an attribute
+abbrev pub HasNoMarkup : List ℕ → Type 0
+HasNoMarkup bytes = AllByRecursion (λ b. (b ≢ 60) × (b ≢ 62) × (b ≢ 34)) bytes
 
 -- the beginning of the element of a sign, and of one with its class; an attribute with a number; the two of a place
 abbrev pub sign_text : List ℕ → List ℕ

@@ -4,8 +4,9 @@ ghost use Rattle.std.specs.Prelude.{OnErr};
 
 use crate::message::Message;
 use lisp_memory::{FallibleVec, Memory};
-use lisp_model::Line;
-use lisp_records::RouterId;
+use lisp_model::{Event, Line};
+use lisp_records::Addr;
+use lisp_script::Command;
 use lisp_sites::Config;
 use std::alloc::{AllocError, Allocator};
 
@@ -28,12 +29,13 @@ pub(crate) struct Datagram {
 pub(crate) fn add_datagram<A: Memory, E: Allocator>(
     datagrams: &mut Vec<Datagram, A>,
     config: &Config<E>,
+    command: &Command<E>,
     line: &Line,
     place: usize,
 ) -> Result<(), AllocError>
     ensures memory { OnErr result A.may_refuse }
 {
-    if let Some((message, nonce, from, to)) = sent(config, line, datagrams) {
+    if let Some((message, nonce, from, to)) = sent(config, command, line, datagrams) {
         datagrams.try_push(Datagram {
             message,
             nonce,
@@ -49,6 +51,7 @@ pub(crate) fn add_datagram<A: Memory, E: Allocator>(
 // The message that was sent with a line, its nonce, and the nodes that it is from and for.
 fn sent<E: Allocator>(
     config: &Config<E>,
+    command: &Command<E>,
     line: &Line,
     before: &[Datagram],
 ) -> Option<(Message, u64, usize, Option<usize>)> {
@@ -61,7 +64,6 @@ fn sent<E: Allocator>(
         } => Some((Message::MapRegister, *nonce, *router, Some(*server))),
         Line::Accepted {
             server,
-            router,
             nonce,
             datagram: Some(_),
             ..
@@ -69,7 +71,7 @@ fn sent<E: Allocator>(
             Message::MapNotify,
             *nonce,
             *server,
-            router_number(config, router),
+            source(config, command, before),
         )),
         Line::Notice {
             server,
@@ -106,8 +108,28 @@ fn is_notice(datagram: &Datagram) -> bool {
     matches!(datagram.message, Message::Notice)
 }
 
-// The number of the router with an identity.
-fn router_number<E: Allocator>(config: &Config<E>, me: &RouterId) -> Option<usize> {
-    let place = config.routers().iter().position(|router| router.me == *me)?;
-    config.servers().len().checked_add(place)
+// The node that the bytes come from which a command lets arrive, by their source address.
+fn source<E: Allocator>(
+    config: &Config<E>,
+    command: &Command<E>,
+    before: &[Datagram],
+) -> Option<usize> {
+    match command {
+        Command::Act(Event::Deliver { k, .. }) => Some(before.get(*k)?.from),
+        Command::Act(Event::Junk { from, .. }) => node_at(config, from),
+        _ => None,
+    }
+}
+
+// The node with an address.
+fn node_at<E: Allocator>(config: &Config<E>, address: &Addr) -> Option<usize> {
+    let servers = config.servers();
+    if let Some(place) = servers.iter().position(|server| server.address == *address) {
+        return Some(place);
+    }
+    let routers = config.routers();
+    let place = routers
+        .iter()
+        .position(|router| router.address == *address)?;
+    servers.len().checked_add(place)
 }

@@ -17,7 +17,7 @@ use std::alloc::{AllocError, Allocator};
 /// Where words begin, in pixels from the left.
 const MARGIN: u64 = 16;
 
-/// How wide the box of a node's name is, in pixels, where the lines of the nodes are as near as they can be.
+/// How far the boxes of two nodes' names are apart, in pixels.
 const HEAD_GAP: u64 = 20;
 
 /// How much room one character of the title takes, in pixels.
@@ -66,7 +66,9 @@ fn draw_count<A: Memory + Copy>(pen: &mut Pen<A>, y: u64, count: usize) -> Resul
 {
     let words = String::try_format(
         pen.alloc,
-        format_args!("{count} events, without details: point at one to read its line."),
+        format_args!(
+            "{count} commands, without words: open the image by itself, and point at one to read its line."
+        ),
     )?;
     pen.text(Class::Note, Point { x: MARGIN, y }, words)
 }

@@ -8,7 +8,6 @@ use crate::heading::kind_text;
 use crate::ladder_row::{Cells, put_line, put_numbered};
 use crate::notes::add_notes;
 use crate::rungs::Rungs;
-use crate::sign::Sign;
 use crate::story::{Story, story_of};
 use crate::table::table;
 use crate::wrap::Lines;
@@ -17,6 +16,9 @@ use lisp_memory::{FallibleString, Memory};
 use lisp_player::{History, Outcome};
 use lisp_script::Command;
 use std::alloc::AllocError;
+
+/// What each line of the title begins with, so that none looks like that of a command.
+const TITLE_MARK: &str = "# ";
 
 /// The picture of a schedule that was played as lines of text, for a terminal: at most 100 characters each, all of them of
 /// ASCII and printable. Each command has its lines, in their order, of which the first begins with its number, from 1 on.
@@ -31,7 +33,7 @@ pub fn ladder_text<A: Memory + Copy>(
     let story = story_of(alloc, history)?;
     let rungs = Rungs::new(&story.nodes);
     let mut text = String::new(alloc);
-    put_heading(alloc, &mut text, title, history, &rungs)?;
+    put_heading(alloc, &mut text, title, history, &story, &rungs)?;
     put_events(alloc, &mut text, history, &story, &rungs)?;
     Ok(text)
 }
@@ -42,45 +44,51 @@ fn put_heading<A: Memory + Copy>(
     text: &mut String<A>,
     title: &str,
     history: &History<A>,
+    story: &Story<A>,
     rungs: &Rungs<'_>,
 ) -> Result<(), AllocError>
     ensures lines { OnOk result (AddsLines (string_bytes text.old) (string_bytes text.new)) }
     ensures memory { OnErr result A.may_refuse }
 {
-    put_wrapped(alloc, text, title)?;
+    put_wrapped(alloc, text, TITLE_MARK, title)?;
     for (place, node) in rungs.nodes.iter().enumerate() {
         let mut cells = rungs.cells(place);
         let kind = kind_text(alloc, &history.config, *node)?;
         let name = node_name(&history.config, *node);
         let words = String::try_format(alloc, format_args!("{name} ({kind})"))?;
-        cells.write(rungs.at(place), &words);
+        let last = Cells::WIDTH.saturating_sub(words.len());
+        cells.write(rungs.at(place).min(last), &words);
         put_line(text, &cells)?;
     }
-    let others = history
-        .config
-        .node_count()
-        .saturating_sub(rungs.nodes.len());
-    if others > 0 {
-        let words = String::try_format(alloc, format_args!("({others} more nodes have no line)"))?;
-        put_wrapped(alloc, text, &words)?;
+    let count = history.config.node_count();
+    if count == rungs.nodes.len() {
+        return Ok(());
     }
-    Ok(())
+    let idle = count.saturating_sub(story.nodes.len());
+    let busy = story.nodes.len().saturating_sub(rungs.nodes.len());
+    let words = String::try_format(
+        alloc,
+        format_args!("(nodes without a line: {idle} idle, {busy} busy)"),
+    )?;
+    put_wrapped(alloc, text, "", &words)
 }
 
-// Appends words in whole lines.
+// Appends words in whole lines, each behind a mark.
 fn put_wrapped<A: Memory + Copy>(
     alloc: A,
     text: &mut String<A>,
+    mark: &str,
     words: &str,
 ) -> Result<(), AllocError>
     ensures lines { OnOk result (AddsLines (string_bytes text.old) (string_bytes text.new)) }
     ensures memory { OnErr result A.may_refuse }
 {
-    let mut lines = Lines::new(alloc, Cells::WIDTH);
+    let mut lines = Lines::new(alloc, Cells::WIDTH.saturating_sub(mark.len()));
     lines.add(words)?;
     for line in lines.into_lines().iter() {
         let mut cells = Cells::blank();
-        cells.write(0, line);
+        cells.write(0, mark);
+        cells.write(mark.len(), line);
         put_line(text, &cells)?;
     }
     Ok(())
@@ -125,7 +133,7 @@ fn put_event<A: Memory + Copy>(
     ensures event { OnOk result (AddsEvent number (string_bytes text.old) (string_bytes text.new)) }
     ensures memory { OnErr result A.may_refuse }
 {
-    let lines = words(alloc, history, rungs, place, outcome)?;
+    let lines = words(alloc, history, story, rungs, place, outcome)?;
     let mut cells = rungs.drawn(story, place);
     if let Some(line) = lines.first() {
         cells.write(rungs.words_at(), line);
@@ -155,6 +163,7 @@ fn put_more<A: Memory + Copy>(
 fn words<A: Memory + Copy>(
     alloc: A,
     history: &History<A>,
+    story: &Story<A>,
     rungs: &Rungs<'_>,
     place: usize,
     outcome: &Outcome<A>,
@@ -162,13 +171,13 @@ fn words<A: Memory + Copy>(
     ensures memory { OnErr result A.may_refuse }
 {
     let mut lines = Lines::new(alloc, rungs.words_width());
-    let Some(command) = history.commands.get(place) else {
+    let (Some(command), Some(row)) = (history.commands.get(place), story.rows.get(place)) else {
         return Ok(lines.into_lines());
     };
     let has_heading = matches!(command, Command::Hold(_));
     for line in table(alloc, &outcome.text, has_heading)?.iter() {
         lines.add(line)?;
     }
-    add_notes(alloc, &mut lines, &history.config, command, outcome)?;
+    add_notes(alloc, &mut lines, &history.config, row, command, outcome)?;
     Ok(lines.into_lines())
 }

@@ -13,6 +13,7 @@ mod form;
 mod heading;
 mod ladder;
 mod ladder_row;
+pub mod laws;
 mod message;
 mod notes;
 mod pen;

@@ -2,7 +2,9 @@
 
 ghost use Rattle.std.specs.Prelude.{OnErr};
 
+use crate::row::Row;
 use crate::wrap::Lines;
+use lisp_etr::{NotifyFault, RotateFault, SendFault, StartFault};
 use lisp_lines::{node_name, router_name};
 use lisp_memory::{FallibleString, Memory};
 use lisp_model::{Event, Line, Refusal};
@@ -10,6 +12,7 @@ use lisp_nonces::{Fate, PairKind};
 use lisp_player::{KeptNonce, Outcome};
 use lisp_refusals::{meaning, name};
 use lisp_script::Command;
+use lisp_server::{NoticeFault, Refused};
 use lisp_sites::Config;
 use lisp_texts::{addr_to_text, number_from_text};
 use std::alloc::{AllocError, Allocator};
@@ -20,6 +23,7 @@ pub(crate) fn add_notes<A: Memory + Copy>(
     alloc: A,
     lines: &mut Lines<A>,
     config: &Config<A>,
+    row: &Row,
     command: &Command<A>,
     outcome: &Outcome<A>,
 ) -> Result<(), AllocError>
@@ -31,10 +35,10 @@ pub(crate) fn add_notes<A: Memory + Copy>(
         add(
             alloc,
             lines,
-            format_args!("{length} bytes from outside, which tell {source} as their source"),
+            format_args!("Bytes from outside: source {source}, length {length}."),
         )?;
     }
-    if let Some(words) = fate_words(command) {
+    if let Some(words) = fate_words(row.fate) {
         lines.add(words)?;
     }
     match &outcome.line {
@@ -59,24 +63,17 @@ fn add<A: Memory + Copy, D: std::fmt::Display + Drop>(
 }
 
 // What a store does that is armed with a fate.
-fn fate_words<A: Allocator>(command: &Command<A>) -> Option<&'static str> {
-    let fate = match command {
-        Command::Act(
-            Event::Send { fate, .. }
-            | Event::Deliver { fate, .. }
-            | Event::Rotate { fate, .. }
-            | Event::Notice { fate, .. },
-        ) => *fate,
-        _ => Fate::Done,
-    };
+const fn fate_words(fate: Fate) -> Option<&'static str> {
     match fate {
         Fate::Done => None,
-        Fate::Doubt => Some("In doubt: each save fails now, and what it saved may be kept or not."),
-        Fate::LoadFails => Some("Each load of the store fails now."),
+        Fate::Doubt => Some(
+            "The store is armed: a save fails, and what it saved may be kept or not.",
+        ),
+        Fate::LoadFails => Some("The store is armed: a load fails."),
     }
 }
 
-// What a refusal means.
+// What a refusal means, and the number behind it, where it carries that of another fault.
 fn add_refusal<A: Memory + Copy>(
     alloc: A,
     lines: &mut Lines<A>,
@@ -84,7 +81,26 @@ fn add_refusal<A: Memory + Copy>(
 ) -> Result<(), AllocError>
     ensures memory { OnErr result A.may_refuse }
 {
-    add_number(alloc, lines, refusal.number())
+    add_number(alloc, lines, refusal.number())?;
+    match inner_number(refusal) {
+        Some(number) => add_number(alloc, lines, number),
+        None => Ok(()),
+    }
+}
+
+// The number of the fault that a refusal carries: of a message that can't be read, or of a store.
+fn inner_number(refusal: &Refusal) -> Option<u16> {
+    match refusal {
+        Refusal::Notify(NotifyFault::Read(fault)) | Refusal::Receive(Refused::Read(fault)) => {
+            Some(u16::from(fault.number()))
+        }
+        Refusal::Receive(Refused::StoreLoad(fault) | Refused::StoreSave(fault))
+        | Refusal::Send(SendFault::Store(fault))
+        | Refusal::Notice(NoticeFault::StoreLoad(fault) | NoticeFault::StoreSave(fault))
+        | Refusal::Start(StartFault::Store(fault))
+        | Refusal::Rotate(RotateFault::Store(fault)) => Some(fault.number()),
+        _ => None,
+    }
 }
 
 // What keeps the network from taking an event, by the line that tells its number.
@@ -145,19 +161,14 @@ fn add_nonce<A: Memory + Copy>(
     ensures memory { OnErr result A.may_refuse }
 {
     let router = router_name(config, &kept.pair.router);
-    let what = kind_words(kept.pair.kind);
     let (key, nonce) = (kept.pair.key, kept.nonce);
-    add(
-        alloc,
-        lines,
-        format_args!("{what} {router}, key {key}: nonce {nonce}"),
-    )
-}
-
-const fn kind_words(kind: PairKind) -> &'static str {
-    match kind {
-        PairKind::Sent => "sent by",
-        PairKind::Received => "received from",
-        PairKind::Notice => "notices for",
+    match kept.pair.kind {
+        PairKind::Sent => add(alloc, lines, format_args!("sent, key {key}: nonce {nonce}")),
+        PairKind::Received => add(
+            alloc,
+            lines,
+            format_args!("received from {router}, key {key}: nonce {nonce}"),
+        ),
+        PairKind::Notice => add(alloc, lines, format_args!("sent in notices: nonce {nonce}")),
     }
 }

@@ -1,4 +1,4 @@
-//! A sheet that is drawn, from its top down.
+//! Drawing shapes.
 
 ghost use Rattle.std.specs.Prelude.{OnErr};
 

@@ -84,7 +84,7 @@ impl<'a> Rungs<'a> {
         self.draw_arrival(&mut cells, story, row, end);
         self.draw_lost(&mut cells, story, row);
         if let (Some(at), Some((_, sign))) = (end, row.sign) {
-            cells.set(at, sign.letter());
+            cells.set(at, sign.character());
             if row.fate != Fate::Done {
                 cells.set(self.beside(story, row, at), b'?');
             }
@@ -169,6 +169,7 @@ impl<'a> Rungs<'a> {
         end: Option<usize>,
     ) {
         match (self.place(datagram.from), end) {
+            (Some(from), Some(to)) if from == to => self.draw_outside(cells, end),
             (Some(from), Some(to)) => {
                 draw_between(cells, from, to);
                 write_number(cells, from.min(to), from.max(to), k);

@@ -5,7 +5,7 @@ ghost use Rattle.std.specs.Prelude.{OnErr};
 use crate::class::Class;
 use crate::columns::Columns;
 use crate::datagram::Datagram;
-use crate::heading::{Heading, draw_heading};
+use crate::heading::{Heading, draw_heading, kind_text};
 use crate::pen::Pen;
 use crate::point::Point;
 use crate::row::Row;
@@ -24,8 +24,8 @@ const MOST_DETAILED: usize = 600;
 /// How far the lines of two nodes are apart at least, in pixels.
 const LEAST_SPACING: u64 = 170;
 
-/// How much room one character of a node's name takes, in pixels.
-const CHARACTER: u64 = 9;
+/// How much room one character of a node's name or address takes, in pixels.
+const CHARACTER: u64 = 7;
 
 /// How wide the part is that words stand in, behind the lines of the nodes, in pixels.
 const WORDS_WIDTH: u64 = 480;
@@ -64,7 +64,7 @@ pub(crate) fn lay_out<A: Memory + Copy>(
     let story = story_of(alloc, history)?;
     let columns = Columns {
         nodes: &story.nodes,
-        spacing: spacing(history, &story.nodes),
+        spacing: spacing(alloc, history, &story.nodes)?,
         room: room(&story.datagrams),
     };
     let is_brief = MOST_DETAILED < history.commands.len();
@@ -81,14 +81,22 @@ pub(crate) fn lay_out<A: Memory + Copy>(
     layout.end(width)
 }
 
-// How far the lines of two nodes are apart.
-fn spacing<A: Allocator>(history: &History<A>, nodes: &[usize]) -> u64 {
+// How far the lines of two nodes are apart: so far that the names and addresses of nodes have room.
+fn spacing<A: Memory + Copy>(
+    alloc: A,
+    history: &History<A>,
+    nodes: &[usize],
+) -> Result<u64, AllocError>
+    ensures memory { OnErr result A.may_refuse }
+{
     let mut spacing = LEAST_SPACING;
     for node in nodes {
-        let length = node_name(&history.config, *node).len() as u64;
-        spacing = spacing.max(length.saturating_mul(CHARACTER).saturating_add(30));
+        let name = node_name(&history.config, *node).len();
+        let kind = kind_text(alloc, &history.config, *node)?.len();
+        let longest = name.max(kind) as u64;
+        spacing = spacing.max(longest.saturating_mul(CHARACTER).saturating_add(30));
     }
-    spacing
+    Ok(spacing)
 }
 
 // How much room the labels of datagrams take.

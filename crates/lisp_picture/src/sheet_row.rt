@@ -69,18 +69,13 @@ pub(crate) fn draw_brief<A: Memory + Copy>(
         pen.line(way.class, way.from, way.to)?;
     }
     if row.now.is_some() {
-        return draw_moment(pen, columns, spot.middle);
+        draw_moment(pen, columns, spot.middle)?;
     }
+    draw_stub(pen, columns, story, row, spot)?;
+    draw_untaken(pen, row, spot)?;
     match sign_at(columns, row, spot) {
-        Some((sign, at)) if way.is_none() || sign != Sign::Done => pen.sign(sign.name(), at),
-        None if way.is_none() => pen.sign(
-            "refused",
-            Point {
-                x: 24,
-                y: spot.middle,
-            },
-        ),
-        _ => Ok(()),
+        Some((Sign::Done, _)) if way.is_some() && row.fate == Fate::Done => Ok(()),
+        _ => draw_sign(pen, columns, row, spot),
     }
 }
 
@@ -109,6 +104,7 @@ pub(crate) fn draw_row<A: Memory + Copy>(
         draw_way(pen, story, row, &way)?;
     }
     draw_stub(pen, columns, story, row, spot)?;
+    draw_untaken(pen, row, spot)?;
     draw_sign(pen, columns, row, spot)?;
     let (Some(command), Some(outcome)) = (
         history.commands.get(spot.place),
@@ -149,27 +145,14 @@ fn way_of<A: Allocator>(
         None => None,
     };
     match row.arrival? {
-        Arrival::Outside => {
-            let x = end?;
-            Some(Way {
-                class: Class::Arrow,
-                from: Point {
-                    x: x.saturating_sub(STUB),
-                    y,
-                },
-                to: Point {
-                    x: x.saturating_sub(TIP),
-                    y,
-                },
-                is_leftward: false,
-            })
-        }
+        Arrival::Outside => { Some(way_from_outside(end?, y)) }
         Arrival::Datagram(k) => {
             let datagram = story.datagrams.get(k)?;
             let start = columns.x(datagram.from)?;
             let sent = *middles.get(datagram.sent)?;
             let from = Point { x: start, y: sent };
             Some(match end {
+                Some(x) if x == start => way_from_outside(x, y),
                 Some(x) => way_to(from, x, y),
                 None => Way {
                     class: Class::Lost,
@@ -182,6 +165,22 @@ fn way_of<A: Allocator>(
                 },
             })
         }
+    }
+}
+
+// The way of what comes from outside, or from the node itself.
+fn way_from_outside(x: u64, y: u64) -> Way {
+    Way {
+        class: Class::Arrow,
+        from: Point {
+            x: x.saturating_sub(STUB),
+            y,
+        },
+        to: Point {
+            x: x.saturating_sub(TIP),
+            y,
+        },
+        is_leftward: false,
     }
 }
 
@@ -327,6 +326,26 @@ fn draw_sign<A: Memory + Copy>(
     pen.sign(sign.name(), at)
 }
 
+// Draws a sign at the left of a command that the network didn't take.
+fn draw_untaken<A: Memory + Copy>(
+    pen: &mut Pen<A>,
+    row: &Row,
+    spot: &Spot,
+) -> Result<(), AllocError>
+    ensures memory { OnErr result A.may_refuse }
+{
+    if row.sign.is_some() || row.now.is_some() || row.arrival.is_some() {
+        return Ok(());
+    }
+    pen.sign(
+        "untaken",
+        Point {
+            x: 56,
+            y: spot.middle,
+        },
+    )
+}
+
 // Draws a line across all nodes, and the moment.
 fn draw_clock<A: Memory + Copy>(
     pen: &mut Pen<A>,
@@ -421,7 +440,14 @@ fn draw_words<A: Memory + Copy>(
     let lines = lines.into_lines();
     draw_lines(pen, Class::Line, x, y, &lines)?;
     let mut notes = Lines::new(pen.alloc, WIDTH);
-    add_notes(pen.alloc, &mut notes, &history.config, command, outcome)?;
+    add_notes(
+        pen.alloc,
+        &mut notes,
+        &history.config,
+        row,
+        command,
+        outcome,
+    )?;
     let notes = notes.into_lines();
     let class = match row.sign {
         Some((_, Sign::Refused)) => Class::Refusal,

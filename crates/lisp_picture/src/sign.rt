@@ -28,7 +28,7 @@ impl Sign {
     }
 
     /// The character that stands for it in a line of text.
-    pub(crate) const fn letter(self) -> u8 {
+    pub(crate) const fn character(self) -> u8 {
         match self {
             Sign::Done => b'o',
             Sign::Refused => b'X',

@@ -36,7 +36,7 @@ pub(crate) fn story_of<A: Memory + Copy>(
         let line = outcome.line.as_ref();
         rows.try_push(row_of(command, line))?;
         if let Some(line) = line {
-            add_datagram(&mut datagrams, &history.config, line, place)?;
+            add_datagram(&mut datagrams, &history.config, command, line, place)?;
         }
     }
     mark_arrivals(&rows, &mut datagrams);

@@ -33,6 +33,7 @@ text{font:13px system-ui,sans-serif;fill:var(--ink);white-space:pre}
 <path id=\"refused\" class=\"r\" d=\"M-6 -6L6 6M-6 6L6 -6\"/>
 <path id=\"started\" class=\"s\" d=\"M-9 -2L9 -8M-9 8L9 2\"/>
 <path id=\"down\" class=\"r\" d=\"M-8 0H8\"/>
+<path id=\"untaken\" class=\"r\" d=\"M-6 0H6\"/>
 <path id=\"asked\" class=\"s\" d=\"M0 0H10\"/>
 <circle id=\"doubt\" class=\"d\" r=\"9\"/>
 </defs>

@@ -46,13 +46,14 @@ pub(crate) const DRAW_ABOUT: &str =
 
 /// How its picture is read, for its help.
 pub(crate) const DRAW_FORM: &str =
-    "Each node that something happens to has a line, and time runs down. An arrow is a datagram, \
-from where it was sent to where it
-arrives; one that arrives again has an arrow again; a stub never arrives. A dot is an event, a cross a refusal with its number and
-meaning, a ring around it a store that fails; where a line is broken the node started again. Above 600 commands there are arrows and
-signs alone.
-As text, where the first eight such nodes have a line: `o` an event, `X` a refusal, `?` a store that fails, `=` a start, `!` a router that is down, `#` a question, `x` the end of a
-datagram that never arrives.
+    "The title is the first line of the file that begins with `#`. Each node that something happens to has a line, and time runs
+down. An arrow is a datagram, from where it was sent to where it arrives; one that arrives again has an arrow again; a stub never
+arrives. A dot is an event, a cross a refusal, a ring around either a store that was armed to fail; where a line is broken the node
+started again. A bar at the left is a command that the network doesn't take. Of a long answer nine lines are shown. Above 600
+commands there are no words but the line of each as its tip.
+
+As text the first eight such nodes have a line: `o` is an event, `X` a refusal, `?` beside it a store that was armed to fail, `=` a
+start, `#` a question, and `x` the end of a datagram that never arrives.
 
 Examples:
   lispd draw examples/schedules/02-replay.schedule > picture.svg

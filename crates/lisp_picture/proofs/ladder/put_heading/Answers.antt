@@ -1,9 +1,9 @@
 use Rattle.lisp_picture.specs.Ladder.{OneMore}
-use Rattle.lisp_picture.proofs.Ladders.{lines_then}
+use Rattle.lisp_picture.proofs.Ladders.{lines_last}
 use Rattle.lisp_picture.proofs.ladder.put_heading.Goals as goal
 
 pub loop-place-preserved : goal.loop-place-preserved
 loop-place-preserved g c = OneMore _ _ _ c.loop-place.invariant c.in_ok-put_line.ensures.line
 
-pub returns-in_ok-put_wrapped-2-clause-lines : goal.returns-in_ok-put_wrapped-2-clause-lines
-returns-in_ok-put_wrapped-2-clause-lines g c = lines_then _ _ _ c.loop-place.invariant c.in_ok-put_wrapped-2.ensures.lines
+pub returns-clause-lines : goal.returns-clause-lines
+returns-clause-lines g c = lines_last c.put_wrapped-2.result _ _ _ c.loop-place.invariant c.put_wrapped-2.ensures.lines
