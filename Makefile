@@ -1,23 +1,30 @@
 # make run      answers a sample Map-Register, proved or not: two to three minutes on a fresh machine
 # make lispd    proves the program and builds it as out/lispd
+# make library  proves the library for C programs and builds it as out/liblisp_registration.a
 # make demo     a Map-Server and two routers on loopback, of which the Map-Server is killed and comes back: some seconds
 # make test     the gate: proves everything from nothing, tries the wrong bodies, runs the tests and the samples
 # make mutants  tries all wrong bodies, over what the gate kept; NAME=lisp_server those of one crate. docs/MUTANTS.log has the last answers
 # make slips    plants wrong definitions: an example of theirs has to refuse each; NAME=lisp_client those of one list
 # make fuzz     plays schedules that are drawn: COUNT of them from SEED on, over out/lispd
 # make bench    measures the codec, the tag and registrations; and of out/lispd saves on a disk, the reading of configurations, plays, and a server
-# make install  installs the program (out/lispd), its manual pages, completions, units and a sample: PREFIX=/usr/local, DESTDIR=
+# make install  installs the program (out/lispd), its manual pages, completions, units and a sample, and the library with its header and its
+#               pkg-config file: PREFIX=/usr/local, DESTDIR=
 # make uninstall removes these
 # make dist     packs them as out/lispd-VERSION.tar.gz. GATE=LOG names the log of a `make test`, whose closing lines go with them
 # make believe  counts the definitions that the contracts of `play`, `World::run` and `Server::receive` stand on
 # make clean    removes what was built
-.PHONY: run lispd demo test mutants slips fuzz bench install uninstall dist believe clean
+.PHONY: run lispd library demo test mutants slips fuzz bench install uninstall dist believe clean
+# Each proof takes all processors, and two at a time would write the same files.
+.NOTPARALLEL:
 
 run:
 	@tools/run
 
 lispd:
 	@tools/build
+
+library:
+	@tools/library
 
 demo: lispd
 	@tools/demo
@@ -52,21 +59,27 @@ bench: lispd
 
 PREFIX = /usr/local
 PROGRAM = out/lispd
+LIBRARY = out/liblisp_registration.a
 ROOT = $(DESTDIR)$(PREFIX)
 VERSION := $(shell sed -n 's/.*\.version("\(.*\)").*/\1/p' crates/lispd_cli/src/command_line.rt)
 PAGES = share/man/man1/lispd.1 share/man/man5/lispd.toml.5
 UNITS = lib/systemd/system/lispd-server@.service lib/systemd/system/lispd-router@.service
 COMPLETIONS = share/bash-completion/completions/lispd share/zsh/site-functions/_lispd
 SAMPLE = share/doc/lispd/examples/configuration.toml
+FOR_C = lib/liblisp_registration.a include/lisp_registration.h lib/pkgconfig/lisp_registration.pc
 
-# $(call put,FILE,PATH,KIND): installs a file below PREFIX, with the version, the program's folder and the kind of a node filled in.
-put = install -D -m 644 $(1) $(ROOT)/$(2) && sed -i 's|@VERSION@|$(VERSION)|; s|@BINDIR@|$(PREFIX)/bin|; s|@KIND@|$(3)|' $(ROOT)/$(2)
+# $(call put,FILE,PATH,KIND): installs a file below PREFIX, with the version, PREFIX, the program's folder and the kind of a node filled in.
+put = install -D -m 644 $(1) $(ROOT)/$(2) && \
+	sed -i 's|@VERSION@|$(VERSION)|; s|@PREFIX@|$(PREFIX)|; s|@BINDIR@|$(PREFIX)/bin|; s|@KIND@|$(3)|' $(ROOT)/$(2)
 
-# Where the program is there it is installed as it is: what one user built another may install.
+# Where the program or the library is there it is installed as it is: what one user built another may install.
 out/lispd:
 	@tools/build
 
-install: $(PROGRAM)
+out/liblisp_registration.a:
+	@tools/library
+
+install: $(PROGRAM) $(LIBRARY)
 	@install -D -m 755 $(PROGRAM) $(ROOT)/bin/lispd
 	@$(call put,docs/lispd.1,share/man/man1/lispd.1)
 	@$(call put,docs/lispd.toml.5,share/man/man5/lispd.toml.5)
@@ -74,12 +87,15 @@ install: $(PROGRAM)
 	@$(call put,packaging/lispd@.service.in,lib/systemd/system/lispd-router@.service,router)
 	@$(call put,examples/configuration.toml,$(SAMPLE))
 	@tools/completions $(PROGRAM) $(ROOT)/share
+	@install -D -m 644 $(LIBRARY) $(ROOT)/lib/liblisp_registration.a
+	@install -D -m 644 include/lisp_registration.h $(ROOT)/include/lisp_registration.h
+	@$(call put,packaging/lisp_registration.pc.in,lib/pkgconfig/lisp_registration.pc)
 
 uninstall:
-	@cd $(ROOT) && rm -f bin/lispd $(PAGES) $(UNITS) $(COMPLETIONS) $(SAMPLE)
+	@cd $(ROOT) && rm -f bin/lispd $(PAGES) $(UNITS) $(COMPLETIONS) $(SAMPLE) $(FOR_C)
 	@cd $(ROOT)/share && if [ -d doc/lispd ]; then find doc/lispd -type d -empty -delete; fi
 
-dist: $(PROGRAM)
+dist: $(PROGRAM) $(LIBRARY)
 	@rm -rf out/dist
 	@$(MAKE) -s install DESTDIR=out/dist
 	@tools/dist out/dist$(PREFIX) $(VERSION) $(GATE)

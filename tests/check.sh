@@ -4,8 +4,8 @@
 # refused.txt, files that can't be read or written, bytes that were changed (changed.py), beside a plain list of rows
 # (rows.py), with calls that fail (failing.py), over schedules of chance (fuzz.py), as pictures (draw.py), on sockets
 # and files (running.py, databases.py, groups.py, control.py, devices.py, folders.py, timing.py, addresses.py,
-# output.py), and of what is installed (packaging.py). Prints each run that differs from what is wanted, and ends with
-# 1 where one does.
+# output.py), and of what is installed (packaging.py); and the library for C programs, which it builds (library.py,
+# library_rust.py). Prints each run that differs from what is wanted, and ends with 1 where one does.
 case ${1-} in
     '') program=../out/lispd ;;
     /*) program=$1 ;;
@@ -252,6 +252,10 @@ expect 'a database of 17 parts' 2 '' 'lispd: fault 84 line 1' play ../out/schedu
 ./timing.py "$program" || failed=1
 ./addresses.py "$program" || failed=1
 ./output.py "$program" || failed=1
-./packaging.py "$program" || failed=1
+# `rt ci` leaves no library behind: it is built from what is proved.
+../tools/library > ../out/library.log || failed=1
+./library.py ../out/liblisp_registration.a || failed=1
+./library_rust.py ../out || failed=1
+./packaging.py "$program" ../out/liblisp_registration.a || failed=1
 
 exit $failed

@@ -1,8 +1,9 @@
 #!/usr/bin/env -S python3 -B
-"""packaging.py PROGRAM
-Installs a program as `make install` does, removes it, and packs it: which files there are, what systemd says of the units, what the
-shells complete, that the manual pages have the program's options and the configuration's fields, and that two folders give the same
-package. Prints each check that fails, and what it left out where a tool is missing; ends with 1 where a check fails."""
+"""packaging.py PROGRAM LIBRARY
+Installs a program and the library for C programs as `make install` does, removes them, and packs them: which files there are, what
+systemd says of the units, what the shells complete, that the manual pages have the program's options and the configuration's fields,
+that a C program finds the library by pkg-config, and that two folders give the same package. Prints each check that fails, and what it
+left out where a tool is missing; ends with 1 where a check fails."""
 import hashlib
 import os
 import re
@@ -14,16 +15,18 @@ import tempfile
 from pathlib import Path
 
 TOP = Path(__file__).resolve().parent.parent
-program = os.path.abspath(sys.argv[1])
+program, library = map(os.path.abspath, sys.argv[1:])
 MODES = {"bin/lispd": 0o755, **dict.fromkeys((
+    "include/lisp_registration.h", "lib/liblisp_registration.a", "lib/pkgconfig/lisp_registration.pc",
     "lib/systemd/system/lispd-router@.service", "lib/systemd/system/lispd-server@.service", "share/bash-completion/completions/lispd",
     "share/doc/lispd/examples/configuration.toml", "share/man/man1/lispd.1", "share/man/man5/lispd.toml.5",
     "share/zsh/site-functions/_lispd"), 0o644)}
 BASH_COMPLETION, ZSH_COMPLETION = "share/bash-completion/completions/lispd", "share/zsh/site-functions/_lispd"
+HEADER, LIBRARY, FOR_PKG_CONFIG = [it for it in MODES if "lisp_registration" in it]
 GATE, SUMS = "share/doc/lispd/GATE", "share/doc/lispd/SHA256SUMS"
 UNITS, PAGES = [it for it in MODES if it.endswith(".service")], [it for it in MODES if "/man/" in it]
 # What `make dist` reads of the repository.
-SOURCES = ["Makefile", "crates/lispd_cli/src/command_line.rt", "docs", "examples", "packaging", "tools"]
+SOURCES = ["Makefile", "crates/lispd_cli/src/command_line.rt", "docs", "examples", "include", "packaging", "tools"]
 CLOSING_LINES = "rt: ok; handles allowed: Net\n31 passed, 0 failed\n"
 
 failed = False
@@ -55,7 +58,7 @@ def make(*words, top=TOP, time=None, **how):
     """Runs make, as if no other make had called it; SOURCE_DATE_EPOCH is the time."""
     env = {name: value for name, value in os.environ.items() if not name.startswith("MAKE")}
     env |= {"SOURCE_DATE_EPOCH": time} if time else {}
-    return ran("make", "-s", "-C", str(top), f"PROGRAM={program}", *words, env=env, **how)
+    return ran("make", "-s", "-C", str(top), f"PROGRAM={program}", f"LIBRARY={library}", *words, env=env, **how)
 
 
 def files_of(folder):
@@ -85,11 +88,14 @@ def installs(room):
     check("its files", files_of(to), {f"usr/local/{path}": mode for path, mode in MODES.items()})
     check("its folders that others can't enter", [str(it) for it in to.rglob("*") if it.is_dir() and it.stat().st_mode & 0o5 != 0o5], [])
     check("the program", (root / "bin/lispd").read_bytes() == Path(program).read_bytes(), True)
-    for path in (*UNITS, *PAGES):
+    check("the library", (root / LIBRARY).read_bytes() == Path(library).read_bytes(), True)
+    check("the header", (root / HEADER).read_bytes() == (TOP / HEADER).read_bytes(), True)
+    for path in (*UNITS, *PAGES, FOR_PKG_CONFIG):
         check(f"what isn't filled in of {path}", re.findall(r"@[A-Z]+@", (root / path).read_text().replace("@NAME@", "")), [])
     for path in UNITS:
         check(f"the program of {path}", "ExecStart=/usr/local/bin/lispd " in (root / path).read_text(), True)
     version = ran(program, "--version")[1].strip()
+    check("the version of the library", f"\nVersion: {version.split()[-1]}\n" in (root / FOR_PKG_CONFIG).read_text(), True)
     check("the version", [page for page in PAGES if f'"{version}"' not in (root / page).read_text()], [])
     (root / "share/doc/other").mkdir()
     for _ in range(2):
@@ -148,6 +154,16 @@ def pages_are_well(root):
     check("the fields of lispd.toml.5", fields - set(re.findall(r"\w+", (root / PAGES[1]).read_text())), set())
 
 
+def c_programs_find_the_library(room, root):
+    if not is_there("pkg-config", "the library with it was") or not is_there("cc", "the library was"):
+        return
+    status, flags = ran("pkg-config", "--cflags", "--libs", "lisp_registration", env={**os.environ, "PKG_CONFIG_PATH": f"{root}/lib/pkgconfig"})
+    check("pkg-config", (status, flags.split()), (0, [f"-I{root}/include", f"-L{root}/lib", "-llisp_registration"]))
+    check("cc check.c", ran("cc", str(TOP / "examples/c/check.c"), *flags.split(), "-o", f"{room}/check"), (0, ""))
+    with open(TOP / "examples/map-register.hex", encoding="utf-8") as datagram:
+        check("check.c", ran(f"{room}/check", "secret", stdin=datagram)[0], 0)
+
+
 def copied(to, umask):
     """What `make dist` reads, in a folder of its own."""
     for path in SOURCES:
@@ -191,5 +207,6 @@ with tempfile.TemporaryDirectory() as name:
     bash_completes(root)
     zsh_has_the_options(root)
     pages_are_well(root)
+    c_programs_find_the_library(room, root)
     two_folders_give_one_package(room)
 sys.exit(1 if failed else 0)

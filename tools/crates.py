@@ -17,10 +17,11 @@ LOG = "out/build.log"
 
 
 def read_crates():
-    """Each crate of crates.txt with its line there, and with those of its libraries that are the repository's."""
+    """Each crate of crates.txt with its line there, and with those of its libraries that are the repository's. (Behind the name of a
+    static library stands the word `staticlib`.)"""
     with open(f"{TOP}/crates.txt", encoding="utf-8") as file:
-        lines = {it.split(":")[0]: it for it in file if ":" in it and not it.startswith("#")}
-    return lines, {crate: [it for it in line.split()[1:] if it in lines] for crate, line in lines.items()}
+        lines = {it.split(":")[0].split()[0]: it for it in file if ":" in it and not it.startswith("#")}
+    return lines, {crate: [it for it in line.split(":")[1].split() if it in lines] for crate, line in lines.items()}
 
 
 LINES, BELOW = read_crates()

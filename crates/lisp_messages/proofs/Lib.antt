@@ -10,3 +10,4 @@ pub mod RecordsLaws
 pub mod WrittenLaws
 pub mod WrittenLemmas
 pub mod ReadingLaws
+pub mod LayoutLemmas

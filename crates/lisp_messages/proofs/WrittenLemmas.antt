@@ -3,9 +3,8 @@ use Rattle.std.proofs.Common.{◌≡◌, ℕ, ◌*◌, ◌^◌, ◌<◌, List, [
 use Rattle.std.specs.Prelude.{OnOk, is_ok, if◌then◌else◌}
 use Rattle.std.specs.Int.{from_bool}
 use Rattle.std.specs.List.{AllByRecursion}
-use Rattle.std.proofs.Math.ListN.{drop_of_length-le}
 use Rattle.std.proofs.lemmas.Grind.{flat_map-append}
-use Rattle.std.proofs.lemmas.List.{append-nil, drop-drop, length-append, length-take, length-drop, take_all, take_at, take_more, drop_at}
+use Rattle.std.proofs.lemmas.List.{append-nil, length-append, take_at, take_more, drop_at}
 use Rattle.std.proofs.lemmas.List.Elements.{All-take, All-drop, recursion_from_All}
 use Rattle.lisp_records.specs.Record.{MapRecordValue, IsMapRecord}
 use Rattle.lisp_records.specs.Written.{written as written_record}
@@ -117,12 +116,3 @@ records_go_on old out new rs i m lt at so_far appended =
     appended ∙ ap (λ (t : List ℕ). t ++ written_record m) so_far ∙ append_assoc old front (written_record m) ∙ ap (λ (t : List ℕ). old ++ t) (sym (records_more rs i m lt at))
 
 -- ---- a tag in its place
-
--- a part of a buffer that was written over, and what stands behind it
-pub put_in_place : (len : ℕ) (items seen put tag : List ℕ) → len ≡ length items → 32 ≤ length items → seen ≡ items → put ≡ tag → length tag ≡ 16
-    → take len ((take 16 seen ++ (put ++ drop 16 (drop 16 seen))) ++ drop (length (take 16 seen ++ (put ++ drop 16 (drop 16 seen)))) items) ≡ take 16 items ++ tag ++ drop 32 items
-put_in_place len items seen put tag size long same written wide =
-    let whole : List ℕ = take 16 items ++ (tag ++ drop 32 items) in
-    let sizes : length whole ≡ length items = omega (arith, length-append (take 16 items) (tag ++ drop 32 items), length-append tag (drop 32 items), length-take 16 items, length-drop 32 items) in
-    let none : whole ++ drop (length whole) items ≡ whole = ap (λ (t : List ℕ). whole ++ t) (drop_of_length-le items (omega (arith, sizes))) ∙ append-nil whole in
-    rw (same, written, drop-drop 16 16 items) (ap (take len) none ∙ take_all len whole (omega (arith, size, sizes)) ∙ sym (append_assoc (take 16 items) tag (drop 32 items)))

@@ -6,3 +6,4 @@ pub mod Written
 pub mod Authentic
 pub mod Reading
 pub mod Head
+pub mod Layout

@@ -1,6 +1,6 @@
 //! Authentication of a message: the tag in its Authentication Data.
 
-ghost use Rattle.std.specs.Prelude.{◌≡◌, ◌≤◌, ◌↔◌, vec_len, IsTrue};
+ghost use Rattle.std.specs.Prelude.{◌≡◌, ◌≤◌, ◌↔◌, length, vec_len, IsTrue};
 ghost use Rattle.lisp_messages.specs.Authentic.{IsAuthentic, is_authentic, with_tag};
 
 use crate::reading::HEAD_LEN;
@@ -27,11 +27,19 @@ pub fn authentic_under(bytes: &[u8], key: &Key) -> bool
     bytes.len() >= HEAD_LEN && key.checks(bytes, AUTH_AT)
 }
 
-/// Puts the tag of a message under the key into its Authentication Data.
-pub(crate) fn sign<A: Allocator>(message: &mut Vec<u8, A>, key: &Key)
-    requires { 32 ≤ vec_len message.old }
-    ensures { message.new.items ≡ with_tag key.now message.old.items }
+/// Puts the tag of a message under the key into its Authentication Data (RFC 9301 section 5.6).
+pub fn sign(message: &mut [u8], key: &Key)
+    requires { 32 ≤ length message.old }
+    ensures { message.new ≡ with_tag key.now message.old }
 {
     let tag = key.tag128(message, AUTH_AT);
     message[AUTH_AT..AUTH_AT + TAG_LEN].copy_from_slice(&tag);
+}
+
+/// As `sign`, where the message was written.
+pub(crate) fn sign_written<A: Allocator>(message: &mut Vec<u8, A>, key: &Key)
+    requires { 32 ≤ vec_len message.old }
+    ensures { message.new.items ≡ with_tag key.now message.old.items }
+{
+    sign(message, key);
 }

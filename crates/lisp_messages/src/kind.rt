@@ -19,8 +19,8 @@ pub enum Kind {
 }
 
 impl Kind {
-    /// The kind of a type number; `Kind` at any number but 3, 4 and 5.
-    pub(crate) fn from_number(number: u8) -> Result<Kind, ReadFault>
+    /// The kind of a type number; `ReadFault::Kind` at any number but 3, 4 and 5.
+    pub fn from_number(number: u8) -> Result<Kind, ReadFault>
         ensures { Reads (λ k. k) result (kind_of number) }
     {
         match number {
@@ -32,7 +32,7 @@ impl Kind {
     }
 
     /// The type number: 3, 4 or 5.
-    pub(crate) const fn number(self) -> u8
+    pub const fn number(self) -> u8
         ensures { result ≡ kind_number self }
     {
         match self {

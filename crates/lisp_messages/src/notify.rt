@@ -9,7 +9,7 @@ ghost use Rattle.lisp_messages.specs.Written.{written_notify, written_notify_hea
 ghost use Rattle.lisp_records.specs.Result.{Reads};
 ghost use Rattle.lisp_messages.specs.Reading.{notify_at};
 
-use crate::authentication::sign;
+use crate::authentication::sign_written;
 use crate::fault::ReadFault;
 use crate::kind::Kind;
 use crate::message::Message;
@@ -101,7 +101,7 @@ pub fn write_notify_under<A: Memory, B: Allocator>(
 {
     let mut out = Vec::new(alloc);
     put_notify(&mut out, message)?;
-    sign(&mut out, key);
+    sign_written(&mut out, key);
     Ok(out)
 }
 

@@ -57,8 +57,8 @@ fn read_whole<A: Memory + Copy>(alloc: A, bytes: &[u8]) -> Result<Message<A>, Re
     read_tail(kind, bytes, records, tail)
 }
 
-// The message of a kind, by its records and what stands after them.
-fn read_tail<A: Allocator>(
+/// The message of a kind, by its records and what stands after them.
+pub(crate) fn read_tail<A: Allocator>(
     kind: Kind,
     bytes: &[u8],
     records: Vec<MapRecord<A>, A>,
@@ -75,10 +75,10 @@ fn read_tail<A: Allocator>(
     }
 }
 
-// The message type, where the 32 bytes before the records are as they must be.
+/// The message type, where the 32 bytes before the records are as they must be.
 #[rattlefmt::skip]
 #[tactic(auto, unfolding(crate::specs::Reading::kind_at))]
-fn read_kind(bytes: &[u8]) -> Result<Kind, ReadFault>
+pub(crate) fn read_kind(bytes: &[u8]) -> Result<Kind, ReadFault>
     ensures kind { Reads (λ k. k) result (kind_at bytes.now) }
     ensures head { OnOk result (32 ≤ length bytes.now) }
 {

@@ -11,7 +11,7 @@ ghost use Rattle.lisp_records.specs.Result.{Reads};
 ghost use Rattle.lisp_messages.specs.Meaning.{message_value};
 ghost use Rattle.lisp_messages.specs.Reading.{ids_at, register_at};
 
-use crate::authentication::sign;
+use crate::authentication::sign_written;
 use crate::fault::ReadFault;
 use crate::kind::Kind;
 use crate::message::Message;
@@ -119,7 +119,7 @@ pub fn write_register_under<A: Memory, B: Allocator>(
 {
     let mut out = Vec::new(alloc);
     put_register(&mut out, message)?;
-    sign(&mut out, key);
+    sign_written(&mut out, key);
     Ok(out)
 }
 

@@ -72,7 +72,7 @@ module _ (A N S : Type 0) (c : ConfigValue) where
 
   -- the commands up to one, and that one
   module _ {F : Type 0} (commands : List (Command F)) (i : ℕ) (command : Command F) (within : i < length commands) (read : command ≡ get_or commands i command) where
-    next_order : take (suc i) (map command_value commands) ≡ take i (map command_value commands) ++ command_value command ∷ []
+    pub next_order : take (suc i) (map command_value commands) ≡ take i (map command_value commands) ++ command_value command ∷ []
     next_order =
         let low : i < length (map command_value commands) = subst (λ (n : ℕ). i < n) (sym (length-map commands command_value)) within in
         let there : get_or (map command_value commands) i (command_value command) ≡ command_value command = get_or-map command_value commands i command (command_value command) within ∙ sym (ap command_value read) in

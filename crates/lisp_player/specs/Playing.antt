@@ -1,5 +1,5 @@
 -- What commands print: the text of a legal trace, a line for each event, and the lines of each query.
-use Rattle.std.specs.Prelude.{◌≡◌, ◌⊎◌, ℕ, ◌<◌, List, [], ◌∷◌, ◌++◌, length, take, slice_get, Option, Some, Result, string_bytes, IfOk, OnErr}
+use Rattle.std.specs.Prelude.{◌≡◌, ◌⊎◌, ℕ, ◌<◌, List, [], ◌∷◌, ◌++◌, length, take, slice_get, Option, Some, Result, OnErr}
 use Rattle.std.specs.Io.KnownBytes.{Appends}
 use Rattle.lisp_nonces.specs.declared.fate.Fate.TheVariants.{Done}
 use Rattle.lisp_model.specs.Trace.{EventValue, Step, Opening, addresses, shown_store, fate_of}
@@ -95,13 +95,9 @@ CommandsLead A nodes stores old new c orders text = Moves old new c (λ o T afte
 abbrev pub Loses : Type 0 → Type 0 → Type 0 → WorldState → WorldState → ConfigValue → CommandValue → Type 0
 Loses A nodes stores old new c order = (new ≡ old) ⊎ ((text : List ℕ) × CommandLeads A nodes stores old new c order text)
 
--- at Ok the text is what a command printed; at Err it was not taken, or its text was lost
-module _ {F E Z : Type 0} (result : Result (Outcome Z) E) where
-  abbrev pub Leads : Type 0 → Type 0 → Type 0 → WorldState → WorldState → ConfigValue → Command F → Type 0
-  Leads A nodes stores old new c command = IfOk result (λ outcome. CommandLeads A nodes stores old new c (command_value command) (string_bytes outcome.text))
-
-  abbrev pub LosesText : Type 0 → Type 0 → Type 0 → WorldState → WorldState → ConfigValue → Command F → Type 0
-  LosesText A nodes stores old new c command = OnErr result (Loses A nodes stores old new c (command_value command))
+-- at Err a command was not taken, or its text was lost
+abbrev pub LosesText : {F E Z : Type 0} → Result (Outcome Z) E → Type 0 → Type 0 → Type 0 → WorldState → WorldState → ConfigValue → Command F → Type 0
+LosesText result A nodes stores old new c command = OnErr result (Loses A nodes stores old new c (command_value command))
 
 -- what was written is the text of a command; and of commands
 pub record WroteOne (A nodes stores : Type 0) (old new : WorldState) (c : ConfigValue) (order : CommandValue) (before after : Option (List ℕ)) : Type 0 where

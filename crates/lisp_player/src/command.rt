@@ -2,8 +2,8 @@
 
 ghost use Rattle.std.specs.Prelude.{◌≡◌, IfOk, OnErr};
 ghost use Rattle.lisp_script.specs.declared.command.Command.TheVariants.{Act};
-ghost use Rattle.lisp_player.specs.Outcomes.{TellsLine};
-ghost use Rattle.lisp_player.specs.Playing.{Leads, LosesText};
+ghost use Rattle.lisp_player.specs.Outcomes.{Leads, TellsLine};
+ghost use Rattle.lisp_player.specs.Playing.{LosesText};
 
 use crate::asked::{ack_lines, ask_line, due_line, fault_line, hold_lines};
 use crate::outcome::Outcome;

@@ -3,8 +3,8 @@
 ghost use Rattle.std.specs.Prelude.{◌≡◌, [], map, length, All, Some, Ok, OnErr, IfOk, IfErr, IsErrOf};
 ghost use Rattle.lisp_script.specs.Command.{command_value};
 ghost use Rattle.lisp_script.specs.Schedule.{schedule_value};
-ghost use Rattle.lisp_player.specs.Outcomes.{TellsLine, texts};
-ghost use Rattle.lisp_player.specs.Playing.{Leads, Wrote};
+ghost use Rattle.lisp_player.specs.Outcomes.{Leads, OutcomesFrom, OutcomesLead, TellsLine, texts};
+ghost use Rattle.lisp_player.specs.Playing.{Wrote};
 ghost use Rattle.lisp_player.specs.Schedule.{IsOfInput, NotBegun, Played, PlayedFrom, RefusesInput, schedule_in};
 
 use crate::command::command_outcome;
@@ -44,6 +44,8 @@ pub fn history_of<A: Memory + Copy>(
         schedule_in input.now ≡ Ok (schedule_value (h.config, h.commands))) }
     ensures plays { IfOk result (λ h. Played A A.may_refuse input.now (λ orders. orders)
         (Some []) (Some (texts h.outcomes.items))) }
+    ensures each { IfOk result (λ h. OutcomesFrom A A.may_refuse h.config
+        (map command_value h.commands.items) h.outcomes.items) }
     ensures counts { IfOk result (λ h. length h.outcomes.items ≡ length h.commands.items) }
     ensures lines { IfOk result (λ h. All (TellsLine h.config) h.outcomes.items) }
     ensures refuses { IfErr result (RefusesInput A.may_refuse input.now) }
@@ -67,6 +69,8 @@ fn outcomes_from<A: Memory + Copy, E: Allocator, F: Allocator>(
 ) -> Result<Vec<Outcome<A>, A>, PlayFault>
     ensures plays { IfOk result (λ outcomes. PlayedFrom A A.may_refuse config.now
         (map command_value commands.now) (Some []) (Some (texts outcomes.items))) }
+    ensures each { IfOk result (λ outcomes. OutcomesFrom A A.may_refuse config.now
+        (map command_value commands.now) outcomes.items) }
     ensures counts { IfOk result (λ outcomes. length outcomes.items ≡ length commands.now) }
     ensures lines { IfOk result (λ outcomes. All (TellsLine config.now) outcomes.items) }
     ensures memory { IsErrOf result PlayFault.OutOfMemory → A.may_refuse }
@@ -87,6 +91,8 @@ fn outcomes_on<A: Memory + Copy, E: Allocator, F: Allocator>(
     ensures plays { IfOk result (λ outcomes. Wrote A A.may_refuse A.may_refuse
         world.old world.new config.now
         (map command_value commands.now) (Some []) (Some (texts outcomes.items))) }
+    ensures each { IfOk result (λ outcomes. OutcomesLead A A.may_refuse A.may_refuse
+        world.old world.new config.now (map command_value commands.now) outcomes.items) }
     ensures counts { IfOk result (λ outcomes. length outcomes.items ≡ length commands.now) }
     ensures lines { IfOk result (λ outcomes. All (TellsLine config.now) outcomes.items) }
     ensures memory { OnErr result A.may_refuse }

@@ -1,5 +1,5 @@
 -- What is answered where a `?` passes a fault on, and where nothing failed.
-use Rattle.std.proofs.Common.{◌≡◌, ℕ, ◌*◌, Bool, true, false, cond, eqb, ltb, List, length, get_or, drop, Result, Ok, Err, sym, ap, subst, ◌∙◌}
+use Rattle.std.proofs.Common.{◌≡◌, ℕ, zero, suc, ◌*◌, Bool, true, false, cond, eqb, ltb, List, [], ◌∷◌, length, get_or, drop, Result, Ok, Err, sym, ap, subst, ◌∙◌}
 use Rattle.std.specs.Prelude.{IsErrAnd}
 use Rattle.lisp_records.specs.declared.address.Family.{Family}
 use Rattle.lisp_records.specs.declared.address.Family.TheVariants.{Ipv4, Ipv6}
@@ -7,7 +7,7 @@ use Rattle.lisp_records.specs.declared.fault.RecordFault.{RecordFault}
 use Rattle.lisp_records.specs.declared.fault.RecordFault.TheVariants.{Short, Afi, Mask, OutOfMemory}
 use Rattle.lisp_records.specs.Address.{width}
 use Rattle.lisp_records.specs.Result.{◌>>=◌, Reads}
-use Rattle.lisp_records.specs.Reading.{Fails, Gives, after, number_at, family_of, address_of, address_at, locator_of, locator_at, mask_of, start_at}
+use Rattle.lisp_records.specs.Reading.{Fails, Gives, after, number_at, family_of, address_of, address_at, locator_of, locator_at, locators_at, mask_of, map_record_of, start_at, record_at}
 use Rattle.lisp_records.proofs.Fields.{done}
 
 module _ {X E : Type 0} where
@@ -92,3 +92,16 @@ start_plain bytes =
     bind_plain (after 12 bytes) _ (after_plain 12 bytes) (λ rest.
     bind_plain (family_of (number_at bytes 10)) _ (family_plain (number_at bytes 10)) (λ f.
     bind_plain (mask_of f (get_or bytes 5 0)) _ (mask_plain f (get_or bytes 5 0)) (λ n. address_plain f rest)))
+
+locators_plain : (n : ℕ) (bytes : List ℕ) → locators_at n bytes ≡ Err OutOfMemory → ⊥
+unfolding locators_at
+locators_plain zero bytes = no_fault ([], bytes) OutOfMemory
+locators_plain (suc n) bytes =
+    bind_plain (locator_at bytes) _ (locator_plain bytes) (λ first.
+    bind_plain (locators_at n first.1) _ (locators_plain n first.1) (λ others. no_fault (first.0 ∷ others.0, others.1) OutOfMemory))
+
+pub record_plain : (bytes : List ℕ) → record_at bytes ≡ Err OutOfMemory → ⊥
+unfolding record_at
+record_plain bytes =
+    bind_plain (start_at bytes) _ (start_plain bytes) (λ addr.
+    bind_plain (locators_at (get_or bytes 4 0) addr.1) _ (locators_plain (get_or bytes 4 0) addr.1) (λ locators. no_fault (map_record_of bytes addr.0 locators.0, locators.1) OutOfMemory))

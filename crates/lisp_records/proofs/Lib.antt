@@ -18,3 +18,4 @@ pub mod RisingLaws
 pub mod RouterLaws
 pub mod Steps
 pub mod WrittenLemmas
+pub mod LayoutLemmas

@@ -18,6 +18,11 @@ Fails-passed OutOfMemory part whole pass fails = tt
 abbrev pub with_front : List Locator → Result (List Locator × List ℕ) RecordFault → Result (List Locator × List ℕ) RecordFault
 with_front front read = read >>= λ x. Ok (front ++ x.0, x.1)
 
+-- before the first locator
+pub none_passed : (read : Result (List Locator × List ℕ) RecordFault) → with_front [] read ≡ read
+none_passed (Ok x) = refl
+none_passed (Err f) = refl
+
 regrouped : (front : List Locator) (l : Locator) (read : Result (List Locator × List ℕ) RecordFault) → with_front front (read >>= λ x. Ok (l ∷ x.0, x.1)) ≡ with_front (front ++ l ∷ []) read
 regrouped front l (Ok x) = ap (λ (ls : List Locator). Ok (ls, x.1)) (simp append_assoc)
 regrouped front l (Err f) = refl
@@ -39,13 +44,17 @@ Fails-met Mask read at = at
 Fails-met OutOfMemory read at = tt
 
 -- the next locator is not read
-pub ends : (e : RecordFault) (front : List Locator) (count i : ℕ) (bytes : List ℕ) (total : Result (List Locator × List ℕ) RecordFault) → i < count → locator_at bytes ≡ Err e
-    → with_front front (locators_at (count - i) bytes) ≡ total → Fails e total
+pub ends_plainly : (e : RecordFault) (front : List Locator) (count i : ℕ) (bytes : List ℕ) (total : Result (List Locator × List ℕ) RecordFault) → i < count → locator_at bytes ≡ Err e
+    → with_front front (locators_at (count - i) bytes) ≡ total → total ≡ Err e
 unfolding locators_at
-ends e front count i bytes total lt h so_far =
+ends_plainly e front count i bytes total lt h so_far =
     let k : count - i ≡ suc (count - (i + 1)) = omega arith in
     let one : with_front front (locators_at (count - i) bytes) ≡ Err e = rw (k, h) refl in
-    Fails-met e total (sym so_far ∙ one)
+    sym so_far ∙ one
+
+pub ends : (e : RecordFault) (front : List Locator) (count i : ℕ) (bytes : List ℕ) (total : Result (List Locator × List ℕ) RecordFault) → i < count → locator_at bytes ≡ Err e
+    → with_front front (locators_at (count - i) bytes) ≡ total → Fails e total
+ends e front count i bytes total lt h so_far = Fails-met e total (ends_plainly e front count i bytes total lt h so_far)
 
 -- all locators are read
 pub is_done : (front : List Locator) (count i : ℕ) (bytes : List ℕ) (total : Result (List Locator × List ℕ) RecordFault) → count ≤ i → with_front front (locators_at (count - i) bytes) ≡ total → total ≡ Ok (front, bytes)

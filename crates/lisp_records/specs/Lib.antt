@@ -12,3 +12,4 @@ pub mod Router
 pub mod Parts
 pub mod Database
 pub mod Row
+pub mod Layout

@@ -249,8 +249,12 @@ fn read_at<A: Memory>(
     Ok((record_of(record, addr, locators), bytes.len() - rest.len()))
 }
 
-// The record whose first bytes are these, of the address and the locators that were read after them.
-fn record_of<A: Allocator>(head: &[u8], addr: Addr, locators: Vec<Locator, A>) -> MapRecord<A>
+/// The record whose first bytes are these, of the address and the locators that were read after them.
+pub(crate) fn record_of<A: Allocator>(
+    head: &[u8],
+    addr: Addr,
+    locators: Vec<Locator, A>,
+) -> MapRecord<A>
     requires head { 12 ≤ length head.now }
     requires fits { IsMapRecord (map_record_of head.now addr locators.items) }
     ensures { result ≡ map_record_of head.now addr locators.items }
@@ -265,8 +269,8 @@ fn record_of<A: Allocator>(head: &[u8], addr: Addr, locators: Vec<Locator, A>) -
     }
 }
 
-// The address of the EID-Prefix, and the bytes after it.
-fn read_start(bytes: &[u8]) -> Result<(Addr, &[u8]), RecordFault>
+/// The address of the EID-Prefix, and the bytes after it.
+pub(crate) fn read_start(bytes: &[u8]) -> Result<(Addr, &[u8]), RecordFault>
     ensures start { Reads (λ x. (x.0, x.1.now)) result (start_at bytes.now) }
     ensures head { OnOk result (12 ≤ length bytes.now) }
 {

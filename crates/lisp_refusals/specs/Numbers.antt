@@ -63,6 +63,10 @@ refusals_of_a_socket = 90 ∷ 91 ∷ []
 abbrev pub faults_of_the_program : List ℕ
 faults_of_the_program = 87 ∷ 88 ∷ 89 ∷ 92 ∷ 93 ∷ 95 ∷ 96 ∷ 97 ∷ 98 ∷ 99 ∷ []
 
+-- refusals of the library for C programs
+abbrev pub refusals_of_the_library : List ℕ
+refusals_of_the_library = 100 ∷ 101 ∷ 102 ∷ 103 ∷ 104 ∷ 105 ∷ []
+
 -- the numbers of each section, in the order of the document
 unfoldable pub numbers : List (List ℕ)
 numbers = refusals_of_a_message
@@ -80,6 +84,7 @@ numbers = refusals_of_a_message
     ∷ faults_of_a_script
     ∷ refusals_of_a_socket
     ∷ faults_of_the_program
+    ∷ refusals_of_the_library
     ∷ []
 
 -- whether a section has a row with the number

@@ -6,6 +6,7 @@ mod document;
 mod explaining;
 mod fault;
 mod first_row;
+mod library_refusals;
 mod message_faults;
 mod network_faults;
 mod notice_faults;

@@ -1,9 +1,10 @@
 //! The whole table.
 
 ghost use Rattle.std.specs.Prelude.{◌≡◌};
-ghost use Rattle.lisp_refusals.specs.Numbers.{section_numbers, HasNumbers, refusals_of_a_message, faults_of_a_notice, faults_of_a_router_that_starts, faults_of_a_router_that_sends, faults_of_a_router_that_changes_its_key, refusals_of_a_router, why_bytes_are_not_a_message, why_bytes_are_not_a_record, faults_of_a_configuration, faults_of_a_database, faults_of_a_store_of_nonces, faults_of_a_network, faults_of_a_script, refusals_of_a_socket, faults_of_the_program};
+ghost use Rattle.lisp_refusals.specs.Numbers.{section_numbers, HasNumbers, refusals_of_a_message, faults_of_a_notice, faults_of_a_router_that_starts, faults_of_a_router_that_sends, faults_of_a_router_that_changes_its_key, refusals_of_a_router, why_bytes_are_not_a_message, why_bytes_are_not_a_record, faults_of_a_configuration, faults_of_a_database, faults_of_a_store_of_nonces, faults_of_a_network, faults_of_a_script, refusals_of_a_socket, faults_of_the_program, refusals_of_the_library};
 
 use crate::configuration_faults::{CONFIGURATION_FAULTS, DATABASE_FAULTS};
+use crate::library_refusals::LIBRARY_REFUSALS;
 use crate::message_faults::{MESSAGE_FAULTS, RECORD_FAULTS};
 use crate::network_faults::{NETWORK_FAULTS, SCRIPT_FAULTS};
 use crate::notice_faults::{NOTICE_FAULTS, STORE_FAULTS};
@@ -15,9 +16,10 @@ use crate::server_refusals::SERVER_REFUSALS;
 // The head of the document.
 const OPENING: &str = "# Refusals and faults
 
-Every number of a refusal or a fault, what it means and what to do about it: those that the program prints, and those of
-calls that no subcommand makes yet. This is what `lispd explain` prints; `lispd explain N` prints what is known of the
-number N. A number may stand in several sections: what is printed before it tells which is meant.
+Every number of a refusal or a fault, what it means and what to do about it: those that the program prints, those of
+calls that no subcommand makes yet, and those of the library for C programs. This is what `lispd explain` prints;
+`lispd explain N` prints what is known of the number N. A number may stand in several sections: what is printed before it
+tells which is meant.
 
 A refusal is an answer: `lispd answer` prints `refused N` and ends with status 0; the other programs print
 `refused NAME N`, with the name of the node, and go on. A fault ends the program, which prints `lispd: fault N` on standard
@@ -32,7 +34,7 @@ pub(crate) fn opening() -> &'static str {
 
 /// The sections, in the order of the document.
 #[tactic(auto, unfolding(crate::specs::Numbers::numbers))]
-pub(crate) fn sections() -> [Section; 15]
+pub(crate) fn sections() -> [Section; 16]
     ensures { HasNumbers result }
 {
     [
@@ -51,6 +53,7 @@ pub(crate) fn sections() -> [Section; 15]
         script_faults(),
         socket_faults(),
         program_faults(),
+        library_refusals(),
     ]
 }
 
@@ -142,4 +145,10 @@ fn program_faults() -> Section
     ensures { section_numbers result ≡ faults_of_the_program }
 {
     PROGRAM_FAULTS
+}
+
+fn library_refusals() -> Section
+    ensures { section_numbers result ≡ refusals_of_the_library }
+{
+    LIBRARY_REFUSALS
 }

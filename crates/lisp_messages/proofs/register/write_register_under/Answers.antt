@@ -10,14 +10,14 @@ use Rattle.lisp_messages.proofs.WrittenLemmas.{written_register-put, length-writ
 use Rattle.lisp_messages.proofs.register.write_register_under.Given as given
 use Rattle.lisp_messages.proofs.register.write_register_under.Goals as goal
 
-pub sign-requires : goal.sign-requires
-sign-requires g c =
+pub sign_written-requires : goal.sign_written-requires
+sign_written-requires g c =
     let long = length-written_register c.args.message.now in
     omega (arith, c.put_register.new.out.ok, rw (← c.in_ok-put_register.ensures.written) at long)
 
 -- what is sent is the written spelling with its tag
-sent : (g : given.Over) (c : goal.After-sign g) → c.sign.new.message.items ≡ signed c.args.key.now (written_register c.args.message.now)
-sent g c = c.sign.ensures ∙ rw c.in_ok-put_register.ensures.written (written_register-put c.args.message.now _)
+sent : (g : given.Over) (c : goal.After-sign_written g) → c.sign_written.new.message.items ≡ signed c.args.key.now (written_register c.args.message.now)
+sent g c = c.sign_written.ensures ∙ rw c.in_ok-put_register.ensures.written (written_register-put c.args.message.now _)
 
 pub returns-clause-written : goal.returns-clause-written
 returns-clause-written g c = sent g c

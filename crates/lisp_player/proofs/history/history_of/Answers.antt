@@ -33,3 +33,6 @@ pub returns-in_err-outcomes-clause-faults : goal.returns-in_err-outcomes-clause-
 returns-in_err-outcomes-clause-faults g c =
     let p = err_from_is_err_and c.from_residual-in_err-outcomes.result c.from_residual-in_err-outcomes.ensures.1 in
     rw (p.1, p.2) (begun_of_input g.A.Memory.may_refuse c.in_ok-config.config c.in_err-outcomes.field-0.0 c.in_err-outcomes.ensures.faults)
+
+pub returns-clause-each : goal.returns-clause-each
+returns-clause-each g c = rw c.deref.ensures.value at c.in_ok-outcomes.ensures.each

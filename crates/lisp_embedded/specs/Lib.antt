@@ -1,0 +1,3 @@
+pub mod Host
+pub mod Receiving
+pub mod Notices

@@ -1,0 +1,18 @@
+-- What a Map-Server makes of a datagram, over the nonce that the program kept (RFC 9301 sections 5.6 and 8.2).
+use Rattle.std.specs.Prelude.{◌≡◌, ℕ, ◌⊎◌, List, Option}
+use Rattle.lisp_records.specs.declared.address.Addr.{Addr}
+use Rattle.lisp_nonces.specs.Store.{StoreState}
+use Rattle.lisp_admission.specs.declared.refused.Refused.{Refused}
+use Rattle.lisp_admission.specs.declared.refused.Refused.TheVariants.{OutOfMemory}
+use Rattle.lisp_server.specs.declared.took.Took.{Took}
+use Rattle.lisp_server.specs.Receiving.{RefusesMessage, TakesMessage}
+use Rattle.lisp_server.specs.Server.{ServerState}
+use Rattle.lisp_embedded.specs.Host.{Passes, pair_in}
+
+-- it is taken over a store that keeps what was passed
+abbrev pub TakesKept : {A : Type 0} → Option ℕ → Addr → List ℕ → ServerState → ServerState → ℕ → Took A → Type 0
+TakesKept kept from bytes old new now took = (before : StoreState) × (after : StoreState) × Passes (pair_in bytes) kept before × TakesMessage from bytes old new before after now took
+
+-- it is refused over such a store, or memory ran out
+abbrev pub RefusesKept : Option ℕ → Addr → List ℕ → ServerState → Refused → Type 0
+RefusesKept kept from bytes old why = ((before : StoreState) × (after : StoreState) × Passes (pair_in bytes) kept before × RefusesMessage from bytes old before after why) ⊎ (why ≡ OutOfMemory)

@@ -1,0 +1,96 @@
+//! A Map-Server behind a pointer, for a program in C that keeps the pointer.
+
+ghost use Rattle.std.specs.Prelude.{◌≡◌};
+ghost use Rattle.std.specs.Option.{MatchOption};
+ghost use Rattle.std.specs.declared.option.Option.{Option};
+ghost use Rattle.std.specs.declared.option.Option.TheVariants.{None, Some};
+ghost use Rattle.std.specs.Coded.{codes};
+ghost use Rattle.lisp_handle.specs.Held.{held};
+ghost use Rattle.lisp_server.specs.LastNonces.{nonces_code};
+ghost use Rattle.lisp_embedded.specs.contracts.hosted_server.HostedServer.{the_row as core_row};
+ghost use Rattle.lisp_embedded.specs.declared.hosted_server.HostedServer.{HostedServer as State};
+
+use crate::hosted_server::HostedServer;
+use lisp_handle::BoxParts;
+use std::alloc::Global;
+use std::marker::Model;
+use std::ptr::null_mut;
+
+/// A Map-Server on the heap, or nothing. C sees one pointer, null where there is nothing, and never copies it.
+#[repr(C)]
+pub struct ServerHandle {
+    at: *mut u8,
+    alloc: Global,
+    pub ghost value: { Option State } by { Prim.hlevel (codes, nonces_code) },
+}
+
+impl Model for ServerHandle {
+    ghost also_owns = { λ handle. held core_row handle.alloc handle.at handle.value };
+}
+
+impl ServerHandle {
+    /// No Map-Server; takes no memory.
+    pub fn none(alloc: Global) -> ServerHandle
+        ensures { result.value ≡ None }
+    {
+        ServerHandle {
+            at: null_mut(),
+            alloc,
+        }
+    }
+
+    /// The Map-Server of a box; takes no memory.
+    pub fn of(whole: Box<HostedServer, Global>) -> ServerHandle
+        ensures { result.value ≡ Some whole.value }
+    {
+        ServerHandle::of_parts(BoxParts::of(whole))
+    }
+
+    /// The Map-Server that is held, where there is one; takes no memory.
+    pub fn into_box(self) -> Option<Box<HostedServer, Global>>
+        ensures { MatchOption result (self.value ≡ None) (λ whole. self.value ≡ Some whole.value) }
+    {
+        match self.into_parts() {
+            None => None,
+            Some(parts) => Some(parts.into_box()),
+        }
+    }
+
+    /// The Map-Server that was held, where there was one. Nothing is held from then on. Takes no memory.
+    pub fn take(&mut self, alloc: Global) -> Option<Box<HostedServer, Global>>
+        ensures left { self.new.value ≡ None }
+        ensures value { MatchOption result (self.old.value ≡ None) (λ whole. self.old.value ≡ Some whole.value) }
+    {
+        std::mem::replace(self, ServerHandle::none(alloc)).into_box()
+    }
+
+    fn of_parts(parts: BoxParts<HostedServer, Global>) -> ServerHandle
+        ensures { result.value ≡ Some parts.value }
+    {
+        let BoxParts { at, alloc } = parts;
+        ServerHandle {
+            at: at.cast::<u8>(),
+            alloc,
+        }
+    }
+
+    fn into_parts(self) -> Option<BoxParts<HostedServer, Global>>
+        ensures { MatchOption result (self.value ≡ None) (λ parts. self.value ≡ Some parts.value) }
+    {
+        let ServerHandle { at, alloc } = self;
+        if at.is_null() {
+            None
+        } else {
+            Some(BoxParts {
+                at: at.cast::<HostedServer>(),
+                alloc,
+            })
+        }
+    }
+}
+
+impl Drop for ServerHandle {
+    fn drop(self) {
+        drop(self.into_box());
+    }
+}

@@ -1,0 +1,2 @@
+pub mod Datagrams
+pub mod Loops

@@ -1,0 +1,4 @@
+pub mod Fault
+pub mod Plain
+pub mod Meaning
+pub mod Told

@@ -1,0 +1,53 @@
+//! Addresses, as C has them.
+
+ghost use Rattle.std.specs.Prelude.{◌≡◌, ◌++◌, replicate};
+ghost use Rattle.lisp_registration.specs.Plain.{plain_address};
+ghost use Rattle.lisp_registration.specs.Meaning.{address_in};
+
+use lisp_records::{Addr, Family};
+
+/// An address, in plain numbers (RFC 9301 section 5.4).
+#[repr(C)]
+#[derive(Clone, Copy, Debug, PartialEq, Eq)]
+pub struct PlainAddress {
+    /// The family, as an AFI field names it: 1 is IPv4, 2 is IPv6.
+    pub family: u16,
+    /// The bytes, in network order; the first four of an IPv4 address.
+    pub octets: [u8; 16],
+}
+
+impl PlainAddress {
+    /// An address in plain numbers; after the four bytes of an IPv4 address stand zeros.
+    pub(crate) fn of(addr: Addr) -> PlainAddress
+        ensures { result ≡ plain_address addr }
+    {
+        let family = addr.family().afi();
+        let octets = match addr {
+            Addr::V4(octets) => sixteen(octets),
+            Addr::V6(octets) => octets,
+        };
+        PlainAddress { family, octets }
+    }
+
+    /// The address; `None` where the family is neither IPv4 nor IPv6.
+    pub(crate) fn addr(&self) -> Option<Addr>
+        ensures { result ≡ address_in self.now }
+    {
+        if self.family == Family::Ipv4.afi() {
+            let [a, b, c, d, ..] = self.octets;
+            return Some(Addr::V4([a, b, c, d]));
+        }
+        if self.family == Family::Ipv6.afi() {
+            return Some(Addr::V6(self.octets));
+        }
+        None
+    }
+}
+
+// Four bytes, and zeros.
+fn sixteen(octets: [u8; 4]) -> [u8; 16]
+    ensures { result ≡ octets ++ replicate 12 0 }
+{
+    let [a, b, c, d] = octets;
+    [a, b, c, d, 0, 0, 0, 0, 0, 0, 0, 0, 0, 0, 0, 0]
+}

@@ -1,0 +1,104 @@
+//! Writing a message into the caller's buffer.
+
+ghost use Rattle.std.specs.Prelude.{◌≡◌, ◌<◌, length, IfOk, OnErr, IsErrOf};
+ghost use Rattle.lisp_memory.specs.Refusal.{MachineMayRefuse};
+ghost use Rattle.lisp_messages.specs.Authentic.{signed};
+ghost use Rattle.lisp_messages.specs.Written.{written};
+ghost use Rattle.lisp_registration.specs.Meaning.{Makes, datagram_in, kind_in};
+ghost use Rattle.lisp_registration.specs.Told.{TellsWritten, put_in};
+ghost use Rattle.lisp_registration.specs.declared.fault.WriteFault.TheVariants.{OutOfMemory};
+
+use crate::fault::WriteFault;
+use crate::locator::PlainLocator;
+use crate::message::PlainMessage;
+use crate::record::PlainRecord;
+use crate::records::records_of;
+use lisp_hmac::Key;
+use lisp_memory::Memory;
+use lisp_messages::{Kind, write_notify_under, write_register_under};
+use lisp_records::{MAX_RECORDS, Records};
+use std::alloc::{AllocError, Global};
+
+/// Writes the message of these fields, records and locators, authentic under a secret of any length, into the buffer: bit I
+/// set, all reserved bits 0. Each record has so many of the locators as it counts, those of the first record first. At 0,
+/// `length` bytes of the buffer are the message, and those behind are as they were. At `Room` 102, `length` is what it
+/// needs. Else (`Field` 103, `Counts` 104, `OutOfMemory` 105) all is as it was. The memory that it takes is given back.
+#[unsafe(no_mangle)]
+pub extern "C" fn lisp_registration_write_message(
+    alloc: Global,
+    message: &PlainMessage,
+    records: &[PlainRecord],
+    locators: &[PlainLocator],
+    secret: &[u8],
+    buffer: &mut [u8],
+    length: &mut usize,
+) -> u16
+    ensures written { TellsWritten (datagram_in message.now records.now locators.now secret.now)
+        buffer.old length.old result buffer.new length.new }
+    ensures memory { result ≡ 105 → MachineMayRefuse }
+{
+    match datagram(alloc, message, records, locators, secret) {
+        Ok(bytes) => {
+            *length = bytes.len();
+            if put(&bytes, buffer) {
+                0
+            } else {
+                WriteFault::Room.number()
+            }
+        }
+        Err(fault) => fault.number(),
+    }
+}
+
+// The bytes of the message. Faults: `Field` for its type, `Counts` for more than 255 records, then those of `records_of`.
+fn datagram<A: Memory + Copy>(
+    alloc: A,
+    message: &PlainMessage,
+    records: &[PlainRecord],
+    locators: &[PlainLocator],
+    secret: &[u8],
+) -> Result<Vec<u8, A>, WriteFault>
+    ensures value { Makes (λ v. v.items) result
+        (datagram_in message.now records.now locators.now secret.now) }
+    ensures memory { IsErrOf result OutOfMemory → A.may_refuse }
+{
+    let Ok(kind) = Kind::from_number(message.kind) else {
+        return Err(WriteFault::Field);
+    };
+    if records.len() > MAX_RECORDS {
+        return Err(WriteFault::Counts);
+    }
+    let records = Records::from_vec(records_of(alloc, records, locators)?);
+    let bytes = signed(alloc, kind, message, records, &Key::new(secret))?;
+    Ok(bytes)
+}
+
+// The bytes of a message of this type and of these records.
+fn signed<A: Memory>(
+    alloc: A,
+    kind: Kind,
+    message: &PlainMessage,
+    records: Records<A>,
+    key: &Key,
+) -> Result<Vec<u8, A>, AllocError>
+    requires few { length records < 256 }
+    ensures value { IfOk result (λ v. v.items ≡ signed key.now (written (kind_in kind message.now records))) }
+    ensures memory { OnErr result A.may_refuse }
+{
+    match kind {
+        Kind::Register => write_register_under(alloc, &message.register(records), key),
+        Kind::Notify => write_notify_under(alloc, &message.notify(false, records), key),
+        Kind::NotifyAck => write_notify_under(alloc, &message.notify(true, records), key),
+    }
+}
+
+// Puts bytes in front of a buffer; whether it has room for them.
+fn put(bytes: &[u8], buffer: &mut [u8]) -> bool
+    ensures { (result, buffer.new) ≡ put_in bytes.now buffer.old }
+{
+    if bytes.len() > buffer.len() {
+        return false;
+    }
+    buffer[..bytes.len()].copy_from_slice(bytes);
+    true
+}

@@ -1,0 +1,210 @@
+//! The structs, numbers and functions of liblisp_registration.a: LISP registration messages (RFC 9301), read and written.
+//!
+//! Names are those of `include/lisp_registration.h`, which says what each function does and in what order its faults come.
+//! The crate `lisp-registration` is a safe layer over this one.
+//!
+//! # Safety
+//!
+//! The same holds for each function:
+//!
+//! - a pointer is not null and is aligned, also where its length or count is 0;
+//! - it is to so many bytes or structs as the length or count behind it says, of no more than `isize::MAX` bytes;
+//! - what a function writes overlaps nothing else that it is given.
+//!
+//! Structs and lengths that are only written need no value before.
+#![allow(non_camel_case_types)]
+
+/// Done: no fault.
+pub const LISP_DONE: u16 = 0;
+/// The bytes end before the message, the record or the locator does.
+pub const LISP_SHORT: u16 = 1;
+/// An address family that is neither IPv4 nor IPv6.
+pub const LISP_AFI: u16 = 2;
+/// An EID mask longer than its address.
+pub const LISP_MASK: u16 = 3;
+/// A type other than 3, 4 and 5.
+pub const LISP_KIND: u16 = 10;
+/// An Algorithm ID other than 2, HMAC-SHA-256-128-None.
+pub const LISP_ALGORITHM: u16 = 11;
+/// An Authentication Data Length other than 16.
+pub const LISP_AUTH_LENGTH: u16 = 12;
+/// A Map-Register with bit I clear: it has no xTR-ID and Site-ID.
+pub const LISP_NO_IDS: u16 = 13;
+/// Bytes after the end of the message.
+pub const LISP_TRAILING: u16 = 14;
+/// A record that can't be read: [`lisp_registration_read_record`] says which one and why.
+pub const LISP_RECORD: u16 = 15;
+/// A pointer is null. Only the inline functions of the C header answer this.
+pub const LISP_NULL: u16 = 100;
+/// A length or a count is more than memory can have. Only the inline functions of the C header answer this.
+pub const LISP_LENGTH: u16 = 101;
+/// The buffer has no room for the message.
+pub const LISP_ROOM: u16 = 102;
+/// A field has no place in a message.
+pub const LISP_FIELD: u16 = 103;
+/// More than 255 records, or not as many locators as the records count.
+pub const LISP_COUNTS: u16 = 104;
+/// `malloc` or `realloc` gave no memory.
+pub const LISP_OUT_OF_MEMORY: u16 = 105;
+
+/// Type of a Map-Register (RFC 9301 section 5.6).
+pub const LISP_MAP_REGISTER: u8 = 3;
+/// Type of a Map-Notify (RFC 9301 section 5.7).
+pub const LISP_MAP_NOTIFY: u8 = 4;
+/// Type of a Map-Notify-Ack (RFC 9301 section 5.7).
+pub const LISP_MAP_NOTIFY_ACK: u8 = 5;
+
+/// Address family of IPv4, as AFI fields name it.
+pub const LISP_IPV4: u16 = 1;
+/// Address family of IPv6, as AFI fields name it.
+pub const LISP_IPV6: u16 = 2;
+
+/// Where the first record of each message begins.
+pub const LISP_RECORDS_AT: usize = 32;
+
+/// An address.
+#[repr(C)]
+#[derive(Clone, Copy, Debug, Default, PartialEq, Eq)]
+pub struct lisp_address {
+    /// [`LISP_IPV4`] or [`LISP_IPV6`].
+    pub family: u16,
+    /// The bytes in network order; of an IPv4 address the first four, then zeros.
+    pub octets: [u8; 16],
+}
+
+/// A locator of a record (RFC 9301 section 5.4).
+#[repr(C)]
+#[derive(Clone, Copy, Debug, Default, PartialEq, Eq)]
+pub struct lisp_locator {
+    /// Unicast priority: less is preferred, 255 is never used.
+    pub priority: u8,
+    /// The share of unicast traffic among locators of one priority.
+    pub weight: u8,
+    /// Multicast priority.
+    pub m_priority: u8,
+    /// Multicast weight.
+    pub m_weight: u8,
+    /// L, 1 or 0: the locator is of the router that sent the record.
+    pub local: u8,
+    /// p, 1 or 0: the locator is probed.
+    pub probe: u8,
+    /// R, 1 or 0: the sender can reach the locator.
+    pub reachable: u8,
+    /// The locator itself.
+    pub address: lisp_address,
+    /// Read only: where it ends, and the next one begins.
+    pub end: usize,
+}
+
+/// A record but its locators (RFC 9301 section 5.4).
+#[repr(C)]
+#[derive(Clone, Copy, Debug, Default, PartialEq, Eq)]
+pub struct lisp_record {
+    /// How long a cache may keep the record, in minutes.
+    pub ttl: u32,
+    /// The Map-Version number, 0 to 4095.
+    pub version: u16,
+    /// The ACT bits, 0 to 7: what to do where the record has no locators.
+    pub act: u8,
+    /// A, 1 or 0: the record is its owner's own.
+    pub authoritative: u8,
+    /// The EID mask-len, 0 to 32 or 128.
+    pub mask_len: u8,
+    /// How many locators it has.
+    pub locator_count: u8,
+    /// The EID-Prefix; bits past the mask are 0, and are cleared where one is written.
+    pub eid: lisp_address,
+    /// Read only: where the first locator begins.
+    pub locators_at: usize,
+    /// Read only: where the record ends, and the next one begins.
+    pub end: usize,
+}
+
+/// A message but its records (RFC 9301 sections 5.6 and 5.7).
+#[repr(C)]
+#[derive(Clone, Copy, Debug, Default, PartialEq, Eq)]
+pub struct lisp_message {
+    /// The nonce.
+    pub nonce: u64,
+    /// The Site-ID of a Map-Register.
+    pub site: u64,
+    /// The xTR-ID of a Map-Register.
+    pub xtr: [u8; 16],
+    /// [`LISP_MAP_REGISTER`], [`LISP_MAP_NOTIFY`] or [`LISP_MAP_NOTIFY_ACK`].
+    pub kind: u8,
+    /// Which secret the message is authenticated under.
+    pub key_id: u8,
+    /// P of a Map-Register, 1 or 0: the Map-Server is to answer Map-Requests.
+    pub proxy: u8,
+    /// S, 1 or 0: the router is capable of LISP-SEC.
+    pub sec: u8,
+    /// E, 1 or 0: dynamic EID discovery.
+    pub eid_notify: u8,
+    /// T, 1 or 0: registrations time out by the TTL of their records.
+    pub use_ttl: u8,
+    /// a, 1 or 0: the records are to be merged with those of other routers.
+    pub merge: u8,
+    /// M, 1 or 0: a Map-Notify is wanted.
+    pub want_notify: u8,
+    /// Read only: how many records it has.
+    pub record_count: u8,
+    /// Read only: where the first record begins, which is [`LISP_RECORDS_AT`].
+    pub records_at: usize,
+    /// Read only: where the last record ends.
+    pub records_end: usize,
+}
+
+extern "C" {
+    /// Reads a datagram: what its message says but its records, and where these are (RFC 9301 sections 5.6 and 5.7).
+    pub fn lisp_registration_read_message(
+        bytes: *const u8,
+        length: usize,
+        message: *mut lisp_message,
+    ) -> u16;
+
+    /// Reads the record that begins at byte `at` of a datagram (RFC 9301 section 5.4).
+    pub fn lisp_registration_read_record(
+        bytes: *const u8,
+        length: usize,
+        at: usize,
+        entry: *mut lisp_record,
+    ) -> u16;
+
+    /// Reads the locator that begins at byte `at` of a datagram (RFC 9301 section 5.4).
+    pub fn lisp_registration_read_locator(
+        bytes: *const u8,
+        length: usize,
+        at: usize,
+        locator: *mut lisp_locator,
+    ) -> u16;
+
+    /// Whether the Authentication Data of a datagram is its tag under a secret (RFC 9301 section 5.6).
+    pub fn lisp_registration_authentic(
+        bytes: *const u8,
+        length: usize,
+        secret: *const u8,
+        secret_length: usize,
+    ) -> bool;
+
+    /// Puts the tag of a datagram under a secret into its Authentication Data (RFC 9301 section 5.6).
+    pub fn lisp_registration_sign(
+        bytes: *mut u8,
+        length: usize,
+        secret: *const u8,
+        secret_length: usize,
+    ) -> u16;
+
+    /// Writes the datagram of a message, authentic under a secret (RFC 9301 sections 5.6 and 5.7).
+    pub fn lisp_registration_write_message(
+        message: *const lisp_message,
+        records: *const lisp_record,
+        record_count: usize,
+        locators: *const lisp_locator,
+        locator_count: usize,
+        secret: *const u8,
+        secret_length: usize,
+        buffer: *mut u8,
+        room: usize,
+        length: *mut usize,
+    ) -> u16;
+}

@@ -1,0 +1,96 @@
+//! That the structs and numbers are those of the C header: a C compiler is asked, where there is one.
+
+use lisp_registration_sys::*;
+use std::mem::{align_of, offset_of, size_of};
+use std::path::Path;
+use std::process::Command;
+
+/// What C has to find true: the size of each struct, and where each of its fields lies.
+macro_rules! layouts {
+    ($($name:ident { $($field:ident),* })*) => {
+        [$(
+            format!("sizeof(struct {}) == {}", stringify!($name), size_of::<$name>()),
+            $(format!(
+                "offsetof(struct {}, {}) == {}",
+                stringify!($name), stringify!($field), offset_of!($name, $field)
+            ),)*
+        )*]
+    };
+}
+
+/// What C has to find true: the value of each constant.
+macro_rules! values {
+    ($($name:ident),*) => { [$(format!("{} == {}", stringify!($name), $name)),*] };
+}
+
+fn claims() -> Vec<String> {
+    let layouts = layouts! {
+        lisp_address { family, octets }
+        lisp_locator { priority, weight, m_priority, m_weight, local, probe, reachable, address, end }
+        lisp_record { ttl, version, act, authoritative, mask_len, locator_count, eid, locators_at, end }
+        lisp_message {
+            nonce, site, xtr, kind, key_id, proxy, sec, eid_notify, use_ttl, merge, want_notify,
+            record_count, records_at, records_end
+        }
+    };
+    let values = values![
+        LISP_DONE,
+        LISP_SHORT,
+        LISP_AFI,
+        LISP_MASK,
+        LISP_KIND,
+        LISP_ALGORITHM,
+        LISP_AUTH_LENGTH,
+        LISP_NO_IDS,
+        LISP_TRAILING,
+        LISP_RECORD,
+        LISP_NULL,
+        LISP_LENGTH,
+        LISP_ROOM,
+        LISP_FIELD,
+        LISP_COUNTS,
+        LISP_OUT_OF_MEMORY,
+        LISP_MAP_REGISTER,
+        LISP_MAP_NOTIFY,
+        LISP_MAP_NOTIFY_ACK,
+        LISP_IPV4,
+        LISP_IPV6,
+        LISP_RECORDS_AT
+    ];
+    layouts.into_iter().chain(values).collect()
+}
+
+#[test]
+fn the_header_agrees() {
+    let source = Path::new(env!("CARGO_TARGET_TMPDIR")).join("layout.c");
+    let lines = claims()
+        .iter()
+        .map(|claim| format!("_Static_assert({claim}, \"\");\n"))
+        .collect::<String>();
+    std::fs::write(&source, format!("#include <lisp_registration.h>\n{lines}")).unwrap();
+    let include = concat!(env!("CARGO_MANIFEST_DIR"), "/../../../include");
+    match Command::new("cc")
+        .args(["-std=c11", "-fsyntax-only", "-I", include])
+        .arg(&source)
+        .status()
+    {
+        Ok(status) => assert!(status.success()),
+        Err(_) => println!("no cc: the header was not read"),
+    }
+}
+
+/// The layouts that x86-64 and other machines of 64 bits give the structs of the header.
+#[test]
+#[cfg(target_pointer_width = "64")]
+fn sizes_and_alignments() {
+    let found = [
+        (size_of::<lisp_address>(), align_of::<lisp_address>()),
+        (size_of::<lisp_locator>(), align_of::<lisp_locator>()),
+        (size_of::<lisp_record>(), align_of::<lisp_record>()),
+        (size_of::<lisp_message>(), align_of::<lisp_message>()),
+    ];
+    assert_eq!(found, [(18, 2), (40, 8), (48, 8), (64, 8)]);
+    assert_eq!(offset_of!(lisp_locator, address), 8);
+    assert_eq!(offset_of!(lisp_record, eid), 10);
+    assert_eq!(offset_of!(lisp_message, records_at), 48);
+}

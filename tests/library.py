@@ -1,0 +1,129 @@
+#!/usr/bin/env -S python3 -B
+"""library.py LIBRARY
+Tests the library for C programs (out/liblisp_registration.a): library.c under valgrind, and with the compiler's sanitizers; the programs
+of examples/c; the header alone, in C and C++; the C of docs; the header's numbers and those of docs/REFUSALS.md. Prints each check that
+fails, and what it left out where a tool is missing; ends with 1 where a check fails."""
+import hmac
+import os
+import re
+import shutil
+import subprocess
+import sys
+import tempfile
+from pathlib import Path
+
+HERE = Path(__file__).resolve().parent
+TOP = HERE.parent
+HEADER, REGISTER, NOTIFY = TOP / "include/lisp_registration.h", TOP / "examples/map-register.hex", TOP / "examples/map-notify.hex"
+CLEAN = ["-std=c99", "-Wall", "-Wextra", "-pedantic", "-Werror", f"-I{TOP}/include"]
+WRAP = [f"-Wl,--wrap={name}" for name in ("malloc", "realloc", "free")]
+SANITIZERS = ["-fsanitize=address,undefined", "-fno-sanitize-recover=all"]
+LIMIT = 60
+library = os.path.abspath(sys.argv[1])
+failed = False
+
+# A Map-Notify-Ack without records, and Map-Registers with a value of its own in each field and with as many records as there can be:
+# their bytes but the Authentication Data.
+ACK = ("50000000 ffffffffffffffff ff 02 0010", "")
+ALL_FIELDS = ("3e001d03 0102030405060708 09 02 0010", """
+    11223344 02 3d b000 0abc 0002 20010db8800000080000000000000000
+        01020304 0005 0001 c0000221
+        fe050607 0002 0002 20010db8000000000000000000010002
+    00000000 01 20 0000 0fff 0001 c6336407
+        ff00fe01 0000 0001 cb007109
+    00000007 00 00 e000 0000 0001 00000000
+    0102030405060708090a0b0c0d0e0f10 a1a2a3a4a5a6a7a8""")
+MOST_RECORDS = ("320000ff 0000000000000000 00 02 0010", 255 * "000005a0 01 10 1000 0000 0001 0a010000 0164ff00 0005 0001 c0000201" + 48 * "0")
+
+
+def check(name, got, wanted):
+    """Prints a check that fails."""
+    global failed
+    if got != wanted:
+        failed = True
+        print(f"library.py: {name}: {got!r}, wanted {wanted!r}", flush=True)
+
+
+def is_there(tool, what):
+    """Whether a tool is there; else a line says what was left out."""
+    if not shutil.which(tool):
+        print(f"library.py: no {tool} here: {what} not tried")
+    return shutil.which(tool) is not None
+
+
+def ran(*words, given=None):
+    """Runs a command with a file as standard input: its status, and what it printed."""
+    with open(given or os.devnull, encoding="utf-8") as file:
+        done = subprocess.run(words, stdin=file, stdout=subprocess.PIPE, stderr=subprocess.STDOUT, text=True, timeout=LIMIT, check=False)
+    return done.returncode, done.stdout
+
+
+def authentic(secret, head, rest):
+    """A datagram with its tag under a secret, as the words of library.c have it."""
+    head, rest = bytes.fromhex(head), bytes.fromhex(rest)
+    tag = hmac.new(secret, head + bytes(16) + rest, "sha256").digest()[:16]
+    return [secret.hex(), (head + tag + rest).hex()]
+
+
+def test_library(room):
+    words = [b"secret".hex(), REGISTER.read_text().strip(), b"secret".hex(), NOTIFY.read_text().strip(),
+             *authentic(b"", *ACK), *authentic(131 * b"\xaa", *ALL_FIELDS), *authentic(b"secret", *MOST_RECORDS)]
+    build = ["cc", "-g", *CLEAN, *WRAP, HERE / "library.c", HERE / "library_faults.c", library]
+    check("cc library.c", ran(*build, "-o", f"{room}/library"), (0, ""))
+    check("library.c", ran(f"{room}/library", *words), (0, ""))
+    if is_there("valgrind", "library.c under it was"):
+        check("valgrind", ran("valgrind", "-q", "--leak-check=full", "--error-exitcode=99", f"{room}/library", *words), (0, ""))
+    (room / "empty.c").write_text("int main(void) { return 0; }\n")
+    if ran("cc", *SANITIZERS, room / "empty.c", "-o", f"{room}/empty")[0] or ran(f"{room}/empty")[0]:
+        print("library.py: no sanitizers here: library.c with them was not tried")
+        return
+    check("cc with sanitizers", ran(*build, *SANITIZERS, "-o", f"{room}/sanitized"), (0, ""))
+    check("sanitizers", ran(f"{room}/sanitized", *words), (0, ""))
+
+
+def test_examples(room, compiler):
+    for name in ("check", "register"):
+        check(f"{compiler} {name}.c", ran(compiler, *CLEAN, TOP / f"examples/c/{name}.c", library, "-o", room / name), (0, ""))
+    status, printed = ran(room / "check", "secret", given=REGISTER)
+    block = "".join(f"    {line}\n" for line in printed.splitlines())
+    check("check.c", (status, block in (TOP / "examples/c/README.md").read_text()), (0, True))
+    check("check.c with a wrong tag", ran(room / "check", "secret", given=TOP / "examples/wrong-tag.hex")[0], 1)
+    check("check.c, cut short", ran(room / "check", "secret", given=TOP / "examples/cut-short.hex")[0], 2)
+    written = ran(room / "register", "secret")[1].splitlines(keepends=True)
+    check("register.c", written[0], REGISTER.read_text())
+    (room / "again.hex").write_text(written[1])
+    check("register.c, again", ran(room / "check", "secret", given=room / "again.hex"), (0, printed.replace("nonce 1", "nonce 2")))
+
+
+def test_header(room):
+    (room / "header.c").write_text("#include <lisp_registration.h>\n")
+    for compiler in ("gcc", "clang"):
+        if is_there(compiler, "the header and examples/c with it were"):
+            test_examples(room, compiler)
+    for compiler, flags in (("cc", CLEAN), ("c++", ["-std=c++11", *CLEAN[1:], "-x", "c++"])):
+        if is_there(compiler, "the header alone was"):
+            check(f"{compiler} lisp_registration.h", ran(compiler, *flags, "-Wconversion", "-fsyntax-only", room / "header.c"), (0, ""))
+
+
+def test_documents(room):
+    for page in sorted((TOP / "docs").glob("*.md")):
+        if blocks := re.findall(r"^```c\n(.*?)^```", page.read_text(), re.M | re.S):
+            (room / "page.c").write_text("\n".join(blocks))
+            check(f"the C of {page.name}", ran("cc", *CLEAN, "-c", room / "page.c", "-o", room / "page.o"), (0, ""))
+
+
+def test_numbers():
+    """Each number of the header is a row of docs/REFUSALS.md."""
+    rows = re.findall(r"^\| (\d+)[^|]* \| `(\w+)` \|", (TOP / "docs/REFUSALS.md").read_text(), re.M)
+    answers = re.search(r"LISP_DONE = 0,(.*?)};", HEADER.read_text(), re.S)[1]
+    numbers = [(number, name.title().replace("_", "")) for name, number in re.findall(r"LISP_(\w+) = (\d+)", answers)]
+    check("whether the header has numbers", len(numbers) > 0, True)
+    check("numbers that docs/REFUSALS.md hasn't", [it for it in numbers if it not in rows], [])
+
+
+test_numbers()
+if is_there("cc", "the library was"):
+    with tempfile.TemporaryDirectory() as name:
+        for test in (test_library, test_header, test_documents):
+            test(Path(name))
+sys.exit(1 if failed else 0)
