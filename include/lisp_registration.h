@@ -8,15 +8,16 @@
  *     as the call takes;
  *   - what a call writes (a struct, a buffer, a length) overlaps nothing else that the call is given, and no other thread
  *     writes meanwhile what a call is given;
- *   - malloc, realloc and free are of one allocator, which aligns as C wants it, and lisp_write_message is not called from a
- *     signal handler, nor from the forked child of a process with threads;
+ *   - malloc, realloc and free are of one allocator, which aligns as C wants it, and no call that takes memory is made from
+ *     a signal handler, nor from the forked child of a process with threads;
+ *   - a struct lisp_server is zeros at first, is not copied, is changed by these calls alone, and stays on one thread;
  *   - header and library are of one version.
  *
  * A null pointer and a length above PTRDIFF_MAX are answered by the functions below (LISP_NULL, LISP_LENGTH), which are C
  * and not proved. A length of 0 goes with any pointer, also a null one. What a call only writes needs no value before.
  *
- * Nothing is kept between calls, so that threads need no lock. Only lisp_write_message takes memory, and gives all of it
- * back before it returns.
+ * Of the calls for messages nothing is kept, so that threads need no lock. Only lisp_write_message of them takes memory, and
+ * gives all of it back before it returns. What a struct lisp_server keeps is given back by lisp_server_stop.
  *
  * Each function but lisp_authentic answers LISP_DONE or the number of the first fault that it met, LISP_NULL and LISP_LENGTH
  * before all others; at a fault nothing was written, but where it is said. The numbers are those of docs/REFUSALS.md and of
@@ -45,12 +46,26 @@ enum {
     LISP_NO_IDS = 13,         /* a Map-Register with bit I clear: it has no xTR-ID and Site-ID */
     LISP_TRAILING = 14,       /* bytes after the end of the message */
     LISP_RECORD = 15,         /* a record that can't be read: lisp_read_record says why, called for one after another */
-    LISP_NULL = 100,          /* a pointer is null */
+    LISP_TOML = 20,           /* a configuration that is not valid TOML */
+    LISP_MISSING = 21,        /* a field of a configuration is absent, and has no default */
+    LISP_BAD_VALUE = 22,      /* a value of a configuration is of another type or form, out of its range, or names what isn't there */
+    LISP_REPEATED = 23,       /* two entries of a configuration are alike where no two may be */
+    LISP_READ = 50,           /* a datagram that can't be read: lisp_read_message says why */
+    LISP_UNKNOWN_SITE = 51,   /* no such Site-ID is configured */
+    LISP_UNKNOWN_KEY = 52,    /* the site has no secret for the Key ID */
+    LISP_BAD_AUTH = 53,       /* the Authentication Data is wrong */
+    LISP_MERGE_ASKED = 54,    /* the merge bit is set */
+    LISP_NOT_ALLOWED = 55,    /* a record's prefix is not one that the site may register */
+    LISP_REPLAY = 57,         /* the nonce is not above the last one of that router under that key */
+    LISP_NO_NOTICE = 60,      /* a Map-Notify-Ack that no notice waits for */
+    LISP_NOT_MINE = 61,       /* a Map-Notify, which is for routers */
+    LISP_NOT_UTF8 = 95,       /* a configuration that is not UTF-8 */
+    LISP_NULL = 100,          /* a pointer is null, or a handle holds nothing */
     LISP_LENGTH = 101,        /* a length or a count is more than memory can have */
     LISP_ROOM = 102,          /* the buffer has no room for the message */
     LISP_FIELD = 103,         /* a field has no place in a message */
     LISP_COUNTS = 104,        /* more than 255 records, or not as many locators as the records count */
-    LISP_OUT_OF_MEMORY = 105  /* malloc or realloc gave no memory */
+    LISP_OUT_OF_MEMORY = 105  /* malloc or realloc gave no memory; so say 24 of a configuration, and 58 and 59 of a datagram */
 };
 
 /* Types of messages (RFC 9301 section 5.1). */
@@ -113,6 +128,38 @@ struct lisp_message {
 };
 
 /*
+ * A Map-Server that the library keeps: the sites that it serves, the rows that it holds, and the last nonces that it accepted
+ * since its start. A struct of zero bytes holds none. It stays on the thread that started it, and is never copied.
+ */
+struct lisp_server {
+    void *core;  /* not for the program */
+};
+
+/* What a nonce is kept for: a router and the Key ID that it used, or nothing. */
+struct lisp_pair {
+    uint64_t site;     /* the Site-ID of the router */
+    uint8_t xtr[16];   /* its xTR-ID */
+    uint8_t key_id;
+    uint8_t is_there;  /* 0: there is none, and all is 0 */
+};
+
+/* A nonce that the program kept for a pair, or none. */
+struct lisp_nonce {
+    uint64_t nonce;
+    uint8_t is_there;  /* 0: none was ever saved for the pair */
+};
+
+/* What a Map-Server took. */
+struct lisp_received {
+    uint64_t nonce;       /* of the Map-Register, which has to be saved; or of the notice that is done */
+    uint64_t site;        /* the Site-ID of the router */
+    uint8_t xtr[16];      /* its xTR-ID */
+    uint8_t key_id;       /* of the Map-Register, else 0 */
+    uint8_t accepted;     /* 1: a Map-Register was accepted; 0: a Map-Notify-Ack ended a notice */
+    size_t reply_length;  /* how many bytes of the buffer are the answer; 0 where none is sent */
+};
+
+/*
  * What is in the library. From C, call the functions behind these, which answer null pointers. A direct caller, as from
  * another language, also keeps that no pointer is null or misaligned, at a length of 0 neither, and that no length or
  * count is of more than PTRDIFF_MAX bytes.
@@ -126,6 +173,14 @@ uint16_t lisp_registration_write_message(const struct lisp_message *message, con
                                          size_t record_count, const struct lisp_locator *locators, size_t locator_count,
                                          const uint8_t *secret, size_t secret_length, uint8_t *buffer, size_t room,
                                          size_t *length);
+
+uint16_t lisp_registration_server_start(const uint8_t *configuration, size_t length, struct lisp_server *server);
+void lisp_registration_server_stop(struct lisp_server *server);
+uint16_t lisp_registration_server_restart(struct lisp_server *server);
+void lisp_registration_server_pair(const uint8_t *bytes, size_t length, struct lisp_pair *pair);
+uint16_t lisp_registration_server_receive(struct lisp_server *server, const struct lisp_nonce *kept,
+                                          const struct lisp_address *from, const uint8_t *bytes, size_t length,
+                                          uint64_t now, uint8_t *buffer, size_t room, struct lisp_received *received);
 
 /* For this header alone. Whether so many items of a size can be at a pointer: LISP_DONE, LISP_NULL or LISP_LENGTH. */
 static inline uint16_t lisp_span(const void *items, size_t count, size_t size)
@@ -254,6 +309,85 @@ static inline uint16_t lisp_write_message(const struct lisp_message *message, co
                                            (const struct lisp_locator *)lisp_pointer(locators), locator_count,
                                            (const uint8_t *)lisp_pointer(secret), secret_length,
                                            (uint8_t *)lisp_pointer(buffer), room, length);
+}
+
+/*
+ * Starts a Map-Server of the sites of a configuration (docs/CONFIGURATION.md), which has `length` bytes. It holds no rows yet.
+ * What the handle held before is stopped. At a fault (LISP_NOT_UTF8, LISP_TOML, LISP_MISSING, LISP_BAD_VALUE, LISP_REPEATED, out
+ * of memory) the handle is as it was.
+ */
+static inline uint16_t lisp_server_start(struct lisp_server *server, const char *configuration, size_t length)
+{
+    uint16_t number = lisp_span(configuration, length, 1);
+
+    if (number != LISP_DONE)
+        return number;
+    if (server == NULL)
+        return LISP_NULL;
+    return lisp_registration_server_start((const uint8_t *)lisp_pointer(configuration), length, server);
+}
+
+/* Stops the Map-Server of a handle, if it holds one: all its memory is given back, and the handle holds none. */
+static inline void lisp_server_stop(struct lisp_server *server)
+{
+    if (server != NULL)
+        lisp_registration_server_stop(server);
+}
+
+/*
+ * Starts the Map-Server of a handle again, as after a crash: its rows and its nonces are gone, its sites stay. Its routers come
+ * back with their next Map-Registers. Takes no memory. LISP_NULL where the handle holds none.
+ */
+static inline uint16_t lisp_server_restart(struct lisp_server *server)
+{
+    return server == NULL ? (uint16_t)LISP_NULL : lisp_registration_server_restart(server);
+}
+
+/*
+ * Names the pair whose last nonce a datagram needs: of a Map-Register its router and its Key ID; none of all other bytes.
+ * Nothing is checked yet: anyone may have sent it. Takes no memory.
+ */
+static inline uint16_t lisp_server_pair(const uint8_t *bytes, size_t length, struct lisp_pair *pair)
+{
+    uint16_t number = lisp_span(bytes, length, 1);
+
+    if (number != LISP_DONE)
+        return number;
+    if (pair == NULL)
+        return LISP_NULL;
+    lisp_registration_server_pair((const uint8_t *)lisp_pointer(bytes), length, pair);
+    return LISP_DONE;
+}
+
+/*
+ * Receives a datagram that came from an address at a time, in ms, which must not go back. `kept` is the nonce that the program
+ * saved last for the pair that lisp_server_pair names, or none; a null `kept` says none. The buffer needs as much room as the
+ * datagram has bytes (LISP_ROOM, and nothing is done).
+ *
+ * At LISP_DONE, where `received->accepted` is 1, the program saves `received->nonce` for that router and `key_id`, so that no
+ * crash loses it, and only then sends the first `reply_length` bytes of the buffer to where the datagram came from. Where the
+ * save fails it sends nothing and calls lisp_server_restart, since it is open then whether the nonce is kept. Who sends first, or
+ * doesn't save, loses what is promised: after a crash the same Map-Register is accepted again, so that whoever recorded it can
+ * bring an old mapping back.
+ *
+ * The refusals come in the order of docs/PROTOCOL.md, after LISP_FIELD (no address `from`), LISP_ROOM and LISP_NULL (the handle
+ * holds none); out of memory may come in place of each. At a refusal all is as it was.
+ */
+static inline uint16_t lisp_server_receive(struct lisp_server *server, const struct lisp_nonce *kept,
+                                           const struct lisp_address *from, const uint8_t *bytes, size_t length,
+                                           uint64_t now, uint8_t *buffer, size_t room, struct lisp_received *received)
+{
+    static const struct lisp_nonce none = {0, 0};
+    uint16_t number = lisp_span(bytes, length, 1);
+
+    if (number == LISP_DONE)
+        number = lisp_span(buffer, room, 1);
+    if (number != LISP_DONE)
+        return number;
+    if (server == NULL || from == NULL || received == NULL)
+        return LISP_NULL;
+    return lisp_registration_server_receive(server, kept == NULL ? &none : kept, from, (const uint8_t *)lisp_pointer(bytes),
+                                            length, now, (uint8_t *)lisp_pointer(buffer), room, received);
 }
 
 #ifdef __cplusplus

@@ -1,7 +1,8 @@
 /*
- * library SECRET DATAGRAM..: tests liblisp_registration.a as a C program sees it, by its header. The arguments are the secret and the
- * datagram of each message in `worked`, in hexadecimal digits: library.py has them. It is linked with --wrap for malloc, realloc and
- * free, which it counts and refuses. Prints each check that fails, and ends with 1 where one does.
+ * library CONFIGURATION SECRET DATAGRAM..: tests liblisp_registration.a as a C program sees it, by its header. The arguments are the
+ * text of a configuration, then the secret and the datagram of each message in `worked`, in hexadecimal digits: library.py has them.
+ * It is linked with --wrap for malloc, realloc and free, which it counts and refuses. Prints each check that fails, and ends with 1
+ * where one does.
  */
 #define _DEFAULT_SOURCE
 #include "library.h"
@@ -70,8 +71,7 @@ void untouched(const void *it, size_t size)
         is("a byte that was there", ((const uint8_t *)it)[at], OLD);
 }
 
-/* The calls of malloc and realloc: how many there were, which one is refused (0: none), and how much of what they gave isn't freed. */
-static long calls, refused, held;
+long calls, refused, held;
 
 void *__real_malloc(size_t size), *__real_realloc(void *old, size_t size), __real_free(void *block);
 void *__wrap_malloc(size_t size), *__wrap_realloc(void *old, size_t size), __wrap_free(void *block);
@@ -239,11 +239,11 @@ static uint8_t *bytes_of(const char *digits, size_t *length)
 
 int main(int argc, char **argv)
 {
-    if (argc != 1 + 2 * WORKED)
+    if (argc != 2 + 2 * WORKED)
         return 2;
     for (size_t i = 0; i < WORKED; i++) {
-        worked[i].secret = bytes_of(argv[1 + 2 * i], &worked[i].secret_length);
-        worked[i].bytes = bytes_of(argv[2 + 2 * i], &worked[i].length);
+        worked[i].secret = bytes_of(argv[2 + 2 * i], &worked[i].secret_length);
+        worked[i].bytes = bytes_of(argv[3 + 2 * i], &worked[i].length);
     }
     repeat_record(&worked[MOST_RECORDS]);
     /* (what the arguments have counts for nothing) */
@@ -261,6 +261,7 @@ int main(int argc, char **argv)
     faults_of_reading();
     faults_of_writing();
     faults_of_pointers();
+    servers(argv[1]);
     for (size_t i = 0; i < WORKED; i++)
         free(worked[i].secret), free(worked[i].bytes);
     return failed;

@@ -1,4 +1,4 @@
-/* What library.c and library_faults.c share. */
+/* What library.c, library_faults.c and library_server.c share. */
 #ifndef LIBRARY_H
 #define LIBRARY_H
 
@@ -24,6 +24,9 @@ extern struct worked worked[WORKED];
 /* What is tested now: it stands in front of what `is` prints. */
 extern const char *now;
 
+/* The calls of malloc and realloc: how many there were, which one is refused (0: none), and how much of what they gave isn't freed. */
+extern long calls, refused, held;
+
 void is(const char *what, unsigned long long got, unsigned long long wanted);
 void same(const char *what, const void *got, const void *wanted, size_t length);
 
@@ -40,5 +43,8 @@ void writes(const struct worked *it, size_t room, uint16_t wanted);
 void faults_of_reading(void);
 void faults_of_writing(void);
 void faults_of_pointers(void);
+
+/* Tests a Map-Server's core, by a configuration with the site of the worked Map-Register. */
+void servers(const char *configuration);
 
 #endif

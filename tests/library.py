@@ -1,15 +1,17 @@
 #!/usr/bin/env -S python3 -B
 """library.py LIBRARY
 Tests the library for C programs (out/liblisp_registration.a): library.c under valgrind, and with the compiler's sanitizers; the programs
-of examples/c; the header alone, in C and C++; the C of docs; the header's numbers and those of docs/REFUSALS.md. Prints each check that
-fails, and what it left out where a tool is missing; ends with 1 where a check fails."""
+of examples/c, of which the server runs on loopback; the header alone, in C and C++; the C of docs; the header's numbers and those of
+docs/REFUSALS.md. Prints each check that fails, and what it left out where a tool is missing; ends with 1 where a check fails."""
 import hmac
 import os
 import re
 import shutil
+import socket
 import subprocess
 import sys
 import tempfile
+import threading
 from pathlib import Path
 
 HERE = Path(__file__).resolve().parent
@@ -18,7 +20,10 @@ HEADER, REGISTER, NOTIFY = TOP / "include/lisp_registration.h", TOP / "examples/
 CLEAN = ["-std=c99", "-Wall", "-Wextra", "-pedantic", "-Werror", f"-I{TOP}/include"]
 WRAP = [f"-Wl,--wrap={name}" for name in ("malloc", "realloc", "free")]
 SANITIZERS = ["-fsanitize=address,undefined", "-fno-sanitize-recover=all"]
+CONFIGURATION = TOP / "examples/configuration.toml"
 LIMIT = 60
+# How long no answer is waited for, and how long one is, in seconds.
+SILENCE, ANSWER = 0.15, 5
 library = os.path.abspath(sys.argv[1])
 failed = False
 
@@ -66,9 +71,10 @@ def authentic(secret, head, rest):
 
 
 def test_library(room):
-    words = [b"secret".hex(), REGISTER.read_text().strip(), b"secret".hex(), NOTIFY.read_text().strip(),
+    words = [CONFIGURATION.read_text(), b"secret".hex(), REGISTER.read_text().strip(), b"secret".hex(), NOTIFY.read_text().strip(),
              *authentic(b"", *ACK), *authentic(131 * b"\xaa", *ALL_FIELDS), *authentic(b"secret", *MOST_RECORDS)]
-    build = ["cc", "-g", *CLEAN, *WRAP, HERE / "library.c", HERE / "library_faults.c", library]
+    sources = [HERE / f"{name}.c" for name in ("library", "library_faults", "library_server")]
+    build = ["cc", "-g", *CLEAN, *WRAP, *sources, library]
     check("cc library.c", ran(*build, "-o", f"{room}/library"), (0, ""))
     check("library.c", ran(f"{room}/library", *words), (0, ""))
     if is_there("valgrind", "library.c under it was"):
@@ -95,11 +101,66 @@ def test_examples(room, compiler):
     check("register.c, again", ran(room / "check", "secret", given=room / "again.hex"), (0, printed.replace("nonce 1", "nonce 2")))
 
 
+def free_port():
+    with socket.socket(socket.AF_INET, socket.SOCK_DGRAM) as udp:
+        udp.bind(("127.0.0.1", 0))
+        return udp.getsockname()[1]
+
+
+def told(program, folder, *steps):
+    """Starts the server over a folder, takes the steps (a datagram's file to send, or something to call), and kills it: for each
+    datagram the line that the server printed, and its answer in hexadecimal digits, or None."""
+    port, answers = free_port(), []
+    with socket.socket(socket.AF_INET, socket.SOCK_DGRAM) as udp, \
+            subprocess.Popen([program, CONFIGURATION, folder, "127.0.0.1", str(port)], stdout=subprocess.PIPE, text=True) as server:
+        late = threading.Timer(LIMIT, server.kill)
+        late.start()
+        try:
+            check("whether the server is ready", server.stdout.readline(), "ready\n")
+            for step in steps:
+                if callable(step):
+                    step()
+                    continue
+                udp.sendto(bytes.fromhex(step.read_text()), ("127.0.0.1", port))
+                line = server.stdout.readline()
+                udp.settimeout(ANSWER if line.startswith("accepted") else SILENCE)
+                try:
+                    answers.append((line, udp.recv(65536).hex() + "\n"))
+                except TimeoutError:
+                    answers.append((line, None))
+        finally:
+            late.cancel()
+            server.kill()
+    return answers
+
+
+def test_server(room, compiler):
+    program, folder = room / "server", room / f"nonces_{compiler}"
+    kept, new = folder / f"{1:016x}-{10:032x}-01", folder / "new"
+    build = [compiler, *CLEAN, "-D_POSIX_C_SOURCE=200809L", TOP / "examples/c/server.c", library, "-o", program]
+    check(f"{compiler} server.c", ran(*build), (0, ""))
+    check("server.c without arguments", ran(program)[0], 2)
+    folder.mkdir()
+    check("server.c without a configuration", ran(program, room / "none", folder, "127.0.0.1", "0")[0], 1)
+    accepted, replay = ("accepted nonce 1\n", NOTIFY.read_text()), ("refused 57\n", None)
+    check("server.c", told(program, folder, REGISTER, REGISTER), [accepted, replay])
+    check("what it saved", (kept.read_text(), os.listdir(folder)), ("1\n", [kept.name]))
+    check("server.c, killed and started", told(program, folder, REGISTER), [replay])
+    kept.write_text("1")
+    check("server.c, a bad file", told(program, folder, REGISTER), [(f"not received: {kept.name} can't be loaded\n", None)])
+    kept.unlink()
+    new.mkdir()
+    check("server.c, a save that fails", told(program, folder, REGISTER, new.rmdir, REGISTER),
+          [(f"not answered: {kept.name} can't be saved\n", None), accepted])
+    check("server.c, a wrong tag", told(program, folder, TOP / "examples/wrong-tag.hex"), [("refused 53\n", None)])
+
+
 def test_header(room):
     (room / "header.c").write_text("#include <lisp_registration.h>\n")
     for compiler in ("gcc", "clang"):
         if is_there(compiler, "the header and examples/c with it were"):
             test_examples(room, compiler)
+            test_server(room, compiler)
     for compiler, flags in (("cc", CLEAN), ("c++", ["-std=c++11", *CLEAN[1:], "-x", "c++"])):
         if is_there(compiler, "the header alone was"):
             check(f"{compiler} lisp_registration.h", ran(compiler, *flags, "-Wconversion", "-fsyntax-only", room / "header.c"), (0, ""))

@@ -1,2 +1,3 @@
 pub mod Datagrams
 pub mod Loops
+pub mod Serving

@@ -9,19 +9,31 @@ mod address;
 mod fault;
 mod locator;
 mod message;
+mod pair;
 mod reading;
+mod received;
 mod record;
 mod records;
+mod server;
+mod starting;
 mod tag;
+mod telling;
 mod writing;
 
 pub use address::PlainAddress;
 pub use fault::WriteFault;
 pub use locator::PlainLocator;
 pub use message::PlainMessage;
+pub use pair::{PlainNonce, PlainPair};
 pub use reading::{
     lisp_registration_read_locator, lisp_registration_read_message, lisp_registration_read_record,
 };
+pub use received::PlainReceived;
 pub use record::PlainRecord;
+pub use server::{
+    lisp_registration_server_pair, lisp_registration_server_receive,
+    lisp_registration_server_restart, lisp_registration_server_start,
+    lisp_registration_server_stop,
+};
 pub use tag::{lisp_registration_authentic, lisp_registration_sign};
 pub use writing::lisp_registration_write_message;

@@ -92,8 +92,8 @@ fn signed<A: Memory>(
     }
 }
 
-// Puts bytes in front of a buffer; whether it has room for them.
-fn put(bytes: &[u8], buffer: &mut [u8]) -> bool
+/// Puts bytes in front of a buffer; whether it has room for them.
+pub(crate) fn put(bytes: &[u8], buffer: &mut [u8]) -> bool
     ensures { (result, buffer.new) ≡ put_in bytes.now buffer.old }
 {
     if bytes.len() > buffer.len() {

@@ -1,4 +1,5 @@
-//! The structs, numbers and functions of liblisp_registration.a: LISP registration messages (RFC 9301), read and written.
+//! The structs, numbers and functions of liblisp_registration.a: LISP registration messages (RFC 9301), read and written, and a
+//! Map-Server's core.
 //!
 //! Names are those of `include/lisp_registration.h`, which says what each function does and in what order its faults come.
 //! The crate `lisp-registration` is a safe layer over this one.
@@ -9,10 +10,14 @@
 //!
 //! - a pointer is not null and is aligned, also where its length or count is 0;
 //! - it is to so many bytes or structs as the length or count behind it says, of no more than `isize::MAX` bytes;
-//! - what a function writes overlaps nothing else that it is given.
+//! - what a function writes overlaps nothing else that it is given;
+//! - a [`lisp_server`] is zeros at first, isn't copied, is changed by these functions alone, and stays on one thread.
 //!
 //! Structs and lengths that are only written need no value before.
 #![allow(non_camel_case_types)]
+
+use std::ffi::c_void;
+use std::ptr::null_mut;
 
 /// Done: no fault.
 pub const LISP_DONE: u16 = 0;
@@ -34,7 +39,35 @@ pub const LISP_NO_IDS: u16 = 13;
 pub const LISP_TRAILING: u16 = 14;
 /// A record that can't be read: [`lisp_registration_read_record`] says which one and why.
 pub const LISP_RECORD: u16 = 15;
-/// A pointer is null. Only the inline functions of the C header answer this.
+/// A configuration that is not valid TOML.
+pub const LISP_TOML: u16 = 20;
+/// A field of a configuration is absent, and has no default.
+pub const LISP_MISSING: u16 = 21;
+/// A value of a configuration is of another type or form, out of its range, or names what isn't there.
+pub const LISP_BAD_VALUE: u16 = 22;
+/// Two entries of a configuration are alike where no two may be.
+pub const LISP_REPEATED: u16 = 23;
+/// A datagram that can't be read: [`lisp_registration_read_message`] says why.
+pub const LISP_READ: u16 = 50;
+/// No such Site-ID is configured.
+pub const LISP_UNKNOWN_SITE: u16 = 51;
+/// The site has no secret for the Key ID.
+pub const LISP_UNKNOWN_KEY: u16 = 52;
+/// The Authentication Data is wrong.
+pub const LISP_BAD_AUTH: u16 = 53;
+/// The merge bit is set.
+pub const LISP_MERGE_ASKED: u16 = 54;
+/// A record's prefix is not one that the site may register.
+pub const LISP_NOT_ALLOWED: u16 = 55;
+/// The nonce is not above the last one of that router under that key.
+pub const LISP_REPLAY: u16 = 57;
+/// A Map-Notify-Ack that no notice waits for.
+pub const LISP_NO_NOTICE: u16 = 60;
+/// A Map-Notify, which is for routers.
+pub const LISP_NOT_MINE: u16 = 61;
+/// A configuration that is not UTF-8.
+pub const LISP_NOT_UTF8: u16 = 95;
+/// A handle holds nothing; or a pointer is null, which only the inline functions of the C header answer.
 pub const LISP_NULL: u16 = 100;
 /// A length or a count is more than memory can have. Only the inline functions of the C header answer this.
 pub const LISP_LENGTH: u16 = 101;
@@ -44,7 +77,7 @@ pub const LISP_ROOM: u16 = 102;
 pub const LISP_FIELD: u16 = 103;
 /// More than 255 records, or not as many locators as the records count.
 pub const LISP_COUNTS: u16 = 104;
-/// `malloc` or `realloc` gave no memory.
+/// `malloc` or `realloc` gave no memory. Of a configuration 24 may say so too; of a datagram that is received, 58 does.
 pub const LISP_OUT_OF_MEMORY: u16 = 105;
 
 /// Type of a Map-Register (RFC 9301 section 5.6).
@@ -154,6 +187,63 @@ pub struct lisp_message {
     pub records_end: usize,
 }
 
+/// A Map-Server that the library keeps, or none. It stays on the thread that started it, and is never copied.
+#[repr(C)]
+#[derive(Debug)]
+pub struct lisp_server {
+    /// Not for the program.
+    pub core: *mut c_void,
+}
+
+/// A handle that holds none.
+impl Default for lisp_server {
+    fn default() -> Self {
+        lisp_server { core: null_mut() }
+    }
+}
+
+/// What a nonce is kept for: a router and the Key ID that it used, or nothing.
+#[repr(C)]
+#[derive(Clone, Copy, Debug, Default, PartialEq, Eq)]
+pub struct lisp_pair {
+    /// The Site-ID of the router.
+    pub site: u64,
+    /// Its xTR-ID.
+    pub xtr: [u8; 16],
+    /// The Key ID.
+    pub key_id: u8,
+    /// 0: there is none, and all is 0.
+    pub is_there: u8,
+}
+
+/// A nonce that the program kept for a pair, or none.
+#[repr(C)]
+#[derive(Clone, Copy, Debug, Default, PartialEq, Eq)]
+pub struct lisp_nonce {
+    /// The nonce.
+    pub nonce: u64,
+    /// 0: none was ever saved for the pair.
+    pub is_there: u8,
+}
+
+/// What a Map-Server took.
+#[repr(C)]
+#[derive(Clone, Copy, Debug, Default, PartialEq, Eq)]
+pub struct lisp_received {
+    /// The nonce of the Map-Register, which has to be saved; or of the notice that is done.
+    pub nonce: u64,
+    /// The Site-ID of the router.
+    pub site: u64,
+    /// Its xTR-ID.
+    pub xtr: [u8; 16],
+    /// The Key ID of the Map-Register, else 0.
+    pub key_id: u8,
+    /// 1: a Map-Register was accepted; 0: a Map-Notify-Ack ended a notice.
+    pub accepted: u8,
+    /// How many bytes of the buffer are the answer; 0 where none is sent.
+    pub reply_length: usize,
+}
+
 extern "C" {
     /// Reads a datagram: what its message says but its records, and where these are (RFC 9301 sections 5.6 and 5.7).
     pub fn lisp_registration_read_message(
@@ -206,5 +296,35 @@ extern "C" {
         buffer: *mut u8,
         room: usize,
         length: *mut usize,
+    ) -> u16;
+
+    /// Starts a Map-Server of the sites of a configuration; what the handle held before is stopped.
+    pub fn lisp_registration_server_start(
+        configuration: *const u8,
+        length: usize,
+        server: *mut lisp_server,
+    ) -> u16;
+
+    /// Stops the Map-Server of a handle, if it holds one, and gives all its memory back.
+    pub fn lisp_registration_server_stop(server: *mut lisp_server);
+
+    /// Starts the Map-Server of a handle again, as after a crash.
+    pub fn lisp_registration_server_restart(server: *mut lisp_server) -> u16;
+
+    /// Names the pair whose last nonce a datagram needs, or none.
+    pub fn lisp_registration_server_pair(bytes: *const u8, length: usize, pair: *mut lisp_pair);
+
+    /// Receives a datagram that came from an address at a time, in ms (RFC 9301 section 8.2). An accepted nonce has to be saved
+    /// before the answer is sent.
+    pub fn lisp_registration_server_receive(
+        server: *mut lisp_server,
+        kept: *const lisp_nonce,
+        from: *const lisp_address,
+        bytes: *const u8,
+        length: usize,
+        now: u64,
+        buffer: *mut u8,
+        room: usize,
+        received: *mut lisp_received,
     ) -> u16;
 }

@@ -32,6 +32,10 @@ fn claims() -> Vec<String> {
             nonce, site, xtr, kind, key_id, proxy, sec, eid_notify, use_ttl, merge, want_notify,
             record_count, records_at, records_end
         }
+        lisp_server { core }
+        lisp_pair { site, xtr, key_id, is_there }
+        lisp_nonce { nonce, is_there }
+        lisp_received { nonce, site, xtr, key_id, accepted, reply_length }
     };
     let values = values![
         LISP_DONE,
@@ -44,6 +48,20 @@ fn claims() -> Vec<String> {
         LISP_NO_IDS,
         LISP_TRAILING,
         LISP_RECORD,
+        LISP_TOML,
+        LISP_MISSING,
+        LISP_BAD_VALUE,
+        LISP_REPEATED,
+        LISP_READ,
+        LISP_UNKNOWN_SITE,
+        LISP_UNKNOWN_KEY,
+        LISP_BAD_AUTH,
+        LISP_MERGE_ASKED,
+        LISP_NOT_ALLOWED,
+        LISP_REPLAY,
+        LISP_NO_NOTICE,
+        LISP_NOT_MINE,
+        LISP_NOT_UTF8,
         LISP_NULL,
         LISP_LENGTH,
         LISP_ROOM,
@@ -88,8 +106,16 @@ fn sizes_and_alignments() {
         (size_of::<lisp_locator>(), align_of::<lisp_locator>()),
         (size_of::<lisp_record>(), align_of::<lisp_record>()),
         (size_of::<lisp_message>(), align_of::<lisp_message>()),
+        (size_of::<lisp_server>(), align_of::<lisp_server>()),
+        (size_of::<lisp_pair>(), align_of::<lisp_pair>()),
+        (size_of::<lisp_nonce>(), align_of::<lisp_nonce>()),
+        (size_of::<lisp_received>(), align_of::<lisp_received>()),
     ];
-    assert_eq!(found, [(18, 2), (40, 8), (48, 8), (64, 8)]);
+    let messages = [(18, 2), (40, 8), (48, 8), (64, 8)];
+    let servers = [(8, 8), (32, 8), (16, 8), (48, 8)];
+    assert_eq!(found[..4], messages);
+    assert_eq!(found[4..], servers);
+    assert_eq!(offset_of!(lisp_received, reply_length), 40);
     assert_eq!(offset_of!(lisp_locator, address), 8);
     assert_eq!(offset_of!(lisp_record, eid), 10);
     assert_eq!(offset_of!(lisp_message, records_at), 48);

@@ -2,7 +2,7 @@
 //!
 //! The work is done by liblisp_registration.a, whose functions are proved. This crate gives them Rust's types: a [`Datagram`]
 //! borrows the bytes that it was read from, its records and locators are iterators over them, and [`write()`] makes the
-//! datagram of a [`Message`] and its records. Only `raw` has unsafe code.
+//! datagram of a [`Message`] and its records. A Map-Server's core is in [`server`]. Only `raw` has unsafe code.
 //!
 //! ```
 //! use lisp_registration::{write, Datagram, Kind, Message};
@@ -23,6 +23,7 @@ mod message;
 #[allow(unsafe_code)]
 mod raw;
 mod record;
+pub mod server;
 mod tag;
 mod writing;
 

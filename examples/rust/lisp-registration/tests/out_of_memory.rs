@@ -5,7 +5,8 @@
 
 mod common;
 
-use common::{map_register, record, registration, SECRET};
+use common::{address, map_notify, map_register, record, registration, CONFIGURATION, SECRET};
+use lisp_registration::server::{MapServer, Received, Refusal, StartError};
 use lisp_registration::{write_into, Error};
 use std::alloc::{GlobalAlloc, Layout};
 use std::cell::Cell;
@@ -99,13 +100,18 @@ unsafe impl GlobalAlloc for Uncounted {
 #[global_allocator]
 static UNCOUNTED: Uncounted = Uncounted;
 
+/// Does what takes memory, where so many calls get some: what comes of it, and what the calls came to.
+fn counted<T>(granted: usize, does: impl FnOnce() -> T) -> (T, Calls) {
+    CALLS.set(Calls { granted, made: 0, held: 0 });
+    let result = does();
+    let calls = CALLS.replace(Calls { granted: usize::MAX, made: 0, held: 0 });
+    (result, calls)
+}
+
 /// Writes two of the worked records where so many calls get memory: what comes of it, and what the calls came to.
 fn written(granted: usize, buffer: &mut [u8]) -> (Result<usize, Error>, Calls) {
     let records = [record(), record()];
-    CALLS.set(Calls { granted, made: 0, held: 0 });
-    let result = write_into(&registration(), &records, SECRET, buffer);
-    let calls = CALLS.replace(Calls { granted: usize::MAX, made: 0, held: 0 });
-    (result, calls)
+    counted(granted, || write_into(&registration(), &records, SECRET, buffer))
 }
 
 #[test]
@@ -122,4 +128,76 @@ fn each_call_that_gets_no_memory_is_a_fault() {
         assert_eq!(buffer, [0xee; 200]);
     }
     assert_eq!(Error::OutOfMemory.number(), 105);
+}
+
+#[test]
+fn a_start_that_gets_no_memory_keeps_none() {
+    let (server, calls) = counted(usize::MAX, || MapServer::start(CONFIGURATION));
+    assert!(calls.made > 0 && calls.held > 0);
+    let (_, stopped) = counted(usize::MAX, || drop(server));
+    assert_eq!((stopped.made, stopped.held), (0, -calls.held));
+    let mut numbers = Vec::with_capacity(calls.made);
+    for granted in 0..calls.made {
+        let (result, calls) = counted(granted, || MapServer::start(CONFIGURATION));
+        let error = result.unwrap_err();
+        assert!(matches!(error, StartError::ConfigurationOutOfMemory | StartError::OutOfMemory));
+        assert_eq!(calls.held, 0);
+        numbers.push(error.number());
+    }
+    numbers.dedup();
+    assert_eq!(numbers, [24, 105]);
+}
+
+/// The worked exchange, where so many calls get memory: the length of the reply, and what the calls came to.
+fn exchanged(
+    server: &mut MapServer,
+    kept: Option<u64>,
+    granted: usize,
+    buffer: &mut [u8],
+) -> (Result<usize, Refusal>, Calls) {
+    let (bytes, from) = (map_register(), address("127.0.0.21"));
+    counted(granted, || match server.receive(kept, from, &bytes, 0, buffer)? {
+        Received::Accepted { reply, .. } => Ok(reply.map_or(0, <[u8]>::len)),
+        Received::NoticeDone { .. } => panic!("no notice stands"),
+    })
+}
+
+/// The exchange where too few calls get memory, then again where all do, on a Map-Server of its own: the number of the refusal.
+fn refused_at_first(kept: Option<u64>, granted: usize) -> u16 {
+    let (server, start) = counted(usize::MAX, || MapServer::start(CONFIGURATION));
+    let (mut server, mut buffer) = (server.unwrap(), [0xee; 200]);
+    let (refusal, refused) = exchanged(&mut server, kept, granted, &mut buffer);
+    assert_eq!(buffer, [0xee; 200]);
+    let (length, accepted) = exchanged(&mut server, kept, usize::MAX, &mut buffer);
+    assert_eq!(buffer[..length.unwrap()], map_notify());
+    let ((), stopped) = counted(usize::MAX, || drop(server));
+    assert_eq!(start.held + refused.held + accepted.held + stopped.held, 0);
+    refusal.unwrap_err().number()
+}
+
+#[test]
+fn a_refusal_for_no_memory_changes_nothing() {
+    for kept in [None, Some(0)] {
+        let mut server = MapServer::start(CONFIGURATION).unwrap();
+        let (_, calls) = exchanged(&mut server, kept, usize::MAX, &mut [0; 200]);
+        assert!(calls.made > 0);
+        for granted in 0..calls.made {
+            let number = refused_at_first(kept, granted);
+            assert!(matches!(number, 58 | 59), "{number}");
+        }
+    }
+    let numbers = [Refusal::OutOfMemory.number(), Refusal::NonceOutOfMemory.number()];
+    assert_eq!(numbers, [58, 59]);
+}
+
+#[test]
+fn pairs_and_restarts_take_no_memory() {
+    let mut server = MapServer::start(CONFIGURATION).unwrap();
+    let _ = exchanged(&mut server, None, usize::MAX, &mut [0; 200]);
+    let bytes = map_register();
+    let (pair, calls) = counted(0, || lisp_registration::server::pair(&bytes));
+    assert!(pair.is_some());
+    assert_eq!((calls.made, calls.held), (0, 0));
+    let ((), calls) = counted(0, || server.restart());
+    assert_eq!(calls.made, 0);
 }

@@ -6,6 +6,8 @@ use std::net::IpAddr;
 
 pub const SECRET: &[u8] = b"secret";
 
+pub const CONFIGURATION: &str = include_str!("../../../../configuration.toml");
+
 /// The bytes of hexadecimal digits; `None` for what is no such text.
 pub fn bytes_of(text: &str) -> Option<Vec<u8>> {
     let digits: Vec<u32> = text

@@ -1,0 +1,98 @@
+//! A Map-Server that a program in C holds.
+
+ghost use Rattle.std.specs.Prelude.{◌≡◌, None};
+ghost use Rattle.lisp_registration.specs.Server.{RestartsServer, StartsServer, TellsPair, TellsReceived};
+
+use crate::address::PlainAddress;
+use crate::fault::WriteFault;
+use crate::pair::{PlainNonce, PlainPair};
+use crate::received::PlainReceived;
+use crate::starting::{restart, started};
+use crate::telling::tell_received;
+use lisp_embedded::{ServerHandle, pair_needed, receive_kept};
+use std::alloc::Global;
+
+/// The number of a handle that holds nothing.
+const NULL: u16 = 100;
+
+/// Starts a Map-Server of the sites of a configuration, TOML in UTF-8; it holds nothing yet. What the handle held before is
+/// gone. 0 is done; else (`NotUtf8` 95, a fault of the configuration 20 to 23, `OutOfMemory` 105) the handle is as it was.
+#[unsafe(no_mangle)]
+pub extern "C" fn lisp_registration_server_start(
+    alloc: Global,
+    configuration: &[u8],
+    server: &mut ServerHandle,
+) -> u16
+    ensures { StartsServer configuration.now server.old.value result server.new.value }
+{
+    match started(alloc, configuration) {
+        Ok(hosted) => {
+            *server = ServerHandle::of(hosted);
+            0
+        }
+        Err(number) => number,
+    }
+}
+
+/// Stops the Map-Server that the handle holds, if it holds one; it holds none from then on, and all memory is given back.
+#[unsafe(no_mangle)]
+pub extern "C" fn lisp_registration_server_stop(alloc: Global, server: &mut ServerHandle)
+    ensures { server.new.value ≡ None }
+{
+    *server = ServerHandle::none(alloc);
+}
+
+/// Starts the Map-Server again, as after a crash: its sites are kept, all else is gone. Takes no memory. 100 where the handle
+/// holds none.
+#[unsafe(no_mangle)]
+pub extern "C" fn lisp_registration_server_restart(alloc: Global, server: &mut ServerHandle) -> u16
+    ensures { RestartsServer server.old.value result server.new.value }
+{
+    match server.take(alloc) {
+        Some(mut hosted) => {
+            restart(alloc, &mut hosted);
+            *server = ServerHandle::of(hosted);
+            0
+        }
+        None => NULL,
+    }
+}
+
+/// The pair whose last nonce a datagram needs, or none; takes no memory.
+#[unsafe(no_mangle)]
+pub extern "C" fn lisp_registration_server_pair(alloc: Global, bytes: &[u8], pair: &mut PlainPair)
+    ensures { TellsPair bytes.now pair.new }
+{
+    *pair = PlainPair::of(pair_needed(alloc, bytes));
+}
+
+/// Receives a datagram that came from an address at a time, in ms, with the nonce that the program loaded for its pair.
+#[unsafe(no_mangle)]
+pub extern "C" fn lisp_registration_server_receive(
+    alloc: Global,
+    server: &mut ServerHandle,
+    kept: &PlainNonce,
+    from: &PlainAddress,
+    bytes: &[u8],
+    now: u64,
+    buffer: &mut [u8],
+    received: &mut PlainReceived,
+) -> u16
+    ensures { TellsReceived kept.now from.now bytes.now now server.old.value buffer.old received.old
+        result server.new.value buffer.new received.new }
+{
+    let Some(from) = from.addr() else {
+        return WriteFault::Field.number();
+    };
+    if bytes.len() > buffer.len() {
+        return WriteFault::Room.number();
+    }
+    match server.take(alloc) {
+        Some(mut hosted) => {
+            let answer = receive_kept(alloc, &mut hosted.server, kept.kept(), from, bytes, now);
+            *server = ServerHandle::of(hosted);
+            tell_received(&answer, buffer, received)
+        }
+        None => NULL,
+    }
+}

@@ -1,0 +1,281 @@
+/*
+ * A Map-Server's core as a C program holds it: the worked exchange, replays, a restart, each refusal, null pointers, and memory that
+ * is refused.
+ */
+#include "library.h"
+#include <stdio.h>
+#include <stdlib.h>
+#include <string.h>
+
+/* Out of memory for a configuration, for a datagram and for its nonce; and how long the secret is. */
+enum { MEMORY_TOML = 24, MEMORY = 58, MEMORY_NONCE = 59, SECRET = 6 };
+
+static const struct lisp_address router = {LISP_IPV4, {192, 0, 2, 1}};
+static const struct lisp_nonce none = {0, 0}, one = {1, 1};
+static const char *text;
+static size_t text_length;
+
+static uint16_t start(struct lisp_server *server)
+{
+    return lisp_server_start(server, text, text_length);
+}
+
+/* Receives a datagram with this answer. Where it is refused, nothing is written, and the handle is as it was. */
+static void receives(struct lisp_server *server, const struct lisp_nonce *kept, const uint8_t *bytes, size_t length, uint16_t wanted)
+{
+    const struct worked *it = &worked[REGISTER], *reply = &worked[NOTIFY];
+    const void *core = server->core;
+    const long before = held;
+    struct lisp_received received;
+    uint8_t *copy = malloc(length + 1), *buffer = edge(length);
+
+    if (copy == NULL)
+        abort();
+    memcpy(copy, bytes, length);
+    memset(&received, OLD, sizeof received);
+    uint16_t number = lisp_server_receive(server, kept, &router, copy, length, 0, buffer, length, &received);
+    is("lisp_server_receive", wanted == MEMORY && number == MEMORY_NONCE ? wanted : number, wanted);
+    same("the datagram", copy, bytes, length);
+    is("the handle", server->core == core, true);
+    if (wanted == LISP_DONE) {
+        is("accepted", received.accepted, 1);
+        is("nonce", received.nonce, it->message.nonce);
+        is("site", received.site, it->message.site);
+        same("xtr", received.xtr, it->message.xtr, 16);
+        is("key_id", received.key_id, it->message.key_id);
+        is("reply_length", received.reply_length, reply->length);
+        same("the answer", buffer, reply->bytes, reply->length);
+        untouched(buffer + reply->length, length - reply->length);
+    } else {
+        untouched(&received, sizeof received);
+        untouched(buffer, length);
+    }
+    free(copy);
+    /* (where memory is refused, the server may keep room that it took) */
+    if (wanted != LISP_DONE && wanted != MEMORY)
+        is("blocks that aren't freed", held, before);
+}
+
+static void exchange(struct lisp_server *server)
+{
+    const struct worked *it = &worked[REGISTER];
+
+    now = "the exchange";
+    is("start", start(server), LISP_DONE);
+    receives(server, &none, it->bytes, it->length, LISP_DONE);
+    receives(server, &none, it->bytes, it->length, LISP_REPLAY);
+    receives(server, &one, it->bytes, it->length, LISP_REPLAY);
+    now = "after a restart";
+    calls = 0;
+    is("restart", lisp_server_restart(server), LISP_DONE);
+    is("calls of malloc", calls, 0);
+    receives(server, &one, it->bytes, it->length, LISP_REPLAY);
+    receives(server, NULL, it->bytes, it->length, LISP_DONE);
+    receives(server, NULL, it->bytes, it->length, LISP_REPLAY);
+}
+
+static void pairs(void)
+{
+    const struct worked *it = &worked[REGISTER];
+    struct lisp_pair pair, zeros;
+
+    now = "pairs";
+    calls = 0;
+    memset(&pair, OLD, sizeof pair);
+    is("lisp_server_pair", lisp_server_pair(at_edge(it->bytes, it->length), it->length, &pair), LISP_DONE);
+    is("is_there", pair.is_there, 1);
+    is("site", pair.site, it->message.site);
+    is("key_id", pair.key_id, it->message.key_id);
+    same("xtr", pair.xtr, it->message.xtr, 16);
+    memset(&zeros, 0, sizeof zeros);
+    for (int i = 0; i < 3; i++) {
+        const struct worked *other = i == 0 ? it : &worked[i];
+        size_t length = i == 0 ? it->length - 1 : other->length;
+        memset(&pair, OLD, sizeof pair);
+        is("of other bytes", lisp_server_pair(at_edge(other->bytes, length), length, &pair), LISP_DONE);
+        is("is_there", pair.is_there, 0);
+        is("site", pair.site, 0);
+        is("key_id", pair.key_id, 0);
+        same("xtr", pair.xtr, zeros.xtr, 16);
+    }
+    is("calls of malloc", calls, 0);
+    memset(&pair, OLD, sizeof pair);
+    is("null", lisp_server_pair(NULL, 1, &pair), LISP_NULL);
+    is("too many bytes", lisp_server_pair(it->bytes, (size_t)PTRDIFF_MAX + 1, &pair), LISP_LENGTH);
+    untouched(&pair, sizeof pair);
+    is("to null", lisp_server_pair(it->bytes, it->length, NULL), LISP_NULL);
+    is("no bytes", lisp_server_pair(NULL, 0, &pair), LISP_DONE);
+    is("is_there", pair.is_there, 0);
+}
+
+/* Datagrams that a new server refuses; it accepts the worked one after them. */
+static void refuses(struct lisp_server *server)
+{
+    static const struct { const char *name; size_t at, length; uint8_t value; bool is_signed; uint16_t number; } wrong[] = {
+        {"a wrong tag", 31, 84, 0, false, LISP_BAD_AUTH}, {"cut short", 0, 59, 0x3a, false, LISP_READ},
+        {"no bytes", 0, 0, 0x3a, false, LISP_READ}, {"another site", 83, 84, 2, true, LISP_UNKNOWN_SITE},
+        {"another key", 12, 84, 2, true, LISP_UNKNOWN_KEY}, {"a merge", 2, 84, 5, true, LISP_MERGE_ASKED},
+        {"another prefix", 45, 84, 2, true, LISP_NOT_ALLOWED}};
+    const struct worked *it = &worked[REGISTER];
+    uint8_t bytes[84];
+
+    is("start", start(server), LISP_DONE);
+    for (size_t i = 0; i < COUNT(wrong); i++) {
+        now = wrong[i].name;
+        memcpy(bytes, it->bytes, sizeof bytes);
+        bytes[wrong[i].at] = wrong[i].at == 31 ? bytes[31] ^ 1 : wrong[i].value;
+        if (wrong[i].is_signed)
+            lisp_sign(bytes, sizeof bytes, it->secret, SECRET);
+        receives(server, &none, bytes, wrong[i].length, wrong[i].number);
+    }
+    now = "other messages";
+    receives(server, &none, worked[NOTIFY].bytes, worked[NOTIFY].length, LISP_NOT_MINE);
+    memcpy(bytes, worked[NOTIFY].bytes, worked[NOTIFY].length);
+    bytes[0] = 0x50;
+    lisp_sign(bytes, worked[NOTIFY].length, it->secret, SECRET);
+    receives(server, &none, bytes, worked[NOTIFY].length, LISP_NO_NOTICE);
+    receives(server, &none, it->bytes, it->length, LISP_DONE);
+}
+
+/* Calls with null pointers, lengths that no memory has, no room, and a handle that holds nothing. */
+static void arguments(struct lisp_server *server)
+{
+    const struct lisp_address seven = {7, {0}};
+    const size_t length = worked[REGISTER].length, beyond = (size_t)PTRDIFF_MAX + 1;
+    const uint8_t *bytes = worked[REGISTER].bytes;
+    struct lisp_server empty = {NULL};
+    struct lisp_received to;
+    uint8_t *buffer = edge(length);
+
+    now = "arguments";
+    is("start", start(server), LISP_DONE);
+    memset(&to, OLD, sizeof to);
+    is("no server", lisp_server_receive(NULL, &none, &router, bytes, length, 0, buffer, length, &to), LISP_NULL);
+    is("no source", lisp_server_receive(server, &none, NULL, bytes, length, 0, buffer, length, &to), LISP_NULL);
+    is("no bytes", lisp_server_receive(server, &none, &router, NULL, length, 0, buffer, length, &to), LISP_NULL);
+    is("no buffer", lisp_server_receive(server, &none, &router, bytes, length, 0, NULL, length, &to), LISP_NULL);
+    is("nothing received", lisp_server_receive(server, &none, &router, bytes, length, 0, buffer, length, NULL), LISP_NULL);
+    is("too many bytes", lisp_server_receive(server, &none, &router, bytes, beyond, 0, buffer, length, &to), LISP_LENGTH);
+    is("too much room", lisp_server_receive(server, &none, &router, bytes, length, 0, buffer, beyond, &to), LISP_LENGTH);
+    is("family 7", lisp_server_receive(server, &none, &seven, bytes, length, 0, buffer, length, &to), LISP_FIELD);
+    is("family 7 first", lisp_server_receive(&empty, &none, &seven, bytes, length, 0, buffer, 0, &to), LISP_FIELD);
+    is("no room", lisp_server_receive(server, &none, &router, bytes, length, 0, buffer, length - 1, &to), LISP_ROOM);
+    is("no room at null", lisp_server_receive(server, &none, &router, bytes, length, 0, NULL, 0, &to), LISP_ROOM);
+    is("no room first", lisp_server_receive(&empty, &none, &router, bytes, length, 0, buffer, 0, &to), LISP_ROOM);
+    is("an empty handle", lisp_server_receive(&empty, &none, &router, bytes, length, 0, buffer, length, &to), LISP_NULL);
+    is("an empty handle, no bytes", lisp_server_receive(&empty, NULL, &router, NULL, 0, 0, NULL, 0, &to), LISP_NULL);
+    untouched(&to, sizeof to);
+    untouched(buffer, length);
+    receives(server, &none, bytes, length, LISP_DONE);
+
+    is("starting null", lisp_server_start(NULL, text, text_length), LISP_NULL);
+    is("a configuration of null", lisp_server_start(&empty, NULL, 1), LISP_NULL);
+    is("too long a configuration", lisp_server_start(&empty, text, beyond), LISP_LENGTH);
+    is("restarting null", lisp_server_restart(NULL), LISP_NULL);
+    is("restarting none", lisp_server_restart(&empty), LISP_NULL);
+    lisp_server_stop(NULL);
+    lisp_server_stop(&empty);
+    is("the empty handle", empty.core == NULL, true);
+}
+
+/* Configurations with faults, over a server that runs: it goes on, and has its nonce. Then one without sites, which replaces it. */
+static void configurations(struct lisp_server *server)
+{
+    static const struct { const char *text; uint16_t number; } wrong[] = {
+        {"x=", LISP_TOML}, {"x = \"\xff\"", LISP_NOT_UTF8}, {"[[site]]\n", LISP_MISSING}, {"[[site]]\nid = \"1\"\n", LISP_BAD_VALUE},
+        {"[[site]]\nid = \"0000000000000001\"\n[[site]]\nid = \"0000000000000001\"\n", LISP_REPEATED}};
+    const struct worked *it = &worked[REGISTER];
+    struct lisp_server empty = {NULL};
+
+    is("start", start(server), LISP_DONE);
+    receives(server, &none, it->bytes, it->length, LISP_DONE);
+    for (size_t i = 0; i < COUNT(wrong); i++) {
+        const void *core = server->core;
+        long before = held;
+        now = wrong[i].text;
+        is("start", lisp_server_start(&empty, now, strlen(now)), wrong[i].number);
+        is("the empty handle", empty.core == NULL, true);
+        is("start over another", lisp_server_start(server, now, strlen(now)), wrong[i].number);
+        is("the handle", server->core == core, true);
+        is("blocks that aren't freed", held, before);
+        receives(server, &none, it->bytes, it->length, LISP_REPLAY);
+    }
+    now = "start over another";
+    is("start", start(server), LISP_DONE);
+    receives(server, &none, it->bytes, it->length, LISP_DONE);
+    is("an empty configuration", lisp_server_start(server, NULL, 0), LISP_DONE);
+    receives(server, &none, it->bytes, it->length, LISP_UNKNOWN_SITE);
+}
+
+/* Each call of malloc or realloc is refused in turn; the next call of the library finds memory again. */
+static void wants_memory_to_start(struct lisp_server *server)
+{
+    const struct worked *it = &worked[REGISTER];
+    struct lisp_server other = {NULL};
+
+    now = "memory to start";
+    is("start", start(server), LISP_DONE);
+    receives(server, &none, it->bytes, it->length, LISP_DONE);
+    calls = 0;
+    is("start", start(&other), LISP_DONE);
+    lisp_server_stop(&other);
+    is("whether it took memory", calls > 0, true);
+    for (long most = calls, at = 1; at <= most; at++) {
+        struct lisp_server *both[] = {server, &other};
+        for (size_t i = 0; i < COUNT(both); i++) {
+            const void *core = both[i]->core;
+            long before = held;
+            calls = 0, refused = at;
+            uint16_t number = start(both[i]);
+            refused = 0;
+            is("a number of no memory", number == MEMORY_TOML || number == LISP_OUT_OF_MEMORY ? 0 : at * 1000 + number, 0);
+            is("the handle", both[i]->core == core, true);
+            is("blocks that aren't freed", held, before);
+        }
+        receives(server, &none, it->bytes, it->length, LISP_REPLAY);
+        is("start", start(&other), LISP_DONE);
+        receives(&other, &none, it->bytes, it->length, LISP_DONE);
+        lisp_server_stop(&other);
+    }
+}
+
+static void wants_memory_to_receive(struct lisp_server *server)
+{
+    const struct worked *it = &worked[REGISTER];
+    long most;
+
+    now = "memory to receive";
+    is("start", start(server), LISP_DONE);
+    calls = 0;
+    receives(server, &none, it->bytes, it->length, LISP_DONE);
+    /* (the first is of the test's own copy) */
+    most = calls;
+    is("whether it took memory", most > 1, true);
+    for (long at = 2; at <= most; at++) {
+        is("start", start(server), LISP_DONE);
+        calls = 0, refused = at;
+        receives(server, &none, it->bytes, it->length, MEMORY);
+        refused = 0;
+        receives(server, &none, it->bytes, it->length, LISP_DONE);
+        receives(server, &none, it->bytes, it->length, LISP_REPLAY);
+    }
+}
+
+void servers(const char *configuration)
+{
+    static void (*const tests[])(struct lisp_server *) = {exchange, refuses, arguments, configurations, wants_memory_to_start,
+                                                          wants_memory_to_receive};
+    struct lisp_server server = {NULL};
+
+    text = configuration;
+    text_length = strlen(configuration);
+    for (size_t i = 0; i < COUNT(tests); i++) {
+        tests[i](&server);
+        lisp_server_stop(&server);
+        is("the stopped handle", server.core == NULL, true);
+        is("blocks that aren't freed", held, 0);
+        lisp_server_stop(&server);
+        is("restart of a stopped one", lisp_server_restart(&server), LISP_NULL);
+    }
+    pairs();
+}
