@@ -67,9 +67,13 @@ bytes_of None = []
 abbrev pub reply_bytes : {A : Type 0} → Took A → List ℕ
 reply_bytes took = bytes_of (reply_in took)
 
+-- how many bytes of the buffer are an answer: none where it has no room for it
+abbrev pub length_in : List ℕ → List ℕ → ℕ
+length_in reply buffer = if nat_lt (length buffer) (length reply) then 0 else length reply
+
 -- the number, the buffer and the struct that an answer leaves
 abbrev pub told_received : {A : Type 0} → Result (Took A) Refused → List ℕ → PlainReceived → ℕ × (List ℕ × PlainReceived)
-told_received (Ok took) buffer old = (0, ((put_in (reply_bytes took) buffer).1, plain_received took (length (reply_bytes took))))
+told_received (Ok took) buffer old = (0, ((put_in (reply_bytes took) buffer).1, plain_received took (length_in (reply_bytes took) buffer)))
 told_received (Err why) buffer old = (refused_number why, (buffer, old))
 
 -- the source of a datagram, where that is an address and the buffer has as much room as the datagram

@@ -1,6 +1,7 @@
 //! A Map-Server that a program in C holds.
 
 ghost use Rattle.std.specs.Prelude.{◌≡◌, None};
+ghost use Rattle.lisp_memory.specs.Refusal.{MachineMayRefuse};
 ghost use Rattle.lisp_registration.specs.Server.{RestartsServer, StartsServer, TellsPair, TellsReceived};
 
 use crate::address::PlainAddress;
@@ -78,8 +79,9 @@ pub extern "C" fn lisp_registration_server_receive(
     buffer: &mut [u8],
     received: &mut PlainReceived,
 ) -> u16
-    ensures { TellsReceived kept.now from.now bytes.now now server.old.value buffer.old received.old
+    ensures received { TellsReceived kept.now from.now bytes.now now server.old.value buffer.old received.old
         result server.new.value buffer.new received.new }
+    ensures memory { result ≡ 58 → MachineMayRefuse }
 {
     let Some(from) = from.addr() else {
         return WriteFault::Field.number();

@@ -8,7 +8,8 @@ use crate::writing::put;
 use lisp_server::{Refused, Took};
 use std::alloc::Allocator;
 
-/// Tells what was taken: its answer in the buffer, if it has room, and what there is to save; or the number of the refusal.
+/// Tells what was taken: what there is to save, and its answer in the buffer, or none where the buffer has no room for it; or
+/// the number of the refusal.
 pub(crate) fn tell_received<A: Allocator>(
     answer: &Result<Took<A>, Refused>,
     buffer: &mut [u8],
@@ -19,8 +20,8 @@ pub(crate) fn tell_received<A: Allocator>(
     match answer {
         Ok(took) => {
             let reply = reply_of(took);
-            put(reply, buffer);
-            *received = PlainReceived::of(took, reply.len());
+            let reply_length = if put(reply, buffer) { reply.len() } else { 0 };
+            *received = PlainReceived::of(took, reply_length);
             0
         }
         Err(refused) => refused.number(),
