@@ -6,7 +6,8 @@
 # make mutants  tries all wrong bodies, over what the gate kept; NAME=lisp_server those of one crate. docs/MUTANTS.log has the last answers
 # make slips    plants wrong definitions: an example of theirs has to refuse each; NAME=lisp_client those of one list
 # make fuzz     plays schedules that are drawn: COUNT of them from SEED on, over out/lispd
-# make bench    measures the codec, the tag and registrations; and of out/lispd saves on a disk, the reading of configurations, plays, and a server
+# make bench    measures the codec, the tag and registrations, also through the library for C programs; and of out/lispd saves on a disk, the
+#               reading of configurations, plays, and a server
 # make install  installs the program (out/lispd), its manual pages, completions, units and a sample, and the library with its header and its
 #               pkg-config file: PREFIX=/usr/local, DESTDIR=
 # make uninstall removes these
@@ -49,9 +50,10 @@ COUNT = 10000
 fuzz: lispd
 	@tests/fuzz.py out/lispd $(SEED) $(COUNT)
 
-bench: lispd
+bench: lispd library
 	@mkdir -p out
 	@cd crates/lisp_bench && rt run -- measure 2> ../../out/bench.log || { cat ../../out/bench.log >&2; exit 1; }
+	@tools/bench_library
 	@tools/bench_saves
 	@tools/bench_play
 	@tools/bench_server

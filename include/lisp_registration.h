@@ -1,27 +1,31 @@
 /*
- * LISP registration messages (RFC 9301): Map-Register, Map-Notify and Map-Notify-Ack, for programs in C and C++.
+ * LISP registration (RFC 9301) for programs in C and C++: Map-Register, Map-Notify and Map-Notify-Ack, and the cores of
+ * a Map-Server and of a router. docs/EMBEDDING.md says how to use it.
  *
  * The functions of liblisp_registration.a are proved: each does what is said here for every input, if the caller keeps
  * what no proof can see:
  *
- *   - a pointer is to so many bytes or structs as the length or count behind it says, aligned as C aligns them, for as long
- *     as the call takes;
- *   - what a call writes (a struct, a buffer, a length) overlaps nothing else that the call is given, and no other thread
- *     writes meanwhile what a call is given;
- *   - malloc, realloc and free are of one allocator, which aligns as C wants it, and no call that takes memory is made from
- *     a signal handler, nor from the forked child of a process with threads;
- *   - a struct lisp_server is zeros at first, is not copied, is changed by these calls alone, and stays on one thread;
+ *   - a pointer is to so many bytes or structs as the length or count behind it says, aligned as C aligns them, for as
+ *     long as the call takes;
+ *   - what a call writes (a struct, a buffer, a length) overlaps nothing else that the call is given, and no other
+ *     thread writes meanwhile what a call is given;
+ *   - malloc, realloc and free are of one allocator, which aligns as C wants it, and no call that takes memory is made
+ *     from a signal handler, nor from the forked child of a process with threads;
+ *   - a struct lisp_server and a struct lisp_router are zeros at first, are not copied, are changed by these calls
+ *     alone, and stay on one thread;
  *   - header and library are of one version.
  *
- * A null pointer and a length above PTRDIFF_MAX are answered by the functions below (LISP_NULL, LISP_LENGTH), which are C
- * and not proved. A length of 0 goes with any pointer, also a null one. What a call only writes needs no value before.
+ * A null pointer and a length above PTRDIFF_MAX are answered by the functions below (LISP_NULL, LISP_LENGTH), which are
+ * C and not proved. A length of 0 goes with any pointer, also a null one. What a call only writes needs no value
+ * before.
  *
- * Of the calls for messages nothing is kept, so that threads need no lock. Only lisp_write_message of them takes memory, and
- * gives all of it back before it returns. What a struct lisp_server keeps is given back by lisp_server_stop.
+ * Of the calls for messages nothing is kept, so that threads need no lock. Only lisp_write_message of them takes
+ * memory, and gives all of it back before it returns. What a handle (struct lisp_server, struct lisp_router) keeps is
+ * given back by lisp_server_stop and lisp_router_stop.
  *
- * Each function but lisp_authentic answers LISP_DONE or the number of the first fault that it met, LISP_NULL and LISP_LENGTH
- * before all others; at a fault nothing was written, but where it is said. The numbers are those of docs/REFUSALS.md and of
- * `lispd explain`.
+ * Each function but lisp_authentic answers LISP_DONE or the number of the first fault that it met, LISP_NULL and
+ * LISP_LENGTH before all others; at a fault nothing was written, but where it is said. The numbers are those of
+ * docs/REFUSALS.md and of `lispd explain`.
  */
 #ifndef LISP_REGISTRATION_H
 #define LISP_REGISTRATION_H
@@ -29,43 +33,61 @@
 #include <stdbool.h>
 #include <stddef.h>
 #include <stdint.h>
+#include <string.h>
 
 #ifdef __cplusplus
 extern "C" {
 #endif
 
-/* What a function answers. */
+/*
+ * What a function answers. Out of memory has other numbers too: 24 of a configuration, 48 of a router, 58 of a datagram
+ * for a Map-Server, 66 of a notice.
+ */
 enum {
     LISP_DONE = 0,
-    LISP_SHORT = 1,           /* the bytes end before the message, the record or the locator does */
-    LISP_AFI = 2,             /* an address family that is neither IPv4 nor IPv6 */
-    LISP_MASK = 3,            /* an EID mask longer than its address */
-    LISP_KIND = 10,           /* a type other than 3, 4 and 5 */
-    LISP_ALGORITHM = 11,      /* an Algorithm ID other than 2, HMAC-SHA-256-128-None */
-    LISP_AUTH_LENGTH = 12,    /* an Authentication Data Length other than 16 */
-    LISP_NO_IDS = 13,         /* a Map-Register with bit I clear: it has no xTR-ID and Site-ID */
-    LISP_TRAILING = 14,       /* bytes after the end of the message */
-    LISP_RECORD = 15,         /* a record that can't be read: lisp_read_record says why, called for one after another */
-    LISP_TOML = 20,           /* a configuration that is not valid TOML */
-    LISP_MISSING = 21,        /* a field of a configuration is absent, and has no default */
-    LISP_BAD_VALUE = 22,      /* a value of a configuration is of another type or form, out of its range, or names what isn't there */
-    LISP_REPEATED = 23,       /* two entries of a configuration are alike where no two may be */
-    LISP_READ = 50,           /* a datagram that can't be read: lisp_read_message says why */
-    LISP_UNKNOWN_SITE = 51,   /* no such Site-ID is configured */
-    LISP_UNKNOWN_KEY = 52,    /* the site has no secret for the Key ID */
-    LISP_BAD_AUTH = 53,       /* the Authentication Data is wrong */
-    LISP_MERGE_ASKED = 54,    /* the merge bit is set */
-    LISP_NOT_ALLOWED = 55,    /* a record's prefix is not one that the site may register */
-    LISP_REPLAY = 57,         /* the nonce is not above the last one of that router under that key */
-    LISP_NO_NOTICE = 60,      /* a Map-Notify-Ack that no notice waits for */
-    LISP_NOT_MINE = 61,       /* a Map-Notify, which is for routers */
-    LISP_NOT_UTF8 = 95,       /* a configuration that is not UTF-8 */
-    LISP_NULL = 100,          /* a pointer is null, or a handle holds nothing */
-    LISP_LENGTH = 101,        /* a length or a count is more than memory can have */
-    LISP_ROOM = 102,          /* the buffer has no room for the message */
-    LISP_FIELD = 103,         /* a field has no place in a message */
-    LISP_COUNTS = 104,        /* more than 255 records, or not as many locators as the records count */
-    LISP_OUT_OF_MEMORY = 105  /* malloc or realloc gave no memory; so say 24 of a configuration, and 58 and 59 of a datagram */
+    LISP_SHORT = 1,                 /* the bytes end before the message, the record or the locator does */
+    LISP_AFI = 2,                   /* an address family that is neither IPv4 nor IPv6 */
+    LISP_MASK = 3,                  /* an EID mask longer than its address */
+    LISP_KIND = 10,                 /* a type other than 3, 4 and 5 */
+    LISP_ALGORITHM = 11,            /* an Algorithm ID other than 2, HMAC-SHA-256-128-None */
+    LISP_AUTH_LENGTH = 12,          /* an Authentication Data Length other than 16 */
+    LISP_NO_IDS = 13,               /* a Map-Register with bit I clear: it has no xTR-ID and Site-ID */
+    LISP_TRAILING = 14,             /* bytes after the end of the message */
+    LISP_RECORD = 15,               /* a record that can't be read: lisp_read_record, called for each, says why */
+    LISP_TOML = 20,                 /* a configuration that is not valid TOML */
+    LISP_MISSING = 21,              /* a field of a configuration is absent, and has no default */
+    LISP_BAD_VALUE = 22,            /* a value of a configuration has another form, or names what isn't there */
+    LISP_REPEATED = 23,             /* two entries of a configuration are alike where no two may be */
+    LISP_NO_SERVER = 40,            /* the router has no Map-Server with that number */
+    LISP_ROUTER_NONCE_SPENT = 41,   /* the router's last nonce is 2^63 - 1 or more: it needs a new key */
+    LISP_ROUTER_READ = 43,          /* a datagram for a router that can't be read: lisp_read_message says why */
+    LISP_ROUTER_NOT_MINE = 44,      /* no Map-Notify, or not from the address of a Map-Server of the router */
+    LISP_WRONG_KEY = 45,            /* the Key ID is not the router's */
+    LISP_ROUTER_BAD_AUTH = 46,      /* the Authentication Data is wrong under the router's secret */
+    LISP_STALE = 47,                /* the nonce is below 2^63, and of no part the last one to that Map-Server */
+    LISP_NO_PART = 49,              /* the router's database has no such part */
+    LISP_READ = 50,                 /* a datagram for a Map-Server that can't be read: lisp_read_message says why */
+    LISP_UNKNOWN_SITE = 51,         /* no such Site-ID is configured */
+    LISP_UNKNOWN_KEY = 52,          /* the site has no secret for the Key ID */
+    LISP_BAD_AUTH = 53,             /* the Authentication Data is wrong */
+    LISP_MERGE_ASKED = 54,          /* the merge bit is set */
+    LISP_NOT_ALLOWED = 55,          /* a record's prefix is not one that the site may register */
+    LISP_REPLAY = 57,               /* the nonce is not above the last one of that router under that key */
+    LISP_NO_NOTICE = 60,            /* a Map-Notify-Ack that no notice waits for */
+    LISP_NOT_MINE = 61,             /* a Map-Notify, which is for routers */
+    LISP_NOT_REGISTERED = 62,       /* no record of the router is alive */
+    LISP_TOO_LARGE = 63,            /* its live records are more than 255, or have more than 16,384 bytes */
+    LISP_NONCE_SPENT = 64,          /* the last nonce of the notices is 2^64 - 1 */
+    LISP_NOT_DUE = 67,              /* no notice of the router is due */
+    LISP_CLOCK = 73,                /* a time above 2^62 ms */
+    LISP_NOT_UTF8 = 95,             /* a configuration that is not UTF-8 */
+    LISP_NULL = 100,                /* a pointer is null, or a handle holds nothing */
+    LISP_LENGTH = 101,              /* a length or a count is more than memory can have */
+    LISP_ROOM = 102,                /* the buffer has no room */
+    LISP_FIELD = 103,               /* a field has no place in a message */
+    LISP_COUNTS = 104,              /* more than 255 records, or not as many locators as the records count */
+    LISP_OUT_OF_MEMORY = 105,       /* malloc or realloc gave no memory */
+    LISP_NO_ROUTER = 106            /* no router of the configuration has the name */
 };
 
 /* Types of messages (RFC 9301 section 5.1). */
@@ -76,6 +98,17 @@ enum { LISP_IPV4 = 1, LISP_IPV6 = 2 };
 
 /* Where the first record of each message begins. */
 enum { LISP_RECORDS_AT = 32 };
+
+/* Room for the locators of any record; and for any datagram that a Map-Server or a router sends of its own accord. */
+enum { LISP_LOCATORS = 255, LISP_MESSAGE_ROOM = 16440 };
+
+/* Who answers for an address (RFC 9301 section 8.3). */
+enum {
+    LISP_ANSWER_NO_SITE = 0,         /* nobody, and no site has the address: negative, for 15 minutes */
+    LISP_ANSWER_NOT_REGISTERED = 1,  /* nobody, though a site has the address: negative, for 1 minute */
+    LISP_ANSWER_REPLY = 2,           /* the Map-Server, with a record: its router asked for proxy replies */
+    LISP_ANSWER_FORWARD = 3          /* the router itself: the Map-Request is forwarded to it */
+};
 
 /* An address. */
 struct lisp_address {
@@ -128,8 +161,9 @@ struct lisp_message {
 };
 
 /*
- * A Map-Server that the library keeps: the sites that it serves, the rows that it holds, and the last nonces that it accepted
- * since its start. A struct of zero bytes holds none. It stays on the thread that started it, and is never copied.
+ * A Map-Server that the library keeps: the sites that it serves, the rows that it holds, and the last nonces that it
+ * accepted since its start. A struct of zero bytes holds none. It stays on the thread that started it, and is never
+ * copied.
  */
 struct lisp_server {
     void *core;  /* not for the program */
@@ -159,6 +193,73 @@ struct lisp_received {
     size_t reply_length;  /* how many bytes of the buffer are the answer; 0 where none is sent */
 };
 
+/* A row that a Map-Server holds but its locators: a record, and the Map-Register that it came with last. Or none. */
+struct lisp_row {
+    uint64_t nonce;             /* of the Map-Register */
+    uint64_t site;              /* the Site-ID of the router */
+    uint64_t accepted;          /* when the Map-Register was accepted, in ms */
+    uint64_t life;              /* for how many ms from then on the row is alive */
+    uint8_t xtr[16];            /* the xTR-ID of the router */
+    struct lisp_address from;   /* where the Map-Register came from */
+    uint8_t key_id;             /* of the Map-Register */
+    uint8_t proxy;              /* its bit P, 1 or 0: the Map-Server replies for the router */
+    uint8_t is_there;           /* 0: there is none, and all is 0 */
+    struct lisp_record record;  /* its places, `locators_at` and `end`, are 0 */
+};
+
+/* Who answers for an address. */
+struct lisp_answer {
+    uint8_t kind;               /* LISP_ANSWER_NO_SITE and the others */
+    struct lisp_address to;     /* of LISP_ANSWER_FORWARD where to forward the Map-Request, else 0 */
+    struct lisp_record record;  /* of LISP_ANSWER_REPLY the record but its locators, with places of 0, else 0 */
+};
+
+/* Which router, or none. */
+struct lisp_router_id {
+    uint64_t site;     /* its Site-ID */
+    uint8_t xtr[16];   /* its xTR-ID */
+    uint8_t is_there;  /* read only; 0: there is none, and all is 0 */
+};
+
+/* A notice: a Map-Notify that a Map-Server sends a router unasked (RFC 9301 section 5.7). */
+struct lisp_notice {
+    uint64_t nonce;          /* which has to be saved before; 0 of a notice that is sent again */
+    struct lisp_address to;  /* where to send it */
+    size_t length;           /* how many bytes of the buffer it is */
+};
+
+/*
+ * A router that the library keeps: what it registers, its last nonce, and how it stands with its Map-Servers. A struct
+ * of zero bytes holds none. It stays on the thread that started it, and is never copied.
+ */
+struct lisp_router {
+    void *core;  /* not for the program */
+};
+
+/* What a router has to send, or nothing. */
+struct lisp_due {
+    size_t server;     /* to which of its Map-Servers, from 0 on, in the order of its configuration */
+    size_t part;       /* which part of its database, from 0 on: a large one goes out in several Map-Registers */
+    uint8_t is_there;  /* 0: nothing is due, and all is 0 */
+};
+
+/* A Map-Register that a router sends. */
+struct lisp_sent {
+    uint64_t nonce;          /* which has to be saved before, where `must_save` is 1; else 0 */
+    uint8_t must_save;       /* 0: a nonce that was saved before serves it too */
+    struct lisp_address to;  /* where to send it */
+    size_t length;           /* how many bytes of the buffer it is */
+};
+
+/* What a router took. */
+struct lisp_seen {
+    uint64_t nonce;       /* of the Map-Register that is acknowledged, or of the notice */
+    size_t server;        /* of which Map-Server, as in struct lisp_due */
+    size_t part;          /* of an acknowledgement: which part it is of, as there; of a notice 0 */
+    uint8_t is_notice;    /* 1: a notice, which is answered; 0: a Map-Register is acknowledged */
+    size_t reply_length;  /* how many bytes of the buffer are the answer; 0 where none is sent */
+};
+
 /*
  * What is in the library. From C, call the functions behind these, which answer null pointers. A direct caller, as from
  * another language, also keeps that no pointer is null or misaligned, at a length of 0 neither, and that no length or
@@ -181,8 +282,34 @@ void lisp_registration_server_pair(const uint8_t *bytes, size_t length, struct l
 uint16_t lisp_registration_server_receive(struct lisp_server *server, const struct lisp_nonce *kept,
                                           const struct lisp_address *from, const uint8_t *bytes, size_t length,
                                           uint64_t now, uint8_t *buffer, size_t room, struct lisp_received *received);
+uint16_t lisp_registration_server_expire(struct lisp_server *server, uint64_t now);
+uint16_t lisp_registration_server_row(struct lisp_server *server, uint64_t now, size_t *place, struct lisp_row *row,
+                                      struct lisp_locator *locators, size_t room);
+uint16_t lisp_registration_server_answer(struct lisp_server *server, const struct lisp_address *address, uint64_t now,
+                                         struct lisp_answer *answer, struct lisp_locator *locators, size_t room);
+uint16_t lisp_registration_server_due(struct lisp_server *server, uint64_t now, struct lisp_router_id *router);
+uint16_t lisp_registration_server_notify(struct lisp_server *server, const struct lisp_nonce *kept,
+                                         const struct lisp_router_id *router, uint64_t now, uint8_t *buffer,
+                                         size_t room, struct lisp_notice *notice);
+uint16_t lisp_registration_server_resend(struct lisp_server *server, const struct lisp_router_id *router, uint64_t now,
+                                         uint8_t *buffer, size_t room, struct lisp_notice *notice);
 
-/* For this header alone. Whether so many items of a size can be at a pointer: LISP_DONE, LISP_NULL or LISP_LENGTH. */
+uint16_t lisp_registration_router_pair(const uint8_t *configuration, size_t length, const uint8_t *name,
+                                       size_t name_length, struct lisp_pair *pair);
+uint16_t lisp_registration_router_start(const uint8_t *configuration, size_t length, const uint8_t *name,
+                                        size_t name_length, const struct lisp_nonce *kept, uint64_t now,
+                                        struct lisp_router *router);
+void lisp_registration_router_stop(struct lisp_router *router);
+uint16_t lisp_registration_router_due(struct lisp_router *router, uint64_t now, struct lisp_due *due);
+uint16_t lisp_registration_router_send(struct lisp_router *router, size_t server, size_t part, uint64_t now,
+                                       uint8_t *buffer, size_t room, struct lisp_sent *sent);
+uint16_t lisp_registration_router_receive(struct lisp_router *router, const struct lisp_address *from,
+                                          const uint8_t *bytes, size_t length, uint64_t now, uint8_t *buffer,
+                                          size_t room, struct lisp_seen *seen);
+uint16_t lisp_registration_router_change(const uint8_t *configuration, size_t length, const uint8_t *name,
+                                         size_t name_length, uint64_t now, struct lisp_router *router);
+
+/* For this header alone, as the next two: LISP_DONE where so many items can be there, else LISP_NULL or LISP_LENGTH. */
 static inline uint16_t lisp_span(const void *items, size_t count, size_t size)
 {
     if (items == NULL && count != 0)
@@ -190,19 +317,27 @@ static inline uint16_t lisp_span(const void *items, size_t count, size_t size)
     return count > PTRDIFF_MAX / size ? LISP_LENGTH : LISP_DONE;
 }
 
-/* The pointer; of no items it may be null, and then another one stands for it, since the library wants none that is null. */
+/* The pointer; where it is null, as it may be of no items, another one, since the library wants none that is null. */
 static inline void *lisp_pointer(const void *items)
 {
     static uint64_t nothing;
     return items == NULL ? (void *)&nothing : (void *)(uintptr_t)items;
 }
 
+/* The nonce that a program kept; a null pointer says that there is none. */
+static inline const struct lisp_nonce *lisp_kept(const struct lisp_nonce *kept)
+{
+    static const struct lisp_nonce none = {0, 0};
+    return kept == NULL ? &none : kept;
+}
+
 /*
- * Reads a datagram: what its message says but its records, and where these are. The faults come in this order: LISP_SHORT
- * (no 16 bytes), LISP_KIND, LISP_ALGORITHM, LISP_AUTH_LENGTH, LISP_SHORT (no 32 bytes), LISP_RECORD for the first record
- * that can't be read; then for a Map-Register LISP_NO_IDS, and LISP_SHORT or LISP_TRAILING (other than 24 bytes after the
- * records), for the other two LISP_TRAILING (other than 0 or 24 bytes there, which are ignored). Reserved bits are ignored.
- * Of a Map-Notify and a Map-Notify-Ack, what a Map-Register alone has is 0. The tag isn't looked at: see lisp_authentic.
+ * Reads a datagram: what its message says but its records, and where these are. The faults come in this order:
+ * LISP_SHORT (no 16 bytes), LISP_KIND, LISP_ALGORITHM, LISP_AUTH_LENGTH, LISP_SHORT (no 32 bytes), LISP_RECORD for the
+ * first record that can't be read; then for a Map-Register LISP_NO_IDS, and LISP_SHORT or LISP_TRAILING (other than 24
+ * bytes after the records), for the other two LISP_TRAILING (other than 0 or 24 bytes there, which are ignored).
+ * Reserved bits are ignored. Of a Map-Notify and a Map-Notify-Ack, what a Map-Register alone has is 0. The tag isn't
+ * looked at: see lisp_authentic.
  */
 static inline uint16_t lisp_read_message(const uint8_t *bytes, size_t length, struct lisp_message *message)
 {
@@ -216,9 +351,9 @@ static inline uint16_t lisp_read_message(const uint8_t *bytes, size_t length, st
 }
 
 /*
- * Reads the record that begins at byte `at` of a datagram: LISP_RECORDS_AT, or the end of the record before it. The faults
- * come in this order: LISP_SHORT (no 12 bytes), LISP_AFI, LISP_MASK, LISP_SHORT (no whole address); then for each locator
- * those of lisp_read_locator. EID bits past the mask are cleared, and reserved bits ignored.
+ * Reads the record that begins at byte `at` of a datagram: LISP_RECORDS_AT, or the end of the record before it. The
+ * faults come in this order: LISP_SHORT (no 12 bytes), LISP_AFI, LISP_MASK, LISP_SHORT (no whole address); then for
+ * each locator those of lisp_read_locator. EID bits past the mask are cleared, and reserved bits ignored.
  */
 static inline uint16_t lisp_read_record(const uint8_t *bytes, size_t length, size_t at, struct lisp_record *entry)
 {
@@ -232,8 +367,8 @@ static inline uint16_t lisp_read_record(const uint8_t *bytes, size_t length, siz
 }
 
 /*
- * Reads the locator that begins at byte `at` of a datagram: a record's `locators_at`, or the end of the locator before it.
- * The faults come in this order: LISP_SHORT (no 8 bytes), LISP_AFI, LISP_SHORT (no whole address).
+ * Reads the locator that begins at byte `at` of a datagram: a record's `locators_at`, or the end of the locator before
+ * it. The faults come in this order: LISP_SHORT (no 8 bytes), LISP_AFI, LISP_SHORT (no whole address).
  */
 static inline uint16_t lisp_read_locator(const uint8_t *bytes, size_t length, size_t at, struct lisp_locator *locator)
 {
@@ -247,10 +382,10 @@ static inline uint16_t lisp_read_locator(const uint8_t *bytes, size_t length, si
 }
 
 /*
- * Whether the Authentication Data of a datagram is its tag under a secret: the first 128 bits of HMAC-SHA-256 over all of
- * it, with the Authentication Data taken as zeros (RFC 9301 section 5.6, RFC 4868). False where there are no 32 bytes, and
- * where a pointer is null or a length too large. The secret may have any length. Whether the bytes can be read as a message
- * is not looked at: see lisp_read_message.
+ * Whether the Authentication Data of a datagram is its tag under a secret: the first 128 bits of HMAC-SHA-256 over all
+ * of it, with the Authentication Data taken as zeros (RFC 9301 section 5.6, RFC 4868). False where there are no 32
+ * bytes, and where a pointer is null or a length too large. The secret may have any length. Whether the bytes can be
+ * read as a message is not looked at: see lisp_read_message.
  */
 static inline bool lisp_authentic(const uint8_t *bytes, size_t length, const uint8_t *secret, size_t secret_length)
 {
@@ -261,8 +396,8 @@ static inline bool lisp_authentic(const uint8_t *bytes, size_t length, const uin
 }
 
 /*
- * Puts the tag of a datagram under a secret into its Authentication Data. LISP_SHORT where there are no 32 bytes; whether the
- * bytes can be read as a message is not looked at.
+ * Puts the tag of a datagram under a secret into its Authentication Data. LISP_SHORT where there are no 32 bytes;
+ * whether the bytes can be read as a message is not looked at.
  */
 static inline uint16_t lisp_sign(uint8_t *bytes, size_t length, const uint8_t *secret, size_t secret_length)
 {
@@ -277,21 +412,21 @@ static inline uint16_t lisp_sign(uint8_t *bytes, size_t length, const uint8_t *s
 }
 
 /*
- * Writes the datagram of a message, authentic under a secret: bit I set, reserved bits 0, nothing after the records of a
- * Map-Notify or a Map-Notify-Ack. Each record takes as many of the locators as it counts, those of the first record first.
- * Each flag but 0 is set; what is marked 'read only' above is not looked at, nor what a Map-Register alone has where the
- * message is another one.
+ * Writes the datagram of a message, authentic under a secret: bit I set, reserved bits 0, nothing after the records of
+ * a Map-Notify or a Map-Notify-Ack. Each record takes as many of the locators as it counts, those of the first record
+ * first. Each flag but 0 is set; what is marked 'read only' above is not looked at, nor what a Map-Register alone has
+ * where the message is another one.
  *
  * At LISP_DONE the first `*length` bytes of the buffer are the datagram, and those behind them are as they were. At
- * LISP_ROOM `*length` is how many bytes it needs, and the buffer is as it was. The faults come in this order: LISP_FIELD
- * (the type), LISP_COUNTS (more than 255 records), then for each record LISP_COUNTS (too few locators are left) and
- * LISP_FIELD (of its EID-Prefix, then of its locators, then ACT above 7 or a Map-Version number above 4095), LISP_COUNTS
- * (locators are left), LISP_ROOM. LISP_OUT_OF_MEMORY may come in place of any of these.
+ * LISP_ROOM `*length` is how many bytes it needs, and the buffer is as it was. The faults come in this order:
+ * LISP_FIELD (the type), LISP_COUNTS (more than 255 records), then for each record LISP_COUNTS (too few locators are
+ * left) and LISP_FIELD (of its EID-Prefix, then of its locators, then ACT above 7 or a Map-Version number above 4095),
+ * LISP_COUNTS (locators are left), LISP_ROOM. LISP_OUT_OF_MEMORY may come in place of any of these.
  */
 static inline uint16_t lisp_write_message(const struct lisp_message *message, const struct lisp_record *records,
-                                          size_t record_count, const struct lisp_locator *locators, size_t locator_count,
-                                          const uint8_t *secret, size_t secret_length, uint8_t *buffer, size_t room,
-                                          size_t *length)
+                                          size_t record_count, const struct lisp_locator *locators,
+                                          size_t locator_count, const uint8_t *secret, size_t secret_length,
+                                          uint8_t *buffer, size_t room, size_t *length)
 {
     uint16_t number = lisp_span(records, record_count, sizeof *records);
 
@@ -312,9 +447,9 @@ static inline uint16_t lisp_write_message(const struct lisp_message *message, co
 }
 
 /*
- * Starts a Map-Server of the sites of a configuration (docs/CONFIGURATION.md), which has `length` bytes. It holds no rows yet.
- * What the handle held before is stopped. At a fault (LISP_NOT_UTF8, LISP_TOML, LISP_MISSING, LISP_BAD_VALUE, LISP_REPEATED, out
- * of memory) the handle is as it was.
+ * Starts a Map-Server of the sites of a configuration (docs/CONFIGURATION.md), which has `length` bytes. It holds no
+ * rows yet. What the handle held before is stopped. At a fault (LISP_NOT_UTF8, LISP_TOML, LISP_MISSING, LISP_BAD_VALUE,
+ * LISP_REPEATED, out of memory) the handle is as it was.
  */
 static inline uint16_t lisp_server_start(struct lisp_server *server, const char *configuration, size_t length)
 {
@@ -335,8 +470,8 @@ static inline void lisp_server_stop(struct lisp_server *server)
 }
 
 /*
- * Starts the Map-Server of a handle again, as after a crash: its rows and its nonces are gone, its sites stay. Its routers come
- * back with their next Map-Registers. Takes no memory. LISP_NULL where the handle holds none.
+ * Starts the Map-Server of a handle again, as after a crash: its rows and its nonces are gone, its sites stay. Its
+ * routers come back with their next Map-Registers. Takes no memory. LISP_NULL where the handle holds none.
  */
 static inline uint16_t lisp_server_restart(struct lisp_server *server)
 {
@@ -344,8 +479,8 @@ static inline uint16_t lisp_server_restart(struct lisp_server *server)
 }
 
 /*
- * Names the pair whose last nonce a datagram needs: of a Map-Register its router and its Key ID; none of all other bytes.
- * Nothing is checked yet: anyone may have sent it. Takes no memory.
+ * Names the pair whose last nonce a datagram needs: of a Map-Register its router and its Key ID; none of all other
+ * bytes. Nothing is checked yet: anyone may have sent it. Takes no memory.
  */
 static inline uint16_t lisp_server_pair(const uint8_t *bytes, size_t length, struct lisp_pair *pair)
 {
@@ -360,24 +495,24 @@ static inline uint16_t lisp_server_pair(const uint8_t *bytes, size_t length, str
 }
 
 /*
- * Receives a datagram that came from an address at a time, in ms, which must not go back. `kept` is the nonce that the program
- * saved last for the pair that lisp_server_pair names, or none; a null `kept` says none. The buffer needs as much room as the
- * datagram has bytes (LISP_ROOM, and nothing is done).
+ * Receives a datagram that came from an address at a time, in ms, which must not go back. `kept` is the nonce that the
+ * program saved last for the pair that lisp_server_pair names, or none; a null `kept` says none. The buffer needs as
+ * much room as the datagram has bytes (LISP_ROOM, and nothing is done).
  *
- * At LISP_DONE, where `received->accepted` is 1, the program saves `received->nonce` for that router and `key_id`, so that no
- * crash loses it, and only then sends the first `reply_length` bytes of the buffer to where the datagram came from. Where the
- * save fails it sends nothing and calls lisp_server_restart, since it is open then whether the nonce is kept. Who sends first, or
- * doesn't save, loses what is promised: after a crash the same Map-Register is accepted again, so that whoever recorded it can
- * bring an old mapping back.
+ * At LISP_DONE, where `received->accepted` is 1, the program saves `received->nonce` for that router and `key_id`, so
+ * that no crash loses it, and only then sends the first `reply_length` bytes of the buffer to where the datagram came
+ * from. Where the save fails it sends nothing and calls lisp_server_restart, since it is open then whether the nonce is
+ * kept. Who sends first, or doesn't save, loses what is promised: after a crash the same Map-Register is accepted
+ * again, so that whoever recorded it can bring an old mapping back.
  *
- * The refusals come in the order of docs/PROTOCOL.md, after LISP_FIELD (no address `from`), LISP_ROOM and LISP_NULL (the handle
- * holds none); out of memory may come in place of each. At a refusal all is as it was.
+ * The refusals come in the order of docs/PROTOCOL.md, after LISP_FIELD (no address `from`), LISP_ROOM and LISP_NULL
+ * (the handle holds none); out of memory (58) may come in place of each, and of LISP_DONE. At a refusal all is as it
+ * was.
  */
 static inline uint16_t lisp_server_receive(struct lisp_server *server, const struct lisp_nonce *kept,
                                            const struct lisp_address *from, const uint8_t *bytes, size_t length,
                                            uint64_t now, uint8_t *buffer, size_t room, struct lisp_received *received)
 {
-    static const struct lisp_nonce none = {0, 0};
     uint16_t number = lisp_span(bytes, length, 1);
 
     if (number == LISP_DONE)
@@ -386,8 +521,244 @@ static inline uint16_t lisp_server_receive(struct lisp_server *server, const str
         return number;
     if (server == NULL || from == NULL || received == NULL)
         return LISP_NULL;
-    return lisp_registration_server_receive(server, kept == NULL ? &none : kept, from, (const uint8_t *)lisp_pointer(bytes),
-                                            length, now, (uint8_t *)lisp_pointer(buffer), room, received);
+    return lisp_registration_server_receive(server, lisp_kept(kept), from, (const uint8_t *)lisp_pointer(bytes), length,
+                                            now, (uint8_t *)lisp_pointer(buffer), room, received);
+}
+
+/*
+ * Drops the rows that are dead at a time, in ms: they outlived their lifetime. Without it they stay in memory, though
+ * no call below tells them. Takes no memory. The faults come in this order: LISP_NULL (the handle holds none),
+ * LISP_CLOCK.
+ */
+static inline uint16_t lisp_server_expire(struct lisp_server *server, uint64_t now)
+{
+    return server == NULL ? (uint16_t)LISP_NULL : lisp_registration_server_expire(server, now);
+}
+
+/*
+ * Tells the first row from a place on that is alive at a time, in ms: its locators are the first
+ * `row->record.locator_count` of `locators`, and `*place` is where to go on. Where none is left `row->is_there` is 0,
+ * and `*place` stays. From place 0 on, at one time, and as long as nothing else is called on the Map-Server, each row
+ * that is alive then comes once. Takes no memory.
+ *
+ * The faults come in this order: LISP_NULL (the handle holds none), LISP_ROOM (no room for the locators of the row; for
+ * LISP_LOCATORS there always is).
+ */
+static inline uint16_t lisp_server_row(struct lisp_server *server, uint64_t now, size_t *place, struct lisp_row *row,
+                                       struct lisp_locator *locators, size_t room)
+{
+    uint16_t number = lisp_span(locators, room, sizeof *locators);
+
+    if (number != LISP_DONE)
+        return number;
+    if (server == NULL || place == NULL || row == NULL)
+        return LISP_NULL;
+    return lisp_registration_server_row(server, now, place, row, (struct lisp_locator *)lisp_pointer(locators), room);
+}
+
+/*
+ * Tells who answers for an address at a time, in ms, by the rows that are alive then (docs/PROTOCOL.md). The locators
+ * of a record that is told are the first `answer->record.locator_count` of `locators`. Takes no memory. The faults come
+ * in this order: LISP_FIELD (no address), LISP_NULL (the handle holds none), LISP_ROOM as of lisp_server_row.
+ */
+static inline uint16_t lisp_server_answer(struct lisp_server *server, const struct lisp_address *address, uint64_t now,
+                                          struct lisp_answer *answer, struct lisp_locator *locators, size_t room)
+{
+    uint16_t number = lisp_span(locators, room, sizeof *locators);
+
+    if (number != LISP_DONE)
+        return number;
+    if (server == NULL || address == NULL || answer == NULL)
+        return LISP_NULL;
+    return lisp_registration_server_answer(server, address, now, answer, (struct lisp_locator *)lisp_pointer(locators),
+                                           room);
+}
+
+/*
+ * Makes a notice for a router: a Map-Notify of the records of it that are alive at a time, in ms. `kept` is the nonce
+ * that the program saved last for a notice, to whichever router: one nonce is kept for all notices of a Map-Server,
+ * apart from those of its pairs. A null `kept` says that none was ever saved. The buffer needs LISP_MESSAGE_ROOM bytes.
+ *
+ * At LISP_DONE the program saves `notice->nonce`, so that no crash loses it, and only then sends the first
+ * `notice->length` bytes of the buffer to `notice->to`. Where the save fails it sends nothing and calls
+ * lisp_server_restart. Who sends first, or doesn't save, may send two notices under one nonce, so that the
+ * acknowledgement of one ends the other.
+ *
+ * The notice stands until lisp_server_receive takes its acknowledgement, and meanwhile is due again: see
+ * lisp_server_due. It takes the place of one to that router that still stands. The faults come in this order:
+ * LISP_ROOM, LISP_CLOCK, LISP_NULL (the handle holds none), LISP_NOT_REGISTERED, LISP_TOO_LARGE, LISP_NONCE_SPENT; out
+ * of memory (66) may come in place of the last three, and of LISP_DONE. At a fault all is as it was.
+ */
+static inline uint16_t lisp_server_notify(struct lisp_server *server, const struct lisp_nonce *kept,
+                                          const struct lisp_router_id *router, uint64_t now, uint8_t *buffer,
+                                          size_t room, struct lisp_notice *notice)
+{
+    uint16_t number = lisp_span(buffer, room, 1);
+
+    if (number != LISP_DONE)
+        return number;
+    if (server == NULL || router == NULL || notice == NULL)
+        return LISP_NULL;
+    return lisp_registration_server_notify(server, lisp_kept(kept), router, now, (uint8_t *)lisp_pointer(buffer), room,
+                                           notice);
+}
+
+/*
+ * Names the least router, by Site-ID, then xTR-ID, to which a notice is due again at a time, in ms: 3, 3, 3, 6, 12 and
+ * 24 s after it was last sent. Then lisp_server_resend. Where none is due `router->is_there` is 0. Takes no memory.
+ * LISP_NULL where the handle holds none.
+ */
+static inline uint16_t lisp_server_due(struct lisp_server *server, uint64_t now, struct lisp_router_id *router)
+{
+    if (server == NULL || router == NULL)
+        return LISP_NULL;
+    return lisp_registration_server_due(server, now, router);
+}
+
+/*
+ * Sends a router again the notice that is due at a time, in ms: the first `notice->length` bytes of the buffer, which
+ * needs LISP_MESSAGE_ROOM bytes, to `notice->to`. Nothing is to be saved. The faults come in this order: LISP_ROOM,
+ * LISP_CLOCK, LISP_NULL (the handle holds none), LISP_NOT_DUE, out of memory (66). At a fault all is as it was, and the
+ * notice stays due.
+ */
+static inline uint16_t lisp_server_resend(struct lisp_server *server, const struct lisp_router_id *router, uint64_t now,
+                                          uint8_t *buffer, size_t room, struct lisp_notice *notice)
+{
+    uint16_t number = lisp_span(buffer, room, 1);
+
+    if (number != LISP_DONE)
+        return number;
+    if (server == NULL || router == NULL || notice == NULL)
+        return LISP_NULL;
+    return lisp_registration_server_resend(server, router, now, (uint8_t *)lisp_pointer(buffer), room, notice);
+}
+
+/*
+ * Names what the nonces of a router are kept for: its Site-ID, its xTR-ID and its Key ID, by a configuration
+ * (docs/CONFIGURATION.md) of `length` bytes and its name there, which ends with a zero byte. These are nonces that are
+ * sent. A Map-Server keeps nonces that it received for the same pair: a program that is both keeps the two apart. The
+ * faults: LISP_NOT_UTF8, LISP_TOML, LISP_MISSING, LISP_BAD_VALUE, LISP_REPEATED, LISP_NO_ROUTER, out of memory (24 or
+ * LISP_OUT_OF_MEMORY).
+ */
+static inline uint16_t lisp_router_pair(const char *configuration, size_t length, const char *name,
+                                        struct lisp_pair *pair)
+{
+    uint16_t number = lisp_span(configuration, length, 1);
+
+    if (number != LISP_DONE)
+        return number;
+    if (name == NULL || pair == NULL)
+        return LISP_NULL;
+    return lisp_registration_router_pair((const uint8_t *)lisp_pointer(configuration), length, (const uint8_t *)name,
+                                         strlen(name), pair);
+}
+
+/*
+ * Starts a router of a configuration at a time, in ms. `kept` is the nonce that the program saved last for the pair
+ * that lisp_router_pair names; a null `kept` says that none was ever saved. All its Map-Servers are due. What the
+ * handle held before is stopped: it is also the way back from a save that failed. At a fault, which are those of
+ * lisp_router_pair, the handle is as it was.
+ */
+static inline uint16_t lisp_router_start(struct lisp_router *router, const char *configuration, size_t length,
+                                         const char *name, const struct lisp_nonce *kept, uint64_t now)
+{
+    uint16_t number = lisp_span(configuration, length, 1);
+
+    if (number != LISP_DONE)
+        return number;
+    if (router == NULL || name == NULL)
+        return LISP_NULL;
+    return lisp_registration_router_start((const uint8_t *)lisp_pointer(configuration), length, (const uint8_t *)name,
+                                          strlen(name), lisp_kept(kept), now, router);
+}
+
+/* Stops the router of a handle, if it holds one: all its memory is given back, and the handle holds none. */
+static inline void lisp_router_stop(struct lisp_router *router)
+{
+    if (router != NULL)
+        lisp_registration_router_stop(router);
+}
+
+/*
+ * Tells what a router has to send at a time, in ms: the first of its Map-Servers that is due, and the first part that
+ * is due there. Then lisp_router_send. Where nothing is due `due->is_there` is 0. Takes no memory. LISP_NULL where the
+ * handle holds none.
+ */
+static inline uint16_t lisp_router_due(struct lisp_router *router, uint64_t now, struct lisp_due *due)
+{
+    if (router == NULL || due == NULL)
+        return LISP_NULL;
+    return lisp_registration_router_due(router, now, due);
+}
+
+/*
+ * Makes the Map-Register of a part of a router's database for one of its Map-Servers at a time, in ms. The buffer needs
+ * LISP_MESSAGE_ROOM bytes.
+ *
+ * At LISP_DONE, where `sent->must_save` is 1, the program saves `sent->nonce` for the pair that lisp_router_pair names,
+ * so that no crash loses it. Only then it sends the first `sent->length` bytes of the buffer to `sent->to`. One nonce
+ * that is saved serves `nonce_block` datagrams (docs/CONFIGURATION.md): it is the last of theirs. Where the save fails
+ * the program sends nothing, loads the nonce anew and calls lisp_router_start, since it is open then which one is kept.
+ * Who sends first, or doesn't save, sends the same nonces again after a crash: Map-Servers refuse them as replays.
+ *
+ * The faults come in this order: LISP_ROOM, LISP_CLOCK, LISP_NULL (the handle holds none), LISP_NO_SERVER,
+ * LISP_NO_PART, LISP_ROUTER_NONCE_SPENT, out of memory (48). At a fault all is as it was, and the Map-Register stays
+ * due.
+ */
+static inline uint16_t lisp_router_send(struct lisp_router *router, size_t server, size_t part, uint64_t now,
+                                        uint8_t *buffer, size_t room, struct lisp_sent *sent)
+{
+    uint16_t number = lisp_span(buffer, room, 1);
+
+    if (number != LISP_DONE)
+        return number;
+    if (router == NULL || sent == NULL)
+        return LISP_NULL;
+    return lisp_registration_router_send(router, server, part, now, (uint8_t *)lisp_pointer(buffer), room, sent);
+}
+
+/*
+ * Receives a datagram that came to a router from an address at a time, in ms: the acknowledgement of its last
+ * Map-Register of a part to a Map-Server, or a notice. The buffer needs as much room as the datagram has bytes. At
+ * LISP_DONE the program sends the first `seen->reply_length` bytes of the buffer, if there are any, to where the
+ * datagram came from. Nothing is to be saved.
+ *
+ * The faults come in this order: LISP_FIELD (no address `from`), LISP_ROOM, LISP_NULL (the handle holds none),
+ * LISP_ROUTER_READ, LISP_ROUTER_NOT_MINE, LISP_WRONG_KEY, LISP_ROUTER_BAD_AUTH, LISP_STALE; out of memory (48) may come
+ * in place of those from LISP_ROUTER_READ on. At a fault all is as it was.
+ */
+static inline uint16_t lisp_router_receive(struct lisp_router *router, const struct lisp_address *from,
+                                           const uint8_t *bytes, size_t length, uint64_t now, uint8_t *buffer,
+                                           size_t room, struct lisp_seen *seen)
+{
+    uint16_t number = lisp_span(bytes, length, 1);
+
+    if (number == LISP_DONE)
+        number = lisp_span(buffer, room, 1);
+    if (number != LISP_DONE)
+        return number;
+    if (router == NULL || from == NULL || seen == NULL)
+        return LISP_NULL;
+    return lisp_registration_router_receive(router, from, (const uint8_t *)lisp_pointer(bytes), length, now,
+                                            (uint8_t *)lisp_pointer(buffer), room, seen);
+}
+
+/*
+ * A router registers other records from a time on, in ms: those that a configuration has for a name. All its
+ * Map-Servers are due; its key, its nonces and its Map-Servers stay. The faults are those of lisp_router_pair, then
+ * LISP_NULL (the handle holds none). At a fault all is as it was.
+ */
+static inline uint16_t lisp_router_change(struct lisp_router *router, const char *configuration, size_t length,
+                                          const char *name, uint64_t now)
+{
+    uint16_t number = lisp_span(configuration, length, 1);
+
+    if (number != LISP_DONE)
+        return number;
+    if (router == NULL || name == NULL)
+        return LISP_NULL;
+    return lisp_registration_router_change((const uint8_t *)lisp_pointer(configuration), length, (const uint8_t *)name,
+                                           strlen(name), now, router);
 }
 
 #ifdef __cplusplus

@@ -15,6 +15,9 @@
     .locators_at = 48, .end = 60}
 #define LOCATOR_192 {.priority = 1, .weight = 100, .m_priority = 255, .local = 1, .reachable = 1, \
     .address = {LISP_IPV4, {192, 0, 2, 1}}, .end = 60}
+#define RECORD_10_1_9 {.ttl = 1440, .authoritative = 1, .mask_len = 24, .locator_count = 1, .eid = {LISP_IPV4, {10, 1, 9}}, \
+    .locators_at = 48, .end = 60}
+#define FIRST_OF_NOTICES 0x8000000000000000
 
 struct worked worked[WORKED] = {
     {"Map-Register", {.kind = LISP_MAP_REGISTER, .nonce = 1, .key_id = 1, .site = 1, .xtr = {[15] = 10}, .proxy = 1, .want_notify = 1,
@@ -35,20 +38,44 @@ struct worked worked[WORKED] = {
       {255, 0, 254, 1, 0, 0, 0, {LISP_IPV4, {203, 0, 113, 9}}, 124}}, 3, 3, 0, 0, NULL, NULL},
     {"255 records", {.kind = LISP_MAP_REGISTER, .record_count = 255, .records_at = 32, .records_end = 32 + 255 * 28},
      {RECORD_10_1}, {LOCATOR_192}, 255, 255, 0, 0, NULL, NULL},
+    {"a notice", {.kind = LISP_MAP_NOTIFY, .nonce = FIRST_OF_NOTICES, .key_id = 1, .record_count = 1, .records_at = 32, .records_end = 60},
+     {RECORD_10_1}, {LOCATOR_192}, 1, 1, 0, 0, NULL, NULL},
+    {"its acknowledgement", {.kind = LISP_MAP_NOTIFY_ACK, .nonce = FIRST_OF_NOTICES, .key_id = 1, .record_count = 1, .records_at = 32,
+     .records_end = 60}, {RECORD_10_1}, {LOCATOR_192}, 1, 1, 0, 0, NULL, NULL},
+    {"the next Map-Register", {.kind = LISP_MAP_REGISTER, .nonce = 2, .key_id = 1, .site = 1, .xtr = {[15] = 10}, .proxy = 1,
+     .want_notify = 1, .record_count = 1, .records_at = 32, .records_end = 60}, {RECORD_10_1}, {LOCATOR_192}, 1, 1, 0, 0, NULL, NULL},
+    {"another record", {.kind = LISP_MAP_REGISTER, .nonce = 2, .key_id = 1, .site = 1, .xtr = {[15] = 10}, .proxy = 1,
+     .want_notify = 1, .record_count = 1, .records_at = 32, .records_end = 60}, {RECORD_10_1_9}, {LOCATOR_192}, 1, 1, 0, 0, NULL, NULL},
+    {"the second router", {.kind = LISP_MAP_REGISTER, .nonce = 1, .key_id = 1, .site = 1, .xtr = {[15] = 11}, .want_notify = 1,
+     .record_count = 1, .records_at = 32, .records_end = 60},
+     {{.ttl = 1440, .authoritative = 1, .mask_len = 24, .locator_count = 1, .eid = {LISP_IPV4, {10, 1, 2}}, .locators_at = 48, .end = 60}},
+     {{.priority = 1, .weight = 100, .m_priority = 255, .local = 1, .reachable = 1, .address = {LISP_IPV4, {192, 0, 2, 2}}, .end = 60}},
+     1, 1, 0, 0, NULL, NULL},
+    {"255 locators", {.kind = LISP_MAP_REGISTER, .nonce = 1, .key_id = 1, .site = 1, .xtr = {[15] = 10}, .proxy = 1, .want_notify = 1,
+     .record_count = 1, .records_at = 32, .records_end = 48 + 255 * 12},
+     {{.ttl = 1440, .authoritative = 1, .mask_len = 16, .locator_count = 255, .eid = {LISP_IPV4, {10, 1}}, .locators_at = 48,
+       .end = 48 + 255 * 12}},
+     {LOCATOR_192}, 1, 255, 0, 0, NULL, NULL},
 };
 
-/* Fills the lists of 255 records, which are alike but for their places: each has 28 bytes. */
-static void repeat_record(struct worked *it)
+/* Fills the lists of records and of locators, which are alike but for their places: each record has 28 bytes, each locator `size`. */
+static void repeat(struct worked *it, size_t size)
 {
     for (size_t i = 1; i < it->record_count; i++) {
         it->records[i] = it->records[0];
-        it->locators[i] = it->locators[0];
         it->records[i].locators_at += 28 * i;
         it->records[i].end += 28 * i;
-        it->locators[i].end += 28 * i;
+    }
+    for (size_t i = 1; i < it->locator_count; i++) {
+        it->locators[i] = it->locators[0];
+        it->locators[i].end += size * i;
     }
 }
 
+const char *text;
+size_t text_length;
+const struct lisp_address r1 = {LISP_IPV4, {127, 0, 0, 21}}, r2 = {LISP_IPV4, {127, 0, 0, 22}};
+const struct lisp_address s1 = {LISP_IPV4, {127, 0, 0, 11}}, s2 = {LISP_IPV4, {127, 0, 0, 12}};
 const char *now = "";
 static int failed;
 
@@ -117,16 +144,34 @@ uint8_t *at_edge(const uint8_t *bytes, size_t length)
     return memcpy(edge(length), bytes, length);
 }
 
-#define SAME(field) is(#field, got.field, wanted->field)
+#define SAME(field) is(#field, got->field, wanted->field)
+
+void same_address(const char *what, const struct lisp_address *got, const struct lisp_address *wanted)
+{
+    is(what, got->family, wanted->family);
+    same(what, got->octets, wanted->octets, 16);
+}
+
+void same_record(const struct lisp_record *got, const struct lisp_record *wanted)
+{
+    SAME(ttl), SAME(version), SAME(act), SAME(authoritative), SAME(mask_len), SAME(locator_count), SAME(locators_at), SAME(end);
+    same_address("eid", &got->eid, &wanted->eid);
+}
+
+void same_locator(const struct lisp_locator *got, const struct lisp_locator *wanted)
+{
+    SAME(priority), SAME(weight), SAME(m_priority), SAME(m_weight), SAME(local), SAME(probe), SAME(reachable), SAME(end);
+    same_address("address", &got->address, &wanted->address);
+}
 
 static void reads_message(const uint8_t *bytes, size_t length, const struct lisp_message *wanted)
 {
-    struct lisp_message got;
+    struct lisp_message message, *got = &message;
 
-    is("lisp_read_message", lisp_read_message(bytes, length, &got), LISP_DONE);
+    is("lisp_read_message", lisp_read_message(bytes, length, got), LISP_DONE);
     SAME(nonce), SAME(site), SAME(kind), SAME(key_id), SAME(record_count), SAME(records_at), SAME(records_end);
     SAME(proxy), SAME(sec), SAME(eid_notify), SAME(use_ttl), SAME(merge), SAME(want_notify);
-    same("xtr", got.xtr, wanted->xtr, 16);
+    same("xtr", got->xtr, wanted->xtr, 16);
 }
 
 static void reads_record(const uint8_t *bytes, size_t length, size_t at, const struct lisp_record *wanted)
@@ -134,8 +179,7 @@ static void reads_record(const uint8_t *bytes, size_t length, size_t at, const s
     struct lisp_record got;
 
     is("lisp_read_record", lisp_read_record(bytes, length, at, &got), LISP_DONE);
-    SAME(ttl), SAME(version), SAME(act), SAME(authoritative), SAME(mask_len), SAME(locator_count), SAME(locators_at), SAME(end);
-    SAME(eid.family), same("eid", got.eid.octets, wanted->eid.octets, 16);
+    same_record(&got, wanted);
 }
 
 static void reads_locator(const uint8_t *bytes, size_t length, size_t at, const struct lisp_locator *wanted)
@@ -143,8 +187,7 @@ static void reads_locator(const uint8_t *bytes, size_t length, size_t at, const 
     struct lisp_locator got;
 
     is("lisp_read_locator", lisp_read_locator(bytes, length, at, &got), LISP_DONE);
-    SAME(priority), SAME(weight), SAME(m_priority), SAME(m_weight), SAME(local), SAME(probe), SAME(reachable), SAME(end);
-    SAME(address.family), same("address", got.address.octets, wanted->address.octets, 16);
+    same_locator(&got, wanted);
 }
 
 /* Reads all of a datagram, looks at its tag and makes it again; that takes no memory. */
@@ -245,7 +288,10 @@ int main(int argc, char **argv)
         worked[i].secret = bytes_of(argv[2 + 2 * i], &worked[i].secret_length);
         worked[i].bytes = bytes_of(argv[3 + 2 * i], &worked[i].length);
     }
-    repeat_record(&worked[MOST_RECORDS]);
+    repeat(&worked[MOST_RECORDS], 28);
+    repeat(&worked[MOST_LOCATORS], 12);
+    text = argv[1];
+    text_length = strlen(text);
     /* (what the arguments have counts for nothing) */
     held = 0;
     for (size_t i = 0; i < WORKED; i++) {
@@ -261,7 +307,10 @@ int main(int argc, char **argv)
     faults_of_reading();
     faults_of_writing();
     faults_of_pointers();
-    servers(argv[1]);
+    servers();
+    held_rows();
+    notices();
+    routers();
     for (size_t i = 0; i < WORKED; i++)
         free(worked[i].secret), free(worked[i].bytes);
     return failed;

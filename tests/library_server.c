@@ -7,17 +7,24 @@
 #include <stdlib.h>
 #include <string.h>
 
-/* Out of memory for a configuration, for a datagram and for its nonce; and how long the secret is. */
-enum { MEMORY_TOML = 24, MEMORY = 58, MEMORY_NONCE = 59, SECRET = 6 };
+/* Out of memory for a configuration, and for a datagram; and how long the secret is. */
+enum { MEMORY_TOML = 24, MEMORY = 58, SECRET = 6 };
 
-static const struct lisp_address router = {LISP_IPV4, {192, 0, 2, 1}};
 static const struct lisp_nonce none = {0, 0}, one = {1, 1};
-static const char *text;
-static size_t text_length;
 
-static uint16_t start(struct lisp_server *server)
+void start(struct lisp_server *server)
 {
-    return lisp_server_start(server, text, text_length);
+    is("lisp_server_start", lisp_server_start(server, text, text_length), LISP_DONE);
+}
+
+void takes(struct lisp_server *server, int message, const struct lisp_address *from, uint64_t at)
+{
+    static uint8_t buffer[8192];
+    const struct worked *it = &worked[message];
+    struct lisp_received received;
+
+    is("lisp_server_receive", lisp_server_receive(server, &none, from, it->bytes, it->length, at, buffer, sizeof buffer, &received),
+       LISP_DONE);
 }
 
 /* Receives a datagram with this answer. Where it is refused, nothing is written, and the handle is as it was. */
@@ -33,8 +40,7 @@ static void receives(struct lisp_server *server, const struct lisp_nonce *kept, 
         abort();
     memcpy(copy, bytes, length);
     memset(&received, OLD, sizeof received);
-    uint16_t number = lisp_server_receive(server, kept, &router, copy, length, 0, buffer, length, &received);
-    is("lisp_server_receive", wanted == MEMORY && number == MEMORY_NONCE ? wanted : number, wanted);
+    is("lisp_server_receive", lisp_server_receive(server, kept, &r1, copy, length, 0, buffer, length, &received), wanted);
     same("the datagram", copy, bytes, length);
     is("the handle", server->core == core, true);
     if (wanted == LISP_DONE) {
@@ -61,7 +67,7 @@ static void exchange(struct lisp_server *server)
     const struct worked *it = &worked[REGISTER];
 
     now = "the exchange";
-    is("start", start(server), LISP_DONE);
+    start(server);
     receives(server, &none, it->bytes, it->length, LISP_DONE);
     receives(server, &none, it->bytes, it->length, LISP_REPLAY);
     receives(server, &one, it->bytes, it->length, LISP_REPLAY);
@@ -119,7 +125,7 @@ static void refuses(struct lisp_server *server)
     const struct worked *it = &worked[REGISTER];
     uint8_t bytes[84];
 
-    is("start", start(server), LISP_DONE);
+    start(server);
     for (size_t i = 0; i < COUNT(wrong); i++) {
         now = wrong[i].name;
         memcpy(bytes, it->bytes, sizeof bytes);
@@ -148,22 +154,22 @@ static void arguments(struct lisp_server *server)
     uint8_t *buffer = edge(length);
 
     now = "arguments";
-    is("start", start(server), LISP_DONE);
+    start(server);
     memset(&to, OLD, sizeof to);
-    is("no server", lisp_server_receive(NULL, &none, &router, bytes, length, 0, buffer, length, &to), LISP_NULL);
+    is("no server", lisp_server_receive(NULL, &none, &r1, bytes, length, 0, buffer, length, &to), LISP_NULL);
     is("no source", lisp_server_receive(server, &none, NULL, bytes, length, 0, buffer, length, &to), LISP_NULL);
-    is("no bytes", lisp_server_receive(server, &none, &router, NULL, length, 0, buffer, length, &to), LISP_NULL);
-    is("no buffer", lisp_server_receive(server, &none, &router, bytes, length, 0, NULL, length, &to), LISP_NULL);
-    is("nothing received", lisp_server_receive(server, &none, &router, bytes, length, 0, buffer, length, NULL), LISP_NULL);
-    is("too many bytes", lisp_server_receive(server, &none, &router, bytes, beyond, 0, buffer, length, &to), LISP_LENGTH);
-    is("too much room", lisp_server_receive(server, &none, &router, bytes, length, 0, buffer, beyond, &to), LISP_LENGTH);
+    is("no bytes", lisp_server_receive(server, &none, &r1, NULL, length, 0, buffer, length, &to), LISP_NULL);
+    is("no buffer", lisp_server_receive(server, &none, &r1, bytes, length, 0, NULL, length, &to), LISP_NULL);
+    is("nothing received", lisp_server_receive(server, &none, &r1, bytes, length, 0, buffer, length, NULL), LISP_NULL);
+    is("too many bytes", lisp_server_receive(server, &none, &r1, bytes, beyond, 0, buffer, length, &to), LISP_LENGTH);
+    is("too much room", lisp_server_receive(server, &none, &r1, bytes, length, 0, buffer, beyond, &to), LISP_LENGTH);
     is("family 7", lisp_server_receive(server, &none, &seven, bytes, length, 0, buffer, length, &to), LISP_FIELD);
     is("family 7 first", lisp_server_receive(&empty, &none, &seven, bytes, length, 0, buffer, 0, &to), LISP_FIELD);
-    is("no room", lisp_server_receive(server, &none, &router, bytes, length, 0, buffer, length - 1, &to), LISP_ROOM);
-    is("no room at null", lisp_server_receive(server, &none, &router, bytes, length, 0, NULL, 0, &to), LISP_ROOM);
-    is("no room first", lisp_server_receive(&empty, &none, &router, bytes, length, 0, buffer, 0, &to), LISP_ROOM);
-    is("an empty handle", lisp_server_receive(&empty, &none, &router, bytes, length, 0, buffer, length, &to), LISP_NULL);
-    is("an empty handle, no bytes", lisp_server_receive(&empty, NULL, &router, NULL, 0, 0, NULL, 0, &to), LISP_NULL);
+    is("no room", lisp_server_receive(server, &none, &r1, bytes, length, 0, buffer, length - 1, &to), LISP_ROOM);
+    is("no room at null", lisp_server_receive(server, &none, &r1, bytes, length, 0, NULL, 0, &to), LISP_ROOM);
+    is("no room first", lisp_server_receive(&empty, &none, &r1, bytes, length, 0, buffer, 0, &to), LISP_ROOM);
+    is("an empty handle", lisp_server_receive(&empty, &none, &r1, bytes, length, 0, buffer, length, &to), LISP_NULL);
+    is("an empty handle, no bytes", lisp_server_receive(&empty, NULL, &r1, NULL, 0, 0, NULL, 0, &to), LISP_NULL);
     untouched(&to, sizeof to);
     untouched(buffer, length);
     receives(server, &none, bytes, length, LISP_DONE);
@@ -178,30 +184,31 @@ static void arguments(struct lisp_server *server)
     is("the empty handle", empty.core == NULL, true);
 }
 
+const struct wrong_text wrong_texts[5] = {
+    {"x=", LISP_TOML}, {"x = \"\xff\"", LISP_NOT_UTF8}, {"[[site]]\n", LISP_MISSING}, {"[[site]]\nid = \"1\"\n", LISP_BAD_VALUE},
+    {"[[site]]\nid = \"0000000000000001\"\n[[site]]\nid = \"0000000000000001\"\n", LISP_REPEATED}};
+
 /* Configurations with faults, over a server that runs: it goes on, and has its nonce. Then one without sites, which replaces it. */
 static void configurations(struct lisp_server *server)
 {
-    static const struct { const char *text; uint16_t number; } wrong[] = {
-        {"x=", LISP_TOML}, {"x = \"\xff\"", LISP_NOT_UTF8}, {"[[site]]\n", LISP_MISSING}, {"[[site]]\nid = \"1\"\n", LISP_BAD_VALUE},
-        {"[[site]]\nid = \"0000000000000001\"\n[[site]]\nid = \"0000000000000001\"\n", LISP_REPEATED}};
     const struct worked *it = &worked[REGISTER];
     struct lisp_server empty = {NULL};
 
-    is("start", start(server), LISP_DONE);
+    start(server);
     receives(server, &none, it->bytes, it->length, LISP_DONE);
-    for (size_t i = 0; i < COUNT(wrong); i++) {
+    for (size_t i = 0; i < COUNT(wrong_texts); i++) {
         const void *core = server->core;
         long before = held;
-        now = wrong[i].text;
-        is("start", lisp_server_start(&empty, now, strlen(now)), wrong[i].number);
+        now = wrong_texts[i].text;
+        is("start", lisp_server_start(&empty, now, strlen(now)), wrong_texts[i].number);
         is("the empty handle", empty.core == NULL, true);
-        is("start over another", lisp_server_start(server, now, strlen(now)), wrong[i].number);
+        is("start over another", lisp_server_start(server, now, strlen(now)), wrong_texts[i].number);
         is("the handle", server->core == core, true);
         is("blocks that aren't freed", held, before);
         receives(server, &none, it->bytes, it->length, LISP_REPLAY);
     }
     now = "start over another";
-    is("start", start(server), LISP_DONE);
+    start(server);
     receives(server, &none, it->bytes, it->length, LISP_DONE);
     is("an empty configuration", lisp_server_start(server, NULL, 0), LISP_DONE);
     receives(server, &none, it->bytes, it->length, LISP_UNKNOWN_SITE);
@@ -214,10 +221,10 @@ static void wants_memory_to_start(struct lisp_server *server)
     struct lisp_server other = {NULL};
 
     now = "memory to start";
-    is("start", start(server), LISP_DONE);
+    start(server);
     receives(server, &none, it->bytes, it->length, LISP_DONE);
     calls = 0;
-    is("start", start(&other), LISP_DONE);
+    start(&other);
     lisp_server_stop(&other);
     is("whether it took memory", calls > 0, true);
     for (long most = calls, at = 1; at <= most; at++) {
@@ -226,14 +233,14 @@ static void wants_memory_to_start(struct lisp_server *server)
             const void *core = both[i]->core;
             long before = held;
             calls = 0, refused = at;
-            uint16_t number = start(both[i]);
+            uint16_t number = lisp_server_start(both[i], text, text_length);
             refused = 0;
             is("a number of no memory", number == MEMORY_TOML || number == LISP_OUT_OF_MEMORY ? 0 : at * 1000 + number, 0);
             is("the handle", both[i]->core == core, true);
             is("blocks that aren't freed", held, before);
         }
         receives(server, &none, it->bytes, it->length, LISP_REPLAY);
-        is("start", start(&other), LISP_DONE);
+        start(&other);
         receives(&other, &none, it->bytes, it->length, LISP_DONE);
         lisp_server_stop(&other);
     }
@@ -245,14 +252,14 @@ static void wants_memory_to_receive(struct lisp_server *server)
     long most;
 
     now = "memory to receive";
-    is("start", start(server), LISP_DONE);
+    start(server);
     calls = 0;
     receives(server, &none, it->bytes, it->length, LISP_DONE);
     /* (the first is of the test's own copy) */
     most = calls;
     is("whether it took memory", most > 1, true);
     for (long at = 2; at <= most; at++) {
-        is("start", start(server), LISP_DONE);
+        start(server);
         calls = 0, refused = at;
         receives(server, &none, it->bytes, it->length, MEMORY);
         refused = 0;
@@ -261,14 +268,12 @@ static void wants_memory_to_receive(struct lisp_server *server)
     }
 }
 
-void servers(const char *configuration)
+void servers(void)
 {
     static void (*const tests[])(struct lisp_server *) = {exchange, refuses, arguments, configurations, wants_memory_to_start,
                                                           wants_memory_to_receive};
     struct lisp_server server = {NULL};
 
-    text = configuration;
-    text_length = strlen(configuration);
     for (size_t i = 0; i < COUNT(tests); i++) {
         tests[i](&server);
         lisp_server_stop(&server);

@@ -1,6 +1,6 @@
 /*
- * register SECRET: prints a Map-Register for 10.1.0.0/16 in hexadecimal digits, and how the router sends it again: with the next
- * nonce, and authentic anew.
+ * register SECRET: prints a Map-Register for 10.1.0.0/16 in hexadecimal digits, and how the router sends it again: with
+ * the next nonce, and authentic anew.
  */
 #include <lisp_registration.h>
 #include <stdio.h>
@@ -14,7 +14,8 @@ static const struct lisp_message message = {
 static const struct lisp_record records[] = {
     {.ttl = 1440, .authoritative = 1, .mask_len = 16, .locator_count = 1, .eid = {LISP_IPV4, {10, 1, 0, 0}}}};
 static const struct lisp_locator locators[] = {
-    {.priority = 1, .weight = 100, .m_priority = 255, .local = 1, .reachable = 1, .address = {LISP_IPV4, {192, 0, 2, 1}}}};
+    {.priority = 1, .weight = 100, .m_priority = 255, .local = 1, .reachable = 1,
+     .address = {LISP_IPV4, {192, 0, 2, 1}}}};
 
 static void print(const uint8_t *datagram, size_t length)
 {
@@ -34,8 +35,8 @@ int main(int argc, char **argv)
     }
     const uint8_t *secret = (const uint8_t *)argv[1];
     size_t secret_length = strlen(argv[1]);
-    uint16_t number = lisp_write_message(&message, records, 1, locators, 1, secret, secret_length, datagram, sizeof datagram,
-                                         &length);
+    uint16_t number = lisp_write_message(&message, records, 1, locators, 1, secret, secret_length, datagram,
+                                         sizeof datagram, &length);
     if (number != LISP_DONE) {
         fprintf(stderr, "register: fault %u, see docs/REFUSALS.md\n", number);
         return 1;

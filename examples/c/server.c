@@ -1,79 +1,17 @@
 /*
- * server CONFIGURATION FOLDER ADDRESS PORT: a Map-Server at an IPv4 address and a UDP port. It keeps the last nonce of each pair
- * of a router and a Key ID in a file of the folder, which no other server may use. Prints a line for each datagram; README.md says
- * what it leaves out. The numbers that it prints are those of docs/REFUSALS.md.
+ * server CONFIGURATION FOLDER ADDRESS PORT: a Map-Server at an IPv4 address and a UDP port. It keeps the last nonce of
+ * each pair of a router and a Key ID in a file of the folder, which no other program may use. Prints a line for each
+ * datagram; README.md says what it leaves out. The numbers that it prints are those of docs/REFUSALS.md.
  */
-#include <arpa/inet.h>
-#include <errno.h>
-#include <fcntl.h>
-#include <inttypes.h>
-#include <lisp_registration.h>
-#include <stdio.h>
-#include <stdlib.h>
-#include <sys/socket.h>
-#include <time.h>
-#include <unistd.h>
+#include "host.h"
 
-enum { MOST = 65536, NAME = 64 };
-
-/* The name of the file of a pair. */
-static void name_file(char name[NAME], const struct lisp_pair *pair)
-{
-    int at = snprintf(name, NAME, "%016" PRIx64 "-", pair->site);
-
-    for (size_t i = 0; i < sizeof pair->xtr; i++)
-        at += snprintf(name + at, (size_t)(NAME - at), "%02x", pair->xtr[i]);
-    snprintf(name + at, (size_t)(NAME - at), "-%02x", pair->key_id);
-}
-
-/* Loads the nonce of a pair; none where there is no file. False where it can't be told: then no datagram of it may be received. */
-static bool load(const char *name, struct lisp_nonce *kept)
-{
-    FILE *file = fopen(name, "r");
-    char end = 0;
-
-    if (file == NULL)
-        return errno == ENOENT;
-    kept->is_there = fscanf(file, "%" SCNu64 "%c", &kept->nonce, &end) == 2 && end == '\n';
-    fclose(file);
-    return kept->is_there;
-}
-
-/* Saves the nonce of a pair so that no crash loses it: true only where the disk has it. */
-static bool save(const char *name, uint64_t nonce)
-{
-    int folder = open(".", O_RDONLY), file = open("new", O_WRONLY | O_CREAT | O_TRUNC, 0600);
-    char text[24];
-    int length = snprintf(text, sizeof text, "%" PRIu64 "\n", nonce);
-    bool is_saved = folder >= 0 && file >= 0 && write(file, text, (size_t)length) == length && fsync(file) == 0
-        && rename("new", name) == 0 && fsync(folder) == 0;
-
-    if (file >= 0)
-        close(file);
-    if (folder >= 0)
-        close(folder);
-    return is_saved;
-}
-
-/* The time in ms, which never goes back. */
-static uint64_t now(void)
-{
-    struct timespec time;
-
-    if (clock_gettime(CLOCK_MONOTONIC, &time) != 0)
-        abort();
-    return (uint64_t)time.tv_sec * 1000 + (uint64_t)time.tv_nsec / 1000000;
-}
-
-/* Receives a datagram; the length of the answer that has to be sent, or 0. */
-static size_t receive(struct lisp_server *server, const uint8_t *bytes, size_t length, const struct sockaddr_in *source,
+/* Receives a datagram; how many bytes of the buffer have to be sent as its answer. */
+static size_t receive(struct lisp_server *server, const uint8_t *bytes, size_t length, const struct lisp_address *from,
                       uint8_t buffer[MOST])
 {
-    const uint8_t *octets = (const uint8_t *)&source->sin_addr;
-    struct lisp_address from = {LISP_IPV4, {octets[0], octets[1], octets[2], octets[3]}};
+    struct lisp_pair pair;
     struct lisp_nonce kept = {0, 0};
     struct lisp_received received;
-    struct lisp_pair pair;
     char name[NAME];
 
     lisp_server_pair(bytes, length, &pair);
@@ -82,7 +20,7 @@ static size_t receive(struct lisp_server *server, const uint8_t *bytes, size_t l
         printf("not received: %s can't be loaded\n", name);
         return 0;
     }
-    uint16_t number = lisp_server_receive(server, &kept, &from, bytes, length, now(), buffer, MOST, &received);
+    uint16_t number = lisp_server_receive(server, &kept, from, bytes, length, now(), buffer, MOST, &received);
     if (number != LISP_DONE) {
         printf("refused %u\n", number);
         return 0;
@@ -96,54 +34,30 @@ static size_t receive(struct lisp_server *server, const uint8_t *bytes, size_t l
     return received.reply_length;
 }
 
-/* Starts a Map-Server by a configuration file, and says why not. */
-static bool start(struct lisp_server *server, const char *name)
-{
-    static char text[1 << 20];
-    FILE *file = fopen(name, "r");
-    size_t length = file == NULL ? 0 : fread(text, 1, sizeof text, file);
-
-    if (file == NULL || ferror(file) || length == sizeof text) {
-        fprintf(stderr, "server: %s can't be read\n", name);
-        return false;
-    }
-    fclose(file);
-    uint16_t number = lisp_server_start(server, text, length);
-    if (number != LISP_DONE)
-        fprintf(stderr, "server: %s: fault %u\n", name, number);
-    return number == LISP_DONE;
-}
-
 int main(int argc, char **argv)
 {
     static uint8_t bytes[MOST], buffer[MOST];
     struct lisp_server server = {NULL};
-    struct sockaddr_in source = {.sin_family = AF_INET};
-    socklen_t size = sizeof source;
-    int udp = socket(AF_INET, SOCK_DGRAM, 0);
+    struct lisp_address from;
+    struct sockaddr_in source;
+    size_t size;
 
-    if (argc != 5 || inet_pton(AF_INET, argv[3], &source.sin_addr) != 1) {
+    if (argc != 5) {
         fputs("usage: server CONFIGURATION FOLDER ADDRESS PORT\n", stderr);
         return 2;
     }
-    source.sin_port = htons((uint16_t)strtoul(argv[4], NULL, 10));
-    if (!start(&server, argv[1]))
-        return 1;
-    if (chdir(argv[2]) != 0 || udp < 0 || bind(udp, (struct sockaddr *)&source, size) != 0) {
-        perror("server");
+    const char *text = read_text(argv[1], &size);
+    uint16_t number = lisp_server_start(&server, text, size);
+    if (number != LISP_DONE) {
+        fprintf(stderr, "%s: fault %u\n", argv[1], number);
         return 1;
     }
-    setvbuf(stdout, NULL, _IOLBF, 0);
-    puts("ready");
+    int udp = bind_in(argv[2], argv[3], argv[4], 1000);
     for (;;) {
-        ssize_t length = recvfrom(udp, bytes, sizeof bytes, 0, (struct sockaddr *)&source, &size);
-        if (length < 0)
-            break;
-        size_t answer = receive(&server, bytes, (size_t)length, &source, buffer);
-        if (answer > 0 && sendto(udp, buffer, answer, 0, (struct sockaddr *)&source, size) < 0)
-            perror("server: an answer");
+        ssize_t length = receive_from(udp, bytes, &source, &from);
+        lisp_server_expire(&server, now());
+        size = length < 0 ? 0 : receive(&server, bytes, (size_t)length, &from, buffer);
+        if (size > 0)
+            send_to(udp, buffer, size, &source);
     }
-    perror("server");
-    lisp_server_stop(&server);
-    return 1;
 }

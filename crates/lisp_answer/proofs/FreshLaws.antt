@@ -1,7 +1,6 @@
 -- What a fresh server over an empty store makes of a message: no nonce stands in its way.
 use Rattle.std.proofs.Common.{◌≡◌, ◌⊎◌, inl, inr, ℕ, zero, suc, Bool, cond, List, [], ◌∷◌, Option, Some, None, Result, Ok, Err, refl, sym, ap, ◌∙◌, subst, arith}
 use Rattle.std.specs.FinMap.{empty, get-empty}
-use Rattle.std.specs.Option.{unwrap_or}
 use Rattle.std.specs.List.{Contains}
 use Rattle.lisp_records.specs.declared.address.Addr.{Addr}
 use Rattle.lisp_records.specs.declared.router.RouterId.{RouterId}
@@ -11,6 +10,7 @@ use Rattle.lisp_nonces.specs.declared.fault.StoreFault.TheVariants as faults
 use Rattle.lisp_nonces.specs.declared.pair.Pair.{Pair}
 use Rattle.lisp_nonces.specs.Pair.{pair_cmp}
 use Rattle.lisp_nonces.specs.Kept.{kept_at}
+use Rattle.lisp_nonces.proofs.Kept.{kept_at-empty}
 use Rattle.lisp_nonces.specs.Memory.{memory_state}
 use Rattle.lisp_nonces.specs.Store.{StoreState, Rose, Proceeds}
 use Rattle.std.specs.Result.{IsErrOf}
@@ -39,10 +39,6 @@ nothing_at : (pair : Pair) → nonce_at empty pair ≡ None
 unfolding nonce_at
 nothing_at pair = get-empty pair_cmp pair
 
-nothing_kept : (pair : Pair) → kept_at empty pair ≡ None ∷ []
-unfolding kept_at
-nothing_kept pair = ap (λ (o : Option (List (Option ℕ))). unwrap_or o (None ∷ [])) (get-empty pair_cmp pair)
-
 -- such a store doesn't fail
 no_fault : (after : StoreState) → Proceeds fresh_store after → Rose fresh_store after → ⊥
 no_fault after went (inl more) = omega (arith, (went.quiet refl).1, more)
@@ -57,7 +53,7 @@ only_memory after faults.OutOfMemory went cause = refl
 no_base : (pair : Pair) (saved : ℕ) → IsBase (nonce_at empty pair) fresh_store pair (Some saved) → ⊥
 no_base pair saved base =
     let kept : Contains (kept_at empty pair) (Some saved) = (subst (λ (last : Option ℕ). IsBase last fresh_store pair (Some saved)) (nothing_at pair) base).1 refl in
-    only_none saved (subst (λ (values : List (Option ℕ)). Contains values (Some saved)) (nothing_kept pair) kept)
+    only_none saved (subst (λ (values : List (Option ℕ)). Contains values (Some saved)) (kept_at-empty pair) kept)
   where
     only_none : (saved : ℕ) → Contains (None ∷ []) (Some saved) → ⊥
     only_none saved (zero, lt, at) = (let clash : ◌≡◌ {A = Option ℕ} None (Some saved) = at in absurd cc)

@@ -18,7 +18,8 @@ use Rattle.lisp_model.specs.Trace.{Step, Opening, shown_store}
 use Rattle.lisp_model.specs.Held.{Acceptance, is_of_pair}
 use Rattle.lisp_model.specs.Accepted.{acceptances_in_step, nonces_of, tried_nonces, tried_nonces_after}
 use Rattle.lisp_model.specs.Promises as schedules
-use Rattle.lisp_model.proofs.KeptLemmas.{kept_at-empty, pair_same}
+use Rattle.lisp_nonces.proofs.Kept.{kept_at-empty}
+use Rattle.lisp_model.proofs.KeptLemmas.{pair_same}
 use Rattle.lisp_refinement.specs.Headline.{OfEachStep}
 use Rattle.lisp_model.proofs.ListLemmas.{at_head, in_tail, head_or_tail, in_none}
 use Rattle.lisp_client.specs.Promised.{Tries, WasTried, ReplaysAreTried}

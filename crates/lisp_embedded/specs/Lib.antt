@@ -1,3 +1,4 @@
 pub mod Host
 pub mod Receiving
 pub mod Notices
+pub mod Routers

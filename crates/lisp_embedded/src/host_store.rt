@@ -1,7 +1,8 @@
 //! A store of the one nonce that a program passed.
 
-ghost use Rattle.std.specs.Prelude.{IfOk, OnErr};
+ghost use Rattle.std.specs.Prelude.{◌≡◌, IfOk, OnErr};
 ghost use Rattle.lisp_nonces.specs.Memory.{memory_state};
+ghost use Rattle.lisp_nonces.specs.declared.fate.Fate.TheVariants.{Done};
 ghost use Rattle.lisp_embedded.specs.Host.{KeepsPassed};
 
 use lisp_memory::Memory;
@@ -15,6 +16,7 @@ pub(crate) fn host_store<A: Memory + Copy>(
     kept: Option<u64>,
 ) -> Result<MemoryStore<A>, AllocError>
     ensures keeps { IfOk result (λ store. KeepsPassed pair.now kept (memory_state store)) }
+    ensures calm { IfOk result (λ store. store.fate ≡ Done) }
     ensures memory { OnErr result A.may_refuse }
 {
     let mut store = MemoryStore::new(alloc);

@@ -3,14 +3,22 @@
 #![tactic(auto)]
 
 mod host_store;
+mod hosted_router;
 mod hosted_server;
 mod notice;
 mod pair;
 mod receiving;
+mod router_handle;
+mod router_send;
+mod router_start;
 mod server_handle;
 
+pub use hosted_router::HostedRouter;
 pub use hosted_server::HostedServer;
 pub use notice::{HostedNotice, notify_kept};
 pub use pair::pair_needed;
 pub use receiving::receive_kept;
+pub use router_handle::RouterHandle;
+pub use router_send::{HostedRegister, send_kept};
+pub use router_start::start_kept;
 pub use server_handle::ServerHandle;

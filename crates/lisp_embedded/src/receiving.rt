@@ -3,13 +3,14 @@
 ghost use Rattle.std.specs.Prelude.{◌≡◌, IfOk, IfErr, OnErr, IsErrOf};
 ghost use Rattle.lisp_admission.specs.declared.refused.Refused.{Refused};
 ghost use Rattle.lisp_nonces.specs.Memory.{memory_state};
+ghost use Rattle.lisp_nonces.specs.declared.fate.Fate.TheVariants.{Done};
 ghost use Rattle.lisp_embedded.specs.Host.{Passes, pair_in};
-ghost use Rattle.lisp_embedded.specs.Receiving.{RefusesKept, TakesKept};
+ghost use Rattle.lisp_embedded.specs.Receiving.{IsOfNoStore, RefusesKept, TakesKept, of_this_call};
 
 use crate::host_store::host_store;
-use crate::pair::pair_needed;
+use crate::pair::pair_at_ends;
 use lisp_memory::Memory;
-use lisp_nonces::MemoryStore;
+use lisp_nonces::{MemoryStore, StoreFault};
 use lisp_records::Addr;
 use lisp_server::{Refused, Server, Took};
 use std::alloc::AllocError;
@@ -18,7 +19,8 @@ use std::alloc::AllocError;
 /// keeps what the program passed: `kept`, the nonce that it loaded for the pair that the datagram needs (`pair_needed`), or
 /// `None` where it has saved none. Where a Map-Register is accepted the program has to save its nonce for that pair before it
 /// sends the answer. Where that fails, it has to start the Map-Server again, as after a crash. The refusals are those of
-/// `Server::receive`: `OutOfMemory` may come in place of each, and `StoreSave` is of memory that ran out too.
+/// `Server::receive`: `OutOfMemory` may come in place of each, and is told where the store's memory runs out; so `StoreLoad`
+/// and `StoreSave` never come.
 pub fn receive_kept<A: Memory + Copy>(
     alloc: A,
     server: &mut Server<A>,
@@ -31,9 +33,24 @@ pub fn receive_kept<A: Memory + Copy>(
     ensures refused { IfErr result (RefusesKept kept from bytes.now server.old) }
     ensures err { OnErr result (server.new ≡ server.old) }
     ensures memory { IsErrOf result Refused.OutOfMemory → A.may_refuse }
+    ensures storeless { IfErr result IsOfNoStore }
 {
     let mut store = store_for(alloc, kept, bytes)?;
-    server.receive(&mut store, from, bytes, now)
+    match server.receive(&mut store, from, bytes, now) {
+        Ok(took) => Ok(took),
+        Err(refused) => Err(of_this_call(refused)),
+    }
+}
+
+// A refusal of the store of this call: its memory is that of the call.
+fn of_this_call(refused: Refused) -> Refused
+    ensures { result ≡ of_this_call refused }
+{
+    match refused {
+        Refused::StoreLoad(StoreFault::OutOfMemory) => Refused::OutOfMemory,
+        Refused::StoreSave(StoreFault::OutOfMemory) => Refused::OutOfMemory,
+        other => other,
+    }
 }
 
 // A store that keeps what the program passed for a datagram.
@@ -43,9 +60,10 @@ fn store_for<A: Memory + Copy>(
     bytes: &[u8],
 ) -> Result<MemoryStore<A>, AllocError>
     ensures keeps { IfOk result (λ store. Passes (pair_in bytes.now) kept (memory_state store)) }
+    ensures calm { IfOk result (λ store. store.fate ≡ Done) }
     ensures memory { OnErr result A.may_refuse }
 {
-    match pair_needed(alloc, bytes) {
+    match pair_at_ends(bytes) {
         Some(pair) => host_store(alloc, &pair, kept),
         None => Ok(MemoryStore::new(alloc)),
     }

@@ -38,15 +38,15 @@ impl<A: Allocator> Model for EtrConfig<A> {
 }
 
 impl<A: Allocator> EtrConfig<A> {
-    /// What its nonces are kept for.
-    pub(crate) fn pair(&self) -> Pair
+    /// What its nonces are kept for. Takes no memory.
+    pub fn pair(&self) -> Pair
         ensures { result ≡ sent_pair self.now }
     {
         self.pair_under(self.key_id)
     }
 
-    /// What its nonces under a key are kept for.
-    pub(crate) fn pair_under(&self, key_id: u8) -> Pair
+    /// What its nonces under a key are kept for. Takes no memory.
+    pub fn pair_under(&self, key_id: u8) -> Pair
         ensures { result ≡ sent_pair_under self.now key_id }
     {
         Pair {

@@ -338,6 +338,21 @@ impl<A: Memory + Copy> Etr<A> {
         }
     }
 
+    /// Its configuration: who it is, its key, and its Map-Servers. Takes no memory.
+    pub fn config(&self) -> &EtrConfig<A>
+        ensures { result.now ≡ self.now.config }
+    {
+        &self.config
+    }
+
+    /// What the last save that was done has saved since the start, or since it went over to another key; 0 where none was. No
+    /// nonce above it was sent since then. Takes no memory.
+    pub fn safe(&self) -> u64
+        ensures { result ≡ self.now.safe }
+    {
+        self.safe
+    }
+
     /// What it registers. Takes no memory.
     pub fn database(&self) -> &Database<A>
         ensures { result.now ≡ self.now.database }

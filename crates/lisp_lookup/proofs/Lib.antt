@@ -1,6 +1,7 @@
 pub mod Apart
 pub mod Orders
 pub mod FindLaws
+pub mod LiveFrom
 pub mod TableLaws
 pub mod LiveLaws
 pub mod AnswerLaws

@@ -1,6 +1,6 @@
 -- The rows that a Map-Server holds, one for each router and EID-Prefix (RFC 9301 section 8.2).
-use Rattle.std.specs.Prelude.{◌≡◌, ◌≢◌, ◌↔◌, ℕ, Bool, false, ◌&&◌, ◌<◌, List, length, reverse, if◌then◌else◌, Option, Some, None}
-use Rattle.std.specs.List.{AllPairs, Contains, count_by, find}
+use Rattle.std.specs.Prelude.{◌≡◌, ◌≢◌, ◌↔◌, ℕ, Bool, false, ◌&&◌, ◌<◌, ◌≤◌, ◌+◌, List, ◌∷◌, drop, length, reverse, slice_get, if◌then◌else◌, Option, Some, None}
+use Rattle.std.specs.List.{AllPairs, Contains, count_by, filter, find}
 use Rattle.std.specs.Option.{option_or, option_and_then}
 use Rattle.std.specs.declared.cmp.Ordering.{Ordering}
 use Rattle.std.specs.declared.cmp.Ordering.TheVariants.{Less}
@@ -68,3 +68,15 @@ pub record IsHeld (rows : List RowValue) (now : ℕ) (held : List RowValue) : Ty
 -- how many rows have a lesser prefix
 abbrev pub count_lesser : List RowValue → PrefixValue → ℕ
 count_lesser rows eid = count_by (λ h. is_lt (prefix_cmp h.mapping.eid eid)) rows
+
+-- ---- row by row
+
+-- the live rows from a place of the list on
+abbrev pub live_from : List RowValue → ℕ → ℕ → List RowValue
+live_from rows place now = filter (λ h. is_alive h now) (drop place rows)
+
+-- at a place from this one on is the first of them, and the others are from the next place on
+pub record IsNextLive (rows : List RowValue) (place now found : ℕ) (h : RowValue) : Type 0 where
+  pub on : place ≤ found
+  pub there : slice_get rows found ≡ Some h
+  pub first : live_from rows place now ≡ h ∷ live_from rows (found + 1) now

@@ -1,11 +1,11 @@
 //! The rows that a Map-Server holds.
 
 ghost use Rattle.std.specs.Prelude.{◌≡◌, ◌+◌, ◌-◌, ◌*◌, ◌^◌, ◌≤◌, ◌<◌, [], None, true, false, length, nat_le, slice_get, IsOk, IfOk, IfSome, OnOk, OnErr};
-ghost use Rattle.std.specs.Option.{option_map};
-ghost use Rattle.std.specs.List.{All, filter};
+ghost use Rattle.std.specs.Option.{MatchOption, option_map};
+ghost use Rattle.std.specs.List.{All, filter, position};
 ghost use Rattle.lisp_records.specs.Moment.{max_moment};
 ghost use Rattle.lisp_records.specs.Row.{is_alive};
-ghost use Rattle.lisp_lookup.specs.Table.{OneEach, Sets, Expires, DropsDead, row_key, row_cmp, IsHeld, count_lesser};
+ghost use Rattle.lisp_lookup.specs.Table.{OneEach, Sets, Expires, DropsDead, row_key, row_cmp, IsHeld, IsNextLive, count_lesser, live_from};
 ghost use Rattle.lisp_lookup.specs.Answer.{Answers};
 ghost use Rattle.lisp_lookup.specs.Records.{live_of, live_count, live_fit, ListsLive};
 
@@ -77,6 +77,18 @@ impl<A: Allocator + Copy> Table<A> {
         ensures { option_map (λ row. row.now) result ≡ slice_get self.now.rows place }
     {
         self.items.get(place)
+    }
+
+    /// The first row from a place on that is alive at a moment, in ms, and its place; `None` where all from there on are dead. From
+    /// place 0 on, each time from the one after the last, this gives every live row once. Takes no memory.
+    pub fn next_live(&self, place: usize, now: u64) -> Option<(usize, &Row<A>)>
+        ensures { MatchOption result (live_from self.now.rows place now ≡ []) (λ found. IsNextLive self.now.rows place now found.0 found.1.now) }
+    {
+        let rest = self.items.get(place..)?;
+        let Some(skipped) = first_live(rest, now) else {
+            return None;
+        };
+        Some((place + skipped, &rest[skipped]))
     }
 
     /// Sets the rows, for which there is room (`prepare`), in their order: of several for one router and
@@ -199,6 +211,14 @@ impl<A: Memory + Copy> Table<A> {
         records.sort_unstable_by(|one, other| one.eid_cmp(other));
         Ok(records)
     }
+}
+
+// How many rows are dead before the first that is alive.
+fn first_live<A: Allocator>(rows: &[Row<A>], now: u64) -> Option<usize>
+    ensures place { result ≡ position (λ h. is_alive h now) rows.now }
+    ensures within { IfSome result (λ dead. dead < length rows.now) }
+{
+    rows.iter().position(|row| row.alive(now))
 }
 
 // Copies of the rows that are alive, in memory of `alloc`.

@@ -2,6 +2,7 @@
 //! memory may refuse.
 #![tactic(auto)]
 
+mod boxed;
 mod deque;
 mod map;
 mod memory;
@@ -9,6 +10,7 @@ mod set;
 mod string;
 mod vec;
 
+pub use boxed::FallibleBox;
 pub use deque::FallibleDeque;
 pub use map::FallibleMap;
 pub use memory::{Memory, Seal};

@@ -8,7 +8,8 @@ use Rattle.std.specs.List.{Contains}
 use Rattle.lisp_nonces.specs.declared.pair.Pair.{Pair}
 use Rattle.lisp_nonces.specs.Kept.{Kept, kept_at, number}
 use Rattle.lisp_model.specs.Context.{Context, values, values_after, MaySave, Saves, SaveFails}
-use Rattle.lisp_model.proofs.KeptLemmas.{set_here, set_others, kept_at-empty, only_value}
+use Rattle.lisp_nonces.proofs.Kept.{kept_at-empty}
+use Rattle.lisp_model.proofs.KeptLemmas.{set_here, set_others, only_value}
 
 -- 'nothing' is the only value before
 pub fresh_value : (pair : Pair) → Contains (kept_at empty pair) None

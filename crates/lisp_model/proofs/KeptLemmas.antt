@@ -1,7 +1,7 @@
 -- What lists of a store are after one was set, and steps that set one.
 use Rattle.std.proofs.Common.{◌≡◌, ℕ, zero, suc, true≢false, Bool, true, false, List, [], ◌∷◌, Option, Some, None, cond, refl, sym, ap, subst, ◌∙◌, arith}
 use Rattle.std.specs.Prelude.{◌≢◌}
-use Rattle.std.specs.FinMap.{get, insert, empty, get-insert, get-empty}
+use Rattle.std.specs.FinMap.{get, insert, empty, get-insert}
 use Rattle.std.specs.List.{Contains}
 use Rattle.std.specs.Option.{unwrap_or}
 use Rattle.std.specs.Cmp.{eq_by_cmp_equiv}
@@ -11,6 +11,7 @@ use Rattle.std.specs.declared.cmp.Ordering.TheVariants.{Less, Equal, Greater}
 use Rattle.lisp_nonces.specs.declared.pair.Pair.{Pair}
 use Rattle.lisp_nonces.specs.Pair.{pair_cmp}
 use Rattle.lisp_nonces.specs.Kept.{Kept, kept_at, SameElsewhere, Narrows}
+use Rattle.lisp_nonces.proofs.Kept.{kept_at-empty}
 use Rattle.lisp_nonces.proofs.Pairs.{pair_total, same_pair}
 
 -- a list was set
@@ -46,11 +47,6 @@ set_here kept pair values = kept_at-insert kept pair values pair ∙ ap (λ b. c
 
 pub set_others : (kept : Kept) (pair : Pair) (values : List (Option ℕ)) → SameElsewhere kept (insert kept pair values) pair
 set_others kept pair values q differ = kept_at-insert kept pair values q ∙ ap (λ b. cond b values (kept_at kept q)) (pair_other q pair differ)
-
--- nothing is kept
-pub kept_at-empty : (q : Pair) → kept_at empty q ≡ None ∷ []
-unfolding kept_at
-kept_at-empty q = ap (λ o. unwrap_or o (None ∷ [])) (get-empty pair_cmp q)
 
 -- the only value
 pub only_value : (x v : Option ℕ) → Contains (x ∷ []) v → v ≡ x

@@ -2,3 +2,4 @@ pub mod Pairs
 pub mod Entries
 pub mod Restart
 pub mod Saving
+pub mod Kept

@@ -65,7 +65,7 @@ faults_of_the_program = 87 ∷ 88 ∷ 89 ∷ 92 ∷ 93 ∷ 95 ∷ 96 ∷ 97 ∷ 
 
 -- refusals of the library for C programs
 abbrev pub refusals_of_the_library : List ℕ
-refusals_of_the_library = 100 ∷ 101 ∷ 102 ∷ 103 ∷ 104 ∷ 105 ∷ []
+refusals_of_the_library = 100 ∷ 101 ∷ 102 ∷ 103 ∷ 104 ∷ 105 ∷ 106 ∷ []
 
 -- the numbers of each section, in the order of the document
 unfoldable pub numbers : List (List ℕ)

@@ -8,7 +8,7 @@ use Rattle.lisp_admission.specs.declared.refused.Refused.{Refused}
 use Rattle.lisp_server.specs.declared.took.Took.{Took}
 use Rattle.lisp_server.specs.Server.{ServerState}
 use Rattle.lisp_embedded.specs.declared.hosted_server.HostedServer.{HostedServer}
-use Rattle.lisp_embedded.specs.Receiving.{RefusesKept, TakesKept}
+use Rattle.lisp_embedded.specs.Receiving.{IsOfNoStore, RefusesKept, TakesKept}
 use Rattle.lisp_registration.specs.declared.address.PlainAddress.{PlainAddress}
 use Rattle.lisp_registration.specs.declared.received.PlainReceived.{PlainReceived}
 use Rattle.lisp_registration.specs.Meaning.{address_in}
@@ -20,15 +20,15 @@ source_is from bytes buffer a named room = rw (named, le-ltb (length buffer) (le
 
 -- an answer is what the Map-Server makes of it
 receives : {A : Type 0} (kept : Option ℕ) (from : Addr) (bytes : List ℕ) (now : ℕ) (old new : ServerState) (answer : Result (Took A) Refused)
-    → IfOk answer (TakesKept kept from bytes old new now) → IfErr answer (RefusesKept kept from bytes old) → OnErr answer (new ≡ old) → ReceivesKept kept from bytes now old new answer
-receives kept from bytes now old new (Ok took) takes refuses same = takes
-receives kept from bytes now old new (Err why) takes refuses same = (refuses, same)
+    → IfOk answer (TakesKept kept from bytes old new now) → IfErr answer (RefusesKept kept from bytes old) → IfErr answer IsOfNoStore → OnErr answer (new ≡ old) → ReceivesKept kept from bytes now old new answer
+receives kept from bytes now old new (Ok took) takes refuses storeless same = takes
+receives kept from bytes now old new (Err why) takes refuses storeless same = (refuses, storeless, same)
 
 module _ (kept : Option ℕ) (from : PlainAddress) (a : Addr) (bytes buffer : List ℕ) (now : ℕ) (held : Option HostedServer) (hosted : HostedServer) (received : PlainReceived) (after : ServerState) (answer : Result (Took Global) Refused) where
   -- a datagram that the Map-Server received
   pub is_received : (left : Left) → address_in from ≡ Some a → length bytes ≤ length buffer → held ≡ Some hosted
-      → IfOk answer (TakesKept kept a bytes hosted.server after now) → IfErr answer (RefusesKept kept a bytes hosted.server) → OnErr answer (after ≡ hosted.server)
+      → IfOk answer (TakesKept kept a bytes hosted.server after now) → IfErr answer (RefusesKept kept a bytes hosted.server) → IfErr answer IsOfNoStore → OnErr answer (after ≡ hosted.server)
       → left ≡ ((told_received answer buffer received).0, (Some (record { server = after }), (told_received answer buffer received).1))
       → LeavesFrom kept (source_of from bytes buffer) bytes now held buffer received left
-  is_received left named room holds takes refuses same told =
-      rw (source_is from bytes buffer a named room, holds) (answer, after, receives kept a bytes now hosted.server after answer takes refuses same, told)
+  is_received left named room holds takes refuses storeless same told =
+      rw (source_is from bytes buffer a named room, holds) (answer, after, receives kept a bytes now hosted.server after answer takes refuses storeless same, told)

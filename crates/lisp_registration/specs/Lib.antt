@@ -2,4 +2,9 @@ pub mod Fault
 pub mod Plain
 pub mod Meaning
 pub mod Told
+pub mod Room
 pub mod Server
+pub mod Starting
+pub mod Rows
+pub mod Notices
+pub mod Router

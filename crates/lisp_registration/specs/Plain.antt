@@ -1,11 +1,11 @@
 -- What is told to C of what was read: the same in plain numbers.
-use Rattle.std.specs.Prelude.{ℕ, ◌++◌, replicate, List}
+use Rattle.std.specs.Prelude.{ℕ, ◌++◌, length, map, replicate, List}
 use Rattle.lisp_records.specs.declared.address.Addr.{Addr}
 use Rattle.lisp_records.specs.declared.address.Addr.TheVariants.{V4, V6}
 use Rattle.lisp_records.specs.declared.layout.RecordLayout.{RecordLayout}
 use Rattle.lisp_records.specs.declared.locator.Locator.{Locator}
 use Rattle.lisp_records.specs.Address.{afi, family}
-use Rattle.lisp_records.specs.Record.{bit}
+use Rattle.lisp_records.specs.Record.{MapRecordValue, bit}
 use Rattle.lisp_messages.specs.declared.layout.MessageLayout.{MessageLayout}
 use Rattle.lisp_messages.specs.Meaning.{message_value}
 use Rattle.lisp_messages.specs.Message.{MessageValue, Registers, Notifies}
@@ -23,6 +23,10 @@ sixteen (V6 bytes) = bytes
 abbrev pub plain_address : Addr → PlainAddress
 plain_address a = record { family = afi (family a); octets = sixteen a }
 
+-- no address
+abbrev pub no_address : PlainAddress
+no_address = record { family = 0; octets = replicate 16 0 }
+
 -- a locator that ends at a place
 abbrev pub plain_locator : Locator → ℕ → PlainLocator
 plain_locator l end = record {
@@ -37,18 +41,33 @@ plain_locator l end = record {
   end = end;
 }
 
-abbrev pub plain_record : {A : Type 0} → RecordLayout A → PlainRecord
-plain_record layout = record {
-  ttl = layout.fields.ttl;
-  version = layout.fields.version;
-  act = layout.fields.act;
-  authoritative = bit layout.fields.authoritative;
-  mask_len = layout.fields.eid.mask_len;
-  locator_count = layout.locator_count;
-  eid = plain_address layout.fields.eid.addr;
-  locators_at = layout.locators_at;
-  end = layout.end;
+-- a record that counts so many locators, with the places of its first locator and of its end
+abbrev pub plain_record_at : MapRecordValue → ℕ → ℕ → ℕ → PlainRecord
+plain_record_at m count at end = record {
+  ttl = m.ttl;
+  version = m.version;
+  act = m.act;
+  authoritative = bit m.authoritative;
+  mask_len = m.eid.mask_len;
+  locator_count = count;
+  eid = plain_address m.eid.addr;
+  locators_at = at;
+  end = end;
 }
+
+abbrev pub plain_record : {A : Type 0} → RecordLayout A → PlainRecord
+plain_record layout = plain_record_at layout.fields layout.locator_count layout.locators_at layout.end
+
+-- no record
+abbrev pub no_record : PlainRecord
+no_record = record { ttl = 0; version = 0; act = 0; authoritative = 0; mask_len = 0; locator_count = 0; eid = no_address; locators_at = 0; end = 0 }
+
+-- a record that is in no message, and its locators
+abbrev pub plain_mapping : MapRecordValue → PlainRecord
+plain_mapping m = plain_record_at m (length m.locators) 0 0
+
+abbrev pub plain_locators : List Locator → List PlainLocator
+plain_locators ls = map (λ l. plain_locator l 0) ls
 
 -- what a message says but its records, with their count and their places
 abbrev pub plain_fields : MessageValue → ℕ → ℕ → ℕ → PlainMessage

@@ -1,12 +1,9 @@
 -- What a call from C makes of the Map-Server that a handle holds, and what it tells.
-use Rattle.std.specs.Prelude.{◌≡◌, ℕ, ◌==◌, nat_lt, ◌≢◌, List, [], length, replicate, Option, Some, None, Result, Ok, Err, MatchResult, if◌then◌else◌}
+use Rattle.std.specs.Prelude.{◌≡◌, ℕ, ◌==◌, nat_lt, List, [], length, replicate, Option, Some, None, Result, Ok, Err, MatchResult, if◌then◌else◌}
 use Rattle.std.specs.Option.{MatchOption}
 use Rattle.std.specs.Global.{Global}
-use Rattle.toml.specs.Parse.{parse_document}
 use Rattle.lisp_records.specs.declared.address.Addr.{Addr}
 use Rattle.lisp_records.specs.Result.{◌>>=◌}
-use Rattle.lisp_policy.specs.Configuration.{ConfigValue}
-use Rattle.lisp_sites.specs.Table.{config_of}
 use Rattle.lisp_nonces.specs.declared.pair.Pair.{Pair}
 use Rattle.lisp_admission.specs.declared.refused.Refused.{Refused}
 use Rattle.lisp_admission.specs.Refused.{refused_number}
@@ -16,7 +13,7 @@ use Rattle.lisp_server.specs.Server.{ServerState, empty_server}
 use Rattle.lisp_server.specs.Took.{reply_in}
 use Rattle.lisp_embedded.specs.declared.hosted_server.HostedServer.{HostedServer}
 use Rattle.lisp_embedded.specs.Host.{pair_in}
-use Rattle.lisp_embedded.specs.Receiving.{RefusesKept, TakesKept}
+use Rattle.lisp_embedded.specs.Receiving.{IsOfNoStore, RefusesKept, TakesKept}
 use Rattle.lisp_registration.specs.declared.address.PlainAddress.{PlainAddress}
 use Rattle.lisp_registration.specs.declared.fault.WriteFault.{WriteFault}
 use Rattle.lisp_registration.specs.declared.fault.WriteFault.TheVariants.{Room, Field}
@@ -39,14 +36,6 @@ TellsPair bytes new = new ≡ plain_pair (pair_in bytes)
 -- the nonce that the program loaded, or none
 abbrev pub kept_in : PlainNonce → Option ℕ
 kept_in n = if n.is_there == 0 then None else Some n.nonce
-
--- a Map-Server of the sites of a configuration, which holds nothing
-abbrev pub IsStarted : List ℕ → HostedServer → Type 0
-IsStarted text hosted = (config : ConfigValue) × (config_of (parse_document text) ≡ Ok config) × (hosted ≡ record { server = empty_server config.sites })
-
--- what a start leaves
-abbrev pub StartsServer : List ℕ → Option HostedServer → ℕ → Option HostedServer → Type 0
-StartsServer text old number new = (number ≡ 0 → (hosted : HostedServer) × (new ≡ Some hosted) × IsStarted text hosted) × (number ≢ 0 → new ≡ old)
 
 -- what another start leaves
 abbrev pub RestartsServer : Option HostedServer → ℕ → Option HostedServer → Type 0
@@ -80,9 +69,9 @@ told_received (Err why) buffer old = (refused_number why, (buffer, old))
 abbrev pub source_of : PlainAddress → List ℕ → List ℕ → Result Addr WriteFault
 source_of from bytes buffer = or_fault Field (address_in from) >>= λ a. if nat_lt (length buffer) (length bytes) then Err Room else Ok a
 
--- an answer is what a Map-Server makes of the datagram, over the nonce that was passed
+-- an answer is what a Map-Server makes of the datagram, over the nonce that was passed; a refusal is not of a store, and changes nothing
 abbrev pub ReceivesKept : {A : Type 0} → Option ℕ → Addr → List ℕ → ℕ → ServerState → ServerState → Result (Took A) Refused → Type 0
-ReceivesKept kept from bytes now old new answer = MatchResult answer (λ took. TakesKept kept from bytes old new now took) (λ why. RefusesKept kept from bytes old why × (new ≡ old))
+ReceivesKept kept from bytes now old new answer = MatchResult answer (λ took. TakesKept kept from bytes old new now took) (λ why. RefusesKept kept from bytes old why × IsOfNoStore why × (new ≡ old))
 
 -- all that a call leaves
 abbrev pub Left : Type 0

@@ -46,8 +46,8 @@ TellsLocator bytes at old number new = (answer : Result (Locator × ℕ) RecordF
 abbrev pub signed_in_place : List ℕ → List ℕ → ℕ × List ℕ
 signed_in_place secret bytes = if nat_lt (length bytes) 32 then (1, bytes) else (0, with_tag secret bytes)
 
--- whether a buffer has room for bytes; they are in front of it then
-abbrev pub put_in : List ℕ → List ℕ → Bool × List ℕ
+-- whether a buffer has room for bytes, or a list for others; they are in front of it then
+abbrev pub put_in : {X : Type 0} → List X → List X → Bool × List X
 put_in bytes buffer = if nat_lt (length buffer) (length bytes) then (false, buffer) else (true, bytes ++ drop (length bytes) buffer)
 
 -- the number, the buffer and the length that writing leaves

@@ -1,7 +1,7 @@
 //! Addresses, as C has them.
 
 ghost use Rattle.std.specs.Prelude.{◌≡◌, ◌++◌, replicate};
-ghost use Rattle.lisp_registration.specs.Plain.{plain_address};
+ghost use Rattle.lisp_registration.specs.Plain.{no_address, plain_address};
 ghost use Rattle.lisp_registration.specs.Meaning.{address_in};
 
 use lisp_records::{Addr, Family};
@@ -27,6 +27,16 @@ impl PlainAddress {
             Addr::V6(octets) => octets,
         };
         PlainAddress { family, octets }
+    }
+
+    /// No address: all is 0.
+    pub(crate) const fn none() -> PlainAddress
+        ensures { result ≡ no_address }
+    {
+        PlainAddress {
+            family: 0,
+            octets: [0; 16],
+        }
     }
 
     /// The address; `None` where the family is neither IPv4 nor IPv6.

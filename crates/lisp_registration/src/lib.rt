@@ -1,19 +1,34 @@
-//! The messages of LISP registration for programs in C and in Rust, as a static library: reading where the bytes lie,
-//! tags, and writing into the caller's buffer. What C sees is in `include/lisp_registration.h`.
+//! LISP registration for programs in C and in Rust, as a static library: messages, which are read where the bytes lie and
+//! written into the caller's buffer, and the cores of a Map-Server and of a router behind handles. What C sees is in
+//! `include/lisp_registration.h`.
 //!
-//! Each export does what the function of `lisp_messages` or `lisp_records` below it does, and says so in its contract. What
-//! the caller has to keep (pointers to so much memory) no contract can say: it stands in the header.
+//! Each export does what the function of a core or of `lisp_messages` below it does, and says so in its contract. What the
+//! caller has to keep (pointers to so much memory) no contract can say: it stands in the header.
 #![tactic(auto)]
 
 mod address;
+mod answer;
+mod due;
 mod fault;
+mod handle_fault;
+mod held;
 mod locator;
 mod message;
+mod node_fault;
+mod notice;
+mod notices;
 mod pair;
 mod reading;
 mod received;
 mod record;
 mod records;
+mod room;
+mod router;
+mod router_handle;
+mod router_id;
+mod row;
+mod seen;
+mod sent;
 mod server;
 mod starting;
 mod tag;
@@ -21,15 +36,36 @@ mod telling;
 mod writing;
 
 pub use address::PlainAddress;
+pub use answer::PlainAnswer;
+pub use due::PlainDue;
 pub use fault::WriteFault;
+pub use handle_fault::HandleFault;
+pub use held::{lisp_registration_server_answer, lisp_registration_server_row};
 pub use locator::PlainLocator;
 pub use message::PlainMessage;
+pub use node_fault::NodeFault;
+pub use notice::PlainNotice;
+pub use notices::{
+    lisp_registration_server_due, lisp_registration_server_expire, lisp_registration_server_notify,
+    lisp_registration_server_resend,
+};
 pub use pair::{PlainNonce, PlainPair};
 pub use reading::{
     lisp_registration_read_locator, lisp_registration_read_message, lisp_registration_read_record,
 };
 pub use received::PlainReceived;
 pub use record::PlainRecord;
+pub use router::{
+    lisp_registration_router_due, lisp_registration_router_receive, lisp_registration_router_send,
+};
+pub use router_handle::{
+    lisp_registration_router_change, lisp_registration_router_pair, lisp_registration_router_start,
+    lisp_registration_router_stop,
+};
+pub use router_id::PlainRouter;
+pub use row::PlainRow;
+pub use seen::PlainSeen;
+pub use sent::PlainSent;
 pub use server::{
     lisp_registration_server_pair, lisp_registration_server_receive,
     lisp_registration_server_restart, lisp_registration_server_start,

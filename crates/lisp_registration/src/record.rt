@@ -2,7 +2,7 @@
 
 ghost use Rattle.std.specs.Prelude.{◌≡◌, ◌<◌, length, IsErrOf};
 ghost use Rattle.lisp_records.specs.Result.{Reads};
-ghost use Rattle.lisp_registration.specs.Plain.{plain_record};
+ghost use Rattle.lisp_registration.specs.Plain.{no_record, plain_mapping, plain_record, plain_record_at};
 ghost use Rattle.lisp_registration.specs.Meaning.{Makes, block_in, locators_in, record_in};
 ghost use Rattle.lisp_registration.specs.declared.fault.WriteFault.TheVariants.{OutOfMemory};
 
@@ -43,6 +43,43 @@ impl PlainRecord {
         ensures { result ≡ plain_record layout.now }
     {
         let fields = &layout.fields;
+        PlainRecord::at(fields, layout.locator_count, layout.locators_at, layout.end)
+    }
+
+    /// A record that is in no message, in plain numbers.
+    pub(crate) fn of_mapping<A: Allocator>(mapping: &MapRecord<A>) -> PlainRecord
+        ensures { result ≡ plain_mapping mapping.now }
+    {
+        let count = mapping.locators().len() as u8;
+        PlainRecord::at(mapping, count, 0, 0)
+    }
+
+    /// No record: all is 0.
+    pub(crate) const fn none() -> PlainRecord
+        ensures { result ≡ no_record }
+    {
+        PlainRecord {
+            ttl: 0,
+            version: 0,
+            act: 0,
+            authoritative: 0,
+            mask_len: 0,
+            locator_count: 0,
+            eid: PlainAddress::none(),
+            locators_at: 0,
+            end: 0,
+        }
+    }
+
+    // A record that counts so many locators, of which the first begins at `locators_at`, and which ends at `end`.
+    fn at<A: Allocator>(
+        fields: &MapRecord<A>,
+        locator_count: u8,
+        locators_at: usize,
+        end: usize,
+    ) -> PlainRecord
+        ensures { result ≡ plain_record_at fields.now locator_count locators_at end }
+    {
         let eid = fields.eid();
         PlainRecord {
             ttl: fields.ttl(),
@@ -50,10 +87,10 @@ impl PlainRecord {
             act: fields.act(),
             authoritative: u8::from(fields.authoritative()),
             mask_len: eid.mask_len(),
-            locator_count: layout.locator_count,
+            locator_count,
             eid: PlainAddress::of(eid.addr()),
-            locators_at: layout.locators_at,
-            end: layout.end,
+            locators_at,
+            end,
         }
     }
 

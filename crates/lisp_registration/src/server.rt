@@ -2,36 +2,36 @@
 
 ghost use Rattle.std.specs.Prelude.{◌≡◌, None};
 ghost use Rattle.lisp_memory.specs.Refusal.{MachineMayRefuse};
-ghost use Rattle.lisp_registration.specs.Server.{RestartsServer, StartsServer, TellsPair, TellsReceived};
+ghost use Rattle.lisp_registration.specs.Server.{RestartsServer, TellsPair, TellsReceived};
+ghost use Rattle.lisp_registration.specs.Starting.{StartsNode, text_server};
 
 use crate::address::PlainAddress;
 use crate::fault::WriteFault;
+use crate::handle_fault::HandleFault;
 use crate::pair::{PlainNonce, PlainPair};
 use crate::received::PlainReceived;
-use crate::starting::{restart, started};
+use crate::starting::{restart, started_server};
 use crate::telling::tell_received;
 use lisp_embedded::{ServerHandle, pair_needed, receive_kept};
 use std::alloc::Global;
 
-/// The number of a handle that holds nothing.
-const NULL: u16 = 100;
-
 /// Starts a Map-Server of the sites of a configuration, TOML in UTF-8; it holds nothing yet. What the handle held before is
-/// gone. 0 is done; else (`NotUtf8` 95, a fault of the configuration 20 to 23, `OutOfMemory` 105) the handle is as it was.
+/// gone. 0 is done; else (`NotUtf8` 95, a fault of the configuration 20 to 24, `OutOfMemory` 105) the handle is as it was.
 #[unsafe(no_mangle)]
 pub extern "C" fn lisp_registration_server_start(
     alloc: Global,
     configuration: &[u8],
     server: &mut ServerHandle,
 ) -> u16
-    ensures { StartsServer configuration.now server.old.value result server.new.value }
+    ensures started { StartsNode (text_server configuration.now) server.old.value result server.new.value }
+    ensures memory { result ≡ 105 → MachineMayRefuse }
 {
-    match started(alloc, configuration) {
+    match started_server(alloc, configuration) {
         Ok(hosted) => {
             *server = ServerHandle::of(hosted);
             0
         }
-        Err(number) => number,
+        Err(fault) => fault.number(),
     }
 }
 
@@ -43,8 +43,8 @@ pub extern "C" fn lisp_registration_server_stop(alloc: Global, server: &mut Serv
     *server = ServerHandle::none(alloc);
 }
 
-/// Starts the Map-Server again, as after a crash: its sites are kept, all else is gone. Takes no memory. 100 where the handle
-/// holds none.
+/// Starts the Map-Server again, as after a crash: its sites are kept, all else is gone. Takes no memory. 0 is done; `Null` 100
+/// where the handle holds none.
 #[unsafe(no_mangle)]
 pub extern "C" fn lisp_registration_server_restart(alloc: Global, server: &mut ServerHandle) -> u16
     ensures { RestartsServer server.old.value result server.new.value }
@@ -55,11 +55,12 @@ pub extern "C" fn lisp_registration_server_restart(alloc: Global, server: &mut S
             *server = ServerHandle::of(hosted);
             0
         }
-        None => NULL,
+        None => HandleFault::Null.number(),
     }
 }
 
-/// The pair whose last nonce a datagram needs, or none; takes no memory.
+/// Tells the pair whose last nonce a datagram needs, of a Map-Register that of its router and Key ID, or none. Nothing is
+/// checked. Takes no memory.
 #[unsafe(no_mangle)]
 pub extern "C" fn lisp_registration_server_pair(alloc: Global, bytes: &[u8], pair: &mut PlainPair)
     ensures { TellsPair bytes.now pair.new }
@@ -67,7 +68,14 @@ pub extern "C" fn lisp_registration_server_pair(alloc: Global, bytes: &[u8], pai
     *pair = PlainPair::of(pair_needed(alloc, bytes));
 }
 
-/// Receives a datagram that came from an address at a time, in ms, with the nonce that the program loaded for its pair.
+/// Receives a datagram that came from an address at a time, in ms, with `kept`, the nonce that the program loaded for the
+/// pair that it needs. Where `received.accepted` is 1 the program has to save `received.nonce` for that pair before it sends
+/// the first `received.reply_length` bytes of the buffer to where the datagram came from; where that fails, it has to start
+/// the Map-Server again (RFC 9301 sections 5.6, 5.7 and 8.2). 0 is done; else all is as it was: `Field` 103 where the family
+/// of the address is neither IPv4 nor IPv6, `Room` 102 where the buffer has less room than the datagram has bytes, `Null` 100
+/// where the handle holds none, `Read` 50; of a Map-Register `UnknownSite` 51, `UnknownKey` 52, `BadAuth` 53, `MergeAsked` 54,
+/// `NotAllowed` 55, `Replay` 57; of a Map-Notify-Ack `NoNotice` 60, `BadAuth` 53; of a Map-Notify `NotMine` 61. `OutOfMemory` 58
+/// may come in place of each answer from `Read` on, also in place of 0.
 #[unsafe(no_mangle)]
 pub extern "C" fn lisp_registration_server_receive(
     alloc: Global,
@@ -95,6 +103,6 @@ pub extern "C" fn lisp_registration_server_receive(
             *server = ServerHandle::of(hosted);
             tell_received(&answer, buffer, received)
         }
-        None => NULL,
+        None => HandleFault::Null.number(),
     }
 }

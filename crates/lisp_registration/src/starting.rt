@@ -1,39 +1,72 @@
-//! Starting a Map-Server that a program in C holds.
+//! Starting what a program in C holds.
 
-ghost use Rattle.std.specs.Prelude.{◌≡◌, ◌≢◌, IfOk, IfErr};
+ghost use Rattle.std.specs.Prelude.{◌≡◌, ◌<◌, IfSome, IsErrOf, length};
+ghost use Rattle.std.specs.List.{position};
+ghost use Rattle.std.specs.Str.{bytes_eq};
+ghost use Rattle.lisp_memory.specs.Refusal.{MachineMayRefuse};
+ghost use Rattle.lisp_policy.specs.Configuration.{RouterEntryValue};
 ghost use Rattle.lisp_server.specs.Server.{empty_server};
-ghost use Rattle.lisp_registration.specs.Server.{IsStarted};
+ghost use Rattle.lisp_registration.specs.Starting.{Comes, text_config, text_router, text_server, text_settings};
+ghost use Rattle.lisp_registration.specs.declared.node_fault.NodeFault.TheVariants.{OutOfMemory};
 
-use crate::fault::WriteFault;
+use crate::node_fault::NodeFault;
 use core::mem::replace_with;
-use lisp_embedded::HostedServer;
+use lisp_embedded::{HostedRouter, HostedServer, start_kept};
+use lisp_etr::EtrConfig;
+use lisp_memory::FallibleBox;
+use lisp_records::Database;
 use lisp_server::Server;
-use lisp_sites::Config;
+use lisp_sites::{Config, RouterEntry};
+use lisp_world::router_settings;
 use std::alloc::{Allocator, Global};
 
-/// The number of a configuration that is not UTF-8.
-const NOT_UTF8: u16 = 95;
-
-/// A Map-Server of the sites of a configuration, or the number of why there is none.
-pub(crate) fn started(alloc: Global, configuration: &[u8]) -> Result<Box<HostedServer, Global>, u16>
-    ensures started { IfOk result (λ hosted. IsStarted configuration.now hosted.value) }
-    ensures faults { IfErr result (λ number. number ≢ 0) }
+/// A Map-Server of the sites of a configuration.
+pub(crate) fn started_server(
+    alloc: Global,
+    configuration: &[u8],
+) -> Result<Box<HostedServer, Global>, NodeFault>
+    ensures started { Comes (λ hosted. hosted.value) result (text_server configuration.now) }
+    ensures memory { IsErrOf result OutOfMemory → MachineMayRefuse }
 {
-    let Ok(text) = std::str::from_utf8(configuration) else {
-        return Err(NOT_UTF8);
-    };
-    let config = match Config::from_toml(alloc, alloc, text) {
-        Ok(config) => config,
-        Err(fault) => return Err(fault.number()),
-    };
-    let Ok(sites) = config.sites().copy(alloc) else {
-        return Err(WriteFault::OutOfMemory.number());
-    };
+    let config = read(alloc, configuration)?;
+    let sites = config.sites().copy(alloc)?;
     let server = Server::start(alloc, sites);
-    let Ok(hosted) = Box::new(alloc, HostedServer { server }) else {
-        return Err(WriteFault::OutOfMemory.number());
+    Ok(Box::try_new(alloc, HostedServer { server })?)
+}
+
+/// The router of a name in a configuration, which starts at a time, in ms, from the nonce that the program loaded.
+pub(crate) fn started_router(
+    alloc: Global,
+    configuration: &[u8],
+    name: &[u8],
+    kept: Option<u64>,
+    now: u64,
+) -> Result<Box<HostedRouter, Global>, NodeFault>
+    ensures started { Comes (λ hosted. hosted.value) result (text_router configuration.now name.now kept now) }
+    ensures memory { IsErrOf result OutOfMemory → MachineMayRefuse }
+{
+    let (settings, database) = settings_of(alloc, configuration, name)?;
+    let router = start_kept(alloc, settings, database, kept, now)?;
+    Ok(Box::try_new(alloc, HostedRouter { router })?)
+}
+
+/// What the router of a name in a configuration is configured with, and what it registers.
+pub(crate) fn settings_of(
+    alloc: Global,
+    configuration: &[u8],
+    name: &[u8],
+) -> Result<(EtrConfig<Global>, Database<Global>), NodeFault>
+    ensures settings { Comes (λ x. (x.0, x.1)) result (text_settings configuration.now name.now) }
+    ensures memory { IsErrOf result OutOfMemory → MachineMayRefuse }
+{
+    let config = read(alloc, configuration)?;
+    let Some(place) = place_of(config.routers(), name) else {
+        return Err(NodeFault::NoRouter);
     };
-    Ok(hosted)
+    let settings = router_settings(alloc, &config, place)?;
+    let entry = &config.routers()[place];
+    let database = entry.database.copy(alloc)?;
+    Ok((settings, database))
 }
 
 /// The Map-Server starts again with its sites alone.
@@ -48,4 +81,28 @@ fn started_again<A: Allocator + Copy>(server: Server<A>, alloc: A) -> (Server<A>
     ensures { result.0 ≡ empty_server server.sites }
 {
     (Server::start(alloc, server.stop()), ())
+}
+
+// The configuration of a text, TOML in UTF-8.
+fn read(alloc: Global, configuration: &[u8]) -> Result<Config<Global>, NodeFault>
+    ensures config { Comes (λ c. c) result (text_config configuration.now) }
+    ensures memory { IsErrOf result OutOfMemory → MachineMayRefuse }
+{
+    let Ok(text) = std::str::from_utf8(configuration) else {
+        return Err(NodeFault::NotUtf8);
+    };
+    match Config::from_toml(alloc, alloc, text) {
+        Ok(config) => Ok(config),
+        Err(fault) => Err(NodeFault::Configuration(fault)),
+    }
+}
+
+// The place of the first router with a name.
+fn place_of<A: Allocator>(routers: &[RouterEntry<A>], name: &[u8]) -> Option<usize>
+    ensures place { result ≡ position (λ r. bytes_eq r.name name.now) routers.now }
+    ensures within { IfSome result (λ place. place < length routers.now) }
+{
+    routers
+        .iter()
+        .position(|router| router.name.as_str().as_bytes() == name)
 }

@@ -4,7 +4,7 @@ ghost use Rattle.std.specs.Prelude.{◌≡◌};
 ghost use Rattle.lisp_registration.specs.Server.{reply_bytes, told_received};
 
 use crate::received::PlainReceived;
-use crate::writing::put;
+use crate::writing::put_length;
 use lisp_server::{Refused, Took};
 use std::alloc::Allocator;
 
@@ -20,7 +20,7 @@ pub(crate) fn tell_received<A: Allocator>(
     match answer {
         Ok(took) => {
             let reply = reply_of(took);
-            let reply_length = if put(reply, buffer) { reply.len() } else { 0 };
+            let reply_length = put_length(reply, buffer);
             *received = PlainReceived::of(took, reply_length);
             0
         }

@@ -5,6 +5,7 @@ ghost use Rattle.lisp_memory.specs.Refusal.{MachineMayRefuse};
 ghost use Rattle.lisp_messages.specs.Authentic.{signed};
 ghost use Rattle.lisp_messages.specs.Written.{written};
 ghost use Rattle.lisp_registration.specs.Meaning.{Makes, datagram_in, kind_in};
+ghost use Rattle.lisp_registration.specs.Server.{length_in};
 ghost use Rattle.lisp_registration.specs.Told.{TellsWritten, put_in};
 ghost use Rattle.lisp_registration.specs.declared.fault.WriteFault.TheVariants.{OutOfMemory};
 
@@ -101,4 +102,12 @@ pub(crate) fn put(bytes: &[u8], buffer: &mut [u8]) -> bool
     }
     buffer[..bytes.len()].copy_from_slice(bytes);
     true
+}
+
+/// Puts bytes in front of a buffer; how many of it are those: none where it has no room for them.
+pub(crate) fn put_length(bytes: &[u8], buffer: &mut [u8]) -> usize
+    ensures length { result ≡ length_in bytes.now buffer.old }
+    ensures buffer { buffer.new ≡ (put_in bytes.now buffer.old).1 }
+{
+    if put(bytes, buffer) { bytes.len() } else { 0 }
 }

@@ -1,10 +1,11 @@
 //! The Map-Server.
 
-ghost use Rattle.std.specs.Prelude.{◌≡◌, ◌≤◌, None, true, IfOk, IfErr, IfSome, IsErrOf, OnErr, length};
+ghost use Rattle.std.specs.Prelude.{◌≡◌, ◌≤◌, [], None, true, IfOk, IfErr, IfSome, IsErrOf, OnErr, length};
 ghost use Rattle.std.specs.List.{All};
+ghost use Rattle.std.specs.Option.{MatchOption};
 ghost use Rattle.lisp_nonces.specs.Store.{Proceeds};
 ghost use Rattle.lisp_messages.specs.Reading.{HasHead};
-ghost use Rattle.lisp_lookup.specs.Table.{OneEach, Expires, DropsDead, IsHeld};
+ghost use Rattle.lisp_lookup.specs.Table.{OneEach, Expires, DropsDead, IsHeld, IsNextLive, live_from};
 ghost use Rattle.lisp_lookup.specs.Answer.{Answers};
 ghost use Rattle.lisp_records.specs.Moment.{max_moment};
 ghost use Rattle.lisp_records.specs.Row.{is_alive};
@@ -111,6 +112,15 @@ impl<A: Allocator + Copy> Server<A> {
         ensures one_each { OneEach self.now.rows }
     {
         self.tables.rows.answer(&self.sites, addr, now)
+    }
+
+    /// The first row from a place on that is alive at a time, in ms, and its place; `None` where all from there on are dead. As
+    /// long as nothing changes the Map-Server, this gives from place 0 on, each time from the one after the last, every row
+    /// once that is alive at the time. Takes no memory.
+    pub fn next_held(&self, place: usize, now: u64) -> Option<(usize, &Row<A>)>
+        ensures { MatchOption result (live_from self.now.rows place now ≡ []) (λ found. IsNextLive self.now.rows place now found.0 found.1.now) }
+    {
+        self.tables.rows.next_live(place, now)
     }
 
     /// The last nonce of a pair since the start, `None` where there is none: of the last Map-Register that was

@@ -10,7 +10,7 @@ use Rattle.lisp_nonces.specs.declared.pair.Pair.{Pair}
 use Rattle.lisp_etr.specs.Config.{sent_pair}
 use Rattle.lisp_etr.specs.Etr.{etr_started}
 use Rattle.lisp_model.specs.Trace.{etr_config_of}
-use Rattle.lisp_model.proofs.KeptLemmas.{kept_at-empty}
+use Rattle.lisp_nonces.proofs.Kept.{kept_at-empty}
 use Rattle.lisp_nodes.proofs.NodeCalls.{unused}
 use Rattle.lisp_refinement.specs.World.{RouterNodeState, Up}
 use Rattle.lisp_refinement.proofs.Gets.{AtSet, get_set, get_within, get_replicate}

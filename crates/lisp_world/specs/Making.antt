@@ -6,6 +6,7 @@ use Rattle.lisp_policy.specs.Configuration.{ConfigValue, RouterEntryValue}
 use Rattle.lisp_nonces.specs.Store.{StoreState, Rose, Proceeds}
 use Rattle.lisp_nonces.specs.declared.fault.StoreFault.{StoreFault}
 use Rattle.lisp_nonces.specs.declared.fault.StoreFault.TheVariants as faults
+use Rattle.lisp_etr.specs.Config.{EtrConfigValue}
 use Rattle.lisp_etr.specs.declared.start_fault.StartFault.{StartFault}
 use Rattle.lisp_etr.specs.declared.start_fault.StartFault.TheVariants as start_faults
 use Rattle.lisp_model.specs.Trace.{etr_config_of}
@@ -31,6 +32,11 @@ router_over c r store = down_over r.servers (etr_config_of c r) r.database store
 abbrev pub IsRouterOver : ConfigValue → ℕ → StoreState → RouterNodeState → Type 0
 IsRouterOver c place store n =
     (r : RouterEntryValue) × (slice_get c.routers place ≡ Some r) × (n ≡ router_over c r store)
+
+-- a router is configured as the one at a place of the configuration
+abbrev pub IsConfiguredAt : ConfigValue → ℕ → EtrConfigValue → Type 0
+IsConfiguredAt c place settings =
+    (r : RouterEntryValue) × (slice_get c.routers place ≡ Some r) × (settings ≡ etr_config_of c r)
 
 -- the addresses at these places
 abbrev pub addresses_at : List Addr → List ℕ → List Addr

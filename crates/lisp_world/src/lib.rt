@@ -21,5 +21,5 @@ mod world;
 
 pub use lisp_model::{Event, Line, Refusal, WorldFault};
 pub use lisp_nodes::Datagram;
-pub use new::router_node;
+pub use new::{router_node, router_settings};
 pub use world::World;

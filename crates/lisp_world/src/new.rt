@@ -1,6 +1,6 @@
 //! A network is made.
 
-ghost use Rattle.std.specs.Prelude.{◌≡◌, ◌↔◌, ◌+◌, ◌^◌, ◌<◌, ◌||◌, ◌++◌, ◌∷◌, true, false, [], Err, IfOk, IfErr, IsErrOf, OnOk, OnErr, length, map};
+ghost use Rattle.std.specs.Prelude.{◌≡◌, ◌↔◌, ◌+◌, ◌^◌, ◌<◌, ◌||◌, ◌++◌, ◌∷◌, true, false, [], Err, IfOk, IfErr, IsErrOf, OnOk, OnErr, length, map, slice_get, Some};
 ghost use Rattle.std.specs.List.{AllByRecursion, list_any};
 ghost use Rattle.lisp_records.specs.Address.{addr_eq};
 ghost use Rattle.lisp_records.specs.Router.{router_eq};
@@ -10,7 +10,7 @@ ghost use Rattle.lisp_model.specs.declared.world_fault.WorldFault.{WorldFault};
 ghost use Rattle.lisp_model.specs.Trace.{addresses as addresses_of, etr_config_of, secret_at};
 ghost use Rattle.lisp_model.specs.Network.{IsNetwork};
 ghost use Rattle.lisp_nodes.specs.Memory.{no_store_memory_to_start};
-ghost use Rattle.lisp_world.specs.Making.{server_over, router_over, IsRouterOver, addresses_at, HasNodeLeft, AddsNode, AreMade, HasStarted, HaveStarted, StaysDown, IsStartFault, FailsOver, FailsToStartOnlyIf, FailsCalm};
+ghost use Rattle.lisp_world.specs.Making.{server_over, router_over, IsRouterOver, IsConfiguredAt, addresses_at, HasNodeLeft, AddsNode, AreMade, HasStarted, HaveStarted, StaysDown, IsStartFault, FailsOver, FailsToStartOnlyIf, FailsCalm};
 ghost use Rattle.lisp_world.specs.Openings.{repeats, share_address, share_identity, nodes_share_address, IsOpened, KeepsLists};
 ghost use Rattle.lisp_world.specs.Quiet.{AllHonest, StaysCalm};
 ghost use Rattle.lisp_refinement.specs.Headline.{Promises};
@@ -248,6 +248,20 @@ where
     router(alloc, config, &addresses, place, store)
 }
 
+/// What the router at a place of the configuration is configured with: its key, and the addresses of its Map-Servers.
+pub fn router_settings<A: Memory + Copy, E: Allocator>(
+    alloc: A,
+    config: &Config<E>,
+    place: usize,
+) -> Result<EtrConfig<A>, AllocError>
+    requires { place < length config.now.routers }
+    ensures settings { IfOk result (λ s. IsConfiguredAt config.now place s) }
+    ensures memory { OnErr result A.may_refuse }
+{
+    let addresses = addresses(alloc, config)?;
+    settings(alloc, config, &addresses, entry_at(config, place))
+}
+
 // The router at a place of the configuration over its store, not yet started.
 fn router<S: WorldStore, A: Memory + Copy, E: Allocator>(
     alloc: A,
@@ -263,8 +277,16 @@ where
     ensures router { IfOk result (λ n. IsRouterOver config.now place (S.seen store) n) }
     ensures memory { OnErr result A.may_refuse }
 {
-    let entry = &config.routers()[place];
-    down(alloc, config, addresses, entry, store)
+    down(alloc, config, addresses, entry_at(config, place), store)
+}
+
+// The router at a place of the configuration.
+fn entry_at<E: Allocator>(config: &Config<E>, place: usize) -> &RouterEntry<E>
+    requires { place < length config.now.routers }
+    ensures there { slice_get config.now.routers place ≡ Some result.now }
+    ensures servers { HasServers config.now.servers result.now }
+{
+    &config.routers()[place]
 }
 
 // A router over its store, not yet started.

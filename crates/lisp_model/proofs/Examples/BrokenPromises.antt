@@ -44,7 +44,8 @@ use Rattle.lisp_model.proofs.Examples.Wholes.{wide_whole}
 use Rattle.lisp_model.proofs.Examples.Rotations.{loses, rotating, sends_under, started, takes_under}
 use Rattle.lisp_model.proofs.Examples.Traces.{answered_elsewhere, both_heard, both_sent, both_taken, first_entry, first_told, foreign, foreign_sent, newer_taken, parts_sent, parts_taken, registered_again, restarted, sent_twice, short, was_noticed}
 use Rattle.lisp_model.proofs.ItemLemmas.{item_authentic}
-use Rattle.lisp_model.proofs.KeptLemmas.{kept_at-empty, only_value, set_here}
+use Rattle.lisp_nonces.proofs.Kept.{kept_at-empty}
+use Rattle.lisp_model.proofs.KeptLemmas.{only_value, set_here}
 use Rattle.lisp_model.proofs.ListLemmas.{at_head, head_or_tail, in_none}
 use Rattle.lisp_model.proofs.MustLaws.{must}
 use Rattle.lisp_records.specs.Parts.{cut, cut_from}

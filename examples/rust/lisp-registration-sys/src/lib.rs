@@ -1,5 +1,5 @@
-//! The structs, numbers and functions of liblisp_registration.a: LISP registration messages (RFC 9301), read and written, and a
-//! Map-Server's core.
+//! The structs, numbers and functions of liblisp_registration.a: LISP registration messages (RFC 9301), read and written, and the
+//! cores of a Map-Server and of a router.
 //!
 //! Names are those of `include/lisp_registration.h`, which says what each function does and in what order its faults come.
 //! The crate `lisp-registration` is a safe layer over this one.
@@ -11,7 +11,8 @@
 //! - a pointer is not null and is aligned, also where its length or count is 0;
 //! - it is to so many bytes or structs as the length or count behind it says, of no more than `isize::MAX` bytes;
 //! - what a function writes overlaps nothing else that it is given;
-//! - a [`lisp_server`] is zeros at first, isn't copied, is changed by these functions alone, and stays on one thread.
+//! - a [`lisp_server`] or a [`lisp_router`] is zeros at first, isn't copied, is changed by these functions alone, and stays on one
+//!   thread.
 //!
 //! Structs and lengths that are only written need no value before.
 #![allow(non_camel_case_types)]
@@ -47,7 +48,23 @@ pub const LISP_MISSING: u16 = 21;
 pub const LISP_BAD_VALUE: u16 = 22;
 /// Two entries of a configuration are alike where no two may be.
 pub const LISP_REPEATED: u16 = 23;
-/// A datagram that can't be read: [`lisp_registration_read_message`] says why.
+/// The router has no Map-Server with that number.
+pub const LISP_NO_SERVER: u16 = 40;
+/// The router's last nonce is 2^63 - 1 or more: it needs a new key.
+pub const LISP_ROUTER_NONCE_SPENT: u16 = 41;
+/// A datagram for a router that can't be read: [`lisp_registration_read_message`] says why.
+pub const LISP_ROUTER_READ: u16 = 43;
+/// Not a Map-Notify, or not from the address of a Map-Server of the router.
+pub const LISP_ROUTER_NOT_MINE: u16 = 44;
+/// The Key ID is not the router's.
+pub const LISP_WRONG_KEY: u16 = 45;
+/// The Authentication Data is wrong under the router's secret.
+pub const LISP_ROUTER_BAD_AUTH: u16 = 46;
+/// The nonce is below 2^63, and of no part the last one to that Map-Server.
+pub const LISP_STALE: u16 = 47;
+/// The router's database has no such part.
+pub const LISP_NO_PART: u16 = 49;
+/// A datagram for a Map-Server that can't be read: [`lisp_registration_read_message`] says why.
 pub const LISP_READ: u16 = 50;
 /// No such Site-ID is configured.
 pub const LISP_UNKNOWN_SITE: u16 = 51;
@@ -65,20 +82,33 @@ pub const LISP_REPLAY: u16 = 57;
 pub const LISP_NO_NOTICE: u16 = 60;
 /// A Map-Notify, which is for routers.
 pub const LISP_NOT_MINE: u16 = 61;
+/// No record of the router is alive.
+pub const LISP_NOT_REGISTERED: u16 = 62;
+/// The live records of a router are more than 255, or have more than 16,384 bytes.
+pub const LISP_TOO_LARGE: u16 = 63;
+/// The last nonce of the notices is 2^64 - 1.
+pub const LISP_NONCE_SPENT: u16 = 64;
+/// No notice of the router is due.
+pub const LISP_NOT_DUE: u16 = 67;
+/// A time above 2^62 ms.
+pub const LISP_CLOCK: u16 = 73;
 /// A configuration that is not UTF-8.
 pub const LISP_NOT_UTF8: u16 = 95;
 /// A handle holds nothing; or a pointer is null, which only the inline functions of the C header answer.
 pub const LISP_NULL: u16 = 100;
 /// A length or a count is more than memory can have. Only the inline functions of the C header answer this.
 pub const LISP_LENGTH: u16 = 101;
-/// The buffer has no room for the message.
+/// The buffer has no room.
 pub const LISP_ROOM: u16 = 102;
 /// A field has no place in a message.
 pub const LISP_FIELD: u16 = 103;
 /// More than 255 records, or not as many locators as the records count.
 pub const LISP_COUNTS: u16 = 104;
-/// `malloc` or `realloc` gave no memory. Of a configuration 24 may say so too; of a datagram that is received, 58 does.
+/// `malloc` or `realloc` gave no memory. So say 24 of a configuration, 48 of a router, 58 of a datagram for a Map-Server, and 66 of a
+/// notice.
 pub const LISP_OUT_OF_MEMORY: u16 = 105;
+/// No router of the configuration has the name.
+pub const LISP_NO_ROUTER: u16 = 106;
 
 /// Type of a Map-Register (RFC 9301 section 5.6).
 pub const LISP_MAP_REGISTER: u8 = 3;
@@ -94,6 +124,20 @@ pub const LISP_IPV6: u16 = 2;
 
 /// Where the first record of each message begins.
 pub const LISP_RECORDS_AT: usize = 32;
+
+/// Room for the locators of any record.
+pub const LISP_LOCATORS: usize = 255;
+/// Room for the bytes of any datagram that a Map-Server or a router sends by itself.
+pub const LISP_MESSAGE_ROOM: usize = 16_440;
+
+/// Nobody answers for the address, and no site has it: negative, for 15 minutes (RFC 9301 section 8.3).
+pub const LISP_ANSWER_NO_SITE: u8 = 0;
+/// Nobody answers for the address, though a site has it: negative, for 1 minute (RFC 9301 section 8.3).
+pub const LISP_ANSWER_NOT_REGISTERED: u8 = 1;
+/// The Map-Server answers, with a record: its router asked for proxy replies (RFC 9301 section 8.3).
+pub const LISP_ANSWER_REPLY: u8 = 2;
+/// The router answers: the Map-Request is forwarded to it (RFC 9301 section 8.3).
+pub const LISP_ANSWER_FORWARD: u8 = 3;
 
 /// An address.
 #[repr(C)]
@@ -244,6 +288,125 @@ pub struct lisp_received {
     pub reply_length: usize,
 }
 
+/// A row that a Map-Server holds but its locators: a record, and the Map-Register that it came with last. Or none.
+#[repr(C)]
+#[derive(Clone, Copy, Debug, Default, PartialEq, Eq)]
+pub struct lisp_row {
+    /// The nonce of the Map-Register.
+    pub nonce: u64,
+    /// The Site-ID of the router.
+    pub site: u64,
+    /// When the Map-Register was accepted, in ms.
+    pub accepted: u64,
+    /// For how many ms from then on the row is alive.
+    pub life: u64,
+    /// The xTR-ID of the router.
+    pub xtr: [u8; 16],
+    /// Where the Map-Register came from.
+    pub from: lisp_address,
+    /// The Key ID of the Map-Register.
+    pub key_id: u8,
+    /// Its bit P, 1 or 0: the Map-Server replies for the router.
+    pub proxy: u8,
+    /// 0: there is none, and all is 0.
+    pub is_there: u8,
+    /// Its places, `locators_at` and `end`, are 0.
+    pub record: lisp_record,
+}
+
+/// Who answers for an address (RFC 9301 section 8.3).
+#[repr(C)]
+#[derive(Clone, Copy, Debug, Default, PartialEq, Eq)]
+pub struct lisp_answer {
+    /// [`LISP_ANSWER_NO_SITE`], [`LISP_ANSWER_NOT_REGISTERED`], [`LISP_ANSWER_REPLY`] or [`LISP_ANSWER_FORWARD`].
+    pub kind: u8,
+    /// Of [`LISP_ANSWER_FORWARD`] where to forward the Map-Request, else 0.
+    pub to: lisp_address,
+    /// Of [`LISP_ANSWER_REPLY`] the record but its locators, with places of 0, else 0.
+    pub record: lisp_record,
+}
+
+/// Which router, or none.
+#[repr(C)]
+#[derive(Clone, Copy, Debug, Default, PartialEq, Eq)]
+pub struct lisp_router_id {
+    /// Its Site-ID.
+    pub site: u64,
+    /// Its xTR-ID.
+    pub xtr: [u8; 16],
+    /// Read only: 0: there is none, and all is 0.
+    pub is_there: u8,
+}
+
+/// A notice: a Map-Notify that a Map-Server sends a router unasked (RFC 9301 section 5.7).
+#[repr(C)]
+#[derive(Clone, Copy, Debug, Default, PartialEq, Eq)]
+pub struct lisp_notice {
+    /// Which has to be saved before; 0 of a notice that is sent again.
+    pub nonce: u64,
+    /// Where to send it.
+    pub to: lisp_address,
+    /// How many bytes of the buffer it is.
+    pub length: usize,
+}
+
+/// A router that the library keeps, or none. It stays on the thread that started it, and is never copied.
+#[repr(C)]
+#[derive(Debug)]
+pub struct lisp_router {
+    /// Not for the program.
+    pub core: *mut c_void,
+}
+
+/// A handle that holds none.
+impl Default for lisp_router {
+    fn default() -> Self {
+        lisp_router { core: null_mut() }
+    }
+}
+
+/// What a router has to send, or nothing.
+#[repr(C)]
+#[derive(Clone, Copy, Debug, Default, PartialEq, Eq)]
+pub struct lisp_due {
+    /// To which of its Map-Servers, from 0 on, in the order of its configuration.
+    pub server: usize,
+    /// Which part of its database, from 0 on: a large one goes out in several Map-Registers.
+    pub part: usize,
+    /// 0: nothing is due, and all is 0.
+    pub is_there: u8,
+}
+
+/// A Map-Register that a router sends (RFC 9301 section 5.6).
+#[repr(C)]
+#[derive(Clone, Copy, Debug, Default, PartialEq, Eq)]
+pub struct lisp_sent {
+    /// Which has to be saved before, where `must_save` is 1; else 0.
+    pub nonce: u64,
+    /// 0: a nonce that was saved before serves it too.
+    pub must_save: u8,
+    /// Where to send it.
+    pub to: lisp_address,
+    /// How many bytes of the buffer it is.
+    pub length: usize,
+}
+
+/// What a router took (RFC 9301 section 5.7).
+#[repr(C)]
+#[derive(Clone, Copy, Debug, Default, PartialEq, Eq)]
+pub struct lisp_seen {
+    /// The nonce of the Map-Register that is acknowledged, or of the notice.
+    pub nonce: u64,
+    /// Of which Map-Server, as in [`lisp_due`].
+    pub server: usize,
+    /// Of an acknowledgement: which part it is of, as there; of a notice 0.
+    pub part: usize,
+    /// 1: a notice, which is answered; 0: a Map-Register is acknowledged.
+    pub is_notice: u8,
+    /// How many bytes of the buffer are the answer; 0 where none is sent.
+    pub reply_length: usize,
+}
+
 extern "C" {
     /// Reads a datagram: what its message says but its records, and where these are (RFC 9301 sections 5.6 and 5.7).
     pub fn lisp_registration_read_message(
@@ -326,5 +489,121 @@ extern "C" {
         buffer: *mut u8,
         room: usize,
         received: *mut lisp_received,
+    ) -> u16;
+
+    /// Drops the rows of a Map-Server that are dead at a time, in ms.
+    pub fn lisp_registration_server_expire(server: *mut lisp_server, now: u64) -> u16;
+
+    /// Tells the first row from a place on that is alive at a time, in ms, and the place behind it.
+    pub fn lisp_registration_server_row(
+        server: *mut lisp_server,
+        now: u64,
+        place: *mut usize,
+        row: *mut lisp_row,
+        locators: *mut lisp_locator,
+        room: usize,
+    ) -> u16;
+
+    /// Tells who answers for an address at a time, in ms (RFC 9301 section 8.3).
+    pub fn lisp_registration_server_answer(
+        server: *mut lisp_server,
+        address: *const lisp_address,
+        now: u64,
+        answer: *mut lisp_answer,
+        locators: *mut lisp_locator,
+        room: usize,
+    ) -> u16;
+
+    /// Names the least router, by Site-ID, then xTR-ID, to which a notice is due again at a time, in ms.
+    pub fn lisp_registration_server_due(
+        server: *mut lisp_server,
+        now: u64,
+        router: *mut lisp_router_id,
+    ) -> u16;
+
+    /// Makes a notice for a router at a time, in ms (RFC 9301 section 5.7). Its nonce has to be saved before it is sent.
+    pub fn lisp_registration_server_notify(
+        server: *mut lisp_server,
+        kept: *const lisp_nonce,
+        router: *const lisp_router_id,
+        now: u64,
+        buffer: *mut u8,
+        room: usize,
+        notice: *mut lisp_notice,
+    ) -> u16;
+
+    /// Sends a router again the notice that is due at a time, in ms (RFC 9301 section 5.7).
+    pub fn lisp_registration_server_resend(
+        server: *mut lisp_server,
+        router: *const lisp_router_id,
+        now: u64,
+        buffer: *mut u8,
+        room: usize,
+        notice: *mut lisp_notice,
+    ) -> u16;
+
+    /// Names what the nonces of a router of a configuration are kept for.
+    pub fn lisp_registration_router_pair(
+        configuration: *const u8,
+        length: usize,
+        name: *const u8,
+        name_length: usize,
+        pair: *mut lisp_pair,
+    ) -> u16;
+
+    /// Starts a router of a configuration at a time, in ms, over the nonce that was saved last; what the handle held before is
+    /// stopped.
+    pub fn lisp_registration_router_start(
+        configuration: *const u8,
+        length: usize,
+        name: *const u8,
+        name_length: usize,
+        kept: *const lisp_nonce,
+        now: u64,
+        router: *mut lisp_router,
+    ) -> u16;
+
+    /// Stops the router of a handle, if it holds one, and gives all its memory back.
+    pub fn lisp_registration_router_stop(router: *mut lisp_router);
+
+    /// Tells what a router has to send at a time, in ms.
+    pub fn lisp_registration_router_due(
+        router: *mut lisp_router,
+        now: u64,
+        due: *mut lisp_due,
+    ) -> u16;
+
+    /// Makes the Map-Register of a part for a Map-Server at a time, in ms (RFC 9301 section 5.6). A nonce that has to be saved is
+    /// saved before it is sent.
+    pub fn lisp_registration_router_send(
+        router: *mut lisp_router,
+        server: usize,
+        part: usize,
+        now: u64,
+        buffer: *mut u8,
+        room: usize,
+        sent: *mut lisp_sent,
+    ) -> u16;
+
+    /// Receives a datagram that came from an address at a time, in ms (RFC 9301 section 5.7).
+    pub fn lisp_registration_router_receive(
+        router: *mut lisp_router,
+        from: *const lisp_address,
+        bytes: *const u8,
+        length: usize,
+        now: u64,
+        buffer: *mut u8,
+        room: usize,
+        seen: *mut lisp_seen,
+    ) -> u16;
+
+    /// Registers from a time on, in ms, the records that a configuration has for a name.
+    pub fn lisp_registration_router_change(
+        configuration: *const u8,
+        length: usize,
+        name: *const u8,
+        name_length: usize,
+        now: u64,
+        router: *mut lisp_router,
     ) -> u16;
 }

@@ -1,9 +1,9 @@
 //! That the structs and numbers are those of the C header: a C compiler is asked, where there is one.
 
+mod header;
+
 use lisp_registration_sys::*;
 use std::mem::{align_of, offset_of, size_of};
-use std::path::Path;
-use std::process::Command;
 
 /// What C has to find true: the size of each struct, and where each of its fields lies.
 macro_rules! layouts {
@@ -36,6 +36,14 @@ fn claims() -> Vec<String> {
         lisp_pair { site, xtr, key_id, is_there }
         lisp_nonce { nonce, is_there }
         lisp_received { nonce, site, xtr, key_id, accepted, reply_length }
+        lisp_row { nonce, site, accepted, life, xtr, from, key_id, proxy, is_there, record }
+        lisp_answer { kind, to, record }
+        lisp_router_id { site, xtr, is_there }
+        lisp_notice { nonce, to, length }
+        lisp_router { core }
+        lisp_due { server, part, is_there }
+        lisp_sent { nonce, must_save, to, length }
+        lisp_seen { nonce, server, part, is_notice, reply_length }
     };
     let values = values![
         LISP_DONE,
@@ -52,6 +60,14 @@ fn claims() -> Vec<String> {
         LISP_MISSING,
         LISP_BAD_VALUE,
         LISP_REPEATED,
+        LISP_NO_SERVER,
+        LISP_ROUTER_NONCE_SPENT,
+        LISP_ROUTER_READ,
+        LISP_ROUTER_NOT_MINE,
+        LISP_WRONG_KEY,
+        LISP_ROUTER_BAD_AUTH,
+        LISP_STALE,
+        LISP_NO_PART,
         LISP_READ,
         LISP_UNKNOWN_SITE,
         LISP_UNKNOWN_KEY,
@@ -61,6 +77,11 @@ fn claims() -> Vec<String> {
         LISP_REPLAY,
         LISP_NO_NOTICE,
         LISP_NOT_MINE,
+        LISP_NOT_REGISTERED,
+        LISP_TOO_LARGE,
+        LISP_NONCE_SPENT,
+        LISP_NOT_DUE,
+        LISP_CLOCK,
         LISP_NOT_UTF8,
         LISP_NULL,
         LISP_LENGTH,
@@ -68,33 +89,26 @@ fn claims() -> Vec<String> {
         LISP_FIELD,
         LISP_COUNTS,
         LISP_OUT_OF_MEMORY,
+        LISP_NO_ROUTER,
         LISP_MAP_REGISTER,
         LISP_MAP_NOTIFY,
         LISP_MAP_NOTIFY_ACK,
         LISP_IPV4,
         LISP_IPV6,
-        LISP_RECORDS_AT
+        LISP_RECORDS_AT,
+        LISP_LOCATORS,
+        LISP_MESSAGE_ROOM,
+        LISP_ANSWER_NO_SITE,
+        LISP_ANSWER_NOT_REGISTERED,
+        LISP_ANSWER_REPLY,
+        LISP_ANSWER_FORWARD
     ];
     layouts.into_iter().chain(values).collect()
 }
 
 #[test]
 fn the_header_agrees() {
-    let source = Path::new(env!("CARGO_TARGET_TMPDIR")).join("layout.c");
-    let lines = claims()
-        .iter()
-        .map(|claim| format!("_Static_assert({claim}, \"\");\n"))
-        .collect::<String>();
-    std::fs::write(&source, format!("#include <lisp_registration.h>\n{lines}")).unwrap();
-    let include = concat!(env!("CARGO_MANIFEST_DIR"), "/../../../include");
-    match Command::new("cc")
-        .args(["-std=c11", "-fsyntax-only", "-I", include])
-        .arg(&source)
-        .status()
-    {
-        Ok(status) => assert!(status.success()),
-        Err(_) => println!("no cc: the header was not read"),
-    }
+    header::agrees("layout.c", &claims());
 }
 
 /// The layouts that x86-64 and other machines of 64 bits give the structs of the header.
@@ -110,11 +124,21 @@ fn sizes_and_alignments() {
         (size_of::<lisp_pair>(), align_of::<lisp_pair>()),
         (size_of::<lisp_nonce>(), align_of::<lisp_nonce>()),
         (size_of::<lisp_received>(), align_of::<lisp_received>()),
+        (size_of::<lisp_row>(), align_of::<lisp_row>()),
+        (size_of::<lisp_answer>(), align_of::<lisp_answer>()),
+        (size_of::<lisp_router_id>(), align_of::<lisp_router_id>()),
+        (size_of::<lisp_notice>(), align_of::<lisp_notice>()),
+        (size_of::<lisp_router>(), align_of::<lisp_router>()),
+        (size_of::<lisp_due>(), align_of::<lisp_due>()),
+        (size_of::<lisp_sent>(), align_of::<lisp_sent>()),
+        (size_of::<lisp_seen>(), align_of::<lisp_seen>()),
     ];
     let messages = [(18, 2), (40, 8), (48, 8), (64, 8)];
-    let servers = [(8, 8), (32, 8), (16, 8), (48, 8)];
+    let servers = [(8, 8), (32, 8), (16, 8), (48, 8), (120, 8), (72, 8), (32, 8), (40, 8)];
+    let routers = [(8, 8), (24, 8), (40, 8), (40, 8)];
     assert_eq!(found[..4], messages);
-    assert_eq!(found[4..], servers);
+    assert_eq!(found[4..12], servers);
+    assert_eq!(found[12..], routers);
     assert_eq!(offset_of!(lisp_received, reply_length), 40);
     assert_eq!(offset_of!(lisp_locator, address), 8);
     assert_eq!(offset_of!(lisp_record, eid), 10);

@@ -2,7 +2,8 @@
 //!
 //! The work is done by liblisp_registration.a, whose functions are proved. This crate gives them Rust's types: a [`Datagram`]
 //! borrows the bytes that it was read from, its records and locators are iterators over them, and [`write()`] makes the
-//! datagram of a [`Message`] and its records. A Map-Server's core is in [`server`]. Only `raw` has unsafe code.
+//! datagram of a [`Message`] and its records. A Map-Server's core is in [`server`], and a router's in [`router`]. Only `raw` has
+//! unsafe code.
 //!
 //! ```
 //! use lisp_registration::{write, Datagram, Kind, Message};
@@ -17,13 +18,17 @@
 #![deny(unsafe_code)]
 
 mod address;
+mod clock_error;
 mod datagram;
 mod error;
 mod message;
+mod pair;
 #[allow(unsafe_code)]
 mod raw;
 mod record;
+pub mod router;
 pub mod server;
+mod start_error;
 mod tag;
 mod writing;
 
@@ -33,3 +38,6 @@ pub use message::{Kind, Message, Registration};
 pub use record::{Locator, Record, RecordWithLocators};
 pub use tag::{is_authentic, sign};
 pub use writing::{write, write_into};
+
+/// The room that a buffer needs for any datagram that a Map-Server or a router sends by itself, in bytes.
+pub const MESSAGE_ROOM: usize = lisp_registration_sys::LISP_MESSAGE_ROOM;

@@ -3,6 +3,12 @@
 //! A slice's pointer is never null and always aligned, its length is below `isize::MAX` bytes, and a mutable borrow overlaps
 //! no other: so what the functions ask of pointers is kept by the types here.
 
+mod router;
+mod server;
+
+pub(crate) use router::{router_pair, RouterHandle};
+pub(crate) use server::{pair, ServerHandle};
+
 use lisp_registration_sys::*;
 
 /// Reads a message but its records (RFC 9301 sections 5.6 and 5.7).
@@ -76,73 +82,6 @@ pub(crate) fn write_message(
         )
     };
     done(number, length).map_err(|number| (number, length))
-}
-
-/// A handle that holds a Map-Server, and stops it where it is dropped. Its pointer keeps it on one thread.
-#[derive(Debug)]
-pub(crate) struct Handle(lisp_server);
-
-impl Handle {
-    /// Starts a Map-Server of the sites of a configuration.
-    pub(crate) fn start(configuration: &[u8]) -> Result<Handle, u16> {
-        let mut server = lisp_server::default();
-        // SAFETY: the pointers are of a slice and of a local that holds none, and live for the call.
-        let number = unsafe {
-            lisp_registration_server_start(configuration.as_ptr(), configuration.len(), &mut server)
-        };
-        done(number, ())?;
-        Ok(Handle(server))
-    }
-
-    /// Starts the Map-Server again, as after a crash.
-    pub(crate) fn restart(&mut self) -> Result<(), u16> {
-        // SAFETY: the pointer is of a handle that is borrowed mutably, and only these functions change.
-        let number = unsafe { lisp_registration_server_restart(&mut self.0) };
-        done(number, ())
-    }
-
-    /// Receives a datagram (RFC 9301 section 8.2).
-    pub(crate) fn receive(
-        &mut self,
-        kept: &lisp_nonce,
-        from: &lisp_address,
-        bytes: &[u8],
-        now: u64,
-        buffer: &mut [u8],
-    ) -> Result<lisp_received, u16> {
-        let mut received = lisp_received::default();
-        // SAFETY: the pointers are of references and slices that live for the call; the handle, the buffer and the local that
-        // are written are borrowed mutably, and so overlap no other. Any time is allowed.
-        let number = unsafe {
-            lisp_registration_server_receive(
-                &mut self.0,
-                kept,
-                from,
-                bytes.as_ptr(),
-                bytes.len(),
-                now,
-                buffer.as_mut_ptr(),
-                buffer.len(),
-                &mut received,
-            )
-        };
-        done(number, received)
-    }
-}
-
-impl Drop for Handle {
-    fn drop(&mut self) {
-        // SAFETY: the pointer is of a handle that is borrowed mutably, and only these functions change.
-        unsafe { lisp_registration_server_stop(&mut self.0) }
-    }
-}
-
-/// The pair whose last nonce a datagram needs.
-pub(crate) fn pair(bytes: &[u8]) -> lisp_pair {
-    let mut pair = lisp_pair::default();
-    // SAFETY: the pointers are of a slice and of a local, and live for the call.
-    unsafe { lisp_registration_server_pair(bytes.as_ptr(), bytes.len(), &mut pair) }
-    pair
 }
 
 fn done<T>(number: u16, value: T) -> Result<T, u16> {

@@ -10,16 +10,65 @@
 //!
 //! Who sends first, or doesn't save, loses what is promised: after a crash the same Map-Register is accepted again, so that
 //! whoever recorded it can bring an old mapping back.
+//!
+//! From time to time it calls [`MapServer::expire`], so that dead rows take no memory, and while [`MapServer::due`] names a router
+//! it sends what [`MapServer::resend`] gives. [`MapServer::rows`] and [`MapServer::answer`] tell what is held.
+//!
+//! ```
+//! use lisp_registration::server::{pair, MapServer, Received};
+//! # use lisp_registration::server::Pair;
+//! # use std::{error::Error, net::IpAddr};
+//! # fn load(_pair: &Pair) -> std::io::Result<Option<u64>> { Ok(None) }
+//! # fn save(_pair: &Pair, _nonce: u64) -> std::io::Result<()> { Ok(()) }
+//!
+//! /// One datagram's way: the answer to send to where it came from, if there is one.
+//! fn answer<'a>(
+//!     server: &mut MapServer,
+//!     from: IpAddr,
+//!     datagram: &[u8],
+//!     now_ms: u64,
+//!     buffer: &'a mut [u8],
+//! ) -> Result<Option<&'a [u8]>, Box<dyn Error>> {
+//!     let kept = match pair(datagram) {
+//!         Some(pair) => load(&pair)?,
+//!         None => None,
+//!     };
+//!     match server.receive(kept, from, datagram, now_ms, buffer)? {
+//!         Received::Accepted { pair, nonce, reply } => match save(&pair, nonce) {
+//!             Ok(()) => Ok(reply),
+//!             Err(fault) => {
+//!                 server.restart(); // whether the nonce is kept is open
+//!                 Err(fault.into())
+//!             }
+//!         },
+//!         Received::NoticeDone { .. } => Ok(None),
+//!     }
+//! }
+//! ```
 
-mod error;
+mod answer;
+mod notice;
+mod refusal;
+mod row;
 
-pub use error::{Refusal, StartError};
+pub use crate::clock_error::ClockError;
+pub use crate::pair::{Pair, RouterId};
+pub use crate::start_error::StartError;
+pub use answer::Answer;
+pub use notice::{Notice, NoticeError, Resent};
+pub use refusal::Refusal;
+pub use row::{Row, Rows};
 
-use crate::address;
 use crate::datagram::Datagram;
-use crate::raw;
-use lisp_registration_sys::{lisp_nonce, lisp_received, LISP_READ, LISP_ROOM};
+use crate::pair::kept_to_raw;
+use crate::{address, raw};
+use lisp_registration_sys::{lisp_received, LISP_CLOCK, LISP_READ, LISP_ROOM};
 use std::net::IpAddr;
+
+/// What holds of each handle here.
+const HOLDS: &str = "a MapServer holds a Map-Server";
+/// What holds of each room for locators here.
+const ROOM: &str = "a MapServer holds a Map-Server, and there is room for all locators";
 
 /// A Map-Server: the sites that it serves, the rows that it holds, and the last nonces that it accepted since its start. It is
 /// stopped where it is dropped.
@@ -42,18 +91,7 @@ use std::net::IpAddr;
 /// ```
 #[derive(Debug)]
 pub struct MapServer {
-    handle: raw::Handle,
-}
-
-/// What a nonce is kept for: a router, and the Key ID that it used.
-#[derive(Clone, Copy, Debug, PartialEq, Eq, Hash, PartialOrd, Ord)]
-pub struct Pair {
-    /// The Site-ID of the router.
-    pub site: u64,
-    /// Its xTR-ID.
-    pub xtr: [u8; 16],
-    /// The Key ID.
-    pub key_id: u8,
+    handle: raw::ServerHandle,
 }
 
 /// What a Map-Server took.
@@ -86,17 +124,16 @@ impl MapServer {
     ///
     /// # Errors
     ///
-    /// Each [`StartError`].
+    /// Each [`StartError`] but [`StartError::NoRouter`].
     pub fn start(configuration: &str) -> Result<MapServer, StartError> {
-        let handle = raw::Handle::start(configuration.as_bytes()).map_err(StartError::of)?;
+        let handle = raw::ServerHandle::start(configuration.as_bytes()).map_err(StartError::of)?;
         Ok(MapServer { handle })
     }
 
     /// Starts the Map-Server again, as after a crash: its rows and its nonces are gone, its sites stay. Its routers come back with
     /// their next Map-Registers. To be called where an accepted nonce can't be saved.
     pub fn restart(&mut self) {
-        let answer = self.handle.restart();
-        answer.expect("a MapServer holds a Map-Server");
+        self.handle.restart().expect(HOLDS);
     }
 
     /// Receives a datagram that came from an address at a time, in ms, which must not go back (RFC 9301 section 8.2). `kept` is
@@ -119,11 +156,88 @@ impl MapServer {
         now_ms: u64,
         buffer: &'a mut [u8],
     ) -> Result<Received<'a>, Refusal> {
-        let kept = lisp_nonce { nonce: kept.unwrap_or(0), is_there: kept.is_some().into() };
         let from = address::to_raw(from);
-        match self.handle.receive(&kept, &from, datagram, now_ms, buffer) {
+        match self.handle.receive(&kept_to_raw(kept), &from, datagram, now_ms, buffer) {
             Ok(received) => Ok(Received::from_raw(&received, buffer)),
             Err(number) => Err(refusal(number, datagram)),
+        }
+    }
+
+    /// Drops the rows that are dead at a time, in ms: they outlived their lifetime. Without it they stay in memory, though nothing
+    /// below tells them.
+    ///
+    /// # Errors
+    ///
+    /// [`ClockError`] for a time above 2^62 ms; all is then as it was.
+    pub fn expire(&mut self, now_ms: u64) -> Result<(), ClockError> {
+        self.handle.expire(now_ms).map_err(|number| match number {
+            LISP_CLOCK => ClockError,
+            _ => unreachable!("liblisp_registration.a answered {number}"),
+        })
+    }
+
+    /// The rows that are alive at a time, in ms, each once (RFC 9301 section 8.2). The library takes no memory for them.
+    pub fn rows(&mut self, now_ms: u64) -> Rows<'_> {
+        Rows::new(self, now_ms)
+    }
+
+    /// Who answers for an address at a time, in ms, by the rows that are alive then (RFC 9301 section 8.3; docs/PROTOCOL.md has the
+    /// order of several). The library takes no memory for it.
+    pub fn answer(&mut self, address: IpAddr, now_ms: u64) -> Answer {
+        let mut locators = row::room_for_locators();
+        let answer = self.handle.answer(&address::to_raw(address), now_ms, &mut locators);
+        Answer::from_raw(&answer.expect(ROOM), &locators)
+    }
+
+    /// Makes a notice for a router: a Map-Notify of the records of it that are alive at a time, in ms (RFC 9301 section 5.7). `kept`
+    /// is the nonce that the program saved last for a notice of this Map-Server, to whichever router, or `None` if it never saved
+    /// one; it is kept apart from those of pairs. The buffer needs [`MESSAGE_ROOM`](crate::MESSAGE_ROOM) bytes.
+    ///
+    /// The program saves the nonce, so that no crash loses it, and only then sends the datagram. Where the save fails it sends
+    /// nothing and calls [`MapServer::restart`]. Who sends first, or doesn't save, may send two notices under one nonce, so that the
+    /// acknowledgement of one ends the other.
+    ///
+    /// The notice stands until its acknowledgement is received, and is due again meanwhile ([`MapServer::due`]). It takes the place
+    /// of one to that router that still stands.
+    ///
+    /// # Errors
+    ///
+    /// Each [`NoticeError`] but [`NoticeError::NotDue`]; all is then as it was.
+    pub fn notify<'a>(
+        &mut self,
+        kept: Option<u64>,
+        router: RouterId,
+        now_ms: u64,
+        buffer: &'a mut [u8],
+    ) -> Result<Notice<'a>, NoticeError> {
+        match self.handle.notify(&kept_to_raw(kept), &router.to_raw(), now_ms, buffer) {
+            Ok(notice) => Ok(Notice::from_raw(&notice, buffer)),
+            Err(number) => Err(NoticeError::of(number)),
+        }
+    }
+
+    /// The least router, by Site-ID, then xTR-ID, to which a notice is due again at a time, in ms: 3, 3, 3, 6, 12 and 24 s after it
+    /// was last sent. Then [`MapServer::resend`] is called. `None` where none is due.
+    pub fn due(&mut self, now_ms: u64) -> Option<RouterId> {
+        RouterId::from_raw(&self.handle.due(now_ms).expect(HOLDS))
+    }
+
+    /// Sends a router again the notice that is due at a time, in ms: the same datagram, with nothing to save (RFC 9301 section 5.7).
+    /// The buffer needs [`MESSAGE_ROOM`](crate::MESSAGE_ROOM) bytes.
+    ///
+    /// # Errors
+    ///
+    /// [`NoticeError::Room`], [`NoticeError::Clock`], [`NoticeError::NotDue`] or [`NoticeError::OutOfMemory`]; the notice is then as
+    /// due as it was.
+    pub fn resend<'a>(
+        &mut self,
+        router: RouterId,
+        now_ms: u64,
+        buffer: &'a mut [u8],
+    ) -> Result<Resent<'a>, NoticeError> {
+        match self.handle.resend(&router.to_raw(), now_ms, buffer) {
+            Ok(notice) => Ok(Resent::from_raw(&notice, buffer)),
+            Err(number) => Err(NoticeError::of(number)),
         }
     }
 }
@@ -132,8 +246,7 @@ impl MapServer {
 /// checked yet: anyone may have sent it.
 #[must_use]
 pub fn pair(datagram: &[u8]) -> Option<Pair> {
-    let pair = raw::pair(datagram);
-    (pair.is_there != 0).then_some(Pair { site: pair.site, xtr: pair.xtr, key_id: pair.key_id })
+    Pair::from_raw(&raw::pair(datagram))
 }
 
 impl<'a> Received<'a> {

@@ -5,9 +5,13 @@
 
 mod common;
 
-use common::{address, map_notify, map_register, record, registration, CONFIGURATION, SECRET};
-use lisp_registration::server::{MapServer, Received, Refusal, StartError};
-use lisp_registration::{write_into, Error};
+use common::{
+    accept, address, map_notify, map_register, notification, record, registration, CONFIGURATION,
+    FIRST_NOTICE, ROUTER, ROUTER_ADDRESS, SECRET, SERVER_ADDRESSES,
+};
+use lisp_registration::router::{self, Due, Router, Seen, SendError};
+use lisp_registration::server::{MapServer, NoticeError, Received, Refusal, StartError};
+use lisp_registration::{write, write_into, Error, Message, MESSAGE_ROOM};
 use std::alloc::{GlobalAlloc, Layout};
 use std::cell::Cell;
 use std::ffi::c_void;
@@ -155,7 +159,7 @@ fn exchanged(
     granted: usize,
     buffer: &mut [u8],
 ) -> (Result<usize, Refusal>, Calls) {
-    let (bytes, from) = (map_register(), address("127.0.0.21"));
+    let (bytes, from) = (map_register(), address(ROUTER_ADDRESS));
     counted(granted, || match server.receive(kept, from, &bytes, 0, buffer)? {
         Received::Accepted { reply, .. } => Ok(reply.map_or(0, <[u8]>::len)),
         Received::NoticeDone { .. } => panic!("no notice stands"),
@@ -183,11 +187,150 @@ fn a_refusal_for_no_memory_changes_nothing() {
         assert!(calls.made > 0);
         for granted in 0..calls.made {
             let number = refused_at_first(kept, granted);
-            assert!(matches!(number, 58 | 59), "{number}");
+            assert_eq!(number, Refusal::OutOfMemory.number());
         }
     }
-    let numbers = [Refusal::OutOfMemory.number(), Refusal::NonceOutOfMemory.number()];
-    assert_eq!(numbers, [58, 59]);
+    assert_eq!(Refusal::OutOfMemory.number(), 58);
+}
+
+/// Does what takes memory with one thing after another that is made for it, where more and more calls get some until it succeeds:
+/// the numbers of its faults, each once in their order. Nothing that is made keeps memory once it is dropped.
+fn faults<T, V>(
+    mut make: impl FnMut() -> T,
+    mut does: impl FnMut(&mut T) -> Result<V, u16>,
+) -> Vec<u16> {
+    let mut numbers = Vec::new();
+    for granted in 0.. {
+        let (mut it, made) = counted(usize::MAX, &mut make);
+        let (result, calls) = counted(granted, || does(&mut it));
+        let ((), dropped) = counted(usize::MAX, || drop(it));
+        assert_eq!(made.held + calls.held + dropped.held, 0);
+        match result {
+            Ok(_) => break,
+            Err(number) => numbers.push(number),
+        }
+    }
+    numbers.dedup();
+    numbers
+}
+
+/// A Map-Server that accepted the worked Map-Register.
+fn registered() -> MapServer {
+    let mut server = MapServer::start(CONFIGURATION).unwrap();
+    accept(&mut server, &map_register(), 0);
+    server
+}
+
+/// A Map-Server to whose router a notice is due 3 s after time 0.
+fn notified() -> MapServer {
+    let mut server = registered();
+    let _ = server.notify(None, ROUTER, 0, &mut [0; MESSAGE_ROOM]).unwrap();
+    server
+}
+
+#[test]
+fn a_notice_that_gets_no_memory_is_none() {
+    for kept in [None, Some(0)] {
+        let numbers = faults(registered, |server| {
+            let mut buffer = [0xee; MESSAGE_ROOM];
+            let result = server.notify(kept, ROUTER, 0, &mut buffer);
+            let result = result.map(|notice| notice.nonce).map_err(NoticeError::number);
+            assert!(result.is_ok() || buffer == [0xee; MESSAGE_ROOM]);
+            assert_eq!(server.due(3_000), result.is_ok().then_some(ROUTER));
+            result
+        });
+        assert_eq!(numbers, [66]);
+    }
+    let numbers = faults(notified, |server| {
+        let mut buffer = [0xee; MESSAGE_ROOM];
+        let result = server.resend(ROUTER, 3_000, &mut buffer);
+        let result = result.map(|_| ()).map_err(NoticeError::number);
+        assert!(result.is_ok() || buffer == [0xee; MESSAGE_ROOM]);
+        assert_eq!(server.due(3_000), result.is_err().then_some(ROUTER));
+        result
+    });
+    assert_eq!(numbers, [66]);
+}
+
+/// What the router has to send to its first Map-Server.
+const FIRST: Due = Due { server: 0, part: 0 };
+
+fn started() -> Router {
+    Router::start(CONFIGURATION, "r1", None, 0).unwrap()
+}
+
+#[test]
+fn a_router_that_gets_no_memory_is_none() {
+    let start = |_: &mut ()| Router::start(CONFIGURATION, "r1", Some(1), 0);
+    let numbers = faults(|| (), |it| start(it).map(drop).map_err(StartError::number));
+    assert_eq!(numbers, [24, 105]);
+    let pair = |_: &mut ()| router::pair(CONFIGURATION, "r1").map_err(StartError::number);
+    let numbers = faults(|| (), pair);
+    assert_eq!(numbers, [24, 105]);
+    let change = |router: &mut Router| router.change(CONFIGURATION, "r2", 0);
+    let numbers = faults(started, |router| change(router).map_err(StartError::number));
+    assert_eq!(numbers, [24, 105]);
+}
+
+#[test]
+fn a_map_register_that_gets_no_memory_is_none() {
+    let numbers = faults(started, |router| {
+        let mut buffer = [0xee; MESSAGE_ROOM];
+        let result = router.send(FIRST, 0, &mut buffer);
+        let result = result.map(|sent| sent.save).map_err(SendError::number);
+        assert!(matches!(result, Ok(Some(1))) || buffer == [0xee; MESSAGE_ROOM]);
+        assert_eq!(router.due(0) == Some(FIRST), result.is_err());
+        result
+    });
+    assert_eq!(numbers, [48]);
+}
+
+#[test]
+fn an_answer_of_a_router_that_gets_no_memory_is_none() {
+    let notice = Message { nonce: FIRST_NOTICE, ..notification() };
+    let notice = write(&notice, &[record()], SECRET).unwrap();
+    for datagram in [map_notify(), notice] {
+        let sent = || {
+            let mut router = started();
+            let _ = router.send(FIRST, 0, &mut [0; MESSAGE_ROOM]).unwrap();
+            router
+        };
+        let numbers = faults(sent, |router| {
+            let (from, mut buffer) = (address(SERVER_ADDRESSES[0]), [0xee; 60]);
+            let result = router.receive(from, &datagram, 0, &mut buffer);
+            let result = result.map(|seen| matches!(seen, Seen::Notice { .. }));
+            assert!(result == Ok(true) || buffer == [0xee; 60]);
+            result.map_err(router::Refusal::number)
+        });
+        assert_eq!(numbers, [48]);
+    }
+}
+
+#[test]
+fn what_is_told_takes_no_memory() {
+    let (mut server, mut router) = (notified(), started());
+    let (told, calls) = counted(0, || {
+        let rows = server.rows(0).count();
+        let answer = server.answer(address("10.1.0.0"), 0);
+        let due = (server.due(3_000), router.due(0));
+        (rows, answer, due, server.expire(180_000))
+    });
+    let (rows, _, due, expired) = told;
+    assert_eq!((rows, due, expired), (1, (Some(ROUTER), Some(FIRST)), Ok(())));
+    assert_eq!(calls.made, 0);
+}
+
+#[test]
+fn what_is_stopped_keeps_no_memory() {
+    let (router, started) = counted(usize::MAX, || {
+        let mut router = started();
+        let _ = router.send(FIRST, 0, &mut [0; MESSAGE_ROOM]).unwrap();
+        router
+    });
+    let (server, notified) = counted(usize::MAX, notified);
+    assert!(started.held > 0 && notified.held > 0);
+    let ((), stopped) = counted(0, || drop((router, server)));
+    assert_eq!((stopped.made, stopped.held), (0, -started.held - notified.held));
 }
 
 #[test]

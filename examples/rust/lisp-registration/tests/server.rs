@@ -5,15 +5,12 @@
 mod common;
 
 use common::{
-    address, cut_short, map_notify, map_register, notification, record, registration, wrong_tag,
-    CONFIGURATION, SECRET,
+    address, cut_short, map_notify, map_register, notification, record, register, registration,
+    wrong_tag, CONFIGURATION, PAIR, ROUTER_ADDRESS, SECRET,
 };
 use lisp_registration::server::{pair, MapServer, Pair, Received, Refusal, StartError};
 use lisp_registration::{sign, write, Datagram, Error, Kind, Message, RecordFault, Registration};
 use std::error::Error as _;
-
-/// The pair of the worked Map-Register.
-const PAIR: Pair = Pair { site: 1, xtr: 10_u128.to_be_bytes(), key_id: 1 };
 
 fn started() -> MapServer {
     MapServer::start(CONFIGURATION).unwrap()
@@ -26,7 +23,7 @@ fn answer(
     datagram: &[u8],
 ) -> Result<(u64, Option<Vec<u8>>), Refusal> {
     let mut buffer = [0xee; 1500];
-    match server.receive(kept, address("127.0.0.21"), datagram, 1000, &mut buffer)? {
+    match server.receive(kept, address(ROUTER_ADDRESS), datagram, 1000, &mut buffer)? {
         Received::Accepted { pair, nonce, reply } => {
             assert_eq!(pair, PAIR);
             Ok((nonce, reply.map(<[u8]>::to_vec)))
@@ -37,7 +34,7 @@ fn answer(
 
 /// The worked Map-Register with another nonce.
 fn with_nonce(nonce: u64) -> Vec<u8> {
-    write(&Message { nonce, ..registration() }, &[record()], SECRET).unwrap()
+    register(nonce, &[record()])
 }
 
 /// The worked Map-Register, changed.
@@ -59,7 +56,7 @@ fn the_worked_exchange() {
 
 #[test]
 fn the_buffer_needs_the_room_of_the_datagram_and_keeps_the_rest() {
-    let (mut server, bytes, from) = (started(), map_register(), address("127.0.0.21"));
+    let (mut server, bytes, from) = (started(), map_register(), address(ROUTER_ADDRESS));
     let mut buffer = vec![0xee; bytes.len()];
     let needed = bytes.len();
     for room in [0, needed - 1] {

@@ -19,7 +19,8 @@ use Rattle.lisp_model.proofs.Examples.NearMisses.Common.{nothing_is_no_number, o
 use Rattle.lisp_model.specs.Story.{at, blank, got_from, keeps, one, sent_by, step, two}
 use Rattle.lisp_model.proofs.Examples.Samples.{blocks, failed, one_left, spent}
 use Rattle.lisp_model.proofs.Examples.Traces.{one_left_taken, spent_taken}
-use Rattle.lisp_model.proofs.KeptLemmas.{kept_at-empty, only_value, set_here, set_others}
+use Rattle.lisp_nonces.proofs.Kept.{kept_at-empty}
+use Rattle.lisp_model.proofs.KeptLemmas.{only_value, set_here, set_others}
 
 -- a router sends a nonce of the notices
 past_the_last_nonce : Legal spent [] (step (events.Send 2 0 0 fates.Done) (lines.Sent 2 0 0 1 (2 ^ 63) 0) 2 (keeps blank (sent_by one) (2 ^ 63))) → ⊥

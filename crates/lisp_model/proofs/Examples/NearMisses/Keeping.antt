@@ -23,7 +23,8 @@ use Rattle.lisp_model.proofs.Examples.NearMisses.Common.{first, first_item, item
 use Rattle.lisp_model.specs.Story.{at, blank, got_from, keeps, network, one, one_sent, one_taken, opening, sent_by, step, two}
 use Rattle.lisp_model.proofs.Examples.Samples.{doubts, failed}
 use Rattle.lisp_model.proofs.Examples.Traces.{foreign_sent, not_started, short, waited}
-use Rattle.lisp_model.proofs.KeptLemmas.{kept_at-empty, only_value, set_here, set_others}
+use Rattle.lisp_nonces.proofs.Kept.{kept_at-empty}
+use Rattle.lisp_model.proofs.KeptLemmas.{only_value, set_here, set_others}
 use Rattle.lisp_records.specs.Parts.{cut, cut_from}
 use Rattle.lisp_records.specs.Written.{written}
 

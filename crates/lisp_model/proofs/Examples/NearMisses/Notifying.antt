@@ -22,7 +22,8 @@ use Rattle.lisp_model.proofs.Examples.NearMisses.Common.{last_is, never}
 use Rattle.lisp_model.specs.Story.{at, blank, got_from, keeps, local_at, mapping, one, one_taken, opening, step, two, wide}
 use Rattle.lisp_model.proofs.Examples.Samples.{failed, refuses, registers, repeats, spent, tells}
 use Rattle.lisp_model.proofs.Examples.Traces.{first_told, registered_again, spent_taken, told_and_gone, waited}
-use Rattle.lisp_model.proofs.KeptLemmas.{kept_at-empty, only_value, set_here, set_others}
+use Rattle.lisp_nonces.proofs.Kept.{kept_at-empty}
+use Rattle.lisp_model.proofs.KeptLemmas.{only_value, set_here, set_others}
 use Rattle.lisp_records.specs.Parts.{cut, cut_from}
 
 -- a record is told after a restart

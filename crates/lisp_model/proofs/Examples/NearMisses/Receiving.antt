@@ -30,7 +30,7 @@ use Rattle.lisp_model.specs.Story.{at, blank, got_from, keeps, local_at, mapping
 use Rattle.lisp_model.proofs.Examples.Samples.{answered, fails_load, refuses, registers, told, told_to}
 use Rattle.lisp_model.proofs.Examples.Traces.{first_told, foreign, foreign_sent, restarted, sent_twice, was_noticed}
 use Rattle.lisp_model.proofs.ItemLemmas.{bad_tag, is_not_allowed, item_authentic}
-use Rattle.lisp_model.proofs.KeptLemmas.{kept_at-empty}
+use Rattle.lisp_nonces.proofs.Kept.{kept_at-empty}
 use Rattle.lisp_records.specs.Parts.{cut, cut_from}
 use Rattle.lisp_records.specs.Written.{written}
 

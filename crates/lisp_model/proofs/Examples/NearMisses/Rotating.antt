@@ -17,7 +17,8 @@ use Rattle.lisp_model.specs.Story.{blank, keeps, one, sent_by, step}
 use Rattle.lisp_model.proofs.Examples.NearMisses.Common.{never, no_database, repeated}
 use Rattle.lisp_model.proofs.Examples.Samples.{failed}
 use Rattle.lisp_model.proofs.Examples.Rotations.{back, emptied, keeps_its_key, loses, loses_and_fails, not_emptied, other_number, renewed, rotates, rotating, sends_under, sent_back, shows, started, under, keys_differ}
-use Rattle.lisp_model.proofs.KeptLemmas.{kept_at-empty, only_value, set_here, set_others}
+use Rattle.lisp_nonces.proofs.Kept.{kept_at-empty}
+use Rattle.lisp_model.proofs.KeptLemmas.{only_value, set_here, set_others}
 use Rattle.lisp_model.proofs.ListLemmas.{at_head, in_none}
 
 -- after it went over to another key, a router counts on from its nonce under the old one

@@ -15,7 +15,8 @@ use Rattle.lisp_model.proofs.Examples.NearMisses.Common.{never, no_database, onl
 use Rattle.lisp_model.specs.Story.{blank, keeps, one, opening, sends, sent_by, step, two}
 use Rattle.lisp_model.proofs.Examples.Samples.{changes, refuses, spent}
 use Rattle.lisp_model.proofs.Examples.Traces.{not_started, short}
-use Rattle.lisp_model.proofs.KeptLemmas.{kept_at-empty, only_value}
+use Rattle.lisp_nonces.proofs.Kept.{kept_at-empty}
+use Rattle.lisp_model.proofs.KeptLemmas.{only_value}
 
 -- the first nonce is 1
 first_is_two : Legal opening [] (sends [] 0 2 0) → ⊥

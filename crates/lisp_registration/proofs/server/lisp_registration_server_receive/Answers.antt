@@ -7,4 +7,4 @@ pub returns-in-Some-take-clause-received : goal.returns-in-Some-take-clause-rece
 returns-in-Some-take-clause-received c =
     is_received (kept_in c.args.kept.now) c.args.from.now c.in-Some.from c.args.bytes.now c.args.buffer.now c.args.now c.args.server.now.value c.in-Some-take.hosted.value c.args.received.now c.receive_kept-answer.new.server c.receive_kept-answer.result _
     (sym c.addr.ensures ∙ c.in-Some.is) (omega (arith, c.if-bytes-buffer.false)) c.in-Some-take.ensures.value (rw (c.kept.ensures, c.deref_mut.ensures.value) at c.receive_kept-answer.ensures.taken)
-    (rw (c.kept.ensures, c.deref_mut.ensures.value) at c.receive_kept-answer.ensures.refused) (rw c.deref_mut.ensures.value at c.receive_kept-answer.ensures.err) (λ i. ((c.tell_received.ensures i).0, (c.of.ensures i, (c.tell_received.ensures i).1)))
+    (rw (c.kept.ensures, c.deref_mut.ensures.value) at c.receive_kept-answer.ensures.refused) c.receive_kept-answer.ensures.storeless (rw c.deref_mut.ensures.value at c.receive_kept-answer.ensures.err) (λ i. ((c.tell_received.ensures i).0, (c.of.ensures i, (c.tell_received.ensures i).1)))

@@ -1,12 +1,29 @@
 //! What the tests share: the datagrams of `examples`, and what they say (`examples/README.md`, `docs/PROTOCOL.md`).
 #![allow(dead_code, missing_docs)]
 
-use lisp_registration::{Kind, Locator, Message, Record, RecordWithLocators, Registration};
+use lisp_registration::server::{MapServer, Pair, Received, RouterId};
+use lisp_registration::{write, Kind, Locator, Message, Record, RecordWithLocators, Registration};
 use std::net::IpAddr;
 
 pub const SECRET: &[u8] = b"secret";
 
 pub const CONFIGURATION: &str = include_str!("../../../../configuration.toml");
+
+/// The first router of the configuration.
+pub const ROUTER: RouterId = RouterId { site: 1, xtr: 10_u128.to_be_bytes() };
+
+/// What its nonces are kept for, which is also the pair of the worked Map-Register.
+pub const PAIR: Pair = Pair { site: ROUTER.site, xtr: ROUTER.xtr, key_id: 1 };
+
+/// The address of the first router, and those of its Map-Servers.
+pub const ROUTER_ADDRESS: &str = "127.0.0.21";
+pub const SERVER_ADDRESSES: [&str; 2] = ["127.0.0.11", "127.0.0.12"];
+
+/// The first nonce of a notice.
+pub const FIRST_NOTICE: u64 = 1 << 63;
+
+/// The last time that may be given, in ms.
+pub const LAST_MOMENT: u64 = 1 << 62;
 
 /// The bytes of hexadecimal digits; `None` for what is no such text.
 pub fn bytes_of(text: &str) -> Option<Vec<u8>> {
@@ -86,4 +103,16 @@ pub fn locator(text: &str) -> Locator {
         probe: false,
         reachable: true,
     }
+}
+
+/// The worked Map-Register with another nonce and with these records.
+pub fn register(nonce: u64, records: &[RecordWithLocators]) -> Vec<u8> {
+    write(&Message { nonce, ..registration() }, records, SECRET).unwrap()
+}
+
+/// Has a Map-Server accept a Map-Register of the first router at a time.
+pub fn accept(server: &mut MapServer, datagram: &[u8], now_ms: u64) {
+    let mut buffer = [0; 65_536];
+    let accepted = server.receive(None, address(ROUTER_ADDRESS), datagram, now_ms, &mut buffer);
+    assert!(matches!(accepted, Ok(Received::Accepted { .. })));
 }

@@ -1,75 +1,11 @@
-//! Why a Map-Server can't be started, or refuses a datagram.
+//! Why a Map-Server refuses a datagram.
 
 use crate::error::Error;
 use lisp_registration_sys::*;
 use std::fmt;
 
-/// The number of no memory to read a configuration, which the header has no name for.
-const CONFIGURATION_OUT_OF_MEMORY: u16 = 24;
 /// The number of no memory to receive a datagram, which the header has no name for.
 const RECEIVE_OUT_OF_MEMORY: u16 = 58;
-/// The number of no memory to keep a nonce, which the header doesn't have.
-const NONCE_OUT_OF_MEMORY: u16 = 59;
-
-/// Why there is no Map-Server of a configuration. The number for bytes that are not UTF-8 (`LISP_NOT_UTF8`) has no variant, since
-/// a `str` is.
-#[derive(Clone, Copy, Debug, PartialEq, Eq)]
-pub enum StartError {
-    /// The configuration is not valid TOML.
-    Toml,
-    /// A field is absent, and has no default.
-    Missing,
-    /// A value is of another type or form, out of its range, or names what isn't there.
-    BadValue,
-    /// Two entries are alike where no two may be.
-    Repeated,
-    /// The library got no memory to read the configuration.
-    ConfigurationOutOfMemory,
-    /// The library got no memory for the Map-Server.
-    OutOfMemory,
-}
-
-impl StartError {
-    /// The number of the fault, as docs/REFUSALS.md and `lispd explain` have it.
-    pub const fn number(self) -> u16 {
-        match self {
-            StartError::Toml => LISP_TOML,
-            StartError::Missing => LISP_MISSING,
-            StartError::BadValue => LISP_BAD_VALUE,
-            StartError::Repeated => LISP_REPEATED,
-            StartError::ConfigurationOutOfMemory => CONFIGURATION_OUT_OF_MEMORY,
-            StartError::OutOfMemory => LISP_OUT_OF_MEMORY,
-        }
-    }
-
-    /// The fault of a number; panics as [`Error::of`] does.
-    pub(super) fn of(number: u16) -> StartError {
-        match number {
-            LISP_TOML => StartError::Toml,
-            LISP_MISSING => StartError::Missing,
-            LISP_BAD_VALUE => StartError::BadValue,
-            LISP_REPEATED => StartError::Repeated,
-            CONFIGURATION_OUT_OF_MEMORY => StartError::ConfigurationOutOfMemory,
-            LISP_OUT_OF_MEMORY => StartError::OutOfMemory,
-            _ => unreachable!("liblisp_registration.a answered {number}"),
-        }
-    }
-}
-
-impl fmt::Display for StartError {
-    fn fmt(&self, f: &mut fmt::Formatter<'_>) -> fmt::Result {
-        f.write_str(match self {
-            StartError::Toml => "the configuration is not valid TOML",
-            StartError::Missing => "a field of the configuration is absent",
-            StartError::BadValue => "a value of the configuration is a bad one",
-            StartError::Repeated => "two entries of the configuration are alike",
-            StartError::ConfigurationOutOfMemory => "out of memory to read the configuration",
-            StartError::OutOfMemory => "out of memory for the Map-Server",
-        })
-    }
-}
-
-impl std::error::Error for StartError {}
 
 /// Why a Map-Server refuses a datagram (docs/PROTOCOL.md has their order). All is then as it was.
 #[derive(Clone, Copy, Debug, PartialEq, Eq)]
@@ -93,8 +29,6 @@ pub enum Refusal {
     Replay,
     /// The library got no memory to read the datagram, to hold its records or to build its answer.
     OutOfMemory,
-    /// The library got no memory to keep the nonce. There is nothing to save.
-    NonceOutOfMemory,
     /// A Map-Notify-Ack that no notice waits for (RFC 9301 section 5.7).
     NoNotice,
     /// A Map-Notify, which is for routers.
@@ -118,7 +52,6 @@ impl Refusal {
             Refusal::NotAllowed => LISP_NOT_ALLOWED,
             Refusal::Replay => LISP_REPLAY,
             Refusal::OutOfMemory => RECEIVE_OUT_OF_MEMORY,
-            Refusal::NonceOutOfMemory => NONCE_OUT_OF_MEMORY,
             Refusal::NoNotice => LISP_NO_NOTICE,
             Refusal::NotMine => LISP_NOT_MINE,
             Refusal::Room { .. } => LISP_ROOM,
@@ -135,7 +68,6 @@ impl Refusal {
             LISP_NOT_ALLOWED => Refusal::NotAllowed,
             LISP_REPLAY => Refusal::Replay,
             RECEIVE_OUT_OF_MEMORY => Refusal::OutOfMemory,
-            NONCE_OUT_OF_MEMORY => Refusal::NonceOutOfMemory,
             LISP_NO_NOTICE => Refusal::NoNotice,
             LISP_NOT_MINE => Refusal::NotMine,
             _ => unreachable!("liblisp_registration.a answered {number}"),
@@ -154,7 +86,6 @@ impl fmt::Display for Refusal {
             Refusal::NotAllowed => f.write_str("the site may not register a prefix"),
             Refusal::Replay => f.write_str("the nonce is not above the last one"),
             Refusal::OutOfMemory => f.write_str("out of memory"),
-            Refusal::NonceOutOfMemory => f.write_str("out of memory to keep the nonce"),
             Refusal::NoNotice => f.write_str("no notice waits for the Map-Notify-Ack"),
             Refusal::NotMine => f.write_str("a Map-Notify is for routers"),
             Refusal::Room { needed } => write!(f, "the buffer has no room for {needed} bytes"),

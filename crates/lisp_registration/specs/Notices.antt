@@ -1,0 +1,102 @@
+-- What a call from C leaves that drops dead rows, or makes a Map-Server's unsolicited Map-Notifies (notices).
+use Rattle.std.specs.Prelude.{◌≡◌, ℕ, List, replicate, Option, Some, None, Result, Ok, Err, MatchResult}
+use Rattle.std.specs.Global.{Global}
+use Rattle.std.specs.Option.{MatchOption}
+use Rattle.lisp_records.specs.declared.router.RouterId.{RouterId}
+use Rattle.lisp_admission.specs.declared.notice_fault.NoticeFault.{NoticeFault}
+use Rattle.lisp_admission.specs.NoticeFault.{notice_fault_number}
+use Rattle.lisp_lookup.specs.Table.{Expires}
+use Rattle.lisp_server.specs.Notices.{IsDueRouter, RefusesResend, Resends}
+use Rattle.lisp_server.specs.Server.{ServerState}
+use Rattle.lisp_embedded.specs.declared.hosted_server.HostedServer.{HostedServer}
+use Rattle.lisp_embedded.specs.declared.notice.HostedNotice.{HostedNotice}
+use Rattle.lisp_embedded.specs.Notices.{AnnouncesKept, IsOfNoStore, RefusesKeptNotice}
+use Rattle.lisp_registration.specs.declared.handle_fault.HandleFault.TheVariants as faults
+use Rattle.lisp_registration.specs.declared.notice.PlainNotice.{PlainNotice}
+use Rattle.lisp_registration.specs.declared.pair.PlainNonce.{PlainNonce}
+use Rattle.lisp_registration.specs.declared.router_id.PlainRouter.{PlainRouter}
+use Rattle.lisp_registration.specs.Fault.{handle_fault_number}
+use Rattle.lisp_registration.specs.Plain.{plain_address}
+use Rattle.lisp_registration.specs.Room.{in_time, ready}
+use Rattle.lisp_registration.specs.Server.{kept_in, length_in}
+use Rattle.lisp_registration.specs.Told.{put_in}
+
+-- ---- dead rows
+
+-- the dead rows were dropped, and nothing else changed
+abbrev pub DropsRows : ServerState → ℕ → ServerState → Type 0
+DropsRows old now new = Expires old.rows new.rows now × (new ≡ record old { rows = new.rows })
+
+-- the number and the Map-Server that dropping leaves
+abbrev pub Dropped : ServerState → ℕ → ℕ × ServerState → Type 0
+Dropped old now left = MatchResult (in_time now) (λ _. (left.0 ≡ 0) × DropsRows old now left.1) (λ fault. left ≡ (handle_fault_number fault, old))
+
+-- what a call leaves that drops dead rows
+abbrev pub ExpiresRows : ℕ → Option HostedServer → ℕ → Option HostedServer → Type 0
+ExpiresRows now old number new =
+    MatchOption old ((number ≡ handle_fault_number faults.Null) × (new ≡ None)) (λ hosted. (after : ServerState) × Dropped hosted.server now (number, after) × (new ≡ Some (record { server = after })))
+
+-- ---- routers
+
+abbrev pub plain_router : Option RouterId → PlainRouter
+plain_router (Some r) = record { site = r.site; xtr = r.xtr; is_there = 1 }
+plain_router None = record { site = 0; xtr = replicate 16 0; is_there = 0 }
+
+abbrev pub router_in : PlainRouter → RouterId
+router_in r = record { site = r.site; xtr = r.xtr }
+
+-- what a call leaves that asks to which router a notice is due; the Map-Server is as it was
+abbrev pub TellsDue : ℕ → Option HostedServer → PlainRouter → ℕ → Option HostedServer → PlainRouter → Type 0
+TellsDue now old router number new router' = (new ≡ old)
+    × MatchOption old ((number ≡ handle_fault_number faults.Null) × (router' ≡ router)) (λ hosted. (number ≡ 0) × (due : Option RouterId) × IsDueRouter hosted.server.notices now due × (router' ≡ plain_router due))
+
+-- ---- notices
+
+-- a notice, of which so many bytes are in the buffer
+abbrev pub plain_notice : {A : Type 0} → HostedNotice A → ℕ → PlainNotice
+plain_notice n size = record { nonce = n.nonce; to = plain_address n.to; length = size }
+
+-- the number, the buffer and the struct that a notice leaves, or why there is none
+abbrev pub told_notice : {A : Type 0} → Result (HostedNotice A) NoticeFault → List ℕ → PlainNotice → ℕ × (List ℕ × PlainNotice)
+told_notice (Ok n) buffer old = (0, ((put_in n.bytes.items buffer).1, plain_notice n (length_in n.bytes.items buffer)))
+told_notice (Err why) buffer old = (notice_fault_number why, (buffer, old))
+
+-- how a notice is made, or why not: what is answered, of the Map-Server before and after
+abbrev pub Making : Type 1
+Making = ServerState → ServerState → Result (HostedNotice Global) NoticeFault → Type 0
+
+-- a new notice is made over the nonce that was passed; a refusal is not of a store, and changes nothing
+abbrev pub NotifiesKept : Option ℕ → RouterId → ℕ → Making
+NotifiesKept kept router now old new answer = MatchResult answer (AnnouncesKept kept old new router now) (λ why. RefusesKeptNotice kept old router now why × IsOfNoStore why × (new ≡ old))
+
+-- a notice that is due is made again, under no new nonce; at a refusal nothing changes
+abbrev pub SendsAgain : {A : Type 0} → ServerState → ServerState → RouterId → ℕ → HostedNotice A → Type 0
+SendsAgain old new router now n = Resends old.notices new.notices router now n.to n.bytes.items × (new ≡ record old { notices = new.notices }) × (n.nonce ≡ 0)
+
+abbrev pub ResendsDue : RouterId → ℕ → Making
+ResendsDue router now old new answer = MatchResult answer (SendsAgain old new router now) (λ why. RefusesResend old.notices router now why × (new ≡ old))
+
+-- all that a call leaves
+abbrev pub NoticeLeft : Type 0
+NoticeLeft = ℕ × (Option HostedServer × (List ℕ × PlainNotice))
+
+-- what making leaves, of the Map-Server that a handle holds
+abbrev pub Made : Making → ServerState → List ℕ → PlainNotice → NoticeLeft → Type 0
+Made makes old buffer notice left =
+    (answer : Result (HostedNotice Global) NoticeFault) × (after : ServerState) × makes old after answer
+    × (left ≡ ((told_notice answer buffer notice).0, (Some (record { server = after }), (told_notice answer buffer notice).1)))
+
+-- what making leaves, where it can be asked for at the time
+abbrev pub LeavesNotice : Making → ℕ → Option HostedServer → List ℕ → PlainNotice → NoticeLeft → Type 0
+LeavesNotice makes now old buffer notice left =
+    MatchResult (ready buffer now)
+    (λ _. MatchOption old (left ≡ (handle_fault_number faults.Null, (None, (buffer, notice)))) (λ hosted. Made makes hosted.server buffer notice left))
+    (λ fault. left ≡ (handle_fault_number fault, (old, (buffer, notice))))
+
+-- what a call for a new notice leaves
+abbrev pub TellsNotice : PlainNonce → PlainRouter → ℕ → Option HostedServer → List ℕ → PlainNotice → ℕ → Option HostedServer → List ℕ → PlainNotice → Type 0
+TellsNotice kept router now old buffer notice number new buffer' notice' = LeavesNotice (NotifiesKept (kept_in kept) (router_in router) now) now old buffer notice (number, (new, (buffer', notice')))
+
+-- what a call for a notice that is due leaves
+abbrev pub TellsResent : PlainRouter → ℕ → Option HostedServer → List ℕ → PlainNotice → ℕ → Option HostedServer → List ℕ → PlainNotice → Type 0
+TellsResent router now old buffer notice number new buffer' notice' = LeavesNotice (ResendsDue (router_in router) now) now old buffer notice (number, (new, (buffer', notice')))

@@ -1,0 +1,107 @@
+-- Which node the text of a configuration starts, or why it starts none.
+use Rattle.std.specs.Prelude.{◌≡◌, ℕ, List, Option, Some, None, Result, Ok, Err, if◌then◌else◌}
+use Rattle.std.specs.List.{find}
+use Rattle.std.specs.Str.{bytes_eq, is_utf8}
+use Rattle.toml.specs.Parse.{parse_document}
+use Rattle.lisp_records.specs.Record.{MapRecordValue}
+use Rattle.lisp_records.specs.Result.{◌>>=◌}
+use Rattle.lisp_policy.specs.Configuration.{ConfigValue, RouterEntryValue}
+use Rattle.lisp_sites.specs.declared.fault.ConfigFault.{ConfigFault}
+use Rattle.lisp_sites.specs.declared.fault.ConfigFault.TheVariants as config_faults
+use Rattle.lisp_sites.specs.Field.{fault_number}
+use Rattle.lisp_sites.specs.Table.{config_of}
+use Rattle.lisp_nonces.specs.declared.pair.Pair.{Pair}
+use Rattle.lisp_etr.specs.Config.{EtrConfigValue, sent_pair}
+use Rattle.lisp_etr.specs.Etr.{etr_changed}
+use Rattle.lisp_model.specs.Trace.{etr_config_of}
+use Rattle.lisp_server.specs.Server.{empty_server}
+use Rattle.lisp_embedded.specs.declared.hosted_server.HostedServer.{HostedServer}
+use Rattle.lisp_embedded.specs.declared.hosted_router.HostedRouter.{HostedRouter}
+use Rattle.lisp_embedded.specs.Routers.{started_from}
+use Rattle.lisp_registration.specs.declared.node_fault.NodeFault.{NodeFault}
+use Rattle.lisp_registration.specs.declared.pair.PlainPair.{PlainPair}
+use Rattle.lisp_registration.specs.Server.{plain_pair}
+use Rattle.lisp_registration.specs.declared.node_fault.NodeFault.TheVariants.{NotUtf8, Configuration, NoRouter, OutOfMemory}
+
+-- the numbers of the faults
+abbrev pub node_fault_number : NodeFault → ℕ
+node_fault_number NotUtf8 = 95
+node_fault_number (Configuration fault) = fault_number fault
+node_fault_number NoRouter = 106
+node_fault_number OutOfMemory = 105
+
+-- what is read of a configuration, or its fault
+abbrev pub configured : {X : Type 0} → Result X ConfigFault → Result X NodeFault
+configured (Ok x) = Ok x
+configured (Err fault) = Err (Configuration fault)
+
+-- the configuration of a text
+abbrev pub text_config : List ℕ → Result ConfigValue NodeFault
+text_config text = if is_utf8 text then configured (config_of (parse_document text)) else Err NotUtf8
+
+-- a router, where there is one
+abbrev pub or_no_router : ConfigValue → Option RouterEntryValue → Result (ConfigValue × RouterEntryValue) NodeFault
+or_no_router config (Some entry) = Ok (config, entry)
+or_no_router config None = Err NoRouter
+
+-- the router of a name, with its configuration
+abbrev pub text_entry : List ℕ → List ℕ → Result (ConfigValue × RouterEntryValue) NodeFault
+text_entry text name = text_config text >>= λ config. or_no_router config (find (λ r. bytes_eq r.name name) config.routers)
+
+-- what the router of a name is configured with, and what it registers
+abbrev pub text_settings : List ℕ → List ℕ → Result (EtrConfigValue × List MapRecordValue) NodeFault
+text_settings text name = text_entry text name >>= λ x. Ok (etr_config_of x.0 x.1, x.1.database)
+
+-- ---- nodes
+
+-- a Map-Server of the sites of a configuration, which holds nothing
+abbrev pub text_server : List ℕ → Result HostedServer NodeFault
+text_server text = text_config text >>= λ config. Ok (record { server = empty_server config.sites })
+
+-- the router of a name, which goes on from the nonce that was passed
+abbrev pub text_router : List ℕ → List ℕ → Option ℕ → ℕ → Result HostedRouter NodeFault
+text_router text name kept now = text_settings text name >>= λ x. Ok (record { router = started_from x.0 x.1 kept now })
+
+-- what the nonces of the router of a name are kept for
+abbrev pub text_pair : List ℕ → List ℕ → Result Pair NodeFault
+text_pair text name = text_settings text name >>= λ x. Ok (sent_pair x.0)
+
+-- what the router of a name registers
+abbrev pub text_database : List ℕ → List ℕ → Result (List MapRecordValue) NodeFault
+text_database text name = text_settings text name >>= λ x. Ok x.1
+
+-- ---- answers
+
+-- an answer, seen by view, is what the text gives, except that out of memory may come in its place
+abbrev pub Comes : {X Y : Type 0} → (X → Y) → Result X NodeFault → Result Y NodeFault → Type 0
+Comes view (Ok x) given = given ≡ Ok (view x)
+Comes view (Err OutOfMemory) given = Unit {0}
+Comes view (Err (Configuration config_faults.OutOfMemory)) given = Unit {0}
+Comes view (Err fault) given = given ≡ Err fault
+
+-- what a call from C leaves that starts a node: the node, or the number and what the handle held
+abbrev pub told_start : {X : Type 0} → Result X NodeFault → Option X → ℕ × Option X
+told_start (Ok node) old = (0, Some node)
+told_start (Err fault) old = (node_fault_number fault, old)
+
+-- it starts what the text gives
+abbrev pub StartsNode : {X : Type 0} → Result X NodeFault → Option X → ℕ → Option X → Type 0
+StartsNode {X = X} given old number new = (answer : Result X NodeFault) × Comes (λ x. x) answer given × ((number, new) ≡ told_start answer old)
+
+-- a router that registers another database from a time on, where the handle holds one
+abbrev pub told_change : Result (List MapRecordValue) NodeFault → Option HostedRouter → ℕ → ℕ × Option HostedRouter
+told_change (Ok database) (Some hosted) now = (0, Some (record { router = etr_changed hosted.router database now }))
+told_change (Ok database) None now = (100, None)
+told_change (Err fault) old now = (node_fault_number fault, old)
+
+-- it registers what the text gives
+abbrev pub ChangesRouter : Result (List MapRecordValue) NodeFault → ℕ → Option HostedRouter → ℕ → Option HostedRouter → Type 0
+ChangesRouter given now old number new = (answer : Result (List MapRecordValue) NodeFault) × Comes (λ x. x) answer given × ((number, new) ≡ told_change answer old now)
+
+-- what a call leaves that asks for the pair of a router: the pair, or the number and what was there
+abbrev pub told_pair : Result Pair NodeFault → PlainPair → ℕ × PlainPair
+told_pair (Ok pair) old = (0, plain_pair (Some pair))
+told_pair (Err fault) old = (node_fault_number fault, old)
+
+abbrev pub TellsRouterPair : Result Pair NodeFault → PlainPair → ℕ → PlainPair → Type 0
+TellsRouterPair given old number new = (answer : Result Pair NodeFault) × Comes (λ x. x) answer given × ((number, new) ≡ told_pair answer old)
