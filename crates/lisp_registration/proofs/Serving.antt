@@ -1,8 +1,7 @@
 -- What receiving leaves, by its steps.
-use Rattle.std.proofs.Common.{◌≡◌, ℕ, ◌≤◌, List, length, Option, Some, Result, Ok, Err, refl}
+use Rattle.std.proofs.Common.{◌≡◌, ℕ, List, Option, Some, Result, Ok, Err}
 use Rattle.std.specs.Prelude.{IfOk, IfErr, OnErr}
 use Rattle.std.specs.Global.{Global}
-use Rattle.std.proofs.lemmas.Bool.{le-ltb}
 use Rattle.lisp_records.specs.declared.address.Addr.{Addr}
 use Rattle.lisp_admission.specs.declared.refused.Refused.{Refused}
 use Rattle.lisp_server.specs.declared.took.Took.{Took}
@@ -11,12 +10,7 @@ use Rattle.lisp_embedded.specs.declared.hosted_server.HostedServer.{HostedServer
 use Rattle.lisp_embedded.specs.Receiving.{IsOfNoStore, RefusesKept, TakesKept}
 use Rattle.lisp_registration.specs.declared.address.PlainAddress.{PlainAddress}
 use Rattle.lisp_registration.specs.declared.received.PlainReceived.{PlainReceived}
-use Rattle.lisp_registration.specs.Meaning.{address_in}
 use Rattle.lisp_registration.specs.Server.{Left, LeavesFrom, ReceivesKept, source_of, told_received}
-
--- the source of a datagram for which the buffer has room
-source_is : (from : PlainAddress) (bytes buffer : List ℕ) (a : Addr) → address_in from ≡ Some a → length bytes ≤ length buffer → source_of from bytes buffer ≡ Ok a
-source_is from bytes buffer a named room = rw (named, le-ltb (length buffer) (length bytes) room) refl
 
 -- an answer is what the Map-Server makes of it
 receives : {A : Type 0} (kept : Option ℕ) (from : Addr) (bytes : List ℕ) (now : ℕ) (old new : ServerState) (answer : Result (Took A) Refused)
@@ -26,9 +20,9 @@ receives kept from bytes now old new (Err why) takes refuses storeless same = (r
 
 module _ (kept : Option ℕ) (from : PlainAddress) (a : Addr) (bytes buffer : List ℕ) (now : ℕ) (held : Option HostedServer) (hosted : HostedServer) (received : PlainReceived) (after : ServerState) (answer : Result (Took Global) Refused) where
   -- a datagram that the Map-Server received
-  pub is_received : (left : Left) → address_in from ≡ Some a → length bytes ≤ length buffer → held ≡ Some hosted
+  pub is_received : (left : Left) → source_of from bytes buffer ≡ Ok a → held ≡ Some hosted
       → IfOk answer (TakesKept kept a bytes hosted.server after now) → IfErr answer (RefusesKept kept a bytes hosted.server) → IfErr answer IsOfNoStore → OnErr answer (after ≡ hosted.server)
       → left ≡ ((told_received answer buffer received).0, (Some (record { server = after }), (told_received answer buffer received).1))
       → LeavesFrom kept (source_of from bytes buffer) bytes now held buffer received left
-  is_received left named room holds takes refuses storeless same told =
-      rw (source_is from bytes buffer a named room, holds) (answer, after, receives kept a bytes now hosted.server after answer takes refuses storeless same, told)
+  is_received left named holds takes refuses storeless same told =
+      rw (named, holds) (answer, after, receives kept a bytes now hosted.server after answer takes refuses storeless same, told)

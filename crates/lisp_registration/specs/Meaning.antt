@@ -33,7 +33,7 @@ Makes view (Ok x) found = found ≡ Ok (view x)
 Makes view (Err e) found = Fails e found
 
 -- the fault, where there is nothing
-abbrev pub or_fault : {X : Type 0} → WriteFault → Option X → Result X WriteFault
+abbrev pub or_fault : {X E : Type 0} → E → Option X → Result X E
 or_fault fault (Some x) = Ok x
 or_fault fault None = Err fault
 

@@ -14,12 +14,11 @@ use Rattle.lisp_embedded.specs.declared.router_send.HostedRegister.{HostedRegist
 use Rattle.lisp_embedded.specs.Routers.{RefusesKeptSend, SendsKept}
 use Rattle.lisp_registration.specs.declared.address.PlainAddress.{PlainAddress}
 use Rattle.lisp_registration.specs.declared.due.PlainDue.{PlainDue}
-use Rattle.lisp_registration.specs.declared.fault.WriteFault.{WriteFault}
 use Rattle.lisp_registration.specs.declared.handle_fault.HandleFault.{HandleFault}
 use Rattle.lisp_registration.specs.declared.handle_fault.HandleFault.TheVariants as faults
 use Rattle.lisp_registration.specs.declared.seen.PlainSeen.{PlainSeen}
 use Rattle.lisp_registration.specs.declared.sent.PlainSent.{PlainSent}
-use Rattle.lisp_registration.specs.Fault.{handle_fault_number, write_fault_number}
+use Rattle.lisp_registration.specs.Fault.{handle_fault_number}
 use Rattle.lisp_registration.specs.Plain.{plain_address}
 use Rattle.lisp_registration.specs.Room.{ready}
 use Rattle.lisp_registration.specs.Server.{length_in, source_of}
@@ -110,9 +109,9 @@ LeavesSeen from bytes (Some hosted) buffer seen left =
     × (left ≡ ((told_seen answer buffer seen).0, (Some (record { router = etr_after hosted.router answer }), (told_seen answer buffer seen).1)))
 
 -- what receiving leaves, by the source
-abbrev pub LeavesSeenFrom : Result Addr WriteFault → List ℕ → Option HostedRouter → List ℕ → PlainSeen → SeenLeft → Type 0
+abbrev pub LeavesSeenFrom : Result Addr HandleFault → List ℕ → Option HostedRouter → List ℕ → PlainSeen → SeenLeft → Type 0
 LeavesSeenFrom (Ok from) bytes old buffer seen left = LeavesSeen from bytes old buffer seen left
-LeavesSeenFrom (Err fault) bytes old buffer seen left = left ≡ (write_fault_number fault, (old, (buffer, seen)))
+LeavesSeenFrom (Err fault) bytes old buffer seen left = left ≡ (handle_fault_number fault, (old, (buffer, seen)))
 
 -- the same of a call
 abbrev pub TellsSeen : PlainAddress → List ℕ → Option HostedRouter → List ℕ → PlainSeen → ℕ → Option HostedRouter → List ℕ → PlainSeen → Type 0

@@ -15,12 +15,12 @@ use Rattle.lisp_embedded.specs.declared.hosted_server.HostedServer.{HostedServer
 use Rattle.lisp_embedded.specs.Host.{pair_in}
 use Rattle.lisp_embedded.specs.Receiving.{IsOfNoStore, RefusesKept, TakesKept}
 use Rattle.lisp_registration.specs.declared.address.PlainAddress.{PlainAddress}
-use Rattle.lisp_registration.specs.declared.fault.WriteFault.{WriteFault}
-use Rattle.lisp_registration.specs.declared.fault.WriteFault.TheVariants.{Room, Field}
+use Rattle.lisp_registration.specs.declared.handle_fault.HandleFault.{HandleFault}
+use Rattle.lisp_registration.specs.declared.handle_fault.HandleFault.TheVariants.{Field, Null, Room}
 use Rattle.lisp_registration.specs.declared.pair.PlainNonce.{PlainNonce}
 use Rattle.lisp_registration.specs.declared.pair.PlainPair.{PlainPair}
 use Rattle.lisp_registration.specs.declared.received.PlainReceived.{PlainReceived}
-use Rattle.lisp_registration.specs.Fault.{write_fault_number}
+use Rattle.lisp_registration.specs.Fault.{handle_fault_number}
 use Rattle.lisp_registration.specs.Meaning.{address_in, or_fault}
 use Rattle.lisp_registration.specs.Told.{put_in}
 
@@ -39,7 +39,7 @@ kept_in n = if n.is_there == 0 then None else Some n.nonce
 
 -- what another start leaves
 abbrev pub RestartsServer : Option HostedServer → ℕ → Option HostedServer → Type 0
-RestartsServer old number new = MatchOption old ((number ≡ 100) × (new ≡ None)) (λ hosted. (number ≡ 0) × (new ≡ Some (record { server = empty_server hosted.server.sites })))
+RestartsServer old number new = MatchOption old ((number ≡ handle_fault_number Null) × (new ≡ None)) (λ hosted. (number ≡ 0) × (new ≡ Some (record { server = empty_server hosted.server.sites })))
 
 -- ---- receiving
 
@@ -66,7 +66,7 @@ told_received (Ok took) buffer old = (0, ((put_in (reply_bytes took) buffer).1, 
 told_received (Err why) buffer old = (refused_number why, (buffer, old))
 
 -- the source of a datagram, where that is an address and the buffer has as much room as the datagram
-abbrev pub source_of : PlainAddress → List ℕ → List ℕ → Result Addr WriteFault
+abbrev pub source_of : PlainAddress → List ℕ → List ℕ → Result Addr HandleFault
 source_of from bytes buffer = or_fault Field (address_in from) >>= λ a. if nat_lt (length buffer) (length bytes) then Err Room else Ok a
 
 -- an answer is what a Map-Server makes of the datagram, over the nonce that was passed; a refusal is not of a store, and changes nothing
@@ -79,15 +79,15 @@ Left = ℕ × (Option HostedServer × (List ℕ × PlainReceived))
 
 -- what receiving leaves, by what the handle holds
 abbrev pub LeavesReceived : Option ℕ → Addr → List ℕ → ℕ → Option HostedServer → List ℕ → PlainReceived → Left → Type 0
-LeavesReceived kept from bytes now None buffer received left = left ≡ (100, (None, (buffer, received)))
+LeavesReceived kept from bytes now None buffer received left = left ≡ (handle_fault_number Null, (None, (buffer, received)))
 LeavesReceived kept from bytes now (Some hosted) buffer received left =
     (answer : Result (Took Global) Refused) × (after : ServerState) × ReceivesKept kept from bytes now hosted.server after answer
     × (left ≡ ((told_received answer buffer received).0, (Some (record { server = after }), (told_received answer buffer received).1)))
 
 -- what receiving leaves, by the source
-abbrev pub LeavesFrom : Option ℕ → Result Addr WriteFault → List ℕ → ℕ → Option HostedServer → List ℕ → PlainReceived → Left → Type 0
+abbrev pub LeavesFrom : Option ℕ → Result Addr HandleFault → List ℕ → ℕ → Option HostedServer → List ℕ → PlainReceived → Left → Type 0
 LeavesFrom kept (Ok from) bytes now old buffer received left = LeavesReceived kept from bytes now old buffer received left
-LeavesFrom kept (Err e) bytes now old buffer received left = left ≡ (write_fault_number e, (old, (buffer, received)))
+LeavesFrom kept (Err e) bytes now old buffer received left = left ≡ (handle_fault_number e, (old, (buffer, received)))
 
 abbrev pub TellsReceived : PlainNonce → PlainAddress → List ℕ → ℕ → Option HostedServer → List ℕ → PlainReceived → ℕ → Option HostedServer → List ℕ → PlainReceived → Type 0
 TellsReceived kept from bytes now old buffer received number new buffer' received' =

@@ -19,7 +19,9 @@ use Rattle.lisp_embedded.specs.declared.hosted_server.HostedServer.{HostedServer
 use Rattle.lisp_embedded.specs.declared.hosted_router.HostedRouter.{HostedRouter}
 use Rattle.lisp_embedded.specs.Routers.{started_from}
 use Rattle.lisp_registration.specs.declared.node_fault.NodeFault.{NodeFault}
+use Rattle.lisp_registration.specs.declared.handle_fault.HandleFault.TheVariants.{Null}
 use Rattle.lisp_registration.specs.declared.pair.PlainPair.{PlainPair}
+use Rattle.lisp_registration.specs.Fault.{handle_fault_number}
 use Rattle.lisp_registration.specs.Server.{plain_pair}
 use Rattle.lisp_registration.specs.declared.node_fault.NodeFault.TheVariants.{NotUtf8, Configuration, NoRouter, OutOfMemory}
 
@@ -91,7 +93,7 @@ StartsNode {X = X} given old number new = (answer : Result X NodeFault) × Comes
 -- a router that registers another database from a time on, where the handle holds one
 abbrev pub told_change : Result (List MapRecordValue) NodeFault → Option HostedRouter → ℕ → ℕ × Option HostedRouter
 told_change (Ok database) (Some hosted) now = (0, Some (record { router = etr_changed hosted.router database now }))
-told_change (Ok database) None now = (100, None)
+told_change (Ok database) None now = (handle_fault_number Null, None)
 told_change (Err fault) old now = (node_fault_number fault, old)
 
 -- it registers what the text gives

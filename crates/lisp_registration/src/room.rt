@@ -1,11 +1,13 @@
-//! Room for the messages that a Map-Server or a router makes.
+//! What is looked at before a Map-Server or a router is asked: an address, room in a buffer, and a time.
 
 ghost use Rattle.std.specs.Prelude.{◌≡◌, ◌≤◌, IfOk};
 ghost use Rattle.lisp_records.specs.Moment.{max_moment};
 ghost use Rattle.lisp_registration.specs.Room.{in_time, ready};
+ghost use Rattle.lisp_registration.specs.Server.{source_of};
 
+use crate::address::PlainAddress;
 use crate::handle_fault::HandleFault;
-use lisp_records::MAX_MOMENT;
+use lisp_records::{Addr, MAX_MOMENT};
 
 /// The most bytes of a message that a Map-Server or a router makes: 16,384 of its records, 32 before them, and 24 behind
 /// those of a Map-Register, its xTR-ID and Site-ID.
@@ -20,6 +22,20 @@ pub(crate) fn ready(buffer: &[u8], now: u64) -> Result<(), HandleFault>
         return Err(HandleFault::Room);
     }
     in_time(now)
+}
+
+/// Where a datagram came from. Faults: `Field` where that is no address, `Room` where the buffer has less room than the datagram
+/// has bytes.
+pub(crate) fn source(from: &PlainAddress, bytes: &[u8], buffer: &[u8]) -> Result<Addr, HandleFault>
+    ensures { result ≡ source_of from.now bytes.now buffer.now }
+{
+    let Some(from) = from.addr() else {
+        return Err(HandleFault::Field);
+    };
+    if bytes.len() > buffer.len() {
+        return Err(HandleFault::Room);
+    }
+    Ok(from)
 }
 
 /// Whether a time, in ms, is one that a core is asked at. Fault: `Clock`.

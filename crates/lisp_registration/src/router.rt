@@ -6,9 +6,8 @@ ghost use Rattle.lisp_registration.specs.Router.{TellsSeen, TellsSent, answer_by
 
 use crate::address::PlainAddress;
 use crate::due::PlainDue;
-use crate::fault::WriteFault;
 use crate::handle_fault::HandleFault;
-use crate::room::ready;
+use crate::room::{ready, source};
 use crate::seen::PlainSeen;
 use crate::sent::PlainSent;
 use crate::writing::put_length;
@@ -91,12 +90,10 @@ pub extern "C" fn lisp_registration_router_receive(
         result router.new.value buffer.new seen.new }
     ensures memory { result ≡ 48 → MachineMayRefuse }
 {
-    let Some(from) = from.addr() else {
-        return WriteFault::Field.number();
+    let from = match source(from, bytes, buffer) {
+        Ok(from) => from,
+        Err(fault) => return fault.number(),
     };
-    if bytes.len() > buffer.len() {
-        return WriteFault::Room.number();
-    }
     match router.take(alloc) {
         Some(mut hosted) => {
             let answer = hosted.router.receive(from, bytes, now);

@@ -6,10 +6,10 @@ ghost use Rattle.lisp_registration.specs.Server.{RestartsServer, TellsPair, Tell
 ghost use Rattle.lisp_registration.specs.Starting.{StartsNode, text_server};
 
 use crate::address::PlainAddress;
-use crate::fault::WriteFault;
 use crate::handle_fault::HandleFault;
 use crate::pair::{PlainNonce, PlainPair};
 use crate::received::PlainReceived;
+use crate::room::source;
 use crate::starting::{restart, started_server};
 use crate::telling::tell_received;
 use lisp_embedded::{ServerHandle, pair_needed, receive_kept};
@@ -91,12 +91,10 @@ pub extern "C" fn lisp_registration_server_receive(
         result server.new.value buffer.new received.new }
     ensures memory { result ≡ 58 → MachineMayRefuse }
 {
-    let Some(from) = from.addr() else {
-        return WriteFault::Field.number();
+    let from = match source(from, bytes, buffer) {
+        Ok(from) => from,
+        Err(fault) => return fault.number(),
     };
-    if bytes.len() > buffer.len() {
-        return WriteFault::Room.number();
-    }
     match server.take(alloc) {
         Some(mut hosted) => {
             let answer = receive_kept(alloc, &mut hosted.server, kept.kept(), from, bytes, now);
