@@ -2,7 +2,8 @@
 # make lispd    proves the program and builds it as out/lispd
 # make library  proves the library for C programs and builds it as out/liblisp_registration.a
 # make demo     a Map-Server and two routers on loopback, of which the Map-Server is killed and comes back: some seconds
-# make test     the gate: proves everything from nothing, tries the wrong bodies, runs the tests and the samples
+# make test     the gate: proves everything from nothing, tries the wrong bodies, runs the tests and the samples. out/test.log has the details
+# make quick    NAME=lisp_server: proves that crate over what is kept of those below, and runs what is stored over the program built last
 # make mutants  tries all wrong bodies, over what the gate kept; NAME=lisp_server those of one crate. docs/MUTANTS.log has the last answers
 # make slips    plants wrong definitions: an example of theirs has to refuse each; NAME=lisp_client those of one list
 # make fuzz     plays schedules that are drawn: COUNT of them from SEED on, over out/lispd
@@ -14,7 +15,7 @@
 # make dist     packs them as out/lispd-VERSION.tar.gz. GATE=LOG names the log of a `make test`, whose closing lines go with them
 # make believe  counts the definitions that the contracts of `play`, `World::run` and `Server::receive` stand on
 # make clean    removes what was built
-.PHONY: run lispd library demo test mutants slips fuzz bench install uninstall dist believe clean
+.PHONY: run lispd library demo test quick mutants slips fuzz bench install uninstall dist believe clean
 # Each proof takes all processors, and two at a time would write the same files.
 .NOTPARALLEL:
 
@@ -36,8 +37,10 @@ test:
 	@! grep -roE 'Rattle\.lisp_memory[.A-Za-z_]*|lisp_memory::(specs|proofs)' crates --include=*.antt --include=*.rt --exclude-dir=lisp_memory --exclude-dir=out | grep -vE ':Rattle\.lisp_memory\.specs\.(Appending|Inserting|Refusal|Room)\.?$$'
 	@! grep -rE 'Witness|unfolding.*MachineMayRefuse' crates --include=*.antt --include=*.rt --exclude-dir=lisp_memory --exclude-dir=out
 	@tools/slips --compare docs/SLIPS.md
-	rt ci
-	@tests/check.sh crates/lispd_main/out/lispd_main
+	@tools/gate
+
+quick:
+	@tools/quick $(NAME)
 
 mutants:
 	@tools/mutants $(NAME)

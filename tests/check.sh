@@ -1,261 +1,39 @@
 #!/bin/sh
 # check.sh [PROGRAM]
-# Runs the program (out/lispd, where none is named) over the cases of answers.txt, the schedules, the lines of
-# refused.txt, files that can't be read or written, bytes that were changed (changed.py), beside a plain list of rows
-# (rows.py), with calls that fail (failing.py), over schedules of chance (fuzz.py), as pictures (draw.py), on sockets
-# and files (running.py, databases.py, groups.py, control.py, devices.py, folders.py, timing.py, addresses.py,
-# output.py), and of what is installed (packaging.py); and the library for C programs, which it builds (library.py,
-# library_rust.py). Prints each run that differs from what is wanted, and ends with 1 where one does.
-case ${1-} in
-    '') program=../out/lispd ;;
-    /*) program=$1 ;;
-    *) program=$PWD/$1 ;;
-esac
-cd "$(dirname "$0")" && mkdir -p ../out || exit 1
-configuration=../examples/configuration.toml
-exchange=../examples/schedules/01-exchange
-runs=0
+# Tests the program (out/lispd, where none is named) and the library for programs in C, which it builds of what is proved: one stage after
+# the other, each a script beside this one; README.md says what each tests. A stage prints what isn't as it should be, and a line follows
+# with its name and how long it took. Ends with 1 where a stage fails.
+program=$(realpath -e "${1-$(dirname "$0")/../out/lispd}") || exit 1
+cd "$(dirname "$0")" || exit 1
+library=../out/liblisp_registration.a
 failed=0
 
-# differs NAME WANTED: reports that the last run was another than is wanted.
-differs() {
-    echo "$1: status $status, '$(cat ../out/stdout)', '$(cat ../out/stderr)'; wanted $2"
-    failed=1
+# stage NAME COMMAND WORD...: runs a stage, and says how it ended.
+stage() {
+    begun=$(date +%s) name=$1 said=passed
+    shift
+    "$@" || failed=1 said=FAILED
+    echo "tests: $name $said, $(($(date +%s) - begun)) s"
 }
 
-# plays SCHEDULE: plays a schedule, and shows where its lines differ from those of the file beside it.
-plays() {
-    "$program" play "$1" > ../out/stdout 2> ../out/stderr
-    status=$?
-    runs=$((runs + 1))
-    [ $status = 0 ] && [ ! -s ../out/stderr ] && diff -u "${1%.schedule}.out" ../out/stdout ||
-        differs "$1" "0, '$(cat "${1%.schedule}.out")', ''"
-}
-
-# holds FILE TEXT: whether the file is this line, nothing where TEXT is empty, any text where it is *, and the
-# same as FILE where it is @FILE.
-holds() {
-    case $2 in
-        '') [ ! -s "$1" ] ;;
-        '*') [ -s "$1" ] ;;
-        @*) cmp -s "${2#@}" "$1" ;;
-        *) printf '%s\n' "$2" | cmp -s - "$1" ;;
-    esac
-}
-
-# expect NAME STATUS OUTPUT ERROR WORD...: runs the program with these words, and standard input as it is given.
-expect() {
-    name=$1 wanted_status=$2 wanted_output=$3 wanted_error=$4
-    shift 4
-    "$program" "$@" > ../out/stdout 2> ../out/stderr
-    status=$?
-    runs=$((runs + 1))
-    [ $status = "$wanted_status" ] && holds ../out/stdout "$wanted_output" &&
-        holds ../out/stderr "$wanted_error" ||
-        differs "$name" "$wanted_status, '$wanted_output', '$wanted_error'"
-}
-
-# Runs the case that was read, and forgets it.
-run_case() {
-    [ -n "$title" ] || return 0
-    case $input in
-        @*) from=${input#@} ;;
-        *)
-            from=../out/stdin
-            printf '%b' "$input" > $from
-            ;;
-    esac
-    eval "set -- $words"
-    expect "$title" "$code" "$output" "$error" "$@" < "$from" || failed=1
-    title='' words='' input='' code=0 output='' error=''
-}
-
-title='' words='' input='' code=0 output='' error=''
-while IFS= read -r line || [ -n "$line" ]; do
-    value=${line#*: }
-    case $line in
-        '#'*) ;;
-        '') run_case ;;
-        'case: '*) title=$value ;;
-        'words: '*) words=$words$value ;;
-        'input: '*) input=$input$value ;;
-        'status: '*) code=$value ;;
-        'output: '*) output=$output$value ;;
-        'error: '*) error=$error$value ;;
-        *)
-            echo "answers.txt: '$line' begins with no key"
-            failed=1
-            ;;
-    esac
-done < answers.txt
-run_case
-[ $runs -gt 0 ] || failed=1
-
-for schedule in ../examples/schedules/*.schedule ../examples/attacks/*.schedule schedules/*/*.schedule; do
-    plays "$schedule"
-done
-
-# Each line of refused.txt, in a schedule of the configuration.
-while IFS='|' read -r part fault text; do
-    case $part in
-        '#'* | '') continue ;;
-        script) cat $configuration && printf -- '---\n%b\n' "$text" ;;
-        configuration) sed "$text" $configuration && echo --- ;;
-        whole) printf '%b' "$text" ;;
-    esac > ../out/schedule
-    expect "refused.txt: $text" 2 '' "lispd: fault $fault" play ../out/schedule
-done < refused.txt
-
-expect 'a schedule on standard input' 0 @$exchange.out '' play - < $exchange.schedule
-expect 'a schedule that is not there' 1 '' 'lispd: fault 93' play no-such.schedule
-expect 'a directory as a schedule' 1 '' 'lispd: fault 87' play .
-head -c 1048577 /dev/zero | tr '\0' '#' > ../out/long
-expect 'a schedule of 1,048,577 bytes' 1 '' 'lispd: fault 89' play ../out/long
-expect 'a directory as input' 1 '' 'lispd: fault 87' < .
-head -c 1048576 /dev/zero | tr '\0' z > ../out/long
-expect 'a line of 1,048,576 bytes' 0 'refused 94' '' < ../out/long
-head -c 1048577 /dev/zero | tr '\0' 0 > ../out/long
-expect 'a line of 1,048,577 bytes' 1 '' 'lispd: fault 89' < ../out/long
-
-# fills WORD...: runs the program with these words and an output that is full.
-fills() {
-    : > ../out/stdout
-    "$program" "$@" < ../examples/map-register.hex > /dev/full 2> ../out/stderr
-    status=$?
-    [ $status = 1 ] && holds ../out/stderr 'lispd: fault 88' ||
-        differs "a full output, words '$*'" "1, '', 'lispd: fault 88'"
-}
-
-fills
-fills play $exchange.schedule
-fills draw $exchange.schedule
-fills draw --text $exchange.schedule
-fills --help
-fills --version
-
-expect 'a configuration that is checked' 0 @checked/example.txt '' check - < $configuration
-: > ../out/configuration.toml
-expect 'an empty configuration' 0 'warning: -: no server and no router' '' check - < ../out/configuration.toml
-
-# Each configuration of checked/, with its warnings.
-for file in checked/*.toml; do
-    expect "$file" 0 "@${file%.toml}.txt" '' check - < "$file"
-done
-
-# Each line of faults.txt, by what it makes of the configuration.
-while IFS='|' read -r fault words edit; do
-    case $fault in
-        '#'* | '') continue ;;
-    esac
-    sed "$edit" $configuration > ../out/configuration.toml
-    "$program" check - < ../out/configuration.toml > ../out/stdout 2> ../out/stderr
-    status=$?
-    runs=$((runs + 1))
-    [ $status = 2 ] && [ ! -s ../out/stdout ] && [ "$(sed -n 1p ../out/stderr)" = "lispd: fault $fault" ] &&
-        case "$(sed -n '2,$p' ../out/stderr)" in "lispd check -: $words"*) ;; *) false ;; esac ||
-        differs "faults.txt: $edit" "2, '', 'lispd: fault $fault', 'lispd check -: $words'"
-done < checked/faults.txt
-
-# A file that others can read; --strict.
-cp $configuration ../out/configuration.toml
-chmod 600 ../out/configuration.toml
-expect 'a file of its owner alone' 0 @checked/example.txt '' check ../out/configuration.toml
-expect 'no warning, with --strict' 0 @checked/example.txt '' check --strict ../out/configuration.toml
-{ cat checked/example.txt && echo 'warning: ../out/configuration.toml: others can read the file, and it holds secrets'; } > ../out/wanted
-for mode in 640 604; do
-    chmod $mode ../out/configuration.toml
-    expect "a file of mode $mode" 0 @../out/wanted '' check ../out/configuration.toml
-done
-expect 'a warning, with --strict' 2 @../out/wanted 'lispd: fault 25
-lispd check ../out/configuration.toml --strict: the configuration has warnings, and --strict was given' \
-    check ../out/configuration.toml --strict
-expect 'a configuration that is not there' 1 '' "lispd: fault 93
-lispd check no-such.toml: the file can't be opened" check no-such.toml
-printf '\377' > ../out/configuration.toml
-expect 'a configuration that is not UTF-8' 2 '' 'lispd: fault 95
-lispd check -: the input is not UTF-8' check - < ../out/configuration.toml
-
-expect 'every number explained' 0 @../docs/REFUSALS.md '' explain
-expect 'a number explained' 0 '*' '' explain 57
-"$program" explain 57 > ../out/wanted
-expect 'a line explained' 0 @../out/wanted '' explain 57 saved 3
-expect 'a line explained, in one word' 0 @../out/wanted '' explain '57 saved 3'
-{ "$program" explain 56 && "$program" explain 30; } > ../out/wanted
-expect 'a line with a fault explained' 0 @../out/wanted '' explain 56 store 30
-{ "$program" explain 50 && "$program" explain 15 && "$program" explain 3; } > ../out/wanted
-expect 'a line with two faults explained' 0 @../out/wanted '' explain 50 read 15 record 0 fault 3
-for line in 69 x '' '57 saved' '57 saved x' '57 58' '57 store 69' '57 saves 3' 65536; do
-    expect "no line: '$line'" 2 '' 'lispd: fault 98' explain "$line"
-done
-
-expect 'a fault in words' 1 '' "lispd: fault 93
-lispd play no-such.schedule --words: the file can't be opened" play no-such.schedule --words
-expect 'a fault in words, asked for first' 1 '' "lispd: fault 93
-lispd --words play no-such.schedule: the file can't be opened" --words play no-such.schedule
-expect 'a bad value in words' 2 '' 'lispd: fault 98
-lispd: bad value for --key. Key ID: a decimal number from 0 to 255, such as 1 (the default)' answer --words --key 256
-expect 'a fault in words, without a subcommand' 1 '' "lispd: fault 87
-lispd: standard input can't be read" --words < .
-for node in 'server s1' 'router r1'; do
-    set -- $node
-    expect "$1 with --known and --turns" 2 '' "lispd: fault 98
-lispd: --known isn't taken with --turns" "$1" $configuration "$2" --store ../out/no-such --known --turns 1 --words
-done
-
-# parts COUNT WANTED: checks a configuration whose first router has so many records, of which WANTED tells the parts.
-parts() {
-    list=$(awk -v count="$1" 'BEGIN { for (i = 0; i < count; i++) printf "\"10.1.%d.%d/32=1\", ", i / 256, i % 256 }')
-    sed "0,/^records = .*/s||records = [$list]|" $configuration > ../out/configuration.toml
-    "$program" check ../out/configuration.toml > ../out/stdout 2> ../out/stderr
-    status=$?
-    runs=$((runs + 1))
-    [ $status = 0 ] && [ "$(sed -n 's/^router r1 .* proxy\(.*\) record 10\.1\.0\.0.*/\1/p' ../out/stdout)" = "$2" ] ||
-        differs "a configuration with $1 records" "0, '$2'"
-}
-
-parts 255 ''
-parts 256 ' parts 2'
-parts 1024 ' parts 5'
-
-# changes COUNT LOCATORS: a schedule that gives r1 so many records, each with these locators.
-changes() {
-    cat $configuration
-    awk -v count="$1" -v locators="$2" 'BEGIN {
-        printf "---\nchange r1"
-        for (i = 0; i < count; i++) printf " 10.1.%d.%d/32=1%s", i / 256, i % 256, locators
-        print ""
-    }'
-}
-
-# Five records of 255 locators are a part.
-locators=$(printf '+192.0.2.1%.0s' $(seq 255))
-changes 1024 '' > ../out/schedule
-expect 'a database of 1,024 records' 0 'change r1 records 1024' '' play ../out/schedule
-changes 1025 '' > ../out/schedule
-expect 'a database of 1,025 records' 2 '' 'lispd: fault 84 line 1' play ../out/schedule
-changes 80 "$locators" > ../out/schedule
-expect 'a database of 16 parts' 0 'change r1 records 80' '' play ../out/schedule
-changes 81 "$locators" > ../out/schedule
-expect 'a database of 17 parts' 2 '' 'lispd: fault 84 line 1' play ../out/schedule
-
-./changed.py "$program" || failed=1
-./rows.py "$program" || failed=1
-./failing.py "$program" || failed=1
-./fuzz.py "$program" 1 200 || failed=1
-./draw.py "$program" || failed=1
-./running.py "$program" || failed=1
-./databases.py "$program" || failed=1
-./groups.py "$program" || failed=1
-./control.py "$program" || failed=1
-./devices.py "$program" || failed=1
-./folders.py "$program" || failed=1
-./timing.py "$program" || failed=1
-./addresses.py "$program" || failed=1
-./output.py "$program" || failed=1
-# `rt ci` leaves no library behind: it is built from what is proved.
-../tools/library > ../out/library.log || failed=1
-./library.py ../out/liblisp_registration.a || failed=1
-./library_rust.py ../out || failed=1
-./packaging.py "$program" ../out/liblisp_registration.a || failed=1
+stage 'what is stored' ./stored.sh "$program"
+stage 'changed messages' ./changed.py "$program"
+stage 'beside a list of rows' ./rows.py "$program"
+stage 'calls that fail' ./failing.py "$program"
+stage 'drawn schedules' ./fuzz.py "$program" 1 200
+stage pictures ./draw.py "$program"
+stage 'running nodes' ./running.py "$program"
+stage databases ./databases.py "$program"
+stage groups ./groups.py "$program"
+stage 'asked and told' ./control.py "$program"
+stage devices ./devices.py "$program"
+stage folders ./folders.py "$program"
+stage times ./timing.py "$program"
+stage addresses ./addresses.py "$program"
+stage output ./output.py "$program"
+stage 'the library is built' ../tools/library --over-gate
+stage 'the library' ./library.py $library
+stage 'the library from Rust' ./library_rust.py ../out
+stage packages ./packaging.py "$program" $library
 
 exit $failed

@@ -158,5 +158,6 @@ def configuration():
 for test in (pictures_are_those_beside, ten_thousand_commands, strange_comments, many_nodes, what_is_told_of_stores, titles,
              where_a_map_notify_goes, faults):
     test()
-print(f"{len(failed)} wrong pictures", file=sys.stderr)
+if failed:
+    print(f"{len(failed)} wrong pictures", file=sys.stderr)
 sys.exit(1 if failed else 0)

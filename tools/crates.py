@@ -61,7 +61,7 @@ def room(crates, without=()):
 
 
 class Kit:
-    """The kit's own functions: no command of it tries several wrong bodies in one check."""
+    """The kit's own functions: no command of it tries several wrong bodies in one check, or builds over what `rt ci` left."""
 
     def __init__(self):
         loader = SourceFileLoader("rt", os.path.realpath(shutil.which("rt")))
@@ -73,9 +73,10 @@ class Kit:
 
     def opened(self, top):
         """The crates of a checkout in which `rt ci` ran, by their names."""
+        self.rt.rtlib.Crate = self.rt.Crate
         self.rt.Crate.cuts_libraries, self.rt.Crate.allowed = True, self.rt.handles_of(top)
         self.rt.rtlib.guarded()
-        return {it.name: it for it in self.rt.crates_of(top)}
+        return {it.name: it for it in self.rt.rtlib.crates_below(top)}
 
 
 @cache
@@ -88,6 +89,21 @@ def run_kit(words, folder):
     ran = subprocess.run(["rt", *words], cwd=folder, stdin=subprocess.DEVNULL, stdout=subprocess.PIPE,
                          stderr=subprocess.STDOUT, text=True, check=False)
     return ran.returncode, ran.stdout
+
+
+def over_gate(name, library):
+    """Proves and builds a static library over what `rt ci` left of the crates below it; whether all of that is there, and can be used. What
+    the kit prints goes to the log."""
+    rtlib = kit().rtlib
+    crate = next(it for it in rtlib.crates_below(f"{TOP}/crates/{name}") if it.name == name)
+    if not all(os.path.isdir(it.rlib) for it in crate.below()):
+        return False
+    words = crate.words(["--jobs", str(os.cpu_count())], keeps=False)
+    made = [rtlib.RATTLE, "build", *words, "--toolchain", f"{rtlib.KIT}/toolchain", "--backend", "llvm", "-o", library]
+    os.makedirs(f"{TOP}/out", exist_ok=True)
+    with open(f"{TOP}/{LOG}", "w", encoding="utf-8") as log:
+        how = {"cwd": crate.folder, "stdin": subprocess.DEVNULL, "stdout": log, "stderr": subprocess.STDOUT, "check": False}
+        return subprocess.run([*rtlib.guarded(), *made], **how).returncode == 0
 
 
 def prove(crate):
