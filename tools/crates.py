@@ -1,4 +1,5 @@
 """Runs of the kit over the crates of crates.txt, side by side."""
+import hashlib
 import os
 import shutil
 import subprocess
@@ -10,6 +11,7 @@ from contextlib import contextmanager
 from functools import cache
 from importlib.machinery import SourceFileLoader
 from importlib.util import module_from_spec, spec_from_loader
+from pathlib import Path
 
 TOP = os.path.dirname(os.path.dirname(os.path.abspath(__file__)))
 PROGRAM = "lispd_main"
@@ -91,13 +93,45 @@ def run_kit(words, folder):
     return ran.returncode, ran.stdout
 
 
-def over_gate(name, library):
-    """Proves and builds a static library over what `rt ci` left of the crates below it; whether all of that is there, and can be used. What
-    the kit prints goes to the log."""
-    rtlib = kit().rtlib
-    crate = next(it for it in rtlib.crates_below(f"{TOP}/crates/{name}") if it.name == name)
-    if not all(os.path.isdir(it.rlib) for it in crate.below()):
+@cache
+def sum_of(crate):
+    """A sum of all that a crate is made from, and of the kit."""
+    sums = [sum_of(it) for it in BELOW[crate]] or run_kit(["version"], TOP)
+    made = hashlib.sha256(repr((LINES[crate], sums)).encode())
+    for part in ("src", "specs", "proofs"):
+        for file in sorted(it for it in Path(f"{TOP}/crates/{crate}/{part}").rglob("*") if it.is_file()):
+            made.update(repr((str(file.relative_to(TOP)), file.read_bytes())).encode())
+    return made.hexdigest()
+
+
+def library_of(crate):
+    return f"{TOP}/crates/{crate}/out/rlib/{crate}.rlib"
+
+
+def note_of(crate):
+    """Where the gate notes what the library that it left of a crate is made from. The kit removes the note with the library."""
+    return Path(f"{os.path.dirname(library_of(crate))}/of-gate")
+
+
+def note_gate():
+    """Notes it of each library that `rt ci` left."""
+    for crate in LINES:
+        if os.path.isdir(library_of(crate)):
+            note_of(crate).write_text(sum_of(crate), encoding="utf-8")
+
+
+def is_over_gate(crate):
+    """Whether the gate left all that the crate stands on, as it is now."""
+    below = [it for it in with_libraries([crate]) if it != crate]
+    return all(os.path.isdir(library_of(it)) and note_of(it).is_file() and note_of(it).read_text(encoding="utf-8") == sum_of(it) for it in below)
+
+
+def build_over_gate(name, library):
+    """Proves and builds a static library over what the gate left of the crates below it; whether that could be done. What the kit prints
+    goes to the log."""
+    if not is_over_gate(name):
         return False
+    crate, rtlib = kit().opened(TOP)[name], kit().rtlib
     words = crate.words(["--jobs", str(os.cpu_count())], keeps=False)
     made = [rtlib.RATTLE, "build", *words, "--toolchain", f"{rtlib.KIT}/toolchain", "--backend", "llvm", "-o", library]
     os.makedirs(f"{TOP}/out", exist_ok=True)
