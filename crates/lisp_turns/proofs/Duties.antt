@@ -11,7 +11,7 @@ use Rattle.lisp_model.specs.declared.line.Line.{Line}
 use Rattle.lisp_model.specs.Trace.{EventValue}
 use Rattle.lisp_turns.specs.Act.{ActValue}
 use Rattle.lisp_turns.specs.Acts.{TurnAct, DoesAll, printed_of, send_calls, acts_calls}
-use Rattle.lisp_turns.specs.Due.{DoesDuty, IsDuty, IsSend, IsRefused, SendsDue}
+use Rattle.lisp_turns.specs.Due.{DoesDuty, IsDuty, IsSend, IsResend, IsRefused, SendsDue, ResendsDue}
 use Rattle.lisp_turns.specs.Node.{NodeState}
 use Rattle.lisp_turns.specs.Outside.{OutsideState, Prints}
 use Rattle.lisp_turns.specs.Pause.{is_told, failed}
@@ -55,6 +55,9 @@ module _ (A : Type 0) (config : ConfigValue) (number : ℕ) where
       due_more : (told taken : Bool) → AllByRecursion (λ a. IsSend a.event → SendsDue old number now a.event) (this told taken ∷ so_far.served)
       due_more told taken = (λ send. so_far.none_came does.event (does.was_due send), so_far.due)
 
+      notices_more : (told taken : Bool) → AllByRecursion (λ a. IsResend a.event → ResendsDue config old now a.event) (this told taken ∷ so_far.served)
+      notices_more told taken = (λ resend. so_far.no_notice_came does.event (does.notice_was_due resend), so_far.notices_due)
+
       did_more : (told taken : Bool) → DoesAll A config number old new now (this told taken ∷ so_far.served)
       did_more told taken = (between, so_far.did, does.does)
 
@@ -82,6 +85,8 @@ module _ (A : Type 0) (config : ConfigValue) (number : ℕ) where
             duties = (does.duty, so_far.duties);
             due = due_more true tells.taken;
             none_came = λ other due. so_far.none_came other (does.others other due);
+            notices_due = notices_more true tells.taken;
+            no_notice_came = λ other due. so_far.no_notice_came other (does.other_notices other due);
             once = once_more true tells.taken;
             spent = spent_more true tells.taken taken;
             done = (record { taken = taken; told = refl }, so_far.done);
@@ -98,6 +103,7 @@ module _ (A : Type 0) (config : ConfigValue) (number : ℕ) where
             duties = record {
               duties = (does.duty, so_far.duties);
               due = due_more told taken;
+              notices_due = notices_more told taken;
               once = once_more told taken;
               done = (inr (record { refused = refused; told = told_is; left_is = left_is }), so_far.done);
               all = inl refused;

@@ -23,7 +23,7 @@ use Rattle.lisp_refinement.specs.World.{ServerNodeState, RouterNodeState}
 use Rattle.lisp_turns.specs.Act.{ActValue}
 use Rattle.lisp_turns.specs.Acts.{TurnAct, act_calls}
 use Rattle.lisp_turns.specs.Beginning.{IsMute}
-use Rattle.lisp_turns.specs.Due.{IsRegisterDue, IsSend, SendsDue, IsRefused}
+use Rattle.lisp_turns.specs.Due.{IsRegisterDue, IsSend, IsResend, SendsDue, ResendsDue, IsRefused}
 use Rattle.lisp_turns.specs.Node.{NodeState, ServerCore, Server, Router, IsPlaced, Passes, IsDead, TellsDead}
 use Rattle.lisp_turns.specs.Obeying.{Obeys}
 use Rattle.lisp_turns.specs.Outside.{Reception, Datagram, Nothing, Failed, Call, Receives, Reads, Commits, Prints, Sends, Listens, Answers}
@@ -79,7 +79,7 @@ silent_turn A config places = record {
   receives = refl;
   served = [];
   did_serve = refl;
-  serves = record { duties = tt; due = tt; once = λ i j d less within. absurd (omega (arith, within)); done = refl; all = inr (inl (λ router. refl)) };
+  serves = record { duties = tt; due = tt; notices_due = tt; once = λ i j d less within. absurd (omega (arith, within)); done = refl; all = inr (inl (λ router. refl)) };
   calls = refl;
 }
 
@@ -173,7 +173,7 @@ module _ (to other : Addr) (bytes : List ℕ) (line : Line) where
   no_other_address : sent_of (act_calls answers) ≡ (other, bytes) ∷ [] → to ≡ other
   no_other_address is = ap (address_in to) is
 
-module _ (number now : ℕ) (pause left : Pause) (a b : TurnAct) where
+module _ (config : ConfigValue) (number now : ℕ) (pause left : Pause) (a b : TurnAct) where
   -- nothing goes on after what was refused
   goes_on_refused : IsRefused b.act.line → AreDone pause left now (a ∷ b ∷ []) → ⊥
   goes_on_refused refused done = done.1.0.taken refused
@@ -186,16 +186,21 @@ module _ (number now : ℕ) (pause left : Pause) (a b : TurnAct) where
   untold_wrongly put quiet told = absurd (true≢false (sym told ∙ sym put.told ∙ quiet))
 
   -- a Map-Register isn't sent twice
-  twice : (m n : RouterNodeState) → IsSend a.event → a.event ≡ b.event → DoesDuties number (Router m) (Router n) now pause left (a ∷ b ∷ []) → ⊥
+  twice : (m n : RouterNodeState) → IsSend a.event → a.event ≡ b.event → DoesDuties config number (Router m) (Router n) now pause left (a ∷ b ∷ []) → ⊥
   twice m n sends same duties = duties.once 0 1 a (omega arith) (omega arith) sends same
 
   -- nor where it isn't due
-  not_due : (m n : RouterNodeState) (server part : ℕ) → a.event ≡ events.Send number server part Done → (IsRegisterDue m server part now → ⊥) → DoesDuties number (Router m) (Router n) now pause left (a ∷ []) → ⊥
+  not_due : (m n : RouterNodeState) (server part : ℕ) → a.event ≡ events.Send number server part Done → (IsRegisterDue m server part now → ⊥) → DoesDuties config number (Router m) (Router n) now pause left (a ∷ []) → ⊥
   not_due m n server part sends never duties =
       never (subst (λ (e : EventValue). IsSend e → SendsDue (Router m) number now e) sends duties.due.0 tt).1
 
+  -- and no notice is sent again that isn't due
+  notice_not_due : (m n : ServerNodeState) (router : ℕ) → a.event ≡ events.Resend number router → (ResendsDue config (Server m) now (events.Resend number router) → ⊥) → DoesDuties config number (Server m) (Server n) now pause left (a ∷ []) → ⊥
+  notice_not_due m n router sends never duties =
+      never (subst (λ (e : EventValue). IsResend e → ResendsDue config (Server m) now e) sends duties.notices_due.0 tt)
+
   -- what is due isn't left
-  left_due : (m n : RouterNodeState) (etr : EtrState) (due : ℕ × ℕ) → up_in n.core ≡ Some etr → due_at etr now ≡ Some due → DoesDuties number (Router m) (Router n) now pause left [] → ⊥
+  left_due : (m n : RouterNodeState) (etr : EtrState) (due : ℕ × ℕ) → up_in n.core ≡ Some etr → due_at etr now ≡ Some due → DoesDuties config number (Router m) (Router n) now pause left [] → ⊥
   left_due m n etr due up is duties = by duties.all
     where
       by : ⊥ ⊎ (((e : EtrState) → up_in n.core ≡ Some e → due_at e now ≡ None) ⊎ (0 ≡ 2 ^ 64 - 1)) → ⊥
@@ -204,7 +209,7 @@ module _ (number now : ℕ) (pause left : Pause) (a b : TurnAct) where
       by (inr (inr many)) = omega (arith, many)
 
   -- what was refused isn't tried again within a second
-  too_soon : (old new : NodeState) → Serves number old new 999 (failed none_failed 0) left (a ∷ []) → ⊥
+  too_soon : (old new : NodeState) → Serves config number old new 999 (failed none_failed 0) left (a ∷ []) → ⊥
   too_soon old new serves = absurd (let clash : ◌≡◌ {A = List TurnAct} (a ∷ []) [] = serves.0 in cc)
 
 -- a second and a minute

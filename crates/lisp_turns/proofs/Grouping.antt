@@ -24,7 +24,7 @@ use Rattle.lisp_turns.specs.declared.order.Order.TheVariants.{Notice, Change, Ro
 use Rattle.lisp_turns.specs.declared.outside.Printed.{Printed}
 use Rattle.lisp_turns.specs.declared.outside.Printed.TheVariants as printed
 use Rattle.lisp_turns.specs.declared.pause.Pause.{Pause}
-use Rattle.lisp_turns.proofs.Asking.{asks_none, asks_one, asks_then, asks_same}
+use Rattle.lisp_turns.proofs.Asking.{asks_none, asks_one, asks_then}
 
 -- what is told goes on by one more
 pub tells_more : (told : List Heard) (h : Heard) (before s after : OutsideState) → TellsEach (reverse told) before s → Tells s after (printed.Heard h.act.line h.from) h.act.message → TellsEach (reverse (told ++ h ∷ [])) before after

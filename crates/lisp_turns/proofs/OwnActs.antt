@@ -106,6 +106,6 @@ module _ (number : ℕ) where
     pub own : AreOwn number acts
     pub none : arrived acts ≡ []
 
-  pub are_served : (b : Bool) (pause left : Pause) (now : ℕ) (before after : NodeState) (acts : List TurnAct) → ServesIf b number before after now pause left acts → AreServed acts
-  are_served true pause left now before after acts serves = record { own = served_own pause left now acts serves.duties serves.done; none = due_arrived acts serves.duties }
-  are_served false pause left now before after acts (is, same) = record { own = subst (λ (l : List TurnAct). AreOwn number l) (sym is) tt; none = ap arrived is }
+  pub are_served : (config : ConfigValue) (b : Bool) (pause left : Pause) (now : ℕ) (before after : NodeState) (acts : List TurnAct) → ServesIf config b number before after now pause left acts → AreServed acts
+  are_served config true pause left now before after acts serves = record { own = served_own pause left now acts serves.duties serves.done; none = due_arrived acts serves.duties }
+  are_served config false pause left now before after acts (is, same) = record { own = subst (λ (l : List TurnAct). AreOwn number l) (sym is) tt; none = ap arrived is }

@@ -184,7 +184,7 @@ module _ (A : Type 0) (config : ConfigValue) (number places : ℕ) (s t : TurnSt
       (tick_reaches A number turn.between turn.left turn.now hears_reach.left o (hears_reach.steps ++ T) hears_reach.stands hears_reach.node_is (omega (arith, hears_reach.clock)) turn.hearing.bound turn.withdrawn)
 
   served : AreServed number turn.served
-  served = are_served number (may_try s.sends turn.now) s.sends t.sends turn.now turn.left t.node turn.served turn.serves
+  served = are_served number config (may_try s.sends turn.now) s.sends t.sends turn.now turn.left t.node turn.served turn.serves
 
   serves_reach : After (lines_of (acts_calls turn.served) ++ (lines_of (acts_calls its_acts) ++ [])) (sent_of (acts_calls turn.served) ++ (sent_of (acts_calls its_acts) ++ [])) (arrived turn.served ++ (arrived its_acts ++ []))
   serves_reach = goes_further number (lines_of (acts_calls its_acts) ++ []) (lines_of (acts_calls turn.served)) (sent_of (acts_calls its_acts) ++ []) (sent_of (acts_calls turn.served)) (arrived its_acts ++ []) (arrived turn.served)

@@ -117,4 +117,5 @@ module _ (config : ConfigValue) (number server part now : ℕ) (old new : Router
     notice_was_due = λ is. absurd is;
     done = done answer sends.call.call told;
     others = others;
+    other_notices = λ other due. absurd due;
   }

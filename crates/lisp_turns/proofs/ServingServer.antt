@@ -1,5 +1,5 @@
--- A Map-Server sends a notice again: each network that has it takes the event.
-use Rattle.std.proofs.Common.{Global, ◌≡◌, ℕ, ◌+◌, ◌<◌, true, true≢false, List, length, Option, Some, None, Result, Ok, Err, refl, sym, ap, subst, ◌∙◌, arith}
+-- A Map-Server sends a notice again: each network that has it takes the event, and no other notice comes to be due.
+use Rattle.std.proofs.Common.{Global, ◌≡◌, ℕ, ◌+◌, ◌<◌, Bool, true, false, true≢false, List, length, Option, Some, None, Result, Ok, Err, refl, sym, ap, subst, ◌∙◌, arith}
 use Rattle.std.specs.Prelude.{◌-◌, nat_le, nat_lt, slice_get}
 use Rattle.std.specs.Option.{unwrap_or}
 use Rattle.std.proofs.lemmas.Bool.{and_parts, leb-true, ltb-true}
@@ -10,17 +10,20 @@ use Rattle.lisp_records.specs.Router.{router_eq}
 use Rattle.lisp_records.proofs.RouterLaws.{router_eq-Decides}
 use Rattle.lisp_policy.specs.Configuration.{ConfigValue, RouterEntryValue}
 use Rattle.lisp_admission.specs.declared.notice_fault.NoticeFault.{NoticeFault}
-use Rattle.lisp_server.specs.Notices.{StandingNoticeValue, notice_at, is_due_at}
+use Rattle.lisp_server.specs.Notices.{StandingNoticeValue, notice_at, is_due_at, Resends}
 use Rattle.lisp_model.specs.declared.event.Event.TheVariants as events
-use Rattle.lisp_model.specs.Trace.{Step, Opening, router_at}
+use Rattle.lisp_model.specs.Trace.{EventValue, Step, Opening, router_at}
 use Rattle.lisp_model.specs.Timers.{notices, notice_to}
 use Rattle.lisp_model.proofs.CleanLemmas.{in_find}
 use Rattle.lisp_refinement.specs.World.{ServerNodeState, RouterNodeState, WorldState}
 use Rattle.lisp_refinement.specs.Events.{address_of, ChangesNoticesAlone, NodeResends, SaysResendAnswer}
 use Rattle.lisp_refinement.specs.Stands.{Stands}
 use Rattle.lisp_refinement.proofs.NoticeParts.{its_router, kept_stands}
+use Rattle.lisp_server.proofs.StandingLaws.{notice_held}
 use Rattle.lisp_turns.specs.Act.{ActValue, numbered}
 use Rattle.lisp_turns.specs.Acts.{Does, DoesOne, datagrams}
+use Rattle.lisp_turns.specs.Due.{ResendsDue}
+use Rattle.lisp_turns.specs.Made.{IsResent}
 use Rattle.lisp_turns.specs.Node.{Server, IsPlaced}
 use Rattle.lisp_turns.specs.Serving.{number_of, resend_act}
 use Rattle.lisp_turns.proofs.NoticedRouters.{IsConfigured, configured}
@@ -102,3 +105,25 @@ module _ (config : ConfigValue) (number now : ℕ) (old new : ServerNodeState) (
     placed = placed;
     plain = plain answer is;
   }
+
+-- a notice that is due then was due before
+module _ (old new : ServerNodeState) (now : ℕ) (me router : RouterId) where
+  abbrev IsDueIn : ServerNodeState → Type 0
+  IsDueIn n = is_due_at now (notice_at n.core.notices router) ≡ true
+
+  -- the router's own was, and the others are as they were
+  resent_before : (sent : Addr × List ℕ) → (r : Resends old.core.notices new.core.notices me now sent.0 sent.1) → (b : Bool) → router_eq router me ≡ b → IsDueIn new → IsDueIn old
+  resent_before sent r true is due =
+      ap (λ (q : RouterId). is_due_at now (notice_at old.core.notices q)) ((router_eq-Decides router me).0 is) ∙ ap (is_due_at now) r.stood ∙ r.due
+  resent_before sent r false is due =
+      let its = (notice_held old.core.notices me r.notice r.stood).1 in
+      ap (is_due_at now) (sym (r.after.others router (λ same. absurd (true≢false (sym ((router_eq-Decides router me).1 (same ∙ its)) ∙ is))))) ∙ due
+
+  due_before : (answer : Result (Addr × List ℕ) NoticeFault) → NodeResends old new now me answer → IsDueIn new → IsDueIn old
+  due_before (Ok sent) r due = resent_before sent r (router_eq router me) refl due
+  due_before (Err fault) r due = subst IsDueIn r.1 due
+
+pub no_notice_came : (config : ConfigValue) (number : ℕ) (old new : ServerNodeState) (now router : ℕ) (act : ActValue) → IsResent config number (Server old) (Server new) now router act
+    → (other : EventValue) → ResendsDue config (Server new) now other → ResendsDue config (Server old) now other
+no_notice_came config number old new now router act made (events.Resend server r) (who, is, due) = (who, is, due_before old new now made.0 who made.2 made.3 due)
+no_notice_came config number old new now router act made _ due = absurd due

@@ -66,7 +66,7 @@ IsDuty number (events.Send router server part Done) = router ≡ number
 IsDuty number (events.Resend server router) = server ≡ number
 IsDuty number _ = ⊥
 
--- what a node did that was due: once it sent a Map-Register, that isn't due, and no other that wasn't
+-- what a node did that was due: once it sent a Map-Register, that isn't due; and no Map-Register and no notice is that wasn't
 pub record DoesDuty (A : Type 0) (config : ConfigValue) (number : ℕ) (old new : NodeState) (now : ℕ) (act : ActValue) : Type 0 where
   pub event : EventValue
   pub does : DoesOne A config number old new now event act
@@ -75,3 +75,4 @@ pub record DoesDuty (A : Type 0) (config : ConfigValue) (number : ℕ) (old new 
   pub notice_was_due : IsResend event → ResendsDue config old now event
   pub done : (IsRefused act.line → ⊥) → SendsDue new number now event → ⊥
   pub others : (other : EventValue) → SendsDue new number now other → SendsDue old number now other
+  pub other_notices : (other : EventValue) → ResendsDue config new now other → ResendsDue config old now other

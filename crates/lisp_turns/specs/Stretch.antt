@@ -7,7 +7,7 @@ use Rattle.lisp_records.specs.Address.{PrefixValue}
 use Rattle.lisp_policy.specs.Configuration.{ConfigValue}
 use Rattle.lisp_model.specs.Trace.{EventValue}
 use Rattle.lisp_turns.specs.Acts.{TurnAct, DoesAll, acts_calls, send_calls}
-use Rattle.lisp_turns.specs.Due.{IsDuty, IsSend, SendsDue}
+use Rattle.lisp_turns.specs.Due.{IsDuty, IsSend, IsResend, SendsDue, ResendsDue}
 use Rattle.lisp_turns.specs.Node.{NodeState, TellsDead}
 use Rattle.lisp_turns.specs.Outside.{Reception, Call, Polls, Listens, Prints, OutsideState, logged}
 use Rattle.lisp_turns.specs.Pause.{no_pause}
@@ -59,6 +59,8 @@ pub record HasServed (A : Type 0) (config : ConfigValue) (number : ℕ) (old new
   pub duties : AllByRecursion (λ a. IsDuty number a.event) served
   pub due : AllByRecursion (λ a. IsSend a.event → SendsDue old number now a.event) served
   pub none_came : (other : EventValue) → SendsDue new number now other → SendsDue old number now other
+  pub notices_due : AllByRecursion (λ a. IsResend a.event → ResendsDue config old now a.event) served
+  pub no_notice_came : (other : EventValue) → ResendsDue config new now other → ResendsDue config old now other
   pub once : AllPairs (λ a b. IsSend a.event → a.event ≢ b.event) served
   pub spent : All (λ a. SendsDue new number now a.event → ⊥) served
   pub done : AllByRecursion IsDone served
@@ -69,7 +71,7 @@ pub record ServesAll (A : Type 0) (config : ConfigValue) (number : ℕ) (old new
     (before after : OutsideState) : Type 0 where
   pub served : List TurnAct
   pub did : DoesAll A config number old new now served
-  pub duties : DoesDuties number old new now pause left served
+  pub duties : DoesDuties config number old new now pause left served
   pub asked : Asks before after (acts_calls served)
 
 -- the same, where it may be tried
@@ -77,7 +79,7 @@ pub record ServesDue (A : Type 0) (config : ConfigValue) (number : ℕ) (old new
     (before after : OutsideState) : Type 0 where
   pub served : List TurnAct
   pub did : DoesAll A config number old new now served
-  pub serves : Serves number old new now pause left served
+  pub serves : Serves config number old new now pause left served
   pub asked : Asks before after (acts_calls served)
 
 -- a turn was taken, or was lost

@@ -9,7 +9,7 @@ use Rattle.lisp_policy.specs.Configuration.{ConfigValue}
 use Rattle.lisp_model.specs.declared.event.Event.TheVariants as events
 use Rattle.lisp_turns.specs.Node.{NodeState, core_of, Passes, TellsDead}
 use Rattle.lisp_turns.specs.Acts.{TurnAct, DoesAll, acts_calls}
-use Rattle.lisp_turns.specs.Due.{IsDuty, IsSend, SendsDue, IsRefused, NothingDue}
+use Rattle.lisp_turns.specs.Due.{IsDuty, IsSend, IsResend, SendsDue, ResendsDue, IsRefused, NothingDue}
 use Rattle.lisp_turns.specs.Obeying.{Outcome, Obeys, obeyed, answer_of}
 use Rattle.lisp_turns.specs.Outside.{Reception, Datagram, Failed, Call, Receives, Polls, Reads, Waits, Commits, Prints, Listens, Answers, OutsideState, logged}
 use Rattle.lisp_turns.specs.Pause.{may_try, is_told, failed}
@@ -83,22 +83,23 @@ abbrev pub EndsRefused : List TurnAct → Type 0
 EndsRefused [] = ⊥
 EndsRefused (a ∷ earlier) = IsRefused a.act.line
 
--- what was due at a moment, the newest act first: each Map-Register to a Map-Server and of a part once at most, and only what
--- was due before; and all that was due, unless one was refused, or there were 2^64 - 1
-pub record DoesDuties (number : ℕ) (before after : NodeState) (now : ℕ) (pause left : Pause) (acts : List TurnAct) : Type 0 where
+-- what was due at a moment, the newest act first: each Map-Register to a Map-Server and of a part once at most, and only Map-Registers and
+-- notices that were due before; and all that was due, unless one was refused, or there were 2^64 - 1
+pub record DoesDuties (config : ConfigValue) (number : ℕ) (before after : NodeState) (now : ℕ) (pause left : Pause) (acts : List TurnAct) : Type 0 where
   pub duties : AllByRecursion (λ a. IsDuty number a.event) acts
   pub due : AllByRecursion (λ a. IsSend a.event → SendsDue before number now a.event) acts
+  pub notices_due : AllByRecursion (λ a. IsResend a.event → ResendsDue config before now a.event) acts
   pub once : AllPairs (λ a b. IsSend a.event → a.event ≢ b.event) acts
   pub done : AreDone pause left now acts
   pub all : EndsRefused acts ⊎ (NothingDue after now ⊎ (length acts ≡ 2 ^ 64 - 1))
 
 -- where something was refused less than a second ago, nothing is tried
-abbrev pub ServesIf : Bool → ℕ → NodeState → NodeState → ℕ → Pause → Pause → List TurnAct → Type 0
-ServesIf true number before after now pause left acts = DoesDuties number before after now pause left acts
-ServesIf false number before after now pause left acts = (acts ≡ []) × (left ≡ pause)
+abbrev pub ServesIf : ConfigValue → Bool → ℕ → NodeState → NodeState → ℕ → Pause → Pause → List TurnAct → Type 0
+ServesIf config true number before after now pause left acts = DoesDuties config number before after now pause left acts
+ServesIf config false number before after now pause left acts = (acts ≡ []) × (left ≡ pause)
 
-abbrev pub Serves : ℕ → NodeState → NodeState → ℕ → Pause → Pause → List TurnAct → Type 0
-Serves number before after now pause left acts = ServesIf (may_try pause now) number before after now pause left acts
+abbrev pub Serves : ConfigValue → ℕ → NodeState → NodeState → ℕ → Pause → Pause → List TurnAct → Type 0
+Serves config number before after now pause left acts = ServesIf config (may_try pause now) number before after now pause left acts
 
 -- the lines of the rows that died, the newest first
 abbrev pub expired_calls : List (RouterId × PrefixValue) → List Call
@@ -170,7 +171,7 @@ pub record IsTurn (A : Type 0) (config : ConfigValue) (number places : ℕ) (old
   pub receives : new.receives ≡ receives_after reception old.receives now
   pub served : List TurnAct
   pub did_serve : DoesAll A config number left new.node now served
-  pub serves : Serves number left new.node now old.sends new.sends served
+  pub serves : Serves config number left new.node now old.sends new.sends served
   pub calls : new.outside ≡ record { log = logged (turn_calls number reception old.receives now dead intake between served) old.outside.log; moment = now; is_cut = new.outside.is_cut }
 
 -- A turn that is lost: what it took in couldn't be committed. No line of it and no answer goes out, and no turn follows it.

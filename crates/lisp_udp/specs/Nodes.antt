@@ -12,6 +12,10 @@ node_count config = length config.servers + length config.routers
 abbrev pub IsNode : ConfigValue → ℕ → Type 0
 IsNode config number = number < node_count config
 
+-- and it is that of a Map-Server
+abbrev pub IsMapServer : ConfigValue → ℕ → Type 0
+IsMapServer config number = number < length config.servers
+
 -- the name and the address of the node with a number
 abbrev pub name_at : ConfigValue → ℕ → Option (List ℕ)
 name_at config number = if nat_lt number (length config.servers)

@@ -1,7 +1,8 @@
 //! The datagrams of a node that takes them in groups, and whose nonces are committed together.
 
-ghost use Rattle.std.specs.Prelude.{◌≡◌, length};
+ghost use Rattle.std.specs.Prelude.{◌≡◌, [], length, IfOk};
 ghost use Rattle.lisp_turns.specs.Outside.{FitsBuffer};
+ghost use Rattle.lisp_udp.specs.Groups.{first_sources, sources_after};
 
 use crate::socket::NodeSocket;
 use lisp_database_store::{SharedDatabase, SystemTable};
@@ -25,7 +26,9 @@ impl<'a, T: SystemTable> Group<'a, T> {
         alloc: Global,
         places: u8,
         database: &'a SharedDatabase<'a, T>,
-    ) -> Result<Group<'a, T>, AllocError> {
+    ) -> Result<Group<'a, T>, AllocError>
+        ensures { IfOk result (λ g. g.queue ≡ record { waiting = []; taken = []; places = places }) }
+    {
         Ok(Group {
             queue: Queue::new(alloc, places)?,
             database,
@@ -34,6 +37,8 @@ impl<'a, T: SystemTable> Group<'a, T> {
 
     /// A group begins: its first datagram, taken into `buffer`. Where none waits, the socket waits for one.
     pub(crate) fn receive(&mut self, socket: &mut NodeSocket, buffer: &mut [u8]) -> Received
+        ensures shares { self.new.queue.taken ≡ first_sources self.old.queue result }
+        ensures places { self.new.queue.places ≡ self.old.queue.places }
         ensures within { FitsBuffer result buffer.new }
         ensures room { length buffer.new ≡ length buffer.old }
     {
@@ -48,6 +53,8 @@ impl<'a, T: SystemTable> Group<'a, T> {
 
     /// The next datagram of the group, taken into `buffer`; `Nothing` where none waits.
     pub(crate) fn poll(&mut self, socket: &mut NodeSocket, buffer: &mut [u8]) -> Received
+        ensures shares { self.new.queue.taken ≡ sources_after self.old.queue result }
+        ensures places { self.new.queue.places ≡ self.old.queue.places }
         ensures within { FitsBuffer result buffer.new }
         ensures room { length buffer.new ≡ length buffer.old }
     {
@@ -62,7 +69,9 @@ impl<'a, T: SystemTable> Group<'a, T> {
 
     // What waits in the socket waits in the queue then, as far as there is room. Whether the socket failed.
     fn fill(&mut self, socket: &mut NodeSocket, buffer: &mut [u8]) -> bool
-        ensures { length buffer.new ≡ length buffer.old }
+        ensures shares { self.new.queue.taken ≡ self.old.queue.taken }
+        ensures places { self.new.queue.places ≡ self.old.queue.places }
+        ensures room { length buffer.new ≡ length buffer.old }
     {
         for _ in 0..MOST_AT_ONCE {
             match socket.poll(buffer) {
@@ -76,6 +85,8 @@ impl<'a, T: SystemTable> Group<'a, T> {
 
     // The datagram of the queue that is heard next.
     fn next(&mut self, buffer: &mut [u8]) -> Received
+        ensures shares { self.new.queue.taken ≡ sources_after self.old.queue result }
+        ensures places { self.new.queue.places ≡ self.old.queue.places }
         ensures within { FitsBuffer result buffer.new }
         ensures room { length buffer.new ≡ length buffer.old }
     {
@@ -93,6 +104,8 @@ impl<'a, T: SystemTable> Group<'a, T> {
 
     // The next datagram that comes to the socket, in its time limit.
     fn wait(&mut self, socket: &mut NodeSocket, buffer: &mut [u8]) -> Received
+        ensures shares { self.new.queue.taken ≡ sources_after self.old.queue result }
+        ensures places { self.new.queue.places ≡ self.old.queue.places }
         ensures within { FitsBuffer result buffer.new }
         ensures room { length buffer.new ≡ length buffer.old }
     {

@@ -1,6 +1,7 @@
 //! A node's lines on a writer.
 
-ghost use Rattle.std.specs.Option.{is_some};
+ghost use Rattle.std.specs.Prelude.{◌≡◌, Ok, Err};
+ghost use Rattle.std.specs.Option.{MatchOption, is_some};
 
 use crate::output::print_line;
 use crate::printer::Printer;
@@ -39,7 +40,9 @@ impl<'a, W: Write> LineWriter<'a, W> {
     }
 
     /// Why a line couldn't be written, where one couldn't. Faults: 88, 97.
-    pub(crate) fn end(self) -> Result<(), RunFault> {
+    pub(crate) fn end(self) -> Result<(), RunFault>
+        ensures { MatchOption self.entry.fault (result ≡ Ok tt) (λ fault. result ≡ Err fault) }
+    {
         match self.fault {
             Some(fault) => Err(fault),
             None => Ok(()),

@@ -2,7 +2,7 @@
 
 ghost use Rattle.std.specs.Prelude.{IfOk};
 ghost use Rattle.lisp_udp.specs.Lives.{Lives, SaysRestarted};
-ghost use Rattle.lisp_udp.specs.Nodes.{IsNode};
+ghost use Rattle.lisp_udp.specs.Nodes.{IsMapServer};
 
 use crate::life::{Life, run_over};
 use lisp_database_store::{SharedDatabase, SystemTable};
@@ -15,7 +15,7 @@ use std::alloc::Global;
 /// How long a node rests before it begins anew, in ms.
 const REST_MS: u64 = 1_000;
 
-/// Runs the node with a number over a store in the database, in so many turns of so many datagrams. Where a turn couldn't be
+/// Runs the Map-Server with a number over a store in the database, in so many turns of so many datagrams. Where a turn couldn't be
 /// committed, it says that it restarted, rests, and begins anew over a store in that database, with the turns that are left: as a
 /// crash would have it. What is outside is given back. Faults: those of the start, then that of what is outside; at a later start 97.
 pub(crate) fn live<T: SystemTable, O: Endpoint + Clock + Commit + Lines + Control + Drop>(
@@ -27,7 +27,7 @@ pub(crate) fn live<T: SystemTable, O: Endpoint + Clock + Commit + Lines + Contro
     turns: u64,
     outside: Result<O, RunFault>,
 ) -> Result<O, RunFault>
-    requires { IsNode config.now number }
+    requires { IsMapServer config.now number }
     ensures { IfOk outside (λ before. IfOk result (λ after. Lives Global config.now number places turns (O.seen before) (O.seen after))) }
 {
     let store = database.store();

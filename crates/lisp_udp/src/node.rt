@@ -1,6 +1,6 @@
 //! A node of either kind that runs: a Map-Server or a site router, on its socket and over its folder.
 
-ghost use Rattle.lisp_udp.specs.Nodes.{IsNode};
+ghost use Rattle.lisp_udp.specs.Nodes.{IsMapServer, IsNode};
 
 use crate::connection::AskedNode;
 use crate::control::ControlSocket;
@@ -115,8 +115,8 @@ fn asked_node<'a>(
     }
 }
 
-// Runs the node with a number over its store, in so many turns. Where its lines went is given back. `failure` holds the kind of
-// the last error of the store's device.
+// Runs the node with a number over its store, in so many turns: a Map-Server in groups, where its store has them; a router saves each
+// nonce by itself before it sends. Where its lines went is given back. `failure` holds the kind of the last error of the store's device.
 fn run_in_store<T: SystemTable, P: Printer + Drop>(
     rt: &HostRuntime,
     config: &Config,
@@ -130,19 +130,20 @@ fn run_in_store<T: SystemTable, P: Printer + Drop>(
     requires { IsNode config.now number }
 {
     let saves = SaveTimes::new(rt);
+    let is_server = number < config.servers().len();
     match store {
         NodeStore::Files(store) => run_alone::<T, _, P>(
             rt, config, number, store, &saves, control, turns, printer,
         ),
-        NodeStore::Database { database, group } if group <= 1 => {
-            let store = DatabaseStore::over(database, failure);
-            run_alone::<T, _, P>(rt, config, number, store, &saves, control, turns, printer)
-        }
-        NodeStore::Database { database, group } => {
+        NodeStore::Database { database, group } if is_server && group > 1 => {
             let database = SharedDatabase::over(database, failure);
             run_in_groups(
                 rt, config, number, &database, group, &saves, control, turns, printer,
             )
+        }
+        NodeStore::Database { database, .. } => {
+            let store = DatabaseStore::over(database, failure);
+            run_alone::<T, _, P>(rt, config, number, store, &saves, control, turns, printer)
         }
     }
 }
@@ -167,7 +168,7 @@ fn run_alone<'a, T: SystemTable, S: WorldStore + Drop, P: Printer + Drop>(
     Ok(life.outside.into_printer())
 }
 
-// Runs the node with a number over a database, to which groups of so many datagrams are committed.
+// Runs the Map-Server with a number over a database, to which groups of so many datagrams are committed.
 fn run_in_groups<'a, T: SystemTable, P: Printer + Drop>(
     rt: &'a HostRuntime,
     config: &Config,
@@ -179,7 +180,7 @@ fn run_in_groups<'a, T: SystemTable, P: Printer + Drop>(
     turns: u64,
     printer: P,
 ) -> Result<P, RunFault>
-    requires { IsNode config.now number }
+    requires { IsMapServer config.now number }
 {
     let group = Group::new(rt.alloc(), places, database)?;
     let address = entry_at(config, number).address;

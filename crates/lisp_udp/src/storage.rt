@@ -10,7 +10,8 @@ pub enum Storage {
     Files,
     /// In a database for each node, the file `nonces.db` in its folder. It takes over the nonces that files keep.
     Database {
-        /// How many datagrams a node takes in a turn at most, whose nonces are committed together: 1 to 64.
+        /// How many datagrams a Map-Server takes in a turn at most, whose nonces are committed together: 1 to 64. A router commits each
+        /// nonce before it sends, whatever this says.
         group: u8,
     },
 }

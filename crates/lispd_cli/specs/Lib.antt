@@ -1,3 +1,4 @@
 pub mod Fault
 pub mod Options
+pub mod Words
 pub mod Asking

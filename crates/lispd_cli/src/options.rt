@@ -8,6 +8,7 @@ ghost use Rattle.lispd_cli.specs.declared.fault.SetupFault.{SetupFault};
 
 use crate::fault::SetupFault;
 use crate::option::AnswerOption;
+use crate::words;
 use clap::ArgMatches;
 use lisp_answer::{AnswerSetup, DEFAULT_KEY, DEFAULT_SECRET, DEFAULT_SITE, default_prefix};
 use lisp_memory::{FallibleCopies, Memory};
@@ -52,9 +53,9 @@ fn text<'a>(matches: Option<&ArgMatches<'a>>, id: &str) -> Option<&'a str>
 fn is_given(matches: Option<&ArgMatches<'_>>, id: &str) -> bool
     ensures { result ≡ flag_of (option_text matches.entry id.now) }
 {
-    match text(matches, id) {
+    match matches {
         None => false,
-        Some(word) => word == "true",
+        Some(words) => words::is_given(words, id),
     }
 }
 

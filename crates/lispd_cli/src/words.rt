@@ -1,7 +1,8 @@
 //! The words of the command line, as `clap` matched them.
 
-ghost use Rattle.std.specs.Prelude.{◌≡◌, ◌≢◌, ◌≤◌, true, codes, None, IfOk, IfSome};
-ghost use Rattle.clap.specs.Words.{first_value, found_of};
+ghost use Rattle.std.specs.Prelude.{◌≡◌, ◌≢◌, ◌≤◌, true, codes, Some, None, IfOk, IfSome};
+ghost use Rattle.lispd_cli.specs.Words.{word_in, is_given_in, option_in, turns_of, group_below, group_of, ReadsNode};
+ghost use Rattle.lisp_texts.specs.Number.{number_of};
 
 use crate::command_line::{CHECK, CONFIG, DATABASE, GROUP, KNOWN, NAME, STORE, TURNS, WORDS};
 use crate::fault::ProgramFault;
@@ -12,7 +13,9 @@ use lisp_texts::number_from_text;
 const MOST_TOGETHER: u64 = 64;
 
 /// A word that the subcommand requires.
-pub fn word<'a>(words: &ArgMatches<'a>, name: &str) -> &'a str {
+pub fn word<'a>(words: &ArgMatches<'a>, name: &str) -> &'a str
+    ensures { result.now ≡ word_in words.now name.now }
+{
     match words.get_str(name) {
         Some(word) => word,
         None => "",
@@ -20,8 +23,13 @@ pub fn word<'a>(words: &ArgMatches<'a>, name: &str) -> &'a str {
 }
 
 /// Whether the switch was given.
-pub fn is_given(words: &ArgMatches<'_>, name: &str) -> bool {
-    words.get_flag(name)
+pub fn is_given(words: &ArgMatches<'_>, name: &str) -> bool
+    ensures { result ≡ is_given_in words.now name.now }
+{
+    match words.get_str(name) {
+        None => false,
+        Some(word) => word == "true",
+    }
 }
 
 /// Whether a fault is told in words on any standard error: a fault of `check` is, and each one where `--words` was given,
@@ -56,8 +64,9 @@ pub struct NodeWords<'a> {
 /// `ProgramFault::Known` where `--known` comes with them, `ProgramFault::Group` where the group has another form than it takes,
 /// `ProgramFault::GroupOfFiles` where `--group` comes without `--database`.
 pub fn node_words<'a>(words: &ArgMatches<'a>) -> Result<NodeWords<'a>, ProgramFault>
+    ensures words { IfOk result (ReadsNode words.now) }
     ensures known { IfOk result (λ w. w.is_known ≡ true → w.turns ≡ None) }
-    ensures database { IfOk result (λ w. first_value (found_of words.now) (codes "group") ≢ None → w.has_database ≡ true) }
+    ensures database { IfOk result (λ w. option_in words.now (codes "group") ≢ None → w.has_database ≡ true) }
     ensures group { IfOk result (λ w. (1 ≤ w.group) × (w.group ≤ 64)) }
 {
     let turns = turns(words)?;
@@ -78,7 +87,9 @@ pub fn node_words<'a>(words: &ArgMatches<'a>) -> Result<NodeWords<'a>, ProgramFa
 }
 
 // How many turns a node takes; `None` where it runs until it is killed.
-fn turns(words: &ArgMatches<'_>) -> Result<Option<u32>, ProgramFault> {
+fn turns(words: &ArgMatches<'_>) -> Result<Option<u32>, ProgramFault>
+    ensures { IfOk result (λ turns. turns_of (option_in words.now (codes "turns")) ≡ Some turns) }
+{
     let Some(text) = words.get_str(TURNS) else {
         return Ok(None);
     };
@@ -90,7 +101,8 @@ fn turns(words: &ArgMatches<'_>) -> Result<Option<u32>, ProgramFault> {
 
 // How many datagrams a node takes in a turn at most. Faults: `Group`, `GroupOfFiles`.
 fn group(words: &ArgMatches<'_>, has_database: bool) -> Result<u8, ProgramFault>
-    ensures database { IfOk result (λ _. first_value (found_of words.now) (codes "group") ≢ None → has_database ≡ true) }
+    ensures number { IfOk result (λ group. group_of (option_in words.now (codes "group")) ≡ Some group) }
+    ensures database { IfOk result (λ _. option_in words.now (codes "group") ≢ None → has_database ≡ true) }
     ensures bounds { IfOk result (λ group. (1 ≤ group) × (group ≤ 64)) }
 {
     let Some(text) = words.get_str(GROUP) else {
@@ -104,7 +116,8 @@ fn group(words: &ArgMatches<'_>, has_database: bool) -> Result<u8, ProgramFault>
 }
 
 fn group_in(text: &str) -> Option<u8>
-    ensures { IfSome result (λ group. (1 ≤ group) × (group ≤ 64)) }
+    ensures number { result ≡ group_below (number_of text.now) }
+    ensures bounds { IfSome result (λ group. (1 ≤ group) × (group ≤ 64)) }
 {
     match number_from_text(text) {
         Some(group) if 1 <= group && group <= MOST_TOGETHER => Some(group as u8),

@@ -1,8 +1,30 @@
-use Rattle.std.proofs.Common.{refl, sym, ap}
+use Rattle.std.proofs.Common.{[], refl, sym, ap, rules, arith}
 use Rattle.std.proofs.lemmas.Bool.{false≢true}
 use Rattle.lisp_turns.proofs.Duties.{act_told, served_more, ends_told, ends_untold}
 use Rattle.lisp_turns.proofs.turn.serve_all.Goals as goal
 use Rattle.lisp_turns.proofs.turn.serve_all.Goals.{then-fail, else-fail}
+
+-- nothing was done yet
+pub loop-init : goal.loop-init
+loop-init g c =
+    record {
+      placed = c.requires.placed;
+      served = record {
+        served = [];
+        counted = refl;
+        did = refl;
+        duties = tt;
+        due = tt;
+        none_came = λ other due. due;
+        notices_due = tt;
+        no_notice_came = λ other due. due;
+        once = λ i j d less within. absurd (omega (arith, within));
+        spent = search rules;
+        done = tt;
+        asked = search rules;
+      };
+      same = refl;
+    }
 
 pub returns-then-is_refused-clause-serves : goal.returns-then-is_refused-clause-serves
 returns-then-is_refused-clause-serves g c =

@@ -1,4 +1,4 @@
-use Rattle.std.proofs.Common.{true, false, sym, ◌∙◌}
+use Rattle.std.proofs.Common.{true, sym, ◌∙◌}
 use Rattle.lisp_turns.specs.Group.{has_acts}
 use Rattle.lisp_turns.specs.Stretch.{Asks}
 use Rattle.lisp_turns.proofs.Asking.{asks_one, asks_none}
