@@ -1,5 +1,7 @@
 -- Which lines are counted together: those of one first word, and of refusals those of one number.
-use Rattle.std.specs.Prelude.{◌≡◌, ℕ, List, codes, Option, Some, None}
+use Rattle.std.specs.Prelude.{◌≡◌, ℕ, ◌+◌, ◌<◌, List, codes, Option, Some, None}
+use Rattle.std.specs.declared.cmp.Ordering.{Ordering}
+use Rattle.std.specs.declared.cmp.Ordering.TheVariants.{Less}
 use Rattle.lisp_lines.specs.Parts.{verb}
 use Rattle.lisp_model.specs.Faults.{refusal_number}
 use Rattle.lisp_model.specs.declared.line.Line.{Line}
@@ -58,3 +60,23 @@ kind_number _ = None
 -- it is the first word of the text of each of them
 abbrev pub WordsBeginLines : Type 0
 WordsBeginLines = (line : Line) (kind : LineKind) → kind_of_line line ≡ Some kind → verb line ≡ kind_word kind
+
+-- where a kind stands among those that are told: by its word, and refusals behind all others
+abbrev pub kind_place : LineKind → ℕ
+kind_place kinds.Accepted = 0
+kind_place kinds.Changed = 1
+kind_place kinds.Counted = 2
+kind_place kinds.Done = 3
+kind_place kinds.Down = 4
+kind_place kinds.Expired = 5
+kind_place kinds.Notice = 6
+kind_place kinds.Noticed = 7
+kind_place kinds.Resent = 8
+kind_place kinds.Restarted = 9
+kind_place kinds.Rotated = 10
+kind_place kinds.Sent = 11
+kind_place (kinds.Refused number) = 12 + number
+
+-- so they are ordered, refusals by their numbers
+abbrev pub KindsByWord : (LineKind → LineKind → Ordering) → Type 0
+KindsByWord cmp = (one other : LineKind) → kind_place one < kind_place other → cmp one other ≡ Less

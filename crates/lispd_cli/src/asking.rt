@@ -1,7 +1,7 @@
 //! What a node that runs is asked, and told to do.
 
 ghost use Rattle.std.specs.Prelude.{◌≡◌};
-ghost use Rattle.lispd_cli.specs.Asking.{errand_of, first_word};
+ghost use Rattle.lispd_cli.specs.Asking.{EndsAtFault, bad_line, errand_of, fault_in, first_word};
 
 use crate::command_line::{FOLDER, PROMETHEUS, QUESTION};
 use crate::fault::ProgramFault;
@@ -98,23 +98,35 @@ fn answer<R: Files + Net + AllocGlobal>(rt: &R, path: &str, question: &str) -> i
 }
 
 // Prints an answer, unless it is the fault of the line. One that is cut off, or empty, is none.
-fn print_answer<W: Write>(answer: &str, writer: &mut W) -> Result<(), ProgramFault> {
+fn print_answer<W: Write>(answer: &str, writer: &mut W) -> Result<(), ProgramFault>
+    ensures { EndsAtFault answer.now result }
+{
     let Some(lines) = answer.strip_suffix('\n') else {
         return Err(ProgramFault::Unanswered);
     };
+    if let Some(number) = fault_in(lines) {
+        return Err(bad_line(number));
+    }
     if !is_whole(lines) {
         return Err(ProgramFault::Unanswered);
     }
-    match lines
-        .strip_prefix("fault ")
-        .and_then(|text| number_from_text(text))
-    {
-        // The faults of a line that is no question and no order.
-        Some(number @ 80..=86) => Err(bad_line(number as u16)),
-        _ => match writer.write_all(answer.as_bytes()) {
-            Ok(()) => Ok(()),
-            Err(_) => Err(ProgramFault::Answer(AnswerFault::Write)),
-        },
+    match writer.write_all(answer.as_bytes()) {
+        Ok(()) => Ok(()),
+        Err(_) => Err(ProgramFault::Answer(AnswerFault::Write)),
+    }
+}
+
+// The fault of a line that is no question and no order, where an answer says so.
+fn fault_in(lines: &str) -> Option<u16>
+    ensures { result ≡ fault_in lines.now }
+{
+    let (word, number) = lines.split_once(' ')?;
+    if word != "fault" {
+        return None;
+    }
+    match number_from_text(number) {
+        Some(number @ 80..=86) => Some(number as u16),
+        _ => None,
     }
 }
 
@@ -131,6 +143,8 @@ fn is_whole(lines: &str) -> bool {
     following == Some(lines.count() as u64)
 }
 
-fn bad_line(number: u16) -> ProgramFault {
+fn bad_line(number: u16) -> ProgramFault
+    ensures { result ≡ bad_line number }
+{
     ProgramFault::Run(RunFault { number, line: 0 })
 }
