@@ -45,3 +45,7 @@ module _ {T : Type 0} where
     -- a commit that was done: there was nothing to commit, and nothing was asked; or all is committed
     abbrev pub IsDone : Groups T → Groups T → Type 0
     IsDone old new = ((old.group ≡ Empty) × (new ≡ old)) ⊎ CommitsAll old new
+
+    -- some database did a commit. No contract sees what is in a cell, and so which one
+    abbrev pub SomeIsDone : Type 0
+    SomeIsDone = (old new : Groups T) × IsDone old new

@@ -22,3 +22,7 @@ any_keeper_keeps honest = absurd (true≢false (sym honest))
 -- a store over a keeper, with a count of faults: it is honest if the keeper is, and called neither quiet nor obedient
 abbrev pub store_over : KeeperState → ℕ → StoreState
 store_over keeper faults = record { kept = keeper.kept; faults = faults; is_honest = keeper.is_honest; is_quiet = false; is_obedient = false; fate = Done }
+
+-- a store in a database that is shared, as it begins
+abbrev pub shared_store : StoreState
+shared_store = store_over any_keeper 0

@@ -2,8 +2,8 @@
 
 ghost use Rattle.std.specs.Prelude.{◌≡◌, Option, IfOk, IfErr, OnOk, IsTrue};
 ghost use Rattle.lisp_nonces.specs.declared.fault.StoreFault.{StoreFault};
-ghost use Rattle.lisp_database_store.specs.Groups.{JoinsGroup, IsDone};
-ghost use Rattle.lisp_database_store.specs.Keeper.{any_keeper, any_keeper_keeps};
+ghost use Rattle.lisp_database_store.specs.Groups.{JoinsGroup, SomeIsDone};
+ghost use Rattle.lisp_database_store.specs.Keeper.{any_keeper, any_keeper_keeps, shared_store};
 ghost use Rattle.lisp_database_store.specs.Table.{Finds};
 ghost use Rattle.lisp_database_store.specs.declared.group.Groups.{Groups};
 
@@ -13,7 +13,7 @@ use crate::group::Groups;
 use crate::keeper::Keeper;
 use crate::store::DatabaseStore;
 use crate::table::SystemTable;
-use lisp_nonces::{Pair, StoreFault};
+use lisp_nonces::{NonceStore, Pair, StoreFault};
 use std::cell::{Cell, RefCell};
 use std::io::ErrorKind;
 
@@ -39,14 +39,16 @@ impl<'a, T: SystemTable> SharedDatabase<'a, T> {
     }
 
     /// A store in it.
-    pub fn store(&'a self) -> DatabaseStore<'a, &'a SharedDatabase<'a, T>> {
+    pub fn store(&'a self) -> DatabaseStore<'a, &'a SharedDatabase<'a, T>>
+        ensures { (⟦<DatabaseStore<'a, &'a SharedDatabase<'a, T>> as NonceStore>⟧.seen result) ≡ shared_store }
+    {
         DatabaseStore::over(self, self.failure)
     }
 
     /// Commits what was saved since the last commit: whether all of it is kept now, synced. Asks nothing of the disk where nothing
     /// was saved. Where it isn't kept, what the disk has is in doubt, so the next call opens the file anew.
     pub fn commit(&self) -> bool
-        ensures { IsTrue result → (old new : Groups T) × IsDone T.Table.means old new }
+        ensures { IsTrue result → SomeIsDone T.Table.means }
     {
         let committed = match self.groups.try_borrow_mut() {
             Ok(mut groups) => groups.commit(),

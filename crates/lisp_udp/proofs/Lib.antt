@@ -2,5 +2,6 @@ pub mod LivesInOrder
 pub mod Written
 pub mod Places
 pub mod Sending
+pub mod Taken
 pub mod Names
 pub mod Bound

@@ -14,7 +14,7 @@ drop_from (y ∷ xs) zero x at = ap (λ z. z ∷ xs) (same_Some y x at)
 drop_from (y ∷ xs) (suc k) x at = drop_from xs k x at
 
 -- nothing is left past the end
-drop_past : {X : Type 0} (xs : List X) (k : ℕ) → length xs ≤ k → drop k xs ≡ []
+pub drop_past : {X : Type 0} (xs : List X) (k : ℕ) → length xs ≤ k → drop k xs ≡ []
 drop_past [] zero past = refl
 drop_past [] (suc k) past = refl
 drop_past (x ∷ xs) zero past = absurd (omega (arith, past))
@@ -32,7 +32,7 @@ SentSoFar old now before told bag first k = (left : List SocketValue) (after : O
     → SendsAll now left (drop k bag) told after → SendsAll old left (drop first bag) before after
 
 -- the number of the next one
-next_of : (k : ℕ) → suc k ≡ k + 1
+pub next_of : (k : ℕ) → suc k ≡ k + 1
 next_of k = omega arith
 
 pub sent_more : (old now between : List SocketValue) (before told after : Option (List ℕ)) (bag : List DatagramValue) (first k : ℕ) (d : DatagramValue) (text : List ℕ)

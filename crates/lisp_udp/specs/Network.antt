@@ -41,3 +41,10 @@ pub record TakesCommand (Plays : Option (List ℕ) → Option (List ℕ) → Typ
   pub told : Option (List ℕ)
   pub appends : Appends before told text
   pub goes_on : GoesOn Plays old new heard left told after arrived
+
+-- commands are taken, one after the other
+abbrev pub TakesAll : (Plays : WorldState → WorldState → List CommandValue → Option (List ℕ) → Option (List ℕ) → Type 0) → WorldState → WorldState
+    → List SocketValue → List SocketValue → List CommandValue → Option (List ℕ) → Option (List ℕ) → Type 0
+TakesAll Plays old new sockets left [] before after = (new ≡ old) × (left ≡ sockets) × (after ≡ before)
+TakesAll Plays old new sockets left (order ∷ orders) before after = (between : WorldState) × (heard : List SocketValue) × (told : Option (List ℕ))
+    × TakesCommand (Plays old between (order ∷ [])) old between sockets heard (order ∷ []) before told × TakesAll Plays between new heard left orders told after

@@ -1,11 +1,12 @@
 //! What a node that runs has outside: the system's socket and clock, and where its lines go.
 
-ghost use Rattle.std.specs.Prelude.{None};
+ghost use Rattle.std.specs.Prelude.{None, IfSome, IsTrue};
+ghost use Rattle.lisp_database_store.specs.Groups.{SomeIsDone};
 ghost use Rattle.lisp_records.specs.Router.{router_cmp};
 ghost use Rattle.lisp_statistics.specs.Hearing.{heard_in};
 ghost use Rattle.lisp_statistics.specs.Kind.{kind_of};
 ghost use Rattle.lisp_statistics.specs.Statistics.{CountsLine, HearsLine};
-ghost use Rattle.lisp_turns.specs.Outside.{LogsLine};
+ghost use Rattle.lisp_turns.specs.Outside.{Commits, Logs, LogsLine};
 ghost use Rattle.lisp_udp.specs.Moments.{moment_of};
 
 use crate::control::ControlSocket;
@@ -125,7 +126,10 @@ impl<R: std::time::Clock, T: SystemTable, P: Printer> Endpoint for Devices<'_, R
 
 impl<R: std::time::Clock, T: SystemTable, P: Printer> Commit for Devices<'_, R, T, P> {
     /// Does nothing where each save is committed by itself. A commit of a group is timed as a save.
-    fn commit(&mut self) -> bool {
+    fn commit(&mut self) -> bool
+        ensures logs { Logs (⟦<Self as Outside>⟧.seen self.old) (⟦<Self as Outside>⟧.seen self.new) (Commits result) }
+        ensures group { IfSome self.old.group (λ group. IsTrue result → SomeIsDone T.Table.means) }
+    {
         let Some(group) = &self.group else {
             return true;
         };

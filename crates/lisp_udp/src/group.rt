@@ -1,6 +1,7 @@
 //! The datagrams of a node that takes them in groups, and whose nonces are committed together.
 
-ghost use Rattle.std.specs.Prelude.{◌≡◌, [], length, IfOk};
+ghost use Rattle.std.specs.Prelude.{◌≡◌, [], length, IfOk, IsTrue};
+ghost use Rattle.lisp_database_store.specs.Groups.{SomeIsDone};
 ghost use Rattle.lisp_turns.specs.Outside.{FitsBuffer};
 ghost use Rattle.lisp_udp.specs.Groups.{first_sources, sources_after};
 
@@ -63,7 +64,9 @@ impl<'a, T: SystemTable> Group<'a, T> {
     }
 
     /// Commits what was saved since the last commit; whether that was done.
-    pub(crate) fn commit(&self) -> bool {
+    pub(crate) fn commit(&self) -> bool
+        ensures { IsTrue result → SomeIsDone T.Table.means }
+    {
         self.database.commit()
     }
 

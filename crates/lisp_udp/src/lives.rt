@@ -1,6 +1,7 @@
 //! The lives of a node that begins anew where its store couldn't commit.
 
 ghost use Rattle.std.specs.Prelude.{IfOk};
+ghost use Rattle.lisp_database_store.specs.Keeper.{shared_store};
 ghost use Rattle.lisp_udp.specs.Lives.{Lives, SaysRestarted};
 ghost use Rattle.lisp_udp.specs.Nodes.{IsMapServer};
 
@@ -28,7 +29,7 @@ pub(crate) fn live<T: SystemTable, O: Endpoint + Clock + Commit + Lines + Contro
     outside: Result<O, RunFault>,
 ) -> Result<O, RunFault>
     requires { IsMapServer config.now number }
-    ensures { IfOk outside (λ before. IfOk result (λ after. Lives Global config.now number places turns (O.seen before) (O.seen after))) }
+    ensures { IfOk outside (λ before. IfOk result (λ after. Lives Global config.now number shared_store places turns (O.seen before) (O.seen after))) }
 {
     let store = database.store();
     let mut life = run_over(alloc, config, number, store, places, turns, outside)?;

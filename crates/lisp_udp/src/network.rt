@@ -3,7 +3,7 @@
 ghost use Rattle.std.specs.Prelude.{◌≡◌, IfOk, OnOk, length, map, drop};
 ghost use Rattle.lisp_player.specs.Playing.{Wrote};
 ghost use Rattle.lisp_script.specs.Command.{command_value};
-ghost use Rattle.lisp_udp.specs.Network.{awaited, TellsAwaited, SendsAll, TakesCommand};
+ghost use Rattle.lisp_udp.specs.Network.{awaited, TellsAwaited, SendsAll, TakesAll, TakesCommand};
 ghost use Rattle.lisp_udp.specs.Nodes.{node_count};
 ghost use Rattle.lisp_udp.specs.Printing.{WritesTold};
 
@@ -149,9 +149,12 @@ struct RunningNetwork<'a, S: WorldStore, E: Endpoint> {
 
 impl<S: WorldStore + Drop, E: Endpoint> RunningNetwork<'_, S, E> {
     // Takes the commands, one after the other.
-    fn run<W: Write>(&mut self, commands: &[Command], writer: &mut W) -> Result<(), RunFault> {
-        for command in commands.chunks(1) {
-            self.take(command, writer)?;
+    fn run<W: Write>(&mut self, commands: &[Command], writer: &mut W) -> Result<(), RunFault>
+        ensures { OnOk result (TakesAll (λ old new orders. Wrote Global ⟦<Global as Memory>⟧.may_refuse S.may_refuse old new self.old.config.now orders)
+            self.old.world self.new.world self.old.sockets.sockets.items self.new.sockets.sockets.items (map command_value commands.now) (W.contents writer.old) (W.contents writer.new)) }
+    {
+        for at in 0..commands.len() {
+            self.take(&commands[at..at + 1], writer)?;
         }
         Ok(())
     }
@@ -159,8 +162,9 @@ impl<S: WorldStore + Drop, E: Endpoint> RunningNetwork<'_, S, E> {
     // Takes a command, which stands alone in the list, if it waits for no datagram or that arrives, and sends what it adds to
     // the datagrams.
     fn take<W: Write>(&mut self, command: &[Command], writer: &mut W) -> Result<(), RunFault>
-        ensures { OnOk result (TakesCommand (Wrote Global ⟦<Global as Memory>⟧.may_refuse S.may_refuse self.old.world self.new.world self.old.config.now (map command_value command.now))
+        ensures takes { OnOk result (TakesCommand (Wrote Global ⟦<Global as Memory>⟧.may_refuse S.may_refuse self.old.world self.new.world self.old.config.now (map command_value command.now))
             self.old.world self.new.world self.old.sockets.sockets.items self.new.sockets.sockets.items (map command_value command.now) (W.contents writer.old) (W.contents writer.new)) }
+        ensures config { self.new.config ≡ self.old.config }
     {
         if !arrives(self.alloc, &self.world, command, &mut self.sockets, writer)? {
             return Ok(());
