@@ -9,8 +9,8 @@ use Rattle.std.proofs.lemmas.Option.{slice_get-get_or, slice_get_within}
 use Rattle.lisp_policy.specs.Configuration.{ConfigValue}
 use Rattle.lisp_nonces.specs.Store.{StoreState}
 use Rattle.lisp_refinement.specs.World.{ServerNodeState, RouterNodeState}
-use Rattle.lisp_world.specs.Making.{server_over, IsRouterOver, AddsNode, AreServers, AreRouters, AreNodes, HasStarted, HaveStarted}
-use Rattle.lisp_refinement.proofs.Gets.{none_is_some, same_some, get_set, get_before}
+use Rattle.lisp_world.specs.Making.{server_over, IsRouterOver, AddsNode, AreServers, AreRouters, AreNodes, HasStarted, HaveStarted, HaveStartedBefore}
+use Rattle.lisp_refinement.proofs.Gets.{none_is_some, same_some, get_set, get_before, get_within}
 
 module _ {X Y : Type 0} where
   -- one more element is mapped behind others
@@ -187,6 +187,21 @@ module _ (old new : List RouterNodeState) (i : ℕ) (to : StartedTo old new i) w
       each_now : (k : ℕ) (n : RouterNodeState) → ((k ≡ i) × (y ≡ n)) ⊎ ((k ≢ i) × (slice_get new k ≡ Some n)) → ((k < i + 1) × Was k n) ⊎ ((i + 1 ≤ k) × (slice_get old k ≡ Some n))
       each_now k n (inl (same, that)) = inl (omega (arith, same), (x, ap (slice_get old) same ∙ next_was x low is, subst (λ m. HasStarted x m) that starts))
       each_now k n (inr (other, at)) = further k n other (to.each k n at)
+
+  -- those before the next one did, whatever becomes of that one
+  pub started_before : (y : RouterNodeState) → i < length new → HaveStartedBefore i old (slice_set new i y)
+  started_before y low k less = (let was = untouched (get_set new i k y there.0 there.1) in (was.0, there.0, was.1, there.1, was.2))
+    where
+      there : (n : RouterNodeState) × (slice_get (slice_set new i y) k ≡ Some n)
+      there = get_within (slice_set new i y) k (let same = length-set new i y in omega (arith, less, low, same))
+
+      done : ((k < i) × Was k there.0) ⊎ ((i ≤ k) × (slice_get old k ≡ Some there.0)) → Was k there.0
+      done (inl (_, was)) = was
+      done (inr (more, _)) = absurd (omega (arith, less, more))
+
+      untouched : ((k ≡ i) × (y ≡ there.0)) ⊎ ((k ≢ i) × (slice_get new k ≡ Some there.0)) → Was k there.0
+      untouched (inl (same, _)) = absurd (omega (arith, less, same))
+      untouched (inr (_, at)) = done (to.each k there.0 at)
 
   -- all
   pub all_started : length new ≤ i → HaveStarted old new

@@ -91,6 +91,17 @@ pub record HaveStarted (old new : List RouterNodeState) : Type 0 where
   pub each : (k : ℕ) (n : RouterNodeState) → slice_get new k ≡ Some n
       → (m : RouterNodeState) × (slice_get old k ≡ Some m) × HasStarted m n
 
+-- so did each router before a place
+abbrev pub HaveStartedBefore : ℕ → (old new : List RouterNodeState) → Type 0
+HaveStartedBefore place old new = (k : ℕ) → k < place
+    → (m n : RouterNodeState) × (slice_get old k ≡ Some m) × (slice_get new k ≡ Some n) × HasStarted m n
+
+-- each router with a number below this one started over its store
+abbrev pub HaveStartedBelow : ℕ → ConfigValue → List StoreState → Type 0
+HaveStartedBelow node c stores = (place : ℕ) → length c.servers + place < node
+    → (before : StoreState) × (slice_get stores (length c.servers + place) ≡ Some before)
+    × (down n : RouterNodeState) × IsRouterOver c place before down × HasStarted down n
+
 -- a router didn't start over its store: by the store's device only where that failed, and for want of memory only
 -- where memory, or that of its store, may be refused
 pub record IsUnstarted (before after : StoreState) (why : StartFault) (Refused StoreRefused : Type 0) : Type 0 where
@@ -103,25 +114,26 @@ pub record IsUnstarted (before after : StoreState) (why : StartFault) (Refused S
 abbrev pub StaysDown : RouterNodeState → RouterNodeState → Type 0 → Type 0 → StartFault → Type 0
 StaysDown old new Refused StoreRefused why = IsUnstarted old.store new.store why Refused StoreRefused
 
--- one of these routers, which are numbered from a number on, didn't start
-pub record IsStartFault (first : ℕ) (routers : List RouterNodeState) (Refused StoreRefused : Type 0)
+-- one of these routers, which are numbered from a number on, didn't start, and each before it did
+pub record IsStartFault (first : ℕ) (old new : List RouterNodeState) (Refused StoreRefused : Type 0)
     (fault : WorldFault) : Type 0 where
   pub place : ℕ
   pub node : RouterNodeState
-  pub there : slice_get routers place ≡ Some node
+  pub there : slice_get old place ≡ Some node
+  pub earlier : HaveStartedBefore place old new
   pub why : StartFault
   pub is : fault ≡ Start (first + place) why
   pub after : StoreState
   pub unstarted : IsUnstarted node.store after why Refused StoreRefused
 
--- why no network is made of a configuration over stores: nodes are alike; want of memory; or a router, by its number,
--- doesn't start over its store
+-- why no network is made of a configuration over stores: nodes are alike; want of memory; or the first router, by its
+-- number, that doesn't start over its store
 abbrev pub IsNewFault : ConfigValue → List StoreState → Type 0 → Type 0 → WorldFault → Type 0
 IsNewFault c stores Refused StoreRefused world_faults.Repeated = repeats c ≡ true
 IsNewFault c stores Refused StoreRefused world_faults.OutOfMemory = Refused
 IsNewFault c stores Refused StoreRefused (world_faults.Start node why) =
     (length c.servers ≤ node) × (before : StoreState) × (slice_get stores node ≡ Some before) × (after : StoreState)
-    × IsUnstarted before after why Refused StoreRefused
+    × IsUnstarted before after why Refused StoreRefused × HaveStartedBelow node c stores
 IsNewFault c stores Refused StoreRefused _ = ⊥
 
 -- so it is where none is made over stores as they are seen

@@ -369,7 +369,7 @@ fn start_all<S: WorldStore, A: Memory + Copy>(
 ) -> Result<(), WorldFault>
     requires { first + length routers.old < 2 ^ 64 }
     ensures started { OnOk result (HaveStarted routers.old routers.new) }
-    ensures faults { IfErr result (IsStartFault first routers.old A.may_refuse S.may_refuse) }
+    ensures faults { IfErr result (IsStartFault first routers.old routers.new A.may_refuse S.may_refuse) }
 {
     for i in 0..routers.len() {
         if let Err(fault) = start(alloc, &mut routers[i]) {

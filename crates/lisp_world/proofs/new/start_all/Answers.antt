@@ -2,7 +2,7 @@ use Rattle.std.proofs.Common.{◌<◌, length, arith, refl, sym, subst}
 use borrow.Author.Rules.{scaled_Fits}
 use Rattle.lisp_refinement.specs.World.{RouterNodeState}
 use Rattle.lisp_world.specs.Making.{HasStarted, IsUnstarted}
-use Rattle.lisp_world.proofs.MakingNodes.{started_to_none, next_was, started_more, all_started}
+use Rattle.lisp_world.proofs.MakingNodes.{started_to_none, next_was, started_more, started_before, all_started}
 use Rattle.lisp_world.proofs.new.start_all.Goals as goal
 
 pub loop-i-init : goal.loop-i-init
@@ -15,6 +15,7 @@ returns-in-Err-clause-faults g c =
       place = c.loop-i.i;
       node = c.index-routers-i.result;
       there = next_was c.args.routers.now c.loop-i.routers c.loop-i.i c.loop-i.invariant c.index-routers-i.result low c.index-routers-i.is;
+      earlier = started_before c.args.routers.now c.loop-i.routers c.loop-i.i c.loop-i.invariant c.start.new.router low;
       why = c.in-Err.fault;
       is = refl;
       after = c.start.new.router.store;

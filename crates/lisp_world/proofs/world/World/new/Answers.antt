@@ -25,7 +25,7 @@ memory_alone (Ok x) is same = absurd is
 memory_alone (Err e) is same = absurd cc
 
 -- a router that doesn't start says why
-module _ {X : Type 0} (r : Result X WorldFault) (first : ℕ) (routers : List RouterNodeState) (fault : WorldFault) (Refused StoreRefused : Type 0) (is : r ≡ Err fault) (why : IsStartFault first routers Refused StoreRefused fault) where
+module _ {X : Type 0} (r : Result X WorldFault) (first : ℕ) (routers left : List RouterNodeState) (fault : WorldFault) (Refused StoreRefused : Type 0) (is : r ≡ Err fault) (why : IsStartFault first routers left Refused StoreRefused fault) where
   unstarted_alone : r ≢ Err faults.Repeated
   unstarted_alone same = (let both = sym is ∙ same in let start = why.is in cc)
 
@@ -121,16 +121,16 @@ returns-clause-repeated g c = unrepeated _ _ (sym c.repeats.ensures.exact ∙ c.
 
 pub returns-in_err-start_all-clause-repeated : goal.returns-in_err-start_all-clause-repeated
 returns-in_err-start_all-clause-repeated g c =
-    unrepeated _ _ (sym c.repeats.ensures.exact ∙ c.if-repeats.false) (unstarted_alone _ _ _ _ _ _ (err_is c.from_residual-in_err-start_all.result c.in_err-start_all.field-0.0 c.from_residual-in_err-start_all.ensures.1) c.in_err-start_all.ensures.faults)
+    unrepeated _ _ (sym c.repeats.ensures.exact ∙ c.if-repeats.false) (unstarted_alone _ _ _ _ _ _ _ (err_is c.from_residual-in_err-start_all.result c.in_err-start_all.field-0.0 c.from_residual-in_err-start_all.ensures.1) c.in_err-start_all.ensures.faults)
 
 pub returns-in_err-start_all-clause-memory : goal.returns-in_err-start_all-clause-memory
-returns-in_err-start_all-clause-memory g c = unstarted_memory _ _ _ _ _ _ (err_is c.from_residual-in_err-start_all.result c.in_err-start_all.field-0.0 c.from_residual-in_err-start_all.ensures.1) c.in_err-start_all.ensures.faults
+returns-in_err-start_all-clause-memory g c = unstarted_memory _ _ _ _ _ _ _ (err_is c.from_residual-in_err-start_all.result c.in_err-start_all.field-0.0 c.from_residual-in_err-start_all.ensures.1) c.in_err-start_all.ensures.faults
 
 pub returns-in_err-start_all-clause-start_memory : goal.returns-in_err-start_all-clause-start_memory
-returns-in_err-start_all-clause-start_memory g c = unstarted_start _ _ _ _ _ _ (err_is c.from_residual-in_err-start_all.result c.in_err-start_all.field-0.0 c.from_residual-in_err-start_all.ensures.1) c.in_err-start_all.ensures.faults
+returns-in_err-start_all-clause-start_memory g c = unstarted_start _ _ _ _ _ _ _ (err_is c.from_residual-in_err-start_all.result c.in_err-start_all.field-0.0 c.from_residual-in_err-start_all.ensures.1) c.in_err-start_all.ensures.faults
 
 pub returns-in_err-start_all-clause-store_memory : goal.returns-in_err-start_all-clause-store_memory
-returns-in_err-start_all-clause-store_memory g c = unstarted_store _ _ _ _ _ _ (err_is c.from_residual-in_err-start_all.result c.in_err-start_all.field-0.0 c.from_residual-in_err-start_all.ensures.1) c.in_err-start_all.ensures.faults
+returns-in_err-start_all-clause-store_memory g c = unstarted_store _ _ _ _ _ _ _ (err_is c.from_residual-in_err-start_all.result c.in_err-start_all.field-0.0 c.from_residual-in_err-start_all.ensures.1) c.in_err-start_all.ensures.faults
 
 pub returns-clause-memory : goal.returns-clause-memory
 returns-clause-memory g c = taken _ _
@@ -194,9 +194,9 @@ pub returns-in_err-start_all-clause-faults : goal.returns-in_err-start_all-claus
 returns-in_err-start_all-clause-faults g c =
     let first = c.len.ensures ∙ c.in_ok-servers.servers.ok.0 in
     start_fault c.args.config.now (map g.S.NonceStore.seen c.args.stores.items) g.A.Memory.may_refuse g.S.NonceStore.may_refuse c.in_ok-servers.servers.items c.in_ok-servers.routers.items c.in_ok-servers.ensures.nodes
-    c.from_residual-in_err-start_all.result c.in_err-start_all.field-0.0 c.len.result first
+    c.start_all.new.routers c.from_residual-in_err-start_all.result c.in_err-start_all.field-0.0 c.len.result first
     (err_is c.from_residual-in_err-start_all.result c.in_err-start_all.field-0.0 c.from_residual-in_err-start_all.ensures.1)
-    (subst (λ (l : List RouterNodeState). IsStartFault c.len.result l g.A.Memory.may_refuse g.S.NonceStore.may_refuse c.in_err-start_all.field-0.0) c.deref_mut.ensures.value c.in_err-start_all.ensures.faults)
+    (subst (λ (l : List RouterNodeState). IsStartFault c.len.result l c.start_all.new.routers g.A.Memory.may_refuse g.S.NonceStore.may_refuse c.in_err-start_all.field-0.0) c.deref_mut.ensures.value c.in_err-start_all.ensures.faults)
 
 -- and over calm stores
 pub returns-then-repeats-clause-calm_faults : goal.returns-then-repeats-clause-calm_faults
