@@ -1,5 +1,5 @@
 -- Examples: a turn that is one, and near misses, each but for one thing: what the definitions don't allow.
-use Rattle.std.proofs.Common.{◌≡◌, ◌⊎◌, inl, inr, ℕ, ◌-◌, ◌^◌, ◌<◌, Bool, true, false, true≢false, List, [], ◌∷◌, length, Option, Some, None, Ok, refl, sym, ap, subst, ◌∙◌, arith}
+use Rattle.std.proofs.Common.{◌≡◌, ◌⊎◌, inl, inr, ℕ, ◌-◌, ◌^◌, ◌<◌, Bool, true, false, true≢false, List, [], ◌∷◌, length, Option, Some, None, Ok, Err, refl, sym, ap, subst, ◌∙◌, arith}
 use Rattle.std.specs.Prelude.{if◌then◌else◌}
 use Rattle.std.specs.FinMap.{empty}
 use Rattle.std.specs.Option.{option_and_then}
@@ -7,6 +7,7 @@ use Rattle.lisp_records.specs.declared.address.Addr.{Addr}
 use Rattle.lisp_records.specs.declared.address.Addr.TheVariants.{V4}
 use Rattle.lisp_records.specs.declared.router.RouterId.{RouterId}
 use Rattle.lisp_records.specs.Address.{PrefixValue}
+use Rattle.lisp_records.specs.Record.{MapRecordValue}
 use Rattle.lisp_records.specs.Row.{RowValue, is_alive}
 use Rattle.lisp_policy.specs.Configuration.{ConfigValue}
 use Rattle.lisp_nonces.specs.declared.fate.Fate.TheVariants.{Done}
@@ -17,6 +18,7 @@ use Rattle.lisp_server.specs.Notices.{notice_at}
 use Rattle.lisp_model.specs.declared.event.Event.TheVariants as events
 use Rattle.lisp_model.specs.declared.line.Line.{Line}
 use Rattle.lisp_model.specs.declared.line.Line.TheVariants as lines
+use Rattle.lisp_model.specs.declared.world_fault.WorldFault.{WorldFault}
 use Rattle.lisp_model.specs.Trace.{EventValue, Step}
 use Rattle.lisp_refinement.specs.Nodes.{up_in, fresh_server}
 use Rattle.lisp_refinement.specs.World.{ServerNodeState, RouterNodeState}
@@ -31,6 +33,7 @@ use Rattle.lisp_turns.specs.Part.{IsOwn, ArePrinted, arrivals, sent_of}
 use Rattle.lisp_turns.specs.Pause.{may_try, is_told, failed}
 use Rattle.lisp_turns.specs.Turn.{TurnState, Hears, IsGroup, IsPut, AreDone, DoesDuties, Serves, commit_calls, hearing_calls, IsTurn}
 use Rattle.lisp_turns.specs.declared.order.Order.{Order}
+use Rattle.lisp_turns.specs.declared.order.Order.TheVariants.{Change}
 use Rattle.lisp_turns.specs.declared.outside.Printed.TheVariants as printed
 use Rattle.lisp_turns.specs.declared.pause.Pause.{Pause}
 use Rattle.lisp_turns.proofs.DeadRows.{tells_none}
@@ -151,6 +154,11 @@ undone A config old new now order obeys = obeys
 
 untold_order : (A : Type 0) (config : ConfigValue) (old new : NodeState) (now : ℕ) (act : ActValue) → Obeys A config 0 old new now None (Some (Ok act)) → ⊥
 untold_order A config old new now act obeys = obeys
+
+-- and a router isn't kept from registering another database
+refused_change : (A : Type 0) (config : ConfigValue) (old : RouterNodeState) (new : NodeState) (now : ℕ) (db : List MapRecordValue) (fault : WorldFault)
+    → Obeys A config 0 (Router old) new now (Some (Change db)) (Some (Err fault)) → ⊥
+refused_change A config old new now db fault obeys = absurd (let clash : ◌≡◌ {A = Option WorldFault} None (Some fault) = obeys.1 in cc)
 
 -- and another node's order isn't the node's own
 other_order : IsOwn 0 (events.Rotate 1 7 Done) → ⊥

@@ -8,6 +8,7 @@ pub mod ServingServer
 pub mod Obeying
 pub mod ObeyingServer
 pub mod ObeyingRouter
+pub mod AgreeingFaults
 pub mod Asking
 pub mod Duties
 pub mod Grouping

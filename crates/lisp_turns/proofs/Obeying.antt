@@ -1,6 +1,7 @@
--- What keeps a node from being told something is the fault of each network that has it.
+-- The faults of names in a network that stands for a trace are those of its configuration.
 use Rattle.std.proofs.Common.{◌≡◌, ℕ, ◌+◌, ◌<◌, Bool, true, false, List, length, length-append, map, Option, Some, None, refl, sym, ap, ◌∙◌, arith}
 use Rattle.std.specs.Prelude.{◌||◌, ◌-◌, not, nat_le, nat_lt, if◌then◌else◌}
+use Rattle.std.specs.Option.{option_or}
 use Rattle.std.proofs.lemmas.Bool.{and_parts, leb-true, ltb-true, lt-ltb, le-ltb, lt-leb}
 use Rattle.std.proofs.lemmas.List.{length-map}
 use Rattle.lisp_policy.specs.Configuration.{ServerEntryValue, RouterEntryValue}
@@ -9,7 +10,6 @@ use Rattle.lisp_model.specs.declared.world_fault.WorldFault.{WorldFault}
 use Rattle.lisp_model.specs.declared.world_fault.WorldFault.TheVariants.{NoNode, WrongKind}
 use Rattle.lisp_refinement.specs.World.{WorldState}
 use Rattle.lisp_refinement.specs.Stands.{Stands}
-use Rattle.lisp_refinement.proofs.Gets.{none_is_some}
 use Rattle.lisp_world.specs.Faults.{router_fault, pair_fault}
 use Rattle.lisp_turns.specs.Order.{name_fault}
 use Rattle.lisp_turns.proofs.ServingServer.{HasRouter}
@@ -29,15 +29,10 @@ beside_server false true = refl
 beside_server false false = refl
 
 -- and beside a router, too; one that has none is of the wrong kind
-beside_router : (missing server : Bool) (fault : WorldFault) → alone missing server ≡ Some fault → beside false missing server ≡ Some fault
-beside_router true server fault is = is
-beside_router false true fault is = is
-beside_router false false fault is = absurd (none_is_some is)
-
-beside_another : (missing server : Bool) → alone missing server ≡ None → beside false missing server ≡ Some WrongKind
-beside_another true server is = absurd (none_is_some (sym is))
-beside_another false true is = refl
-beside_another false false is = refl
+beside_router : (missing server : Bool) → beside false missing server ≡ option_or (alone missing server) (Some WrongKind)
+beside_router true server = refl
+beside_router false true = refl
+beside_router false false = refl
 
 module _ (w : WorldState) (o : Opening) (T : List Step) (stand : Stands w o T) where
   abbrev servers : ℕ
@@ -77,14 +72,10 @@ module _ (w : WorldState) (o : Opening) (T : List Step) (stand : Stands w o T) w
 
   -- beside a router
   module _ (number place : ℕ) (is : number ≡ servers + place) (within : place < length o.config.routers) where
-    at_router : (router : ℕ) → pair_fault w router number ≡ beside false (nat_le nodes router) (nat_lt router servers)
-    at_router router = by_kind number router false (lt-leb nodes number (omega (arith, is, within))) (le-ltb number servers (omega (arith, is)))
-
-    pub its_name : (router : ℕ) (fault : WorldFault) → name_fault o.config router ≡ Some fault → pair_fault w router number ≡ Some fault
-    its_name router fault has = at_router router ∙ beside_router (nat_le nodes router) (nat_lt router servers) fault has
-
-    pub another : (router : ℕ) → name_fault o.config router ≡ None → pair_fault w router number ≡ Some WrongKind
-    another router none = at_router router ∙ beside_another (nat_le nodes router) (nat_lt router servers) none
+    pub at_router : (router : ℕ) → pair_fault w router number ≡ option_or (name_fault o.config router) (Some WrongKind)
+    at_router router =
+        by_kind number router false (lt-leb nodes number (omega (arith, is, within))) (le-ltb number servers (omega (arith, is)))
+        ∙ beside_router (nat_le nodes router) (nat_lt router servers)
 
     -- which has no fault itself
     pub no_fault : router_fault w number ≡ None

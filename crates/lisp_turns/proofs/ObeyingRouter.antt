@@ -1,5 +1,5 @@
 -- A router is told to register another database, or to go over to another key: each network that has it takes the event.
-use Rattle.std.proofs.Common.{Global, ◌≡◌, ℕ, ◌<◌, true, List, [], ◌++◌, length, append-nil, map, get_or, arith, Option, Some, None, Result, Ok, Err, refl, sym, ap, subst, ◌∙◌}
+use Rattle.std.proofs.Common.{Global, ◌≡◌, ℕ, ◌<◌, List, [], ◌++◌, length, append-nil, map, get_or, arith, Option, Some, None, Result, Ok, Err, refl, sym, ap, subst, ◌∙◌}
 use Rattle.std.specs.Prelude.{IfSome, slice_set}
 use Rattle.std.proofs.lemmas.List.{length-map}
 use Rattle.std.proofs.lemmas.Option.{slice_get_within, get_or_from_slice_get}
@@ -14,23 +14,21 @@ use Rattle.lisp_etr.specs.declared.rotate_fault.RotateFault.{RotateFault}
 use Rattle.lisp_admission.specs.Checks.{secret_at}
 use Rattle.lisp_model.specs.declared.event.Event.TheVariants as events
 use Rattle.lisp_model.specs.declared.line.Line.{Line}
-use Rattle.lisp_model.specs.declared.world_fault.WorldFault.TheVariants.{KeyUsed, UnknownKey, WrongKind}
 use Rattle.lisp_model.specs.Trace.{Step, Opening}
-use Rattle.lisp_refinement.specs.World.{DatagramValue, RouterNodeState, RouterCoreState, Up, Down, WorldState, is_used, key_count}
+use Rattle.lisp_refinement.specs.World.{DatagramValue, RouterNodeState, RouterCoreState, Up, Down, WorldState, key_count}
 use Rattle.lisp_refinement.specs.Calls.{CoreAnswersRotate}
 use Rattle.lisp_refinement.specs.Events.{NodeRotates, changed_node, changed_core, change_line}
 use Rattle.lisp_refinement.specs.Stands.{Stands}
 use Rattle.lisp_refinement.specs.Taking.{NetworkTakes}
 use Rattle.lisp_world.specs.Asked.{asked_rotate_line}
-use Rattle.lisp_world.specs.Faults.{IsPlaceWithKey, router_fault, fault_of, used_before_loss}
-use Rattle.lisp_world.proofs.Keys.{unknown_key, used_key, rotated}
+use Rattle.lisp_world.specs.Faults.{IsPlaceWithKey, router_fault}
+use Rattle.lisp_world.proofs.Keys.{rotated}
 use Rattle.lisp_turns.specs.Act.{ActValue, numbered, line_act}
 use Rattle.lisp_turns.specs.Acts.{Does, DoesOne, with_act}
 use Rattle.lisp_turns.specs.Made.{RotatesTo}
 use Rattle.lisp_turns.specs.Node.{Router, IsPlaced, HasNode}
-use Rattle.lisp_turns.specs.Order.{IsFault, name_fault}
 use Rattle.lisp_turns.proofs.Hearing.{router_left, placed_up}
-use Rattle.lisp_turns.proofs.Obeying.{no_fault, another}
+use Rattle.lisp_turns.proofs.Obeying.{no_fault}
 
 -- ---- another database
 
@@ -86,10 +84,6 @@ module _ (w : WorldState) (o : Opening) (T : List Step) (stand : Stands w o T) (
   secrets : (known : Option (List ℕ)) → secret_at config.sites old.me.site key ≡ known → secret_at w.sites old.me.site key ≡ known
   secrets known is = ap (λ s. secret_at s old.me.site key) (stand.steps.sites ∙ ap (λ (c : ConfigValue). c.sites) same) ∙ is
 
-  -- its site has no such key
-  unknown : secret_at config.sites old.me.site key ≡ None → fault_of w (events.Rotate number key Done) ≡ Some UnknownKey
-  unknown is = unknown_key w number key has.0 old (has.1, within) has.2 none (secrets None is) (used_before_loss key)
-
   -- it has the key
   module _ (secret : List ℕ) (known : secret_at config.sites old.me.site key ≡ Some secret) where
     abbrev its : IsPlaceWithKey w number key has.0 secret
@@ -97,24 +91,6 @@ module _ (w : WorldState) (o : Opening) (T : List Step) (stand : Stands w o T) (
 
     read : old ≡ get_or w.routers has.0 old
     read = sym (get_or_from_slice_get w.routers has.0 old old has.2)
-
-    -- which it used
-    used : is_used old.used.before_loss key ≡ true → fault_of w (events.Rotate number key Done) ≡ Some KeyUsed
-    used is = used_key w number key has.0 secret its old read (used_before_loss key) true (sym is) refl
-
--- what names a router beside it is no order for it
-pub another_fault : (config : ConfigValue) (number router : ℕ) (old : RouterNodeState) → name_fault config router ≡ None → IsFault config number (Router old) (events.Notice number router Done) WrongKind
-another_fault config number router old none w o T stand same has =
-    another w o T stand number has.0 (omega (arith, has.1, stand.steps.servers)) (omega (arith, slice_get_within w.routers has.0 old has.2, stand.steps.routers)) router
-    (ap (λ (c : ConfigValue). name_fault c router) same ∙ none)
-
-pub unknown_fault : (config : ConfigValue) (number key : ℕ) (old : RouterNodeState) → secret_at config.sites old.me.site key ≡ None
-    → IsFault config number (Router old) (events.Rotate number key Done) UnknownKey
-unknown_fault config number key old is w o T stand same has = unknown w o T stand config number key old same has is
-
-pub used_fault : (config : ConfigValue) (number key : ℕ) (old : RouterNodeState) (secret : List ℕ) → secret_at config.sites old.me.site key ≡ Some secret → is_used old.used.before_loss key ≡ true
-    → IsFault config number (Router old) (events.Rotate number key Done) KeyUsed
-used_fault config number key old secret known is w o T stand same has = used w o T stand config number key old same has secret known is
 
 module _ (config : ConfigValue) (number now key : ℕ) (bound : key < key_count) (old new : RouterNodeState) (act : ActValue) (to : RotatesTo config number old new now key act) where
   rotate_does : Does Global config number (Router old) (Router new) now (events.Rotate number key Done) act

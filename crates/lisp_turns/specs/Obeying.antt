@@ -6,7 +6,7 @@ use Rattle.lisp_model.specs.declared.world_fault.WorldFault.{WorldFault}
 use Rattle.lisp_turns.specs.Act.{ActValue}
 use Rattle.lisp_turns.specs.Acts.{DoesOne, TurnAct}
 use Rattle.lisp_turns.specs.Node.{NodeState}
-use Rattle.lisp_turns.specs.Order.{event_of, IsFault}
+use Rattle.lisp_turns.specs.Order.{event_of, order_fault}
 use Rattle.lisp_turns.specs.declared.order.Order.{Order}
 
 -- what came of an order: an act of the node, or what keeps it from being told so; nothing, where there was none
@@ -16,7 +16,7 @@ Outcome = Option (Result ActValue WorldFault)
 -- the node with a number was told so, or nothing
 abbrev pub Obeys : Type 0 → ConfigValue → ℕ → NodeState → NodeState → ℕ → Option Order → Outcome → Type 0
 Obeys A config number old new now (Some order) (Some (Ok act)) = DoesOne A config number old new now (event_of number order) act
-Obeys A config number old new now (Some order) (Some (Err fault)) = (new ≡ old) × IsFault config number old (event_of number order) fault
+Obeys A config number old new now (Some order) (Some (Err fault)) = (new ≡ old) × (order_fault config old order ≡ Some fault)
 Obeys A config number old new now None None = new ≡ old
 Obeys A config number old new now _ _ = ⊥
 

@@ -1,6 +1,7 @@
 //! What turns come to, as laws: each function's contract is a law, and its body is empty.
 
 ghost use Rattle.lisp_turns.specs.Beginning.{BeginningsOpen};
+ghost use Rattle.lisp_turns.specs.Order.{FaultsAgree};
 ghost use Rattle.lisp_turns.specs.Part.{TurnsAreParts};
 
 use std::alloc::Allocator;
@@ -16,4 +17,10 @@ pub fn turns_are_parts<A: Allocator>()
 /// store kept.
 pub fn beginnings_open()
     ensures { BeginningsOpen }
+{}
+
+/// What keeps a node from being told something, by its own state, is the fault of each network that has it: of a node whose store is
+/// honest, a user is told what a schedule would be.
+pub fn faults_agree()
+    ensures { FaultsAgree }
 {}

@@ -1,13 +1,14 @@
 //! A node of either kind that takes turns.
 
-ghost use Rattle.std.specs.Prelude.{◌≡◌, ◌≤◌, None, IfOk, IfErr, IfSome, OnErr};
+ghost use Rattle.std.specs.Prelude.{◌≡◌, ◌≤◌, None, IfOk, IfSome, OnErr};
 ghost use Rattle.lisp_records.specs.Moment.{max_moment};
 ghost use Rattle.lisp_model.specs.declared.event.Event.TheVariants as events;
 ghost use Rattle.lisp_model.specs.Memory.{MayTell};
+ghost use Rattle.lisp_world.specs.Faults.{refusal_of};
 ghost use Rattle.lisp_turns.specs.Acts.{DoesOne};
 ghost use Rattle.lisp_turns.specs.Due.{NothingDue, DoesDuty};
 ghost use Rattle.lisp_turns.specs.Node.{NodeState, core_of, core_value, IsPlaced, DropsRow, NoneDead};
-ghost use Rattle.lisp_turns.specs.Order.{event_of, IsFault};
+ghost use Rattle.lisp_turns.specs.Order.{event_of, order_fault};
 
 use crate::act::Act;
 use crate::node_core::NodeCore;
@@ -49,7 +50,7 @@ pub trait Node {
         requires bound { now ≤ max_moment }
         requires placed { IsPlaced place.now.config.now place.now.number (state self.old) }
         ensures does { IfOk result (DoesOne Global place.now.config.now place.now.number (state self.old) (state self.new) now (event_of place.now.number order)) }
-        ensures fault { IfErr result (IsFault place.now.config.now place.now.number (state self.old) (event_of place.now.number order)) }
+        ensures fault { refusal_of result ≡ order_fault place.now.config.now (state self.old) order }
         ensures same { OnErr result (state self.new ≡ state self.old) }
         ensures tells { IfOk result (λ act. MayTell ⟦<Global as Memory>⟧.may_refuse store_may_refuse act.line) };
 

@@ -1,17 +1,18 @@
 //! A site router (ETR) that takes turns.
 
-ghost use Rattle.std.specs.Prelude.{◌≡◌, ◌<◌, ◌≤◌, None, IfOk, IfErr, IfSome, IsSome, OnErr, length};
+ghost use Rattle.std.specs.Prelude.{◌≡◌, ◌<◌, ◌≤◌, None, IfOk, IfSome, IsSome, OnErr, length};
 ghost use Rattle.lisp_records.specs.Moment.{max_moment};
 ghost use Rattle.lisp_messages.specs.Head.{head_at};
 ghost use Rattle.lisp_nonces.specs.declared.fate.Fate.TheVariants.{Done};
 ghost use Rattle.lisp_model.specs.Memory.{MayTell};
 ghost use Rattle.lisp_model.specs.declared.event.Event.TheVariants as events;
 ghost use Rattle.lisp_world.specs.Asked.{asked_rotate_line};
+ghost use Rattle.lisp_world.specs.Faults.{refusal_of};
 ghost use Rattle.lisp_turns.specs.Act.{line_act};
 ghost use Rattle.lisp_turns.specs.Acts.{DoesOne};
 ghost use Rattle.lisp_turns.specs.Due.{IsRegisterDue, NothingDue, DoesDuty};
 ghost use Rattle.lisp_turns.specs.Node.{Router as RouterNodeOf, IsPlaced};
-ghost use Rattle.lisp_turns.specs.Order.{IsFault};
+ghost use Rattle.lisp_turns.specs.Order.{rotate_fault};
 ghost use Rattle.lisp_turns.specs.Serving.{SentAct, SendAct};
 
 use crate::act::Act;
@@ -175,7 +176,7 @@ fn rotate<S: WorldStore>(
 ) -> Result<Act, WorldFault>
     requires placed { IsPlaced place.now.config.now place.now.number (RouterNodeOf router.old) }
     ensures does { IfOk result (DoesOne Global place.now.config.now place.now.number (RouterNodeOf router.old) (RouterNodeOf router.new) now (events.Rotate place.now.number key Done)) }
-    ensures fault { IfErr result (IsFault place.now.config.now place.now.number (RouterNodeOf router.old) (events.Rotate place.now.number key Done)) }
+    ensures fault { refusal_of result ≡ rotate_fault place.now.config.now router.old key }
     ensures same { OnErr result (router.new ≡ router.old) }
     ensures tells { IfOk result (λ act. MayTell ⟦<Global as Memory>⟧.may_refuse S.may_refuse act.line) }
 {
