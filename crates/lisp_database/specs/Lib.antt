@@ -1,5 +1,6 @@
 pub mod Columns
 pub mod Table
+pub mod Writer
 pub mod Schema
 pub mod Kept
 pub mod Group

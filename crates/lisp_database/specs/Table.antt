@@ -1,6 +1,6 @@
 -- The statements on the table, and what a load and a save are by the meaning of SQL.
-use Rattle.std.specs.Prelude.{◌≡◌, ◌⊎◌, ℕ, List, codes, Option, Some, None, Result, Ok, Err}
-use Rattle.sqlite.specs.declared.types.Value.TheVariants.{Text}
+use Rattle.std.specs.Prelude.{◌≡◌, ◌⊎◌, ℕ, pos, List, [], codes, Option, Some, None, Result, Ok, Err}
+use Rattle.sqlite.specs.declared.types.Value.TheVariants.{Int, Text}
 use Rattle.sqlite.specs.Order.{Row, column}
 use Rattle.sqlite.specs.Tree.{Trees}
 use Rattle.sqlite.specs.declared.error.Error.{Error}
@@ -21,6 +21,10 @@ create_writer_text = codes "CREATE TABLE writer (machine_id TEXT NOT NULL, boot_
 -- finds the nonce of a pair
 abbrev pub load_text : List ℕ
 load_text = codes "SELECT nonce FROM nonces WHERE xtr_id = ?3 AND site_id = ?2 AND key_id = ?4 AND kind = ?1"
+
+-- counts the pairs
+abbrev pub count_text : List ℕ
+count_text = codes "SELECT count(*) FROM nonces"
 
 -- puts the row of a pair in, or in the place of the one that the pair has
 abbrev pub save_text : List ℕ
@@ -46,3 +50,7 @@ CommitsLoad old pair db = CommitsShowing load_text (key_of pair) old db
 -- a load that failed answered an error, or a row whose nonce isn't one
 abbrev pub LoadFails : State → State → Pair → Type 0
 LoadFails old new pair = ((row : Row) × QueriesRow load_text (key_of pair) old new (Ok row)) ⊎ ((e : Error) × QueriesRow load_text (key_of pair) old new (Err e))
+
+-- the count of pairs is that query: its first row has the count
+abbrev pub Counts : State → State → ℕ → Type 0
+Counts old new count = (row : Row) × (column row 0 ≡ Int (pos count)) × QueriesRow count_text [] old new (Ok row)

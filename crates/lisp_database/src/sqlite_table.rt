@@ -60,14 +60,17 @@ impl<S: Alter + Drop> Table for SqliteTable<S> {
         !self.connection.is_autocommit()
     }
 
+    #[tactic(auto, unfolding(crate::specs::Meaning::sqlite_meaning))]
     fn count_pairs(&mut self) -> Result<usize, Failure> {
         told(count_pairs(&mut self.connection))
     }
 
+    #[tactic(auto, unfolding(crate::specs::Meaning::sqlite_meaning))]
     fn load_writer(&mut self) -> Result<Option<Writer>, Failure> {
         told(load_writer(&mut self.connection))
     }
 
+    #[tactic(auto, unfolding(crate::specs::Meaning::sqlite_meaning))]
     fn save_writer(&mut self, writer: &Writer) -> Result<(), Failure> {
         told(save_writer(&mut self.connection, writer))
     }

@@ -1,8 +1,8 @@
 //! The table of nonces in a database.
 
-ghost use Rattle.std.specs.Prelude.{◌≡◌, Some, false, IsTrue, IfOk, OnOk, OnErr};
+ghost use Rattle.std.specs.Prelude.{◌≡◌, [], pos, Some, false, IsTrue, IfOk, OnOk, OnErr};
 ghost use Rattle.std.specs.Str.{IsUtf8};
-ghost use Rattle.sqlite.specs.declared.types.Value.TheVariants.{Text};
+ghost use Rattle.sqlite.specs.declared.types.Value.TheVariants.{Int, Text};
 ghost use Rattle.sqlite.specs.Order.{column};
 ghost use Rattle.sqlite.specs.State.{HasCleanDisk, IsUnchanged, Survives, QueriesRow, CommitsShowing};
 ghost use Rattle.sqlite.specs.Values.{bound};
@@ -10,7 +10,7 @@ ghost use Rattle.sqlite.specs.Held.{state};
 ghost use Rattle.lisp_store.specs.NonceText.{last_digits};
 ghost use Rattle.lisp_database.specs.Columns.{key_of};
 ghost use Rattle.lisp_database.specs.Kept.{HasTables, IsOfNonces, Keeps, SavesNonce, CommitsSave, LeavesAll, KeepsGreatest, greatest};
-ghost use Rattle.lisp_database.specs.Table.{load_text, Saves, CommitsNonce, Loads, CommitsLoad, LoadFails};
+ghost use Rattle.lisp_database.specs.Table.{load_text, count_text, Saves, CommitsNonce, Loads, CommitsLoad, LoadFails, Counts};
 
 use crate::columns::{kind_word, known, nonce_digits, nonce_from_digits, site_digits, xtr_digits};
 use lisp_nonces::Pair;
@@ -106,8 +106,24 @@ fn is_as_great(kept: Option<u64>, nonce: u64) -> bool
 }
 
 /// For how many pairs a nonce is kept.
-pub fn count_pairs<S: Alter>(connection: &mut Connection<S>) -> Result<usize, Error> {
-    let count: i64 = connection.query_row(COUNT, &[])?.get(0)?;
+pub fn count_pairs<S: Alter>(connection: &mut Connection<S>) -> Result<usize, Error>
+    ensures { HasCleanDisk (state S.Store connection.new) → IfOk result (Counts (state S.Store connection.old) (state S.Store connection.new)) }
+{
+    count_in(&query_count(connection)?)
+}
+
+// The row with the count of pairs.
+fn query_count<S: Alter>(connection: &mut Connection<S>) -> Result<Row, Error>
+    ensures { HasCleanDisk (state S.Store connection.new) → QueriesRow count_text [] (state S.Store connection.old) (state S.Store connection.new) result }
+{
+    connection.query_row(COUNT, &[])
+}
+
+// The count in the first column of a row.
+fn count_in(row: &Row) -> Result<usize, Error>
+    ensures { IfOk result (λ count. column row.now 0 ≡ Int (pos count)) }
+{
+    let count: i64 = row.get(0)?;
     usize::try_from(count).map_err(|_| DAMAGED)
 }
 

@@ -29,6 +29,10 @@ module _ {T : Type 0} where
     abbrev pub Waits : Groups T → Type 0
     Waits groups = (groups.group ≡ Waiting) × IsOpen groups.database.table means.is_waiting
 
+    -- behind a load that failed the group is lost, or as before: then the saves that waited, if any did, wait still
+    abbrev pub GoesOn : Groups T → Groups T → Type 0
+    GoesOn old new = LosesGroup old new ⊎ ((new.group ≡ old.group) × (old.group ≡ Waiting → Waits new))
+
     -- a save kept a nonce for a pair, in the transaction that waited or in one that it began
     pub record JoinsGroup (old new : Groups T) (pair : Pair) (nonce : ℕ) : Type 0 where
       pub table : Option T

@@ -1,5 +1,6 @@
 pub mod Fault
 pub mod Meaning
 pub mod Table
+pub mod Signing
 pub mod Groups
 pub mod Keeper

@@ -1,6 +1,7 @@
 -- The words in which the calls of a database of nonces are told.
 use Rattle.std.specs.Prelude.{ℕ, Option}
 use Rattle.lisp_nonces.specs.declared.pair.Pair.{Pair}
+use Rattle.lisp_store.specs.declared.writer.Writer.{Writer}
 
 -- what they mean of a kind of database that is open
 pub record Meaning (T : Type 0) : Type 1 where
@@ -22,6 +23,12 @@ pub record Meaning (T : Type 0) : Type 1 where
   pub begins_group : T → T → Type 0
   -- the saves that waited are committed, and each crash leaves them
   pub commits_group : T → T → Type 0
+  -- a query counted the pairs for which a nonce is kept
+  pub counts_pairs : T → T → ℕ → Type 0
+  -- a query found who wrote last, or nobody
+  pub finds_writer : T → T → Option Writer → Type 0
+  -- a writer was put in the place of who wrote last
+  pub saves_writer : T → T → Writer → Type 0
   -- saves wait for a commit; nothing does
   pub is_waiting : T → Type 0
   pub is_committed : T → Type 0

@@ -1,6 +1,8 @@
 -- What a call makes of a database that may be open.
-use Rattle.std.specs.Prelude.{◌≡◌, ℕ, Option, Some, None}
+use Rattle.std.specs.Prelude.{◌≡◌, ℕ, List, [], ◌∷◌, Option, Some, None}
 use Rattle.lisp_nonces.specs.declared.pair.Pair.{Pair}
+use Rattle.lisp_store.specs.declared.nonce_file.NonceFile.{NonceFile}
+use Rattle.lisp_store.specs.declared.writer.Writer.{Writer}
 use Rattle.lisp_database_store.specs.Meaning.{Meaning}
 
 module _ {T : Type 0} where
@@ -39,3 +41,29 @@ module _ {T : Type 0} (means : Meaning T) where
 
   abbrev pub Commits : Option T → Option T → Type 0
   Commits old new = Uses old new (λ used left. means.has_tables used → means.has_clean_disk left → means.commits_group used left)
+
+  -- of each of these files the greater nonce is kept for its pair, one after the other
+  abbrev pub SavesEach : Option T → Option T → List NonceFile → Type 0
+  SavesEach old new [] = new ≡ old
+  SavesEach old new (file ∷ files) = (next : Option T) × SavesGreatest old next file.pair file.nonce × SavesEach next new files
+
+  -- in one transaction, which is committed, and nothing waits any more
+  pub record TakesAll (old new : Option T) (files : List NonceFile) : Type 0 where
+    pub begun : Option T
+    pub saved : Option T
+    pub begins : Begins old begun
+    pub each : SavesEach begun saved files
+    pub commits : Commits saved new
+    pub settled : IsOpen new means.is_committed
+
+  -- pairs were counted
+  abbrev pub CountsPairs : Option T → Option T → ℕ → Type 0
+  CountsPairs old new count = Uses old new (λ used left. means.has_clean_disk left → means.counts_pairs used left count)
+
+  -- a load found who wrote last, or nobody
+  abbrev pub FindsWriter : Option T → Option T → Option Writer → Type 0
+  FindsWriter old new writer = Uses old new (λ used left. means.has_clean_disk left → means.finds_writer used left writer)
+
+  -- a save kept who wrote last
+  abbrev pub SavesWriter : Option T → Option T → Writer → Type 0
+  SavesWriter old new writer = Uses old new (λ used left. means.has_clean_disk left → means.saves_writer used left writer)

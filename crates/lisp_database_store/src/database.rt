@@ -3,7 +3,7 @@
 ghost use Rattle.std.specs.Prelude.{◌≡◌, Some, Ok, IfOk, IfErr, OnOk, OnErr, IsTrue, None};
 ghost use Rattle.lisp_nonces.specs.declared.fault.StoreFault.{StoreFault};
 ghost use Rattle.lisp_database_store.specs.Keeper.{any_keeper, any_keeper_keeps};
-ghost use Rattle.lisp_database_store.specs.Table.{IsOpen, Finds, LeavesAll, Saves, SavesGreatest, Begins, Commits};
+ghost use Rattle.lisp_database_store.specs.Table.{IsOpen, Finds, LeavesAll, Saves, SavesGreatest, Begins, Commits, CountsPairs, FindsWriter, SavesWriter};
 
 use crate::failure::Failure;
 use crate::keeper::Keeper;
@@ -67,6 +67,7 @@ impl<T: SystemTable> Database<T> {
 
     /// How many pairs it keeps nonces for.
     pub fn pairs(&mut self) -> Result<usize, Failure>
+        ensures counted { IfOk result (CountsPairs T.Table.means self.old.table self.new.table) }
         ensures anew { IfErr result (λ failure. failure.fault ≡ StoreFault.Device → self.new.table ≡ None) }
     {
         let mut table = self.opened()?;
@@ -87,6 +88,7 @@ impl<T: SystemTable> Database<T> {
 
     /// Who wrote last, `None` for nobody.
     pub(crate) fn load_writer(&mut self) -> Result<Option<Writer>, Failure>
+        ensures found { IfOk result (FindsWriter T.Table.means self.old.table self.new.table) }
         ensures anew { IfErr result (λ failure. failure.fault ≡ StoreFault.Device → self.new.table ≡ None) }
     {
         let mut table = self.opened()?;
@@ -96,6 +98,7 @@ impl<T: SystemTable> Database<T> {
 
     /// Keeps who wrote last. `Device` whatever failed.
     pub(crate) fn save_writer(&mut self, writer: &Writer) -> Result<(), Failure>
+        ensures saved { OnOk result (SavesWriter T.Table.means self.old.table self.new.table writer.now) }
         ensures device { IfErr result (λ failure. failure.fault ≡ StoreFault.Device) }
         ensures anew { OnErr result (self.new.table ≡ None) }
     {

@@ -3,7 +3,7 @@
 ghost use Rattle.std.specs.Prelude.{◌≡◌, Ok, IfOk, IfErr, OnOk, OnErr, IsErr, None};
 ghost use Rattle.lisp_nonces.specs.declared.fault.StoreFault.{StoreFault};
 ghost use Rattle.lisp_database_store.specs.Table.{IsOpen, Finds, LeavesAll, Begins};
-ghost use Rattle.lisp_database_store.specs.Groups.{StaysLost, Waits, JoinsGroup, LosesGroup, IsDone};
+ghost use Rattle.lisp_database_store.specs.Groups.{StaysLost, GoesOn, Waits, JoinsGroup, LosesGroup, IsDone};
 ghost use Rattle.lisp_database_store.specs.declared.group.Group.{Group};
 
 use crate::database::Database;
@@ -51,6 +51,8 @@ impl<T: SystemTable> Groups<T> {
         ensures lost { self.old.group ≡ Group.Lost → IsErr result }
         ensures stays { StaysLost self.old self.new }
         ensures loses { IfErr result (λ failure. failure.fault ≡ StoreFault.Device → LosesGroup self.old self.new) }
+        ensures found { OnOk result (self.new.group ≡ self.old.group) }
+        ensures goes_on { OnErr result (GoesOn T.Table.means self.old self.new) }
     {
         if self.group == Group::Lost {
             return Err(LOST);
@@ -131,6 +133,7 @@ impl<T: SystemTable> Groups<T> {
         ensures unchanged { OnOk result (self.new ≡ self.old) }
         ensures stays { StaysLost self.old self.new }
         ensures loses { IfErr result (λ failure. failure.fault ≡ StoreFault.Device → LosesGroup self.old self.new) }
+        ensures goes_on { OnErr result (GoesOn T.Table.means self.old self.new) }
     {
         if let Err(failure) = &answer {
             let is_rolled_back = self.group == Group::Waiting && !self.database.has_transaction();

@@ -43,13 +43,16 @@ pub trait Table: Drop {
         ensures settled { result ≡ false → Self.means.is_committed self.now };
 
     /// For how many pairs a nonce is kept.
-    fn count_pairs(&mut self) -> Result<usize, Failure>;
+    fn count_pairs(&mut self) -> Result<usize, Failure>
+        ensures { Self.means.has_clean_disk self.new → IfOk result (Self.means.counts_pairs self.old self.new) };
 
     /// Who wrote last, `None` for nobody yet.
-    fn load_writer(&mut self) -> Result<Option<Writer>, Failure>;
+    fn load_writer(&mut self) -> Result<Option<Writer>, Failure>
+        ensures { Self.means.has_clean_disk self.new → IfOk result (Self.means.finds_writer self.old self.new) };
 
     /// Keeps who writes from now on.
-    fn save_writer(&mut self, writer: &Writer) -> Result<(), Failure>;
+    fn save_writer(&mut self, writer: &Writer) -> Result<(), Failure>
+        ensures { Self.means.has_clean_disk self.new → OnOk result (Self.means.saves_writer self.old self.new writer.now) };
 }
 
 /// A database in a file of the system's.

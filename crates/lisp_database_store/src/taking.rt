@@ -1,7 +1,8 @@
 //! The take-over of nonces that are kept in files.
 
-ghost use Rattle.std.specs.Prelude.{OnOk};
-ghost use Rattle.lisp_database_store.specs.Table.{IsOpen};
+ghost use Rattle.std.specs.Prelude.{◌≡◌, ◌⊎◌, List, Option, length, OnOk, IfOk};
+ghost use Rattle.lisp_store.specs.declared.nonce_file.NonceFile.{NonceFile};
+ghost use Rattle.lisp_database_store.specs.Table.{TakesAll};
 
 use crate::database::Database;
 use crate::failure::Failure;
@@ -21,7 +22,10 @@ impl<T: SystemTable> Database<T> {
         &mut self,
         rt: &R,
         dir: &str,
-    ) -> Result<usize, Failure> {
+    ) -> Result<usize, Failure>
+        ensures { IfOk result (λ count. ((count ≡ 0) × (self.new ≡ self.old))
+            ⊎ ((files : List NonceFile) × (count ≡ length files) × TakesAll T.Table.means self.old.table self.new.table files)) }
+    {
         let found = read_nonces(rt, dir)?;
         if found.is_empty() {
             return Ok(0);
@@ -33,7 +37,7 @@ impl<T: SystemTable> Database<T> {
 
     // Keeps the greater nonce of each pair, in one transaction.
     fn keep_all(&mut self, found: &[NonceFile]) -> Result<(), Failure>
-        ensures committed { OnOk result (IsOpen self.new.table T.Table.means.is_committed) }
+        ensures { OnOk result (TakesAll T.Table.means self.old.table self.new.table found.now) }
     {
         self.begin()?;
         for file in found {
@@ -42,14 +46,14 @@ impl<T: SystemTable> Database<T> {
         self.commit()
     }
 
-    // Puts the files aside whose nonces the database keeps now: nothing of them waits for a commit any more.
+    // Puts the files aside whose nonces the database keeps now, committed.
     fn replace<R: Files + AllocGlobal>(
         &self,
         rt: &R,
         dir: &str,
         files: &[NonceFile],
     ) -> io::Result<()>
-        requires { IsOpen self.now.table T.Table.means.is_committed }
+        requires { (old : Option T) × TakesAll T.Table.means old self.now.table files.now }
     {
         put_aside(rt, dir, files)
     }
