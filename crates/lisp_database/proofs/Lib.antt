@@ -8,6 +8,7 @@ mod Saving
 mod Calls
 mod Reading
 mod Loading
+mod Counting
 mod Groups
 mod Making
 mod Greatest

@@ -1,5 +1,5 @@
 -- What a database of nonces keeps.
-use Rattle.std.specs.Prelude.{◌≡◌, ◌≢◌, ◌⊎◌, ℕ, Bool, false, List, [], ◌∷◌, map, filter, max, Option, Some, None, IsTrue}
+use Rattle.std.specs.Prelude.{◌≡◌, ◌≢◌, ◌⊎◌, ℕ, ◌-◌, ◌^◌, Bool, false, List, [], ◌∷◌, length, map, filter, min, max, Option, Some, None, IsTrue}
 use Rattle.std.specs.Option.{option_to_list}
 use Rattle.sqlite.specs.Order.{Row, column}
 use Rattle.sqlite.specs.Tree.{Trees}
@@ -54,6 +54,10 @@ pub record CommitsSave (old : State) (pair : Pair) (nonce : ℕ) (db : Trees) : 
   pub outside : old.in_transaction ≡ false
   pub rows : IsShaped Table (db 0)
   pub saved : IsSaved old.now.trees db pair nonce
+
+-- there are so many rows of pairs, up to the most that SQLite counts
+abbrev pub CountsPairs : Trees → ℕ → Type 0
+CountsPairs db count = count ≡ min (length (db 0)) (2 ^ 63 - 1)
 
 -- what a call that failed leaves: all as before, or as the last commit left it
 abbrev pub LeavesAll : State → State → Type 0

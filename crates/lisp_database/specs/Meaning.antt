@@ -4,8 +4,7 @@ use Rattle.sqlite.specs.State.{HasCleanDisk, IsUnchanged}
 use Rattle.sqlite.specs.Held.{state}
 use Rattle.lisp_database_store.specs.Meaning.{Meaning}
 use Rattle.lisp_database.specs.Group.{BeginsGroup, CommitsGroup, IsWaiting, IsCommitted}
-use Rattle.lisp_database.specs.Kept.{HasTables, IsOfNonces, Keeps, SavesNonce, KeepsGreatest}
-use Rattle.lisp_database.specs.Table.{Counts}
+use Rattle.lisp_database.specs.Kept.{HasTables, IsOfNonces, Keeps, SavesNonce, KeepsGreatest, CountsPairs}
 use Rattle.lisp_database.specs.Writer.{LoadsWriter, SavesWriter}
 use Rattle.lisp_database.specs.declared.sqlite_table.SqliteTable.{SqliteTable}
 
@@ -21,7 +20,7 @@ sqlite_meaning store = record {
   keeps_greatest = λ old new pair nonce. KeepsGreatest (state store old.connection) (state store new.connection) pair nonce;
   begins_group = λ old new. BeginsGroup (state store old.connection) (state store new.connection);
   commits_group = λ old new. CommitsGroup (state store old.connection) (state store new.connection);
-  counts_pairs = λ old new count. Counts (state store old.connection) (state store new.connection) count;
+  counts_pairs = λ t count. CountsPairs (state store t.connection).now.trees count;
   finds_writer = λ old new writer. LoadsWriter (state store old.connection) (state store new.connection) writer;
   saves_writer = λ old new writer. SavesWriter store old.connection new.connection writer;
   is_waiting = λ t. IsWaiting (state store t.connection);

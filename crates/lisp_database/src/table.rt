@@ -9,7 +9,7 @@ ghost use Rattle.sqlite.specs.Values.{bound};
 ghost use Rattle.sqlite.specs.Held.{state};
 ghost use Rattle.lisp_store.specs.NonceText.{last_digits};
 ghost use Rattle.lisp_database.specs.Columns.{key_of};
-ghost use Rattle.lisp_database.specs.Kept.{HasTables, IsOfNonces, Keeps, SavesNonce, CommitsSave, LeavesAll, KeepsGreatest, greatest};
+ghost use Rattle.lisp_database.specs.Kept.{HasTables, IsOfNonces, Keeps, SavesNonce, CommitsSave, LeavesAll, KeepsGreatest, greatest, CountsPairs};
 ghost use Rattle.lisp_database.specs.Table.{load_text, count_text, Saves, CommitsNonce, Loads, CommitsLoad, LoadFails, Counts};
 
 use crate::columns::{kind_word, known, nonce_digits, nonce_from_digits, site_digits, xtr_digits};
@@ -107,14 +107,24 @@ fn is_as_great(kept: Option<u64>, nonce: u64) -> bool
 
 /// For how many pairs a nonce is kept.
 pub fn count_pairs<S: Alter>(connection: &mut Connection<S>) -> Result<usize, Error>
-    ensures { HasCleanDisk (state S.Store connection.new) → IfOk result (Counts (state S.Store connection.old) (state S.Store connection.new)) }
+    ensures { HasTables (state S.Store connection.old) → HasCleanDisk (state S.Store connection.new)
+        → IfOk result (CountsPairs (state S.Store connection.old).now.trees) }
+{
+    read_count(connection)
+}
+
+// The count of pairs.
+fn read_count<S: Alter>(connection: &mut Connection<S>) -> Result<usize, Error>
+    ensures { HasCleanDisk (state S.Store connection.new)
+        → IfOk result (Counts (state S.Store connection.old) (state S.Store connection.new)) }
 {
     count_in(&query_count(connection)?)
 }
 
 // The row with the count of pairs.
 fn query_count<S: Alter>(connection: &mut Connection<S>) -> Result<Row, Error>
-    ensures { HasCleanDisk (state S.Store connection.new) → QueriesRow count_text [] (state S.Store connection.old) (state S.Store connection.new) result }
+    ensures { HasCleanDisk (state S.Store connection.new)
+        → QueriesRow count_text [] (state S.Store connection.old) (state S.Store connection.new) result }
 {
     connection.query_row(COUNT, &[])
 }

@@ -2,5 +2,6 @@ pub mod Fault
 pub mod Meaning
 pub mod Table
 pub mod Signing
+pub mod TakeOver
 pub mod Groups
 pub mod Keeper

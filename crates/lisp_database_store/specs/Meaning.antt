@@ -23,8 +23,8 @@ pub record Meaning (T : Type 0) : Type 1 where
   pub begins_group : T → T → Type 0
   -- the saves that waited are committed, and each crash leaves them
   pub commits_group : T → T → Type 0
-  -- a query counted the pairs for which a nonce is kept
-  pub counts_pairs : T → T → ℕ → Type 0
+  -- nonces are kept for so many pairs
+  pub counts_pairs : T → ℕ → Type 0
   -- a query found who wrote last, or nobody
   pub finds_writer : T → T → Option Writer → Type 0
   -- a writer was put in the place of who wrote last

@@ -58,7 +58,7 @@ module _ {T : Type 0} (means : Meaning T) where
 
   -- pairs were counted
   abbrev pub CountsPairs : Option T → Option T → ℕ → Type 0
-  CountsPairs old new count = Uses old new (λ used left. means.has_clean_disk left → means.counts_pairs used left count)
+  CountsPairs old new count = Uses old new (λ used left. means.has_tables used → means.has_clean_disk left → means.counts_pairs used count)
 
   -- a load found who wrote last, or nobody
   abbrev pub FindsWriter : Option T → Option T → Option Writer → Type 0

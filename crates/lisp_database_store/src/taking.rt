@@ -1,8 +1,8 @@
 //! The take-over of nonces that are kept in files.
 
-ghost use Rattle.std.specs.Prelude.{◌≡◌, ◌⊎◌, List, Option, length, OnOk, IfOk};
-ghost use Rattle.lisp_store.specs.declared.nonce_file.NonceFile.{NonceFile};
+ghost use Rattle.std.specs.Prelude.{Option, OnOk, IfOk};
 ghost use Rattle.lisp_database_store.specs.Table.{TakesAll};
+ghost use Rattle.lisp_database_store.specs.TakeOver.{TakesOver};
 
 use crate::database::Database;
 use crate::failure::Failure;
@@ -23,8 +23,7 @@ impl<T: SystemTable> Database<T> {
         rt: &R,
         dir: &str,
     ) -> Result<usize, Failure>
-        ensures { IfOk result (λ count. ((count ≡ 0) × (self.new ≡ self.old))
-            ⊎ ((files : List NonceFile) × (count ≡ length files) × TakesAll T.Table.means self.old.table self.new.table files)) }
+        ensures { IfOk result (TakesOver T.Table.means self.old self.new) }
     {
         let found = read_nonces(rt, dir)?;
         if found.is_empty() {

@@ -1,6 +1,6 @@
 //! The name of a pair's file.
 
-ghost use Rattle.std.specs.Prelude.{◌≡◌, ◌↔◌, ℕ, ◌+◌, ◌*◌, List, [], ◌∷◌, ◌++◌, length, Some, IsTrue};
+ghost use Rattle.std.specs.Prelude.{◌≡◌, ◌↔◌, ℕ, ◌+◌, ◌-◌, ◌*◌, ◌^◌, min, List, [], ◌∷◌, ◌++◌, length, Some, IsTrue};
 ghost use Rattle.std.specs.Str.{IsUtf8};
 ghost use Rattle.hex.specs.Hex.{IsBytes, encode_lower};
 ghost use Rattle.lisp_store.specs.PairName.{IsPair, AreBytes, kind_letter, kind_of_letter, pair_name, pair_of_name, HasFormOfName, ReadsPair};
@@ -49,17 +49,28 @@ pub fn pair_from_name(name: &str) -> Option<Pair>
 
 /// How many pairs a folder of the system keeps nonces for: how many names of its files have the form of a pair's.
 pub fn count_pairs<R: Files + AllocGlobal + Clone + Drop>(rt: &R, dir: &str) -> io::Result<usize> {
-    let mut count: usize = 0;
+    let mut count = 0;
     for entry in fs::read_dir(rt, dir)? {
         match entry {
-            Ok(entry) if is_name(entry.file_name()) => count = count.saturating_add(1),
-            Ok(_) => {}
+            Ok(entry) => count = count_with(count, entry.file_name()),
             // A name that is no text is no pair's.
             Err(error) if error.kind() == ErrorKind::InvalidFilename => {}
             Err(error) => return Err(error),
         }
     }
     Ok(count)
+}
+
+// The count behind a name: one more where it has the form of a pair's.
+fn count_with(count: usize, name: &str) -> usize
+    ensures some { HasFormOfName name.now → result ≡ min (count + 1) (2 ^ 64 - 1) }
+    ensures none { ¬ (HasFormOfName name.now) → result ≡ count }
+{
+    if is_name(name) {
+        count.saturating_add(1)
+    } else {
+        count
+    }
 }
 
 // Whether a name has the form of a pair's.
