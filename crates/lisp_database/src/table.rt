@@ -107,8 +107,10 @@ fn is_as_great(kept: Option<u64>, nonce: u64) -> bool
 
 /// For how many pairs a nonce is kept.
 pub fn count_pairs<S: Alter>(connection: &mut Connection<S>) -> Result<usize, Error>
-    ensures { HasTables (state S.Store connection.old) → HasCleanDisk (state S.Store connection.new)
+    ensures counted { HasTables (state S.Store connection.old) → HasCleanDisk (state S.Store connection.new)
         → IfOk result (CountsPairs (state S.Store connection.old).now.trees) }
+    ensures unchanged { HasTables (state S.Store connection.old) → HasCleanDisk (state S.Store connection.new)
+        → OnOk result (IsUnchanged (state S.Store connection.old) (state S.Store connection.new)) }
 {
     read_count(connection)
 }

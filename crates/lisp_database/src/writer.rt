@@ -19,7 +19,8 @@ const SAVE: &str = "INSERT INTO writer (machine_id, boot_id) VALUES (?1, ?2)";
 
 /// Who wrote last, `None` for nobody yet.
 pub fn load_writer<S: Alter>(connection: &mut Connection<S>) -> Result<Option<Writer>, Error>
-    ensures { HasCleanDisk (state S.Store connection.new) → IfOk result (LoadsWriter (state S.Store connection.old) (state S.Store connection.new)) }
+    ensures { HasCleanDisk (state S.Store connection.new)
+        → IfOk result (LoadsWriter (state S.Store connection.old) (state S.Store connection.new)) }
 {
     match find_row(connection) {
         Ok(row) => Ok(Some(writer_in(&row)?)),
@@ -30,7 +31,8 @@ pub fn load_writer<S: Alter>(connection: &mut Connection<S>) -> Result<Option<Wr
 
 /// Keeps who writes from now on, in the place of who wrote before.
 pub fn save_writer<S: Alter>(connection: &mut Connection<S>, writer: &Writer) -> Result<(), Error>
-    ensures { HasCleanDisk (state S.Store connection.new) → OnOk result (SavesWriter S.Store connection.old connection.new writer.now) }
+    ensures { HasCleanDisk (state S.Store connection.new)
+        → OnOk result (SavesWriter S.Store connection.old connection.new writer.now) }
 {
     if put(connection, CHANGE, writer)? == 0 {
         put(connection, SAVE, writer)?;
@@ -40,7 +42,8 @@ pub fn save_writer<S: Alter>(connection: &mut Connection<S>, writer: &Writer) ->
 
 // The row of who wrote last.
 fn find_row<S: Alter>(connection: &mut Connection<S>) -> Result<Row, Error>
-    ensures { HasCleanDisk (state S.Store connection.new) → QueriesRow load_writer_text [] (state S.Store connection.old) (state S.Store connection.new) result }
+    ensures { HasCleanDisk (state S.Store connection.new)
+        → QueriesRow load_writer_text [] (state S.Store connection.old) (state S.Store connection.new) result }
 {
     connection.query_row(LOAD, &[])
 }

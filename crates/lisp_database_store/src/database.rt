@@ -3,7 +3,8 @@
 ghost use Rattle.std.specs.Prelude.{◌≡◌, Some, Ok, IfOk, IfErr, OnOk, OnErr, IsTrue, None};
 ghost use Rattle.lisp_nonces.specs.declared.fault.StoreFault.{StoreFault};
 ghost use Rattle.lisp_database_store.specs.Keeper.{any_keeper, any_keeper_keeps};
-ghost use Rattle.lisp_database_store.specs.Table.{IsOpen, Finds, LeavesAll, Saves, SavesGreatest, Begins, Commits, CountsPairs, FindsWriter, SavesWriter};
+ghost use Rattle.lisp_database_store.specs.Table.{IsOpen, Finds, LeavesAll, Saves, SavesGreatest, Begins, Commits};
+ghost use Rattle.lisp_database_store.specs.Table.{CountsPairs, FindsWriter, SavesWriter};
 
 use crate::failure::Failure;
 use crate::keeper::Keeper;
@@ -68,6 +69,7 @@ impl<T: SystemTable> Database<T> {
     /// How many pairs it keeps nonces for.
     pub fn pairs(&mut self) -> Result<usize, Failure>
         ensures counted { IfOk result (CountsPairs T.Table.means self.old.table self.new.table) }
+        ensures unchanged { OnOk result (LeavesAll T.Table.means self.old.table self.new.table) }
         ensures anew { IfErr result (λ failure. failure.fault ≡ StoreFault.Device → self.new.table ≡ None) }
     {
         let mut table = self.opened()?;

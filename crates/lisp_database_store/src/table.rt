@@ -44,7 +44,8 @@ pub trait Table: Drop {
 
     /// For how many pairs a nonce is kept.
     fn count_pairs(&mut self) -> Result<usize, Failure>
-        ensures { Self.means.has_tables self.old → Self.means.has_clean_disk self.new → IfOk result (Self.means.counts_pairs self.old) };
+        ensures counted { Self.means.has_tables self.old → Self.means.has_clean_disk self.new → IfOk result (Self.means.counts_pairs self.old) }
+        ensures unchanged { Self.means.has_tables self.old → Self.means.has_clean_disk self.new → OnOk result (Self.means.is_unchanged self.old self.new) };
 
     /// Who wrote last, `None` for nobody yet.
     fn load_writer(&mut self) -> Result<Option<Writer>, Failure>
