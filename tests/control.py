@@ -8,6 +8,7 @@ import re
 import socket
 import subprocess
 import time
+from concurrent.futures import ThreadPoolExecutor
 from pathlib import Path
 
 from nodes import (FILES, GROUPS, LIMIT, PORT, check, is_up, killed, map_register, nonce_in, over, peer, program, ran, run_tests, until,
@@ -82,6 +83,8 @@ def what_is_counted(here):
         check("a notice", tell(here, "s1", "notice", "r1")[0], 0)
     found = counts(here, "s1")
     found.pop("resent", None)
+    check("in the order of their words, refusals by their numbers behind them", list(found),
+          ["accepted", "notice", "refused 50", "refused 57", "rows", "sites", "standing_notices", "longest_save_ms"])
     check("how long a save takes", SLOW_MS <= int(found.pop("longest_save_ms")) < LIMIT * 1000, True)
     check("what is counted", found, {"accepted": "2", "notice": "1", "refused 50": "1", "refused 57": "1",
                                      "rows": "1", "sites": "1", "standing_notices": "1"})
@@ -210,6 +213,22 @@ def a_client_that_takes_nothing_of_many_rows(here):
     killed(process)
 
 
+def an_answer_that_is_a_fault(here):
+    """What a node answers where it can't read the line for want of memory is the fault of `ask`, too."""
+    os.mkdir(f"{here.folder}/s1")
+    with socket.socket(socket.AF_UNIX) as node:
+        node.bind(f"{here.folder}/s1/control")
+        node.listen()
+        for number, status in ((80, 2), (86, 1)):
+            with ThreadPoolExecutor() as pool:
+                asked = pool.submit(ask, here, "s1", "hold")
+                user, _ = node.accept()
+                with user:
+                    check("the question", user.recv(100), b"hold\n")
+                    user.sendall(f"fault {number}\n".encode())
+                check(f"fault {number}", asked.result(), (status, "", f"lispd: fault {number}\n"))
+
+
 def another_user_is_refused(here):
     """Who may not write the folder may not connect."""
     process = up(here, "server", "s1", here.s1)
@@ -233,5 +252,5 @@ def a_killed_process_leaves_its_socket(here):
 
 run_tests([
     *(over(store, test) for store in (FILES, GROUPS) for test in (a_map_server_is_asked, a_map_server_is_told, what_is_counted)),
-    a_router_is_told, wrong_words, another_user_is_refused, a_killed_process_leaves_its_socket,
+    a_router_is_told, wrong_words, an_answer_that_is_a_fault, another_user_is_refused, a_killed_process_leaves_its_socket,
 ], alone=[clients_that_misbehave, a_client_that_takes_nothing_of_many_rows])

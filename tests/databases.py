@@ -278,6 +278,17 @@ def a_database_that_was_put_back(here):
             check(f"{name}: who wrote", changed(folder, "SELECT machine_id, boot_id FROM writer"), [row])
 
 
+def a_start_that_knows_no_machine(here):
+    """What the last start knew of its machine stays: a copy that another machine wrote is told of at the next start that knows its own."""
+    here.store, folder = DATABASE, f"{here.folder}/s1"
+    words = here.words("server", "s1", "--turns", "0")
+    check("the first start", ran(*words), UNMOVED)
+    (row,) = changed(folder, "SELECT machine_id, boot_id FROM writer")
+    changed(folder, "UPDATE writer SET machine_id = '0123456789abcdef0123456789abcdef', boot_id = ''")
+    check("without an id", ran(*words, env=failing("open", 1, "/machine-id"))[:2], (0, ""))
+    check("who wrote", changed(folder, "SELECT machine_id, boot_id FROM writer"), [("0123456789abcdef0123456789abcdef", row[1])])
+
+
 def a_text(path):
     path.write_text("These are no nonces, but as long as you like.\n" * 1000)
 
@@ -502,6 +513,23 @@ def memory_is_refused(here):
         check(f"request {at}: told, and not kept", (sent <= there[0], taken <= there[1]), (True, True))
 
 
+def memory_is_refused_to_a_group(here):
+    """A Map-Server to which a request for memory is refused while a group waits: what it answers and tells is kept."""
+    here.store, folder = GROUPS, f"{here.folder}/s1"
+    with peer(here.r1) as it:
+        for at in some_requests():
+            shutil.rmtree(folder, ignore_errors=True)
+            process = here.start(*here.words("server", "s1"), env=failing("growth", at), stderr=PIPE)
+            until(lambda: process.poll() is not None or is_bound(here.s1))
+            answered = set().union(*(registered(here, it, range(first, first + 20), 1) for first in (1000, 2000, 3000)))
+            lines, told = killed(process), process.stderr.read()
+            accepted = {int(line.split()[6]) for line in lines if line.startswith("accepted ")}
+            check_kept(f"request {at}", here, answered | accepted)
+            if "!" not in told:
+                check("there are requests", (at > 100, len(answered)), (True, 60))
+                return
+
+
 def memory_is_refused_while_files_are_taken(here):
     folder = Path(f"{here.folder}/s1")
     words = (*here.words("server", "s1"), *DATABASE, "--turns", "0")
@@ -521,9 +549,9 @@ def memory_is_refused_while_files_are_taken(here):
 run_tests([a_database_tells_of_itself, a_router_s_database, kinds_are_kept_apart, the_words, files_are_taken_over,
            a_router_s_files_are_taken_over, the_greatest_nonce_counts, files_over_a_database, a_damaged_file_isn_t_taken_over,
            killed_while_files_are_taken("kill"), killed_while_files_are_taken("tear"), killed_while_older_files_are_taken,
-           a_database_that_was_put_back, what_is_no_database, a_damaged_page,
+           a_database_that_was_put_back, a_start_that_knows_no_machine, what_is_no_database, a_damaged_page,
            *(over(store, a_call_that_fails(call, error)) for store in (DATABASE, GROUPS)
              for call, error in (("sync", errno.EIO), ("write", errno.ENOSPC), ("cut", errno.EIO))),
            *(over(DATABASE, a_router_whose_call_fails(call, error))
              for call, error in (("sync", errno.EIO), ("write", errno.ENOSPC), ("cut", errno.EIO), ("open", errno.EIO), ("read", errno.EIO))),
-           memory_is_refused, memory_is_refused_while_files_are_taken])
+           memory_is_refused, memory_is_refused_to_a_group, memory_is_refused_while_files_are_taken])

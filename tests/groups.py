@@ -1,9 +1,11 @@
 #!/usr/bin/env -S python3 -B
 """groups.py PROGRAM [TEST ..]
-What `lispd server --database --group 64` makes of datagrams that wait: a group of them takes one sync, its answers keep their order, a
-group that fails is lost as a whole, and one router that floods starves none. Prints each check that fails, and ends with 1 where one
+What `lispd server --database --group N` makes of datagrams that wait: a group of them takes one sync, has no more than N, and of one
+address half of them while others wait; its answers keep their order, a group that fails is lost as a whole, and one router that floods
+starves none. Prints each check that fails, and ends with 1 where one
 does. `groups.py PROGRAM flood SECONDS` floods a Map-Server from one address for so long, and prints how many of the others it answers."""
 import contextlib
+import itertools
 import select
 import shutil
 import signal
@@ -74,6 +76,43 @@ def a_group_takes_one_sync(here):
         begun = time.monotonic()
         check("all", answers(it, 32), [7] * 32)
         check("in the time of few syncs", time.monotonic() - begun < 3, True)
+
+
+def a_group_has_no_more(here):
+    """Where a sync takes a fifth of a second, sixteen that wait take no less than eight of them in groups of two."""
+    here.store = (*DATABASE, "--group", "2")
+    process = here.start(*here.words("server", "s1"), env=with_slow_syncs(200_000))
+    is_up(here.s1)
+    with peer(here.r1) as it:
+        with stopped(process):
+            for xtr in range(100, 116):
+                it.sendto(map_register(7, xtr=xtr), (here.s1, PORT))
+        begun = time.monotonic()
+        check("all", answers(it, 16), [7] * 16)
+        check("in the time of eight syncs", time.monotonic() - begun > 1.4, True)
+
+
+def sources(process, count):
+    """Where the next lines of a Map-Server say that datagrams came from, with how many came one after the other."""
+    found = [next_line(process).partition(" from ")[2] for _ in range(count)]
+    return [(source, len(list(run))) for source, run in itertools.groupby(found)]
+
+
+def one_address_takes_half(here):
+    """Of each group, while others wait: 60 of one address and 40 of another behind them, and then of the first and a third one."""
+    here.store = GROUPS
+    process = here.start(*here.words("server", "s1"))
+    is_up(here.s1)
+    others = [f"{here.front}{100 + number}" for number in range(2)]
+    with peer(here.r1) as it:
+        for nonce, other in enumerate(others, 1):
+            with peer(other) as beside, stopped(process):
+                for number in range(60):
+                    it.sendto(map_register(nonce, xtr=1000 + number), (here.s1, PORT))
+                for number in range(40):
+                    beside.sendto(map_register(nonce, xtr=2000 + number), (here.s1, PORT))
+            check(f"groups beside {other}", sources(process, 100), [(here.r1, 32), (other, 32), (here.r1, 28), (other, 8)])
+    killed(process)
 
 
 def is_started(process):
@@ -168,4 +207,4 @@ def told_of_flood(here):
 
 if sys.argv[2:3] == ["flood"]:
     run_tests([told_of_flood], names=[])
-run_tests([a_group_is_answered, a_group_takes_one_sync, a_group_that_fails], [one_that_floods_starves_none])
+run_tests([a_group_is_answered, a_group_takes_one_sync, a_group_has_no_more, one_address_takes_half, a_group_that_fails], [one_that_floods_starves_none])
