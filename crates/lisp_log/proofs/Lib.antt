@@ -1,3 +1,4 @@
+mod DroppedLaws
 mod Pouring
 pub mod Silent
 mod SumLaws

@@ -1,13 +1,13 @@
 -- What the entries of a second tell of its refusals.
 use Rattle.std.proofs.Common.{◌≡◌, ◌⊎◌, ℕ, suc, ◌+◌, ◌<◌, ◌≤◌, Bool, true, false, not, ◌&&◌, cond, List, [], ◌∷◌, ◌++◌, length, get_or, refl, sym, ap, ◌∙◌, subst, inl, inr, arith, add-zero, zero-add}
-use Rattle.std.specs.Prelude.{nat_eq, sum_by, count_by, slice_set}
+use Rattle.std.specs.Prelude.{nat_eq, sum_by, count_by, slice_set, ◌==◌, if◌then◌else◌}
 use Rattle.std.specs.List.{All, AllPairs}
-use Rattle.std.proofs.lemmas.Bool.{cases_eq, true≢false}
+use Rattle.std.proofs.lemmas.Bool.{cases_eq, eqb-true, true≢false}
 use Rattle.std.proofs.lemmas.Bool.Decides.{Decides-and, Decides-eqb}
 use Rattle.std.proofs.lemmas.List.{length-set, length_push, get_or-set_same, get_or-set_other}
 use Rattle.std.proofs.lemmas.List.Elements.{All-push, Contains-get_or, Contains-push_cases}
 use Rattle.std.proofs.lemmas.List.Quantifiers.{all_pairs_push}
-use Rattle.std.proofs.lemmas.List.Sums.{sum_by-cons, sum_by_push, sum_by-set, count_by-le-length}
+use Rattle.std.proofs.lemmas.List.Sums.{sum_by-cons, sum_by-append, sum_by_push, sum_by-set, count_by-le-length}
 use Rattle.std.proofs.lemmas.Option.{slice_get_within, get_or_from_slice_get}
 use Rattle.lisp_records.specs.declared.address.Addr.{Addr}
 use Rattle.lisp_records.specs.Address.{addr_eq}
@@ -16,7 +16,9 @@ use Rattle.lisp_log.specs.declared.repeats.Repeat.{Repeat}
 use Rattle.lisp_log.specs.declared.repeats.Source.{Source}
 use Rattle.lisp_log.specs.declared.repeats.Source.TheVariants.{Address, Others}
 use Rattle.lisp_log.specs.Repeats.{Refusal, Leaves, HasEntry, IsOf, IsSource, Notes, IsCounted, TellsOf, TellsRefusal, most_addresses}
-use Rattle.lisp_log.specs.Sums.{count_untold, count_untold_from, names, names_one, times_of, times_from, WasTold, EachRepeats, SumsTellAll}
+use Rattle.lisp_log.specs.Text.{repeat_text}
+use Rattle.lisp_log.specs.Log.{Sum, sum_of, sums}
+use Rattle.lisp_log.specs.Sums.{count_untold, count_all_untold, count_untold_from, events_in, names, names_one, times_of, times_from, WasTold, EachRepeats, SumsTellAll}
 
 -- an entry as it is made
 abbrev fresh : ℕ → Source → Repeat
@@ -68,6 +70,34 @@ times_are (r ∷ earlier) entries step m =
     times_step r.told step.0 entries r.number r.from step.2 m
     ∙ ap (λ (k : ℕ). cond (nat_eq r.number m && not r.told) 1 0 + k) (times_are earlier step.0 step.1 m)
     ∙ sym (sum_by-cons (λ (x : Refusal). cond (nat_eq x.number m && not x.told) 1 0) r earlier)
+
+-- the times of all entries make up how many refusals weren't told
+total_step : (told : Bool) (old new : List Repeat) (n : ℕ) (from : Addr) → TellsRefusal old new n from told → sum_by (λ (e : Repeat). e.times) new ≡ cond (not told) 1 0 + sum_by (λ (e : Repeat). e.times) old
+total_step true old new n from tells = let is = told_sum (λ e. e.times) old new n tells.0 tells.2 refl in omega (arith, is)
+total_step false old new n from tells = let is = counted_sum (λ e. e.times) old new n tells.0 tells.2 in omega (arith, is)
+
+total : (refusals : List Refusal) (entries : List Repeat) → Leaves refusals entries → sum_by (λ (e : Repeat). e.times) entries ≡ count_all_untold refusals
+total [] entries none = ap (λ (es : List Repeat). sum_by (λ (e : Repeat). e.times) es) none
+total (r ∷ earlier) entries step =
+    total_step r.told step.0 entries r.number r.from step.2
+    ∙ ap (λ (k : ℕ). cond (not r.told) 1 0 + k) (total earlier step.0 step.1)
+    ∙ sym (sum_by-cons (λ (x : Refusal). cond (not x.told) 1 0) r earlier)
+
+-- and the sums tell them
+one_tells : (name : List ℕ) (r : Repeat) (none : Bool) → (r.times == 0) ≡ none → events_in (if none then [] else record { text = repeat_text name r; events = r.times } ∷ []) ≡ r.times
+one_tells name r true is = sym (eqb-true r.times 0 is)
+one_tells name r false is = zero-add r.times
+
+sums_tell : (name : List ℕ) (entries : List Repeat) → events_in (sums name entries) ≡ sum_by (λ (e : Repeat). e.times) entries
+sums_tell name [] = refl
+sums_tell name (r ∷ entries) =
+    sum_by-append (λ (s : Sum). s.events) (sum_of name r) (sums name entries)
+    ∙ ap (λ (k : ℕ). k + events_in (sums name entries)) (one_tells name r (r.times == 0) refl)
+    ∙ ap (λ (k : ℕ). r.times + k) (sums_tell name entries)
+    ∙ sym (sum_by-cons (λ (e : Repeat). e.times) r entries)
+
+pub events_are : (refusals : List Refusal) (entries : List Repeat) → Leaves refusals entries → (name : List ℕ) → events_in (sums name entries) ≡ count_all_untold refusals
+events_are refusals entries left name = sums_tell name entries ∙ total refusals entries left
 
 -- entries keep their number and source where one is counted
 counted_keeps : {X : Type 0} (key : Repeat → X) (old new : List Repeat) (number : ℕ) (source : Source) (c : IsCounted old new number source) → key (record c.entry { times = c.entry.times + 1 }) ≡ key c.entry
@@ -266,6 +296,7 @@ pub sums_tell_all : SumsTellAll
 sums_tell_all refusals entries left = record {
   repeats = repeats_are refusals entries left;
   sums = times_are refusals entries left;
+  events = events_are refusals entries left;
   sums_from = λ number from had. from_are refusals entries left number from (inl had);
   one_each = one_each refusals entries left;
   few = few_are refusals entries left;

@@ -2,6 +2,6 @@ pub mod Repeats
 pub mod Silences
 pub mod Waiting
 pub mod Whole
-pub mod Sums
 pub mod Text
 pub mod Log
+pub mod Sums

@@ -11,7 +11,7 @@ use Rattle.lisp_log.specs.declared.repeats.Repeat.{Repeat}
 use Rattle.lisp_log.specs.declared.silences.Silence.{Silence}
 use Rattle.lisp_log.specs.Repeats.{TellsRefusal}
 use Rattle.lisp_log.specs.Silences.{never_heard, Acknowledges, TellsSilence, NoneSilent}
-use Rattle.lisp_log.specs.Waiting.{WaitingState, nothing_waits, put_line, drops_one}
+use Rattle.lisp_log.specs.Waiting.{WaitingState, nothing_waits, put_line, put_sum, drops, drops_one}
 use Rattle.lisp_log.specs.Text.{told_text, repeat_text, silent_text, started_text}
 
 pub record LogState : Type 0 where
@@ -64,16 +64,25 @@ pub record TellsLine (may_refuse : Type 0) (old new : LogState) (line : Printed)
   pub waiting : PutsIf may_refuse told old.waiting new.waiting (told_text old.config old.name cause line)
   pub rest : new ≡ record old { repeats = new.repeats; silences = new.silences; waiting = new.waiting }
 
--- each of these texts waits in turn
-abbrev pub PutsAll : Type 0 → WaitingState → WaitingState → List (List ℕ) → Type 0
+-- a line that tells so many events
+pub record Sum : Type 0 where
+  pub text : List ℕ
+  pub events : ℕ
+
+-- it waits; where memory may be refused, it may be dropped, and so are its events
+abbrev pub PutsSum : Type 0 → WaitingState → WaitingState → Sum → Type 0
+PutsSum may_refuse old new sum = (new ≡ put_sum old sum.text sum.events) ⊎ (may_refuse × (new ≡ drops old sum.events))
+
+-- each of these sums waits in turn
+abbrev pub PutsAll : Type 0 → WaitingState → WaitingState → List Sum → Type 0
 PutsAll may_refuse old new [] = new ≡ old
-PutsAll may_refuse old new (text ∷ texts) = (between : WaitingState) × Puts may_refuse old between text × PutsAll may_refuse between new texts
+PutsAll may_refuse old new (sum ∷ others) = (between : WaitingState) × PutsSum may_refuse old between sum × PutsAll may_refuse between new others
 
 -- the sums of a second that is over: of each entry that counts some
-abbrev pub sum_of : List ℕ → Repeat → List (List ℕ)
-sum_of name r = if r.times == 0 then [] else repeat_text name r ∷ []
+abbrev pub sum_of : List ℕ → Repeat → List Sum
+sum_of name r = if r.times == 0 then [] else record { text = repeat_text name r; events = r.times } ∷ []
 
-abbrev pub sums : List ℕ → List Repeat → List (List ℕ)
+abbrev pub sums : List ℕ → List Repeat → List Sum
 sums name repeats = flat_map (sum_of name) repeats
 
 -- the second of a moment

@@ -179,13 +179,15 @@ fn put_sums<A: Memory + Copy>(alloc: A, name: &str, entries: &[Repeat], waiting:
     }
 }
 
-// The sum of an entry that counts some waits.
+// The sum of an entry that counts some waits; else so many events are dropped.
 fn put_sum<A: Memory + Copy>(alloc: A, name: &str, repeat: &Repeat, waiting: &mut Waiting<A>)
     ensures { PutsAll A.may_refuse waiting.old waiting.new (sum_of name.now repeat.now) }
 {
     if repeat.times > 0 {
-        let text = repeat_text(alloc, name, repeat);
-        put_text(waiting, text);
+        match repeat_text(alloc, name, repeat) {
+            Ok(text) => waiting.put_sum(text.as_bytes(), repeat.times),
+            Err(_) => waiting.drop_sum(repeat.times),
+        }
     }
 }
 

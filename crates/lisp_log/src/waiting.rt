@@ -1,7 +1,7 @@
 //! Lines that wait until they can be written.
 
 ghost use Rattle.std.specs.Prelude.{◌≡◌, ℕ, ◌+◌, ◌≤◌, List, [], ◌++◌, drop, length, Option, IfOk, OnErr};
-ghost use Rattle.lisp_log.specs.Waiting.{room, nothing_waits, dropped_text, Takes, PutsLine, drops_one, Gives, Pours};
+ghost use Rattle.lisp_log.specs.Waiting.{room, nothing_waits, dropped_text, Takes, PutsLine, put_sum, drops, drops_one, Gives, Pours};
 
 use itoa::Buffer;
 use lisp_memory::{FallibleVec, Memory};
@@ -22,8 +22,8 @@ pub trait Sink {
         ensures taken { Takes (taken self.old) (taken self.new) result bytes.now };
 }
 
-/// Whole lines that wait until they can be written, in a buffer of 65,536 bytes. A line that finds no room there is dropped
-/// and counted; then all are, until what waits has been written, and a line says how many were.
+/// Whole lines that wait until they can be written, in a buffer of 65,536 bytes. A line that finds no room there is dropped,
+/// and the events that it tells are counted; then all are, until what waits has been written, and a line says how many were.
 #[derive(Drop)]
 pub struct Waiting<A: Allocator = Global> {
     bytes: Vec<u8, A>,
@@ -57,10 +57,17 @@ impl<A: Memory + Copy> Waiting<A> {
     pub fn put(&mut self, line: &[u8])
         ensures { PutsLine self.old self.new line.now }
     {
+        self.put_sum(line, 1);
+    }
+
+    /// A line that tells so many events waits, or they are dropped.
+    pub(crate) fn put_sum(&mut self, line: &[u8], events: u64)
+        ensures { self.new ≡ put_sum self.old line.now events }
+    {
         if self.dropped == 0 && line.len() <= ROOM - self.bytes.len() {
             self.append(line);
         } else {
-            self.drop_one();
+            self.drop_sum(events);
         }
     }
 
@@ -68,10 +75,17 @@ impl<A: Memory + Copy> Waiting<A> {
     pub fn drop_one(&mut self)
         ensures { self.new ≡ drops_one self.old }
     {
-        self.dropped = self.dropped.saturating_add(1);
+        self.drop_sum(1);
     }
 
-    /// The sink takes what it can of what waits; and once it took all of it, of the line that says how many were
+    /// A line that tells so many events is dropped.
+    pub(crate) fn drop_sum(&mut self, events: u64)
+        ensures { self.new ≡ drops self.old events }
+    {
+        self.dropped = self.dropped.saturating_add(events);
+    }
+
+    /// The sink takes what it can of what waits; and once it took all of it, of the line that says how many events were
     /// dropped.
     pub fn pour<S: Sink>(&mut self, sink: &mut S)
         ensures { Pours self.old self.new (S.taken sink.old) (S.taken sink.new) }
@@ -100,7 +114,7 @@ impl<A: Memory + Copy> Waiting<A> {
         self.bytes.truncate(self.bytes.len() - count);
     }
 
-    // Where nothing waits, the line that says how many were dropped does.
+    // Where nothing waits, the line that says how many events were dropped does.
     fn tell_dropped(&mut self)
         requires { self.old.bytes ≡ [] }
         ensures { self.new ≡ record { bytes = dropped_text self.old.dropped; dropped = 0 } }
