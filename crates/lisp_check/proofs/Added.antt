@@ -1,88 +1,105 @@
 -- What lists of warnings gain.
-use Rattle.std.proofs.Common.{◌≡◌, ◌∙◌, ◌≢◌, ◌<◌, ◌⊎◌, ◌+◌, ℕ, Bool, true, false, not, nat_eq, List, [], ◌∷◌, ◌++◌, inl, inr, arith, subst, sym, refl}
+use Rattle.std.proofs.Common.{◌≡◌, ◌∙◌, ◌≢◌, ◌<◌, ◌≤◌, ◌+◌, ℕ, zero, suc, Bool, true, false, not, nat_eq, List, [], ◌∷◌, ◌++◌, map, inl, inr, arith, subst, sym, ap, refl, append-nil, append_assoc}
 use Rattle.std.proofs.lemmas.Bool.Decides.{Decides-eqb}
+use Rattle.std.proofs.lemmas.List.{flat_map_more, map_push}
 use Rattle.std.proofs.Math.Nat.{eq-or-lt_of_le}
 use Rattle.std.specs.Prelude.{◌↔◌, IsTrue, Result, Ok, Err, OnOk}
-use Rattle.std.specs.List.{Contains}
-use Rattle.std.proofs.lemmas.List.Elements.{Contains-append_left, Contains-push, Contains-push_cases}
+use Rattle.std.specs.List.{flat_map, range_with_len}
+use Rattle.lisp_policy.specs.Configuration.{ConfigValue}
 use Rattle.lisp_check.specs.declared.warning.Warning.{Warning}
-use Rattle.lisp_check.specs.Adding.{Adds, OfFirst}
+use Rattle.lisp_check.specs.Warning.{IsWarned, AreThose, of_each}
+use Rattle.lisp_check.specs.Adding.{AddsThose, given_if}
 
-pub adds_one : (old : List Warning) (warning : Warning) (is : Bool) → is ≡ true → Adds old (old ++ warning ∷ []) (λ w. (w ≡ warning) × IsTrue is)
-adds_one old warning is e w = (
-  λ held. elim (Contains-push_cases old warning w held) [ inl before ↦ inl before | inr same ↦ inr (sym same, e) ],
-  λ either. elim either [
-    | inl before ↦ Contains-append_left old (warning ∷ []) w before
-    | inr this ↦ subst (λ v. Contains (old ++ warning ∷ []) v) (sym this.0) (Contains-push old warning)
-  ],
-)
+module _ (P : Warning → Type 0) where
+  -- those of two lists
+  pub those_both : (xs ys a b : List Warning) → AreThose P xs a → AreThose P ys b → AreThose P (xs ++ ys) (a ++ b)
+  those_both [] ys a b none second = subst (λ (l : List Warning). AreThose P ys (l ++ b)) (sym none) second
+  those_both (x ∷ xs) ys a b (inl (rest, is_given, is, others)) second = inl (rest ++ b, is_given, ap (λ (l : List Warning). l ++ b) is, those_both xs ys rest b others second)
+  those_both (x ∷ xs) ys a b (inr (is_not, others)) second = inr (is_not, those_both xs ys a b others second)
 
-pub adds_none : (old : List Warning) (warning : Warning) (is : Bool) → is ≡ false → Adds old old (λ w. (w ≡ warning) × IsTrue is)
-adds_none old warning is e w = (λ held. inl held, λ either. elim either [ inl before ↦ before | inr this ↦ absurd (let clash : true ≡ false = sym this.1 ∙ e in cc) ])
+  -- one that is given where a test says so
+  pub those_one : (w : Warning) (is : Bool) → (IsTrue is ↔ P w) → AreThose P (w ∷ []) (given_if is w)
+  those_one w true decides = inl ([], decides.0 refl, refl, refl)
+  those_one w false decides = inr ((λ p. absurd (let clash : false ≡ true = decides.1 p in cc)), refl)
 
--- one change after another
-pub adds_both : (a b c : List Warning) (P Q : Warning → Type 0) → Adds a b P → Adds b c Q → Adds a c (λ w. P w ⊎ Q w)
-adds_both a b c P Q first second w = (
-  λ held. elim ((second w).0 held) [
-    | inl before ↦ elim ((first w).0 before) [ inl x ↦ inl x | inr p ↦ inr (inl p) ]
-    | inr q ↦ inr (inr q)
-  ],
-  λ either. elim either [
-    | inl x ↦ (second w).1 (inl ((first w).1 (inl x)))
-    | inr these ↦ elim these [ inl p ↦ (second w).1 (inl ((first w).1 (inr p))) | inr q ↦ (second w).1 (inr q) ]
-  ],
-)
+  -- of numbered ones none, or one alone
+  module _ (make : ℕ → Warning) where
+    those_none : (a n : ℕ) → ((k : ℕ) → a ≤ k → P (make k) → ⊥) → AreThose P (map make (range_with_len a n)) []
+    those_none a zero never = refl
+    those_none a (suc n) never = inr (never a (omega arith), those_none (a + 1) n (λ k low. never k (omega (arith, low))))
 
--- the same warnings, said in another way
-pub adds_as : (a b : List Warning) (P Q : Warning → Type 0) → ((w : Warning) → P w → Q w) → ((w : Warning) → Q w → P w) → Adds a b P → Adds a b Q
-adds_as a b P Q to from adds w = (
-  λ held. elim ((adds w).0 held) [ inl x ↦ inl x | inr p ↦ inr (to w p) ],
-  λ either. elim either [ inl x ↦ (adds w).1 (inl x) | inr q ↦ (adds w).1 (inr (from w q)) ],
-)
+    those_alone : (a n k : ℕ) → a ≤ k → k < a + n → P (make k) → ((j : ℕ) → j ≢ k → P (make j) → ⊥) → AreThose P (map make (range_with_len a n)) (make k ∷ [])
+    those_alone a zero k low high given others = absurd (omega (arith, low, high))
+    those_alone a (suc n) k low high given others = elim (eq-or-lt_of_le {n = a} {m = k} low) [
+      | inl same ↦ inl (
+        [],
+        subst (λ (m : ℕ). P (make m)) (sym same) given,
+        ap (λ (m : ℕ). make m ∷ []) (sym same),
+        those_none (a + 1) n (λ j more. others j (λ e. absurd (omega (arith, e, same, more)))),
+      )
+      | inr less ↦ inr (others a (λ e. absurd (omega (arith, e, less))), those_alone (a + 1) n k (omega (arith, less)) (omega (arith, high)) given others)
+    ]
 
-below_more : (k i : ℕ) → k < i + 1 → (k < i) ⊎ (k ≡ i)
-below_more k i h = elim (eq-or-lt_of_le {n = k} {m = i} (omega arith)) [ inl e ↦ inr e | inr l ↦ inl l ]
+    -- the first of a kind, unless that is the place itself
+    pub those_first : (IsFirst : ℕ → Type 0) (count place first : ℕ) → ((k : ℕ) → k ≢ place → (first ≡ k) ↔ IsFirst k) → ((k : ℕ) → IsFirst k → k < count)
+        → ((k : ℕ) → P (make k) ↔ ((k ≢ place) × IsFirst k)) → AreThose P (map make (range_with_len 0 count)) (given_if (not (nat_eq first place)) (make first))
+    those_first IsFirst count place first is within means = by (nat_eq first place) refl
+      where
+        by : (same : Bool) → nat_eq first place ≡ same → AreThose P (map make (range_with_len 0 count)) (given_if (not same) (make first))
+        by true e =
+            let here : first ≡ place = (Decides-eqb first place).0 e in
+            those_none 0 count (λ k low given. let (other, is_first) = (means k).0 given in other (sym ((is k other).1 is_first) ∙ here))
+        by false e =
+            let other : first ≢ place = λ h. let clash : true ≡ false = sym ((Decides-eqb first place).1 h) ∙ e in absurd cc in
+            let is_first = (is first other).0 refl in
+            those_alone 0 count first (omega arith) (omega (arith, within first is_first)) ((means first).1 (other, is_first))
+            (λ k apart given. let (away, found) = (means k).0 given in apart (sym ((is k away).1 found)))
 
--- those of the places below the next one
-pub gathers : (W : Warning → Type 0) (Those : ℕ → Warning → Type 0) (a b d : List Warning) (i : ℕ) → Adds a b (λ w. OfFirst i Those w × W w) → Adds b d (λ w. Those i w × W w) → Adds a d (λ w. OfFirst (i + 1) Those w × W w)
-gathers W Those a b d i before next = adds_as a d (λ w. (OfFirst i Those w × W w) ⊎ (Those i w × W w)) (λ w. OfFirst (i + 1) Those w × W w) to from (adds_both a b d _ _ before next) where
-  to : (w : Warning) → (OfFirst i Those w × W w) ⊎ (Those i w × W w) → OfFirst (i + 1) Those w × W w
-  to w (inl ((k, h, those), warned)) = ((k, omega arith, those), warned)
-  to w (inr (those, warned)) = ((i, omega arith, those), warned)
+-- numbers, and one more
+one_more : (a n : ℕ) → range_with_len a (suc n) ≡ range_with_len a n ++ (a + n) ∷ []
+one_more a zero = let same : a ≡ a + 0 = omega arith in ap (λ (k : ℕ). k ∷ []) same
+one_more a (suc n) = let same : a + 1 + n ≡ a + suc n = omega arith in ap (λ (l : List ℕ). a ∷ l) (one_more (a + 1) n ∙ ap (λ (k : ℕ). range_with_len (a + 1) n ++ k ∷ []) same)
 
-  cases : (w : Warning) (k : ℕ) → Those k w → W w → (k < i) ⊎ (k ≡ i) → (OfFirst i Those w × W w) ⊎ (Those i w × W w)
-  cases w k those warned (inl h) = inl ((k, h, those), warned)
-  cases w k those warned (inr e) = inr (subst (λ n. Those n w) e those, warned)
+pub numbers_more : (n : ℕ) → range_with_len 0 (n + 1) ≡ range_with_len 0 n ++ n ∷ []
+numbers_more n =
+    let on : n + 1 ≡ suc n = omega arith in
+    let same : 0 + n ≡ n = omega arith in
+    ap (range_with_len 0) on ∙ one_more 0 n ∙ ap (λ (k : ℕ). range_with_len 0 n ++ k ∷ []) same
 
-  from : (w : Warning) → OfFirst (i + 1) Those w × W w → (OfFirst i Those w × W w) ⊎ (Those i w × W w)
-  from w ((k, h, those), warned) = cases w k those warned (below_more k i h)
+module _ (c : ConfigValue) where
+  pub adds_none : (a : List Warning) → AddsThose c [] a a
+  adds_none a = ([], sym (append-nil a), refl)
 
-pub gathers_none : (W : Warning → Type 0) (Those : ℕ → Warning → Type 0) (a : List Warning) → Adds a a (λ w. OfFirst 0 Those w × W w)
-gathers_none W Those a w = (λ held. inl held, λ either. elim either [ inl held ↦ held | inr these ↦ absurd (let h : these.0.0 < 0 = these.0.1 in omega arith) ])
+  -- one change after another
+  pub adds_both : (xs ys a b d : List Warning) → AddsThose c xs a b → AddsThose c ys b d → AddsThose c (xs ++ ys) a d
+  adds_both xs ys a b d (one, first, those) (two, second, others) = (
+    one ++ two,
+    second ∙ ap (λ (l : List Warning). l ++ two) first ∙ append_assoc a one two,
+    those_both (IsWarned c) xs ys one two those others,
+  )
 
--- a warning that is given where it has to be
-pub adds_tested : (W : Warning → Type 0) (a b : List Warning) (warning : Warning) (is : Bool) → (IsTrue is ↔ W warning) → Adds a b (λ w. (w ≡ warning) × IsTrue is) → Adds a b (λ w. (w ≡ warning) × W w)
-adds_tested W a b warning is decides = adds_as a b (λ w. (w ≡ warning) × IsTrue is) (λ w. (w ≡ warning) × W w)
-    (λ w these. (these.0, subst W (sym these.0) (decides.0 these.1)))
-    (λ w these. (these.0, decides.1 (subst W these.0 these.1)))
+  -- a warning that is given where it has to be
+  pub adds_if : (w : Warning) (a b : List Warning) (is : Bool) → (IsTrue is ↔ IsWarned c w) → b ≡ a ++ given_if is w → AddsThose c (w ∷ []) a b
+  adds_if w a b is decides new = (given_if is w, new, those_one (IsWarned c) w is decides)
 
-not_true : (b : Bool) → ¬ (b ≡ true) → not b ≡ true
-not_true true h = absurd (h refl)
-not_true false h = refl
+  -- those of one more place
+  pub adds_more : (of : ℕ → List Warning) (a b d : List Warning) (i : ℕ) → AddsThose c (of_each of i) a b → AddsThose c (of i) b d → AddsThose c (of_each of (i + 1)) a d
+  adds_more of a b d i before next =
+      subst (λ (l : List Warning). AddsThose c l a d) (flat_map_more of [] (range_with_len 0 i) i ∙ ap (flat_map of) (sym (numbers_more i)))
+      (adds_both (of_each of i) (of i) a b d before next)
 
-true_not : (b : Bool) → not b ≡ true → ¬ (b ≡ true)
-true_not true e t = absurd (let clash : false ≡ true = e in cc)
-true_not false e t = absurd (let clash : false ≡ true = t in cc)
+  -- the places below the end are all
+  pub adds_all : (of : ℕ → List Warning) (a b : List Warning) (i n : ℕ) → i ≡ n → AddsThose c (of_each of i) a b → AddsThose c (of_each of n) a b
+  adds_all of a b i n e adds = subst (λ (m : ℕ). AddsThose c (of_each of m) a b) e adds
 
--- the test of two numbers
-pub differs : (a b : ℕ) → IsTrue (not (nat_eq a b)) ↔ (a ≢ b)
-differs a b = (λ t e. true_not (nat_eq a b) t ((Decides-eqb a b).1 e), λ ne. not_true (nat_eq a b) (λ t. ne ((Decides-eqb a b).0 t)))
+  -- one more warning that a test decides
+  pub adds_next : (make : ℕ → Warning) (numbers more : List ℕ) (k : ℕ) (a b d : List Warning) (is : Bool) → more ≡ numbers ++ k ∷ [] → (IsTrue is ↔ IsWarned c (make k))
+      → AddsThose c (map make numbers) a b → d ≡ b ++ given_if is (make k) → AddsThose c (map make more) a d
+  adds_next make numbers more k a b d is longer decides before new =
+      subst (λ (l : List Warning). AddsThose c l a d) (sym (map_push make numbers k) ∙ ap (map make) (sym longer))
+      (adds_both (map make numbers) (make k ∷ []) a b d before (adds_if (make k) b d is decides new))
 
 -- what follows from a fact at `Ok`
 pub ok_weaker : {A B : Type 0} (r : Result A B) (P Q : Type 0) → (P → Q) → OnOk r P → OnOk r Q
 ok_weaker (Ok x) P Q follows p = follows p
 ok_weaker (Err e) P Q follows p = tt
-
--- the places below the end are all
-pub gathered : (W : Warning → Type 0) (Those : ℕ → Warning → Type 0) (a b : List Warning) (i n : ℕ) → i ≡ n → Adds a b (λ w. OfFirst i Those w × W w) → Adds a b (λ w. OfFirst n Those w × W w)
-gathered W Those a b i n e adds = subst (λ (m : ℕ). Adds a b (λ w. OfFirst m Those w × W w)) e adds

@@ -4,5 +4,6 @@ pub mod SiteWarnings
 pub mod AddressWarnings
 pub mod RouterWarnings
 pub mod Whole
+mod Worded
 pub mod Decided
 pub mod Repeats

@@ -1,59 +1,139 @@
 -- All warnings of a configuration.
-use Rattle.std.proofs.Common.{◌≡◌, ◌<◌, ℕ, Bool, List, [], length, inl, inr, subst, sym, ap, refl, ◌∙◌, arith}
+use Rattle.std.proofs.Common.{◌≡◌, ◌<◌, ◌≤◌, ◌+◌, ℕ, zero, suc, Bool, List, [], ◌∷◌, ◌++◌, length, map, Option, Some, None, inl, inr, subst, sym, ap, refl, ◌∙◌, arith}
 use Rattle.std.specs.Prelude.{◌↔◌, IsTrue, IsSomeAnd, slice_get}
-use Rattle.std.specs.List.{Contains}
+use Rattle.std.specs.List.{Contains, flat_map, range_with_len}
+use Rattle.std.proofs.Math.Nat.{eq-or-lt_of_le}
+use Rattle.std.proofs.lemmas.List.Elements.{Contains-append_left, Contains-append_right}
 use Rattle.lisp_records.specs.declared.address.Addr.{Addr}
-use Rattle.lisp_policy.specs.Configuration.{ConfigValue}
+use Rattle.lisp_policy.specs.Configuration.{ConfigValue, RouterEntryValue}
 use Rattle.lisp_model.specs.Trace.{addresses}
 use Rattle.lisp_check.specs.declared.warning.Warning.{Warning}
 use Rattle.lisp_check.specs.declared.warning.Warning.TheVariants.{NoNodes, NoKeys, NoPrefixes, NoUnicast, SameAddress, SameIdentity, NotAllowed, OtherFamily}
-use Rattle.lisp_check.specs.Warning.{IsWarned, IsFirstAt, IsFirstRouter, IsRefused, IsOfOtherFamily, is_no_unicast}
-use Rattle.lisp_check.specs.Adding.{Adds, AddsOfAddresses, OfFirst, IsOfSite, IsOfNode, IsOfRouter}
-use Rattle.lisp_check.proofs.RouterWarnings.{inside}
+use Rattle.lisp_check.specs.Warning.{IsWarned, IsFirstAt, IsFirstRouter, IsRefused, HasOtherFamily, is_no_unicast, AreThose, of_site, of_node, of_records, of_servers, of_router, of_each, of_all}
+use Rattle.lisp_check.specs.Adding.{AddsThose, AddsOfAddresses, given_if}
+use Rattle.lisp_check.proofs.Added.{adds_both, adds_if}
+use Rattle.lisp_check.proofs.AddressWarnings.{first_within}
+use Rattle.lisp_check.proofs.RouterWarnings.{inside, first_within as twin_within}
 
+-- an element of a list's end
+behind : {X : Type 0} (x w : X) (xs : List X) → Contains xs w → Contains (x ∷ xs) w
+behind x w xs (k, within, is) = (suc k, omega (arith, within), is)
+
+-- of those that are given each is of the kind, and each of the kind is given
+module _ (P : Warning → Type 0) where
+  head : (x : Warning) (rest : List Warning) (w : Warning) → P x → (Contains rest w → P w) → Contains (x ∷ rest) w → P w
+  head x rest w p others (zero, within, same) = subst P same p
+  head x rest w p others (suc k, within, same) = others (k, omega (arith, within), same)
+
+  given_is : (all given : List Warning) → AreThose P all given → (w : Warning) → Contains given w → P w
+  given_is [] given none w held = absurd (let held_none : Contains [] w = subst (λ (l : List Warning). Contains l w) none held in omega (arith, held_none.1))
+  given_is (x ∷ all) given (inl (rest, p, is, others)) w held = head x rest w p (given_is all rest others w) (subst (λ (l : List Warning). Contains l w) is held)
+  given_is (x ∷ all) given (inr (not_p, others)) w held = given_is all given others w held
+
+  is_given : (all given : List Warning) → AreThose P all given → (w : Warning) → Contains all w → P w → Contains given w
+  is_given [] given none w (k, within, same) p = absurd (omega (arith, within))
+  is_given (x ∷ all) given (inl (rest, q, is, others)) w (zero, within, same) p = subst (λ (l : List Warning). Contains l w) (sym is) (0, omega arith, same)
+  is_given (x ∷ all) given (inl (rest, q, is, others)) w (suc k, within, same) p =
+      subst (λ (l : List Warning). Contains l w) (sym is) (behind x w rest (is_given all rest others w (k, omega (arith, within), same) p))
+  is_given (x ∷ all) given (inr (not_p, others)) w (zero, within, same) p = absurd (not_p (subst P (sym same) p))
+  is_given (x ∷ all) given (inr (not_p, others)) w (suc k, within, same) p = is_given all given others w (k, omega (arith, within), same) p
+
+-- one of a place, and one of a number
+in_places : (of : ℕ → List Warning) (w : Warning) (a n k : ℕ) → a ≤ k → k < a + n → Contains (of k) w → Contains (flat_map of (range_with_len a n)) w
+in_places of w a zero k low high held = absurd (omega (arith, low, high))
+in_places of w a (suc n) k low high held = elim (eq-or-lt_of_le {n = a} {m = k} low) [
+  | inl same ↦ Contains-append_left (of a) (flat_map of (range_with_len (a + 1) n)) w (subst (λ (m : ℕ). Contains (of m) w) (sym same) held)
+  | inr less ↦ Contains-append_right (of a) (flat_map of (range_with_len (a + 1) n)) w (in_places of w (a + 1) n k (omega (arith, less)) (omega (arith, high)) held)
+]
+
+in_each : (of : ℕ → List Warning) (w : Warning) (n k : ℕ) → k < n → Contains (of k) w → Contains (of_each of n) w
+in_each of w n k low held = in_places of w 0 n k (omega arith) (omega (arith, low)) held
+
+in_numbers : (make : ℕ → Warning) (a n k : ℕ) → a ≤ k → k < a + n → Contains (map make (range_with_len a n)) (make k)
+in_numbers make a zero k low high = absurd (omega (arith, low, high))
+in_numbers make a (suc n) k low high = elim (eq-or-lt_of_le {n = a} {m = k} low) [
+  | inl same ↦ (0, omega arith, ap make same)
+  | inr less ↦ behind (make a) (make k) (map make (range_with_len (a + 1) n)) (in_numbers make (a + 1) n k (omega (arith, less)) (omega (arith, high)))
+]
+
+in_map : (make : ℕ → Warning) (xs : List ℕ) (x : ℕ) → Contains xs x → Contains (map make xs) (make x)
+in_map make [] x (k, within, is) = absurd (omega (arith, within))
+in_map make (y ∷ xs) x (zero, within, is) = (0, omega arith, ap make is)
+in_map make (y ∷ xs) x (suc k, within, is) = behind (make y) (make x) (map make xs) (in_map make xs x (k, omega (arith, within), is))
+
+-- each that a configuration has is one that it could have
+module _ (c : ConfigValue) where
+  abbrev sites_could : List Warning
+  sites_could = of_each of_site (length c.sites)
+
+  abbrev nodes_could : List Warning
+  nodes_could = of_each (of_node (length (addresses c))) (length (addresses c))
+
+  abbrev routers_could : List Warning
+  routers_could = of_each (of_router c.routers) (length c.routers)
+
+  abbrev identities_could : ℕ → List Warning
+  identities_could router = map (λ k. SameIdentity k router) (range_with_len 0 (length c.routers))
+
+  in_sites : (site : ℕ) (w : Warning) → site < length c.sites → Contains (of_site site) w → Contains (of_all c) w
+  in_sites site w low held = behind NoNodes w ((sites_could ++ nodes_could) ++ routers_could) (
+      Contains-append_left (sites_could ++ nodes_could) routers_could w (Contains-append_left sites_could nodes_could w (in_each of_site w (length c.sites) site low held)))
+
+  in_nodes : (node : ℕ) (w : Warning) → node < length (addresses c) → Contains (of_node (length (addresses c)) node) w → Contains (of_all c) w
+  in_nodes node w low held = behind NoNodes w ((sites_could ++ nodes_could) ++ routers_could) (
+      Contains-append_left (sites_could ++ nodes_could) routers_could w (Contains-append_right sites_could nodes_could w (in_each (of_node (length (addresses c))) w (length (addresses c)) node low held)))
+
+  in_routers : (router : ℕ) (w : Warning) → router < length c.routers → Contains (of_router c.routers router) w → Contains (of_all c) w
+  in_routers router w low held = behind NoNodes w ((sites_could ++ nodes_could) ++ routers_could) (
+      Contains-append_right (sites_could ++ nodes_could) routers_could w (in_each (of_router c.routers) w (length c.routers) router low held))
+
+  in_records : (router place : ℕ) (o : Option RouterEntryValue) → IsSomeAnd o (λ r. IsRefused c.sites r place) → Contains (of_records router o) (NotAllowed router place)
+  in_records router place (Some r) refused = in_numbers (λ k. NotAllowed router k) 0 (length r.database) place (omega arith) (let low = inside r.database place _ (slice_get r.database place) refl refused in omega (arith, low))
+  in_records router place None refused = absurd refused
+
+  in_servers : (router server : ℕ) (o : Option RouterEntryValue) → IsSomeAnd o (λ r. HasOtherFamily c.servers r server) → Contains (of_servers router o) (OtherFamily router server)
+  in_servers router server (Some r) has = in_map (λ s. OtherFamily router s) r.servers server has.0
+  in_servers router server None has = absurd has
+
+  could : (w : Warning) → IsWarned c w → Contains (of_all c) w
+  could NoNodes warned = (0, omega arith, refl)
+  could (NoKeys site) warned = in_sites site (NoKeys site) (inside c.sites site (λ s. s.keys ≡ []) (slice_get c.sites site) refl warned) (0, omega arith, refl)
+  could (NoPrefixes site) warned = in_sites site (NoPrefixes site) (inside c.sites site (λ s. s.prefixes ≡ []) (slice_get c.sites site) refl warned) (1, omega arith, refl)
+  could (NoUnicast node) warned = in_nodes node (NoUnicast node) (inside (addresses c) node (λ x. IsTrue (is_no_unicast x)) (slice_get (addresses c) node) refl warned) (0, omega arith, refl)
+  could (SameAddress first node) warned =
+      let low = first_within (addresses c) (slice_get (addresses c) node) first warned.1 in
+      in_nodes node (SameAddress first node) (inside (addresses c) node (λ x. IsFirstAt (addresses c) x first) (slice_get (addresses c) node) refl warned.1)
+      (behind (NoUnicast node) (SameAddress first node) _ (in_numbers (λ k. SameAddress k node) 0 (length (addresses c)) first (omega arith) (omega (arith, low))))
+  could (SameIdentity first router) warned =
+      let low = twin_within c.routers (slice_get c.routers router) first warned.1 in
+      in_routers router (SameIdentity first router) (inside c.routers router (λ r. IsFirstRouter c.routers r first) (slice_get c.routers router) refl warned.1) (
+      Contains-append_left (identities_could router ++ of_records router (slice_get c.routers router)) (of_servers router (slice_get c.routers router)) (SameIdentity first router) (
+      Contains-append_left (identities_could router) (of_records router (slice_get c.routers router)) (SameIdentity first router) (
+      in_numbers (λ k. SameIdentity k router) 0 (length c.routers) first (omega arith) (omega (arith, low)))))
+  could (NotAllowed router place) warned =
+      in_routers router (NotAllowed router place) (inside c.routers router (λ r. IsRefused c.sites r place) (slice_get c.routers router) refl warned) (
+      Contains-append_left (identities_could router ++ of_records router (slice_get c.routers router)) (of_servers router (slice_get c.routers router)) (NotAllowed router place) (
+      Contains-append_right (identities_could router) (of_records router (slice_get c.routers router)) (NotAllowed router place) (in_records router place (slice_get c.routers router) warned)))
+  could (OtherFamily router server) warned =
+      in_routers router (OtherFamily router server) (inside c.routers router (λ r. HasOtherFamily c.servers r server) (slice_get c.routers router) refl warned) (
+      Contains-append_right (identities_could router ++ of_records router (slice_get c.routers router)) (of_servers router (slice_get c.routers router)) (OtherFamily router server) (in_servers router server (slice_get c.routers router) warned))
+
+-- what was added to no warning, part by part
 module _ (c : ConfigValue) (addrs : List Addr) (same : addrs ≡ addresses c) (a b d e : List Warning) (none : Bool)
     (no_nodes : IsTrue none ↔ (addrs ≡ []))
-    (network : Adds [] a (λ w. (w ≡ NoNodes) × IsTrue none))
-    (sites : Adds a b (λ w. OfFirst (length c.sites) IsOfSite w × IsWarned c w))
-    (nodes : AddsOfAddresses b d addrs (OfFirst (length addrs) IsOfNode))
-    (routers : Adds d e (λ w. OfFirst (length c.routers) IsOfRouter w × IsWarned c w))
+    (network : a ≡ given_if none NoNodes)
+    (sites : AddsThose c (of_each of_site (length c.sites)) a b)
+    (nodes : AddsOfAddresses addrs (of_each (of_node (length addrs)) (length addrs)) b d)
+    (routers : AddsThose c (of_each (of_router c.routers) (length c.routers)) d e)
   where
-    first_to : (w : Warning) → Contains a w → IsWarned c w
-    first_to w held = elim ((network w).0 held) [
-      | inl nothing ↦ absurd (let h : nothing.0 < 0 = nothing.1 in omega arith)
-      | inr these ↦ subst (IsWarned c) (sym these.0) (sym same ∙ no_nodes.0 these.1)
-    ]
-
-    second_to : (w : Warning) → Contains b w → IsWarned c w
-    second_to w held = elim ((sites w).0 held) [ inl before ↦ first_to w before | inr these ↦ these.1 ]
-
-    third_to : (w : Warning) → Contains d w → IsWarned c w
-    third_to w held = elim ((nodes c (sym same) w).0 held) [ inl before ↦ second_to w before | inr these ↦ these.1 ]
-
-    to : (w : Warning) → Contains e w → IsWarned c w
-    to w held = elim ((routers w).0 held) [ inl before ↦ third_to w before | inr these ↦ these.1 ]
-
-    of_node : (w : Warning) → Contains d w → Contains e w
-    of_node w held = (routers w).1 (inl held)
-
-    of_site : (w : Warning) → Contains b w → Contains e w
-    of_site w held = of_node w ((nodes c (sym same) w).1 (inl held))
-
-    -- a node's place is within the addresses
-    node_low : (node : ℕ) (P : Addr → Type 0) → IsSomeAnd (slice_get (addresses c) node) P → node < length addrs
-    node_low node P h =
-        let low : node < length (addresses c) = inside (addresses c) node P (slice_get (addresses c) node) refl h in
-        let long = ap length same in omega (arith, low, long)
-
-    from : (w : Warning) → IsWarned c w → Contains e w
-    from NoNodes warned = of_site NoNodes ((sites NoNodes).1 (inl ((network NoNodes).1 (inr (refl, no_nodes.1 (same ∙ warned))))))
-    from (NoKeys site) warned = of_site (NoKeys site) ((sites (NoKeys site)).1 (inr ((site, inside c.sites site (λ s. s.keys ≡ []) (slice_get c.sites site) refl warned, refl), warned)))
-    from (NoPrefixes site) warned = of_site (NoPrefixes site) ((sites (NoPrefixes site)).1 (inr ((site, inside c.sites site (λ s. s.prefixes ≡ []) (slice_get c.sites site) refl warned, refl), warned)))
-    from (NoUnicast node) warned = of_node (NoUnicast node) ((nodes c (sym same) (NoUnicast node)).1 (inr ((node, node_low node (λ x. IsTrue (is_no_unicast x)) warned, refl), warned)))
-    from (SameAddress first node) warned = of_node (SameAddress first node) ((nodes c (sym same) (SameAddress first node)).1 (inr ((node, node_low node (λ x. IsFirstAt (addresses c) x first) warned.1, refl), warned)))
-    from (SameIdentity first router) warned = (routers (SameIdentity first router)).1 (inr ((router, inside c.routers router (λ r. IsFirstRouter c.routers r first) (slice_get c.routers router) refl warned.1, refl), warned))
-    from (NotAllowed router place) warned = (routers (NotAllowed router place)).1 (inr ((router, inside c.routers router (λ r. IsRefused c.sites r place) (slice_get c.routers router) refl warned, refl), warned))
-    from (OtherFamily router server) warned = (routers (OtherFamily router server)).1 (inr ((router, inside c.routers router (λ r. Contains r.servers server × IsOfOtherFamily c.servers r server) (slice_get c.routers router) refl warned, refl), warned))
+    pub in_order : AreThose (IsWarned c) (of_all c) e
+    in_order =
+        let decides : IsTrue none ↔ IsWarned c NoNodes = (λ t. sym same ∙ no_nodes.0 t, λ w. no_nodes.1 (same ∙ w)) in
+        let at_nodes : AddsThose c (of_each (of_node (length (addresses c))) (length (addresses c))) b d = subst (λ (l : List Addr). AddsThose c (of_each (of_node (length l)) (length l)) b d) same (nodes c (sym same)) in
+        let all : AddsThose c (of_all c) [] e =
+        adds_both c (NoNodes ∷ []) ((sites_could c ++ nodes_could c) ++ routers_could c) [] a e (adds_if c NoNodes [] a none decides network)
+        (adds_both c (sites_could c ++ nodes_could c) (routers_could c) a d e (adds_both c (sites_could c) (nodes_could c) a b d sites at_nodes) routers) in
+        subst (AreThose (IsWarned c) (of_all c)) (sym all.1) all.2
 
     pub exactly : (w : Warning) → Contains e w ↔ IsWarned c w
-    exactly w = (to w, from w)
+    exactly w = (given_is (IsWarned c) (of_all c) e in_order w, λ warned. is_given (IsWarned c) (of_all c) e in_order w (could c w warned) warned)

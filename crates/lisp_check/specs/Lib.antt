@@ -1,3 +1,4 @@
 pub mod Warning
 pub mod Adding
 pub mod Law
+pub mod Words

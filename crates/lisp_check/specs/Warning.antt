@@ -1,6 +1,6 @@
 -- What in a configuration may not be meant, though it can be read.
-use Rattle.std.specs.Prelude.{◌≡◌, ◌≢◌, ℕ, ◌==◌, Bool, ◌||◌, List, [], IsTrue, IsSomeAnd, slice_get, slice_index, position, Some}
-use Rattle.std.specs.List.{Contains, list_all}
+use Rattle.std.specs.Prelude.{◌≡◌, ◌≢◌, ◌⊎◌, ℕ, ◌==◌, Bool, ◌||◌, List, [], ◌∷◌, ◌++◌, length, map, IsTrue, IsSomeAnd, slice_get, slice_index, position, Option, Some, None}
+use Rattle.std.specs.List.{Contains, list_all, flat_map, range_with_len}
 use Rattle.std.specs.Int.{is_in_range}
 use Rattle.lisp_records.specs.declared.address.Addr.{Addr}
 use Rattle.lisp_records.specs.declared.address.Addr.TheVariants.{V4, V6}
@@ -61,3 +61,45 @@ IsWarned c (SameAddress first node) = (first ≢ node) × IsFirstAlike (addresse
 IsWarned c (SameIdentity first router) = (first ≢ router) × IsFirstTwin c.routers router first
 IsWarned c (NotAllowed router place) = IsSomeAnd (slice_get c.routers router) (λ r. IsRefused c.sites r place)
 IsWarned c (OtherFamily router server) = IsSomeAnd (slice_get c.routers router) (λ r. HasOtherFamily c.servers r server)
+
+-- what could be warned of a site; of a node among so many; of a router's records, of its Map-Servers, and of a router
+abbrev pub of_site : ℕ → List Warning
+of_site place = NoKeys place ∷ NoPrefixes place ∷ []
+
+abbrev pub of_node : ℕ → ℕ → List Warning
+of_node count place = NoUnicast place ∷ map (λ first. SameAddress first place) (range_with_len 0 count)
+
+abbrev pub of_records : ℕ → Option RouterEntryValue → List Warning
+of_records place (Some r) = map (λ k. NotAllowed place k) (range_with_len 0 (length r.database))
+of_records place None = []
+
+abbrev pub of_servers : ℕ → Option RouterEntryValue → List Warning
+of_servers place (Some r) = map (λ server. OtherFamily place server) r.servers
+of_servers place None = []
+
+abbrev pub of_router : List RouterEntryValue → ℕ → List Warning
+of_router routers place =
+    map (λ first. SameIdentity first place) (range_with_len 0 (length routers)) ++ of_records place (slice_get routers place) ++ of_servers place (slice_get routers place)
+
+-- of so many places all; of all sites, of the nodes with these addresses, and of all routers
+abbrev pub of_each : (ℕ → List Warning) → ℕ → List Warning
+of_each of count = flat_map of (range_with_len 0 count)
+
+abbrev pub of_sites : ConfigValue → List Warning
+of_sites c = of_each of_site (length c.sites)
+
+abbrev pub of_nodes : List Addr → List Warning
+of_nodes addrs = of_each (of_node (length addrs)) (length addrs)
+
+abbrev pub of_routers : ConfigValue → List Warning
+of_routers c = of_each (of_router c.routers) (length c.routers)
+
+-- what could be warned of a configuration, each once, in the order in which it is
+abbrev pub of_all : ConfigValue → List Warning
+of_all c = NoNodes ∷ (of_sites c ++ of_nodes (addresses c) ++ of_routers c)
+
+-- of these warnings those of a kind, in their order
+abbrev pub AreThose : (Warning → Type 0) → List Warning → List Warning → Type 0
+AreThose IsGiven [] given = given ≡ []
+AreThose IsGiven (w ∷ others) given = ((rest : List Warning) × IsGiven w × (given ≡ w ∷ rest) × AreThose IsGiven others rest)
+    ⊎ ((IsGiven w → ⊥) × AreThose IsGiven others given)

@@ -8,7 +8,6 @@ use lisp_memory::{FallibleVec, Memory};
 use std::alloc::AllocError;
 
 /// Adds the warning where it is to be given.
-#[tactic(auto, using(crate::proofs::Added::adds_one, crate::proofs::Added::adds_none))]
 pub(crate) fn warn_if<M: Memory>(
     warnings: &mut Vec<Warning, M>,
     is_warned: bool,

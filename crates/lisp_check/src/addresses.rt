@@ -4,8 +4,8 @@ ghost use Rattle.std.specs.Prelude.{◌≡◌, ◌↔◌, ◌==◌, length, IsTr
 ghost use Rattle.std.specs.List.{list_all};
 ghost use Rattle.lisp_records.specs.Address.{addr_eq};
 ghost use Rattle.lisp_model.specs.Trace.{addresses as addresses_of};
-ghost use Rattle.lisp_check.specs.Warning.{HasNoUnicast, IsFirstAlike, is_no_unicast};
-ghost use Rattle.lisp_check.specs.Adding.{AddsAtAddresses, NamesFirst, OfFirst, IsOfNode};
+ghost use Rattle.lisp_check.specs.Warning.{HasNoUnicast, IsFirstAlike, is_no_unicast, of_node, of_nodes};
+ghost use Rattle.lisp_check.specs.Adding.{AddsAtAddresses, NamesFirst};
 
 use crate::adding::warn_if;
 use crate::place::at;
@@ -38,7 +38,7 @@ pub(crate) fn warn_of_addresses<M: Memory>(
     warnings: &mut Vec<Warning, M>,
     addresses: &[Addr],
 ) -> Result<(), AllocError>
-    ensures added { AddsAtAddresses result warnings.old warnings.new addresses.now (OfFirst (length addresses.now) IsOfNode) }
+    ensures added { AddsAtAddresses result warnings.old warnings.new addresses.now (of_nodes addresses.now) }
     ensures memory { OnErr result M.may_refuse }
 {
     for node in 0..addresses.len() {
@@ -52,7 +52,7 @@ fn warn_of_address<M: Memory>(
     addresses: &[Addr],
     node: usize,
 ) -> Result<(), AllocError>
-    ensures added { AddsAtAddresses result warnings.old warnings.new addresses.now (IsOfNode node) }
+    ensures added { AddsAtAddresses result warnings.old warnings.new addresses.now (of_node (length addresses.now) node) }
     ensures memory { OnErr result M.may_refuse }
 {
     let first = first_like(addresses, node);

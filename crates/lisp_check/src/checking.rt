@@ -2,7 +2,7 @@
 
 ghost use Rattle.std.specs.Prelude.{◌≡◌, ◌↔◌, [], IsTrue, IfOk, OnErr};
 ghost use Rattle.std.specs.List.{Contains};
-ghost use Rattle.lisp_check.specs.Warning.{IsWarned};
+ghost use Rattle.lisp_check.specs.Warning.{IsWarned, AreThose, of_all};
 ghost use Rattle.lisp_check.specs.declared.warning.Warning.{Warning};
 ghost use Rattle.lisp_check.specs.declared.warning.Warning.TheVariants.{NoNodes};
 
@@ -16,12 +16,14 @@ use lisp_records::Addr;
 use lisp_sites::Config;
 use std::alloc::{AllocError, Allocator};
 
-/// What may not be meant in a configuration, in memory of `alloc`: first that there are no nodes, then what is of sites, of the
-/// addresses of nodes, and of routers.
+/// What may not be meant in a configuration, in memory of `alloc`, each once: first that there are no nodes, then what is of
+/// sites, of the addresses of nodes, and of routers, one after another; of a router first its identity, then its records, then
+/// its Map-Servers.
 pub fn warnings<M: Memory + Copy, A: Allocator>(
     alloc: M,
     config: &Config<A>,
 ) -> Result<Vec<Warning, M>, AllocError>
+    ensures order { IfOk result (λ given. AreThose (IsWarned config.now) (of_all config.now) given.items) }
     ensures exact { IfOk result (λ given. (w : Warning) → Contains given.items w ↔ IsWarned config.now w) }
     ensures memory { OnErr result M.may_refuse }
 {

@@ -3,8 +3,8 @@
 ghost use Rattle.std.specs.Prelude.{◌≡◌, ◌↔◌, length, IsTrue, OnErr, slice_get, position};
 ghost use Rattle.std.specs.Option.{option_map};
 ghost use Rattle.lisp_records.specs.Router.{router_eq};
-ghost use Rattle.lisp_check.specs.Warning.{IsFirstTwin, MayRegister, IsRefused, IsOfOtherFamily};
-ghost use Rattle.lisp_check.specs.Adding.{AddsWarned, NamesFirst, OfFirst, IsOfRouter, IsOfRecords, IsOfServers};
+ghost use Rattle.lisp_check.specs.Warning.{IsFirstTwin, MayRegister, IsRefused, IsOfOtherFamily, of_router, of_records, of_servers, of_routers};
+ghost use Rattle.lisp_check.specs.Adding.{AddsWarned, NamesFirst};
 
 use crate::adding::warn_if;
 use crate::place::at;
@@ -20,7 +20,7 @@ pub(crate) fn warn_of_routers<M: Memory, A: Allocator>(
     warnings: &mut Vec<Warning, M>,
     config: &Config<A>,
 ) -> Result<(), AllocError>
-    ensures added { AddsWarned result warnings.old warnings.new config.now (OfFirst (length config.now.routers) IsOfRouter) }
+    ensures added { AddsWarned result warnings.old warnings.new config.now (of_routers config.now) }
     ensures memory { OnErr result M.may_refuse }
 {
     for place in 0..config.routers().len() {
@@ -34,7 +34,7 @@ fn warn_of_router<M: Memory, A: Allocator>(
     config: &Config<A>,
     router: usize,
 ) -> Result<(), AllocError>
-    ensures added { AddsWarned result warnings.old warnings.new config.now (IsOfRouter router) }
+    ensures added { AddsWarned result warnings.old warnings.new config.now (of_router config.now.routers router) }
     ensures memory { OnErr result M.may_refuse }
 {
     let first = first_like(config, router);
@@ -80,7 +80,7 @@ fn warn_of_records<M: Memory, A: Allocator>(
     config: &Config<A>,
     router: usize,
 ) -> Result<(), AllocError>
-    ensures added { AddsWarned result warnings.old warnings.new config.now (IsOfRecords router) }
+    ensures added { AddsWarned result warnings.old warnings.new config.now (of_records router (slice_get config.now.routers router)) }
     ensures memory { OnErr result M.may_refuse }
 {
     let Some(entry) = router_at(config, router) else {
@@ -125,7 +125,7 @@ fn warn_of_servers<M: Memory, A: Allocator>(
     config: &Config<A>,
     router: usize,
 ) -> Result<(), AllocError>
-    ensures added { AddsWarned result warnings.old warnings.new config.now (IsOfServers router) }
+    ensures added { AddsWarned result warnings.old warnings.new config.now (of_servers router (slice_get config.now.routers router)) }
     ensures memory { OnErr result M.may_refuse }
 {
     let Some(entry) = router_at(config, router) else {

@@ -1,8 +1,8 @@
 //! Warnings of sites.
 
 ghost use Rattle.std.specs.Prelude.{◌↔◌, length, IsTrue, OnErr};
-ghost use Rattle.lisp_check.specs.Warning.{IsWarned};
-ghost use Rattle.lisp_check.specs.Adding.{AddsWarned, OfFirst, IsOfSite};
+ghost use Rattle.lisp_check.specs.Warning.{IsWarned, of_site, of_sites};
+ghost use Rattle.lisp_check.specs.Adding.{AddsWarned};
 ghost use Rattle.lisp_check.specs.declared.warning.Warning.TheVariants.{NoKeys, NoPrefixes};
 
 use crate::adding::warn_if;
@@ -17,7 +17,7 @@ pub(crate) fn warn_of_sites<M: Memory, A: Allocator>(
     warnings: &mut Vec<Warning, M>,
     config: &Config<A>,
 ) -> Result<(), AllocError>
-    ensures added { AddsWarned result warnings.old warnings.new config.now (OfFirst (length config.now.sites) IsOfSite) }
+    ensures added { AddsWarned result warnings.old warnings.new config.now (of_sites config.now) }
     ensures memory { OnErr result M.may_refuse }
 {
     for place in 0..config.sites().as_slice().len() {
@@ -31,7 +31,7 @@ fn warn_of_site<M: Memory, A: Allocator>(
     config: &Config<A>,
     site: usize,
 ) -> Result<(), AllocError>
-    ensures added { AddsWarned result warnings.old warnings.new config.now (IsOfSite site) }
+    ensures added { AddsWarned result warnings.old warnings.new config.now (of_site site) }
     ensures memory { OnErr result M.may_refuse }
 {
     warn_if(

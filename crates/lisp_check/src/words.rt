@@ -1,42 +1,49 @@
 //! Warnings in words.
 
+ghost use Rattle.std.specs.Prelude.{◌≡◌, slice_get, Some};
+ghost use Rattle.lisp_check.specs.Words.{GivesText, no_keys_words, no_prefixes_words, site_words, site_id_words, kind_words, node_words, router_words, addressed, site_id_of, eid_words, no_unicast_text, same_address_text, same_identity_text, not_allowed_text, other_family_text, warning_text};
+
 use crate::warning::Warning;
 use lisp_memory::FallibleString;
 use lisp_sites::{Config, RouterEntry, addr_to_text, prefix_to_text};
 use std::alloc::{AllocError, Global};
 use std::fmt::{self, Display, Formatter, Write};
 
-/// A site, counted from 1.
+/// A site, by its place.
 #[derive(Drop)]
-struct SiteNumber(usize);
+struct SiteNumber {
+    place: usize,
+}
 
 impl Display for SiteNumber {
+    ghost output = { λ site. Some (site_words site.place) };
+
+    // Sites are counted from 1.
     fn fmt<W: Write>(&self, formatter: &mut Formatter<W>) -> fmt::Result {
-        let number = self.0.saturating_add(1);
+        let number = self.place.saturating_add(1);
         write!(formatter, "site {number}")
     }
 }
 
-/// A Map-Server or a router, by its name.
+/// A Site-ID.
 #[derive(Drop)]
-struct NodeName<'a> {
-    kind: &'static str,
-    name: &'a str,
+struct SiteId {
+    id: u64,
 }
 
-impl Display for NodeName<'_> {
+impl Display for SiteId {
+    ghost output = { λ site. Some (site_id_words site.id) };
+
     fn fmt<W: Write>(&self, formatter: &mut Formatter<W>) -> fmt::Result {
-        let (kind, name) = (self.kind, self.name);
-        write!(formatter, "{kind} {name}")
+        let id = self.id;
+        write!(formatter, "{id:016x}")
     }
 }
 
 /// A warning of the configuration in words, behind the entry that it is of.
-pub fn warning_line(
-    alloc: Global,
-    config: &Config,
-    warning: Warning,
-) -> Result<String, AllocError> {
+pub fn warning_line(alloc: Global, config: &Config, warning: Warning) -> Result<String, AllocError>
+    ensures { GivesText result (warning_text config.now warning) }
+{
     match warning {
         Warning::NoNodes => String::try_from_str(alloc, "no server and no router"),
         Warning::NoKeys { site } => no_keys(alloc, site),
@@ -49,28 +56,34 @@ pub fn warning_line(
     }
 }
 
-fn no_keys(alloc: Global, site: usize) -> Result<String, AllocError> {
-    let site = SiteNumber(site);
+fn no_keys(alloc: Global, place: usize) -> Result<String, AllocError>
+    ensures { GivesText result (no_keys_words (site_words place)) }
+{
+    let site = SiteNumber { place };
     String::try_format(
         alloc,
         format_args!("{site}: no keys: no router of it can register"),
     )
 }
 
-fn no_prefixes(alloc: Global, site: usize) -> Result<String, AllocError> {
-    let site = SiteNumber(site);
+fn no_prefixes(alloc: Global, place: usize) -> Result<String, AllocError>
+    ensures { GivesText result (no_prefixes_words (site_words place)) }
+{
+    let site = SiteNumber { place };
     String::try_format(
         alloc,
         format_args!("{site}: no prefixes: a Map-Server refuses each record (55)"),
     )
 }
 
-fn no_unicast(alloc: Global, config: &Config, node: usize) -> Result<String, AllocError> {
-    let name = node_name(config, node);
+fn no_unicast(alloc: Global, config: &Config, node: usize) -> Result<String, AllocError>
+    ensures { GivesText result (no_unicast_text config.now node) }
+{
+    let (kind, name) = (node_kind(config, node), node_name(config, node));
     let address = node_address(alloc, config, node)?;
     String::try_format(
         alloc,
-        format_args!("{name}: address {address} can't be a node's"),
+        format_args!("{kind} {name}: address {address} can't be a node's"),
     )
 }
 
@@ -79,13 +92,17 @@ fn same_address(
     config: &Config,
     first: usize,
     node: usize,
-) -> Result<String, AllocError> {
-    let name = node_name(config, node);
-    let first = node_name(config, first);
+) -> Result<String, AllocError>
+    ensures { GivesText result (same_address_text config.now first node) }
+{
+    let (kind, name) = (node_kind(config, node), node_name(config, node));
+    let (first_kind, first) = (node_kind(config, first), node_name(config, first));
     let address = node_address(alloc, config, node)?;
     String::try_format(
         alloc,
-        format_args!("{name}: address {address} is that of {first} too: play refuses both (74)"),
+        format_args!(
+            "{kind} {name}: address {address} is that of {first_kind} {first} too: play refuses both (74)"
+        ),
     )
 }
 
@@ -94,12 +111,16 @@ fn same_identity(
     config: &Config,
     first: usize,
     router: usize,
-) -> Result<String, AllocError> {
+) -> Result<String, AllocError>
+    ensures { GivesText result (same_identity_text config.now first router) }
+{
     let name = router_name(config, router);
     let first = router_name(config, first);
     String::try_format(
         alloc,
-        format_args!("{name}: site and xtr are those of {first} too: play refuses both (74)"),
+        format_args!(
+            "router {name}: site and xtr are those of router {first} too: play refuses both (74)"
+        ),
     )
 }
 
@@ -107,26 +128,21 @@ fn not_allowed(
     alloc: Global,
     config: &Config,
     router: usize,
-    record: usize,
-) -> Result<String, AllocError> {
+    place: usize,
+) -> Result<String, AllocError>
+    ensures { GivesText result (not_allowed_text config.now router place) }
+{
     let name = router_name(config, router);
-    let (site, eid) = match config.routers().get(router) {
-        Some(entry) => (entry.me.site, record_eid(alloc, entry, record)?),
-        None => (0, String::try_from_str(alloc, "")?),
+    let site = SiteId {
+        id: site_of(config, router),
     };
+    let eid = eid_text(alloc, config, router, place)?;
     String::try_format(
         alloc,
         format_args!(
-            "{name}: record {eid} is no prefix of site {site:016x}: a Map-Server refuses it (55)"
+            "router {name}: record {eid} is no prefix of site {site}: a Map-Server refuses it (55)"
         ),
     )
-}
-
-fn record_eid(alloc: Global, router: &RouterEntry, record: usize) -> Result<String, AllocError> {
-    match router.database.records().get(record) {
-        Some(record) => prefix_to_text(alloc, record.eid_ref()),
-        None => String::try_from_str(alloc, ""),
-    }
 }
 
 fn other_family(
@@ -134,39 +150,84 @@ fn other_family(
     config: &Config,
     router: usize,
     server: usize,
-) -> Result<String, AllocError> {
+) -> Result<String, AllocError>
+    ensures { GivesText result (other_family_text config.now router server) }
+{
     let name = router_name(config, router);
-    let server = node_name(config, server);
+    let (kind, server) = (node_kind(config, server), node_name(config, server));
     String::try_format(
         alloc,
         format_args!(
-            "{name}: address is of another family than that of {server}: neither reaches the other (91)"
+            "router {name}: address is of another family than that of {kind} {server}: neither reaches the other (91)"
         ),
     )
 }
 
-// The name of a node: Map-Servers are counted first.
-fn node_name(config: &Config, node: usize) -> NodeName<'_> {
+// The Site-ID of a router.
+fn site_of(config: &Config, router: usize) -> u64
+    ensures { result ≡ site_id_of (slice_get config.now.routers router) }
+{
+    match config.routers().get(router) {
+        Some(router) => router.me.site,
+        None => 0,
+    }
+}
+
+// The prefix of a router's record.
+fn eid_text(
+    alloc: Global,
+    config: &Config,
+    router: usize,
+    place: usize,
+) -> Result<String, AllocError>
+    ensures { GivesText result (eid_words (slice_get config.now.routers router) place) }
+{
+    match config.routers().get(router) {
+        Some(router) => record_eid(alloc, router, place),
+        None => String::try_from_str(alloc, ""),
+    }
+}
+
+fn record_eid(alloc: Global, router: &RouterEntry, place: usize) -> Result<String, AllocError>
+    ensures { GivesText result (eid_words (Some router.now) place) }
+{
+    match router.database.records().get(place) {
+        Some(record) => prefix_to_text(alloc, record.eid_ref()),
+        None => String::try_from_str(alloc, ""),
+    }
+}
+
+// What a node is: Map-Servers are counted first.
+fn node_kind(config: &Config, node: usize) -> &'static str
+    ensures { result.now ≡ kind_words (slice_get config.now.servers node) }
+{
     match config.servers().get(node) {
-        Some(server) => NodeName {
-            kind: "server",
-            name: server.name.as_str(),
-        },
+        Some(_) => "server",
+        None => "router",
+    }
+}
+
+fn node_name(config: &Config, node: usize) -> &str
+    ensures { result.now ≡ node_words config.now node }
+{
+    match config.servers().get(node) {
+        Some(server) => server.name.as_str(),
         None => router_name(config, node.saturating_sub(config.servers().len())),
     }
 }
 
-fn router_name(config: &Config, router: usize) -> NodeName<'_> {
-    NodeName {
-        kind: "router",
-        name: match config.routers().get(router) {
-            Some(router) => router.name.as_str(),
-            None => "",
-        },
+fn router_name(config: &Config, router: usize) -> &str
+    ensures { result.now ≡ router_words (slice_get config.now.routers router) }
+{
+    match config.routers().get(router) {
+        Some(router) => router.name.as_str(),
+        None => "",
     }
 }
 
-fn node_address(alloc: Global, config: &Config, node: usize) -> Result<String, AllocError> {
+fn node_address(alloc: Global, config: &Config, node: usize) -> Result<String, AllocError>
+    ensures { GivesText result (addressed config.now node) }
+{
     if let Some(server) = config.servers().get(node) {
         return addr_to_text(alloc, &server.address);
     }

@@ -1,6 +1,10 @@
 use Rattle.std.proofs.Common.{◌≡◌, length, arith, sym}
+use Rattle.lisp_check.proofs.Added.{adds_none}
 use Rattle.lisp_check.proofs.RouterWarnings.{adds_record, adds_records, adds_no_record}
 use Rattle.lisp_check.proofs.routers.warn_of_records.Goals as goal
+
+pub loop-place-init : goal.loop-place-init
+loop-place-init g c = adds_none c.args.config.now _
 
 pub loop-place-preserved : goal.loop-place-preserved
 loop-place-preserved g c = adds_record c.args.config.now c.args.router c.in-Some.entry.now (sym c.in-Some.ensures) _ _ _ c.loop-place.place c.is_refused.result c.is_refused.ensures c.loop-place.invariant c.in_ok-warn_if.ensures.added

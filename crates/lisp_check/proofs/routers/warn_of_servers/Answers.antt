@@ -1,6 +1,10 @@
 use Rattle.std.proofs.Common.{◌≡◌, ◌<◌, ℕ, List, length, arith, ap, sym, get_or}
+use Rattle.lisp_check.proofs.Added.{adds_none}
 use Rattle.lisp_check.proofs.RouterWarnings.{adds_server, adds_servers, adds_no_server}
 use Rattle.lisp_check.proofs.routers.warn_of_servers.Goals as goal
+
+pub loop-place-init : goal.loop-place-init
+loop-place-init g c = adds_none c.args.config.now _
 
 pub loop-place-preserved : goal.loop-place-preserved
 loop-place-preserved g c =

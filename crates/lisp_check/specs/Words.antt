@@ -1,0 +1,117 @@
+-- Warnings in words.
+use Rattle.std.specs.Prelude.{◌≡◌, ℕ, ◌+◌, ◌-◌, ◌^◌, false, min, List, [], ◌++◌, codes, length, slice_get, Option, Some, None, Result, String, string_bytes, IfOk}
+use Rattle.std.specs.Fmt.{decimal, digits, padded_integral, format_spec}
+use Rattle.lisp_records.specs.Record.{MapRecordValue}
+use Rattle.lisp_texts.specs.Written.{addr_text, prefix_text}
+use Rattle.lisp_policy.specs.Configuration.{ConfigValue, ServerEntryValue, RouterEntryValue}
+use Rattle.lisp_check.specs.declared.warning.Warning.{Warning}
+use Rattle.lisp_check.specs.declared.warning.Warning.TheVariants.{NoNodes, NoKeys, NoPrefixes, NoUnicast, SameAddress, SameIdentity, NotAllowed, OtherFamily}
+
+-- at Ok a text is these words
+abbrev pub GivesText : {E Z : Type 0} → Result (String Z) E → List ℕ → Type 0
+GivesText result words = IfOk result (λ text. string_bytes text ≡ words)
+
+-- a site, counted from 1; and its Site-ID, as 16 hexadecimal digits
+abbrev pub site_words : ℕ → List ℕ
+site_words place = codes "site " ++ decimal (min (place + 1) (2 ^ 64 - 1))
+
+abbrev pub site_id_words : ℕ → List ℕ
+site_id_words id = padded_integral (format_spec 32 0 4 16 (2 ^ 64 - 1)) false [] (digits 16 false id)
+
+-- what a node is, by its number: Map-Servers are counted first; and the names of routers and nodes
+abbrev pub kind_words : Option ServerEntryValue → List ℕ
+kind_words (Some server) = codes "server"
+kind_words None = codes "router"
+
+abbrev pub router_words : Option RouterEntryValue → List ℕ
+router_words (Some router) = router.name
+router_words None = []
+
+abbrev pub name_words : Option ServerEntryValue → Option RouterEntryValue → List ℕ
+name_words (Some server) router = server.name
+name_words None router = router_words router
+
+abbrev pub node_words : ConfigValue → ℕ → List ℕ
+node_words c node = name_words (slice_get c.servers node) (slice_get c.routers (node - length c.servers))
+
+-- the address of a node by its number
+abbrev pub router_address_words : Option RouterEntryValue → List ℕ
+router_address_words (Some router) = addr_text router.address
+router_address_words None = []
+
+abbrev pub address_words : Option ServerEntryValue → Option RouterEntryValue → List ℕ
+address_words (Some server) router = addr_text server.address
+address_words None router = router_address_words router
+
+abbrev pub addressed : ConfigValue → ℕ → List ℕ
+addressed c node = address_words (slice_get c.servers node) (slice_get c.routers (node - length c.servers))
+
+-- the prefix of a router's record by its place, and the router's Site-ID
+abbrev pub record_words : Option MapRecordValue → List ℕ
+record_words (Some m) = prefix_text m.eid
+record_words None = []
+
+abbrev pub eid_words : Option RouterEntryValue → ℕ → List ℕ
+eid_words (Some router) place = record_words (slice_get router.database place)
+eid_words None place = []
+
+abbrev pub site_id_of : Option RouterEntryValue → ℕ
+site_id_of (Some router) = router.me.site
+site_id_of None = 0
+
+-- a warning in words, behind the entry that it is of: by these words of it
+abbrev pub no_unicast_words : List ℕ → List ℕ → List ℕ → List ℕ
+no_unicast_words kind name address = kind ++ (codes " " ++ (name ++ (codes ": address " ++ (address ++ codes " can't be a node's"))))
+
+abbrev pub same_address_words : List ℕ → List ℕ → List ℕ → List ℕ → List ℕ → List ℕ
+same_address_words kind name address first_kind first =
+    kind ++ (codes " " ++ (name ++ (codes ": address " ++ (address ++ (codes " is that of "
+    ++ (first_kind ++ (codes " " ++ (first ++ codes " too: play refuses both (74)"))))))))
+
+abbrev pub same_identity_words : List ℕ → List ℕ → List ℕ
+same_identity_words name first =
+    codes "router " ++ (name ++ (codes ": site and xtr are those of router " ++ (first ++ codes " too: play refuses both (74)")))
+
+abbrev pub not_allowed_words : List ℕ → List ℕ → List ℕ → List ℕ
+not_allowed_words name eid site =
+    codes "router " ++ (name ++ (codes ": record " ++ (eid ++ (codes " is no prefix of site " ++ (site ++ codes ": a Map-Server refuses it (55)")))))
+
+abbrev pub other_family_words : List ℕ → List ℕ → List ℕ → List ℕ
+other_family_words name kind server =
+    codes "router " ++ (name ++ (codes ": address is of another family than that of "
+    ++ (kind ++ (codes " " ++ (server ++ codes ": neither reaches the other (91)")))))
+
+abbrev pub no_keys_words : List ℕ → List ℕ
+no_keys_words site = site ++ codes ": no keys: no router of it can register"
+
+abbrev pub no_prefixes_words : List ℕ → List ℕ
+no_prefixes_words site = site ++ codes ": no prefixes: a Map-Server refuses each record (55)"
+
+-- and of a configuration
+abbrev pub no_unicast_text : ConfigValue → ℕ → List ℕ
+no_unicast_text c node = no_unicast_words (kind_words (slice_get c.servers node)) (node_words c node) (addressed c node)
+
+abbrev pub same_address_text : ConfigValue → ℕ → ℕ → List ℕ
+same_address_text c first node =
+    same_address_words (kind_words (slice_get c.servers node)) (node_words c node) (addressed c node) (kind_words (slice_get c.servers first)) (node_words c first)
+
+abbrev pub same_identity_text : ConfigValue → ℕ → ℕ → List ℕ
+same_identity_text c first router = same_identity_words (router_words (slice_get c.routers router)) (router_words (slice_get c.routers first))
+
+abbrev pub not_allowed_text : ConfigValue → ℕ → ℕ → List ℕ
+not_allowed_text c router place =
+    not_allowed_words (router_words (slice_get c.routers router)) (eid_words (slice_get c.routers router) place) (site_id_words (site_id_of (slice_get c.routers router)))
+
+abbrev pub other_family_text : ConfigValue → ℕ → ℕ → List ℕ
+other_family_text c router server =
+    other_family_words (router_words (slice_get c.routers router)) (kind_words (slice_get c.servers server)) (node_words c server)
+
+abbrev pub warning_text : ConfigValue → Warning → List ℕ
+warning_text c NoNodes = codes "no server and no router"
+warning_text c (NoKeys site) = no_keys_words (site_words site)
+warning_text c (NoPrefixes site) = no_prefixes_words (site_words site)
+warning_text c (NoUnicast node) = no_unicast_text c node
+warning_text c (SameAddress first node) = same_address_text c first node
+warning_text c (SameIdentity first router) = same_identity_text c first router
+warning_text c (NotAllowed router place) = not_allowed_text c router place
+warning_text c (OtherFamily router server) = other_family_text c router server
