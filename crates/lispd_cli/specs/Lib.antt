@@ -2,3 +2,4 @@ pub mod Fault
 pub mod Options
 pub mod Words
 pub mod Asking
+pub mod Check

@@ -1,10 +1,14 @@
 //! What was understood of a configuration, a line for each site and each node; and its warnings.
 
+ghost use Rattle.std.specs.Prelude.{◌≡◌, map, string_bytes, IfOk};
+ghost use Rattle.lisp_check.specs.Words.{warning_text};
+ghost use Rattle.lispd_cli.specs.Check.{WritesLine, WritesSome, Writes, AddsWords, Warns, WarnsOfOne, warning_of, warning_lines, words_of_mode, AreWarnings};
+
 use crate::failure::Failure;
 use crate::fault::ProgramFault;
 use crate::remedy::advice;
 use crate::source::{Source, read_source};
-use lisp_check::{fault_note, unknown_keys, warning_line, warnings};
+use lisp_check::{Warning, fault_note, unknown_keys, warning_line, warnings};
 use lisp_memory::{FallibleString, FallibleVec};
 use lisp_policy::{Site, SitePrefix};
 use lisp_records::{Addr, Database};
@@ -19,13 +23,15 @@ use std::str;
 use toml::Value;
 
 /// Reads the configuration of a file, of standard input where the path is `-`, and prints a line for each site, Map-Server and
-/// router of it, then one for each warning. At a fault of the configuration nothing is printed. Returns whether there are
-/// warnings.
+/// router of it, then one for each warning: of keys that aren't known, then of what may not be meant, then that others can read
+/// the file. At a fault of the configuration nothing is printed. Returns whether there are warnings.
 pub fn check_config<R: Input + Files + AllocGlobal, W: Write>(
     rt: &R,
     path: &str,
     writer: &mut W,
-) -> Result<bool, Failure> {
+) -> Result<bool, Failure>
+    ensures warns { IfOk result (WarnsOfOne path.now W.contents writer.old writer.new) }
+{
     let source = read_source(rt, path)?;
     let Ok(text) = str::from_utf8(&source.bytes) else {
         return Err(Failure::from(PlayFault::NotUtf8));
@@ -73,45 +79,94 @@ fn print_checked<W: Write>(
     text: &str,
     config: &Config,
     writer: &mut W,
-) -> Result<bool, InputFault> {
-    let lines = warning_lines(alloc, source, text, config)?;
+) -> Result<bool, InputFault>
+    ensures { IfOk result (Warns config.now source.now.is_open_to_others path.now W.contents writer.old writer.new) }
+{
+    let lines = warning_words(alloc, source, text, config)?;
     print_config(alloc, config, writer)?;
-    for line in &lines {
-        print(
-            String::try_format(alloc, format_args!("warning: {path}: {line}")),
-            writer,
-        )?;
-    }
+    print_warnings(alloc, path, &lines, writer)?;
     Ok(!lines.is_empty())
 }
 
+// Prints a line for each of these warnings of a file.
+#[tactic(auto, using(crate::proofs::Warned::printed))]
+fn print_warnings<W: Write>(
+    alloc: Global,
+    path: &str,
+    warnings: &[String],
+    writer: &mut W,
+) -> Result<(), InputFault>
+    ensures { Writes result W.contents writer.old writer.new (warning_lines path.now (map string_bytes warnings.now)) }
+{
+    for words in warnings {
+        print(warning_of(alloc, path, words), writer)?;
+    }
+    Ok(())
+}
+
+// A warning of a file.
+fn warning_of(alloc: Global, path: &str, words: &str) -> Result<String, AllocError>
+    ensures { IfOk result (λ text. string_bytes text ≡ warning_of path.now words.now) }
+{
+    String::try_format(alloc, format_args!("warning: {path}: {words}"))
+}
+
 // The warnings in words: keys that aren't known, then those of the configuration, then that of its file.
-fn warning_lines(
+fn warning_words(
     alloc: Global,
     source: &Source,
     text: &str,
     config: &Config,
-) -> Result<Vec<String>, AllocError> {
-    let mut lines = match toml::table_from_str(alloc, text) {
-        Ok(table) => unknown_keys(alloc, &Value::Table(table))?,
-        Err(_) => return Err(AllocError),
-    };
+) -> Result<Vec<String>, AllocError>
+    ensures { IfOk result (AreWarnings config.now source.now.is_open_to_others) }
+{
+    let mut all = unknown_in(alloc, text)?;
     let warnings = warnings(alloc, config)?;
-    for warning in &warnings {
-        lines.try_push(warning_line(alloc, config, *warning)?)?;
-    }
-    if source.is_open_to_others {
-        let words = "others can read the file, and it holds secrets";
-        lines.try_push(String::try_from_str(alloc, words)?)?;
-    }
-    Ok(lines)
+    add_warnings(&mut all, alloc, config, &warnings)?;
+    add_mode(&mut all, alloc, source.is_open_to_others)?;
+    Ok(all)
 }
 
-fn print_config<W: Write>(
+// Adds that others can read the file.
+#[tactic(auto, using(crate::proofs::Warned::one_added))]
+fn add_mode(all: &mut Vec<String>, alloc: Global, is_open: bool) -> Result<(), AllocError>
+    ensures { AddsWords result all.old all.new (words_of_mode is_open) }
+{
+    if is_open {
+        let words = "others can read the file, and it holds secrets";
+        all.try_push(String::try_from_str(alloc, words)?)?;
+    }
+    Ok(())
+}
+
+// A line for each key of a text that isn't known.
+fn unknown_in(alloc: Global, text: &str) -> Result<Vec<String>, AllocError> {
+    match toml::table_from_str(alloc, text) {
+        Ok(table) => unknown_keys(alloc, &Value::Table(table)),
+        Err(_) => Err(AllocError),
+    }
+}
+
+// Adds these warnings of a configuration in words.
+#[tactic(auto, using(crate::proofs::Warned::added))]
+fn add_warnings(
+    all: &mut Vec<String>,
     alloc: Global,
     config: &Config,
-    writer: &mut W,
-) -> Result<(), InputFault> {
+    warnings: &[Warning],
+) -> Result<(), AllocError>
+    ensures { AddsWords result all.old all.new (map (warning_text config.now) warnings.now) }
+{
+    for warning in warnings {
+        all.try_push(warning_line(alloc, config, *warning)?)?;
+    }
+    Ok(())
+}
+
+#[tactic(auto, using(crate::proofs::Warned::grows_none, crate::proofs::Warned::grows_line))]
+fn print_config<W: Write>(alloc: Global, config: &Config, writer: &mut W) -> Result<(), InputFault>
+    ensures { WritesSome result W.contents writer.old writer.new }
+{
     for site in config.sites().as_slice() {
         print(site_line(alloc, site), writer)?;
     }
@@ -126,7 +181,9 @@ fn print_config<W: Write>(
 }
 
 // Prints a line, unless memory ran out for it.
-fn print<W: Write>(line: Result<String, AllocError>, writer: &mut W) -> Result<(), InputFault> {
+fn print<W: Write>(line: Result<String, AllocError>, writer: &mut W) -> Result<(), InputFault>
+    ensures { WritesLine result line W.contents writer.old writer.new }
+{
     let line = line?;
     match writeln!(writer, "{line}") {
         Ok(()) => Ok(()),
