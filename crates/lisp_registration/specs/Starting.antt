@@ -1,5 +1,5 @@
 -- Which node the text of a configuration starts, or why it starts none.
-use Rattle.std.specs.Prelude.{◌≡◌, ℕ, List, Option, Some, None, Result, Ok, Err, if◌then◌else◌}
+use Rattle.std.specs.Prelude.{◌≡◌, ℕ, true, List, Option, Some, None, Result, Ok, Err, IsErrOf, if◌then◌else◌}
 use Rattle.std.specs.List.{find}
 use Rattle.std.specs.Str.{bytes_eq, is_utf8}
 use Rattle.toml.specs.Parse.{parse_document}
@@ -24,6 +24,7 @@ use Rattle.lisp_registration.specs.declared.pair.PlainPair.{PlainPair}
 use Rattle.lisp_registration.specs.Fault.{handle_fault_number}
 use Rattle.lisp_registration.specs.Server.{plain_pair}
 use Rattle.lisp_registration.specs.declared.node_fault.NodeFault.TheVariants.{NotUtf8, Configuration, NoRouter, OutOfMemory}
+pub mod Asked
 
 -- the numbers of the faults
 abbrev pub node_fault_number : NodeFault → ℕ
@@ -53,6 +54,15 @@ text_entry text name = text_config text >>= λ config. or_no_router config (find
 -- what the router of a name is configured with, and what it registers
 abbrev pub text_settings : List ℕ → List ℕ → Result (EtrConfigValue × List MapRecordValue) NodeFault
 text_settings text name = text_entry text name >>= λ x. Ok (etr_config_of x.0 x.1, x.1.database)
+
+-- memory may run out as the configuration of this text is read, and only of a text that is UTF-8: open, as `Config::from_toml`
+-- leaves it. No proof may use `Asked` but that of the call of `from_toml`, so that no other code can say that memory ran out there
+pub MayRunOut : List ℕ → Type 0
+MayRunOut text = is_utf8 text ≡ true
+
+-- an answer is that memory ran out as a configuration was read, 24, only where it may for this text
+abbrev pub RunsOutReading : {X : Type 0} → List ℕ → Result X NodeFault → Type 0
+RunsOutReading text answer = IsErrOf answer (Configuration config_faults.OutOfMemory) → MayRunOut text
 
 -- ---- nodes
 

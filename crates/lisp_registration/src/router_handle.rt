@@ -3,7 +3,7 @@
 ghost use Rattle.std.specs.Prelude.{◌≡◌, None};
 ghost use Rattle.lisp_memory.specs.Refusal.{MachineMayRefuse};
 ghost use Rattle.lisp_registration.specs.Server.{kept_in};
-ghost use Rattle.lisp_registration.specs.Starting.{ChangesRouter, StartsNode, TellsRouterPair, text_database, text_pair, text_router};
+ghost use Rattle.lisp_registration.specs.Starting.{ChangesRouter, MayRunOut, StartsNode, TellsRouterPair, text_database, text_pair, text_router};
 
 use crate::handle_fault::HandleFault;
 use crate::pair::{PlainNonce, PlainPair};
@@ -22,6 +22,7 @@ pub extern "C" fn lisp_registration_router_pair(
 ) -> u16
     ensures pair { TellsRouterPair (text_pair configuration.now name.now) pair.old result pair.new }
     ensures memory { result ≡ 105 → MachineMayRefuse }
+    ensures reading { result ≡ 24 → MayRunOut configuration.now }
 {
     match settings_of(alloc, configuration, name) {
         Ok((settings, _)) => {
@@ -46,6 +47,7 @@ pub extern "C" fn lisp_registration_router_start(
 ) -> u16
     ensures started { StartsNode (text_router configuration.now name.now (kept_in kept.now) now) router.old.value result router.new.value }
     ensures memory { result ≡ 105 → MachineMayRefuse }
+    ensures reading { result ≡ 24 → MayRunOut configuration.now }
 {
     match started_router(alloc, configuration, name, kept.kept(), now) {
         Ok(hosted) => {
@@ -77,6 +79,7 @@ pub extern "C" fn lisp_registration_router_change(
 ) -> u16
     ensures changed { ChangesRouter (text_database configuration.now name.now) now router.old.value result router.new.value }
     ensures memory { result ≡ 105 → MachineMayRefuse }
+    ensures reading { result ≡ 24 → MayRunOut configuration.now }
 {
     let (_, database) = match settings_of(alloc, configuration, name) {
         Ok(settings) => settings,

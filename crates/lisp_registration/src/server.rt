@@ -3,7 +3,7 @@
 ghost use Rattle.std.specs.Prelude.{◌≡◌, None};
 ghost use Rattle.lisp_memory.specs.Refusal.{MachineMayRefuse};
 ghost use Rattle.lisp_registration.specs.Server.{RestartsServer, TellsPair, TellsReceived};
-ghost use Rattle.lisp_registration.specs.Starting.{StartsNode, text_server};
+ghost use Rattle.lisp_registration.specs.Starting.{MayRunOut, StartsNode, text_server};
 
 use crate::address::PlainAddress;
 use crate::handle_fault::HandleFault;
@@ -25,6 +25,7 @@ pub extern "C" fn lisp_registration_server_start(
 ) -> u16
     ensures started { StartsNode (text_server configuration.now) server.old.value result server.new.value }
     ensures memory { result ≡ 105 → MachineMayRefuse }
+    ensures reading { result ≡ 24 → MayRunOut configuration.now }
 {
     match started_server(alloc, configuration) {
         Ok(hosted) => {

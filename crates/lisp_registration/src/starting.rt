@@ -6,7 +6,7 @@ ghost use Rattle.std.specs.Str.{bytes_eq};
 ghost use Rattle.lisp_memory.specs.Refusal.{MachineMayRefuse};
 ghost use Rattle.lisp_policy.specs.Configuration.{RouterEntryValue};
 ghost use Rattle.lisp_server.specs.Server.{empty_server};
-ghost use Rattle.lisp_registration.specs.Starting.{Comes, text_config, text_router, text_server, text_settings};
+ghost use Rattle.lisp_registration.specs.Starting.{Comes, RunsOutReading, text_config, text_router, text_server, text_settings};
 ghost use Rattle.lisp_registration.specs.declared.node_fault.NodeFault.TheVariants.{OutOfMemory};
 
 use crate::node_fault::NodeFault;
@@ -27,6 +27,7 @@ pub(crate) fn started_server(
 ) -> Result<Box<HostedServer, Global>, NodeFault>
     ensures started { Comes (λ hosted. hosted.value) result (text_server configuration.now) }
     ensures memory { IsErrOf result OutOfMemory → MachineMayRefuse }
+    ensures reading { RunsOutReading configuration.now result }
 {
     let config = read(alloc, configuration)?;
     let sites = config.sites().copy(alloc)?;
@@ -44,6 +45,7 @@ pub(crate) fn started_router(
 ) -> Result<Box<HostedRouter, Global>, NodeFault>
     ensures started { Comes (λ hosted. hosted.value) result (text_router configuration.now name.now kept now) }
     ensures memory { IsErrOf result OutOfMemory → MachineMayRefuse }
+    ensures reading { RunsOutReading configuration.now result }
 {
     let (settings, database) = settings_of(alloc, configuration, name)?;
     let router = start_kept(alloc, settings, database, kept, now)?;
@@ -58,6 +60,7 @@ pub(crate) fn settings_of(
 ) -> Result<(EtrConfig<Global>, Database<Global>), NodeFault>
     ensures settings { Comes (λ x. (x.0, x.1)) result (text_settings configuration.now name.now) }
     ensures memory { IsErrOf result OutOfMemory → MachineMayRefuse }
+    ensures reading { RunsOutReading configuration.now result }
 {
     let config = read(alloc, configuration)?;
     let Some(place) = place_of(config.routers(), name) else {
@@ -87,6 +90,7 @@ fn started_again<A: Allocator + Copy>(server: Server<A>, alloc: A) -> (Server<A>
 fn read(alloc: Global, configuration: &[u8]) -> Result<Config<Global>, NodeFault>
     ensures config { Comes (λ c. c) result (text_config configuration.now) }
     ensures memory { IsErrOf result OutOfMemory → MachineMayRefuse }
+    ensures reading { RunsOutReading configuration.now result }
 {
     let Ok(text) = std::str::from_utf8(configuration) else {
         return Err(NodeFault::NotUtf8);
