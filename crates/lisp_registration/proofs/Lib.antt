@@ -1,7 +1,12 @@
 pub mod Datagrams
 pub mod Holding
+pub mod Lengths
 pub mod Loops
 pub mod Noticing
 pub mod Putting
+pub mod Replies
+pub mod Whole
+pub mod Sending
 pub mod Serving
+pub mod Standing
 pub mod Configured

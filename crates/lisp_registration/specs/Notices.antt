@@ -1,12 +1,12 @@
 -- What a call from C leaves that drops dead rows, or makes a Map-Server's unsolicited Map-Notifies (notices).
-use Rattle.std.specs.Prelude.{◌≡◌, ℕ, List, replicate, Option, Some, None, Result, Ok, Err, MatchResult}
+use Rattle.std.specs.Prelude.{◌≡◌, ℕ, ◌≤◌, List, length, replicate, Option, Some, None, Result, Ok, Err, IfSome, MatchResult}
 use Rattle.std.specs.Global.{Global}
 use Rattle.std.specs.Option.{MatchOption}
 use Rattle.lisp_records.specs.declared.router.RouterId.{RouterId}
 use Rattle.lisp_admission.specs.declared.notice_fault.NoticeFault.{NoticeFault}
 use Rattle.lisp_admission.specs.NoticeFault.{notice_fault_number}
 use Rattle.lisp_lookup.specs.Table.{Expires}
-use Rattle.lisp_server.specs.Notices.{IsDueRouter, RefusesResend, Resends}
+use Rattle.lisp_server.specs.Notices.{IsDueRouter, RefusesResend, Resends, StandingNoticeValue, notice_at}
 use Rattle.lisp_server.specs.Server.{ServerState}
 use Rattle.lisp_embedded.specs.declared.hosted_server.HostedServer.{HostedServer}
 use Rattle.lisp_embedded.specs.declared.notice.HostedNotice.{HostedNotice}
@@ -17,8 +17,8 @@ use Rattle.lisp_registration.specs.declared.pair.PlainNonce.{PlainNonce}
 use Rattle.lisp_registration.specs.declared.router_id.PlainRouter.{PlainRouter}
 use Rattle.lisp_registration.specs.Fault.{handle_fault_number}
 use Rattle.lisp_registration.specs.Plain.{plain_address}
-use Rattle.lisp_registration.specs.Room.{in_time, ready}
-use Rattle.lisp_registration.specs.Server.{kept_in, length_in}
+use Rattle.lisp_registration.specs.Room.{in_time, message_room, ready}
+use Rattle.lisp_registration.specs.Server.{ToldWhole, kept_in, length_in}
 use Rattle.lisp_registration.specs.Told.{put_in}
 
 -- ---- dead rows
@@ -61,20 +61,27 @@ abbrev pub told_notice : {A : Type 0} → Result (HostedNotice A) NoticeFault �
 told_notice (Ok n) buffer old = (0, ((put_in n.bytes.items buffer).1, plain_notice n (length_in n.bytes.items buffer)))
 told_notice (Err why) buffer old = (notice_fault_number why, (buffer, old))
 
--- how a notice is made, or why not: what is answered, of the Map-Server before and after
+-- how a notice is made for a buffer, or why not: what is answered, of the Map-Server before and after
 abbrev pub Making : Type 1
-Making = ServerState → ServerState → Result (HostedNotice Global) NoticeFault → Type 0
+Making = List ℕ → ServerState → ServerState → Result (HostedNotice Global) NoticeFault → Type 0
 
--- a new notice is made over the nonce that was passed; a refusal is not of a store, and changes nothing
+-- a new notice is made over the nonce that was passed, and told whole; a refusal is not of a store, and changes nothing
 abbrev pub NotifiesKept : Option ℕ → RouterId → ℕ → Making
-NotifiesKept kept router now old new answer = MatchResult answer (AnnouncesKept kept old new router now) (λ why. RefusesKeptNotice kept old router now why × IsOfNoStore why × (new ≡ old))
+NotifiesKept kept router now buffer old new answer =
+    MatchResult answer (λ n. AnnouncesKept kept old new router now n × ToldWhole n.bytes.items buffer) (λ why. RefusesKeptNotice kept old router now why × IsOfNoStore why × (new ≡ old))
 
--- a notice that is due is made again, under no new nonce; at a refusal nothing changes
+-- each notice that stands has room in a buffer that has room for every message
+abbrev pub AreShort : List StandingNoticeValue → Type 0
+AreShort notices = (router : RouterId) (n : StandingNoticeValue) → notice_at notices router ≡ Some n → length n.bytes ≤ message_room
+
+-- a notice that is due is made again, under no new nonce
 abbrev pub SendsAgain : {A : Type 0} → ServerState → ServerState → RouterId → ℕ → HostedNotice A → Type 0
 SendsAgain old new router now n = Resends old.notices new.notices router now n.to n.bytes.items × (new ≡ record old { notices = new.notices }) × (n.nonce ≡ 0)
 
+-- and told whole, where the notices that stand are short; at a refusal nothing changes
 abbrev pub ResendsDue : RouterId → ℕ → Making
-ResendsDue router now old new answer = MatchResult answer (SendsAgain old new router now) (λ why. RefusesResend old.notices router now why × (new ≡ old))
+ResendsDue router now buffer old new answer =
+    MatchResult answer (λ n. SendsAgain old new router now n × (AreShort old.notices → ToldWhole n.bytes.items buffer)) (λ why. RefusesResend old.notices router now why × (new ≡ old))
 
 -- all that a call leaves
 abbrev pub NoticeLeft : Type 0
@@ -83,7 +90,7 @@ NoticeLeft = ℕ × (Option HostedServer × (List ℕ × PlainNotice))
 -- what making leaves, of the Map-Server that a handle holds
 abbrev pub Made : Making → ServerState → List ℕ → PlainNotice → NoticeLeft → Type 0
 Made makes old buffer notice left =
-    (answer : Result (HostedNotice Global) NoticeFault) × (after : ServerState) × makes old after answer
+    (answer : Result (HostedNotice Global) NoticeFault) × (after : ServerState) × makes buffer old after answer
     × (left ≡ ((told_notice answer buffer notice).0, (Some (record { server = after }), (told_notice answer buffer notice).1)))
 
 -- what making leaves, where it can be asked for at the time
@@ -100,3 +107,13 @@ TellsNotice kept router now old buffer notice number new buffer' notice' = Leave
 -- what a call for a notice that is due leaves
 abbrev pub TellsResent : PlainRouter → ℕ → Option HostedServer → List ℕ → PlainNotice → ℕ → Option HostedServer → List ℕ → PlainNotice → Type 0
 TellsResent router now old buffer notice number new buffer' notice' = LeavesNotice (ResendsDue (router_in router) now) now old buffer notice (number, (new, (buffer', notice')))
+
+-- ---- notices that stand
+
+-- those of the Map-Server that a handle holds are short, where it holds one
+abbrev pub HoldsShort : Option HostedServer → Type 0
+HoldsShort held = IfSome held (λ hosted. AreShort hosted.server.notices)
+
+-- a call with a handle keeps them short
+abbrev pub KeepsShort : (Option HostedServer → ℕ → Option HostedServer → Type 0) → Type 0
+KeepsShort Call = (old new : Option HostedServer) (number : ℕ) → Call old number new → HoldsShort old → HoldsShort new

@@ -19,9 +19,10 @@ use Rattle.lisp_registration.specs.declared.handle_fault.HandleFault.TheVariants
 use Rattle.lisp_registration.specs.declared.seen.PlainSeen.{PlainSeen}
 use Rattle.lisp_registration.specs.declared.sent.PlainSent.{PlainSent}
 use Rattle.lisp_registration.specs.Fault.{handle_fault_number}
+use Rattle.lisp_registration.specs.Meaning.{address_in}
 use Rattle.lisp_registration.specs.Plain.{plain_address}
 use Rattle.lisp_registration.specs.Room.{ready}
-use Rattle.lisp_registration.specs.Server.{length_in, source_of}
+use Rattle.lisp_registration.specs.Server.{IsInFront, length_in, source_of}
 use Rattle.lisp_registration.specs.Told.{put_in}
 
 -- ---- what is due
@@ -92,6 +93,10 @@ answer_bytes (Notice server nonce records answer) = answer
 abbrev pub told_seen : {A : Type 0} → Result (Seen A) NotifyFault → List ℕ → PlainSeen → ℕ × (List ℕ × PlainSeen)
 told_seen (Ok seen) buffer old = (0, ((put_in (answer_bytes seen) buffer).1, plain_seen seen (length_in (answer_bytes seen) buffer)))
 told_seen (Err why) buffer old = (notify_fault_number why, (buffer, old))
+
+-- what a router sees in bytes from an address is answered whole
+abbrev pub AnswersWhole : EtrState → PlainAddress → List ℕ → List ℕ → ℕ → List ℕ → Type 0
+AnswersWhole e from bytes old size new = (a : Addr) × (seen : Seen Global) × (address_in from ≡ Some a) × (seen_at e a bytes ≡ Ok seen) × IsInFront (answer_bytes seen) old size new
 
 -- an answer is what a router sees in bytes from an address; it is out of memory only where these take memory
 abbrev pub Sees : {A : Type 0} → EtrState → Addr → List ℕ → Result (Seen A) NotifyFault → Type 0

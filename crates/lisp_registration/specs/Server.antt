@@ -1,5 +1,5 @@
 -- What a call from C makes of the Map-Server that a handle holds, and what it tells.
-use Rattle.std.specs.Prelude.{◌≡◌, ℕ, ◌==◌, nat_lt, List, [], length, replicate, Option, Some, None, Result, Ok, Err, MatchResult, if◌then◌else◌}
+use Rattle.std.specs.Prelude.{◌≡◌, ℕ, ◌==◌, nat_lt, List, [], ◌++◌, length, drop, replicate, Option, Some, None, Result, Ok, Err, IfOk, MatchResult, if◌then◌else◌}
 use Rattle.std.specs.Option.{MatchOption}
 use Rattle.std.specs.Global.{Global}
 use Rattle.lisp_records.specs.declared.address.Addr.{Addr}
@@ -60,6 +60,14 @@ reply_bytes took = bytes_of (reply_in took)
 abbrev pub length_in : List ℕ → List ℕ → ℕ
 length_in reply buffer = if nat_lt (length buffer) (length reply) then 0 else length reply
 
+-- so many bytes in front of a buffer are these, and the others are as they were
+abbrev pub IsInFront : List ℕ → List ℕ → ℕ → List ℕ → Type 0
+IsInFront bytes old size new = (size ≡ length bytes) × (new ≡ bytes ++ drop (length bytes) old)
+
+-- bytes are told whole: how many they are, and they stand in front of the buffer
+abbrev pub ToldWhole : List ℕ → List ℕ → Type 0
+ToldWhole bytes buffer = IsInFront bytes buffer (length_in bytes buffer) (put_in bytes buffer).1
+
 -- the number, the buffer and the struct that an answer leaves
 abbrev pub told_received : {A : Type 0} → Result (Took A) Refused → List ℕ → PlainReceived → ℕ × (List ℕ × PlainReceived)
 told_received (Ok took) buffer old = (0, ((put_in (reply_bytes took) buffer).1, plain_received took (length_in (reply_bytes took) buffer)))
@@ -77,11 +85,11 @@ ReceivesKept kept from bytes now old new answer = MatchResult answer (λ took. T
 abbrev pub Left : Type 0
 Left = ℕ × (Option HostedServer × (List ℕ × PlainReceived))
 
--- what receiving leaves, by what the handle holds
+-- what receiving leaves, by what the handle holds; an answer is told whole
 abbrev pub LeavesReceived : Option ℕ → Addr → List ℕ → ℕ → Option HostedServer → List ℕ → PlainReceived → Left → Type 0
 LeavesReceived kept from bytes now None buffer received left = left ≡ (handle_fault_number Null, (None, (buffer, received)))
 LeavesReceived kept from bytes now (Some hosted) buffer received left =
-    (answer : Result (Took Global) Refused) × (after : ServerState) × ReceivesKept kept from bytes now hosted.server after answer
+    (answer : Result (Took Global) Refused) × (after : ServerState) × ReceivesKept kept from bytes now hosted.server after answer × IfOk answer (λ took. ToldWhole (reply_bytes took) buffer)
     × (left ≡ ((told_received answer buffer received).0, (Some (record { server = after }), (told_received answer buffer received).1)))
 
 -- what receiving leaves, by the source

@@ -12,6 +12,7 @@ mod due;
 mod fault;
 mod handle_fault;
 mod held;
+pub mod laws;
 mod locator;
 mod message;
 mod node_fault;

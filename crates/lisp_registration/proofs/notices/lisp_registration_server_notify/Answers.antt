@@ -11,5 +11,5 @@ returns-in-Some-clause-told c =
     (notifies (kept_in c.args.kept.now) (router_in c.args.router.now) c.args.now c.in-Some.hosted.value.server c.notify_kept-made.new.server c.notify_kept-made.result
     (rw (c.kept-kept.ensures, c.router.ensures, c.deref_mut.ensures.value) at c.notify_kept-made.ensures.announces)
     (rw (c.kept-kept.ensures, c.router.ensures, c.deref_mut.ensures.value) at c.notify_kept-made.ensures.refused) c.notify_kept-made.ensures.storeless
-    (rw c.deref_mut.ensures.value at c.notify_kept-made.ensures.err))
+    (rw c.deref_mut.ensures.value at c.notify_kept-made.ensures.err) c.args.buffer.now (sym c.ready.ensures.value ∙ c.in_default.is))
     (λ i. ((c.tell_notice.ensures i).0, (c.of.ensures i, (c.tell_notice.ensures i).1)))

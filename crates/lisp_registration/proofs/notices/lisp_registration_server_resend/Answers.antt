@@ -10,5 +10,5 @@ returns-in-Some-clause-told c =
     (resends (router_in c.args.router.now) c.args.now c.in-Some.hosted.value.server c.resend-made.new.server c.resend-made.result
     (rw (c.router.ensures, c.deref_mut.ensures.value) at c.resend-made.ensures.again)
     (rw (c.router.ensures, c.deref_mut.ensures.value) at c.resend-made.ensures.refused)
-    (rw c.deref_mut.ensures.value at c.resend-made.ensures.err))
+    (rw c.deref_mut.ensures.value at c.resend-made.ensures.err) c.args.buffer.now (sym c.ready.ensures.value ∙ c.in_default.is))
     (λ i. ((c.tell_notice.ensures i).0, (c.of.ensures i, (c.tell_notice.ensures i).1)))

@@ -1,0 +1,158 @@
+-- The notices that stand at a Map-Server have room in a buffer that has room for every message, whatever calls made and changed it.
+use Rattle.std.proofs.Common.{◌≡◌, ℕ, ◌≤◌, Bool, true, false, List, [], length, Option, Some, None, Result, Ok, Err, refl, sym, ap, subst, ◌∙◌, arith}
+use Rattle.std.specs.Prelude.{◌≢◌, ⊤, MatchResult}
+use Rattle.std.specs.Option.{MatchOption}
+use Rattle.std.specs.Global.{Global}
+use Rattle.lisp_records.specs.declared.address.Addr.{Addr}
+use Rattle.lisp_records.specs.declared.router.RouterId.{RouterId}
+use Rattle.lisp_records.specs.Result.{◌>>=◌}
+use Rattle.lisp_records.specs.Router.{router_eq}
+use Rattle.lisp_records.proofs.RouterLaws.{router_eq-Decides}
+use Rattle.lisp_messages.specs.Message.{MessageValue, Registers, Notifies}
+use Rattle.lisp_messages.specs.Reading.{message_at}
+use Rattle.lisp_messages.specs.declared.fault.ReadFault.{ReadFault}
+use Rattle.lisp_nonces.specs.Store.{StoreState}
+use Rattle.lisp_admission.specs.declared.refused.Refused.{Refused}
+use Rattle.lisp_admission.specs.declared.notice_fault.NoticeFault.{NoticeFault}
+use Rattle.lisp_server.specs.Notices.{EndsNotice, SetsNotice, StandingNoticeValue, notice_at}
+use Rattle.lisp_server.specs.Receiving.{ServerTakes}
+use Rattle.lisp_server.specs.Server.{ServerState, empty_server}
+use Rattle.lisp_server.specs.declared.took.Took.{Took}
+use Rattle.lisp_server.specs.declared.took.Took.TheVariants.{Accepted, NoticeDone}
+use Rattle.lisp_embedded.specs.declared.hosted_server.HostedServer.{HostedServer}
+use Rattle.lisp_embedded.specs.declared.notice.HostedNotice.{HostedNotice}
+use Rattle.lisp_policy.specs.Configuration.{ConfigValue}
+use Rattle.lisp_registration.specs.declared.handle_fault.HandleFault.{HandleFault}
+use Rattle.lisp_registration.specs.declared.handle_fault.HandleFault.TheVariants as faults
+use Rattle.lisp_registration.specs.Fault.{handle_fault_number}
+use Rattle.lisp_registration.specs.declared.node_fault.NodeFault.{NodeFault}
+use Rattle.lisp_registration.specs.declared.notice.PlainNotice.{PlainNotice}
+use Rattle.lisp_registration.specs.declared.pair.PlainNonce.{PlainNonce}
+use Rattle.lisp_registration.specs.declared.address.PlainAddress.{PlainAddress}
+use Rattle.lisp_registration.specs.declared.received.PlainReceived.{PlainReceived}
+use Rattle.lisp_registration.specs.declared.router_id.PlainRouter.{PlainRouter}
+use Rattle.lisp_registration.specs.Notices.{AreShort, DropsRows, ExpiresRows, HoldsShort, KeepsShort, LeavesNotice, Made, Making, NoticeLeft, NotifiesKept, ResendsDue, TellsNotice, TellsResent, router_in}
+use Rattle.lisp_registration.specs.Room.{in_time, message_room, ready}
+use Rattle.lisp_registration.specs.Server.{Left, LeavesFrom, ReceivesKept, RestartsServer, TellsReceived, kept_in, source_of}
+use Rattle.lisp_registration.specs.Starting.{Comes, StartsNode, text_config, text_server, told_start}
+use Rattle.lisp_registration.proofs.Whole.{notice_has_room}
+
+ok_is : {X E : Type 0} (x y : X) → ◌≡◌ {A = Result X E} (Ok x) (Ok y) → x ≡ y
+ok_is x y is = cc
+
+-- ---- notices
+
+-- a router is this one, or another
+either_router : {P : Type 0} (a b : RouterId) → (a ≡ b → P) → (a ≢ b → P) → P
+either_router {P} a b same other = by (router_eq a b) refl
+  where
+    by : (t : Bool) → router_eq a b ≡ t → P
+    by true is = same ((router_eq-Decides a b).0 is)
+    by false is = other (λ alike. (let clash : true ≡ false = sym ((router_eq-Decides a b).1 alike) ∙ is in absurd cc))
+
+-- no notice stands
+none_short : AreShort []
+unfolding notice_at
+none_short router n at = absurd cc
+
+-- a short notice was set
+set_short : (old new : List StandingNoticeValue) (n : StandingNoticeValue) → SetsNotice old new n → length n.bytes ≤ message_room → AreShort old → AreShort new
+set_short old new n sets small short router m at =
+    either_router router n.router
+    (λ same. (let found : Some m ≡ Some n = sym at ∙ ap (notice_at new) same ∙ sets.here in let is : m ≡ n = cc in omega (arith, small, ap (λ (x : StandingNoticeValue). length x.bytes) is)))
+    (λ other. short router m (sym (sets.others router other) ∙ at))
+
+-- a notice was ended
+ended_short : (old new : List StandingNoticeValue) (ended : RouterId) → EndsNotice old new ended → AreShort old → AreShort new
+ended_short old new ended ends short router m at =
+    either_router router ended
+    (λ same. (let found : Some m ≡ None = sym at ∙ ap (notice_at new) same ∙ ends.here in absurd cc))
+    (λ other. short router m (sym (ends.others router other) ∙ at))
+
+-- they are as they were
+same_short : (old new : List StandingNoticeValue) → new ≡ old → AreShort old → AreShort new
+same_short old new same = subst AreShort (sym same)
+
+-- ---- Map-Servers
+
+-- one that took a datagram
+taken_short : {A : Type 0} (from : Addr) (bytes : List ℕ) (old new : ServerState) (before after : StoreState) (now : ℕ) (said : Result MessageValue ReadFault) (took : Took A) → ServerTakes said from bytes old new before after now took → AreShort old.notices → AreShort new.notices
+taken_short from bytes old new before after now (Ok (Registers m)) (Accepted router key nonce reply) takes = same_short old.notices new.notices takes.notices
+taken_short from bytes old new before after now (Ok (Registers m)) (NoticeDone router nonce) takes = absurd takes
+taken_short from bytes old new before after now (Ok (Notifies m)) (Accepted router key nonce reply) takes = absurd takes
+taken_short from bytes old new before after now (Ok (Notifies m)) (NoticeDone router nonce) takes = ended_short old.notices new.notices takes.notice.router takes.ended
+taken_short from bytes old new before after now (Err fault) took takes = absurd takes
+
+received_short : {A : Type 0} (kept : Option ℕ) (from : Addr) (bytes : List ℕ) (now : ℕ) (old new : ServerState) (answer : Result (Took A) Refused) → ReceivesKept kept from bytes now old new answer → AreShort old.notices → AreShort new.notices
+received_short kept from bytes now old new (Ok took) (before, after, passes, takes) = taken_short from bytes old new before after now (message_at bytes) took takes
+received_short kept from bytes now old new (Err why) (refuses, storeless, same) = same_short old.notices new.notices (ap (λ (s : ServerState). s.notices) same)
+
+-- one that made a notice, or made one again
+notified_short : (kept : Option ℕ) (router : RouterId) (now : ℕ) (buffer : List ℕ) (old new : ServerState) (answer : Result (HostedNotice Global) NoticeFault) → NotifiesKept kept router now buffer old new answer → AreShort old.notices → AreShort new.notices
+notified_short kept router now buffer old new (Ok n) (makes, whole) =
+    let sets = makes.3.stands in
+    set_short old.notices new.notices _ sets (notice_has_room kept old new router now n makes)
+notified_short kept router now buffer old new (Err why) (refuses, storeless, same) = same_short old.notices new.notices (ap (λ (s : ServerState). s.notices) same)
+
+again_short : (router : RouterId) (now : ℕ) (buffer : List ℕ) (old new : ServerState) (answer : Result (HostedNotice Global) NoticeFault) → ResendsDue router now buffer old new answer → AreShort old.notices → AreShort new.notices
+again_short router now buffer old new (Ok n) ((again, rest, nonce), whole) short = set_short old.notices new.notices _ again.after (short router again.notice again.stood) short
+again_short router now buffer old new (Err why) (refuses, same) short = same_short old.notices new.notices (ap (λ (s : ServerState). s.notices) same) short
+
+-- ---- handles
+
+-- what a handle holds afterwards is short
+holds : (left held : Option HostedServer) → left ≡ held → HoldsShort held → HoldsShort left
+holds left held is = subst HoldsShort (sym is)
+
+-- a start
+started_short : (text : List ℕ) (answer : Result HostedServer NodeFault) (old : Option HostedServer) → Comes (λ x. x) answer (text_server text) → HoldsShort old → HoldsShort (told_start answer old).1
+started_short text (Ok hosted) old comes short = by (text_config text) comes
+  where
+    by : (config : Result ConfigValue NodeFault) → (config >>= λ c. Ok (record { server = empty_server c.sites })) ≡ Ok hosted → AreShort hosted.server.notices
+    by (Ok c) is = (let made : HostedServer = record { server = empty_server c.sites } in subst (λ (h : HostedServer). AreShort h.server.notices) (ok_is made hosted is) none_short)
+    by (Err e) is = absurd cc
+started_short text (Err fault) old comes short = short
+
+pub start_keeps : (text : List ℕ) → KeepsShort (StartsNode (text_server text))
+start_keeps text old new number (answer, comes, is) short = holds new _ (ap (λ (x : ℕ × Option HostedServer). x.1) is) (started_short text answer old comes short)
+
+-- another start
+pub restart_keeps : KeepsShort RestartsServer
+restart_keeps (Some hosted) new number (told, is) short = holds new _ is none_short
+restart_keeps None new number (told, is) short = holds new None is tt
+
+-- a datagram
+received_left : (kept : Option ℕ) (from : Result Addr HandleFault) (bytes : List ℕ) (now : ℕ) (held : Option HostedServer) (buffer : List ℕ) (received : PlainReceived) (left : Left) → LeavesFrom kept from bytes now held buffer received left → HoldsShort held → HoldsShort left.1.0
+received_left kept (Ok from) bytes now (Some hosted) buffer received left (answer, after, makes, whole, is) short = holds left.1.0 _ (ap (λ (l : Left). l.1.0) is) (received_short kept from bytes now hosted.server after answer makes short)
+received_left kept (Ok from) bytes now None buffer received left is short = holds left.1.0 None (ap (λ (l : Left). l.1.0) is) tt
+received_left kept (Err e) bytes now held buffer received left is short = holds left.1.0 held (ap (λ (l : Left). l.1.0) is) short
+
+module _ (buffer buffer' : List ℕ) where
+  pub receive_keeps : (kept : PlainNonce) (from : PlainAddress) (bytes : List ℕ) (now : ℕ) (received received' : PlainReceived) → KeepsShort (λ old number new. TellsReceived kept from bytes now old buffer received number new buffer' received')
+  receive_keeps kept from bytes now received received' old new number tells = received_left (kept_in kept) (source_of from bytes buffer) bytes now old buffer received (number, (new, (buffer', received'))) tells
+
+  -- a notice, by what keeps the notices of a Map-Server short
+  module _ (makes : Making) (short_after : (old new : ServerState) (answer : Result (HostedNotice Global) NoticeFault) → makes buffer old new answer → AreShort old.notices → AreShort new.notices) where
+    notice_left : (now : ℕ) (held : Option HostedServer) (notice : PlainNotice) (left : NoticeLeft) → LeavesNotice makes now held buffer notice left → HoldsShort held → HoldsShort left.1.0
+    notice_left now held notice left leaves short = by (ready buffer now) held leaves short
+      where
+        by : (good : Result ⊤ HandleFault) (held : Option HostedServer) → MatchResult good (λ _. MatchOption held (left ≡ (handle_fault_number faults.Null, (None, (buffer, notice)))) (λ hosted. Made makes hosted.server buffer notice left)) (λ fault. left ≡ (handle_fault_number fault, (held, (buffer, notice)))) → HoldsShort held → HoldsShort left.1.0
+        by (Ok _) (Some hosted) (answer, after, made, is) short = holds left.1.0 _ (ap (λ (l : NoticeLeft). l.1.0) is) (short_after hosted.server after answer made short)
+        by (Ok _) None is short = holds left.1.0 None (ap (λ (l : NoticeLeft). l.1.0) is) tt
+        by (Err fault) held is short = holds left.1.0 held (ap (λ (l : NoticeLeft). l.1.0) is) short
+
+  pub notify_keeps : (kept : PlainNonce) (router : PlainRouter) (now : ℕ) (notice notice' : PlainNotice) → KeepsShort (λ old number new. TellsNotice kept router now old buffer notice number new buffer' notice')
+  notify_keeps kept router now notice notice' old new number tells =
+      notice_left (NotifiesKept (kept_in kept) (router_in router) now) (notified_short (kept_in kept) (router_in router) now buffer) now old notice (number, (new, (buffer', notice'))) tells
+
+  pub resend_keeps : (router : PlainRouter) (now : ℕ) (notice notice' : PlainNotice) → KeepsShort (λ old number new. TellsResent router now old buffer notice number new buffer' notice')
+  resend_keeps router now notice notice' old new number tells = notice_left (ResendsDue (router_in router) now) (again_short (router_in router) now buffer) now old notice (number, (new, (buffer', notice'))) tells
+
+-- rows that are dropped
+pub expire_keeps : (now : ℕ) → KeepsShort (ExpiresRows now)
+expire_keeps now (Some hosted) new number (after, dropped, is) short = holds new _ is (by (in_time now) dropped)
+  where
+    by : (good : Result ⊤ HandleFault) → MatchResult good (λ _. (number ≡ 0) × DropsRows hosted.server now after) (λ fault. ◌≡◌ {A = ℕ × ServerState} (number, after) (handle_fault_number fault, hosted.server)) → AreShort after.notices
+    by (Ok _) (told, drops) = same_short hosted.server.notices after.notices (ap (λ (s : ServerState). s.notices) drops.1) short
+    by (Err fault) is = same_short hosted.server.notices after.notices (ap (λ (x : ℕ × ServerState). x.1.notices) is) short
+expire_keeps now None new number (told, is) short = holds new None is tt
