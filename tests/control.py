@@ -223,9 +223,9 @@ def an_answer_that_is_a_fault(here):
             with ThreadPoolExecutor() as pool:
                 asked = pool.submit(ask, here, "s1", "hold")
                 user, _ = node.accept()
-                with user:
-                    check("the question", user.recv(100), b"hold\n")
-                    user.sendall(f"fault {number}\n".encode())
+                with user, user.makefile("rw") as line:
+                    check("the question", line.readline(), "hold\n")
+                    line.write(f"fault {number}\n")
                 check(f"fault {number}", asked.result(), (status, "", f"lispd: fault {number}\n"))
 
 

@@ -289,6 +289,24 @@ def a_start_that_knows_no_machine(here):
     check("who wrote", changed(folder, "SELECT machine_id, boot_id FROM writer"), [("0123456789abcdef0123456789abcdef", row[1])])
 
 
+def a_log_without_its_database(here):
+    """Its nonces would be lost: the node doesn't start over it, and leaves it as it is."""
+    here.store, folder = DATABASE, Path(f"{here.folder}/s1")
+    process = here.start(*here.words("server", "s1"))
+    is_up(here.s1)
+    with peer(here.r1) as it:
+        check("its answer", nonce_in(here.answer(it, map_register(7))), 7)
+    killed(process)
+    database, aside, log = folder / DATABASE_FILE, Path(f"{here.folder}/aside"), folder / LOG_FILE
+    shutil.move(database, aside)
+    before = log.read_bytes()
+    check("without it", ran(*here.words("server", "s1", "--turns", "0")), UNUSABLE)
+    check("the log", (log.read_bytes() == before, database.exists()), (True, False))
+    shutil.move(aside, database)
+    check("with it", ran(*here.words("server", "s1", "--turns", "0")), UNMOVED)
+    check("what is kept", kept(here, "s1"), {pair(): 7})
+
+
 def a_text(path):
     path.write_text("These are no nonces, but as long as you like.\n" * 1000)
 
@@ -549,7 +567,7 @@ def memory_is_refused_while_files_are_taken(here):
 run_tests([a_database_tells_of_itself, a_router_s_database, kinds_are_kept_apart, the_words, files_are_taken_over,
            a_router_s_files_are_taken_over, the_greatest_nonce_counts, files_over_a_database, a_damaged_file_isn_t_taken_over,
            killed_while_files_are_taken("kill"), killed_while_files_are_taken("tear"), killed_while_older_files_are_taken,
-           a_database_that_was_put_back, a_start_that_knows_no_machine, what_is_no_database, a_damaged_page,
+           a_database_that_was_put_back, a_start_that_knows_no_machine, a_log_without_its_database, what_is_no_database, a_damaged_page,
            *(over(store, a_call_that_fails(call, error)) for store in (DATABASE, GROUPS)
              for call, error in (("sync", errno.EIO), ("write", errno.ENOSPC), ("cut", errno.EIO))),
            *(over(DATABASE, a_router_whose_call_fails(call, error))

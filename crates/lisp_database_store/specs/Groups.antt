@@ -50,6 +50,7 @@ module _ {T : Type 0} where
     abbrev pub IsDone : Groups T → Groups T → Type 0
     IsDone old new = ((old.group ≡ Empty) × (new ≡ old)) ⊎ CommitsAll old new
 
-    -- some database did a commit. No contract sees what is in a cell, and so which one
-    abbrev pub SomeIsDone : Type 0
+    -- a database did a commit: shut, so that outside this crate `SharedDatabase::commit` alone says so. No contract sees what is in
+    -- a cell, and so which database
+    pub SomeIsDone : Type 0
     SomeIsDone = (old new : Groups T) × IsDone old new

@@ -3,7 +3,7 @@
 use lisp_memory::FallibleString;
 use lisp_store::is_file_there;
 use std::fs::{self, OpenFile};
-use std::io::{self, Write};
+use std::io::{self, ErrorKind, Write};
 use std::rt::Files;
 
 /// The bytes of a page.
@@ -33,13 +33,16 @@ const FRONT: &[u8] = &[
     13, 0, 0, 0, 0, 0x10, 0, 0,
 ];
 
-/// Puts an empty database at `path`, where neither a file nor a log of one is there, which tells whose it is: the page is written into
-/// a new file, named with `.new` added, which is synced and then renamed; last the folder is synced. So a crash leaves no database or a
-/// whole one.
+/// Puts an empty database at `path`, where no file is there, which tells whose it is: the page is written into a new file, named with
+/// `.new` added, which is synced and then renamed; last the folder is synced. So a crash leaves no database or a whole one, and never a
+/// log without its database. Such a log has nonces, which SQLite would drop: it is an error of the kind `InvalidData`, and stays.
 pub(crate) fn place_empty<R: Files + AllocGlobal>(rt: &R, path: &str) -> io::Result<()> {
-    let log = String::try_format(rt.alloc(), format_args!("{path}-wal"))?;
-    if is_file_there(rt, path)? || is_file_there(rt, log.as_str())? {
+    if is_file_there(rt, path)? {
         return Ok(());
+    }
+    let log = String::try_format(rt.alloc(), format_args!("{path}-wal"))?;
+    if is_file_there(rt, log.as_str())? {
+        return Err(io::Error::from(ErrorKind::InvalidData));
     }
     let new = String::try_format(rt.alloc(), format_args!("{path}.new"))?;
     is_file_there(rt, new.as_str())?;

@@ -1,5 +1,8 @@
 //! The folders in which nodes keep their nonces.
 
+ghost use Rattle.std.specs.Prelude.{IfOk};
+ghost use Rattle.lisp_udp.specs.Folder.{OpensSigned};
+
 use crate::connection::AskedNode;
 use crate::control::ControlSocket;
 use crate::storage::{NodeStore, Storage};
@@ -87,7 +90,9 @@ impl LockedFolder {
         &self,
         rt: &HostRuntime,
         path: &str,
-    ) -> Result<(Database<T>, Change), Failure> {
+    ) -> Result<(Database<T>, Change), Failure>
+        ensures { IfOk result (λ signed. OpensSigned T.Table.means signed.0.table signed.1) }
+    {
         let mut database = Database::open(rt, path)?;
         database.take_over(rt, self.path.as_str())?;
         let change = database.sign(rt)?;

@@ -2,7 +2,7 @@ use Rattle.std.proofs.Common.{Result, Ok, Err, OnOk, IsTrue, sym, subst, ◌∙�
 use mathlib.Core.Bool.{true≢false}
 use Rattle.std.specs.Result.{is_ok}
 use Rattle.std.proofs.lemmas.Result.{on_ok_weaker}
-use Rattle.lisp_database_store.specs.Groups.{IsDone}
+use Rattle.lisp_database_store.specs.Groups.{IsDone, SomeIsDone}
 use Rattle.lisp_database_store.specs.declared.group.Groups.{Groups}
 use Rattle.lisp_database_store.proofs.shared.SharedDatabase.commit.Goals.{in-Ok, in-Err}
 use Rattle.lisp_database_store.proofs.shared.SharedDatabase.commit.Goals as goal
@@ -13,6 +13,7 @@ of_ok (Ok v) P done said = said
 of_ok (Err e) P done said = absurd (true≢false (sym done))
 
 pub returns : goal.returns
+unfolding SomeIsDone
 returns g c done =
     of_ok c.match-try_borrow_mut.committed ((old new : Groups g.row.T.Denot) × IsDone g.T.Table.means old new) (sym c.is_ok.ensures.value ∙ done)
     (elim c.match-try_borrow_mut.branch [
