@@ -1,9 +1,11 @@
 -- What `check` warns of.
-use Rattle.std.specs.Prelude.{◌≡◌, ℕ, Bool, true, false, List, [], ◌∷◌, ◌++◌, not, ◌==◌, length, codes, map, Result, OnOk, IsOkAnd, String, string_bytes, Vec, Option}
+use Rattle.std.specs.Prelude.{◌≡◌, ℕ, Bool, true, false, List, [], ◌∷◌, ◌++◌, not, ◌==◌, length, codes, map, Result, Ok, OnOk, IsOkAnd, String, string_bytes, Vec, Option}
 use Rattle.std.specs.List.{flat_map}
 use Rattle.std.specs.Io.KnownBytes.{Appends}
 use Rattle.std.specs.declared.alloc.Global.{Global}
+use Rattle.toml.specs.Parse.{parse_document}
 use Rattle.lisp_policy.specs.Configuration.{ConfigValue}
+use Rattle.lisp_sites.specs.Table.{config_of}
 use Rattle.lisp_check.specs.declared.warning.Warning.{Warning}
 use Rattle.lisp_check.specs.Warning.{IsWarned, AreThose, of_all}
 use Rattle.lisp_check.specs.Words.{warning_text}
@@ -58,6 +60,6 @@ pub record Warns {W : Type 0} (c : ConfigValue) (is_open : Bool) (path : List �
   pub written : Appends (contents old) (contents new) (before ++ warning_lines path (map string_bytes all.items))
   pub warned_is : warned ≡ not (length all.items == 0)
 
--- of one configuration
-abbrev pub WarnsOfOne : {W : Type 0} → List ℕ → (W → Option (List ℕ)) → W → W → Bool → Type 0
-WarnsOfOne path contents old new warned = (c : ConfigValue) × (is_open : Bool) × Warns c is_open path contents old new warned
+-- those of the configuration that a text is
+abbrev pub WarnsOfText : {W : Type 0} → List ℕ → (W → Option (List ℕ)) → W → W → Bool → Type 0
+WarnsOfText path contents old new warned = (text : List ℕ) × (c : ConfigValue) × (is_open : Bool) × (config_of (parse_document text) ≡ Ok c) × Warns c is_open path contents old new warned

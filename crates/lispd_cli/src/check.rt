@@ -2,7 +2,7 @@
 
 ghost use Rattle.std.specs.Prelude.{◌≡◌, map, string_bytes, IfOk};
 ghost use Rattle.lisp_check.specs.Words.{warning_text};
-ghost use Rattle.lispd_cli.specs.Check.{WritesLine, WritesSome, Writes, AddsWords, Warns, WarnsOfOne, warning_of, warning_lines, words_of_mode, AreWarnings};
+ghost use Rattle.lispd_cli.specs.Check.{WritesLine, WritesSome, Writes, AddsWords, Warns, WarnsOfText, warning_of, warning_lines, words_of_mode, AreWarnings};
 
 use crate::failure::Failure;
 use crate::fault::ProgramFault;
@@ -30,7 +30,7 @@ pub fn check_config<R: Input + Files + AllocGlobal, W: Write>(
     path: &str,
     writer: &mut W,
 ) -> Result<bool, Failure>
-    ensures warns { IfOk result (WarnsOfOne path.now W.contents writer.old writer.new) }
+    ensures warns { IfOk result (WarnsOfText path.now W.contents writer.old writer.new) }
 {
     let source = read_source(rt, path)?;
     let Ok(text) = str::from_utf8(&source.bytes) else {
