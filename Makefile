@@ -31,13 +31,12 @@ library:
 demo: lispd
 	@tools/demo
 
-# What is shut may be unfolded, or said, in one place alone: that memory runs out as C's configuration is read, and that a shared database did
-# a commit. And no crate may use lisp_memory's own proof that the machine's memory may be refused (the module Witness), or unfold what says so. Of its
-# definitions others name those of four modules, which have no proof: grep prints whatever else they name.
+# No crate may use lisp_memory's own proof that the machine's memory may be refused (the module Witness), or unfold what says so. Of its
+# definitions others name those of four modules, which have no proof: grep prints whatever else they name. The modules Asked say that memory ran
+# out as C's configuration was read, and that a shared database did a commit: each in the proof of one call alone.
 test:
 	@! grep -roE 'Rattle\.lisp_memory[.A-Za-z_]*|lisp_memory::(specs|proofs)' crates --include=*.antt --include=*.rt --exclude-dir=lisp_memory --exclude-dir=out | grep -vE ':Rattle\.lisp_memory\.specs\.(Appending|Inserting|Refusal|Room)\.?$$'
-	@! grep -rE 'Starting\.Asked|unfolding.*MayRunOut' crates --include=*.antt --include=*.rt --exclude-dir=out | grep -vE '^crates/lisp_registration/(specs/Starting|proofs/starting/read)/'
-	@! grep -rE 'unfolding.*SomeIsDone' crates --include=*.antt --include=*.rt --exclude-dir=out --exclude-dir=lisp_database_store
+	@! grep -rE '(Starting|Groups)(\.|::)Asked' crates --include=*.antt --include=*.rt --exclude-dir=out | grep -vE '^crates/(lisp_registration/proofs/starting/read|lisp_database_store/proofs/shared/SharedDatabase/commit)/'
 	@! grep -rE 'Witness|unfolding.*MachineMayRefuse' crates --include=*.antt --include=*.rt --exclude-dir=lisp_memory --exclude-dir=out
 	@tools/slips --compare docs/SLIPS.md
 	@tools/gate

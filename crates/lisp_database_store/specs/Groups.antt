@@ -6,6 +6,7 @@ use Rattle.lisp_database_store.specs.declared.group.Group.TheVariants.{Empty, Wa
 use Rattle.lisp_database_store.specs.declared.group.Groups.{Groups}
 use Rattle.lisp_database_store.specs.Meaning.{Meaning}
 use Rattle.lisp_database_store.specs.Table.{IsOpen, Saves, Begins, Commits}
+pub mod Asked
 
 -- what a call that failed makes of a group: it is lost, unless no save waits
 abbrev pub lost_group : Group → Group
@@ -50,7 +51,7 @@ module _ {T : Type 0} where
     abbrev pub IsDone : Groups T → Groups T → Type 0
     IsDone old new = ((old.group ≡ Empty) × (new ≡ old)) ⊎ CommitsAll old new
 
-    -- a database did a commit: shut, so that outside this crate `SharedDatabase::commit` alone says so. No contract sees what is in
-    -- a cell, and so which database
+    -- a database did a commit. No proof may use `Asked` but that of `SharedDatabase::commit`, so that no other code can say so. No
+    -- contract sees what is in a cell, and so which database
     pub SomeIsDone : Type 0
     SomeIsDone = (old new : Groups T) × IsDone old new
