@@ -1,7 +1,7 @@
 #!/usr/bin/env -S python3 -B
 """draw.py PROGRAM
 
-Draws schedules: those of examples/, each of which has its picture beside it; and some that a picture has to bear: 10,000 commands,
+Draws schedules: those that have their picture beside them, as each of examples/ does; and some that a picture has to bear: 10,000 commands,
 comments with markup and control characters, more nodes than a text has room for. Looks at each picture as a document of XML, and at
 each text for its width. Prints what is wrong, and ends with 1 where something is."""
 import subprocess
@@ -70,7 +70,8 @@ def looks_at_text(name, text):
 
 
 def pictures_are_those_beside():
-    found = sorted([*(EXAMPLES / "schedules").glob("*.schedule"), *(EXAMPLES / "attacks").glob("*.schedule")])
+    examples = [*(EXAMPLES / "schedules").glob("*.schedule"), *(EXAMPLES / "attacks").glob("*.schedule")]
+    found = sorted([*examples, *(picture.with_suffix(".schedule") for picture in (HERE / "schedules").glob("*/*.svg"))])
     for schedule in found:
         drawn, _ = looks_at_image(schedule.name, schedule.read_text())
         looks_at_text(schedule.name, schedule.read_text())

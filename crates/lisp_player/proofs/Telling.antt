@@ -13,7 +13,7 @@ use Rattle.lisp_script.specs.Schedule.{IsFaulty}
 use Rattle.lisp_script.specs.declared.play_fault.PlayFault.{PlayFault}
 use Rattle.lisp_script.specs.declared.play_fault.PlayFault.TheVariants as faults
 use Rattle.lisp_player.specs.declared.outcome.Outcome.{Outcome}
-use Rattle.lisp_player.specs.Outcomes.{texts, TellsLine, IsOutcome, AreOutcomes, OutcomesLead, OutcomesFrom}
+use Rattle.lisp_player.specs.Outcomes.{texts, IsOutcome, AreOutcomes, OutcomesLead, OutcomesFrom}
 use Rattle.lisp_player.specs.Playing.{Moves, CommandLeads, Wrote}
 use Rattle.lisp_player.specs.Schedule.{IsOfInput, NotBegun, Begins}
 use Rattle.lisp_player.proofs.Leading.{wrote_next, next_order}
@@ -24,8 +24,8 @@ module _ {X : Type 0} (before after : List (Outcome X)) (outcome : Outcome X) (p
   texts_next : texts after ≡ texts before ++ string_bytes outcome.text
   texts_next = ap texts pushed ∙ flat_map-append (λ (o : Outcome X). string_bytes o.text) before (outcome ∷ []) ∙ ap (λ (last : List ℕ). texts before ++ last) (append-nil (string_bytes outcome.text))
 
-  pub lines_next : (c : ConfigValue) → All (TellsLine c) before → TellsLine c outcome → All (TellsLine c) after
-  lines_next c all tells = subst (λ (outcomes : List (Outcome X)). All (TellsLine c) outcomes) (sym pushed) (All-push (TellsLine c) before outcome all tells)
+  pub all_next : (P : Outcome X → Type 0) → All P before → P outcome → All P after
+  all_next P all last = subst (λ (outcomes : List (Outcome X)). All P outcomes) (sym pushed) (All-push P before outcome all last)
 
   pub told_next : {F : Type 0} (A N S : Type 0) (old mid new : WorldState) (c : ConfigValue) (commands : List (Command F)) (i : ℕ) (command : Command F)
       → i < length commands → command ≡ get_or commands i command → Wrote A N S old mid c (take i (map command_value commands)) (Some []) (Some (texts before))

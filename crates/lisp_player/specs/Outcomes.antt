@@ -1,5 +1,5 @@
 -- What commands came to.
-use Rattle.std.specs.Prelude.{◌≡◌, ℕ, List, [], ◌∷◌, Option, Some, None, Result, IfOk, IfSome, string_bytes}
+use Rattle.std.specs.Prelude.{◌≡◌, ℕ, min, length, List, [], ◌∷◌, Option, Some, None, Result, IfOk, IfSome, string_bytes}
 use Rattle.std.specs.List.{AllByRecursion, flat_map}
 use Rattle.lisp_model.specs.Trace.{Step, Opening}
 use Rattle.lisp_model.specs.declared.line.Line.{Line}
@@ -20,6 +20,10 @@ texts outcomes = flat_map (λ o. string_bytes o.text) outcomes
 -- what the event came to is what the text tells
 abbrev pub TellsLine : {A : Type 0} → ConfigValue → Outcome A → Type 0
 TellsLine c outcome = IfSome outcome.line (λ line. string_bytes outcome.text ≡ line_text c Shown line)
+
+-- of what a store keeps an outcome lists all that it counts, four at most
+abbrev pub ListsKept : {A : Type 0} → Outcome A → Type 0
+ListsKept outcome = length outcome.kept.items ≡ min 4 outcome.kept_count
 
 -- the line of the step that a trace gained; None where it gained none
 abbrev pub IsLine : List Step → List Step → Option Line → Type 0

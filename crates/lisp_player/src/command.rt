@@ -2,7 +2,7 @@
 
 ghost use Rattle.std.specs.Prelude.{◌≡◌, IfOk, OnErr};
 ghost use Rattle.lisp_script.specs.declared.command.Command.TheVariants.{Act};
-ghost use Rattle.lisp_player.specs.Outcomes.{Leads, TellsLine};
+ghost use Rattle.lisp_player.specs.Outcomes.{Leads, ListsKept, TellsLine};
 ghost use Rattle.lisp_player.specs.Playing.{LosesText};
 
 use crate::asked::{ack_lines, ask_line, due_line, fault_line, hold_lines};
@@ -29,6 +29,7 @@ pub(crate) fn command_outcome<S: WorldStore, A: Memory + Copy, E: Allocator, F: 
     ensures lost { LosesText result A A.may_refuse S.may_refuse
         world.old world.new config.now command.now }
     ensures line { IfOk result (TellsLine config.now) }
+    ensures kept { IfOk result ListsKept }
     ensures memory { OnErr result A.may_refuse }
 {
     match command {
@@ -64,6 +65,7 @@ fn event_outcome<S: WorldStore, A: Memory + Copy, E: Allocator, F: Allocator>(
     ensures lost { LosesText result A A.may_refuse S.may_refuse
         world.old world.new config.now (Act event.now) }
     ensures line { IfOk result (TellsLine config.now) }
+    ensures kept { IfOk result ListsKept }
     ensures memory { OnErr result A.may_refuse }
 {
     match world.step(event) {
@@ -82,6 +84,7 @@ fn event_outcome<S: WorldStore, A: Memory + Copy, E: Allocator, F: Allocator>(
 fn outcome<A: Allocator>(alloc: A, line: Option<Line>, text: String<A>) -> Outcome<A>
     ensures line { result.line ≡ line }
     ensures text { result.text ≡ text }
+    ensures kept { ListsKept result }
 {
     Outcome {
         line,

@@ -1,9 +1,9 @@
 //! A schedule that was played, and what each of its commands came to.
 
-ghost use Rattle.std.specs.Prelude.{◌≡◌, [], map, length, All, Some, Ok, OnErr, IfOk, IfErr, IsErrOf};
+ghost use Rattle.std.specs.Prelude.{◌≡◌, [], map, length, take, All, Some, Ok, OnErr, IfOk, IfErr, IsErrOf};
 ghost use Rattle.lisp_script.specs.Command.{command_value};
 ghost use Rattle.lisp_script.specs.Schedule.{schedule_value};
-ghost use Rattle.lisp_player.specs.Outcomes.{Leads, OutcomesFrom, OutcomesLead, TellsLine, texts};
+ghost use Rattle.lisp_player.specs.Outcomes.{Leads, ListsKept, OutcomesFrom, OutcomesLead, TellsLine, texts};
 ghost use Rattle.lisp_player.specs.Playing.{Wrote};
 ghost use Rattle.lisp_player.specs.Schedule.{IsOfInput, NotBegun, Played, PlayedFrom, RefusesInput, schedule_in};
 
@@ -48,6 +48,7 @@ pub fn history_of<A: Memory + Copy>(
         (map command_value h.commands.items) h.outcomes.items) }
     ensures counts { IfOk result (λ h. length h.outcomes.items ≡ length h.commands.items) }
     ensures lines { IfOk result (λ h. All (TellsLine h.config) h.outcomes.items) }
+    ensures kept { IfOk result (λ h. All ListsKept h.outcomes.items) }
     ensures refuses { IfErr result (RefusesInput A.may_refuse input.now) }
     ensures faults { IfErr result IsOfInput }
     ensures memory { IsErrOf result PlayFault.OutOfMemory → A.may_refuse }
@@ -73,6 +74,7 @@ fn outcomes_from<A: Memory + Copy, E: Allocator, F: Allocator>(
         (map command_value commands.now) outcomes.items) }
     ensures counts { IfOk result (λ outcomes. length outcomes.items ≡ length commands.now) }
     ensures lines { IfOk result (λ outcomes. All (TellsLine config.now) outcomes.items) }
+    ensures kept { IfOk result (λ outcomes. All ListsKept outcomes.items) }
     ensures memory { IsErrOf result PlayFault.OutOfMemory → A.may_refuse }
     ensures faults { IfErr result (NotBegun A.may_refuse config.now) }
 {
@@ -95,6 +97,7 @@ fn outcomes_on<A: Memory + Copy, E: Allocator, F: Allocator>(
         world.old world.new config.now (map command_value commands.now) outcomes.items) }
     ensures counts { IfOk result (λ outcomes. length outcomes.items ≡ length commands.now) }
     ensures lines { IfOk result (λ outcomes. All (TellsLine config.now) outcomes.items) }
+    ensures kept { IfOk result (λ outcomes. All ListsKept outcomes.items) }
     ensures memory { OnErr result A.may_refuse }
 {
     let mut outcomes = Vec::new(alloc);
@@ -114,16 +117,28 @@ fn outcome_on<A: Memory + Copy, E: Allocator, F: Allocator>(
     ensures turns { Leads result A A.may_refuse A.may_refuse
         world.old world.new config.now command.now }
     ensures line { IfOk result (TellsLine config.now) }
+    ensures kept { IfOk result ListsKept }
     ensures memory { OnErr result A.may_refuse }
 {
     let mut outcome = command_outcome(alloc, world, config, command)?;
     if let Some(node) = started_again(&outcome) {
-        let mut kept = kept_by(alloc, world, node)?;
-        outcome.kept_count = kept.len();
-        kept.truncate(MOST_KEPT);
-        outcome.kept = kept;
+        let kept = kept_by(alloc, world, node)?;
+        list_kept(&mut outcome, kept);
     }
     Ok(outcome)
+}
+
+// Lists the first few nonces that a store keeps, and counts all.
+fn list_kept<A: Memory>(outcome: &mut Outcome<A>, kept: Vec<KeptNonce, A>)
+    ensures kept { outcome.new.kept.items ≡ take 4 kept.items }
+    ensures count { outcome.new.kept_count ≡ length kept.items }
+    ensures line { outcome.new.line ≡ outcome.old.line }
+    ensures text { outcome.new.text ≡ outcome.old.text }
+{
+    let mut listed = kept;
+    outcome.kept_count = listed.len();
+    listed.truncate(MOST_KEPT);
+    outcome.kept = listed;
 }
 
 // The node that started again.
