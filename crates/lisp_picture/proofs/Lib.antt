@@ -1,5 +1,7 @@
 mod Adding
 mod Lines
+mod Wrapping
+mod Cells
 mod Elements
 mod Ladders
 mod NoMarkup

@@ -6,7 +6,7 @@ use Rattle.lisp_script.specs.Command.{CommandValue}
 use Rattle.lisp_script.specs.declared.play_fault.PlayFault.{PlayFault}
 use Rattle.lisp_script.specs.declared.play_fault.PlayFault.TheVariants as faults
 use Rattle.lisp_player.specs.declared.outcome.Outcome.{Outcome}
-use Rattle.lisp_player.specs.Outcomes.{texts}
+use Rattle.lisp_player.specs.Outcomes.{OutcomesFrom, texts}
 use Rattle.lisp_player.specs.Schedule.{Played, schedule_in}
 use Rattle.lisp_picture.specs.declared.form.Form.{Form}
 use Rattle.lisp_picture.specs.declared.form.Form.TheVariants.{Svg, Text}
@@ -16,16 +16,17 @@ use Rattle.lisp_picture.specs.Ladder.{IsLadder}
 -- the text is a picture, in this form, of what commands came to
 abbrev pub Pictures : {A : Type 0} → Form → List (Outcome A) → List ℕ → Type 0
 Pictures {A = A} Svg outcomes picture = (title : List ℕ) × IsPicture A title (texts_of outcomes) picture
-Pictures Text outcomes picture = IsLadder (length outcomes) picture
+Pictures Text outcomes picture = IsLadder (texts_of outcomes) picture
 
 -- what was written is a picture of the schedule of an input: of an outcome of each of its commands, whose lines are those
--- that a play of it prints
+-- that a play of it prints. Each outcome is that of its own command, after those before it
 pub record Draws (A may_refuse : Type 0) (form : Form) (input : List ℕ) (before after : Option (List ℕ)) : Type 0 where
   pub config : ConfigValue
   pub orders : List CommandValue
   pub asked : schedule_in input ≡ Ok (config, orders)
   pub outcomes : List (Outcome A)
-  pub each : length outcomes ≡ length orders
+  pub counts : length outcomes ≡ length orders
+  pub each : OutcomesFrom A may_refuse config orders outcomes
   pub played : Played A may_refuse input (λ orders. orders) (Some []) (Some (texts outcomes))
   pub picture : List ℕ
   pub drawn : Pictures form outcomes picture

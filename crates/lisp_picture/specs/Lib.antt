@@ -1,4 +1,5 @@
 pub mod Markup
 pub mod Picture
+pub mod Wrap
 pub mod Ladder
 pub mod Drawing

@@ -1,9 +1,12 @@
 //! A picture as lines of text.
 
-ghost use Rattle.std.specs.Prelude.{IfOk, OnErr, OnOk, length};
+ghost use Rattle.std.specs.Prelude.{◌≡◌, ◌<◌, IfOk, OnErr, OnOk, drop, length, map};
 ghost use Rattle.std.specs.String.{string_bytes};
-ghost use Rattle.lisp_picture.specs.Ladder.{AddsLines, AddsEvent, AddsEvents, IsLadder};
+ghost use Rattle.lisp_picture.specs.Ladder.{AddsLines, AddsEach, AddsEvent, AddsEvents, AreWords, IsLadder, text_at};
+ghost use Rattle.lisp_picture.specs.Picture.{texts_of};
+ghost use Rattle.lisp_picture.specs.Wrap.{Grows};
 
+use crate::element::first_line;
 use crate::heading::kind_text;
 use crate::ladder_row::{Cells, put_line, put_numbered};
 use crate::notes::add_notes;
@@ -21,13 +24,15 @@ use std::alloc::AllocError;
 const TITLE_MARK: &str = "# ";
 
 /// The picture of a schedule that was played as lines of text, for a terminal: at most 100 characters each, all of them of
-/// ASCII and printable. Each command has its lines, in their order, of which the first begins with its number, from 1 on.
+/// ASCII and printable. Each command has its lines, in their order, of which the first begins with its number, from 1 on; its words
+/// begin with the first of its lines as `play` prints them, broken where a line ends.
 pub fn ladder_text<A: Memory + Copy>(
     alloc: A,
     title: &str,
     history: &History<A>,
 ) -> Result<String<A>, AllocError>
-    ensures ladder { IfOk result (λ text. IsLadder (length history.now.outcomes.items) (string_bytes text)) }
+    ensures ladder { IfOk result (λ text.
+        IsLadder (texts_of history.now.outcomes.items) (string_bytes text)) }
     ensures memory { OnErr result A.may_refuse }
 {
     let story = story_of(alloc, history)?;
@@ -101,7 +106,8 @@ fn put_events<A: Memory + Copy>(
     story: &Story<A>,
     rungs: &Rungs<'_>,
 ) -> Result<(), AllocError>
-    ensures events { OnOk result (AddsEvents (length history.now.outcomes.items) (string_bytes text.old) (string_bytes text.new)) }
+    ensures events { OnOk result (AddsEvents (texts_of history.now.outcomes.items)
+        (length history.now.outcomes.items) (string_bytes text.old) (string_bytes text.new)) }
     ensures memory { OnErr result A.may_refuse }
 {
     for (place, outcome) in history.outcomes.iter().enumerate() {
@@ -130,54 +136,99 @@ fn put_event<A: Memory + Copy>(
     number: usize,
     outcome: &Outcome<A>,
 ) -> Result<(), AllocError>
-    ensures event { OnOk result (AddsEvent number (string_bytes text.old) (string_bytes text.new)) }
+    ensures event { OnOk result (AddsEvent number (string_bytes outcome.now.text)
+        (string_bytes text.old) (string_bytes text.new)) }
     ensures memory { OnErr result A.may_refuse }
 {
-    let lines = words(alloc, history, story, rungs, place, outcome)?;
+    let at = rungs.words_at();
+    let lines = words(alloc, history, story, at, place, outcome)?;
+    let (first, others) = parted(&lines);
     let mut cells = rungs.drawn(story, place);
-    if let Some(line) = lines.first() {
-        cells.write(rungs.words_at(), line);
-    }
+    cells.end_with(at, first);
     put_numbered(alloc, text, number, &cells)?;
-    put_more(text, rungs, lines.get(1..).unwrap_or(&[]))
+    put_more(text, rungs, at, others)
 }
 
-// Appends lines of words behind those of the nodes.
+// The first line, and the others.
+fn parted<A: Memory>(lines: &[String<A>]) -> (&str, &[String<A>])
+    ensures first { result.0.now ≡ text_at (map string_bytes lines.now) 0 }
+    ensures others { result.1.now ≡ drop 1 lines.now }
+{
+    match lines.split_first() {
+        Some((first, others)) => (first.as_str(), others),
+        None => ("", &[]),
+    }
+}
+
+// Appends lines of words behind those of the nodes, from a place on.
 fn put_more<A: Memory + Copy>(
     text: &mut String<A>,
     rungs: &Rungs<'_>,
+    at: usize,
     lines: &[String<A>],
 ) -> Result<(), AllocError>
-    ensures lines { OnOk result (AddsLines (string_bytes text.old) (string_bytes text.new)) }
+    requires { at < 100 }
+    ensures lines { OnOk result (AddsEach at (map string_bytes lines.now) (length lines.now)
+        (string_bytes text.old) (string_bytes text.new)) }
     ensures memory { OnErr result A.may_refuse }
 {
     for line in lines {
         let mut cells = rungs.cells(rungs.nodes.len());
-        cells.write(rungs.words_at(), line);
+        cells.end_with(at, line);
         put_line(text, &cells)?;
     }
     Ok(())
 }
 
-// The words of a command: its lines, and what they mean.
+// The words of a command, in lines from a place on: those of its first line, and others.
 fn words<A: Memory + Copy>(
     alloc: A,
     history: &History<A>,
     story: &Story<A>,
-    rungs: &Rungs<'_>,
+    at: usize,
     place: usize,
     outcome: &Outcome<A>,
 ) -> Result<Vec<String<A>, A>, AllocError>
+    requires { at < 100 }
+    ensures words { IfOk result (λ lines.
+        AreWords at (string_bytes outcome.now.text) (map string_bytes lines.items)) }
     ensures memory { OnErr result A.may_refuse }
 {
-    let mut lines = Lines::new(alloc, rungs.words_width());
+    let mut lines = Lines::new(alloc, Cells::WIDTH - at);
+    lines.add(first_line(&outcome.text))?;
+    add_others(alloc, &mut lines, history, story, place, outcome)?;
+    Ok(lines.into_lines())
+}
+
+// Appends the other lines of a command, and what its lines mean.
+#[tactic(auto, using(crate::proofs::Wrapping::steps))]
+fn add_others<A: Memory + Copy>(
+    alloc: A,
+    lines: &mut Lines<A>,
+    history: &History<A>,
+    story: &Story<A>,
+    place: usize,
+    outcome: &Outcome<A>,
+) -> Result<(), AllocError>
+    ensures grows { OnOk result (Grows lines.old lines.new) }
+    ensures memory { OnErr result A.may_refuse }
+{
     let (Some(command), Some(row)) = (history.commands.get(place), story.rows.get(place)) else {
-        return Ok(lines.into_lines());
+        return Ok(());
     };
     let has_heading = matches!(command, Command::Hold(_));
-    for line in table(alloc, &outcome.text, has_heading)?.iter() {
+    let table = table(alloc, &outcome.text, has_heading)?;
+    add_all(lines, table.get(1..).unwrap_or(&[]))?;
+    add_notes(alloc, lines, &history.config, row, command, outcome)
+}
+
+#[tactic(auto, using(crate::proofs::Wrapping::steps))]
+fn add_all<A: Memory + Copy>(lines: &mut Lines<A>, others: &[String<A>]) -> Result<(), AllocError>
+    ensures grows { OnOk result (Grows lines.old lines.new) }
+    ensures memory { OnErr result A.may_refuse }
+{
+    for line in others {
         lines.add(line)?;
     }
-    add_notes(alloc, &mut lines, &history.config, row, command, outcome)?;
-    Ok(lines.into_lines())
+    Ok(())
 }

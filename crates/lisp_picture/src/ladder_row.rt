@@ -1,13 +1,16 @@
 //! A line of a picture that is text.
 
-ghost use Rattle.std.specs.Prelude.{◌≡◌, ◌∷◌, [], ◌+◌, ◌≤◌, OnOk, OnErr, length};
+ghost use Rattle.std.specs.Prelude.{◌≡◌, ◌∷◌, [], ◌++◌, ◌+◌, ◌-◌, ◌≤◌, OnOk, OnErr, length, take, drop};
+ghost use Rattle.std.specs.Str.{chars, IsUtf8};
+ghost use Rattle.std.specs.Str.Iter.{chars_rest};
 ghost use Rattle.std.specs.String.{string_bytes};
 ghost use Rattle.lisp_picture.specs.Markup.{Adds};
-ghost use Rattle.lisp_picture.specs.Ladder.{AddsLine, AddsNumbered, plain, plain_text};
+ghost use Rattle.lisp_picture.specs.Ladder.{AddsCells, AddsLine, EndsWith, NumbersCells, Shown, Trims, padded, plain, plain_text};
 
 use crate::append::put_words;
 use lisp_memory::{FallibleString, Memory};
 use std::alloc::AllocError;
+use std::str::Chars;
 
 /// The characters of a line, each a byte, of at most 100.
 #[derive(Clone, Copy)]
@@ -39,6 +42,19 @@ impl Cells {
         }
     }
 
+    /// Ends the line with words, from a place on, as far as it goes: spaces are behind them, and `?` is for characters that aren't
+    /// printable of ASCII.
+    pub(crate) fn end_with(&mut self, place: usize, words: &str)
+        ensures cells { self.new.cells
+            ≡ take place self.old.cells ++ padded (100 - place) (chars words.now) }
+        ensures ends { place ≤ 100 → EndsWith place words.now self.new.cells }
+    {
+        let mut characters = words.chars();
+        for at in place..Cells::WIDTH {
+            self.cells[at] = next_shown(&mut characters);
+        }
+    }
+
     /// Writes a character at each place from one to another, which it leaves as it is.
     pub(crate) fn fill(&mut self, from: usize, to: usize, character: u8) {
         for place in from..to {
@@ -50,6 +66,8 @@ impl Cells {
 /// Appends a line, without the spaces at its end.
 pub(crate) fn put_line<A: Memory>(text: &mut String<A>, cells: &Cells) -> Result<(), AllocError>
     ensures line { OnOk result (AddsLine (string_bytes text.old) (string_bytes text.new)) }
+    ensures words { OnOk result
+        (AddsCells cells.now.cells (string_bytes text.old) (string_bytes text.new)) }
     ensures memory { OnErr result A.may_refuse }
 {
     put_cells(text, trimmed(&cells.cells))?;
@@ -63,7 +81,8 @@ pub(crate) fn put_numbered<A: Memory + Copy>(
     number: usize,
     cells: &Cells,
 ) -> Result<(), AllocError>
-    ensures line { OnOk result (AddsNumbered number (string_bytes text.old) (string_bytes text.new)) }
+    ensures words { OnOk result
+        (NumbersCells number cells.now.cells (string_bytes text.old) (string_bytes text.new)) }
     ensures memory { OnErr result A.may_refuse }
 {
     let digits = String::try_format(alloc, number)?;
@@ -83,19 +102,23 @@ fn put_feed<A: Memory>(text: &mut String<A>) -> Result<(), AllocError>
 
 // The characters of a line but for spaces at its end.
 fn trimmed(cells: &[u8; 100]) -> &[u8]
-    ensures { length result.now ≤ 100 }
+    ensures trimmed { Trims result.now cells.now }
+    ensures short { length result.now ≤ 100 }
 {
-    let end = match cells.iter().rposition(|cell| *cell != b' ') {
-        Some(place) => place + 1,
-        None => 0,
-    };
+    let mut end = 0;
+    for (place, cell) in cells.iter().enumerate() {
+        if *cell != b' ' {
+            end = place + 1;
+        }
+    }
     cells.split_at(end).0
 }
 
 // The characters behind so many.
 fn behind(cells: &[u8], count: usize) -> &[u8]
     requires { length cells.now ≤ 100 }
-    ensures { count ≤ 100 → length result.now + count ≤ 100 }
+    ensures behind { result.now ≡ drop count cells.now }
+    ensures short { count ≤ 100 → length result.now + count ≤ 100 }
 {
     cells.get(count..).unwrap_or(&[])
 }
@@ -117,6 +140,28 @@ fn put_cell<A: Memory>(text: &mut String<A>, cell: u8) -> Result<(), AllocError>
     ensures memory { OnErr result A.may_refuse }
 {
     text.try_push(char::from(plain(cell)))
+}
+
+// The next character as a line shows it; a space behind the last.
+fn next_shown(characters: &mut Chars<'_>) -> u8
+    ensures utf8 { IsUtf8 (chars_rest characters.old) → IsUtf8 (chars_rest characters.new) }
+    ensures shown { IsUtf8 (chars_rest characters.old) →
+        Shown (chars_rest characters.old) result (chars_rest characters.new) }
+{
+    match characters.next() {
+        Some(character) => shown(character),
+        None => b' ',
+    }
+}
+
+// A character as a line shows it.
+fn shown(character: char) -> u8
+    ensures { result ≡ plain character }
+{
+    match character {
+        ' '..='~' => character as u8,
+        _ => b'?',
+    }
 }
 
 // A character of ASCII that is printable: this one, or `?`.

@@ -1,6 +1,7 @@
 //! What a picture says of a command beside its line.
 
-ghost use Rattle.std.specs.Prelude.{OnErr};
+ghost use Rattle.std.specs.Prelude.{OnErr, OnOk};
+ghost use Rattle.lisp_picture.specs.Wrap.{Grows};
 
 use crate::row::Row;
 use crate::wrap::Lines;
@@ -19,6 +20,7 @@ use std::alloc::{AllocError, Allocator};
 
 /// Appends what isn't in the line of a command: where bytes come from outside, what the store did, what a refusal means, what
 /// the store of a node that starts again kept.
+#[tactic(auto, using(crate::proofs::Wrapping::steps))]
 pub(crate) fn add_notes<A: Memory + Copy>(
     alloc: A,
     lines: &mut Lines<A>,
@@ -27,20 +29,59 @@ pub(crate) fn add_notes<A: Memory + Copy>(
     command: &Command<A>,
     outcome: &Outcome<A>,
 ) -> Result<(), AllocError>
+    ensures grows { OnOk result (Grows lines.old lines.new) }
     ensures memory { OnErr result A.may_refuse }
 {
-    if let Command::Act(Event::Junk { from, bytes, .. }) = command {
-        let source = addr_to_text(alloc, from)?;
-        let length = bytes.as_slice().len();
-        add(
-            alloc,
-            lines,
-            format_args!("Bytes from outside: source {source}, length {length}."),
-        )?;
+    add_source(alloc, lines, command)?;
+    add_fate(lines, row.fate)?;
+    add_meaning(alloc, lines, config, outcome)
+}
+
+// Where bytes from outside come from.
+#[tactic(auto, using(crate::proofs::Wrapping::steps))]
+fn add_source<A: Memory + Copy>(
+    alloc: A,
+    lines: &mut Lines<A>,
+    command: &Command<A>,
+) -> Result<(), AllocError>
+    ensures grows { OnOk result (Grows lines.old lines.new) }
+    ensures memory { OnErr result A.may_refuse }
+{
+    let Command::Act(Event::Junk { from, bytes, .. }) = command else {
+        return Ok(());
+    };
+    let source = addr_to_text(alloc, from)?;
+    let length = bytes.as_slice().len();
+    add(
+        alloc,
+        lines,
+        format_args!("Bytes from outside: source {source}, length {length}."),
+    )
+}
+
+// What a store does.
+#[tactic(auto, using(crate::proofs::Wrapping::steps))]
+fn add_fate<A: Memory + Copy>(lines: &mut Lines<A>, fate: Fate) -> Result<(), AllocError>
+    ensures grows { OnOk result (Grows lines.old lines.new) }
+    ensures memory { OnErr result A.may_refuse }
+{
+    match fate_words(fate) {
+        Some(words) => lines.add(words),
+        None => Ok(()),
     }
-    if let Some(words) = fate_words(row.fate) {
-        lines.add(words)?;
-    }
+}
+
+// What a refusal means, and what a store kept.
+#[tactic(auto, using(crate::proofs::Wrapping::steps))]
+fn add_meaning<A: Memory + Copy>(
+    alloc: A,
+    lines: &mut Lines<A>,
+    config: &Config<A>,
+    outcome: &Outcome<A>,
+) -> Result<(), AllocError>
+    ensures grows { OnOk result (Grows lines.old lines.new) }
+    ensures memory { OnErr result A.may_refuse }
+{
     match &outcome.line {
         Some(Line::Refused { what, .. }) => add_refusal(alloc, lines, what),
         Some(Line::Restarted { .. } | Line::Emptied { .. }) => {
@@ -51,11 +92,13 @@ pub(crate) fn add_notes<A: Memory + Copy>(
     }
 }
 
+#[tactic(auto, using(crate::proofs::Wrapping::steps))]
 fn add<A: Memory + Copy, D: std::fmt::Display + Drop>(
     alloc: A,
     lines: &mut Lines<A>,
     words: D,
 ) -> Result<(), AllocError>
+    ensures grows { OnOk result (Grows lines.old lines.new) }
     ensures memory { OnErr result A.may_refuse }
 {
     let text = String::try_format(alloc, words)?;
@@ -74,11 +117,13 @@ const fn fate_words(fate: Fate) -> Option<&'static str> {
 }
 
 // What a refusal means, and the number behind it, where it carries that of another fault.
+#[tactic(auto, using(crate::proofs::Wrapping::steps))]
 fn add_refusal<A: Memory + Copy>(
     alloc: A,
     lines: &mut Lines<A>,
     refusal: &Refusal,
 ) -> Result<(), AllocError>
+    ensures grows { OnOk result (Grows lines.old lines.new) }
     ensures memory { OnErr result A.may_refuse }
 {
     add_number(alloc, lines, refusal.number())?;
@@ -104,7 +149,9 @@ fn inner_number(refusal: &Refusal) -> Option<u16> {
 }
 
 // What keeps the network from taking an event, by the line that tells its number.
+#[tactic(auto, using(crate::proofs::Wrapping::steps))]
 fn add_fault<A: Memory + Copy>(alloc: A, lines: &mut Lines<A>, text: &str) -> Result<(), AllocError>
+    ensures grows { OnOk result (Grows lines.old lines.new) }
     ensures memory { OnErr result A.may_refuse }
 {
     let Some(number) = text.trim().strip_prefix("fault ") else {
@@ -117,11 +164,13 @@ fn add_fault<A: Memory + Copy>(alloc: A, lines: &mut Lines<A>, text: &str) -> Re
 }
 
 // A number, its name and what it means.
+#[tactic(auto, using(crate::proofs::Wrapping::steps))]
 fn add_number<A: Memory + Copy>(
     alloc: A,
     lines: &mut Lines<A>,
     number: u16,
 ) -> Result<(), AllocError>
+    ensures grows { OnOk result (Grows lines.old lines.new) }
     ensures memory { OnErr result A.may_refuse }
 {
     let name = name(number).unwrap_or("");
@@ -130,12 +179,14 @@ fn add_number<A: Memory + Copy>(
 }
 
 // What a store kept.
+#[tactic(auto, using(crate::proofs::Wrapping::steps))]
 fn add_kept<A: Memory + Copy>(
     alloc: A,
     lines: &mut Lines<A>,
     config: &Config<A>,
     outcome: &Outcome<A>,
 ) -> Result<(), AllocError>
+    ensures grows { OnOk result (Grows lines.old lines.new) }
     ensures memory { OnErr result A.may_refuse }
 {
     if outcome.kept_count == 0 {
@@ -146,18 +197,29 @@ fn add_kept<A: Memory + Copy>(
         add_nonce(alloc, lines, config, kept)?;
     }
     let left = outcome.kept_count.saturating_sub(outcome.kept.len());
-    if left > 0 {
-        add(alloc, lines, format_args!("and {left} more"))?;
-    }
-    Ok(())
+    add_left(alloc, lines, left)
 }
 
+// How many nonces aren't listed.
+#[tactic(auto, using(crate::proofs::Wrapping::steps))]
+fn add_left<A: Memory + Copy>(alloc: A, lines: &mut Lines<A>, left: usize) -> Result<(), AllocError>
+    ensures grows { OnOk result (Grows lines.old lines.new) }
+    ensures memory { OnErr result A.may_refuse }
+{
+    if left == 0 {
+        return Ok(());
+    }
+    add(alloc, lines, format_args!("and {left} more"))
+}
+
+#[tactic(auto, using(crate::proofs::Wrapping::steps))]
 fn add_nonce<A: Memory + Copy>(
     alloc: A,
     lines: &mut Lines<A>,
     config: &Config<A>,
     kept: &KeptNonce,
 ) -> Result<(), AllocError>
+    ensures grows { OnOk result (Grows lines.old lines.new) }
     ensures memory { OnErr result A.may_refuse }
 {
     let router = router_name(config, &kept.pair.router);

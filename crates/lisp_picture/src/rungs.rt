@@ -1,5 +1,7 @@
 //! The lines of nodes in a picture that is text.
 
+ghost use Rattle.std.specs.Prelude.{◌<◌};
+
 use crate::arrival::Arrival;
 use crate::datagram::Datagram;
 use crate::ladder_row::Cells;
@@ -21,6 +23,9 @@ const MOST_ROOM: usize = 42;
 
 /// How far behind the last line of a node words begin, in characters.
 const WORDS_GAP: usize = 6;
+
+/// Where words begin at most.
+const MOST_WORDS_AT: usize = LEFT + MOST_ROOM + WORDS_GAP;
 
 /// How long the arrow of what comes from outside is, and that of a datagram that never arrives, in characters.
 const STUB: usize = 3;
@@ -49,14 +54,12 @@ impl<'a> Rungs<'a> {
     }
 
     /// Where words begin.
-    pub(crate) fn words_at(&self) -> usize {
+    pub(crate) fn words_at(&self) -> usize
+        ensures { result < 100 }
+    {
         self.at(self.nodes.len().saturating_sub(1))
             .saturating_add(WORDS_GAP)
-    }
-
-    /// How much room words have.
-    pub(crate) fn words_width(&self) -> usize {
-        Cells::WIDTH.saturating_sub(self.words_at())
+            .min(MOST_WORDS_AT)
     }
 
     /// The lines of the first so many nodes.
