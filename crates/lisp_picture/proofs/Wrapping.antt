@@ -1,10 +1,10 @@
 -- Words in lines of a width.
 use Rattle.std.proofs.Common.{◌≡◌, Result, Ok, Err, ℕ, ◌+◌, ◌≤◌, max, List, [], ◌∷◌, ◌++◌, length, refl, sym, ap, subst, ◌∙◌, append_assoc, append-nil, arith}
-use Rattle.std.specs.Prelude.{OnOk}
+use Rattle.std.specs.Prelude.{OnOk, String, map, string_bytes}
 use Rattle.std.specs.List.{AllByRecursion, join_with_byte}
 use Rattle.std.specs.Char.{encode_utf8, IsScalar}
 use Rattle.std.specs.Str.{chars, IsUtf8}
-use Rattle.std.proofs.lemmas.List.{length_push, nil_from_length, replicate-append-replicate, replicate_more}
+use Rattle.std.proofs.lemmas.List.{length_push, map_push, nil_from_length, replicate-append-replicate, replicate_more}
 use Rattle.std.proofs.lemmas.Str.{chars-nil, chars-append, chars_past_char, encodes-chars, IsUtf8-encode}
 use lib.Utf8.{encodes}
 use Rattle.lisp_picture.specs.declared.wrap.Line.{Line}
@@ -93,6 +93,10 @@ module _ (width : ℕ) (old : List (List ℕ)) where
           count = so_far.count;
           fits = so_far.fits;
         }
+
+-- the texts of lines, and of another one behind them
+pub pushed : {A : Type 0} (before after : List (String A)) (line was : String A) → after ≡ before ++ line ∷ [] → line ≡ was → map string_bytes after ≡ map string_bytes before ++ string_bytes was ∷ []
+pushed {A = A} before after line was is same = ap (map string_bytes) is ∙ map_push string_bytes before line ∙ ap (λ (last : String A). map string_bytes before ++ string_bytes last ∷ []) same
 
 -- a text has one more character
 pub counted : (last new : List ℕ) (c : ℕ) → IsUtf8 last → IsScalar c → new ≡ last ++ encode_utf8 c → length (chars new) ≡ length (chars last) + 1
