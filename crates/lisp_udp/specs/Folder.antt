@@ -11,7 +11,7 @@ use Rattle.lisp_database_store.specs.declared.database.Database.{Database}
 -- it was opened, took over the nonces of files, and this start's writer is kept, with what changed since the last one
 pub record OpensSigned {T : Type 0} (means : Meaning T) (left : Option T) (change : Change) : Type 0 where
   pub opened : Database T
-  pub open : IsOpen opened.table means.has_tables
+  pub tables : IsOpen opened.table means.has_tables
   pub count : ℕ
   pub kept : Database T
   pub takes : TakesOver means opened kept count
