@@ -36,7 +36,7 @@ demo: lispd
 # out as C's configuration was read, and that a shared database did a commit: each in the proof of one call alone.
 test:
 	@! grep -roE 'Rattle\.lisp_memory[.A-Za-z_]*|lisp_memory::(specs|proofs)' crates --include=*.antt --include=*.rt --exclude-dir=lisp_memory --exclude-dir=out | grep -vE ':Rattle\.lisp_memory\.specs\.(Appending|Inserting|Refusal|Room)\.?$$'
-	@! grep -rE '(Starting|Groups)(\.|::)Asked' crates --include=*.antt --include=*.rt --exclude-dir=out | grep -vE '^crates/(lisp_registration/proofs/starting/read|lisp_database_store/proofs/shared/SharedDatabase/commit)/'
+	@! grep -rE '(Starting|Groups)(\.|::)Asked' crates --include=*.antt --include=*.rt --exclude-dir=out | grep -vE '^crates/(lisp_registration/proofs/starting/read|lisp_database_store/proofs/.*/SharedDatabase/commit)/'
 	@! grep -rE 'Witness|unfolding.*MachineMayRefuse' crates --include=*.antt --include=*.rt --exclude-dir=lisp_memory --exclude-dir=out
 	@tools/slips --compare docs/SLIPS.md
 	@tools/gate
