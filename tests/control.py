@@ -3,9 +3,13 @@
 What `lispd ask` and `lispd tell` make of nodes that run, and what clients that misbehave make of them. Prints each check that fails, and
 ends with 1 where one does."""
 import contextlib
+import ctypes
+import errno
 import os
+import platform
 import re
 import socket
+import struct
 import subprocess
 import time
 from concurrent.futures import ThreadPoolExecutor
@@ -23,6 +27,9 @@ MANY = 157
 # The record of router r1 in the configuration, and another one.
 RECORD, OTHER = "10.1.0.0/16=1440+192.0.2.1", "10.1.0.0/16=5+192.0.2.9"
 UNANSWERED = (1, "", "lispd: fault 99\n")
+# The unit that is installed, and the numbers of the system's calls that make a socket, by the machine.
+UNIT = Path(__file__).parent.parent / "packaging/lispd@.service.in"
+SOCKET_CALLS = {"x86_64": (41, 53), "aarch64": (198, 199)}
 NOTHING_HELD = (0, "hold s1 0\n", "")
 
 
@@ -229,6 +236,46 @@ def an_answer_that_is_a_fault(here):
                 check(f"fault {number}", asked.result(), (status, "", f"lispd: fault {number}\n"))
 
 
+def with_families(names):
+    """What lets a process make sockets of these families alone, as systemd's RestrictAddressFamilies does: to be given as `preexec_fn`."""
+    calls = SOCKET_CALLS[platform.machine()]
+    load, equal, answer = 0x20, 0x15, 0x06
+    # The call's number; where it makes a socket its family, in the first argument (behind 16 bytes).
+    steps = [(load, 0, 0, 0), (equal, 1, 0, calls[0]), (equal, 0, len(names) + 2, calls[1]), (load, 0, 0, 16)]
+    steps += [(equal, len(names) - at, 0, getattr(socket, name)) for at, name in enumerate(names)]
+    steps += [(answer, 0, 0, 0x50000 | errno.EAFNOSUPPORT), (answer, 0, 0, 0x7FFF0000)]
+    prctl = ctypes.CDLL(None, use_errno=True).prctl
+    prctl.argtypes = (ctypes.c_int, *[ctypes.c_ulong] * 4)
+    no_new_privileges, set_filter, by_rules = 38, 22, 2
+
+    def restrict():
+        rules = ctypes.create_string_buffer(b"".join(struct.pack("=HBBI", *step) for step in steps))
+        table = ctypes.create_string_buffer(struct.pack("@HP", len(steps), ctypes.addressof(rules)))
+        if prctl(no_new_privileges, 1, 0, 0, 0) or prctl(set_filter, by_rules, ctypes.addressof(table), 0, 0):
+            raise OSError(ctypes.get_errno(), "prctl")
+    return restrict
+
+
+def a_node_under_its_unit(here):
+    """It is asked, and told, where sockets are of the families alone that the unit lets it have."""
+    (families,) = re.findall(r"^RestrictAddressFamilies=(.*)$", UNIT.read_text(), re.M)
+    if platform.machine() not in SOCKET_CALLS:
+        return
+    under = {"preexec_fn": with_families(families.split())}
+    try:
+        subprocess.run(["true"], check=True, **under)
+    except subprocess.SubprocessError:
+        print("control.py: no filter of calls can be had here: a node under its unit was not tried")
+        return
+    process = here.start(*here.words("server", "s1"), **under)
+    is_up(here.s1)
+    with peer(here.r1) as it:
+        check("its answer", nonce_in(here.answer(it, map_register(7))), 7)
+    check("it is asked", ran("ask", f"{here.folder}/s1", "counts", **under)[1].startswith("counts s1 accepted 1\n"), True)
+    check("it is told", ran("tell", f"{here.folder}/s1", "notice", "r1", **under)[0], 0)
+    killed(process)
+
+
 def another_user_is_refused(here):
     """Who may not write the folder may not connect."""
     process = up(here, "server", "s1", here.s1)
@@ -252,5 +299,5 @@ def a_killed_process_leaves_its_socket(here):
 
 run_tests([
     *(over(store, test) for store in (FILES, GROUPS) for test in (a_map_server_is_asked, a_map_server_is_told, what_is_counted)),
-    a_router_is_told, wrong_words, an_answer_that_is_a_fault, another_user_is_refused, a_killed_process_leaves_its_socket,
+    a_router_is_told, wrong_words, an_answer_that_is_a_fault, a_node_under_its_unit, another_user_is_refused, a_killed_process_leaves_its_socket,
 ], alone=[clients_that_misbehave, a_client_that_takes_nothing_of_many_rows])
