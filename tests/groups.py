@@ -207,4 +207,5 @@ def told_of_flood(here):
 
 if sys.argv[2:3] == ["flood"]:
     run_tests([told_of_flood], names=[])
-run_tests([a_group_is_answered, a_group_takes_one_sync, a_group_has_no_more, one_address_takes_half, a_group_that_fails], [one_that_floods_starves_none])
+run_tests([a_group_is_answered, a_group_takes_one_sync, a_group_has_no_more, one_address_takes_half, a_group_that_fails],
+          [one_that_floods_starves_none])
