@@ -9,13 +9,14 @@
 # make fuzz     plays schedules that are drawn: COUNT of them from SEED on, over out/lispd
 # make bench    measures the codec, the tag and registrations, also through the library for C programs; and of out/lispd saves on a disk, the
 #               reading of configurations, plays, and a server
-# make install  installs the program (out/lispd), its manual pages, completions, units and a sample, and the library with its header and its
-#               pkg-config file: PREFIX=/usr/local, DESTDIR=
-# make uninstall removes these
-# make dist     packs them as out/lispd-VERSION.tar.gz. GATE=LOG names the log of a `make test`, whose closing lines go with them
+# make install  installs the program (out/lispd), its manual pages, completions, units and a sample: PREFIX=/usr/local, DESTDIR=
+# make install-library installs the library for C programs, with its header and its pkg-config file
+# make uninstall removes what both installed
+# make dist     packs both as out/lispd-VERSION.tar.gz. GATE=LOG names the log of a `make test`, whose closing lines go with them
+# make deb      packs what `make install` installs as a package for Debian, out/lispd_VERSION_ARCHITECTURE.deb, with Debian's tools
 # make believe  counts the definitions that the contracts of `play`, `World::run` and `Server::receive` stand on
 # make clean    removes what was built
-.PHONY: run lispd library demo test quick mutants slips fuzz bench install uninstall dist believe clean
+.PHONY: run lispd library demo test quick mutants slips fuzz bench install install-library uninstall dist deb believe clean
 # Each proof takes all processors, and two at a time would write the same files.
 .NOTPARALLEL:
 
@@ -71,8 +72,10 @@ ROOT = $(DESTDIR)$(PREFIX)
 VERSION := $(shell sed -n 's/.*\.version("\(.*\)").*/\1/p' crates/lispd_cli/src/command_line.rt)
 PAGES = share/man/man1/lispd.1 share/man/man5/lispd.toml.5
 UNITS = lib/systemd/system/lispd-server@.service lib/systemd/system/lispd-router@.service
-COMPLETIONS = share/bash-completion/completions/lispd share/zsh/site-functions/_lispd
-SAMPLE = share/doc/lispd/examples/configuration.toml
+# Where zsh looks for completions; below /usr, where a package of Debian's puts them.
+ZSH = share/zsh/$(if $(filter /usr,$(PREFIX)),vendor-completions,site-functions)/_lispd
+BASH = share/bash-completion/completions/lispd
+SAMPLES = share/doc/lispd/examples/configuration.toml
 FOR_C = lib/liblisp_registration.a include/lisp_registration.h lib/pkgconfig/lisp_registration.pc
 
 # $(call put,FILE,PATH,KIND): installs a file below PREFIX, with the version, PREFIX, the program's folder and the kind of a node filled in.
@@ -86,26 +89,31 @@ out/lispd:
 out/liblisp_registration.a:
 	@tools/library
 
-install: $(PROGRAM) $(LIBRARY)
+install: $(PROGRAM)
 	@install -D -m 755 $(PROGRAM) $(ROOT)/bin/lispd
 	@$(call put,docs/lispd.1,share/man/man1/lispd.1)
 	@$(call put,docs/lispd.toml.5,share/man/man5/lispd.toml.5)
 	@$(call put,packaging/lispd@.service.in,lib/systemd/system/lispd-server@.service,server)
 	@$(call put,packaging/lispd@.service.in,lib/systemd/system/lispd-router@.service,router)
-	@$(call put,examples/configuration.toml,$(SAMPLE))
-	@tools/completions $(PROGRAM) $(ROOT)/share
+	@$(call put,examples/configuration.toml,share/doc/lispd/examples/configuration.toml)
+	@tools/completions $(PROGRAM) $(ROOT)/$(BASH) $(ROOT)/$(ZSH)
+
+install-library: $(LIBRARY)
 	@install -D -m 644 $(LIBRARY) $(ROOT)/lib/liblisp_registration.a
 	@install -D -m 644 include/lisp_registration.h $(ROOT)/include/lisp_registration.h
 	@$(call put,packaging/lisp_registration.pc.in,lib/pkgconfig/lisp_registration.pc)
 
 uninstall:
-	@cd $(ROOT) && rm -f bin/lispd $(PAGES) $(UNITS) $(COMPLETIONS) $(SAMPLE) $(FOR_C)
+	@cd $(ROOT) && rm -f bin/lispd $(PAGES) $(UNITS) $(BASH) $(ZSH) $(SAMPLES) $(FOR_C)
 	@cd $(ROOT)/share && if [ -d doc/lispd ]; then find doc/lispd -type d -empty -delete; fi
 
 dist: $(PROGRAM) $(LIBRARY)
 	@rm -rf out/dist
-	@$(MAKE) -s install DESTDIR=out/dist
+	@$(MAKE) -s install install-library DESTDIR=out/dist
 	@tools/dist out/dist$(PREFIX) $(VERSION) $(GATE)
+
+deb: $(PROGRAM)
+	@tools/deb $(PROGRAM) $(VERSION)
 
 believe:
 	@tools/believe lisp_player::play lisp_world::World::run lisp_server::Server::receive

@@ -1,9 +1,10 @@
 #!/usr/bin/env -S python3 -B
 """packaging.py PROGRAM LIBRARY
-Installs a program and the library for C programs as `make install` does, removes them, and packs them: which files there are, what
-systemd says of the units, what the shells complete, that the manual pages have the program's options and the configuration's fields,
-that a C program finds the library by pkg-config, and that two folders give the same package. Prints each check that fails, and what it
-left out where a tool is missing; ends with 1 where a check fails."""
+Installs a program and the library for C programs as `make install` and `make install-library` do, removes them, and packs them: which
+files there are, what of the units, what the shells complete, that the manual pages have the program's
+options and the configuration's fields, that a C program finds the library by pkg-config, that two folders give the same package, and that
+Debian's tools make, check, install and remove one of theirs. Prints each check that fails, and what it left out where a tool is missing;
+ends with 1 where a check fails."""
 import hashlib
 import os
 import re
@@ -16,17 +17,19 @@ from pathlib import Path
 
 TOP = Path(__file__).resolve().parent.parent
 program, library = map(os.path.abspath, sys.argv[1:])
-MODES = {"bin/lispd": 0o755, **dict.fromkeys((
-    "include/lisp_registration.h", "lib/liblisp_registration.a", "lib/pkgconfig/lisp_registration.pc",
-    "lib/systemd/system/lispd-router@.service", "lib/systemd/system/lispd-server@.service", "share/bash-completion/completions/lispd",
-    "share/doc/lispd/examples/configuration.toml", "share/man/man1/lispd.1", "share/man/man5/lispd.toml.5",
-    "share/zsh/site-functions/_lispd"), 0o644)}
 BASH_COMPLETION, ZSH_COMPLETION = "share/bash-completion/completions/lispd", "share/zsh/site-functions/_lispd"
-HEADER, LIBRARY, FOR_PKG_CONFIG = [it for it in MODES if "lisp_registration" in it]
+OF_PROGRAM = {"bin/lispd": 0o755, **dict.fromkeys((
+    "lib/systemd/system/lispd-router@.service", "lib/systemd/system/lispd-server@.service", BASH_COMPLETION, ZSH_COMPLETION,
+    "share/doc/lispd/examples/configuration.toml", "share/man/man1/lispd.1", "share/man/man5/lispd.toml.5"), 0o644)}
+OF_LIBRARY = dict.fromkeys(("include/lisp_registration.h", "lib/liblisp_registration.a", "lib/pkgconfig/lisp_registration.pc"), 0o644)
+MODES = {**OF_PROGRAM, **OF_LIBRARY}
+HEADER, LIBRARY, FOR_PKG_CONFIG = OF_LIBRARY
 GATE, SUMS = "share/doc/lispd/GATE", "share/doc/lispd/SHA256SUMS"
 UNITS, PAGES = [it for it in MODES if it.endswith(".service")], [it for it in MODES if "/man/" in it]
 # What `make dist` reads of the repository.
 SOURCES = ["Makefile", "crates/lispd_cli/src/command_line.rt", "docs", "examples", "include", "packaging", "tools"]
+# What lintian says of a package without a licence, and of programs that the kit links.
+SAID_BY_LINTIAN = {"W: lispd: copyright-without-copyright-notice"}
 CLOSING_LINES = "rt: ok; handles allowed: Net\ntests: times passed, 44 s\n31 passed, 0 failed\n"
 
 failed = False
@@ -54,10 +57,11 @@ def ran(*words, **how):
     return done.returncode, done.stdout
 
 
-def make(*words, top=TOP, time=None, **how):
-    """Runs make, as if no other make had called it; SOURCE_DATE_EPOCH is the time."""
+def make(*words, top=TOP, time=None, more=(), **how):
+    """Runs make, as if no other make had called it; SOURCE_DATE_EPOCH is the time. More variables of the environment may be given."""
     env = {name: value for name, value in os.environ.items() if not name.startswith("MAKE")}
     env |= {"SOURCE_DATE_EPOCH": time} if time else {}
+    env |= dict(more)
     return ran("make", "-s", "-C", str(top), f"PROGRAM={program}", f"LIBRARY={library}", *words, env=env, **how)
 
 
@@ -81,11 +85,20 @@ def options_in(help_text):
     return {name for names in re.findall(r"^ +(?:(-\w), )?(--[\w-]+)", section, re.M) for name in names if name}
 
 
+def words_in(help_text):
+    """The words of what a node is asked or told, of the lines behind the options."""
+    below = help_text.partition("\nOptions:\n")[2].partition("\nExample")[0]
+    return list(dict.fromkeys(re.findall(r"^  ([a-z]+)\b", below, re.M)))
+
+
 def installs(room):
     to = room / "installed"
-    check("make install", make("install", f"DESTDIR={to}", umask=0o077), (0, ""))
+    # The program needs no library: the one that is named isn't there.
+    check("make install", make("install", f"DESTDIR={to}", f"LIBRARY={room}/none", umask=0o077), (0, ""))
     root = to / "usr/local"
-    check("its files", files_of(to), {f"usr/local/{path}": mode for path, mode in MODES.items()})
+    check("its files", files_of(to), {f"usr/local/{path}": mode for path, mode in OF_PROGRAM.items()})
+    check("make install-library", make("install-library", f"DESTDIR={to}", f"PROGRAM={room}/none", umask=0o077), (0, ""))
+    check("the files of both", files_of(to), {f"usr/local/{path}": mode for path, mode in MODES.items()})
     check("its folders that others can't enter", [str(it) for it in to.rglob("*") if it.is_dir() and it.stat().st_mode & 0o5 != 0o5], [])
     check("the program", (root / "bin/lispd").read_bytes() == Path(program).read_bytes(), True)
     check("the library", (root / LIBRARY).read_bytes() == Path(library).read_bytes(), True)
@@ -132,6 +145,11 @@ def bash_completes(root):
     check("a router behind an option", completed(root, "router", "--store", "nonces", config, "r"), ["r1", "r2"])
     check("all words are there", set(completed(root, "router", config, "r1", "")), options_in(HELPS["router"]))
     check("a number", completed(root, "router", config, "r1", "--turns", ""), [])
+    for name in ("ask", "tell"):
+        check(f"the words of {name}", completed(root, name, "nonces/s1", ""), words_in(HELPS[name]))
+        check(f"the words of {name}, behind an option", completed(root, name, "--words", "nonces/s1", ""), words_in(HELPS[name]))
+        check(f"what stands behind a word of {name}", completed(root, name, "nonces/s1", words_in(HELPS[name])[0], "x"), [])
+    check("a word", completed(root, "ask", "nonces/s1", "ho"), ["hold"])
 
 
 def zsh_has_the_options(root):
@@ -142,6 +160,8 @@ def zsh_has_the_options(root):
     check("the subcommands of zsh", set(cases), {*filter(None, HELPS), "help"})
     for name in filter(None, HELPS):
         check(f"the options of {name} in zsh", set(re.findall(r"(?<=[{,'])--?[a-zA-Z-]+(?=[\[,}])", cases[name])), options_in(HELPS[name]))
+    for name in ("ask", "tell"):
+        check(f"the words of {name} in zsh", re.findall(r"'2:WORD:\((.*)\)'", cases[name]), [" ".join(words_in(HELPS[name]))])
 
 
 def pages_are_well(root):
@@ -197,16 +217,66 @@ def two_folders_give_one_package(room):
         check(f"a log that ends in {text[-20:]!r}", make("dist", f"GATE={log}", top=top)[0], 2)
 
 
+def files_in(package):
+    """The files of a package of Debian's, by their paths: their modes and owners, as dpkg-deb lists them."""
+    lines = [line.split() for line in ran("dpkg-deb", "--contents", str(package))[1].splitlines()]
+    return {path.removeprefix("./"): (mode, owner) for mode, owner, *_, path in lines if mode[0] == "-"}
+
+
+def in_debian(path):
+    """Where Debian has a file that is installed: manual pages are packed, completions of zsh stand elsewhere."""
+    path = path.replace("site-functions", "vendor-completions")
+    return f"usr/{path}.gz" if path in PAGES else f"usr/{path}"
+
+
+def debian_takes_a_package(room):
+    if not is_there("dh", "a package of Debian's was") or not is_there("dpkg-buildpackage", "a package of Debian's was"):
+        return
+    top = copied(room / "debian", 0o022)
+    maintainer = {"DEBFULLNAME": "A Maintainer", "DEBEMAIL": "maintainer@users.example"}
+    status, printed = make("deb", top=top, time="1700000000", more=maintainer)
+    check("make deb", (status, printed.startswith("out/lispd_")), (0, True))
+    if status:
+        return
+    package = top / printed.strip()
+    wanted = {in_debian(path): mode for path, mode in OF_PROGRAM.items()}
+    wanted |= dict.fromkeys(("usr/share/doc/lispd/changelog.gz", "usr/share/doc/lispd/copyright"), 0o644)
+    modes = {0o755: "-rwxr-xr-x", 0o644: "-rw-r--r--"}
+    check("the files of Debian's package", files_in(package), {path: (modes[mode], "root/root") for path, mode in wanted.items()})
+    if is_there("lintian", "what it says of the package was"):
+        printed = ran("lintian", "--allow-root", "--no-cfg", str(package))[1]
+        check("lintian", set(printed.splitlines()), SAID_BY_LINTIAN)
+    if os.geteuid() == 0:
+        installs_in_a_clean_root(room / "root", package, wanted)
+
+
+def installs_in_a_clean_root(root, package, wanted):
+    """dpkg unpacks it where nothing else is, the program runs, and nothing is left once it is removed."""
+    for folder in ("var/lib/dpkg/info", "var/lib/dpkg/updates"):
+        (root / folder).mkdir(parents=True)
+    (root / "var/lib/dpkg/status").touch()
+    dpkg = ("dpkg", f"--root={root}", "--force-depends", "--force-script-chrootless", "--log=/dev/null")
+    status, printed = ran(*dpkg, "--install", str(package))
+    check(f"dpkg --install: {printed}", status, 0)
+    check("what it installs", {path for path in files_of(root) if path.startswith("usr/")}, set(wanted))
+    check("the program of Debian's package", ran(f"{root}/usr/bin/lispd", "--version"), ran(program, "--version"))
+    check("the unit's program", "ExecStart=/usr/bin/lispd " in (root / "usr" / UNITS[0]).read_text(), True)
+    status, printed = ran(*dpkg, "--purge", "lispd")
+    check(f"dpkg --purge: {printed}", status, 0)
+    check("what is left", [path for path in files_of(root) if not path.startswith("var/lib/dpkg/")], [])
+
+
 with tempfile.TemporaryDirectory() as name:
     room = Path(name)
     installs(room)
     # A folder of its own as PREFIX, so that the program is where the units say.
     root = room / "prefix"
-    check("make install PREFIX", make("install", f"PREFIX={root}"), (0, ""))
+    check("make install PREFIX", make("install", "install-library", f"PREFIX={root}"), (0, ""))
     units_are_well(root)
     bash_completes(root)
     zsh_has_the_options(root)
     pages_are_well(root)
     c_programs_find_the_library(room, root)
     two_folders_give_one_package(room)
+    debian_takes_a_package(room)
 sys.exit(1 if failed else 0)
