@@ -104,7 +104,7 @@ install-library: $(LIBRARY)
 	@$(call put,packaging/lisp_registration.pc.in,lib/pkgconfig/lisp_registration.pc)
 
 uninstall:
-	@cd $(ROOT) && rm -f bin/lispd $(PAGES) $(UNITS) $(BASH) $(ZSH) $(SAMPLES) $(FOR_C)
+	@cd $(ROOT) && rm -f bin/lispd $(PAGES) $(PAGES:=.gz) $(UNITS) $(BASH) $(ZSH) $(SAMPLES) $(FOR_C)
 	@cd $(ROOT)/share && if [ -d doc/lispd ]; then find doc/lispd -type d -empty -delete; fi
 
 dist: $(PROGRAM) $(LIBRARY)

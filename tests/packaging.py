@@ -5,6 +5,7 @@ files there are, what of the units, what the shells complete, that the manual pa
 options and the configuration's fields, that a C program finds the library by pkg-config, that two folders give the same package, and that
 Debian's tools make, check, install and remove one of theirs. Prints each check that fails, and what it left out where a tool is missing;
 ends with 1 where a check fails."""
+import gzip
 import hashlib
 import os
 import re
@@ -192,7 +193,7 @@ def copied(to, umask):
     return to
 
 
-def two_folders_give_one_package(room):
+def two_folders_give_one_package(room, root):
     log, packages = room / "gate.log", []
     log.write_text(f"rt: ok; an older run\n1 passed, 0 failed\nproved\n{CLOSING_LINES}")
     for number, umask in enumerate((0o022, 0o077)):
@@ -207,10 +208,13 @@ def two_folders_give_one_package(room):
     with tarfile.open(packages[0]) as tar:
         held = {it.name: (it.mode, tar.extractfile(it).read()) for it in tar}
     front = f"lispd-{version}/"
+    packed = {f"{path}.gz" if path in PAGES else path: mode for path, mode in MODES.items()}
     check("its files", {name: mode for name, (mode, _) in held.items()},
-          {front + path: mode for path, mode in {**MODES, GATE: 0o644, SUMS: 0o644}.items()})
+          {front + path: mode for path, mode in {**packed, GATE: 0o644, SUMS: 0o644}.items()})
+    for path in PAGES:
+        check(f"{path} is packed", gzip.decompress(held[f"{front}{path}.gz"][1]), (root / path).read_bytes())
     sums = dict(reversed(line.split("  ")) for line in held[front + SUMS][1].decode().splitlines())
-    check("its sums", sums, {path: hashlib.sha256(held[front + path][1]).hexdigest() for path in [*MODES, GATE]})
+    check("its sums", sums, {path: hashlib.sha256(held[front + path][1]).hexdigest() for path in [*packed, GATE]})
     check("the gate's closing lines", held[front + GATE][1].decode(), CLOSING_LINES)
     for text in ("", "31 passed, 1 failed\n", CLOSING_LINES.replace(" 0 failed", " 1 failed"), f"{CLOSING_LINES}answers.txt: a case\nmake: *** [Makefile:28: test] Error 1\n"):
         log.write_text(text)
@@ -277,6 +281,6 @@ with tempfile.TemporaryDirectory() as name:
     zsh_has_the_options(root)
     pages_are_well(root)
     c_programs_find_the_library(room, root)
-    two_folders_give_one_package(room)
+    two_folders_give_one_package(room, root)
     debian_takes_a_package(room)
 sys.exit(1 if failed else 0)
