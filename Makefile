@@ -1,4 +1,4 @@
-# make run      answers a sample Map-Register, proved or not: two to three minutes on a fresh machine
+# make run      answers a sample Map-Register, proved or not: about a minute on a fresh machine, where it compiles out/lispd-unproved
 # make lispd    proves the program and builds it as out/lispd
 # make library  proves the library for C programs and builds it as out/liblisp_registration.a
 # make demo     a Map-Server and two routers on loopback, of which the Map-Server is killed and comes back: some seconds

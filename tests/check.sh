@@ -31,6 +31,7 @@ stage folders ./folders.py "$program"
 stage times ./timing.py "$program"
 stage addresses ./addresses.py "$program"
 stage output ./output.py "$program"
+stage 'a first answer' ./first_answer.py "$program"
 stage captures ./capture.py "$program"
 stage 'the library is built' ../tools/library --over-gate
 stage 'the library' ./library.py $library
