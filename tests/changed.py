@@ -50,7 +50,7 @@ script = [
     ("deliver 3", "counted r1 s1 key 1 nonce 2"),
 ]
 
-text = (EXAMPLES / "configuration.toml").read_text() + "\n---\n" + "".join(f"{command}\n" for command, _ in script)
+text = (EXAMPLES / "worked.toml").read_text() + "\n---\n" + "".join(f"{command}\n" for command, _ in script)
 done = subprocess.run([sys.argv[1], "play", "-"], input=text, capture_output=True, text=True, timeout=60, check=False)
 lines = iter(done.stdout.splitlines())
 failed = (done.returncode, done.stderr) != (0, "")

@@ -21,7 +21,7 @@ HEADER, REGISTER, NOTIFY = TOP / "include/lisp_registration.h", TOP / "examples/
 CLEAN = ["-std=c99", "-Wall", "-Wextra", "-pedantic", "-Werror", f"-I{TOP}/include"]
 WRAP = [f"-Wl,--wrap={name}" for name in ("malloc", "realloc", "free")]
 SANITIZERS = ["-fsanitize=address,undefined", "-fno-sanitize-recover=all"]
-CONFIGURATION = TOP / "examples/configuration.toml"
+CONFIGURATION = TOP / "examples/worked.toml"
 LIMIT = 60
 # How long no answer is waited for, and how long one is, in seconds.
 SILENCE, ANSWER = 0.15, 5

@@ -18,7 +18,7 @@ from pathlib import Path
 
 HERE = os.path.dirname(os.path.abspath(__file__))
 EXAMPLES = os.path.dirname(HERE) + "/examples"
-CONFIG = f"{EXAMPLES}/configuration.toml"
+CONFIG = f"{EXAMPLES}/worked.toml"
 MAP_NOTIFY = bytes.fromhex(Path(f"{EXAMPLES}/map-notify.hex").read_text())
 PORT = 4342
 # How long a test waits for what has to come, in seconds.

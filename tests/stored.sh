@@ -5,6 +5,7 @@
 program=$(realpath -e "$1") || exit 1
 cd "$(dirname "$0")" && mkdir -p ../out || exit 1
 configuration=../examples/configuration.toml
+worked=../examples/worked.toml
 exchange=../examples/schedules/01-exchange
 runs=0
 failed=0
@@ -87,12 +88,12 @@ for schedule in ../examples/schedules/*.schedule ../examples/attacks/*.schedule 
     plays "$schedule"
 done
 
-# Each line of refused.txt, in a schedule of the configuration.
+# Each line of refused.txt, in a schedule of the worked configuration.
 while IFS='|' read -r part fault text; do
     case $part in
         '#'* | '') continue ;;
-        script) cat $configuration && printf -- '---\n%b\n' "$text" ;;
-        configuration) sed "$text" $configuration && echo --- ;;
+        script) cat $worked && printf -- '---\n%b\n' "$text" ;;
+        configuration) sed "$text" $worked && echo --- ;;
         whole) printf '%b' "$text" ;;
     esac > ../out/schedule
     expect "refused.txt: $text" 2 '' "lispd: fault $fault" play ../out/schedule

@@ -60,7 +60,7 @@ fn a_router_that_is_not_there() {
     let (mut seen, mut buffer) = (lisp_seen::default(), [0xee; LISP_MESSAGE_ROOM]);
     let (handle, room) = (&mut router as *mut lisp_router, buffer.len());
     let bytes = buffer.as_mut_ptr();
-    let text = include_bytes!("../../../configuration.toml");
+    let text = include_bytes!("../../../worked.toml");
     // SAFETY: the pointers are of locals and of their first items, of which there are so many as is said; `handle` holds none.
     let numbers = unsafe {
         [

@@ -18,7 +18,7 @@
 //! # fn load(_pair: &Pair) -> std::io::Result<Option<u64>> { Ok(None) }
 //! # fn save(_pair: &Pair, _nonce: u64) -> std::io::Result<()> { Ok(()) }
 //! # fn send(_to: IpAddr, _datagram: &[u8]) {}
-//! # let configuration = include_str!("../../../configuration.toml");
+//! # let configuration = include_str!("../../../worked.toml");
 //! # let now_ms = 0;
 //!
 //! let pair = pair(configuration, "r1")?;

@@ -1,4 +1,4 @@
-//! Notices of a Map-Server over `examples/configuration.toml`: made, sent again, acknowledged, and each error once, but those of no
+//! Notices of a Map-Server over `examples/worked.toml`: made, sent again, acknowledged, and each error once, but those of no
 //! memory, which `out_of_memory` has.
 #![allow(missing_docs)]
 

@@ -1,4 +1,4 @@
-//! A router of `examples/configuration.toml`: what it sends and when, what it takes, and each error once, but those of no memory,
+//! A router of `examples/worked.toml`: what it sends and when, what it takes, and each error once, but those of no memory,
 //! which `out_of_memory` has.
 #![allow(missing_docs)]
 

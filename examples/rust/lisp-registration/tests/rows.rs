@@ -1,4 +1,4 @@
-//! The rows of a Map-Server over `examples/configuration.toml`, who answers by them, and how they die.
+//! The rows of a Map-Server over `examples/worked.toml`, who answers by them, and how they die.
 #![allow(missing_docs)]
 
 mod common;

@@ -1,4 +1,4 @@
-//! A Map-Server over `examples/configuration.toml`: the worked exchange, replays, starting again, and each error once, but those
+//! A Map-Server over `examples/worked.toml`: the worked exchange, replays, starting again, and each error once, but those
 //! of no memory, which `out_of_memory` has.
 #![allow(missing_docs)]
 

@@ -7,7 +7,7 @@ use std::net::IpAddr;
 
 pub const SECRET: &[u8] = b"secret";
 
-pub const CONFIGURATION: &str = include_str!("../../../../configuration.toml");
+pub const CONFIGURATION: &str = include_str!("../../../../worked.toml");
 
 /// The first router of the configuration.
 pub const ROUTER: RouterId = RouterId { site: 1, xtr: 10_u128.to_be_bytes() };
