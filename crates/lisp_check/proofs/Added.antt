@@ -1,9 +1,9 @@
 -- What lists of warnings gain.
-use Rattle.std.proofs.Common.{◌≡◌, ◌∙◌, ◌≢◌, ◌<◌, ◌≤◌, ◌+◌, ℕ, zero, suc, Bool, true, false, not, nat_eq, List, [], ◌∷◌, ◌++◌, map, inl, inr, arith, subst, sym, ap, refl, append-nil, append_assoc}
+use Rattle.std.proofs.Common.{◌≡◌, ◌∙◌, ◌≢◌, ◌<◌, ◌≤◌, ◌+◌, ℕ, zero, suc, Bool, true, false, not, nat_eq, List, [], ◌∷◌, ◌++◌, map, Option, Some, None, inl, inr, arith, subst, sym, ap, refl, append-nil, append_assoc}
 use Rattle.std.proofs.lemmas.Bool.Decides.{Decides-eqb}
 use Rattle.std.proofs.lemmas.List.{flat_map_more, map_push}
 use Rattle.std.proofs.Math.Nat.{eq-or-lt_of_le}
-use Rattle.std.specs.Prelude.{◌↔◌, IsTrue, Result, Ok, Err, OnOk}
+use Rattle.std.specs.Prelude.{◌↔◌, IsTrue, Result, Ok, Err, OnOk, unwrap_or}
 use Rattle.std.specs.List.{flat_map, range_with_len}
 use Rattle.lisp_policy.specs.Configuration.{ConfigValue}
 use Rattle.lisp_check.specs.declared.warning.Warning.{Warning}
@@ -54,6 +54,19 @@ module _ (P : Warning → Type 0) where
             let is_first = (is first other).0 refl in
             those_alone 0 count first (omega arith) (omega (arith, within first is_first)) ((means first).1 (other, is_first))
             (λ k apart given. let (away, found) = (means k).0 given in apart (sym ((is k away).1 found)))
+
+    -- the first of a kind where it was looked for, and where there is none
+    pub those_found : (IsFirst : ℕ → Type 0) (count first : ℕ) → ((k : ℕ) → (Some first ≡ Some k) ↔ IsFirst k) → (IsFirst first → first < count)
+        → ((k : ℕ) → P (make k) ↔ IsFirst k) → AreThose P (map make (range_with_len 0 count)) (make first ∷ [])
+    those_found IsFirst count first finds within means =
+        let is_first = (finds first).0 refl in
+        those_alone 0 count first (omega arith) (omega (arith, within is_first)) ((means first).1 is_first)
+        (λ k apart given. apart (sym (ap (λ (o : Option ℕ). unwrap_or o 0) ((finds k).1 ((means k).0 given)))))
+
+    pub those_missing : (IsFirst : ℕ → Type 0) (count : ℕ) → ((k : ℕ) → (◌≡◌ {A = Option ℕ} None (Some k)) ↔ IsFirst k)
+        → ((k : ℕ) → P (make k) ↔ IsFirst k) → AreThose P (map make (range_with_len 0 count)) []
+    those_missing IsFirst count finds means =
+        those_none 0 count (λ k low given. absurd (let clash : ◌≡◌ {A = Option ℕ} None (Some k) = (finds k).1 ((means k).0 given) in cc))
 
 -- numbers, and one more
 one_more : (a n : ℕ) → range_with_len a (suc n) ≡ range_with_len a n ++ (a + n) ∷ []

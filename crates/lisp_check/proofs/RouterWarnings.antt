@@ -1,7 +1,7 @@
 -- The warnings of one router.
 use Rattle.std.proofs.Common.{◌≡◌, ◌≢◌, ◌<◌, ◌+◌, ℕ, Bool, not, nat_eq, List, [], ◌∷◌, ◌++◌, Option, Some, None, length, map, get_or, take, subst, sym, ap, ◌∙◌}
 use Rattle.std.specs.Prelude.{◌↔◌, IsTrue, IsSomeAnd, slice_get}
-use Rattle.std.specs.List.{Contains, range_with_len}
+use Rattle.std.specs.List.{Contains, range_with_len, position}
 use Rattle.std.proofs.Math.Seq.{take-length}
 use Rattle.std.proofs.lemmas.Option.{slice_get_within}
 use Rattle.std.proofs.lemmas.List.{take_more}
@@ -10,10 +10,10 @@ use Rattle.std.proofs.lemmas.List.Quantifiers.{position-Some}
 use Rattle.lisp_records.specs.Router.{router_eq}
 use Rattle.lisp_policy.specs.Configuration.{ConfigValue, RouterEntryValue}
 use Rattle.lisp_check.specs.declared.warning.Warning.{Warning}
-use Rattle.lisp_check.specs.declared.warning.Warning.TheVariants.{SameIdentity, NotAllowed, OtherFamily}
-use Rattle.lisp_check.specs.Warning.{IsWarned, IsFirstRouter, IsFirstTwin, IsRefused, IsOfOtherFamily, of_records, of_servers, of_router}
+use Rattle.lisp_check.specs.declared.warning.Warning.TheVariants.{SameIdentity, NotAllowed, OtherFamily, SameKey, NoServers}
+use Rattle.lisp_check.specs.Warning.{IsWarned, IsFirstRouter, IsFirstTwin, IsFirstSharer, IsRefused, IsOfOtherFamily, same_key, of_records, of_servers, of_entry, of_sharing, of_router}
 use Rattle.lisp_check.specs.Adding.{AddsThose, given_if}
-use Rattle.lisp_check.proofs.Added.{adds_none, adds_both, adds_next, numbers_more, those_first}
+use Rattle.lisp_check.proofs.Added.{adds_none, adds_both, adds_if, adds_next, numbers_more, those_first}
 
 -- what holds of what stands at a place holds of it
 pub at_place : {X : Type 0} (o : Option X) (x : X) (P : X → Type 0) → o ≡ Some x → P x ↔ IsSomeAnd o P
@@ -67,16 +67,33 @@ pub first_within : (routers : List RouterEntryValue) (o : Option RouterEntryValu
 first_within routers (Some r) k is_first = (position-Some (λ x. router_eq x.me r.me) routers k r is_first).0
 first_within routers None k is_first = absurd is_first
 
--- a router's identity, records and Map-Servers
+pub sharer_within : (routers : List RouterEntryValue) (o : Option RouterEntryValue) (k : ℕ) → IsSomeAnd o (λ r. position (same_key r) routers ≡ Some k) → k < length routers
+sharer_within routers (Some r) k is_first = (position-Some (same_key r) routers k r is_first).0
+sharer_within routers None k is_first = absurd is_first
+
+-- a router's key, and that it has no Map-Servers
+pub adds_sharing : (c : ConfigValue) (router first : ℕ) → ((k : ℕ) → k ≢ router → (first ≡ k) ↔ IsFirstSharer c.routers router k)
+    → (a b d : List Warning) (none : Bool) → (IsTrue none ↔ IsWarned c (NoServers router)) → b ≡ a ++ given_if (not (nat_eq first router)) (SameKey first router)
+    → d ≡ b ++ given_if none (NoServers router) → AddsThose c (of_sharing (length c.routers) router) a d
+adds_sharing c router first is_first a b d none no_servers one other =
+    adds_both c (map (λ k. SameKey k router) (range_with_len 0 (length c.routers))) (NoServers router ∷ []) a b d (
+      given_if (not (nat_eq first router)) (SameKey first router),
+      one,
+      those_first (IsWarned c) (λ k. SameKey k router) (IsFirstSharer c.routers router) (length c.routers) router first is_first (λ k. sharer_within c.routers (slice_get c.routers router) k) (λ k. ((λ w. w), (λ w. w))),
+    ) (adds_if c (NoServers router) b d none no_servers other)
+
+-- a router's identity, records and Map-Servers, and what is behind them
 pub adds_router : (c : ConfigValue) (router first : ℕ) → ((k : ℕ) → k ≢ router → (first ≡ k) ↔ IsFirstTwin c.routers router k)
-    → (a b d e : List Warning) → b ≡ a ++ given_if (not (nat_eq first router)) (SameIdentity first router)
-    → AddsThose c (of_records router (slice_get c.routers router)) b d → AddsThose c (of_servers router (slice_get c.routers router)) d e → AddsThose c (of_router c.routers router) a e
-adds_router c router first is_first a b d e one records servers =
+    → (a b d e f : List Warning) → b ≡ a ++ given_if (not (nat_eq first router)) (SameIdentity first router)
+    → AddsThose c (of_records router (slice_get c.routers router)) b d → AddsThose c (of_servers router (slice_get c.routers router)) d e
+    → AddsThose c (of_sharing (length c.routers) router) e f → AddsThose c (of_router c.routers router) a f
+adds_router c router first is_first a b d e f one records servers sharing =
     let identities : List Warning = map (λ k. SameIdentity k router) (range_with_len 0 (length c.routers)) in
+    adds_both c (of_entry c.routers router) (of_sharing (length c.routers) router) a e f (
     adds_both c (identities ++ of_records router (slice_get c.routers router)) (of_servers router (slice_get c.routers router)) a d e
     (adds_both c identities (of_records router (slice_get c.routers router)) a b d (
       given_if (not (nat_eq first router)) (SameIdentity first router),
       one,
       those_first (IsWarned c) (λ k. SameIdentity k router) (IsFirstTwin c.routers router) (length c.routers) router first is_first (λ k. first_within c.routers (slice_get c.routers router) k) (λ k. ((λ w. w), (λ w. w))),
     ) records)
-    servers
+    servers) sharing

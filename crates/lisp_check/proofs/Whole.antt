@@ -1,19 +1,21 @@
 -- All warnings of a configuration.
 use Rattle.std.proofs.Common.{◌≡◌, ◌<◌, ◌≤◌, ◌+◌, ℕ, zero, suc, Bool, List, [], ◌∷◌, ◌++◌, length, map, Option, Some, None, inl, inr, subst, sym, ap, refl, ◌∙◌, arith}
 use Rattle.std.specs.Prelude.{◌↔◌, IsTrue, IsSomeAnd, slice_get}
-use Rattle.std.specs.List.{Contains, flat_map, range_with_len}
+use Rattle.std.specs.List.{Contains, flat_map, range_with_len, position}
 use Rattle.std.proofs.Math.Nat.{eq-or-lt_of_le}
 use Rattle.std.proofs.lemmas.List.Elements.{Contains-append_left, Contains-append_right}
 use Rattle.lisp_records.specs.declared.address.Addr.{Addr}
+use Rattle.lisp_policy.specs.Site.{SiteValue}
 use Rattle.lisp_policy.specs.Configuration.{ConfigValue, RouterEntryValue}
 use Rattle.lisp_model.specs.Trace.{addresses}
 use Rattle.lisp_check.specs.declared.warning.Warning.{Warning}
-use Rattle.lisp_check.specs.declared.warning.Warning.TheVariants.{NoNodes, NoKeys, NoPrefixes, NoUnicast, SameAddress, SameIdentity, NotAllowed, OtherFamily}
-use Rattle.lisp_check.specs.Warning.{IsWarned, IsFirstAt, IsFirstRouter, IsRefused, HasOtherFamily, is_no_unicast, AreThose, of_site, of_node, of_records, of_servers, of_router, of_each, of_all}
+use Rattle.lisp_check.specs.declared.warning.Warning.TheVariants.{NoNodes, NoKeys, NoPrefixes, SamePrefix, Inside, NoUnicast, SameAddress, SameIdentity, NotAllowed, OtherFamily, SameKey, NoServers}
+use Rattle.lisp_check.specs.Warning.{IsWarned, IsFirstAt, IsFirstRouter, IsFirstWith, IsFirstAround, IsFirstWithPrefix, IsFirstAroundPrefix, IsRefused, HasOtherFamily, is_no_unicast, same_key, AreThose, of_site, of_prefix, of_prefixes, of_around, of_node, of_records, of_servers, of_entry, of_sharing, of_router, of_each, of_all}
 use Rattle.lisp_check.specs.Adding.{AddsThose, AddsOfAddresses, given_if}
 use Rattle.lisp_check.proofs.Added.{adds_both, adds_if}
 use Rattle.lisp_check.proofs.AddressWarnings.{first_within}
-use Rattle.lisp_check.proofs.RouterWarnings.{inside, first_within as twin_within}
+use Rattle.lisp_check.proofs.RouterWarnings.{inside, first_within as twin_within, sharer_within}
+use Rattle.lisp_check.proofs.SiteWarnings.{stands, first_within as prefix_within, around_within}
 
 -- an element of a list's end
 behind : {X : Type 0} (x w : X) (xs : List X) → Contains xs w → Contains (x ∷ xs) w
@@ -64,7 +66,7 @@ in_map make (y ∷ xs) x (suc k, within, is) = behind (make y) (make x) (map mak
 -- each that a configuration has is one that it could have
 module _ (c : ConfigValue) where
   abbrev sites_could : List Warning
-  sites_could = of_each of_site (length c.sites)
+  sites_could = of_each (of_site c.sites) (length c.sites)
 
   abbrev nodes_could : List Warning
   nodes_could = of_each (of_node (length (addresses c))) (length (addresses c))
@@ -75,9 +77,9 @@ module _ (c : ConfigValue) where
   abbrev identities_could : ℕ → List Warning
   identities_could router = map (λ k. SameIdentity k router) (range_with_len 0 (length c.routers))
 
-  in_sites : (site : ℕ) (w : Warning) → site < length c.sites → Contains (of_site site) w → Contains (of_all c) w
+  in_sites : (site : ℕ) (w : Warning) → site < length c.sites → Contains (of_site c.sites site) w → Contains (of_all c) w
   in_sites site w low held = behind NoNodes w ((sites_could ++ nodes_could) ++ routers_could) (
-      Contains-append_left (sites_could ++ nodes_could) routers_could w (Contains-append_left sites_could nodes_could w (in_each of_site w (length c.sites) site low held)))
+      Contains-append_left (sites_could ++ nodes_could) routers_could w (Contains-append_left sites_could nodes_could w (in_each (of_site c.sites) w (length c.sites) site low held)))
 
   in_nodes : (node : ℕ) (w : Warning) → node < length (addresses c) → Contains (of_node (length (addresses c)) node) w → Contains (of_all c) w
   in_nodes node w low held = behind NoNodes w ((sites_could ++ nodes_could) ++ routers_could) (
@@ -86,6 +88,22 @@ module _ (c : ConfigValue) where
   in_routers : (router : ℕ) (w : Warning) → router < length c.routers → Contains (of_router c.routers router) w → Contains (of_all c) w
   in_routers router w low held = behind NoNodes w ((sites_could ++ nodes_could) ++ routers_could) (
       Contains-append_right (sites_could ++ nodes_could) routers_could w (in_each (of_router c.routers) w (length c.routers) router low held))
+
+  in_prefixes : (site place : ℕ) (o : Option SiteValue) (w : Warning) → IsSomeAnd o (λ s. place < length s.prefixes) → Contains (of_prefix (length c.sites) site place) w
+      → Contains (of_prefixes (length c.sites) site o) w
+  in_prefixes site place (Some s) w low held = in_each (of_prefix (length c.sites) site) w (length s.prefixes) place low held
+  in_prefixes site place None w low held = absurd low
+
+  in_site : (site : ℕ) (w : Warning) → site < length c.sites → Contains (of_prefixes (length c.sites) site (slice_get c.sites site)) w → Contains (of_all c) w
+  in_site site w low held =
+      in_sites site w low (behind (NoKeys site) w (NoPrefixes site ∷ of_prefixes (length c.sites) site (slice_get c.sites site))
+      (behind (NoPrefixes site) w (of_prefixes (length c.sites) site (slice_get c.sites site)) held))
+
+  in_entry : (router : ℕ) (w : Warning) → router < length c.routers → Contains (of_entry c.routers router) w → Contains (of_all c) w
+  in_entry router w low held = in_routers router w low (Contains-append_left (of_entry c.routers router) (of_sharing (length c.routers) router) w held)
+
+  in_sharing : (router : ℕ) (w : Warning) → router < length c.routers → Contains (of_sharing (length c.routers) router) w → Contains (of_all c) w
+  in_sharing router w low held = in_routers router w low (Contains-append_right (of_entry c.routers router) (of_sharing (length c.routers) router) w held)
 
   in_records : (router place : ℕ) (o : Option RouterEntryValue) → IsSomeAnd o (λ r. IsRefused c.sites r place) → Contains (of_records router o) (NotAllowed router place)
   in_records router place (Some r) refused = in_numbers (λ k. NotAllowed router k) 0 (length r.database) place (omega arith) (let low = inside r.database place _ (slice_get r.database place) refl refused in omega (arith, low))
@@ -99,6 +117,18 @@ module _ (c : ConfigValue) where
   could NoNodes warned = (0, omega arith, refl)
   could (NoKeys site) warned = in_sites site (NoKeys site) (inside c.sites site (λ s. s.keys ≡ []) (slice_get c.sites site) refl warned) (0, omega arith, refl)
   could (NoPrefixes site) warned = in_sites site (NoPrefixes site) (inside c.sites site (λ s. s.prefixes ≡ []) (slice_get c.sites site) refl warned) (1, omega arith, refl)
+  could (SamePrefix first site place) warned =
+      let low = prefix_within c.sites site place first warned.1 in
+      in_site site (SamePrefix first site place) (inside c.sites site (λ s. IsFirstWithPrefix c.sites s place first) (slice_get c.sites site) refl warned.1)
+      (in_prefixes site place (slice_get c.sites site) (SamePrefix first site place) (stands place (λ s p. IsFirstWith c.sites p.eid first) (slice_get c.sites site) warned.1) (
+      Contains-append_left (map (λ k. SamePrefix k site place) (range_with_len 0 (length c.sites))) (of_around (length c.sites) site place) (SamePrefix first site place)
+      (in_numbers (λ k. SamePrefix k site place) 0 (length c.sites) first (omega arith) (omega (arith, low)))))
+  could (Inside around site place) warned =
+      let low = around_within c.sites site place around warned in
+      in_site site (Inside around site place) (inside c.sites site (λ s. IsFirstAroundPrefix c.sites s place around) (slice_get c.sites site) refl warned)
+      (in_prefixes site place (slice_get c.sites site) (Inside around site place) (stands place (λ s p. IsFirstAround c.sites s.id p.eid around) (slice_get c.sites site) warned) (
+      Contains-append_right (map (λ k. SamePrefix k site place) (range_with_len 0 (length c.sites))) (of_around (length c.sites) site place) (Inside around site place)
+      (in_numbers (λ k. Inside k site place) 0 (length c.sites) around (omega arith) (omega (arith, low)))))
   could (NoUnicast node) warned = in_nodes node (NoUnicast node) (inside (addresses c) node (λ x. IsTrue (is_no_unicast x)) (slice_get (addresses c) node) refl warned) (0, omega arith, refl)
   could (SameAddress first node) warned =
       let low = first_within (addresses c) (slice_get (addresses c) node) first warned.1 in
@@ -106,23 +136,31 @@ module _ (c : ConfigValue) where
       (behind (NoUnicast node) (SameAddress first node) _ (in_numbers (λ k. SameAddress k node) 0 (length (addresses c)) first (omega arith) (omega (arith, low))))
   could (SameIdentity first router) warned =
       let low = twin_within c.routers (slice_get c.routers router) first warned.1 in
-      in_routers router (SameIdentity first router) (inside c.routers router (λ r. IsFirstRouter c.routers r first) (slice_get c.routers router) refl warned.1) (
+      in_entry router (SameIdentity first router) (inside c.routers router (λ r. IsFirstRouter c.routers r first) (slice_get c.routers router) refl warned.1) (
       Contains-append_left (identities_could router ++ of_records router (slice_get c.routers router)) (of_servers router (slice_get c.routers router)) (SameIdentity first router) (
       Contains-append_left (identities_could router) (of_records router (slice_get c.routers router)) (SameIdentity first router) (
       in_numbers (λ k. SameIdentity k router) 0 (length c.routers) first (omega arith) (omega (arith, low)))))
   could (NotAllowed router place) warned =
-      in_routers router (NotAllowed router place) (inside c.routers router (λ r. IsRefused c.sites r place) (slice_get c.routers router) refl warned) (
+      in_entry router (NotAllowed router place) (inside c.routers router (λ r. IsRefused c.sites r place) (slice_get c.routers router) refl warned) (
       Contains-append_left (identities_could router ++ of_records router (slice_get c.routers router)) (of_servers router (slice_get c.routers router)) (NotAllowed router place) (
       Contains-append_right (identities_could router) (of_records router (slice_get c.routers router)) (NotAllowed router place) (in_records router place (slice_get c.routers router) warned)))
   could (OtherFamily router server) warned =
-      in_routers router (OtherFamily router server) (inside c.routers router (λ r. HasOtherFamily c.servers r server) (slice_get c.routers router) refl warned) (
+      in_entry router (OtherFamily router server) (inside c.routers router (λ r. HasOtherFamily c.servers r server) (slice_get c.routers router) refl warned) (
       Contains-append_right (identities_could router ++ of_records router (slice_get c.routers router)) (of_servers router (slice_get c.routers router)) (OtherFamily router server) (in_servers router server (slice_get c.routers router) warned))
+  could (SameKey first router) warned =
+      let low = sharer_within c.routers (slice_get c.routers router) first warned.1 in
+      in_sharing router (SameKey first router) (inside c.routers router (λ r. position (same_key r) c.routers ≡ Some first) (slice_get c.routers router) refl warned.1) (
+      Contains-append_left (map (λ k. SameKey k router) (range_with_len 0 (length c.routers))) (NoServers router ∷ []) (SameKey first router) (
+      in_numbers (λ k. SameKey k router) 0 (length c.routers) first (omega arith) (omega (arith, low))))
+  could (NoServers router) warned =
+      in_sharing router (NoServers router) (inside c.routers router (λ r. r.servers ≡ []) (slice_get c.routers router) refl warned) (
+      Contains-append_right (map (λ k. SameKey k router) (range_with_len 0 (length c.routers))) (NoServers router ∷ []) (NoServers router) (0, omega arith, refl))
 
 -- what was added to no warning, part by part
 module _ (c : ConfigValue) (addrs : List Addr) (same : addrs ≡ addresses c) (a b d e : List Warning) (none : Bool)
     (no_nodes : IsTrue none ↔ (addrs ≡ []))
     (network : a ≡ given_if none NoNodes)
-    (sites : AddsThose c (of_each of_site (length c.sites)) a b)
+    (sites : AddsThose c (of_each (of_site c.sites) (length c.sites)) a b)
     (nodes : AddsOfAddresses addrs (of_each (of_node (length addrs)) (length addrs)) b d)
     (routers : AddsThose c (of_each (of_router c.routers) (length c.routers)) d e)
   where

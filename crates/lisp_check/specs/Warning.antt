@@ -1,16 +1,17 @@
 -- What in a configuration may not be meant, though it can be read.
-use Rattle.std.specs.Prelude.{◌≡◌, ◌≢◌, ◌⊎◌, ℕ, ◌==◌, Bool, ◌||◌, List, [], ◌∷◌, ◌++◌, length, map, IsTrue, IsSomeAnd, slice_get, slice_index, position, Option, Some, None}
-use Rattle.std.specs.List.{Contains, list_all, flat_map, range_with_len}
+use Rattle.std.specs.Prelude.{◌≡◌, ◌≢◌, ◌⊎◌, ℕ, ◌==◌, Bool, not, ◌&&◌, ◌||◌, List, [], ◌∷◌, ◌++◌, length, map, IsTrue, IsSomeAnd, slice_get, slice_index, position, Option, Some, None}
+use Rattle.std.specs.List.{Contains, list_all, list_any, flat_map, range_with_len}
 use Rattle.std.specs.Int.{is_in_range}
 use Rattle.lisp_records.specs.declared.address.Addr.{Addr}
 use Rattle.lisp_records.specs.declared.address.Addr.TheVariants.{V4, V6}
-use Rattle.lisp_records.specs.Address.{PrefixValue, addr_eq, family}
+use Rattle.lisp_records.specs.Address.{PrefixValue, addr_eq, prefix_eq, covers, family}
 use Rattle.lisp_records.specs.Router.{router_eq}
+use Rattle.lisp_policy.specs.declared.site.SitePrefix.{SitePrefix}
 use Rattle.lisp_policy.specs.Site.{SiteValue, Allowed, site_of}
 use Rattle.lisp_policy.specs.Configuration.{ConfigValue, ServerEntryValue, RouterEntryValue}
 use Rattle.lisp_model.specs.Trace.{addresses}
 use Rattle.lisp_check.specs.declared.warning.Warning.{Warning}
-use Rattle.lisp_check.specs.declared.warning.Warning.TheVariants.{NoNodes, NoKeys, NoPrefixes, NoUnicast, SameAddress, SameIdentity, NotAllowed, OtherFamily}
+use Rattle.lisp_check.specs.declared.warning.Warning.TheVariants.{NoNodes, NoKeys, NoPrefixes, SamePrefix, Inside, NoUnicast, SameAddress, SameIdentity, NotAllowed, OtherFamily, SameKey, NoServers}
 
 -- an address that no node has: unspecified (all zero), broadcast, or multicast (224.0.0.0/4, ff00::/8)
 abbrev pub is_no_unicast : Addr → Bool
@@ -51,20 +52,77 @@ IsOfOtherFamily servers router place = IsSomeAnd (slice_get servers place) (λ s
 abbrev pub HasOtherFamily : List ServerEntryValue → RouterEntryValue → ℕ → Type 0
 HasOtherFamily servers router place = Contains router.servers place × IsOfOtherFamily servers router place
 
+-- the first site that has a prefix
+abbrev pub has_prefix : PrefixValue → SiteValue → Bool
+has_prefix eid s = list_any (λ p. prefix_eq p.eid eid) s.prefixes
+
+abbrev pub IsFirstWith : List SiteValue → PrefixValue → ℕ → Type 0
+IsFirstWith sites eid place = position (has_prefix eid) sites ≡ Some place
+
+-- a prefix with more-specifics around another one
+abbrev pub is_around : PrefixValue → SitePrefix → Bool
+is_around eid p = p.more_specifics && covers p.eid eid && not (prefix_eq p.eid eid)
+
+-- the first site but one of a Site-ID that has one around a prefix
+abbrev pub has_around : ℕ → PrefixValue → SiteValue → Bool
+has_around id eid s = not (s.id == id) && list_any (is_around eid) s.prefixes
+
+abbrev pub IsFirstAround : List SiteValue → ℕ → PrefixValue → ℕ → Type 0
+IsFirstAround sites id eid place = position (has_around id eid) sites ≡ Some place
+
+-- of the prefix of a site, by their places: the first site that has it, and the first other one that has one around it
+abbrev pub IsFirstWithPrefix : List SiteValue → SiteValue → ℕ → ℕ → Type 0
+IsFirstWithPrefix sites s place first = IsSomeAnd (slice_get s.prefixes place) (λ p. IsFirstWith sites p.eid first)
+
+abbrev pub IsFirstWithThat : List SiteValue → ℕ → ℕ → ℕ → Type 0
+IsFirstWithThat sites site place first = IsSomeAnd (slice_get sites site) (λ s. IsFirstWithPrefix sites s place first)
+
+abbrev pub IsFirstAroundPrefix : List SiteValue → SiteValue → ℕ → ℕ → Type 0
+IsFirstAroundPrefix sites s place first = IsSomeAnd (slice_get s.prefixes place) (λ p. IsFirstAround sites s.id p.eid first)
+
+abbrev pub IsFirstAroundThat : List SiteValue → ℕ → ℕ → ℕ → Type 0
+IsFirstAroundThat sites site place first = IsSomeAnd (slice_get sites site) (λ s. IsFirstAroundPrefix sites s place first)
+
+-- the first router of a router's site that uses its key
+abbrev pub same_key : RouterEntryValue → RouterEntryValue → Bool
+same_key router other = (other.me.site == router.me.site) && (other.key_id == router.key_id)
+
+abbrev pub IsFirstSharer : List RouterEntryValue → ℕ → ℕ → Type 0
+IsFirstSharer routers router first = IsSomeAnd (slice_get routers router) (λ r. position (same_key r) routers ≡ Some first)
+
 -- when a configuration has a warning; nodes are numbered as in a network, Map-Servers first
 abbrev pub IsWarned : ConfigValue → Warning → Type 0
 IsWarned c NoNodes = addresses c ≡ []
 IsWarned c (NoKeys site) = IsSomeAnd (slice_get c.sites site) (λ s. s.keys ≡ [])
 IsWarned c (NoPrefixes site) = IsSomeAnd (slice_get c.sites site) (λ s. s.prefixes ≡ [])
+IsWarned c (SamePrefix first site place) = (first ≢ site) × IsFirstWithThat c.sites site place first
+IsWarned c (Inside around site place) = IsFirstAroundThat c.sites site place around
 IsWarned c (NoUnicast node) = HasNoUnicast (addresses c) node
 IsWarned c (SameAddress first node) = (first ≢ node) × IsFirstAlike (addresses c) node first
 IsWarned c (SameIdentity first router) = (first ≢ router) × IsFirstTwin c.routers router first
 IsWarned c (NotAllowed router place) = IsSomeAnd (slice_get c.routers router) (λ r. IsRefused c.sites r place)
 IsWarned c (OtherFamily router server) = IsSomeAnd (slice_get c.routers router) (λ r. HasOtherFamily c.servers r server)
+IsWarned c (SameKey first router) = (first ≢ router) × IsFirstSharer c.routers router first
+IsWarned c (NoServers router) = IsSomeAnd (slice_get c.routers router) (λ r. r.servers ≡ [])
 
--- what could be warned of a site; of a node among so many; of a router's records, of its Map-Servers, and of a router
-abbrev pub of_site : ℕ → List Warning
-of_site place = NoKeys place ∷ NoPrefixes place ∷ []
+-- of so many places all that could be warned of
+abbrev pub of_each : (ℕ → List Warning) → ℕ → List Warning
+of_each of count = flat_map of (range_with_len 0 count)
+
+-- what could be warned of a prefix among so many sites, of a site's prefixes, and of a site; of a node among so many; of a
+-- router's records, of its Map-Servers, and of a router
+abbrev pub of_around : ℕ → ℕ → ℕ → List Warning
+of_around count site place = map (λ around. Inside around site place) (range_with_len 0 count)
+
+abbrev pub of_prefix : ℕ → ℕ → ℕ → List Warning
+of_prefix count site place = map (λ first. SamePrefix first site place) (range_with_len 0 count) ++ of_around count site place
+
+abbrev pub of_prefixes : ℕ → ℕ → Option SiteValue → List Warning
+of_prefixes count site (Some s) = of_each (of_prefix count site) (length s.prefixes)
+of_prefixes count site None = []
+
+abbrev pub of_site : List SiteValue → ℕ → List Warning
+of_site sites place = NoKeys place ∷ NoPrefixes place ∷ of_prefixes (length sites) place (slice_get sites place)
 
 abbrev pub of_node : ℕ → ℕ → List Warning
 of_node count place = NoUnicast place ∷ map (λ first. SameAddress first place) (range_with_len 0 count)
@@ -77,16 +135,19 @@ abbrev pub of_servers : ℕ → Option RouterEntryValue → List Warning
 of_servers place (Some r) = map (λ server. OtherFamily place server) r.servers
 of_servers place None = []
 
-abbrev pub of_router : List RouterEntryValue → ℕ → List Warning
-of_router routers place =
+abbrev pub of_entry : List RouterEntryValue → ℕ → List Warning
+of_entry routers place =
     map (λ first. SameIdentity first place) (range_with_len 0 (length routers)) ++ of_records place (slice_get routers place) ++ of_servers place (slice_get routers place)
 
--- of so many places all; of all sites, of the nodes with these addresses, and of all routers
-abbrev pub of_each : (ℕ → List Warning) → ℕ → List Warning
-of_each of count = flat_map of (range_with_len 0 count)
+abbrev pub of_sharing : ℕ → ℕ → List Warning
+of_sharing count place = map (λ first. SameKey first place) (range_with_len 0 count) ++ NoServers place ∷ []
 
+abbrev pub of_router : List RouterEntryValue → ℕ → List Warning
+of_router routers place = of_entry routers place ++ of_sharing (length routers) place
+
+-- of all sites, of the nodes with these addresses, and of all routers
 abbrev pub of_sites : ConfigValue → List Warning
-of_sites c = of_each of_site (length c.sites)
+of_sites c = of_each (of_site c.sites) (length c.sites)
 
 abbrev pub of_nodes : List Addr → List Warning
 of_nodes addrs = of_each (of_node (length addrs)) (length addrs)

@@ -3,9 +3,11 @@ use Rattle.std.specs.Prelude.{◌≡◌, ℕ, ◌+◌, ◌-◌, ◌^◌, false, 
 use Rattle.std.specs.Fmt.{decimal, digits, padded_integral, format_spec}
 use Rattle.lisp_records.specs.Record.{MapRecordValue}
 use Rattle.lisp_texts.specs.Written.{addr_text, prefix_text}
+use Rattle.lisp_policy.specs.declared.site.SitePrefix.{SitePrefix}
+use Rattle.lisp_policy.specs.Site.{SiteValue}
 use Rattle.lisp_policy.specs.Configuration.{ConfigValue, ServerEntryValue, RouterEntryValue}
 use Rattle.lisp_check.specs.declared.warning.Warning.{Warning}
-use Rattle.lisp_check.specs.declared.warning.Warning.TheVariants.{NoNodes, NoKeys, NoPrefixes, NoUnicast, SameAddress, SameIdentity, NotAllowed, OtherFamily}
+use Rattle.lisp_check.specs.declared.warning.Warning.TheVariants.{NoNodes, NoKeys, NoPrefixes, SamePrefix, Inside, NoUnicast, SameAddress, SameIdentity, NotAllowed, OtherFamily, SameKey, NoServers}
 
 -- at Ok a text is these words
 abbrev pub GivesText : {E Z : Type 0} → Result (String Z) E → List ℕ → Type 0
@@ -17,6 +19,18 @@ site_words place = codes "site " ++ decimal (min (place + 1) (2 ^ 64 - 1))
 
 abbrev pub site_id_words : ℕ → List ℕ
 site_id_words id = padded_integral (format_spec 32 0 4 16 (2 ^ 64 - 1)) false [] (digits 16 false id)
+
+-- a prefix of a site, both counted from 1, and its text
+abbrev pub prefix_number_words : ℕ → ℕ → List ℕ
+prefix_number_words site place = site_words site ++ (codes ", prefix " ++ decimal (min (place + 1) (2 ^ 64 - 1)))
+
+abbrev pub listed_words : Option SitePrefix → List ℕ
+listed_words (Some p) = prefix_text p.eid
+listed_words None = []
+
+abbrev pub site_prefix_words : Option SiteValue → ℕ → List ℕ
+site_prefix_words (Some s) place = listed_words (slice_get s.prefixes place)
+site_prefix_words None place = []
 
 -- what a node is, by its number: Map-Servers are counted first; and the names of routers and nodes
 abbrev pub kind_words : Option ServerEntryValue → List ℕ
@@ -74,7 +88,7 @@ same_identity_words name first =
 
 abbrev pub not_allowed_words : List ℕ → List ℕ → List ℕ → List ℕ
 not_allowed_words name eid site =
-    codes "router " ++ (name ++ (codes ": record " ++ (eid ++ (codes " is no prefix of site " ++ (site ++ codes ": a Map-Server refuses it (55)")))))
+    codes "router " ++ (name ++ (codes ": record " ++ (eid ++ (codes " is no prefix of site " ++ (site ++ codes ": a Map-Server refuses the whole Map-Register, all its records (55)")))))
 
 abbrev pub other_family_words : List ℕ → List ℕ → List ℕ → List ℕ
 other_family_words name kind server =
@@ -85,7 +99,19 @@ abbrev pub no_keys_words : List ℕ → List ℕ
 no_keys_words site = site ++ codes ": no keys: no router of it can register"
 
 abbrev pub no_prefixes_words : List ℕ → List ℕ
-no_prefixes_words site = site ++ codes ": no prefixes: a Map-Server refuses each record (55)"
+no_prefixes_words site = site ++ codes ": no prefixes: a Map-Server refuses each Map-Register with records (55)"
+
+abbrev pub same_prefix_words : List ℕ → List ℕ → List ℕ → List ℕ
+same_prefix_words entry eid first = entry ++ (codes ": " ++ (eid ++ (codes " is a prefix of " ++ (first ++ codes " too: routers of both can register it"))))
+
+abbrev pub inside_words : List ℕ → List ℕ → List ℕ → List ℕ
+inside_words entry eid around = entry ++ (codes ": " ++ (eid ++ (codes " lies inside a prefix of " ++ (around ++ codes " that has more_specifics: routers of both can register it"))))
+
+abbrev pub same_key_words : List ℕ → List ℕ → List ℕ
+same_key_words name first = codes "router " ++ (name ++ (codes ": key is that of router " ++ (first ++ codes " too: each can register as the other")))
+
+abbrev pub no_servers_words : List ℕ → List ℕ
+no_servers_words name = codes "router " ++ (name ++ codes ": no Map-Servers: it registers nowhere")
 
 -- and of a configuration
 abbrev pub no_unicast_text : ConfigValue → ℕ → List ℕ
@@ -106,12 +132,28 @@ abbrev pub other_family_text : ConfigValue → ℕ → ℕ → List ℕ
 other_family_text c router server =
     other_family_words (router_words (slice_get c.routers router)) (kind_words (slice_get c.servers server)) (node_words c server)
 
+abbrev pub same_prefix_text : ConfigValue → ℕ → ℕ → ℕ → List ℕ
+same_prefix_text c first site place = same_prefix_words (prefix_number_words site place) (site_prefix_words (slice_get c.sites site) place) (site_words first)
+
+abbrev pub inside_text : ConfigValue → ℕ → ℕ → ℕ → List ℕ
+inside_text c around site place = inside_words (prefix_number_words site place) (site_prefix_words (slice_get c.sites site) place) (site_words around)
+
+abbrev pub same_key_text : ConfigValue → ℕ → ℕ → List ℕ
+same_key_text c first router = same_key_words (router_words (slice_get c.routers router)) (router_words (slice_get c.routers first))
+
+abbrev pub no_servers_text : ConfigValue → ℕ → List ℕ
+no_servers_text c router = no_servers_words (router_words (slice_get c.routers router))
+
 abbrev pub warning_text : ConfigValue → Warning → List ℕ
 warning_text c NoNodes = codes "no server and no router"
 warning_text c (NoKeys site) = no_keys_words (site_words site)
 warning_text c (NoPrefixes site) = no_prefixes_words (site_words site)
+warning_text c (SamePrefix first site place) = same_prefix_text c first site place
+warning_text c (Inside around site place) = inside_text c around site place
 warning_text c (NoUnicast node) = no_unicast_text c node
 warning_text c (SameAddress first node) = same_address_text c first node
 warning_text c (SameIdentity first router) = same_identity_text c first router
 warning_text c (NotAllowed router place) = not_allowed_text c router place
 warning_text c (OtherFamily router server) = other_family_text c router server
+warning_text c (SameKey first router) = same_key_text c first router
+warning_text c (NoServers router) = no_servers_text c router

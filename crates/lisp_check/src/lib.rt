@@ -12,6 +12,7 @@ mod nearest;
 mod note;
 mod place;
 mod position;
+mod prefixes;
 mod routers;
 mod sites;
 mod warning;

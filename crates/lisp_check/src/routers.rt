@@ -3,7 +3,8 @@
 ghost use Rattle.std.specs.Prelude.{◌≡◌, ◌↔◌, length, IsTrue, OnErr, slice_get, position};
 ghost use Rattle.std.specs.Option.{option_map};
 ghost use Rattle.lisp_records.specs.Router.{router_eq};
-ghost use Rattle.lisp_check.specs.Warning.{IsFirstTwin, MayRegister, IsRefused, IsOfOtherFamily, of_router, of_records, of_servers, of_routers};
+ghost use Rattle.lisp_check.specs.Warning.{IsWarned, IsFirstTwin, IsFirstSharer, MayRegister, IsRefused, IsOfOtherFamily, same_key, of_router, of_records, of_servers, of_sharing, of_routers};
+ghost use Rattle.lisp_check.specs.declared.warning.Warning.TheVariants.{NoServers};
 ghost use Rattle.lisp_check.specs.Adding.{AddsWarned, NamesFirst};
 
 use crate::adding::warn_if;
@@ -44,7 +45,64 @@ fn warn_of_router<M: Memory, A: Allocator>(
         Warning::SameIdentity { first, router },
     )?;
     warn_of_records(warnings, config, router)?;
-    warn_of_servers(warnings, config, router)
+    warn_of_servers(warnings, config, router)?;
+    warn_of_sharing(warnings, config, router)
+}
+
+// Adds that a router has the key of another one, and that it has no Map-Servers.
+fn warn_of_sharing<M: Memory, A: Allocator>(
+    warnings: &mut Vec<Warning, M>,
+    config: &Config<A>,
+    router: usize,
+) -> Result<(), AllocError>
+    ensures added { AddsWarned result warnings.old warnings.new config.now (of_sharing (length config.now.routers) router) }
+    ensures memory { OnErr result M.may_refuse }
+{
+    let first = first_sharer(config, router);
+    warn_if(
+        warnings,
+        first != router,
+        Warning::SameKey { first, router },
+    )?;
+    warn_if(
+        warnings,
+        has_no_servers(config, router),
+        Warning::NoServers { router },
+    )
+}
+
+// The first router that uses the key of this one; this one, where there is none.
+fn first_sharer<A: Allocator>(config: &Config<A>, router: usize) -> usize
+    ensures { NamesFirst (IsFirstSharer config.now.routers router) router result }
+{
+    match router_at(config, router) {
+        Some(entry) => first_with_key(config, entry).unwrap_or(router),
+        None => router,
+    }
+}
+
+fn first_with_key<A: Allocator>(config: &Config<A>, router: &RouterEntry<A>) -> Option<usize>
+    ensures { result ≡ position (same_key router.now) config.now.routers }
+{
+    config
+        .routers()
+        .iter()
+        .position(|other| has_same_key(router, other))
+}
+
+fn has_same_key<A: Allocator>(router: &RouterEntry<A>, other: &RouterEntry<A>) -> bool
+    ensures { result ≡ same_key router.now other.now }
+{
+    other.me.site == router.me.site && other.key_id == router.key_id
+}
+
+fn has_no_servers<A: Allocator>(config: &Config<A>, router: usize) -> bool
+    ensures { IsTrue result ↔ IsWarned config.now (NoServers router) }
+{
+    match router_at(config, router) {
+        Some(entry) => servers_of(entry).is_empty(),
+        None => false,
+    }
 }
 
 // The first router with the identity of this one; this one, where there is none.

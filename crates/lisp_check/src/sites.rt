@@ -7,6 +7,7 @@ ghost use Rattle.lisp_check.specs.declared.warning.Warning.TheVariants.{NoKeys, 
 
 use crate::adding::warn_if;
 use crate::place::at;
+use crate::prefixes::warn_of_prefixes;
 use crate::warning::Warning;
 use lisp_memory::Memory;
 use lisp_sites::Config;
@@ -31,7 +32,7 @@ fn warn_of_site<M: Memory, A: Allocator>(
     config: &Config<A>,
     site: usize,
 ) -> Result<(), AllocError>
-    ensures added { AddsWarned result warnings.old warnings.new config.now (of_site site) }
+    ensures added { AddsWarned result warnings.old warnings.new config.now (of_site config.now.sites site) }
     ensures memory { OnErr result M.may_refuse }
 {
     warn_if(
@@ -43,7 +44,8 @@ fn warn_of_site<M: Memory, A: Allocator>(
         warnings,
         has_no_prefixes(config, site),
         Warning::NoPrefixes { site },
-    )
+    )?;
+    warn_of_prefixes(warnings, config, site)
 }
 
 fn has_no_keys<A: Allocator>(config: &Config<A>, site: usize) -> bool

@@ -7,17 +7,56 @@ pub enum Warning {
     /// There are no Map-Servers and no routers.
     NoNodes,
     /// The site has no keys: none of its routers can register.
-    NoKeys { site: usize },
+    NoKeys {
+        site: usize,
+    },
     /// The site has no prefixes: nothing can be registered.
-    NoPrefixes { site: usize },
+    NoPrefixes {
+        site: usize,
+    },
+    /// A prefix of the site is that of an earlier site too, the first that has it.
+    SamePrefix {
+        first: usize,
+        site: usize,
+        prefix: usize,
+    },
+    /// A prefix of the site lies inside one of another site that has more-specifics, the first such site.
+    Inside {
+        around: usize,
+        site: usize,
+        prefix: usize,
+    },
     /// The node's address is unspecified, multicast or broadcast.
-    NoUnicast { node: usize },
+    NoUnicast {
+        node: usize,
+    },
     /// The node has the address of an earlier one, the first that has it.
-    SameAddress { first: usize, node: usize },
+    SameAddress {
+        first: usize,
+        node: usize,
+    },
     /// The router has the Site-ID and xTR-ID of an earlier one, the first that has them.
-    SameIdentity { first: usize, router: usize },
-    /// No prefix of the router's site allows the record: a Map-Server refuses it (55).
-    NotAllowed { router: usize, record: usize },
+    SameIdentity {
+        first: usize,
+        router: usize,
+    },
+    /// No prefix of the router's site allows the record: a Map-Server refuses the whole Map-Register (55).
+    NotAllowed {
+        router: usize,
+        record: usize,
+    },
     /// The router and its Map-Server are of different address families.
-    OtherFamily { router: usize, server: usize },
+    OtherFamily {
+        router: usize,
+        server: usize,
+    },
+    /// The router uses the key of an earlier router of its site, the first that uses it.
+    SameKey {
+        first: usize,
+        router: usize,
+    },
+    /// The router has no Map-Servers.
+    NoServers {
+        router: usize,
+    },
 }

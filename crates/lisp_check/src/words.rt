@@ -1,10 +1,11 @@
 //! Warnings in words.
 
 ghost use Rattle.std.specs.Prelude.{◌≡◌, slice_get, Some};
-ghost use Rattle.lisp_check.specs.Words.{GivesText, no_keys_words, no_prefixes_words, site_words, site_id_words, kind_words, node_words, router_words, addressed, site_id_of, eid_words, no_unicast_text, same_address_text, same_identity_text, not_allowed_text, other_family_text, warning_text};
+ghost use Rattle.lisp_check.specs.Words.{GivesText, no_keys_words, no_prefixes_words, site_words, prefix_number_words, site_prefix_words, same_prefix_text, inside_text, same_key_text, no_servers_text, site_id_words, kind_words, node_words, router_words, addressed, site_id_of, eid_words, no_unicast_text, same_address_text, same_identity_text, not_allowed_text, other_family_text, warning_text};
 
 use crate::warning::Warning;
 use lisp_memory::FallibleString;
+use lisp_policy::Site;
 use lisp_sites::{Config, RouterEntry, addr_to_text, prefix_to_text};
 use std::alloc::{AllocError, Global};
 use std::fmt::{self, Display, Formatter, Write};
@@ -22,6 +23,24 @@ impl Display for SiteNumber {
     fn fmt<W: Write>(&self, formatter: &mut Formatter<W>) -> fmt::Result {
         let number = self.place.saturating_add(1);
         write!(formatter, "site {number}")
+    }
+}
+
+/// A prefix of a site, by their places.
+#[derive(Drop)]
+struct PrefixNumber {
+    site: usize,
+    prefix: usize,
+}
+
+impl Display for PrefixNumber {
+    ghost output = { λ p. Some (prefix_number_words p.site p.prefix) };
+
+    // Prefixes are counted from 1, too.
+    fn fmt<W: Write>(&self, formatter: &mut Formatter<W>) -> fmt::Result {
+        let site = SiteNumber { place: self.site };
+        let number = self.prefix.saturating_add(1);
+        write!(formatter, "{site}, prefix {number}")
     }
 }
 
@@ -48,11 +67,23 @@ pub fn warning_line(alloc: Global, config: &Config, warning: Warning) -> Result<
         Warning::NoNodes => String::try_from_str(alloc, "no server and no router"),
         Warning::NoKeys { site } => no_keys(alloc, site),
         Warning::NoPrefixes { site } => no_prefixes(alloc, site),
+        Warning::SamePrefix {
+            first,
+            site,
+            prefix,
+        } => same_prefix(alloc, config, first, site, prefix),
+        Warning::Inside {
+            around,
+            site,
+            prefix,
+        } => inside(alloc, config, around, site, prefix),
         Warning::NoUnicast { node } => no_unicast(alloc, config, node),
         Warning::SameAddress { first, node } => same_address(alloc, config, first, node),
         Warning::SameIdentity { first, router } => same_identity(alloc, config, first, router),
         Warning::NotAllowed { router, record } => not_allowed(alloc, config, router, record),
         Warning::OtherFamily { router, server } => other_family(alloc, config, router, server),
+        Warning::SameKey { first, router } => same_key(alloc, config, first, router),
+        Warning::NoServers { router } => no_servers(alloc, config, router),
     }
 }
 
@@ -72,8 +103,72 @@ fn no_prefixes(alloc: Global, place: usize) -> Result<String, AllocError>
     let site = SiteNumber { place };
     String::try_format(
         alloc,
-        format_args!("{site}: no prefixes: a Map-Server refuses each record (55)"),
+        format_args!(
+            "{site}: no prefixes: a Map-Server refuses each Map-Register with records (55)"
+        ),
     )
+}
+
+fn same_prefix(
+    alloc: Global,
+    config: &Config,
+    first: usize,
+    site: usize,
+    prefix: usize,
+) -> Result<String, AllocError>
+    ensures { GivesText result (same_prefix_text config.now first site prefix) }
+{
+    let entry = PrefixNumber { site, prefix };
+    let first = SiteNumber { place: first };
+    let eid = site_prefix(alloc, config, site, prefix)?;
+    String::try_format(
+        alloc,
+        format_args!("{entry}: {eid} is a prefix of {first} too: routers of both can register it"),
+    )
+}
+
+fn inside(
+    alloc: Global,
+    config: &Config,
+    around: usize,
+    site: usize,
+    prefix: usize,
+) -> Result<String, AllocError>
+    ensures { GivesText result (inside_text config.now around site prefix) }
+{
+    let entry = PrefixNumber { site, prefix };
+    let around = SiteNumber { place: around };
+    let eid = site_prefix(alloc, config, site, prefix)?;
+    String::try_format(
+        alloc,
+        format_args!(
+            "{entry}: {eid} lies inside a prefix of {around} that has more_specifics: routers of both can register it"
+        ),
+    )
+}
+
+// A prefix of a site.
+fn site_prefix(
+    alloc: Global,
+    config: &Config,
+    site: usize,
+    prefix: usize,
+) -> Result<String, AllocError>
+    ensures { GivesText result (site_prefix_words (slice_get config.now.sites site) prefix) }
+{
+    match config.sites().as_slice().get(site) {
+        Some(site) => listed(alloc, site, prefix),
+        None => String::try_from_str(alloc, ""),
+    }
+}
+
+fn listed(alloc: Global, site: &Site, place: usize) -> Result<String, AllocError>
+    ensures { GivesText result (site_prefix_words (Some site.now) place) }
+{
+    match site.prefixes().get(place) {
+        Some(prefix) => prefix_to_text(alloc, &prefix.eid),
+        None => String::try_from_str(alloc, ""),
+    }
 }
 
 fn no_unicast(alloc: Global, config: &Config, node: usize) -> Result<String, AllocError>
@@ -140,7 +235,7 @@ fn not_allowed(
     String::try_format(
         alloc,
         format_args!(
-            "router {name}: record {eid} is no prefix of site {site}: a Map-Server refuses it (55)"
+            "router {name}: record {eid} is no prefix of site {site}: a Map-Server refuses the whole Map-Register, all its records (55)"
         ),
     )
 }
@@ -160,6 +255,34 @@ fn other_family(
         format_args!(
             "router {name}: address is of another family than that of {kind} {server}: neither reaches the other (91)"
         ),
+    )
+}
+
+fn same_key(
+    alloc: Global,
+    config: &Config,
+    first: usize,
+    router: usize,
+) -> Result<String, AllocError>
+    ensures { GivesText result (same_key_text config.now first router) }
+{
+    let name = router_name(config, router);
+    let first = router_name(config, first);
+    String::try_format(
+        alloc,
+        format_args!(
+            "router {name}: key is that of router {first} too: each can register as the other"
+        ),
+    )
+}
+
+fn no_servers(alloc: Global, config: &Config, router: usize) -> Result<String, AllocError>
+    ensures { GivesText result (no_servers_text config.now router) }
+{
+    let name = router_name(config, router);
+    String::try_format(
+        alloc,
+        format_args!("router {name}: no Map-Servers: it registers nowhere"),
     )
 }
 

@@ -4,4 +4,4 @@ use Rattle.lisp_check.proofs.sites.warn_of_sites.Given as goal
 
 -- the warnings of the sites so far were added
 abbrev pub invariant-loop-place : goal.invariant-loop-place
-invariant-loop-place g l = AddsThose l.config (of_each of_site l.place) l.fn.warnings.items l.warnings.items
+invariant-loop-place g l = AddsThose l.config (of_each (of_site l.config.sites) l.place) l.fn.warnings.items l.warnings.items
