@@ -3,10 +3,15 @@
 
 Draws schedules: those that have their picture beside them, as each of examples/ does; and some that a picture has to bear: 10,000 commands,
 comments with markup and control characters, more nodes than a text has room for. Looks at each picture as a document of XML, and at
-each text for its width. Prints what is wrong, and ends with 1 where something is."""
+each text for its width. Looks at the pixels of one that rsvg-convert renders, where it is installed. Prints what is wrong, and ends with
+1 where something is."""
+import re
+import shutil
+import struct
 import subprocess
 import sys
 import xml.etree.ElementTree as ElementTree
+import zlib
 from pathlib import Path
 
 HERE = Path(__file__).resolve().parent
@@ -14,6 +19,7 @@ EXAMPLES = HERE.parent / "examples"
 LIMIT = 60
 SVG = "{http://www.w3.org/2000/svg}"
 SHAPES = {SVG + tag for tag in ("svg", "title", "style", "defs", "marker", "path", "circle", "rect", "text", "line", "use", "g")}
+DRAWN = {SVG + tag for tag in ("path", "circle", "rect", "text", "line")}
 MOST_BYTES = 2_100_000
 MOST_CHARACTERS = 100
 
@@ -54,8 +60,20 @@ def looks_at_image(name, text):
     elements = root.findall(SVG + "g")
     check(f"{name}, numbers", [it.get("id") for it in elements], [f"e{number + 1}" for number in range(len(elements))])
     check(f"{name}, lines", [it.find(SVG + "title").text for it in elements], lines_of(text))
+    looks_at_colours(name, done.stdout.decode(), root)
     check(f"{name}, references", b"http" in done.stdout.replace(b'xmlns="http://www.w3.org/2000/svg"', b""), False)
     return done.stdout, root
+
+
+def looks_at_colours(name, drawn, root):
+    """Each shape has its colour as an attribute, for viewers that know no style; and its class another on a dark screen, and in print."""
+    check(f"{name}, variables", "var(" in drawn, False)
+    shapes = [it for it in root.iter() if it.tag in DRAWN]
+    check(f"{name}, shapes without a colour", [it.attrib for it in shapes if not {"fill", "stroke"} & set(it.attrib)], [])
+    dark, print_ = root.find(SVG + "style").text.split("@media")[1:]
+    for media in (dark, print_):
+        known = set(re.findall(r"\.(\w+)(?=[,{])", media))
+        check(f"{name}, classes that {media.split('{')[0]} doesn't know", {it.get("class") for it in shapes} - known, set())
 
 
 def looks_at_text(name, text):
@@ -77,6 +95,63 @@ def pictures_are_those_beside():
         looks_at_text(schedule.name, schedule.read_text())
         check(f"the picture of {schedule.name}", drawn == schedule.with_suffix(".svg").read_bytes(), True)
     check("some pictures", len(found) > 20, True)
+
+
+def what_a_viewer_shows():
+    """The pixels of a picture: a white ground, blue arrows, and a red sign where one is refused, with its style and without."""
+    if not shutil.which("rsvg-convert"):
+        print("rsvg-convert isn't here: no picture was rendered")
+        return
+    image = (EXAMPLES / "schedules" / "02-replay.svg").read_text()
+    for name, shown in (("a picture", image), ("one without its style", re.sub(r"(?s)<style>.*</style>", "", image))):
+        root = ElementTree.fromstring(shown)
+        rendered = subprocess.run(["rsvg-convert"], input=shown.encode(), capture_output=True, timeout=LIMIT, check=True)
+        rows = pixels(rendered.stdout)
+        check(f"{name}, its size", (len(rows[0]), len(rows)), (int(root.get("width")), int(root.get("height"))))
+        check(f"{name}, its ground", rows[3][3], (0xFF, 0xFF, 0xFF))
+        for arrow in (it for it in root.iter(SVG + "line") if it.get("class") == "arrow"):
+            x, y = ((int(arrow.get(f"{axis}1")) + int(arrow.get(f"{axis}2"))) // 2 for axis in "xy")
+            check(f"{name}, an arrow", has_colour(rows, x, y, (0x09, 0x69, 0xDA)), True)
+        refused = [it for it in root.iter(SVG + "use") if it.get("href") == "#refused"]
+        check(f"{name}, a refusal", [has_colour(rows, int(it.get("x")), int(it.get("y")), (0xCF, 0x22, 0x2E)) for it in refused], [True])
+
+
+def has_colour(rows, x, y, colour):
+    """Whether a pixel there, or beside it, has nearly this colour."""
+    near = [rows[y + down][x + right] for down in (-1, 0, 1) for right in (-1, 0, 1)]
+    return any(all(abs(found - wanted) < 48 for found, wanted in zip(pixel, colour)) for pixel in near)
+
+
+def pixels(png):
+    """The rows of a PNG of 8 bits, with an alpha channel or without, each a list of red, green and blue."""
+    place, data, width, height, size_of_pixel = 8, b"", 0, 0, 0
+    while place < len(png):
+        size, kind = struct.unpack(">I4s", png[place:place + 8])
+        chunk = png[place + 8:place + 8 + size]
+        if kind == b"IHDR":
+            width, height, depth, colours = struct.unpack(">IIBB", chunk[:10])
+            size_of_pixel = {(8, 2): 3, (8, 6): 4}[depth, colours]
+        elif kind == b"IDAT":
+            data += chunk
+        place += size + 12
+    length = size_of_pixel * width
+    data, above, rows = zlib.decompress(data), bytearray(length), []
+    for row in range(height):
+        start = row * (length + 1)
+        above = unfiltered(data[start], bytearray(data[start + 1:start + 1 + length]), above, size_of_pixel)
+        rows.append([tuple(above[at:at + 3]) for at in range(0, length, size_of_pixel)])
+    return rows
+
+
+def unfiltered(kind, row, above, size_of_pixel):
+    """A row of a PNG without its filter (PNG specification, section 9)."""
+    for at, byte in enumerate(row):
+        left, corner = (row[at - size_of_pixel], above[at - size_of_pixel]) if at >= size_of_pixel else (0, 0)
+        up = above[at]
+        guess = left + up - corner
+        nearest = min((abs(guess - left), 0, left), (abs(guess - up), 1, up), (abs(guess - corner), 2, corner))[2]
+        row[at] = (byte + (0, left, up, (left + up) // 2, nearest)[kind]) % 256
+    return row
 
 
 def ten_thousand_commands():
@@ -156,7 +231,7 @@ def configuration():
     return "".join(line for line in lines if not line.startswith("#"))
 
 
-for test in (pictures_are_those_beside, ten_thousand_commands, strange_comments, many_nodes, what_is_told_of_stores, titles,
+for test in (pictures_are_those_beside, what_a_viewer_shows, ten_thousand_commands, strange_comments, many_nodes, what_is_told_of_stores, titles,
              where_a_map_notify_goes, faults):
     test()
 if failed:

@@ -30,12 +30,12 @@ view_text width height = (codes " viewBox=\"0 0 " ++ decimal width) ++ (codes " 
 
 -- what a picture begins with
 abbrev pub head_text : ℕ → ℕ → List ℕ
-head_text width height = codes "<svg xmlns=\"http://www.w3.org/2000/svg\" role=\"img\"" ++ size_text width height ++ view_text width height ++ codes ">\n<title>"
+head_text width height = codes "<svg xmlns=\"http://www.w3.org/2000/svg\" role=\"img\" font-family=\"system-ui,sans-serif\" font-size=\"13\" xml:space=\"preserve\"" ++ size_text width height ++ view_text width height ++ codes ">\n<title>"
 
 -- a picture: its title, its style, a frame of shapes, and the elements of its events
 abbrev pub picture_text : {A : Type 0} → ℕ → ℕ → List ℕ → List (Shape A) → (ℕ → List (Shape A)) → List (List ℕ) → List ℕ
 picture_text width height title frame shapes texts =
-    head_text width height ++ escaped title ++ codes "</title>\n" ++ STYLE.now ++ codes "<rect class=\"sheet\" width=\"100%\" height=\"100%\"/>\n"
+    head_text width height ++ escaped title ++ codes "</title>\n" ++ STYLE.now ++ codes "<rect class=\"sheet\" fill=\"#fff\" width=\"100%\" height=\"100%\"/>\n"
     ++ flat_map shape_text frame ++ codes "\n" ++ elements_text shapes 0 texts ++ codes "</svg>\n"
 
 -- the text is a picture with this title of events that these lines tell

@@ -1,10 +1,13 @@
 //! How shapes look.
 
-/// How a shape looks, by the style of a picture.
+ghost use Rattle.std.specs.Prelude.{◌≡◌};
+ghost use Rattle.lisp_picture.specs.Markup.{look_text};
+
+use crate::look;
+
+/// How a shape looks.
 #[derive(Clone, Copy, Debug)]
 pub(crate) enum Class {
-    /// The sheet.
-    Sheet,
     /// The box of a node's name.
     Head,
     /// The line of a node.
@@ -40,26 +43,28 @@ pub(crate) enum Class {
 }
 
 impl Class {
-    /// The name of the class in the document.
-    pub(crate) const fn name(self) -> &'static str {
+    /// The attributes that make a shape look so: its class, and its colours and its font where a viewer knows no style.
+    #[tactic(auto, unfolding(crate::specs::Markup::look_text))]
+    pub(crate) const fn attributes(self) -> &'static str
+        ensures { result.now ≡ look_text self }
+    {
         match self {
-            Class::Sheet => "sheet",
-            Class::Head => "head",
-            Class::Node => "node",
-            Class::Arrow => "arrow",
-            Class::Lost => "lost",
-            Class::Clock => "clock",
-            Class::Table => "table",
-            Class::Title => "title",
-            Class::Name => "name",
-            Class::Kind => "kind",
-            Class::Number => "number",
-            Class::Label => "label",
-            Class::Before => "before",
-            Class::Line => "line",
-            Class::Note => "note",
-            Class::Refusal => "refusal",
-            Class::Cell => "cell",
+            Class::Head => look::HEAD,
+            Class::Node => look::NODE,
+            Class::Arrow => look::ARROW,
+            Class::Lost => look::LOST,
+            Class::Clock => look::CLOCK,
+            Class::Table => look::TABLE,
+            Class::Title => look::TITLE,
+            Class::Name => look::NAME,
+            Class::Kind => look::KIND,
+            Class::Number => look::NUMBER,
+            Class::Label => look::LABEL,
+            Class::Before => look::BEFORE,
+            Class::Line => look::LINE,
+            Class::Note => look::NOTE,
+            Class::Refusal => look::REFUSAL,
+            Class::Cell => look::CELL,
         }
     }
 }

@@ -14,6 +14,7 @@ mod heading;
 mod ladder;
 mod ladder_row;
 pub mod laws;
+mod look;
 mod message;
 mod notes;
 mod pen;

@@ -28,7 +28,6 @@ impl<A: Memory + Copy> Pen<A> {
     pub(crate) fn line(&mut self, class: Class, from: Point, to: Point) -> Result<(), AllocError>
         ensures memory { OnErr result A.may_refuse }
     {
-        let class = class.name();
         self.shapes.try_push(Shape::Line { class, from, to })?;
         Ok(())
     }
@@ -52,7 +51,7 @@ impl<A: Memory + Copy> Pen<A> {
         ensures memory { OnErr result A.may_refuse }
     {
         self.shapes.try_push(Shape::Rectangle {
-            class: class.name(),
+            class,
             at,
             width,
             height,
@@ -77,11 +76,7 @@ impl<A: Memory + Copy> Pen<A> {
     ) -> Result<(), AllocError>
         ensures memory { OnErr result A.may_refuse }
     {
-        self.shapes.try_push(Shape::Words {
-            class: class.name(),
-            at,
-            words,
-        })?;
+        self.shapes.try_push(Shape::Words { class, at, words })?;
         Ok(())
     }
 }

@@ -5,17 +5,18 @@ ghost use Rattle.std.specs.List.{flat_map};
 ghost use Rattle.lisp_picture.specs.Markup.{Adds, opening_text, attribute_text, place_text, shape_text, sign_text, size_text};
 
 use crate::append::put_words;
+use crate::class::Class;
 use crate::escape::put_escaped;
 use crate::point::Point;
 use lisp_memory::{FallibleString, Memory};
 use std::alloc::{AllocError, Allocator};
 
-/// A shape; its class, by the style of the picture, is how it looks.
+/// A shape; its class is how it looks.
 #[derive(Debug, Drop)]
 pub(crate) enum Shape<A: Allocator> {
     /// A straight line.
     Line {
-        class: &'static str,
+        class: Class,
         from: Point,
         to: Point,
     },
@@ -26,14 +27,14 @@ pub(crate) enum Shape<A: Allocator> {
     },
     /// A rectangle, by its upper left corner.
     Rectangle {
-        class: &'static str,
+        class: Class,
         at: Point,
         width: u64,
         height: u64,
     },
     /// Words that begin at a place.
     Words {
-        class: &'static str,
+        class: Class,
         at: Point,
         words: String<A>,
     },
@@ -63,7 +64,7 @@ fn put_shape<A: Memory, B: Allocator>(
 {
     match shape {
         Shape::Line { class, from, to } => {
-            put_opening(text, "line", class)?;
+            put_opening(text, "line", *class)?;
             put_place(text, "x1", "y1", *from)?;
             put_place(text, "x2", "y2", *to)?;
             put_words(text, "/>")
@@ -79,13 +80,13 @@ fn put_shape<A: Memory, B: Allocator>(
             width,
             height,
         } => {
-            put_opening(text, "rect", class)?;
+            put_opening(text, "rect", *class)?;
             put_place(text, "x", "y", *at)?;
             put_size(text, *width, *height)?;
             put_words(text, "/>")
         }
         Shape::Words { class, at, words } => {
-            put_opening(text, "text", class)?;
+            put_opening(text, "text", *class)?;
             put_place(text, "x", "y", *at)?;
             put_words(text, ">")?;
             put_escaped(text, words)?;
@@ -94,15 +95,14 @@ fn put_shape<A: Memory, B: Allocator>(
     }
 }
 
-// Appends the beginning of an element with its class.
+// Appends the beginning of an element with the attributes of its class.
 #[tactic(auto, using(crate::proofs::Adding::steps))]
-fn put_opening<A: Memory>(text: &mut String<A>, tag: &str, class: &str) -> Result<(), AllocError>
-    ensures text { Adds result text.old text.new (opening_text tag.now class.now) }
+fn put_opening<A: Memory>(text: &mut String<A>, tag: &str, class: Class) -> Result<(), AllocError>
+    ensures text { Adds result text.old text.new (opening_text tag.now class) }
     ensures memory { OnErr result A.may_refuse }
 {
-    text.try_write(format_args!("<{tag} class=\""))?;
-    put_escaped(text, class)?;
-    put_words(text, "\"")
+    text.try_write(format_args!("<{tag} "))?;
+    put_words(text, class.attributes())
 }
 
 // Appends the beginning of the element of a sign.

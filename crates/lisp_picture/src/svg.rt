@@ -48,7 +48,7 @@ fn put_picture<A: Memory, B: Allocator>(
     put_words(text, STYLE)?;
     put_words(
         text,
-        "<rect class=\"sheet\" width=\"100%\" height=\"100%\"/>\n",
+        "<rect class=\"sheet\" fill=\"#fff\" width=\"100%\" height=\"100%\"/>\n",
     )?;
     put_shapes(text, &sheet.frame)?;
     put_words(text, "\n")?;
@@ -64,7 +64,7 @@ fn put_head<A: Memory>(text: &mut String<A>, width: u64, height: u64) -> Result<
 {
     put_words(
         text,
-        "<svg xmlns=\"http://www.w3.org/2000/svg\" role=\"img\"",
+        "<svg xmlns=\"http://www.w3.org/2000/svg\" role=\"img\" font-family=\"system-ui,sans-serif\" font-size=\"13\" xml:space=\"preserve\"",
     )?;
     put_size(text, width, height)?;
     put_view(text, width, height)?;

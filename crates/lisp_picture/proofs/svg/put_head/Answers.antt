@@ -7,7 +7,7 @@ use Rattle.lisp_picture.proofs.svg.put_head.Goals as goal
 
 pub returns-clause-text : goal.returns-clause-text
 returns-clause-text g c =
-    let start = codes "<svg xmlns=\"http://www.w3.org/2000/svg\" role=\"img\"" in
+    let start = codes "<svg xmlns=\"http://www.w3.org/2000/svg\" role=\"img\" font-family=\"system-ui,sans-serif\" font-size=\"13\" xml:space=\"preserve\"" in
     let size = size_text c.args.width c.args.height in
     let view = view_text c.args.width c.args.height in
     ends c.put_words-2.result _ _ _ (start ++ size ++ view) (codes ">\n<title>")

@@ -11,7 +11,7 @@ pub returns-clause-text : goal.returns-clause-text
 returns-clause-text g c =
     let head = head_text c.args.sheet.now.width c.args.sheet.now.height in
     let title = escaped c.args.title.now in
-    let sheet = codes "<rect class=\"sheet\" width=\"100%\" height=\"100%\"/>\n" in
+    let sheet = codes "<rect class=\"sheet\" fill=\"#fff\" width=\"100%\" height=\"100%\"/>\n" in
     let frame = flat_map shape_text c.args.sheet.now.frame.items in
     let elements = elements_text (shapes_at c.args.sheet.now.rows.items) 0 (texts_of c.args.outcomes.now) in
     let top = head ++ title ++ codes "</title>\n" ++ STYLE.now ++ sheet in
