@@ -23,6 +23,8 @@ from nonces import DATABASE_FILE, END, LOG_FILE, MOST, TAKEN, changed, in_databa
 UNCOPIED = shutil.ignore_patterns("control")
 # How a node ends that can't use its database; and how it ends without a turn.
 UNUSABLE, UNMOVED = (1, "", "lispd: fault 93\n"), (0, "", "")
+# How many routers register with a Map-Server whose log is damaged then, and the bytes of a frame of a log.
+REGISTERED, FRAME = 20, 24 + 4096
 # What a node ends with for want of memory.
 NO_MEMORY = re.compile(r"!?lispd: fault (?:24|75|76|86 line \d+|93|97)\n")
 
@@ -389,6 +391,34 @@ def a_damaged_page(here):
     check("the whole", ran(*words), (0, "sent r1 s1 key 1 nonce 5\nsent r1 s2 key 1 nonce 6\n", ""))
 
 
+def a_damaged_log(here):
+    """A log in which one bit was changed: the nonces are all there, but for those of its last two transactions, or the node says no."""
+    here.store, folder = DATABASE, Path(f"{here.folder}/s1")
+    process, wanted = here.start(*here.words("server", "s1")), {}
+    is_up(here.s1)
+    with peer(here.r1) as it:
+        for nonce in range(1, REGISTERED + 1):
+            check("its answer", nonce_in(here.answer(it, map_register(nonce, xtr=XTR + nonce))), nonce)
+            wanted[pair(xtr=XTR + nonce)] = nonce
+    killed(process)
+    whole, fewest = (folder / LOG_FILE).read_bytes(), dict(list(wanted.items())[:-2])
+    aside = shutil.copytree(folder, f"{here.folder}/aside", ignore=UNCOPIED)
+    drawn, refused = random.Random(31), 0
+    # Each bit of the header, those of some frames' headers, and some of all.
+    headers = [32 + frame * FRAME + at for frame in range(0, (len(whole) - 32) // FRAME, 7) for at in range(24)]
+    places = [*range(32), *headers, *(drawn.randrange(len(whole)) for _ in range(200))]
+    for place in places:
+        shutil.rmtree(folder)
+        shutil.copytree(aside, folder)
+        (folder / LOG_FILE).write_bytes(whole[:place] + bytes([whole[place] ^ 1 << drawn.randrange(8)]) + whole[place + 1:])
+        ended = ran(*here.words("server", "s1", "--turns", "0"))
+        refused += ended == UNUSABLE
+        check(f"byte {place}", ended in (UNUSABLE, UNMOVED), True)
+        if ended == UNMOVED:
+            check(f"byte {place}: what is kept", at_least(kept(here, "s1"), fewest), True)
+    check("most are refused", refused > len(places) // 2, True)
+
+
 # Calls that fail.
 
 # What each try adds to the nonces of those who register; below it is their xTR-ID.
@@ -567,7 +597,7 @@ def memory_is_refused_while_files_are_taken(here):
 run_tests([a_database_tells_of_itself, a_router_s_database, kinds_are_kept_apart, the_words, files_are_taken_over,
            a_router_s_files_are_taken_over, the_greatest_nonce_counts, files_over_a_database, a_damaged_file_isn_t_taken_over,
            killed_while_files_are_taken("kill"), killed_while_files_are_taken("tear"), killed_while_older_files_are_taken,
-           a_database_that_was_put_back, a_start_that_knows_no_machine, a_log_without_its_database, what_is_no_database, a_damaged_page,
+           a_database_that_was_put_back, a_start_that_knows_no_machine, a_log_without_its_database, what_is_no_database, a_damaged_page, a_damaged_log,
            *(over(store, a_call_that_fails(call, error)) for store in (DATABASE, GROUPS)
              for call, error in (("sync", errno.EIO), ("write", errno.ENOSPC), ("cut", errno.EIO))),
            *(over(DATABASE, a_router_whose_call_fails(call, error))

@@ -8,6 +8,7 @@ ghost use Rattle.lisp_database_store.specs.Table.{CountsPairs, FindsWriter, Save
 
 use crate::failure::Failure;
 use crate::keeper::Keeper;
+use crate::log_file::refuse_damage;
 use crate::new_file::place_empty;
 use crate::table::SystemTable;
 use lisp_memory::FallibleString;
@@ -30,11 +31,13 @@ pub struct Database<T> {
 
 impl<T: SystemTable> Database<T> {
     /// Opens the database at `path`, or makes it, with the `application_id` of these databases, "LISP", and the `user_version` 1.
-    /// `Device` where the file can't be opened, read or written, `Damaged` where it holds no database of nonces.
+    /// `Device` where the file or its log can't be opened, read or written, `Damaged` where it holds no database of nonces, or its log is
+    /// damaged.
     pub fn open(rt: &HostRuntime, path: &str) -> Result<Database<T>, Failure>
         ensures tables { IfOk result (λ database. IsOpen database.table T.Table.means.has_tables) }
     {
         place_empty(rt, path)?;
+        refuse_damage(rt, path)?;
         let mut database = Database {
             rt: rt.clone()?,
             path: String::try_from_str(rt.alloc(), path)?,

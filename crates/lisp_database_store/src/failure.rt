@@ -60,7 +60,7 @@ impl From<io::Error> for Failure {
 }
 
 /// A file that holds no nonce.
-const DAMAGED: Failure = Failure {
+pub(crate) const DAMAGED: Failure = Failure {
     fault: StoreFault::Damaged,
     kind: ErrorKind::InvalidData,
 };

@@ -6,6 +6,7 @@ mod database;
 mod failure;
 mod group;
 mod keeper;
+mod log_file;
 mod new_file;
 mod shared;
 mod store;
