@@ -26,14 +26,19 @@ last_or i n low = either (leb_tells n i)
     (λ under. let lt : i < n = under.1 in inl lt)
 
 pub two_found : (log : List ℕ) (front number : ℕ) → HasEnd log front number → GoesOn log number → Commits log number → LosesTwo log front
-two_found log front number has goes commits = (has.end, number, has.behind, record {
-  later = has.before;
-  ends = has.commits;
-  ends_again = commits;
-  goes_on = λ i low high. either (last_or i number (omega (arith, high)))
-      (λ under. has.goes_on i low under)
-      (λ same. subst (GoesOn log) (sym same) goes);
-})
+two_found log front number has goes commits = (
+  has.end,
+  number,
+  has.behind,
+  record {
+    later = has.before;
+    ends = has.commits;
+    ends_again = commits;
+    goes_on = λ i low high. either (last_or i number (omega (arith, high)))
+        (λ under. has.goes_on i low under)
+        (λ same. subst (GoesOn log) (sym same) goes);
+  },
+)
 
 -- an end goes on behind a frame
 pub end_next : (log : List ℕ) (front number : ℕ) → front ≤ number → Commits log number ⊎ (HasEnd log front number × GoesOn log number) → HasEnd log front (number + 1)
@@ -58,28 +63,31 @@ end_next log front number low either_way = either either_way
 -- and only so
 pub end_back : (log : List ℕ) (front number : ℕ) → HasEnd log front (number + 1) → Commits log number ⊎ (HasEnd log front number × GoesOn log number)
 end_back log front number has = either (last_or has.end number has.before)
-    (λ under. inr (record {
-      end = has.end;
-      behind = has.behind;
-      before = under;
-      commits = has.commits;
-      goes_on = λ i above below. has.goes_on i above (omega (arith, below));
-    }, has.goes_on number under (omega arith)))
+    (λ under. inr (
+      record {
+        end = has.end;
+        behind = has.behind;
+        before = under;
+        commits = has.commits;
+        goes_on = λ i above below. has.goes_on i above (omega (arith, below));
+      },
+      has.goes_on number under (omega arith),
+    ))
     (λ same. inl (subst (Commits log) same has.commits))
 
 pub no_two_next : (log : List ℕ) (front number : ℕ) → NoTwo log front number → (HasEnd log front number → GoesOn log number → Commits log number → ⊥) → NoTwo log front (number + 1)
 no_two_next log front number none this first second low below ends = either (last_or second number below)
     (λ under. none first second low under ends)
     (λ same. this
-      (record {
-        end = first;
-        behind = low;
-        before = let later : first < second = ends.later in omega (arith, later, same);
-        commits = ends.ends;
-        goes_on = λ i above under. ends.goes_on i above (omega (arith, under, same));
-      })
-      (subst (GoesOn log) same (ends.goes_on second ends.later (omega arith)))
-      (subst (Commits log) same ends.ends_again))
+    (record {
+      end = first;
+      behind = low;
+      before = let later : first < second = ends.later in omega (arith, later, same);
+      commits = ends.ends;
+      goes_on = λ i above under. ends.goes_on i above (omega (arith, under, same));
+    })
+    (subst (GoesOn log) same (ends.goes_on second ends.later (omega arith)))
+    (subst (Commits log) same ends.ends_again))
 
 -- what a loop knows of an end goes on with a frame
 pub end_known : (log : List ℕ) (front number : ℕ) (before after : Type 0) → front ≤ number → (before ↔ HasEnd log front number)

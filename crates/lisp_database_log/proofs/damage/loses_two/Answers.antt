@@ -9,10 +9,9 @@ returns-then-is_second c =
 
 pub loop-number-preserved : goal.loop-number-preserved
 loop-number-preserved c =
-    let low : c.args.front ≤ c.loop-number.number = c.loop-number.auto.number in
-    (
+    let low : c.args.front ≤ c.loop-number.number = c.loop-number.auto.number in (
       end_known c.args.log.now c.args.front c.loop-number.number (IsTrue c.loop-number.has_end) (IsTrue c.leads_on-has_end.result) low
-        c.loop-number.invariant.0 c.leads_on-has_end.ensures,
+          c.loop-number.invariant.0 c.leads_on-has_end.ensures,
       no_two_next c.args.log.now c.args.front c.loop-number.number c.loop-number.invariant.1
-        (λ has goes commits. let never : IsTrue false = c.if-is_second.ensures.1 (c.loop-number.invariant.0.1 has, goes, commits) in cc),
+          (λ has goes commits. let never : IsTrue false = c.if-is_second.ensures.1 (c.loop-number.invariant.0.1 has, goes, commits) in cc),
     )
