@@ -403,10 +403,12 @@ def a_damaged_log(here):
     killed(process)
     whole, fewest = (folder / LOG_FILE).read_bytes(), dict(list(wanted.items())[:-2])
     aside = shutil.copytree(folder, f"{here.folder}/aside", ignore=UNCOPIED)
+    # (Behind its frames stand zeros, for those to come.)
+    frames = [at for at in range(32, len(whole), FRAME) if whole[at + 8:at + 16] == whole[16:24]]
     drawn, refused = random.Random(31), 0
-    # Each bit of the header, those of some frames' headers, and some of all.
-    headers = [32 + frame * FRAME + at for frame in range(0, (len(whole) - 32) // FRAME, 7) for at in range(24)]
-    places = [*range(32), *headers, *(drawn.randrange(len(whole)) for _ in range(200))]
+    # A bit of each byte of its header and of some frames' headers, and some of all.
+    headers = [at + byte for at in frames[::12] for byte in range(24)]
+    places = [*range(32), *headers, *(drawn.randrange(frames[-1] + FRAME) for _ in range(60))]
     for place in places:
         shutil.rmtree(folder)
         shutil.copytree(aside, folder)
