@@ -9,8 +9,8 @@ use crate::frame::{commits, frame_count, goes_on};
 use crate::header::{HEADER_BYTES, header, is_broken, is_signed};
 
 /// Whether the bytes of a log are what no crash leaves: a header that says it is whole, and isn't; or, behind the front that SQLite
-/// reads, two transactions of this log that go on from each other, where a crash leaves a part of one. Pages have 4,096 bytes. What is
-/// behind two transactions that were damaged themselves, and the last of the log, isn't told from a crash.
+/// reads, the ends of two transactions of this log in frames that go on from each other, where a crash leaves a part of one. Pages have
+/// 4,096 bytes. Damage behind which no two such ends stand, as in the last transaction, isn't told from a crash.
 pub fn is_damaged(log: &[u8]) -> bool
     ensures { IsTrue result ↔ IsDamaged log.now }
 {
