@@ -9,7 +9,7 @@
 # make fuzz     plays schedules that are drawn: COUNT of them from SEED on, over out/lispd
 # make bench    measures the codec, the tag and registrations, also through the library for C programs; and of out/lispd saves on a disk, the
 #               reading of configurations, plays, and a server
-# make install  installs the program (out/lispd), its manual pages, completions, units and a sample: PREFIX=/usr/local, DESTDIR=
+# make install  installs the program (out/lispd), its manual pages, completions, units and samples: PREFIX=/usr/local, DESTDIR=
 # make install-library installs the library for C programs, with its header and its pkg-config file
 # make uninstall removes what both installed
 # make dist     packs both as out/lispd-VERSION.tar.gz. GATE=LOG names the log of a `make test`, whose closing lines go with them
@@ -75,7 +75,7 @@ UNITS = lib/systemd/system/lispd-server@.service lib/systemd/system/lispd-router
 # Where zsh looks for completions; below /usr, where a package of Debian's puts them.
 ZSH = share/zsh/$(if $(filter /usr,$(PREFIX)),vendor-completions,site-functions)/_lispd
 BASH = share/bash-completion/completions/lispd
-SAMPLES = share/doc/lispd/examples/configuration.toml
+SAMPLES = share/doc/lispd/examples/configuration.toml share/doc/lispd/examples/ask-group.conf
 FOR_C = lib/liblisp_registration.a include/lisp_registration.h lib/pkgconfig/lisp_registration.pc
 
 # $(call put,FILE,PATH,KIND): installs a file below PREFIX, with the version, PREFIX, the program's folder and the kind of a node filled in.
@@ -96,6 +96,7 @@ install: $(PROGRAM)
 	@$(call put,packaging/lispd@.service.in,lib/systemd/system/lispd-server@.service,server)
 	@$(call put,packaging/lispd@.service.in,lib/systemd/system/lispd-router@.service,router)
 	@$(call put,examples/configuration.toml,share/doc/lispd/examples/configuration.toml)
+	@$(call put,packaging/ask-group.conf,share/doc/lispd/examples/ask-group.conf)
 	@tools/completions $(PROGRAM) $(ROOT)/$(BASH) $(ROOT)/$(ZSH)
 
 install-library: $(LIBRARY)

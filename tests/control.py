@@ -8,6 +8,7 @@ import errno
 import os
 import platform
 import re
+import shlex
 import socket
 import struct
 import subprocess
@@ -15,8 +16,9 @@ import time
 from concurrent.futures import ThreadPoolExecutor
 from pathlib import Path
 
-from nodes import (FILES, GROUPS, LIMIT, PORT, check, is_up, killed, map_register, nonce_in, over, peer, program, ran, run_tests, until,
-                   with_slow_syncs)
+from nodes import (FILES, GROUPS, LIMIT, PORT, check, is_up, killed, map_register, nonce_in, over, peer, program, ran, run_tests, system,
+                   until, with_slow_syncs)
+from sockets import faster
 
 # How long a client may say or take nothing, and how long a node may take for a question beside one that misbehaves, in seconds.
 MOST, PROMPT = 0.1, 0.3
@@ -31,6 +33,9 @@ UNANSWERED = (1, "", "lispd: fault 99\n")
 UNIT = Path(__file__).parent.parent / "packaging/lispd@.service.in"
 SOCKET_CALLS = {"x86_64": (41, 53), "aarch64": (198, 199)}
 NOTHING_HELD = (0, "hold s1 0\n", "")
+# The drop-in that lets a group ask a node; the node's user, that group, and a user in it and one who isn't.
+DROP_IN = Path(__file__).parent.parent / "packaging/ask-group.conf"
+NODE, ASKERS, MEMBER, STRANGER = 64001, 64002, 64003, 64004
 
 
 def ask(here, name, *words):
@@ -51,6 +56,10 @@ def up(here, kind, name, address, **how):
 
 def wrong(number):
     return (2, "", f"lispd: fault {number}\n")
+
+
+def refused(number, line):
+    return (3, f"{line}\n", f"lispd: fault {number}\n")
 
 
 def a_map_server_is_asked(here):
@@ -80,7 +89,7 @@ def what_is_counted(here):
     """Which routers it heard, how many lines of each kind it printed, and what it has, in lines and for Prometheus."""
     process = up(here, "server", "s1", here.s1, env=with_slow_syncs(SLOW_MS * 1000))
     check("nobody was heard", ask(here, "s1", "routers"), (0, "routers s1 0\n", ""))
-    check("nothing is counted", counts(here, "s1"), {"rows": "0", "sites": "0", "standing_notices": "0", "longest_save_ms": "0"})
+    check("nothing is counted", counts(here, "s1"), {"rows": "0", "sites": "0", "standing_notices": "0", "replays": "0", "longest_save_ms": "0"})
     with peer(here.r1) as it:
         for nonce in (7, 8):
             check("its answer", nonce_in(here.answer(it, map_register(nonce))), nonce)
@@ -91,29 +100,67 @@ def what_is_counted(here):
     found = counts(here, "s1")
     found.pop("resent", None)
     check("in the order of their words, refusals by their numbers behind them", list(found),
-          ["accepted", "notice", "refused 50", "refused 57", "rows", "sites", "standing_notices", "longest_save_ms"])
+          ["accepted", "notice", "refused 50", "refused 57", "rows", "sites", "standing_notices", "replays", "longest_save_ms"])
     check("how long a save takes", SLOW_MS <= int(found.pop("longest_save_ms")) < LIMIT * 1000, True)
     check("what is counted", found, {"accepted": "2", "notice": "1", "refused 50": "1", "refused 57": "1",
-                                     "rows": "1", "sites": "1", "standing_notices": "1"})
+                                     "rows": "1", "sites": "1", "standing_notices": "1", "replays": "0"})
     status, text, wrongs = ask(here, "s1", "routers")
-    age = text.partition(" age ")[2].partition(" ")[0]
-    check("its router", (status, text, wrongs),
-          (0, f"routers s1 1\nrouter r1 from {here.r1} key 1 nonce 8 age {age} rows 1\n", ""))
-    check("its age", 0 <= int(age) < LIMIT * 1000, True)
+    ages = re.findall(r" age (\d+)", text)
+    check("its router, and its replay", (status, re.sub(r" age \d+", " age", text), wrongs),
+          (0, f"routers s1 2\nrouter r1 from {here.r1} key 1 nonce 8 age rows 1\nreplays s1 from {here.r1} times 1 saved 8 age\n", ""))
+    check("their ages", all(0 <= int(age) < LIMIT * 1000 for age in ages), True)
     status, text, wrongs = ask(here, "s1", "counts", "--prometheus")
     lines = [line for line in text.splitlines() if line[0] != "#" and "resent" not in line]
     check("metrics", (status, wrongs, lines[:-1]), (0, "", [
         'lisp_lines_total{node="s1",line="accepted"} 2', 'lisp_lines_total{node="s1",line="notice"} 1',
         'lisp_refusals_total{node="s1",number="50"} 1', 'lisp_refusals_total{node="s1",number="57"} 1',
-        'lisp_rows{node="s1"} 1', 'lisp_sites{node="s1"} 1', 'lisp_standing_notices{node="s1"} 1']))
+        'lisp_rows{node="s1"} 1', 'lisp_sites{node="s1"} 1', 'lisp_standing_notices{node="s1"} 1',
+        'lisp_replayed_sources{node="s1"} 0']))
     check("the longest save", re.fullmatch(r'lisp_longest_save_seconds\{node="s1"\} \d+e-3', lines[-1]) is not None, True)
+    killed(process)
+
+
+def replays(here):
+    """What a Map-Server tells of Map-Registers that it refuses as replays: the gauge, and the front of each line up to the age."""
+    gauge = re.search(r"^counts s1 replays (\d+)$", ask(here, "s1", "counts")[1], re.M)
+    return gauge and int(gauge[1]), re.findall(r"^replays .*(?= age \d+$)", ask(here, "s1", "routers")[1], re.M)
+
+
+def who_is_refused_as_replaying(here):
+    """Each address that is, and of how many that is so for three minutes, which are six seconds here. One that is accepted ends it, and so do
+    three minutes without any."""
+    process = up(here, "server", "s1", here.s1, env=faster(speed=30))
+    with peer(here.r1) as it, peer(here.r2) as other:
+        def check_replays(name, *wanted):
+            check(name, until(lambda: replays(here) == wanted), True)
+
+        check("its answer", nonce_in(here.answer(it, map_register(7))), 7)
+        check_replays("nobody is", 0, [])
+        other.sendto(map_register(6), (here.s1, PORT))
+        check_replays("one is", 0, [f"replays s1 from {here.r2} times 1 saved 7"])
+        begun, times = time.monotonic(), 0
+        while replays(here)[0] != 1 and time.monotonic() < begun + LIMIT:
+            it.sendto(map_register(7 - times % 7), (here.s1, PORT))
+            times += 1
+            time.sleep(0.3)
+        check("three minutes of it", 6 <= time.monotonic() - begun < LIMIT, True)
+        check_replays("one is for three minutes", 1, [f"replays s1 from {here.r1} times {times} saved 7"])
+        check("its metric", until(lambda: '\nlisp_replayed_sources{node="s1"} 1\n' in ask(here, "s1", "counts", "--prometheus")[1]), True)
+        check("how many lines follow", until(lambda: ask(here, "s1", "routers")[1].startswith("routers s1 2\nrouter r1 ")), True)
+        check("its answer", nonce_in(here.answer(it, map_register(8))), 8)
+        check_replays("it is over", 0, [])
+        begun = time.monotonic()
+        it.sendto(map_register(8), (here.s1, PORT))
+        check_replays("it begins anew", 0, [f"replays s1 from {here.r1} times 1 saved 8"])
+        check_replays("it ends by itself", 0, [])
+        check("in three minutes", time.monotonic() - begun >= 6, True)
     killed(process)
 
 
 def a_map_server_is_told(here):
     """A notice that it is told to send is that of a schedule: line, message, acknowledgement."""
     process = up(here, "server", "s1", here.s1)
-    check("nobody was heard", tell(here, "s1", "notice", "r1"), (0, "refused s1 62\n", ""))
+    check("nobody was heard", tell(here, "s1", "notice", "r1"), refused(62, "refused s1 62"))
     with peer(here.r1) as it:
         check("its answer", nonce_in(here.answer(it, map_register(7))), 7)
         status, line, wrongs = tell(here, "s1", "notice", "r1")
@@ -139,11 +186,45 @@ def a_router_is_told(here):
     found = counts(here, "r1")
     check("what it counts", (found["change"], found["records"], int(found["sent"]) >= int(found["counted"]) >= 1, "rows" in found),
           ("1", "1", True, False))
-    check("its own key", tell(here, "r1", "rotate", "1")[:2], (0, "refused r1 37\n"))
-    check("no key of its site", tell(here, "r1", "rotate", "200"), (0, "fault 78\n", ""))
+    check("its own key", tell(here, "r1", "rotate", "1"), refused(37, "refused r1 37"))
+    check("no key of its site", tell(here, "r1", "rotate", "200"), refused(78, "fault 78"))
+    status, line, wrongs = tell(here, "r1", "rotate", "200", "--words")
+    check("it is told in words", (status, line, wrongs.startswith("lispd: fault 78\nlispd: the node doesn't do it: the router's site has no such key: ")),
+          (3, "fault 78\n", True))
     check("the configuration", Path(here.config).read_text(), before)
     killed(router)
     killed(server)
+
+
+def a_router_that_is_down(here):
+    """An order to it ends with the number of a router that doesn't start."""
+    os.mkdir(f"{here.folder}/r1")
+    with socket.socket(socket.AF_UNIX) as node:
+        node.bind(f"{here.folder}/r1/control")
+        node.listen()
+        with ThreadPoolExecutor() as pool:
+            told = pool.submit(tell, here, "r1", "rotate", "2")
+            user, _ = node.accept()
+            with user, user.makefile("rw") as line:
+                check("what it is told", line.readline(), "rotate 2\n")
+                line.write("down r1\n")
+            check("its answer", told.result(), refused(76, "down r1"))
+
+
+def advice(here):
+    """What is wrong with a question or an order is said in words."""
+    process = up(here, "server", "s1", here.s1)
+    router = up(here, "router", "r1", here.r1)
+    for call, name, words, said in (
+            (ask, "s1", ["ask", "2001:db8:1::5"], ("84\n", "all eight groups", "`::` isn't read here", "2001:db8:1:0:0:0:0:5")),
+            (ask, "r1", ["hold"], ("82\n", "a Map-Server is asked hold, ask ADDRESS, routers, due or counts", "a router records, acks, due or counts")),
+            (ask, "s1", ["nonsense"], ("80\n", "a Map-Server is asked hold, ask ADDRESS, routers, due or counts")),
+            (tell, "s1", ["nonsense"], ("80\n", "a Map-Server is told notice ROUTER", "a router change RECORD .. or rotate KEY")),
+            (tell, "r1", ["change", "2001:db8:1::/48=5"], ("84\n", "all eight groups are written, since `::` isn't read here"))):
+        status, line, wrongs = call(here, name, *words, "--words")
+        check(f"{words}", (status, line, wrongs.startswith("lispd: fault "), [it for it in said if it not in wrongs]), (2, "", True, []))
+    killed(router)
+    killed(process)
 
 
 def wrong_words(here):
@@ -290,6 +371,92 @@ def another_user_is_refused(here):
     killed(process)
 
 
+def settings(*files):
+    """The settings of a unit and of its drop-ins; the last of each name."""
+    lines = (line for file in files for line in file.read_text().splitlines())
+    return dict(line.split("=", 1) for line in lines if re.match(r"[A-Z]\w+=", line))
+
+
+def a_group_asks_under_the_drop_in(here):
+    """Whoever is in the group asks the node and tells it; somebody else doesn't, and neither sees its nonces."""
+    if os.geteuid():
+        print("control.py: not the superuser here: a node that a group asks was not tried")
+        return
+    # What systemd makes: the two folders, and a process of the node's user and of the group.
+    found = settings(UNIT, DROP_IN)
+    store, asked = f"{here.folder}/s1", f"{here.folder}/asked"
+    for path, mode in ((store, found["StateDirectoryMode"]), (asked, found["RuntimeDirectoryMode"])):
+        os.mkdir(path)
+        os.chown(path, NODE, ASKERS)
+        os.chmod(path, int(mode, 8))
+    for folder in (here.folder, os.path.dirname(here.folder)):
+        os.chmod(folder, 0o755)
+    os.chmod(here.config, 0o644)
+    (options,) = shlex.split(found["Environment"])
+    words = options.removeprefix("OPTIONS=").replace("%t/" + found["RuntimeDirectory"], asked).split()
+    process = here.start(*here.words("server", "s1"), *words, user=NODE, group=ASKERS, extra_groups=[], umask=int(found["UMask"], 8))
+    is_up(here.s1)
+    with peer(here.r1) as it:
+        check("its answer", nonce_in(here.answer(it, map_register(7))), 7)
+
+    def asks(user, groups, *words):
+        done = subprocess.run([program, *words], capture_output=True, text=True, user=user, group=user, extra_groups=groups, check=False)
+        return done.returncode, done.stdout, done.stderr
+
+    check("a member asks", asks(MEMBER, [ASKERS], "ask", asked, "counts")[1].startswith("counts s1 accepted 1\n"), True)
+    check("a member tells", asks(MEMBER, [ASKERS], "tell", asked, "notice", "r1")[0], 0)
+    check("a stranger doesn't", asks(STRANGER, [], "ask", asked, "counts"), UNANSWERED)
+    check("the store's folder", asks(MEMBER, [ASKERS], "ask", store, "counts"), UNANSWERED)
+    check("the mode of the nonces", {f"{os.stat(it).st_mode & 0o77:o}" for it in (store, *Path(store).glob("*.nonce"))}, {"0"})
+    killed(process)
+
+
+def asked_by(folder, group):
+    """What a user of this group alone is answered to a question, at a socket of that folder."""
+    done = subprocess.run([program, "ask", folder, "hold"], capture_output=True, text=True, user=65534, group=group, extra_groups=[],
+                          check=False)
+    return done.returncode, done.stdout, done.stderr
+
+
+def a_socket_in_another_folder(here):
+    """With --control it is there: who may write that folder may connect, its group too, whoever may enter the node's own."""
+    folder, group = Path(f"{here.folder}/asked"), 4343
+    folder.mkdir()
+    for path in (here.folder, os.path.dirname(here.folder)):
+        os.chmod(path, 0o755)
+    os.chmod(folder, 0o770)
+    if os.geteuid() == 0:
+        os.chown(folder, -1, group)
+    for more in ((), ("--turns", "200")):
+        process = here.start(*here.words("server", "s1", "--control", str(folder), *more))
+        is_up(here.s1)
+        check("it is asked", until(lambda: ran("ask", str(folder), "hold") == NOTHING_HELD), True)
+        check("it is told", ran("tell", str(folder), "notice", "r1") == UNANSWERED, False)
+        check("not in its own folder", os.path.exists(f"{here.folder}/s1/control"), False)
+        check("its mode", f"{os.stat(folder / 'control').st_mode & 0o777:o}", "220")
+        if os.geteuid() == 0:
+            check("a member of the group", asked_by(str(folder), group), NOTHING_HELD)
+            check("another user", asked_by(str(folder), 65534), UNANSWERED)
+        killed(process)
+    os.chmod(folder, 0o750)
+    process = here.start(*here.words("router", "r1", "--control", str(folder)))
+    check("a router", until(lambda: ran("ask", str(folder), "due")[0] == 0), True)
+    if os.geteuid() == 0:
+        check("a group that may only look", asked_by(str(folder), group), UNANSWERED)
+    killed(process)
+
+
+def a_socket_that_can_not_be_made(here):
+    """A warning names its folder and why, and the node runs on. What is no socket isn't removed."""
+    gone, folder = f"{here.folder}/gone", Path(f"{here.folder}/asked")
+    folder.mkdir()
+    (folder / "control").write_text("a letter")
+    for path, error in ((gone, errno.ENOENT), (folder, errno.EADDRINUSE)):
+        status, _, told = ran(*here.words("server", "s1", "--control", str(path), "--turns", "0"))
+        check(f"at {path}", (status, told), (0, f"warning: {path}: nobody can ask the node: {system(error)}\n"))
+    check("the file", (folder / "control").read_text(), "a letter")
+
+
 def a_killed_process_leaves_its_socket(here):
     """The next one listens in its place."""
     killed(up(here, "server", "s1", here.s1))
@@ -299,5 +466,7 @@ def a_killed_process_leaves_its_socket(here):
 
 run_tests([
     *(over(store, test) for store in (FILES, GROUPS) for test in (a_map_server_is_asked, a_map_server_is_told, what_is_counted)),
-    a_router_is_told, wrong_words, an_answer_that_is_a_fault, a_node_under_its_unit, another_user_is_refused, a_killed_process_leaves_its_socket,
+    who_is_refused_as_replaying, a_router_is_told, a_router_that_is_down, advice, wrong_words, an_answer_that_is_a_fault,
+    a_node_under_its_unit, another_user_is_refused, a_group_asks_under_the_drop_in, a_socket_in_another_folder,
+    a_socket_that_can_not_be_made, a_killed_process_leaves_its_socket,
 ], alone=[clients_that_misbehave, a_client_that_takes_nothing_of_many_rows])

@@ -15,8 +15,8 @@ import time
 from pathlib import Path
 from subprocess import DEVNULL, PIPE
 
-from nodes import (DATABASE, FILES, GROUPS, LIMIT, PORT, SITE, XTR, check, failing, is_bound, is_up, killed, map_register, next_line,
-                   nonce_in, over, peer, ran, received, run_tests, until)
+from nodes import (DATABASE, FILES, GROUPS, LIMIT, PORT, SITE, XTR, check, failing, in_words, is_bound, is_up, killed, map_register,
+                   next_line, nonce_in, over, peer, ran, received, run_tests, until)
 from nonces import DATABASE_FILE, END, LOG_FILE, MOST, TAKEN, changed, in_database, in_files, kept, pair, put_file
 
 # What isn't copied with a folder: the socket of a node.
@@ -313,6 +313,29 @@ def a_text(path):
     path.write_text("These are no nonces, but as long as you like.\n" * 1000)
 
 
+def what_is_told_of_a_database(here):
+    """In words: its path, what was tried, and the system's error or what is there."""
+    here.store, folder = DATABASE, Path(f"{here.folder}/s1")
+    words, path = here.words("server", "s1", "--turns", "0"), f"{folder}/{DATABASE_FILE}"
+    full = failing("write", 1, f"{DATABASE_FILE}.new", errno.ENOSPC)
+    check("a full disk", in_words(*words, env=full), (1, 93, f"{path}: can't be opened: no storage space"))
+    for make, wrong in ((a_text, "isn't a database of nonces, or is damaged"), (another_table, "isn't a database of nonces, or is damaged"),
+                        (a_folder, "isn't a file"), (a_pipe, "isn't a file")):
+        shutil.rmtree(folder)
+        folder.mkdir()
+        make(Path(path))
+        check(make.__name__, in_words(*words), (1, 93, f"{path}: {wrong}"))
+    shutil.rmtree(folder)
+    folder.mkdir()
+    (folder / LOG_FILE).touch()
+    check("a log alone", in_words(*words), (1, 93, f"{path}: isn't there, and its log (-wal) is"))
+    (folder / LOG_FILE).unlink()
+    put_file(folder, pair(), 7)
+    for file in folder.glob("*.nonce"):
+        file.write_text("nonce 7")
+    check("a damaged file", in_words(*words), (1, 93, f"{folder}: a file of nonces in it is damaged"))
+
+
 def another_table(path):
     with contextlib.closing(sqlite3.connect(path)) as database, database:
         database.execute("CREATE TABLE recipes (name TEXT PRIMARY KEY, minutes INTEGER) STRICT")
@@ -599,7 +622,8 @@ def memory_is_refused_while_files_are_taken(here):
 run_tests([a_database_tells_of_itself, a_router_s_database, kinds_are_kept_apart, the_words, files_are_taken_over,
            a_router_s_files_are_taken_over, the_greatest_nonce_counts, files_over_a_database, a_damaged_file_isn_t_taken_over,
            killed_while_files_are_taken("kill"), killed_while_files_are_taken("tear"), killed_while_older_files_are_taken,
-           a_database_that_was_put_back, a_start_that_knows_no_machine, a_log_without_its_database, what_is_no_database, a_damaged_page, a_damaged_log,
+           a_database_that_was_put_back, a_start_that_knows_no_machine, a_log_without_its_database, what_is_no_database,
+           what_is_told_of_a_database, a_damaged_page, a_damaged_log,
            *(over(store, a_call_that_fails(call, error)) for store in (DATABASE, GROUPS)
              for call, error in (("sync", errno.EIO), ("write", errno.ENOSPC), ("cut", errno.EIO))),
            *(over(DATABASE, a_router_whose_call_fails(call, error))

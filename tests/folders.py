@@ -3,6 +3,7 @@
 What `lispd server`, `router` and `loop` make of their folders and outputs: things that are no files in a file's place, folders that
 are taken or would be made for nothing, pairs of nonces that are nearly alike, and outputs that are full or a terminal. Prints each
 check that fails, and ends with 1 where one does."""
+import errno
 import os
 import pty
 import re
@@ -11,8 +12,8 @@ import shutil
 from pathlib import Path
 from subprocess import STDOUT, run
 
-from nodes import (LIMIT, MAP_NOTIFY, PORT, SITE, XTR, check, failing, heard, is_up, killed, map_register, next_line, nonce_in,
-                   nonce_text, peer, ran, received, run_tests, until)
+from nodes import (DATABASE, LIMIT, MAP_NOTIFY, PORT, SITE, XTR, check, failing, heard, in_words, is_up, killed, map_register, next_line,
+                   nonce_in, nonce_text, peer, ran, received, run_tests, system, until)
 
 # How long a thing in a file's place may hold a node up, in seconds.
 AT_ONCE = 15
@@ -254,6 +255,90 @@ def nodes_of_one_address(here):
         check(f"{one} as {another}", ran("loop", str(alike), str(empty), "--store", here.folder), (2, "", "lispd: fault 74\n"))
 
 
+# What is told of a file, a folder or a stream that fails, in words.
+
+
+def a_file_that_is_not_there(here):
+    """Of a configuration, a script and a schedule: its path, what was tried, and the system's error."""
+    gone, store = f"{here.folder}/gone", ("--store", here.folder)
+    for words in (("server", gone, "s1", *store, "--turns", "0"), ("server", gone, "s1", *store), ("router", gone, "r1", *store),
+                  ("loop", gone, here.config, *store), ("loop", here.config, gone, *store), ("play", gone), ("draw", gone),
+                  ("check", gone)):
+        check(" ".join(words), in_words(*words), (1, 93, f"{gone}: can't be opened: {system(errno.ENOENT)}"))
+
+
+def a_file_that_can_not_be_read(here):
+    """A folder can be opened and not read."""
+    store = ("--store", f"{here.folder}/store")
+    for words in (("server", here.folder, "s1", *store, "--turns", "0"), ("router", here.folder, "r1", *store),
+                  ("loop", here.config, here.folder, *store), ("play", here.folder), ("draw", here.folder), ("check", here.folder)):
+        check(" ".join(words), in_words(*words), (1, 87, f"{here.folder}: can't be read: {system(errno.EISDIR)}"))
+    folder = os.open(here.folder, os.O_RDONLY)
+    for words in (("answer",), ("play", "-"), ("draw", "-"), ("check", "-")):
+        status, number, told = in_words(*words, stdin=folder)
+        check(" ".join(words), (status, number, told.removeprefix("lispd: ")), (1, 87, f"standard input: can't be read: {system(errno.EISDIR)}"))
+    os.close(folder)
+
+
+def a_full_output_in_words(here):
+    schedule, script = Path(f"{here.folder}/schedule"), Path(f"{here.folder}/script")
+    script.write_text("send r1 s1\n")
+    schedule.write_text(Path(here.config).read_text() + "---\nsend r1 s1\n")
+    process = here.start(*here.words("server", "s1"))
+    is_up(here.s1)
+    asked = ("ask", f"{here.folder}/s1", "hold")
+    check("it is asked", until(lambda: ran(*asked)[0] == 0), True)
+    with open("/dev/full", "w", encoding="ascii") as full:
+        for words in (asked, here.words("router", "r1", "--turns", "1"), ("play", str(schedule)), ("draw", str(schedule)),
+                      ("check", here.config), ("explain", "57"),
+                      ("loop", here.config, str(script), "--store", f"{here.folder}/loop")):
+            status, number, told = in_words(*words, stdout=full)
+            check(" ".join(words), (status, number, told.removeprefix("lispd: ")),
+                  (1, 88, f"standard output: can't be written: {system(errno.ENOSPC)}"))
+            killed(process)
+
+
+def a_folder_that_can_not_be_had(here):
+    """The folder of the nonces, that of a node, and its lock: which of them it is, and why."""
+    words, store = ("router", here.config, "r1", "--turns", "1", "--store"), f"{here.folder}/store"
+    check("none above it", in_words(*words, f"{store}/r1"), (1, 93, f"{store}/r1: can't be made: {system(errno.ENOENT)}"))
+    check("a file", in_words(*words, here.config), (1, 93, f"{here.config}: isn't a folder"))
+    os.mkdir(store)
+    Path(f"{store}/r1").write_text("")
+    check("a file of its name", in_words(*words, store), (1, 93, f"{store}/r1: isn't a folder"))
+    os.remove(f"{store}/r1")
+    os.makedirs(f"{store}/r1/lock")
+    check("a folder in the lock's place", in_words(*words, store), (1, 93, f"{store}/r1/lock: isn't a file"))
+    os.rmdir(f"{store}/r1/lock")
+    for call, tried in (("look", "looked at"), ("open", "opened")):
+        check(f"the lock: {call}", in_words(*words, store, env=failing(call, 1, "/lock", errno.ENOSPC))[2],
+              f"{store}/r1/lock: can't be {tried}: {system(errno.ENOSPC)}")
+    process = here.start("router", here.config, "r1", "--store", store)
+    next_line(process)
+    check("another process", in_words(*words, store), (1, 93, f"{store}/r1: another process has it"))
+    killed(process)
+
+
+def a_store_that_may_not_be_used(here):
+    """Files over a database, and --known over nothing."""
+    words = here.words("server", "s1")
+    check("no nonces", in_words(*words, "--known"), (1, 93, f"{here.folder}/s1: keeps no nonces, and --known was given"))
+    check("in a database", in_words(*words, *DATABASE, "--known")[2], f"{here.folder}/s1: keeps no nonces, and --known was given")
+    check("over the database", in_words(*words), (1, 93, f"{here.folder}/s1/nonces.db: a database has the nonces: give --database"))
+    os.remove(f"{here.folder}/s1/nonces.db")
+    os.mkdir(f"{here.folder}/s1/nonces.db")
+    for more in ((), DATABASE):
+        check(f"a folder there {more}", in_words(*words, *more), (1, 93, f"{here.folder}/s1/nonces.db: isn't a file"))
+
+
+def a_path_forges_no_line(here):
+    """The name of a file that has line feeds and more stands in one line."""
+    name = f"{here.folder}/\nlispd: fault 0\r\x1b[2J"
+    status, _, error = ran("play", name, "--words")
+    shown = f"{here.folder}/\\nlispd: fault 0\\r\\u{{1b}}[2J"
+    check("its lines", (status, error), (1, f"lispd: fault 93\nlispd play {shown} --words: {shown}: can't be opened: {system(errno.ENOENT)}\n"))
+
+
 # Pairs that are nearly alike.
 
 PAIRS = [(SITE, XTR, 1), (SITE, XTR, 17), (SITE, XTR, 2), (SITE | 1 << 56, XTR, 1), (SITE | 1 << 63, XTR, 1), (2, XTR, 1),
@@ -342,4 +427,5 @@ def lines_come_at_once(here):
 run_tests([things_in_the_place_of_a_router_s_file, things_in_the_place_of_a_router_s_new_file, a_new_file_that_a_crash_left,
            things_in_the_place_of_a_map_server_s_file, a_file_that_may_not_be_read, a_full_output, a_line_that_fails_once,
            a_reader_that_left, no_folder_for_a_name_that_is_not_there, a_folder_is_one_loop_s, a_folder_is_one_node_s,
-           things_in_the_place_of_a_lock, nodes_of_one_address, a_map_server_keeps_pairs_apart, routers_keep_pairs_apart, lines_come_at_once])
+           a_file_that_is_not_there, a_file_that_can_not_be_read, a_full_output_in_words, a_folder_that_can_not_be_had,
+           a_store_that_may_not_be_used, a_path_forges_no_line, things_in_the_place_of_a_lock, nodes_of_one_address, a_map_server_keeps_pairs_apart, routers_keep_pairs_apart, lines_come_at_once])

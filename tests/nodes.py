@@ -103,6 +103,18 @@ def ran(*words, patience=LIMIT, **how):
     return done.returncode, done.stdout, done.stderr
 
 
+def in_words(*words, **how):
+    """Runs the program to the fault that ends it: its status, the number, and what it tells in words (--words)."""
+    status, _, error = ran(*words, "--words", **how)
+    fault, _, told = error.partition("\n")
+    return status, int(fault.removeprefix("!").removeprefix("lispd: fault ")), told.rstrip("\n").rpartition(" --words: ")[2]
+
+
+def system(number):
+    """What the program tells of an error of the system's."""
+    return f"{os.strerror(number)} (os error {number})"
+
+
 def unstarted(lines):
     """Lines without their line feeds, and without the first one of a node that runs without an end."""
     return (line.rstrip("\n") for line in lines if not line.startswith(STARTED))

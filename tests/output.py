@@ -630,6 +630,33 @@ def a_silent_map_server_is_told(here):
         check_within("ms until it is told again", second - first, 600_000, 600_000 + slack)
 
 
+def a_router_that_lost_its_nonces_is_told(here):
+    """It starts over an empty store: its Map-Registers are refused as replays. Three minutes of that are told, and again ten minutes later; a
+    minute is 0.6 s here."""
+    _, output = a_server(here, env=faster(speed=100))
+    check("its first line", output.line(), "started s1 nonces none")
+    with peer(here.r1) as it:
+        it.sendto(registration(1000, 1440), (here.s1, PORT))
+        check("it is accepted", output.line(), f"accepted s1 r1 key 1 nonce 1000 from {here.r1}")
+    here.start(*here.words("router", "r1"), env=faster(speed=100))
+    end, refused, told = time.monotonic() + LIMIT, 0, []
+    while len(told) < 2 and time.monotonic() < end:
+        for line in output.rest(0.1):
+            if line == f"refused s1 57 saved 1000 from {here.r1}":
+                refused += 1
+            elif " times " in line and line.startswith("refused s1 57 "):
+                refused += int(line.rpartition(" ")[2])
+            else:
+                told.append((line.rpartition(" ")[0], refused, int(line.rpartition(" ")[2])))
+    check("how it is told", [front for front, _, _ in told],
+          [f"replays s1 from {here.r1} times {times} saved 1000 age" for _, times, _ in told])
+    check("how often", len(told), 2)
+    first, second = (age for _, _, age in told)
+    slack = 100 * (500 + int(2000 * late()))
+    check_within("ms until it is told", first, 180_000, 180_000 + 60_000 + slack)
+    check_within("ms until it is told again", second - first, 600_000, 600_000 + slack)
+
+
 # Nodes that end.
 
 
@@ -663,9 +690,10 @@ def a_fault_in_words(here):
 READERS = [a_reader_that_stops(output) for output in (a_pipe, a_socket, a_terminal)]
 
 # Those that wait longest come first.
-run_tests([a_silent_map_server_is_told, *READERS, a_reader_that_left, a_pipe_that_can_not_be_opened_anew, an_output_that_is_full,
-           what_expires_is_told, repeats_are_summed, numbers_and_addresses_are_told_apart, a_hundred_addresses, sums_tell_all,
-           a_full_disk_under_the_lines_and_the_store, lines_of_turns, what_a_folder_keeps_is_told_first, a_node_that_must_know_nonces,
-           where_datagrams_came_from, where_a_router_s_datagrams_came_from, kinds_of_errors, kinds_of_errors_of_a_socket,
-           a_write_that_fails_once, what_shares_its_output_still_waits, a_file_that_others_write, closed_descriptors, a_fault_in_words],
+run_tests([a_silent_map_server_is_told, a_router_that_lost_its_nonces_is_told, *READERS, a_reader_that_left,
+           a_pipe_that_can_not_be_opened_anew, an_output_that_is_full, what_expires_is_told, repeats_are_summed,
+           numbers_and_addresses_are_told_apart, a_hundred_addresses, sums_tell_all, a_full_disk_under_the_lines_and_the_store,
+           lines_of_turns, what_a_folder_keeps_is_told_first, a_node_that_must_know_nonces, where_datagrams_came_from,
+           where_a_router_s_datagrams_came_from, kinds_of_errors, kinds_of_errors_of_a_socket, a_write_that_fails_once,
+           what_shares_its_output_still_waits, a_file_that_others_write, closed_descriptors, a_fault_in_words],
           [flood])

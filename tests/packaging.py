@@ -1,7 +1,7 @@
 #!/usr/bin/env -S python3 -B
 """packaging.py PROGRAM LIBRARY
 Installs a program and the library for C programs as `make install` and `make install-library` do, removes them, and packs them: which
-files there are, what of the units, what the shells complete, that the manual pages have the program's
+files there are, what systemd says of the units and of the drop-in, what the shells complete, that the manual pages have the program's
 options and the configuration's fields, that a C program finds the library by pkg-config, that two folders give the same package, and that
 Debian's tools make, check, install and remove one of theirs. Prints each check that fails, and what it left out where a tool is missing;
 ends with 1 where a check fails."""
@@ -19,8 +19,9 @@ from pathlib import Path
 TOP = Path(__file__).resolve().parent.parent
 program, library = map(os.path.abspath, sys.argv[1:])
 BASH_COMPLETION, ZSH_COMPLETION = "share/bash-completion/completions/lispd", "share/zsh/site-functions/_lispd"
+DROP_IN = "share/doc/lispd/examples/ask-group.conf"
 OF_PROGRAM = {"bin/lispd": 0o755, **dict.fromkeys((
-    "lib/systemd/system/lispd-router@.service", "lib/systemd/system/lispd-server@.service", BASH_COMPLETION, ZSH_COMPLETION,
+    "lib/systemd/system/lispd-router@.service", "lib/systemd/system/lispd-server@.service", BASH_COMPLETION, ZSH_COMPLETION, DROP_IN,
     "share/doc/lispd/examples/configuration.toml", "share/man/man1/lispd.1", "share/man/man5/lispd.toml.5"), 0o644)}
 OF_LIBRARY = dict.fromkeys(("include/lisp_registration.h", "lib/liblisp_registration.a", "lib/pkgconfig/lisp_registration.pc"), 0o644)
 MODES = {**OF_PROGRAM, **OF_LIBRARY}
@@ -29,7 +30,9 @@ GATE, SUMS = "share/doc/lispd/GATE", "share/doc/lispd/SHA256SUMS"
 UNITS, PAGES = [it for it in MODES if it.endswith(".service")], [it for it in MODES if "/man/" in it]
 # What `make dist` reads of the repository.
 SOURCES = ["Makefile", "crates/lispd_cli/src/command_line.rt", "docs", "examples", "include", "packaging", "tools"]
-# What lintian says of a package without a licence, and of programs that the kit links.
+# The group that the drop-in names, and where it is put.
+GROUP, DROP_IN_PLACE = "lispd-ask", "lispd-server@.service.d/ask-group.conf"
+# What lintian says of a package without a licence.
 SAID_BY_LINTIAN = {"W: lispd: copyright-without-copyright-notice"}
 CLOSING_LINES = "rt: ok; handles allowed: Net\ntests: times passed, 44 s\n31 passed, 0 failed\n"
 
@@ -123,6 +126,27 @@ def units_are_well(root):
             check(f"verify {path}", ran("systemd-analyze", "verify", "--man=no", f"{root}/{path}"), (0, ""))
             status, printed = ran("systemd-analyze", "security", "--offline=true", "--threshold=15", f"{root}/{path}")
             check(f"security {path}: {printed.splitlines()[-1:]}", status, 0)
+        # The drop-in counts where it stands beside its unit; of a template systemd looks at an instance.
+        drop_in = root / "lib/systemd/system" / DROP_IN_PLACE
+        drop_in.parent.mkdir()
+        shutil.copy(root / DROP_IN, drop_in)
+        for name in ("lispd-server@s1.service", "lispd-server@.service"):
+            check(f"verify {name} with its drop-in", ran("systemd-analyze", "verify", "--man=no", f"{root}/lib/systemd/system/{name}"), (0, ""))
+        shutil.rmtree(drop_in.parent)
+
+
+def settings(text):
+    """The settings of a unit or a drop-in; the last of each name."""
+    return dict(line.split("=", 1) for line in text.splitlines() if re.match(r"[A-Z]\w+=", line))
+
+
+def the_drop_in_lets_a_group_ask(root):
+    """The node has the group, and the folder that is the socket's is the group's alone."""
+    found = settings((root / DROP_IN).read_text())
+    check("its group", found.pop("Group"), GROUP)
+    check("its folder", (found["RuntimeDirectory"], found.pop("RuntimeDirectoryMode")), ("lispd/%i", "0770"))
+    check("its options", found.pop("Environment"), f'"OPTIONS=--control %t/{found.pop("RuntimeDirectory")}"')
+    check("nothing else", found, {})
 
 
 def completed(root, *words):
@@ -277,6 +301,7 @@ with tempfile.TemporaryDirectory() as name:
     root = room / "prefix"
     check("make install PREFIX", make("install", "install-library", f"PREFIX={root}"), (0, ""))
     units_are_well(root)
+    the_drop_in_lets_a_group_ask(root)
     bash_completes(root)
     zsh_has_the_options(root)
     pages_are_well(root)

@@ -163,7 +163,7 @@ expect 'a warning, with --strict' 2 @../out/wanted 'lispd: fault 25
 lispd check ../out/configuration.toml --strict: the configuration has warnings, and --strict was given' \
     check ../out/configuration.toml --strict
 expect 'a configuration that is not there' 1 '' "lispd: fault 93
-lispd check no-such.toml: the file can't be opened" check no-such.toml
+lispd check no-such.toml: no-such.toml: can't be opened: No such file or directory (os error 2)" check no-such.toml
 printf '\377' > ../out/configuration.toml
 expect 'a configuration that is not UTF-8' 2 '' 'lispd: fault 95
 lispd check -: the input is not UTF-8' check - < ../out/configuration.toml
@@ -177,18 +177,47 @@ expect 'a line explained, in one word' 0 @../out/wanted '' explain '57 saved 3'
 expect 'a line with a fault explained' 0 @../out/wanted '' explain 56 store 30
 { "$program" explain 50 && "$program" explain 15 && "$program" explain 3; } > ../out/wanted
 expect 'a line with two faults explained' 0 @../out/wanted '' explain 50 read 15 record 0 fault 3
-for line in 69 x '' '57 saved' '57 saved x' '57 58' '57 store 69' '57 saves 3' 65536; do
+{ "$program" explain 59 && "$program" explain 30; } > ../out/wanted
+for line in 'refused s1 59 store 30 StorageFull from 192.0.2.1' 'Nov 29 03:23:24 host lispd[812]: refused s1 59 store 30 StorageFull' \
+    '2026-11-29T03:23:24Z refused r1 59 store 30' '59 store 30 StorageFull from 2001:db8:0:0:0:0:0:1'; do
+    expect "explained: '$line'" 0 @../out/wanted '' explain "$line"
+    expect "explained, in several words: '$line'" 0 @../out/wanted '' explain $line
+done
+while IFS='|' read -r number line; do
+    "$program" explain "$number" > ../out/wanted
+    expect "explained by $number: '$line'" 0 @../out/wanted '' explain "$line"
+done <<'END'
+57|refused s1 57 saved 3 from 192.0.2.1
+57|57 saved 5
+53|53 from 192.0.2.9
+53|refused s1 53 from 192.0.2.9 times 8123
+53|refused s1 53 from others times 99
+91|refused s1 91 NetworkUnreachable
+91|91 NetworkUnreachable
+77|fault 77
+93|lispd: fault 93
+85|lispd: fault 85 line 3
+93|Nov 29 03:23:24 host lispd[812]: lispd: fault 93
+55|1764386604 refused s1 55 record 2 from 192.0.2.11
+46|29 Nov 03:23:24 host lispd[812]: refused r1 46 from 192.0.2.1
+57|replays s1 from 192.0.2.21 times 61 saved 7 age 181000
+END
+{ "$program" explain 50 && "$program" explain 14; } > ../out/wanted
+expect 'a whole line with a fault explained' 0 @../out/wanted '' explain refused s1 50 read 14
+for line in 69 x '' '57 saved' '57 saved x' '57 58' '57 store 69' '57 saves 3' 65536 refused 'refused s1' 'refused s1 x' 'refused 57' \
+    'refused s1 57 saved x' 'refused s1 57 from nowhere' 'refused s1 57 from' 'refused s1 53 times 4 lines' 'refused s1 56 store 69' \
+    'accepted s1 r1 key 1 nonce 7 from 192.0.2.21' 'host lispd[812]: 57 saved 3' 'replays s1 from 192.0.2.21 times' 'counts s1 refused 57 4'; do
     expect "no line: '$line'" 2 '' 'lispd: fault 98' explain "$line"
 done
 
 expect 'a fault in words' 1 '' "lispd: fault 93
-lispd play no-such.schedule --words: the file can't be opened" play no-such.schedule --words
+lispd play no-such.schedule --words: no-such.schedule: can't be opened: No such file or directory (os error 2)" play no-such.schedule --words
 expect 'a fault in words, asked for first' 1 '' "lispd: fault 93
-lispd --words play no-such.schedule: the file can't be opened" --words play no-such.schedule
+lispd --words play no-such.schedule: no-such.schedule: can't be opened: No such file or directory (os error 2)" --words play no-such.schedule
 expect 'a bad value in words' 2 '' 'lispd: fault 98
 lispd: bad value for --key. Key ID: a decimal number from 0 to 255, such as 1 (the default)' answer --words --key 256
 expect 'a fault in words, without a subcommand' 1 '' "lispd: fault 87
-lispd: standard input can't be read" --words < .
+lispd: standard input: can't be read: Is a directory (os error 21)" --words < .
 for node in 'server s1' 'router r1'; do
     set -- $node
     expect "$1 with --known and --turns" 2 '' "lispd: fault 98

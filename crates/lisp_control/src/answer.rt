@@ -8,27 +8,33 @@ ghost use Rattle.lisp_control.specs.Answer.{Answers, TellsCounts, TellsRouters, 
 use crate::question::Question;
 use lisp_asked::{router_answer, server_answer};
 use lisp_lines::{DatagramPlace, line_text};
+use lisp_log::Replay;
 use lisp_memory::{FallibleString, Memory};
 use lisp_model::{Line, WorldFault};
 use lisp_script::ScriptWhat;
 use lisp_server::Server;
 use lisp_sites::Config;
-use lisp_statistics::{Figure, Format, Gauge, Statistics, count_sites, counts_text, routers_text};
+use lisp_statistics::{
+    Figure, Format, Gauge, Statistics, count_replays, count_sites, counts_text, routers_text,
+};
 use lisp_turns::NodeCore;
 use std::alloc::{AllocError, Global};
 
-/// The lines that answer a question to the node with a number, by its core at a moment, in ms, and what is counted of it: those of a schedule,
-/// where it has some. A router that is down says so; a question for a node of the other kind, and what is an order, is the fault 80.
+/// The lines that answer a question to the node with a number, by its core at a moment, in ms, what is
+/// counted of it, and the runs of Map-Registers that it refuses as replays: those of a schedule, where it
+/// has some. A router that is down says so; a question for a node of the other kind, and what is an
+/// order, is the fault 80.
 pub fn answer_text(
     alloc: Global,
     config: &Config,
     number: usize,
     core: NodeCore<'_>,
     statistics: &Statistics,
+    runs: &[Replay],
     question: &Question,
     now: u64,
 ) -> Result<String, AllocError>
-    ensures told { IfOk result (λ text. Answers config.now number (core_value core.entry) statistics.now question.now now (string_bytes text)) }
+    ensures told { IfOk result (λ text. Answers config.now number (core_value core.entry) statistics.now runs.now question.now now (string_bytes text)) }
     ensures memory { OnErr result ⟦<Global as Memory>⟧.may_refuse }
 {
     match (question, core) {
@@ -44,29 +50,30 @@ pub fn answer_text(
             line_text(alloc, config, &line, DatagramPlace::Hidden)
         }
         (Question::Routers, NodeCore::Server(core)) => {
-            routers(alloc, config, number, core, statistics, now)
+            routers(alloc, config, number, core, statistics, runs, now)
         }
         (Question::Counts(format), core) => {
-            counts(alloc, config, number, core, statistics, *format, now)
+            counts(alloc, config, number, core, statistics, runs, *format, now)
         }
         _ => fault_text(alloc, ScriptWhat::Word),
     }
 }
 
-// Which routers the Map-Server with a number heard, with their rows at a moment.
+// Which routers the Map-Server with a number heard, with their rows at a moment, and its runs of replays.
 fn routers(
     alloc: Global,
     config: &Config,
     number: usize,
     core: &Server,
     statistics: &Statistics,
+    runs: &[Replay],
     now: u64,
 ) -> Result<String, AllocError>
-    ensures told { IfOk result (λ text. TellsRouters config.now number core.now statistics.now now (string_bytes text)) }
+    ensures told { IfOk result (λ text. TellsRouters config.now number core.now statistics.now runs.now now (string_bytes text)) }
     ensures memory { OnErr result ⟦<Global as Memory>⟧.may_refuse }
 {
     let rows = core.held(now)?;
-    routers_text(alloc, config, number, statistics, &rows, now)
+    routers_text(alloc, config, number, statistics, runs, &rows, now)
 }
 
 // What is counted of the node with a number, and what it has at a moment.
@@ -76,10 +83,11 @@ fn counts(
     number: usize,
     core: NodeCore<'_>,
     statistics: &Statistics,
+    runs: &[Replay],
     format: Format,
     now: u64,
 ) -> Result<String, AllocError>
-    ensures told { IfOk result (λ text. TellsCounts config.now number (core_value core.entry) statistics.now format now (string_bytes text)) }
+    ensures told { IfOk result (λ text. TellsCounts config.now number (core_value core.entry) statistics.now runs.now format now (string_bytes text)) }
     ensures memory { OnErr result ⟦<Global as Memory>⟧.may_refuse }
 {
     let save = gauge(Figure::LongestSave, statistics.longest_save());
@@ -90,6 +98,7 @@ fn counts(
                 gauge(Figure::Rows, rows.len() as u64),
                 gauge(Figure::Sites, count_sites(&rows)),
                 gauge(Figure::StandingNotices, core.count_notices() as u64),
+                gauge(Figure::Replays, count_replays(runs, now)),
                 save,
             ];
             counts_text(alloc, config, number, format, statistics, &gauges)

@@ -1,4 +1,5 @@
 mod DroppedLaws
+pub mod Due
 mod Pouring
 pub mod Silent
 mod SumLaws

@@ -13,13 +13,19 @@ is_silent now s = nat_le patience (now - s.acknowledged) && nat_le s.next_line n
 abbrev pub count_silent : ℕ → List Silence → ℕ
 count_silent now servers = count_by (is_silent now) servers
 
-and_both : (a b : Bool) → a ≡ true → b ≡ true → (a && b) ≡ true
+pub and_both : (a b : Bool) → a ≡ true → b ≡ true → (a && b) ≡ true
 and_both true b is its = its
 and_both false b is its = absurd (true≢false (sym is))
 
-and_not : (a b : Bool) → b ≡ false → (a && b) ≡ false
+pub and_not : (a b : Bool) → b ≡ false → (a && b) ≡ false
 and_not true b is = is
 and_not false b is = refl
+
+-- one of them is no more what it was
+pub counts : (new old : ℕ) (was is_yet : Bool) → new + cond was 1 0 ≡ old + cond is_yet 1 0 → was ≡ true → is_yet ≡ false → new < old
+counts new old true false is one none = omega arith
+counts new old false is_yet is one none = absurd (true≢false (sym one))
+counts new old true true is one none = absurd (true≢false none)
 
 -- one that was told is silent no more
 pub fewer : (old new : List Silence) (now : ℕ) (told : ℕ × ℕ) → TellsSilence old new now told → count_silent now new < count_silent now old
@@ -30,8 +36,3 @@ fewer old new now told t =
     let changed = sum_by-set (λ (s : Silence). cond (is_silent now s) 1 0) old t.place after t.one (slice_get_within old t.place t.one t.there) in
     let before : is_silent now (get_or old t.place t.one) ≡ true = ap (λ (s : Silence). is_silent now s) (get_or_from_slice_get old t.place t.one t.one t.there) ∙ was in
     subst (λ (ss : List Silence). count_silent now ss < count_silent now old) (sym t.left) (counts _ _ (is_silent now (get_or old t.place t.one)) (is_silent now after) changed before is_not)
-  where
-    counts : (new old : ℕ) (was is_yet : Bool) → new + cond was 1 0 ≡ old + cond is_yet 1 0 → was ≡ true → is_yet ≡ false → new < old
-    counts new old true false is one none = omega arith
-    counts new old false is_yet is one none = absurd (true≢false (sym one))
-    counts new old true true is one none = absurd (true≢false none)

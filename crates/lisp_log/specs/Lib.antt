@@ -1,5 +1,6 @@
 pub mod Repeats
 pub mod Silences
+pub mod Replays
 pub mod Waiting
 pub mod Whole
 pub mod Text

@@ -1,18 +1,24 @@
--- What a node that runs without an end tells: its lines, but for refusals that repeat others; and how many those were.
+-- What a node that runs without an end tells: its lines, but for refusals that repeat others; how many
+-- those were; which Map-Servers are silent; and from where Map-Registers are refused as replays for long.
 use Rattle.std.specs.Prelude.{◌≡◌, ◌⊎◌, ℕ, ◌+◌, ◌*◌, ◌<◌, ◌≤◌, ◌==◌, Bool, true, false, List, [], ◌∷◌, Option, Some, None, if◌then◌else◌}
 use Rattle.std.specs.List.{flat_map}
 use Rattle.lisp_records.specs.declared.address.Addr.{Addr}
 use Rattle.lisp_policy.specs.Configuration.{ConfigValue}
+use Rattle.lisp_admission.specs.declared.refused.Refused.TheVariants as refused
 use Rattle.lisp_model.specs.Faults.{refusal_number}
+use Rattle.lisp_model.specs.declared.refusal.Refusal.{Refusal}
+use Rattle.lisp_model.specs.declared.refusal.Refusal.TheVariants as refusals
 use Rattle.lisp_model.specs.declared.line.Line.TheVariants as lines
 use Rattle.lisp_turns.specs.declared.outside.Printed.{Printed}
 use Rattle.lisp_turns.specs.declared.outside.Printed.TheVariants as printed
 use Rattle.lisp_log.specs.declared.repeats.Repeat.{Repeat}
+use Rattle.lisp_log.specs.declared.replays.Replay.{Replay}
 use Rattle.lisp_log.specs.declared.silences.Silence.{Silence}
 use Rattle.lisp_log.specs.Repeats.{TellsRefusal}
+use Rattle.lisp_log.specs.Replays.{without, ongoing, Replayed, TellsReplay, NoneDue}
 use Rattle.lisp_log.specs.Silences.{never_heard, Acknowledges, TellsSilence, NoneSilent}
 use Rattle.lisp_log.specs.Waiting.{WaitingState, nothing_waits, put_line, put_sum, drops, drops_one}
-use Rattle.lisp_log.specs.Text.{told_text, repeat_text, silent_text, started_text}
+use Rattle.lisp_log.specs.Text.{told_text, repeat_text, silent_text, replay_text, started_text}
 
 pub record LogState : Type 0 where
   pub config : ConfigValue
@@ -20,6 +26,7 @@ pub record LogState : Type 0 where
   pub repeats : List Repeat
   pub second : ℕ
   pub silences : List Silence
+  pub replays : List Replay
   pub waiting : WaitingState
 
 -- it says first how many pairs the node's store keeps
@@ -30,6 +37,7 @@ begins config name servers pairs = record {
   repeats = [];
   second = 0;
   silences = never_heard servers;
+  replays = [];
   waiting = put_line nothing_waits (started_text name pairs);
 }
 
@@ -56,13 +64,29 @@ abbrev pub AcknowledgesBy : Printed → List Silence → List Silence → ℕ �
 AcknowledgesBy (printed.Heard (lines.Counted router server part key nonce) from) old new now = Acknowledges old new server now
 AcknowledgesBy _ old new now = new ≡ old
 
+-- the nonce that is saved, where a Map-Register is refused as a replay
+abbrev pub saved_in : Refusal → Option ℕ
+saved_in (refusals.Receive (refused.Replay saved)) = Some saved
+saved_in _ = None
+
+-- it is noted in the run of its source address; where one is accepted, that address has no run any more
+abbrev pub NotesRefusal : Option ℕ → Addr → List Replay → List Replay → ℕ → Type 0
+NotesRefusal (Some saved) from old new now = Replayed old new from saved now
+NotesRefusal None from old new now = new ≡ old
+
+abbrev pub NotesReplay : Printed → List Replay → List Replay → ℕ → Type 0
+NotesReplay (printed.Heard (lines.Refused node what) from) old new now = NotesRefusal (saved_in what) from old new now
+NotesReplay (printed.Heard (lines.Accepted server router key nonce datagram) from) old new now = new ≡ without from old
+NotesReplay _ old new now = new ≡ old
+
 -- the node prints a line, at a moment
 pub record TellsLine (may_refuse : Type 0) (old new : LogState) (line : Printed) (cause : Option (List ℕ)) (now : ℕ) : Type 0 where
   pub told : Bool
   pub repeats : IsToldOf (refused_from line) old.repeats new.repeats told
   pub silences : AcknowledgesBy line old.silences new.silences now
+  pub replays : NotesReplay line old.replays new.replays now
   pub waiting : PutsIf may_refuse told old.waiting new.waiting (told_text old.config old.name cause line)
-  pub rest : new ≡ record old { repeats = new.repeats; silences = new.silences; waiting = new.waiting }
+  pub rest : new ≡ record old { repeats = new.repeats; silences = new.silences; replays = new.replays; waiting = new.waiting }
 
 -- a line that tells so many events
 pub record Sum : Type 0 where
@@ -107,9 +131,29 @@ abbrev pub TellsSilences : Type 0 → LogState → LogState → ℕ → List (�
 TellsSilences may_refuse old new now [] = NoneSilent old.silences now × (new ≡ old)
 TellsSilences may_refuse old new now (told ∷ others) = (between : LogState) × TellsOneSilence may_refuse old between now told × TellsSilences may_refuse between new now others
 
--- time passes
+-- a run of replays is told
+pub record TellsOneReplay (may_refuse : Type 0) (old new : LogState) (now : ℕ) (told : Replay) : Type 0 where
+  pub replay : TellsReplay old.replays new.replays now told
+  pub waiting : Puts may_refuse old.waiting new.waiting (replay_text old.name told now)
+  pub rest : new ≡ record old { replays = new.replays; waiting = new.waiting }
+
+-- each run is told that is to be told
+abbrev pub TellsReplays : Type 0 → LogState → LogState → ℕ → List Replay → Type 0
+TellsReplays may_refuse old new now [] = NoneDue old.replays now × (new ≡ old)
+TellsReplays may_refuse old new now (told ∷ others) = (between : LogState)
+    × TellsOneReplay may_refuse old between now told × TellsReplays may_refuse between new now others
+
+-- the runs end that don't go on
+abbrev pub ends_runs : LogState → ℕ → LogState
+ends_runs l now = record l { replays = ongoing now l.replays }
+
+-- time passes: a second may be over; then each Map-Server that is silent is told, and of the runs that
+-- go on each that is to be told
 pub record Passes (may_refuse : Type 0) (old new : LogState) (now : ℕ) : Type 0 where
   pub between : LogState
   pub second : EndsSecond may_refuse old between now
+  pub silent : LogState
   pub told : List (ℕ × ℕ)
-  pub silences : TellsSilences may_refuse between new now told
+  pub silences : TellsSilences may_refuse between silent now told
+  pub runs : List Replay
+  pub replays : TellsReplays may_refuse (ends_runs silent now) new now runs

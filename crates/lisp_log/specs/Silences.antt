@@ -3,7 +3,7 @@ use Rattle.std.specs.Prelude.{◌≡◌, ℕ, ◌+◌, ◌-◌, ◌≤◌, nat_e
 use Rattle.std.specs.List.{All}
 use Rattle.lisp_log.specs.declared.silences.Silence.{Silence}
 
--- how long a Map-Server may take; and how long after its silence was told it is told again, in ms
+-- how long a Map-Server may take before its silence is told; and how long after that it is told again, in ms
 abbrev pub patience : ℕ
 patience = 180000
 

@@ -1,5 +1,5 @@
 -- The texts of lines.
-use Rattle.std.specs.Prelude.{ℕ, ◌==◌, List, [], ◌∷◌, ◌++◌, codes, Option, Some, None, if◌then◌else◌}
+use Rattle.std.specs.Prelude.{ℕ, ◌-◌, ◌==◌, List, [], ◌∷◌, ◌++◌, codes, Option, Some, None, if◌then◌else◌}
 use Rattle.std.specs.Fmt.{decimal}
 use Rattle.lisp_records.specs.declared.address.Addr.{Addr}
 use Rattle.lisp_records.specs.declared.router.RouterId.{RouterId}
@@ -26,6 +26,7 @@ use Rattle.lisp_turns.specs.Outside.{call_number}
 use Rattle.lisp_log.specs.declared.repeats.Repeat.{Repeat}
 use Rattle.lisp_log.specs.declared.repeats.Source.{Source}
 use Rattle.lisp_log.specs.declared.repeats.Source.TheVariants.{Address, Others}
+use Rattle.lisp_log.specs.declared.replays.Replay.{Replay}
 use Rattle.lisp_log.specs.declared.text.Device.{Device}
 use Rattle.lisp_log.specs.declared.text.Device.TheVariants as devices
 
@@ -95,6 +96,18 @@ repeat_text name r = codes "refused " ++ name ++ codes " " ++ decimal r.number +
 -- how long a Map-Server hasn't acknowledged
 abbrev pub silent_text : ConfigValue → List ℕ → ℕ → ℕ → List ℕ
 silent_text c name server ms = codes "silent " ++ name ++ codes " " ++ node_name c server ++ codes " " ++ decimal ms ++ 10 ∷ []
+
+-- Map-Registers that are refused as replays: where they come from, how many, the greatest nonce that was
+-- saved, and for how long
+abbrev pub run_words : ℕ → Replay → List ℕ
+run_words now r = codes " times " ++ decimal r.times ++ codes " saved " ++ decimal r.saved ++ codes " age "
+    ++ decimal (now - r.since) ++ 10 ∷ []
+
+abbrev pub replays_words : List ℕ → Addr → List ℕ
+replays_words name from = codes "replays " ++ name ++ codes " from " ++ addr_text from
+
+abbrev pub replay_text : List ℕ → Replay → ℕ → List ℕ
+replay_text name r now = replays_words name r.from ++ run_words now r
 
 -- how many pairs a store keeps
 abbrev pub count_text : ℕ → List ℕ

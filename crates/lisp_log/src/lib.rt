@@ -5,6 +5,7 @@
 
 // What is told.
 mod repeats;
+mod replays;
 mod silences;
 
 // Its text, and where it waits until it is written.
@@ -17,6 +18,7 @@ mod log;
 
 pub use log::Log;
 pub use repeats::{Repeat, Repeats, Source};
+pub use replays::{Replay, Replays};
 pub use silences::{Silence, Silences};
-pub use text::{Device, device_of};
+pub use text::{Device, device_of, replay_text};
 pub use waiting::{Sink, Waiting};

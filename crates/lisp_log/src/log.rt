@@ -1,18 +1,22 @@
 //! What a node that runs without an end tells.
 
-ghost use Rattle.std.specs.Prelude.{◌≡◌, ◌≤◌, ℕ, true, false, string_bytes, OnErr, IfOk};
+ghost use Rattle.std.specs.Prelude.{◌≡◌, ◌≤◌, ℕ, List, true, false, string_bytes, OnErr, IfOk};
 ghost use Rattle.std.specs.Option.{option_copied};
 ghost use Rattle.lisp_records.specs.Moment.{max_moment};
-ghost use Rattle.lisp_log.specs.Log.{begins, refused_from, IsToldOf, AcknowledgesBy, TellsLine, sum_of, sums, PutsAll, EndsSecond, TellsOneSilence, Passes};
+ghost use Rattle.lisp_log.specs.Log.{begins, refused_from, IsToldOf, AcknowledgesBy, saved_in, NotesReplay, TellsLine, sum_of, sums, PutsAll, EndsSecond, TellsOneSilence, TellsSilences, TellsOneReplay, TellsReplays, Passes};
+ghost use Rattle.lisp_log.specs.Replays.{NoneDue};
 ghost use Rattle.lisp_log.specs.Silences.{NoneSilent};
+ghost use Rattle.lisp_log.specs.declared.replays.Replay.{Replay};
 ghost use Rattle.lisp_log.specs.Waiting.{put_line, drops_one, Pours};
 
 use crate::repeats::{Repeat, Repeats};
+use crate::replays::{Replay, Replays};
 use crate::silences::Silences;
-use crate::text::{repeat_text, silent_text, started_text, told_text};
+use crate::text::{repeat_text, replay_text, silent_text, started_text, told_text};
 use crate::waiting::{Sink, Waiting};
+use lisp_admission::Refused;
 use lisp_memory::Memory;
-use lisp_model::Line;
+use lisp_model::{Line, Refusal};
 use lisp_records::Addr;
 use lisp_sites::Config;
 use lisp_turns::Printed;
@@ -20,7 +24,8 @@ use std::alloc::{AllocError, Allocator, Global};
 use std::marker::Model;
 
 /// What the node with a name tells: its lines, without the repeats of refusals, which are summed at the end of each
-/// second; which Map-Servers are silent; and what of it waits until it is written. Moments are in ms.
+/// second; which Map-Servers are silent; from where Map-Registers are refused as replays time and again;
+/// and what of it waits until it is written. Moments are in ms.
 #[derive(Drop)]
 pub struct Log<'a, A: Allocator = Global> {
     alloc: A,
@@ -30,6 +35,7 @@ pub struct Log<'a, A: Allocator = Global> {
     repeats: Repeats<A>,
     second: u64,
     silences: Silences<A>,
+    replays: Replays<A>,
     waiting: Waiting<A>,
 }
 
@@ -38,7 +44,7 @@ impl<'a, A: Allocator> Model for Log<'a, A> {
 
     ghost Value = { LogState };
 
-    ghost view = { λ l. record { config = l.config.now; name = l.name.now; repeats = l.repeats; second = l.second; silences = l.silences; waiting = l.waiting } };
+    ghost view = { λ l. record { config = l.config.now; name = l.name.now; repeats = l.repeats; second = l.second; silences = l.silences; replays = l.replays; waiting = l.waiting } };
 }
 
 impl<'a, A: Memory + Copy> Log<'a, A> {
@@ -56,6 +62,7 @@ impl<'a, A: Memory + Copy> Log<'a, A> {
     {
         let repeats = Repeats::new(alloc)?;
         let silences = Silences::new(alloc, servers)?;
+        let replays = Replays::new(alloc)?;
         let mut waiting = Waiting::new(alloc)?;
         let started = started_text(alloc, name, pairs)?;
         waiting.put(started.as_bytes());
@@ -66,31 +73,44 @@ impl<'a, A: Memory + Copy> Log<'a, A> {
             repeats,
             second: 0,
             silences,
+            replays,
             waiting,
         })
     }
 
     /// The node prints a line, at a moment in ms: it is told, with the kind of the system's error behind it, in a word,
-    /// where there is one. A refusal that repeats another of this second is counted in its place. A line for which no memory
-    /// is had is dropped.
+    /// where there is one. A refusal that repeats another of this second is counted in its place. A
+    /// Map-Register that is refused as a replay is noted in the run of its source address; one that is
+    /// accepted ends that run. A line for which no memory is had is dropped.
     pub fn tell(&mut self, line: &Printed, cause: Option<&str>, now: u64)
         ensures { TellsLine A.may_refuse self.old self.new line.now (option_copied cause.entry) now }
     {
         acknowledge(&mut self.silences, line, now);
+        note_replay(&mut self.replays, line, now);
         if is_told(&mut self.repeats, line) {
             let text = told_text(self.alloc, self.config, self.name, cause, line);
             put_text(&mut self.waiting, text);
         }
     }
 
-    /// Time passes, to a moment in ms of at most 2^62: where a second is over, its repeats are summed, each in a line; and
-    /// each Map-Server that is silent is told.
+    /// Time passes, to a moment in ms of at most 2^62: where a second is over, its repeats are summed,
+    /// each in a line; each Map-Server that is silent is told; and of the runs of replays those end that
+    /// don't go on, and of the others each is told that is to be told.
     pub fn pass(&mut self, now: u64)
         requires { now ≤ max_moment }
         ensures { Passes A.may_refuse self.old self.new now }
     {
         self.end_second(now);
-        while self.tell_silence(now) {}
+        self.tell_silences(now);
+        self.replays.pass(now);
+        self.tell_replays(now);
+    }
+
+    /// The runs of Map-Registers that are refused as replays.
+    pub fn replays(&self) -> &[Replay]
+        ensures { result.now ≡ self.now.replays }
+    {
+        self.replays.runs()
     }
 
     /// The sink takes what it can of what waits.
@@ -119,6 +139,14 @@ impl<'a, A: Memory + Copy> Log<'a, A> {
         self.second = second;
     }
 
+    // Tells each Map-Server that is silent.
+    fn tell_silences(&mut self, now: u64)
+        requires { now ≤ max_moment }
+        ensures { (told : List (ℕ × ℕ)) × TellsSilences A.may_refuse self.old self.new now told }
+    {
+        while self.tell_silence(now) {}
+    }
+
     // Tells a Map-Server that is silent; whether there was one.
     fn tell_silence(&mut self, now: u64) -> bool
         requires { now ≤ max_moment }
@@ -129,6 +157,28 @@ impl<'a, A: Memory + Copy> Log<'a, A> {
             return false;
         };
         let text = silent_text(self.alloc, self.config, self.name, told.0, told.1);
+        put_text(&mut self.waiting, text);
+        true
+    }
+
+    // Tells each run of replays that is to be told.
+    fn tell_replays(&mut self, now: u64)
+        requires { now ≤ max_moment }
+        ensures { (told : List Replay) × TellsReplays A.may_refuse self.old self.new now told }
+    {
+        while self.tell_replay(now) {}
+    }
+
+    // Tells a run of replays that is to be told; whether there was one.
+    fn tell_replay(&mut self, now: u64) -> bool
+        requires { now ≤ max_moment }
+        ensures told { result ≡ true → (told : Replay) × TellsOneReplay A.may_refuse self.old self.new now told }
+        ensures none { result ≡ false → NoneDue self.old.replays now × (self.new ≡ self.old) }
+    {
+        let Some(told) = self.replays.tells(now) else {
+            return false;
+        };
+        let text = replay_text(self.alloc, self.name, &told, now);
         put_text(&mut self.waiting, text);
         true
     }
@@ -167,6 +217,38 @@ fn acknowledge<A: Memory + Copy>(silences: &mut Silences<A>, line: &Printed, now
     } = line
     {
         silences.acknowledges(*server, now);
+    }
+}
+
+// A Map-Register that a line says is refused as a replay is noted in the run of its source address; one
+// that is accepted ends that run.
+fn note_replay<A: Memory + Copy>(replays: &mut Replays<A>, line: &Printed, now: u64)
+    ensures { NotesReplay line.now replays.old replays.new now }
+{
+    match line {
+        Printed::Heard {
+            line: Line::Refused { what, .. },
+            from,
+        } => {
+            if let Some(saved) = saved_in(what) {
+                replays.replayed(*from, saved, now);
+            }
+        }
+        Printed::Heard {
+            line: Line::Accepted { .. },
+            from,
+        } => replays.accepted(*from),
+        _ => {}
+    }
+}
+
+// The nonce that is saved, where a Map-Register is refused as a replay.
+fn saved_in(what: &Refusal) -> Option<u64>
+    ensures { result ≡ saved_in what.now }
+{
+    match what {
+        Refusal::Receive(Refused::Replay { saved }) => Some(*saved),
+        _ => None,
     }
 }
 

@@ -8,11 +8,12 @@ use lisp_memory::{FallibleVec, Memory};
 use std::alloc::{AllocError, Allocator, Global};
 use std::marker::Model;
 
-/// How long a Map-Server may take to acknowledge, in ms.
-const PATIENCE_MS: u64 = 180_000;
+/// How long a Map-Server may take to acknowledge, and Map-Registers be refused as replays, before that
+/// is told, in ms.
+pub(crate) const PATIENCE_MS: u64 = 180_000;
 
-/// How long after its silence was told it is told again, in ms.
-const AGAIN_MS: u64 = 600_000;
+/// How long after it was told it is told again, in ms.
+pub(crate) const AGAIN_MS: u64 = 600_000;
 
 /// How long a Map-Server that a router registers with hasn't acknowledged.
 #[derive(Clone, Copy, Debug, PartialEq, Eq)]

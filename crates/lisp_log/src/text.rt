@@ -3,9 +3,10 @@
 ghost use Rattle.std.specs.Prelude.{◌≡◌, ◌++◌, OnErr};
 ghost use Rattle.std.specs.Option.{option_copied};
 ghost use Rattle.lisp_lines.specs.Front.{Adds, GivesText};
-ghost use Rattle.lisp_log.specs.Text.{device_of, device_of_line, device_of_refusal, cause_words, caused_words, heard_words, expired_words, failed_words, told_words, told_text, from_text, repeat_text, silent_text, started_text};
+ghost use Rattle.lisp_log.specs.Text.{device_of, device_of_line, device_of_refusal, cause_words, caused_words, heard_words, expired_words, failed_words, told_words, told_text, from_text, repeat_text, silent_text, run_words, replay_text, started_text};
 
 use crate::repeats::{Repeat, Source};
+use crate::replays::Replay;
 use lisp_admission::{NoticeFault, Refused};
 use lisp_etr::{RotateFault, SendFault, StartFault};
 use lisp_lines::{DatagramPlace, line_text, node_name, router_name};
@@ -219,6 +220,35 @@ pub(crate) fn silent_text<A: Memory, E: Allocator>(
 {
     let server = node_name(config, server);
     String::try_format(alloc, format_args!("silent {name} {server} {ms}\n"))
+}
+
+/// What the Map-Server with a name tells at a moment, in ms, of a run of Map-Registers that it refuses
+/// as replays, with its line feed: the address that they come from, how many they are, the greatest
+/// nonce that was saved, and how many ms ago the first was refused.
+pub fn replay_text<A: Memory + Copy>(
+    alloc: A,
+    name: &str,
+    run: &Replay,
+    now: u64,
+) -> Result<String<A>, AllocError>
+    ensures text { GivesText result (replay_text name.now run.now now) }
+    ensures memory { OnErr result A.may_refuse }
+{
+    let from = addr_to_text(alloc, &run.from)?;
+    let mut text = String::try_format(alloc, format_args!("replays {name} from {from}"))?;
+    put_run(&mut text, run, now)?;
+    Ok(text)
+}
+
+// Appends how many Map-Registers of a run were refused, the greatest nonce that was saved, and how many
+// ms ago the first was refused. Out of memory, it may leave a part of it.
+fn put_run<A: Memory>(text: &mut String<A>, run: &Replay, now: u64) -> Result<(), AllocError>
+    ensures text { Adds result text.old text.new (run_words now run.now) }
+    ensures memory { OnErr result A.may_refuse }
+{
+    let (times, saved) = (run.times, run.saved);
+    let age = now.saturating_sub(run.since);
+    text.try_write(format_args!(" times {times} saved {saved} age {age}\n"))
 }
 
 /// How many pairs a node's store keeps as it starts, with its line feed.

@@ -18,13 +18,14 @@ const OPENING: &str = "# Refusals and faults
 
 Every number of a refusal or a fault, what it means and what to do about it: those that the program prints, those of
 calls that no subcommand makes yet, and those of the library for C programs. This is what `lispd explain` prints;
-`lispd explain N` prints what is known of the number N. A number may stand in several sections: what is printed before it
-tells which is meant.
+`lispd explain N` prints what is known of the number N, and `lispd explain` with a line that a node printed what is known of each
+number in it. A number may stand in several sections: what is printed before it tells which is meant.
 
 A refusal is an answer: `lispd answer` prints `refused N` and ends with status 0; the other programs print
 `refused NAME N`, with the name of the node, and go on. A fault ends the program, which prints `lispd: fault N` on standard
 error; its status is 1 where files, sockets, reading, writing or memory fail, and 2 for the words of the command line, the
-configuration and the script. A new refusal of a Map-Server would take 69, which is free.
+configuration and the script. A refusal or a fault that keeps a node from what `lispd tell` told it ends `lispd tell` so, with the
+status 3. A new refusal of a Map-Server would take 69, which is free.
 ";
 
 /// What stands before the sections.

@@ -1,10 +1,9 @@
 //! Scripts: the events of a schedule and what is asked of its nodes, a line each. And where they are read: an input to its
-//! end, a schedule, the configuration and the script of a file; why an input can't be taken, or a play or a node ends.
+//! end, a schedule; why an input can't be taken, or a play or a node ends.
 #![tactic(auto)]
 
 mod command;
 mod fault;
-mod files;
 mod input;
 mod input_fault;
 mod parts;
@@ -18,7 +17,6 @@ mod words;
 
 pub use command::Command;
 pub use fault::{ScriptFault, ScriptWhat};
-pub use files::{read_config, read_script};
 pub use input::read_to_end;
 pub use input_fault::InputFault;
 pub use play_fault::PlayFault;

@@ -63,3 +63,10 @@ counted_row rows i row old new within few here so_far adds router = by (eq_by_cm
     by false other =
         ap (λ (o : Option ℕ). unwrap_or o 0) (adds.0 router ∙ ap (λ (b : Bool). cond b (Some (min (rows_in old row.router + 1) (2 ^ 64 - 1))) (get router_cmp old router)) other)
         ∙ so_far router ∙ sym (count_by_more_no test rows i row within (ap test (sym here) ∙ other))
+
+-- the lines of the routers behind their head, and then those of the runs of replays
+pub routers_and_runs : (text before first head lines counted : List ℕ) (runs : List ℕ → List ℕ) (told name : List ℕ) → text ≡ before ++ runs told → before ≡ first ++ counted → first ≡ head → counted ≡ lines → told ≡ name
+    → text ≡ (head ++ lines) ++ runs name
+routers_and_runs text before first head lines counted runs told name last routers begun same named =
+    last ∙ ap (λ (t : List ℕ). t ++ runs told) (routers ∙ ap (λ (t : List ℕ). t ++ counted) begun ∙ ap (λ (t : List ℕ). head ++ t) same)
+    ∙ ap (λ (n : List ℕ). (head ++ lines) ++ runs n) named

@@ -1,4 +1,4 @@
--- The text of the routers that a Map-Server heard.
+-- The text of the routers that a Map-Server heard, or refuses as replaying.
 use Rattle.std.specs.Prelude.{◌≡◌, ℕ, ◌+◌, ◌-◌, ◌^◌, min, List, [], ◌∷◌, ◌++◌, length, codes, Some, unwrap_or}
 use Rattle.std.specs.BTreeMap.{BTreeMap, get, Updates}
 use Rattle.std.specs.Fmt.{decimal}
@@ -11,6 +11,8 @@ use Rattle.lisp_policy.specs.Configuration.{ConfigValue}
 use Rattle.lisp_texts.specs.Written.{addr_text}
 use Rattle.lisp_lines.specs.Line.{keyed_text}
 use Rattle.lisp_lines.specs.Name.{node_name, router_name}
+use Rattle.lisp_log.specs.declared.replays.Replay.{Replay}
+use Rattle.lisp_statistics.specs.Replays.{run_text}
 use Rattle.lisp_statistics.specs.declared.hearing.Hearing.{Hearing}
 
 -- how many rows are a router's
@@ -29,9 +31,10 @@ CountsRows counts rows = (router : RouterId) → rows_in counts router ≡ rows_
 abbrev pub AddsRow : BTreeMap RouterId ℕ → BTreeMap RouterId ℕ → RouterId → Type 0
 AddsRow old new router = Updates router_cmp old new router (Some (min (rows_in old router + 1) (2 ^ 64 - 1)))
 
--- how many routers; then each: where its last accepted Map-Register came from, its key and nonce, how many ms ago, and how many rows
+-- how many lines follow; then each router: where its last accepted Map-Register came from, its key and nonce, how many ms ago, and how many rows;
+-- and each run of replays
 abbrev pub routers_head : List ℕ → ℕ → List ℕ
-routers_head server routers = codes "routers " ++ server ++ codes " " ++ decimal routers ++ 10 ∷ []
+routers_head server following = codes "routers " ++ server ++ codes " " ++ decimal following ++ 10 ∷ []
 
 abbrev pub hearing_words : ℕ → Hearing → List ℕ
 hearing_words now h = keyed_text h.key h.nonce ++ codes " age " ++ decimal (now - h.at)
@@ -46,5 +49,6 @@ counted_text c now counts heard = router_text c now heard.0 heard.1 (rows_in cou
 abbrev pub heard_text : ConfigValue → ℕ → List RowValue → RouterId × Hearing → List ℕ
 heard_text c now rows heard = router_text c now heard.0 heard.1 (rows_of heard.0 rows)
 
-abbrev pub routers_text : ConfigValue → ℕ → ℕ → List RowValue → List (RouterId × Hearing) → List ℕ
-routers_text c number now rows heard = routers_head (node_name c number) (length heard) ++ flat_map (heard_text c now rows) heard
+abbrev pub routers_text : ConfigValue → ℕ → ℕ → List RowValue → List (RouterId × Hearing) → List Replay → List ℕ
+routers_text c number now rows heard runs = routers_head (node_name c number) (length heard + length runs)
+    ++ flat_map (heard_text c now rows) heard ++ flat_map (run_text (node_name c number) now) runs

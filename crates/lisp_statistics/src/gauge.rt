@@ -14,6 +14,8 @@ pub enum Figure {
     Sites,
     /// The notices of a Map-Server that aren't acknowledged.
     StandingNotices,
+    /// The source addresses of which a Map-Server refused Map-Registers as replays for three minutes.
+    Replays,
     /// The ms that the longest save took since the start.
     LongestSave,
 }
@@ -37,6 +39,7 @@ impl Figure {
             Figure::Rows => "rows",
             Figure::Sites => "sites",
             Figure::StandingNotices => "standing_notices",
+            Figure::Replays => "replays",
             Figure::LongestSave => "longest_save_ms",
         }
     }
@@ -57,6 +60,9 @@ impl Figure {
             }
             Figure::StandingNotices => {
                 "# HELP lisp_standing_notices Notices of the Map-Server that are not acknowledged.\n# TYPE lisp_standing_notices gauge\nlisp_standing_notices"
+            }
+            Figure::Replays => {
+                "# HELP lisp_replayed_sources Source addresses of which Map-Registers were refused as replays for three minutes.\n# TYPE lisp_replayed_sources gauge\nlisp_replayed_sources"
             }
             Figure::LongestSave => {
                 "# HELP lisp_longest_save_seconds The longest save of a nonce since the start.\n# TYPE lisp_longest_save_seconds gauge\nlisp_longest_save_seconds"

@@ -14,12 +14,14 @@ mod sites;
 // The text of both.
 mod counts;
 pub mod laws;
+mod replays;
 mod routers;
 
 pub use counts::{Format, counts_text};
 pub use gauge::{Figure, Gauge};
 pub use hearing::Hearing;
 pub use kind::LineKind;
+pub use replays::count_replays;
 pub use routers::routers_text;
 pub use sites::count_sites;
 pub use statistics::Statistics;

@@ -1,4 +1,4 @@
-//! The text of the routers that a Map-Server heard.
+//! The text of the routers that a Map-Server heard, or refuses as replaying.
 
 ghost use Rattle.std.specs.Prelude.{◌≡◌, ℕ, List, IfOk, OnOk, OnErr, length};
 ghost use Rattle.std.specs.List.{flat_map};
@@ -7,8 +7,10 @@ ghost use Rattle.lisp_records.specs.Router.{router_cmp};
 ghost use Rattle.lisp_statistics.specs.Routers.{CountsRows, rows_in, AddsRow, routers_text, routers_head, router_text, counted_text, hearing_words};
 
 use crate::hearing::Hearing;
+use crate::replays::put_replays;
 use crate::statistics::Statistics;
 use lisp_lines::{node_name, router_name};
+use lisp_log::Replay;
 use lisp_memory::{FallibleMap, FallibleString, Memory};
 use lisp_records::{RouterId, Row};
 use lisp_sites::Config;
@@ -16,24 +18,29 @@ use lisp_texts::addr_to_text;
 use std::alloc::{AllocError, Allocator};
 use std::collections::BTreeMap;
 
-/// The routers that the Map-Server with a number heard since its start, which holds these rows at a moment, in ms: a line with their number,
-/// then one for each, by Site-ID, then xTR-ID: where its last accepted Map-Register came from, under which key and nonce, how many ms ago,
-/// and how many of the rows are its.
+/// The routers that the Map-Server with a number heard since its start, which holds these rows at a
+/// moment, in ms, and the runs of Map-Registers that it refuses as replays: a line that says how many
+/// lines follow; then one for each router, by Site-ID, then xTR-ID: where its last accepted
+/// Map-Register came from, under which key and nonce, how many ms ago, and how many of the rows are its;
+/// then one for each run: the one by which the Map-Server tells it.
 pub fn routers_text<A: Memory + Copy, B: Memory + Copy, E: Allocator, F: Allocator>(
     alloc: A,
     config: &Config<E>,
     number: usize,
     statistics: &Statistics<B>,
+    runs: &[Replay],
     rows: &[Row<F>],
     now: u64,
 ) -> Result<String<A>, AllocError>
-    ensures text { GivesText result (routers_text config.now number now rows.now statistics.now.heard.entries) }
+    ensures text { GivesText result (routers_text config.now number now rows.now statistics.now.heard.entries runs.now) }
     ensures memory { OnErr result A.may_refuse }
 {
     let counts = count_rows(alloc, rows)?;
     let heard = &statistics.heard;
-    let mut text = routers_head(alloc, node_name(config, number), heard.len())?;
+    let name = node_name(config, number);
+    let mut text = routers_head(alloc, name, heard.len() + runs.len())?;
     put_routers(alloc, &mut text, config, &counts, heard, now)?;
+    put_replays(alloc, &mut text, name, runs, now)?;
     Ok(text)
 }
 
@@ -56,12 +63,16 @@ fn put_routers<A: Memory + Copy, B: Memory + Copy, E: Allocator>(
     Ok(())
 }
 
-// The line before the routers of a Map-Server: how many they are.
-fn routers_head<A: Memory>(alloc: A, server: &str, routers: usize) -> Result<String<A>, AllocError>
-    ensures text { GivesText result (routers_head server.now routers) }
+// The line before the others of a Map-Server: how many they are.
+fn routers_head<A: Memory>(
+    alloc: A,
+    server: &str,
+    following: usize,
+) -> Result<String<A>, AllocError>
+    ensures text { GivesText result (routers_head server.now following) }
     ensures memory { OnErr result A.may_refuse }
 {
-    String::try_format(alloc, format_args!("routers {server} {routers}\n"))
+    String::try_format(alloc, format_args!("routers {server} {following}\n"))
 }
 
 // Appends the line of a router. Out of memory, it may leave a part of it.

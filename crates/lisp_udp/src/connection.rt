@@ -1,6 +1,7 @@
 //! A connection of a user's, for one question: a line, then the lines that answer it, and the end.
 
 use lisp_control::{Question, answer_text, fault_text, outcome_text, question_in};
+use lisp_log::Replay;
 use lisp_memory::FallibleVec;
 use lisp_model::{Line, WorldFault};
 use lisp_script::ScriptWhat;
@@ -124,13 +125,14 @@ impl Connection {
         order
     }
 
-    /// Answers by the node's core at a moment, in ms, and what is counted of it, or by what came of the order; and writes what the
-    /// connection takes.
+    /// Answers by the node's core at a moment, in ms, what is counted of it, and the runs of Map-Registers
+    /// that it refuses as replays, or by what came of the order; and writes what the connection takes.
     pub(crate) fn answer(
         &mut self,
         node: &AskedNode<'_>,
         core: NodeCore<'_>,
         statistics: &Statistics,
+        runs: &[Replay],
         now: u64,
         outcome: Option<Result<Line, WorldFault>>,
     ) {
@@ -142,7 +144,7 @@ impl Connection {
         } = *node;
         let text = match (&self.stage, &outcome) {
             (Stage::Asked(question), _) => {
-                answer_text(alloc, config, number, core, statistics, question, now)
+                answer_text(alloc, config, number, core, statistics, runs, question, now)
             }
             (Stage::Told, Some(outcome)) => outcome_text(alloc, config, outcome),
             _ => return self.write(),

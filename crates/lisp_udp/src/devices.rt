@@ -149,7 +149,8 @@ impl<R: std::time::Clock, T, P: Printer> Control for Devices<'_, R, T, P> {
     fn answer(&mut self, core: NodeCore<'_>, now: u64, outcome: Option<Result<Line, WorldFault>>) {
         self.statistics.note_save(self.saves.longest());
         if let Some(control) = &mut self.control {
-            control.answer(core, &self.statistics, now, outcome);
+            let runs = self.printer.replays();
+            control.answer(core, &self.statistics, runs, now, outcome);
         }
     }
 }

@@ -1,20 +1,25 @@
 //! The folders in which nodes keep their nonces.
 
-ghost use Rattle.std.specs.Prelude.{IfOk};
-ghost use Rattle.lisp_udp.specs.Folder.{OpensSigned};
+ghost use Rattle.std.specs.Prelude.{◌≡◌, IfOk, IfErr};
+ghost use Rattle.lisp_script.specs.RunFault.{numbered};
+ghost use Rattle.lisp_udp.specs.Folder.{OpensSigned, database_fault};
 
 use crate::connection::AskedNode;
 use crate::control::ControlSocket;
 use crate::storage::{NodeStore, Storage};
 use lisp_database_store::{Change, Database, Failure, SystemTable};
+use lisp_files::{Ending, Problem};
 use lisp_memory::FallibleString;
 use lisp_nonces::StoreFault;
 use lisp_script::RunFault;
 use lisp_store::{FileStore, SystemFolder, count_pairs, is_file_there};
 use std::alloc::AllocError;
 use std::cell::Cell;
-use std::fs::{self, File, Files};
-use std::io::ErrorKind;
+use std::fs::{self, File, Files, TryLockError};
+use std::io::{self, ErrorKind};
+
+/// The name of the database in the folder of its node.
+const DATABASE: &str = "nonces.db";
 
 /// The folder of a node, and the lock that keeps other processes out of it while this value lives.
 #[derive(Drop)]
@@ -28,7 +33,7 @@ pub(crate) fn open_folder<R: Files<File = File> + AllocGlobal>(
     rt: &R,
     dir: &str,
     name: &str,
-) -> Result<LockedFolder, RunFault> {
+) -> Result<LockedFolder, Ending> {
     make_folder(rt, dir)?;
     let path = String::try_format(rt.alloc(), format_args!("{dir}/{name}"))?;
     make_folder(rt, path.as_str())?;
@@ -44,7 +49,7 @@ impl LockedFolder {
         rt: &HostRuntime,
         storage: Storage,
         failure: &'a Cell<Option<ErrorKind>>,
-    ) -> Result<NodeStore<'a, T>, RunFault> {
+    ) -> Result<NodeStore<'a, T>, Ending> {
         match storage {
             Storage::Files => Ok(NodeStore::Files(self.file_store(rt, failure)?)),
             Storage::Database { group } => Ok(NodeStore::Database {
@@ -60,28 +65,27 @@ impl LockedFolder {
         &self,
         rt: &HostRuntime,
         failure: &'a Cell<Option<ErrorKind>>,
-    ) -> Result<FileStore<SystemFolder<'a, HostRuntime>>, RunFault> {
+    ) -> Result<FileStore<SystemFolder<'a, HostRuntime>>, Ending> {
         let database = self.database_path(rt)?;
-        match is_file_there(rt, database.as_str()) {
+        let path = database.as_str();
+        match is_file_there(rt, path) {
             Ok(false) => Ok(FileStore::open(rt, self.path.as_str(), failure)?),
-            _ => Err(RunFault::FILE),
+            Ok(true) => Err(Ending::of_file(rt.alloc(), path, Problem::HasDatabase)),
+            Err(error) => Err(Ending::of_file(rt.alloc(), path, looked(error))),
         }
     }
 
     /// The database in it, made where it isn't there. It takes over what files of the folder keep. Where another machine wrote it
     /// last, or this one before it was started again, that is a warning on standard error. Faults: 93 where the database or a file
     /// can't be opened, read or written, or holds something else; 97.
-    pub(crate) fn database<T: SystemTable>(
-        &self,
-        rt: &HostRuntime,
-    ) -> Result<Database<T>, RunFault> {
+    pub(crate) fn database<T: SystemTable>(&self, rt: &HostRuntime) -> Result<Database<T>, Ending> {
         let path = self.database_path(rt)?;
         match self.signed(rt, path.as_str()) {
             Ok((database, change)) => {
                 warn(rt, path.as_str(), change);
                 Ok(database)
             }
-            Err(failure) => Err(fault_of(failure)),
+            Err(unsigned) => Err(self.unsigned(rt, path.as_str(), unsigned)),
         }
     }
 
@@ -90,13 +94,44 @@ impl LockedFolder {
         &self,
         rt: &HostRuntime,
         path: &str,
-    ) -> Result<(Database<T>, Change), Failure>
+    ) -> Result<(Database<T>, Change), Unsigned>
         ensures { IfOk result (λ signed. OpensSigned T.Table.means signed.0.table signed.1) }
     {
-        let mut database = Database::open(rt, path)?;
-        database.take_over(rt, self.path.as_str())?;
-        let change = database.sign(rt)?;
-        Ok((database, change))
+        let mut database = match Database::open(rt, path) {
+            Ok(database) => database,
+            Err(failure) => return Err(Unsigned::at(Step::Open, failure)),
+        };
+        match database.take_over(rt, self.path.as_str()) {
+            Ok(_) => {}
+            Err(failure) => return Err(Unsigned::at(Step::TakeOver, failure)),
+        }
+        match database.sign(rt) {
+            Ok(change) => Ok((database, change)),
+            Err(failure) => Err(Unsigned::at(Step::Sign, failure)),
+        }
+    }
+
+    // Why the node ends where its database isn't opened and signed.
+    fn unsigned(&self, rt: &HostRuntime, path: &str, unsigned: Unsigned) -> Ending
+        ensures { result.fault ≡ numbered (database_fault unsigned.failure.fault) }
+    {
+        match unsigned.failure.fault {
+            StoreFault::OutOfMemory => Ending::from(RunFault::MEMORY),
+            StoreFault::Device | StoreFault::Damaged => self.unusable(rt, path, unsigned),
+        }
+    }
+
+    // The same, where memory didn't run out.
+    fn unusable(&self, rt: &HostRuntime, path: &str, unsigned: Unsigned) -> Ending
+        ensures { result.fault ≡ numbered 93 }
+    {
+        let failure = unsigned.failure;
+        let (path, problem) = match unsigned.step {
+            Step::Open => (path, unopened(rt, path, failure)),
+            Step::TakeOver => (self.path.as_str(), untaken(failure)),
+            Step::Sign => (path, unwritten(failure)),
+        };
+        Ending::of_file(rt.alloc(), path, problem)
     }
 
     /// How many pairs the store there keeps nonces for. Fault: 93 where it can't be read, or where it is known to keep some and keeps
@@ -106,28 +141,29 @@ impl LockedFolder {
         rt: &HostRuntime,
         store: &mut NodeStore<'_, T>,
         is_known: bool,
-    ) -> Result<usize, RunFault> {
-        let pairs = match store {
-            NodeStore::Files(_) => count_pairs(rt, self.path.as_str()).ok(),
-            NodeStore::Database { database, .. } => database.pairs().ok(),
+    ) -> Result<usize, Ending> {
+        let path = self.path.as_str();
+        let problem = match counted(rt, path, store) {
+            Ok(0) if is_known => Problem::NoNonces,
+            Ok(pairs) => return Ok(pairs),
+            Err(error) => Problem::Count(error),
         };
-        match pairs {
-            Some(0) if is_known => Err(RunFault::FILE),
-            Some(pairs) => Ok(pairs),
-            None => Err(RunFault::FILE),
-        }
+        Err(Ending::of_file(rt.alloc(), path, problem))
     }
 
-    /// Where the node is asked; `None` where that can't be made, which is a warning on standard error.
+    /// Where the node is asked: in a folder that is given, or in its own; `None` where that can't be
+    /// made, which is a warning on standard error.
     pub(crate) fn control<'a>(
         &self,
         rt: &HostRuntime,
+        folder: Option<&str>,
         node: AskedNode<'a>,
     ) -> Option<ControlSocket<'a>> {
-        let path = self.path.as_str();
+        let path = folder.unwrap_or(self.path.as_str());
         match ControlSocket::open(rt, path, node) {
             Ok(control) => Some(control),
             Err(error) => {
+                let path = path.escape_debug();
                 let _ = eprintln!(rt; "warning: {path}: nobody can ask the node: {error}");
                 None
             }
@@ -136,14 +172,81 @@ impl LockedFolder {
 
     fn database_path(&self, rt: &HostRuntime) -> Result<String, AllocError> {
         let path = self.path.as_str();
-        String::try_format(rt.alloc(), format_args!("{path}/nonces.db"))
+        String::try_format(rt.alloc(), format_args!("{path}/{DATABASE}"))
     }
 }
 
-fn fault_of(failure: Failure) -> RunFault {
+/// What was tried with a database.
+#[derive(Clone, Copy)]
+enum Step {
+    /// It was opened, or made.
+    Open,
+    /// It took over what files keep.
+    TakeOver,
+    /// Who writes it was kept.
+    Sign,
+}
+
+/// Why a database isn't opened and signed.
+#[derive(Clone, Copy)]
+struct Unsigned {
+    step: Step,
+    failure: Failure,
+}
+
+impl Unsigned {
+    fn at(step: Step, failure: Failure) -> Unsigned
+        ensures { (result.step ≡ step) × (result.failure ≡ failure) }
+    {
+        Unsigned { step, failure }
+    }
+}
+
+// What is wrong with a database that can't be opened or made.
+fn unopened(rt: &HostRuntime, path: &str, failure: Failure) -> Problem {
+    match is_file_there(rt, path) {
+        Ok(is_there) => unusable_file(is_there, failure),
+        Err(error) => looked(error),
+    }
+}
+
+// The same, where a file of its name is there, or nothing is.
+fn unusable_file(is_there: bool, failure: Failure) -> Problem {
     match failure.fault {
-        StoreFault::OutOfMemory => RunFault::MEMORY,
-        StoreFault::Device | StoreFault::Damaged => RunFault::FILE,
+        StoreFault::Damaged if is_there => Problem::NoDatabase,
+        StoreFault::Damaged => Problem::LogAlone,
+        _ => Problem::Open(io::Error::from(failure.kind)),
+    }
+}
+
+// What is wrong with a folder whose files can't be taken over.
+fn untaken(failure: Failure) -> Problem {
+    match failure.fault {
+        StoreFault::Damaged => Problem::DamagedNonce,
+        _ => Problem::TakeOver(io::Error::from(failure.kind)),
+    }
+}
+
+// What is wrong with a database in which it can't be kept who writes it.
+fn unwritten(failure: Failure) -> Problem {
+    match failure.fault {
+        StoreFault::Damaged => Problem::NoDatabase,
+        _ => Problem::Write(io::Error::from(failure.kind)),
+    }
+}
+
+// How many pairs a store keeps nonces for, in its folder.
+fn counted<T: SystemTable>(
+    rt: &HostRuntime,
+    path: &str,
+    store: &mut NodeStore<'_, T>,
+) -> io::Result<usize> {
+    match store {
+        NodeStore::Files(_) => count_pairs(rt, path),
+        NodeStore::Database { database, .. } => match database.pairs() {
+            Ok(pairs) => Ok(pairs),
+            Err(failure) => Err(io::Error::from(failure.kind)),
+        },
     }
 }
 
@@ -154,39 +257,65 @@ fn warn(rt: &HostRuntime, path: &str, change: Change) {
         Change { boot: true, .. } => "before this machine was started again",
         _ => return,
     };
+    let path = path.escape_debug();
     let _ = eprintln!(rt; "warning: {path} was last written {words}");
 }
 
-fn make_folder<R: Files>(rt: &R, path: &str) -> Result<(), RunFault> {
+fn make_folder<R: Files + AllocGlobal>(rt: &R, path: &str) -> Result<(), Ending>
+    ensures { IfErr result (λ ending. ending.fault ≡ numbered 93) }
+{
     match fs::create_dir(rt, path) {
         Ok(()) => Ok(()),
         Err(error) if error.kind() == ErrorKind::AlreadyExists => is_folder(rt, path),
-        Err(_) => Err(RunFault::FILE),
+        Err(error) => Err(Ending::of_file(rt.alloc(), path, Problem::Make(error))),
     }
 }
 
 // Refuses what stands at the path where it is no folder.
-fn is_folder<R: Files>(rt: &R, path: &str) -> Result<(), RunFault> {
-    match fs::metadata(rt, path) {
-        Ok(found) if found.is_dir() => Ok(()),
-        _ => Err(RunFault::FILE),
-    }
+fn is_folder<R: Files + AllocGlobal>(rt: &R, path: &str) -> Result<(), Ending>
+    ensures { IfErr result (λ ending. ending.fault ≡ numbered 93) }
+{
+    let problem = match fs::metadata(rt, path) {
+        Ok(found) if found.is_dir() => return Ok(()),
+        Ok(_) => Problem::NoFolder,
+        Err(error) => Problem::Look(error),
+    };
+    Err(Ending::of_file(rt.alloc(), path, problem))
 }
 
 // The system frees the lock when the process ends, however it ends.
-fn lock_folder<R: Files<File = File> + AllocGlobal>(
-    rt: &R,
-    folder: &str,
-) -> Result<File, RunFault> {
+fn lock_folder<R: Files<File = File> + AllocGlobal>(rt: &R, folder: &str) -> Result<File, Ending> {
     let path = String::try_format(rt.alloc(), format_args!("{folder}/lock"))?;
-    if is_file_there(rt, path.as_str()).is_err() {
-        return Err(RunFault::FILE);
+    let path = path.as_str();
+    match open_lock(rt, path) {
+        Ok(file) => match file.try_lock() {
+            Ok(()) => Ok(file),
+            Err(TryLockError::WouldBlock) => {
+                Err(Ending::of_file(rt.alloc(), folder, Problem::Taken))
+            }
+            Err(TryLockError::Error(error)) => {
+                Err(Ending::of_file(rt.alloc(), path, Problem::Lock(error)))
+            }
+        },
+        Err(problem) => Err(Ending::of_file(rt.alloc(), path, problem)),
     }
-    let Ok(file) = File::create(rt, path.as_str()) else {
-        return Err(RunFault::FILE);
-    };
-    match file.try_lock() {
-        Ok(()) => Ok(file),
-        Err(_) => Err(RunFault::FILE),
+}
+
+// The file of a lock, made where it isn't there.
+fn open_lock<R: Files<File = File>>(rt: &R, path: &str) -> Result<File, Problem> {
+    if let Err(error) = is_file_there(rt, path) {
+        return Err(looked(error));
+    }
+    match File::create(rt, path) {
+        Ok(file) => Ok(file),
+        Err(error) => Err(Problem::Open(error)),
+    }
+}
+
+// What is wrong where `is_file_there` fails: the system's error, or that what is there is no file.
+fn looked(error: io::Error) -> Problem {
+    match error.raw_os_error() {
+        Some(_) => Problem::Look(error),
+        None => Problem::NoFile,
     }
 }

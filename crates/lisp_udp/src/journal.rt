@@ -8,7 +8,7 @@ ghost use Rattle.lisp_udp.specs.Journal.{PassesAndPours, TellsAndPours};
 
 use crate::printer::Printer;
 use crate::standard_output::StandardOutput;
-use lisp_log::{Device, Log, device_of};
+use lisp_log::{Device, Log, Replay, device_of};
 use lisp_memory::{FallibleString, Memory};
 use lisp_script::RunFault;
 use lisp_sites::Config;
@@ -80,6 +80,12 @@ impl Printer for Journal<'_> {
         let cause = cause.as_ref().map(|word| word.as_str());
         self.log.tell(line, cause, now);
         self.log.pour(&mut self.output);
+    }
+
+    fn replays(&self) -> &[Replay]
+        ensures { result.now ≡ self.now.log.replays }
+    {
+        self.log.replays()
     }
 
     fn is_cut(&self) -> bool {

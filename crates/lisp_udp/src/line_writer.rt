@@ -5,6 +5,7 @@ ghost use Rattle.std.specs.Option.{MatchOption, is_some};
 
 use crate::output::print_line;
 use crate::printer::Printer;
+use lisp_log::Replay;
 use lisp_script::RunFault;
 use lisp_sites::Config;
 use lisp_turns::Printed;
@@ -62,6 +63,10 @@ impl<W: Write> Printer for LineWriter<'_, W> {
         if let Err(fault) = print_line(self.alloc, self.config, self.name, line, self.writer) {
             self.fault = Some(fault);
         }
+    }
+
+    fn replays(&self) -> &[Replay] {
+        &[]
     }
 
     fn is_cut(&self) -> bool {

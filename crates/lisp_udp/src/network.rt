@@ -13,11 +13,12 @@ use crate::folder::{LockedFolder, open_folder};
 use crate::output::flush;
 use crate::storage::Storage;
 use lisp_database_store::{Database, DatabaseStore, SystemTable};
+use lisp_files::{Ending, read_config, read_script};
 use lisp_memory::{FallibleVec, Memory};
 use lisp_model::Event;
 use lisp_nonces::WorldStore;
 use lisp_player::{Command, play_on};
-use lisp_script::{RunFault, read_config, read_script};
+use lisp_script::RunFault;
 use lisp_sites::Config;
 use lisp_store::{FileStore, SystemFolder};
 use lisp_turns::Endpoint;
@@ -45,6 +46,19 @@ pub fn run_loop<T: SystemTable, W: Write>(
     storage: Storage,
     writer: &mut W,
 ) -> Result<(), RunFault> {
+    run_network::<T, W>(rt, config, file, dir, storage, writer)?;
+    Ok(())
+}
+
+/// As `run_loop`, with the file or the folder that failed, where one did.
+pub(crate) fn run_network<T: SystemTable, W: Write>(
+    rt: &HostRuntime,
+    config: &str,
+    file: &str,
+    dir: &str,
+    storage: Storage,
+    writer: &mut W,
+) -> Result<(), Ending> {
     let config = read_config(rt, config)?;
     run_script::<T, W>(rt, &config, file, dir, storage, writer)
 }
@@ -56,18 +70,18 @@ fn run_script<T: SystemTable, W: Write>(
     dir: &str,
     storage: Storage,
     writer: &mut W,
-) -> Result<(), RunFault> {
+) -> Result<(), Ending> {
     let commands = read_script(rt, config, file)?;
     let failure = Cell::new(None);
     let folders = open_folders(rt, config, dir)?;
     match storage {
         Storage::Files => {
             let stores = file_stores(rt, &folders, &failure)?;
-            run_over(rt, config, stores, &commands, writer)
+            Ok(run_over(rt, config, stores, &commands, writer)?)
         }
         Storage::Database { .. } => {
             let stores = database_stores::<T>(rt, &folders, &failure)?;
-            run_over(rt, config, stores, &commands, writer)
+            Ok(run_over(rt, config, stores, &commands, writer)?)
         }
     }
 }
@@ -98,7 +112,7 @@ fn open_folders<R: Files<File = File> + AllocGlobal>(
     rt: &R,
     config: &Config,
     dir: &str,
-) -> Result<Vec<LockedFolder>, RunFault>
+) -> Result<Vec<LockedFolder>, Ending>
     ensures { IfOk result (λ folders. length folders.items ≡ node_count config.now) }
 {
     let mut folders = Vec::new(rt.alloc());
@@ -113,7 +127,7 @@ fn file_stores<'a>(
     rt: &HostRuntime,
     folders: &Vec<LockedFolder>,
     failure: &'a Cell<Option<ErrorKind>>,
-) -> Result<Vec<FileStore<SystemFolder<'a, HostRuntime>>>, RunFault>
+) -> Result<Vec<FileStore<SystemFolder<'a, HostRuntime>>>, Ending>
     ensures { IfOk result (λ stores. length stores.items ≡ length folders.now.items) }
 {
     let mut stores = Vec::new(rt.alloc());
@@ -128,7 +142,7 @@ fn database_stores<'a, T: SystemTable>(
     rt: &HostRuntime,
     folders: &Vec<LockedFolder>,
     failure: &'a Cell<Option<ErrorKind>>,
-) -> Result<Vec<DatabaseStore<'a, Database<T>>>, RunFault>
+) -> Result<Vec<DatabaseStore<'a, Database<T>>>, Ending>
     ensures { IfOk result (λ stores. length stores.items ≡ length folders.now.items) }
 {
     let mut stores = Vec::new(rt.alloc());

@@ -1,5 +1,6 @@
 //! A node of either kind that runs: a Map-Server or a site router, on its socket and over its folder.
 
+ghost use Rattle.std.specs.Prelude.{◌≡◌, None};
 ghost use Rattle.lisp_udp.specs.Nodes.{IsMapServer, IsNode};
 
 use crate::connection::AskedNode;
@@ -16,76 +17,105 @@ use crate::printer::Printer;
 use crate::save_times::{SaveTimes, TimedStore};
 use crate::storage::{NodeStore, Storage};
 use lisp_database_store::{DatabaseStore, SharedDatabase, SystemTable};
+use lisp_files::{Ending, read_config};
 use lisp_nonces::WorldStore;
-use lisp_script::{RunFault, read_config};
+use lisp_script::RunFault;
 use lisp_sites::Config;
 use std::cell::Cell;
 use std::io::{ErrorKind, Write};
 
-/// Runs the node of a kind with a name for so many turns, as `run_server` and `run_router` do.
+/// A node that is to run.
+#[derive(Clone, Copy)]
+pub(crate) struct NodeStart<'a> {
+    /// Its kind.
+    pub(crate) kind: NodeKind,
+    /// Its name.
+    pub(crate) name: &'a str,
+    /// The folder of the nodes' folders.
+    pub(crate) dir: &'a str,
+    /// Where it keeps its nonces.
+    pub(crate) storage: Storage,
+    /// The folder in which it is asked; `None` where that is its own.
+    pub(crate) control: Option<&'a str>,
+}
+
+impl<'a> NodeStart<'a> {
+    /// A node that is asked in its own folder.
+    pub(crate) fn new(
+        kind: NodeKind,
+        name: &'a str,
+        dir: &'a str,
+        storage: Storage,
+    ) -> NodeStart<'a>
+        ensures { result.control ≡ None }
+    {
+        NodeStart {
+            kind,
+            name,
+            dir,
+            storage,
+            control: None,
+        }
+    }
+}
+
+/// Runs a node of a configuration's file for so many turns, as `run_server` and `run_router` do, with
+/// the file or the folder that failed, where one did.
 pub(crate) fn run<T: SystemTable, W: Write>(
     rt: &HostRuntime,
     config: &str,
-    kind: NodeKind,
-    name: &str,
-    dir: &str,
-    storage: Storage,
+    node: NodeStart<'_>,
     turns: u64,
     writer: &mut W,
-) -> Result<(), RunFault> {
+) -> Result<(), Ending> {
     let config = read_config(rt, config)?;
-    run_in::<T, W>(rt, &config, kind, name, dir, storage, turns, writer)
+    run_in::<T, W>(rt, &config, node, turns, writer)
 }
 
 fn run_in<T: SystemTable, W: Write>(
     rt: &HostRuntime,
     config: &Config,
-    kind: NodeKind,
-    name: &str,
-    dir: &str,
-    storage: Storage,
+    node: NodeStart<'_>,
     turns: u64,
     writer: &mut W,
-) -> Result<(), RunFault> {
-    let number = number_named(config, kind, name)?;
+) -> Result<(), Ending> {
+    let name = node.name;
+    let number = number_named(config, node.kind, name)?;
     let failure = Cell::new(None);
-    let folder = open_folder(rt, dir, name)?;
-    let store = folder.open_store::<T>(rt, storage, &failure)?;
-    let control = folder.control(rt, asked_node(rt, config, number, name));
+    let folder = open_folder(rt, node.dir, name)?;
+    let store = folder.open_store::<T>(rt, node.storage, &failure)?;
+    let control = folder.control(rt, node.control, asked_node(rt, config, number, name));
     let printer = LineWriter::new(rt.alloc(), config, name, writer);
-    run_in_store(rt, config, number, store, &failure, control, turns, printer)?.end()
+    let printer = run_in_store(rt, config, number, store, &failure, control, turns, printer)?;
+    Ok(printer.end()?)
 }
 
-/// Runs the node of a kind with a name without an end, as `keep_server_running` and `keep_router_running` do.
+/// Runs a node of a configuration's file without an end, as `keep_server_running` and
+/// `keep_router_running` do, with the file or the folder that failed, where one did.
 pub(crate) fn keep_running<T: SystemTable>(
     rt: &HostRuntime,
     config: &str,
-    kind: NodeKind,
-    name: &str,
-    dir: &str,
-    storage: Storage,
+    node: NodeStart<'_>,
     is_known: bool,
-) -> Result<(), RunFault> {
+) -> Result<(), Ending> {
     let config = read_config(rt, config)?;
-    keep_in::<T>(rt, &config, kind, name, dir, storage, is_known)
+    keep_in::<T>(rt, &config, node, is_known)
 }
 
 fn keep_in<T: SystemTable>(
     rt: &HostRuntime,
     config: &Config,
-    kind: NodeKind,
-    name: &str,
-    dir: &str,
-    storage: Storage,
+    node: NodeStart<'_>,
     is_known: bool,
-) -> Result<(), RunFault> {
-    let number = number_named(config, kind, name)?;
+) -> Result<(), Ending> {
+    let name = node.name;
+    let number = number_named(config, node.kind, name)?;
     let failure = Cell::new(None);
-    let folder = open_folder(rt, dir, name)?;
-    let mut store = folder.open_store::<T>(rt, storage, &failure)?;
+    let folder = open_folder(rt, node.dir, name)?;
+    let mut store = folder.open_store::<T>(rt, node.storage, &failure)?;
     let pairs = folder.pairs(rt, &mut store, is_known)?;
     let servers = servers_of(config, number);
-    let control = folder.control(rt, asked_node(rt, config, number, name));
+    let control = folder.control(rt, node.control, asked_node(rt, config, number, name));
     let journal = Journal::open(rt, config, name, servers, pairs, &failure)?;
     run_in_store(
         rt,

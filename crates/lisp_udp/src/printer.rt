@@ -3,6 +3,7 @@
 ghost use Rattle.std.specs.Prelude.{◌≡◌, ◌≤◌, Bool};
 ghost use Rattle.lisp_records.specs.Moment.{max_moment};
 
+use lisp_log::Replay;
 use lisp_turns::Printed;
 use std::io::ErrorKind;
 
@@ -18,6 +19,9 @@ pub(crate) trait Printer {
 
     /// Prints a line. `failure` is the kind of the last error of the node's socket.
     fn print(&mut self, line: &Printed, failure: Option<ErrorKind>, now: u64);
+
+    /// The runs of Map-Registers that are refused as replays, where it keeps them.
+    fn replays(&self) -> &[Replay];
 
     /// Whether a line couldn't be printed, so that the node is to end.
     fn is_cut(&self) -> bool

@@ -7,7 +7,7 @@ ghost use Rattle.lisp_udp.specs.Nodes.{node_count};
 ghost use Rattle.lisp_world.specs.Making.{HasStarted};
 
 use crate::entry::NodeKind;
-use crate::node::{keep_running, run};
+use crate::node::{NodeStart, keep_running, run};
 use crate::storage::Storage;
 use lisp_database_store::SystemTable;
 use lisp_nodes::{RouterNode, Start};
@@ -38,16 +38,9 @@ pub fn run_router<T: SystemTable, W: Write>(
     turns: u32,
     writer: &mut W,
 ) -> Result<(), RunFault> {
-    run::<T, W>(
-        rt,
-        config,
-        NodeKind::Router,
-        name,
-        dir,
-        storage,
-        u64::from(turns),
-        writer,
-    )
+    let node = NodeStart::new(NodeKind::Router, name, dir, storage);
+    run::<T, W>(rt, config, node, u64::from(turns), writer)?;
+    Ok(())
 }
 
 /// Runs a site router as `run_router` does, until the process is killed: for 2^64 - 1 turns. Its lines go through a log to standard
@@ -64,7 +57,13 @@ pub fn keep_router_running<T: SystemTable>(
     storage: Storage,
     is_known: bool,
 ) -> Result<(), RunFault> {
-    keep_running::<T>(rt, config, NodeKind::Router, name, dir, storage, is_known)
+    keep_running::<T>(
+        rt,
+        config,
+        NodeStart::new(NodeKind::Router, name, dir, storage),
+        is_known,
+    )?;
+    Ok(())
 }
 
 /// The router with a number over its store, started at 0 ms. Faults: 35, 36, 97.

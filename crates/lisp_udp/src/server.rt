@@ -5,7 +5,7 @@ ghost use Rattle.lisp_turns.specs.Beginning.{Begins};
 ghost use Rattle.lisp_turns.specs.Node.{Server};
 
 use crate::entry::NodeKind;
-use crate::node::{keep_running, run};
+use crate::node::{NodeStart, keep_running, run};
 use crate::storage::Storage;
 use lisp_database_store::SystemTable;
 use lisp_nodes::ServerNode;
@@ -39,16 +39,9 @@ pub fn run_server<T: SystemTable, W: Write>(
     turns: u32,
     writer: &mut W,
 ) -> Result<(), RunFault> {
-    run::<T, W>(
-        rt,
-        config,
-        NodeKind::Server,
-        name,
-        dir,
-        storage,
-        u64::from(turns),
-        writer,
-    )
+    let node = NodeStart::new(NodeKind::Server, name, dir, storage);
+    run::<T, W>(rt, config, node, u64::from(turns), writer)?;
+    Ok(())
 }
 
 /// Runs a Map-Server as `run_server` does, until the process is killed: for 2^64 - 1 turns. Its lines go through a log to standard
@@ -65,7 +58,13 @@ pub fn keep_server_running<T: SystemTable>(
     storage: Storage,
     is_known: bool,
 ) -> Result<(), RunFault> {
-    keep_running::<T>(rt, config, NodeKind::Server, name, dir, storage, is_known)
+    keep_running::<T>(
+        rt,
+        config,
+        NodeStart::new(NodeKind::Server, name, dir, storage),
+        is_known,
+    )?;
+    Ok(())
 }
 
 /// The Map-Server with a number, which holds nothing, over its store. Fault: 97.

@@ -1,11 +1,11 @@
 //! What runs on sockets: a node or a network.
 
-use crate::network::run_loop;
-use crate::router::{keep_router_running, run_router};
-use crate::server::{keep_server_running, run_server};
+use crate::entry::NodeKind;
+use crate::network::run_network;
+use crate::node::{NodeStart, keep_running, run};
 use crate::storage::Storage;
 use lisp_database_store::SystemTable;
-use lisp_script::RunFault;
+use lisp_files::Ending;
 use std::io::Write;
 
 /// What runs on sockets.
@@ -17,6 +17,8 @@ pub enum Subject<'a> {
         name: &'a str,
         /// For how long it runs.
         stretch: Stretch,
+        /// The folder in which it is asked; `None` where that is its own.
+        control: Option<&'a str>,
     },
     /// The site router with a name.
     Router {
@@ -24,6 +26,8 @@ pub enum Subject<'a> {
         name: &'a str,
         /// For how long it runs.
         stretch: Stretch,
+        /// The folder in which it is asked; `None` where that is its own.
+        control: Option<&'a str>,
     },
     /// The whole network, which a script drives.
     Network {
@@ -46,7 +50,8 @@ pub enum Stretch {
 
 /// Runs what is asked for, of a configuration's file, with the nonces in the folders `dir`/NAME: a Map-Server as `run_server` or
 /// `keep_server_running`, a router as `run_router` or `keep_router_running`, and a network as `run_loop`. Only what runs without an
-/// end doesn't print to `writer`. Faults: those of these functions.
+/// end doesn't print to `writer`. A node that has a folder for `control` makes its socket there.
+/// Faults: those of these functions, and which file or folder failed, where one did.
 pub fn run_subject<T: SystemTable, W: Write>(
     rt: &HostRuntime,
     config: &str,
@@ -54,24 +59,31 @@ pub fn run_subject<T: SystemTable, W: Write>(
     storage: Storage,
     subject: Subject<'_>,
     writer: &mut W,
-) -> Result<(), RunFault> {
-    match subject {
+) -> Result<(), Ending> {
+    let (kind, name, stretch, control) = match subject {
         Subject::Server {
             name,
-            stretch: Stretch::Turns(turns),
-        } => run_server::<T, W>(rt, config, name, dir, storage, turns, writer),
-        Subject::Server {
-            name,
-            stretch: Stretch::Endless { is_known },
-        } => keep_server_running::<T>(rt, config, name, dir, storage, is_known),
+            stretch,
+            control,
+        } => (NodeKind::Server, name, stretch, control),
         Subject::Router {
             name,
-            stretch: Stretch::Turns(turns),
-        } => run_router::<T, W>(rt, config, name, dir, storage, turns, writer),
-        Subject::Router {
-            name,
-            stretch: Stretch::Endless { is_known },
-        } => keep_router_running::<T>(rt, config, name, dir, storage, is_known),
-        Subject::Network { script } => run_loop::<T, W>(rt, config, script, dir, storage, writer),
+            stretch,
+            control,
+        } => (NodeKind::Router, name, stretch, control),
+        Subject::Network { script } => {
+            return run_network::<T, W>(rt, config, script, dir, storage, writer);
+        }
+    };
+    let node = NodeStart {
+        kind,
+        name,
+        dir,
+        storage,
+        control,
+    };
+    match stretch {
+        Stretch::Turns(turns) => run::<T, W>(rt, config, node, u64::from(turns), writer),
+        Stretch::Endless { is_known } => keep_running::<T>(rt, config, node, is_known),
     }
 }

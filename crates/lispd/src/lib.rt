@@ -6,6 +6,7 @@
 
 pub use lisp_answer::{AnswerFault, AnswerSetup, answer};
 pub use lisp_database_store::SystemTable;
+pub use lisp_files::Ending;
 pub use lisp_refusals::{ExplainFault, explain, explain_all};
 pub use lisp_script::{InputFault, PlayFault, RunFault};
 pub use lisp_sqlite::{Task, run_task};

@@ -1,2 +1,4 @@
 mod Orders
 mod Warned
+mod Filled
+mod Numbers

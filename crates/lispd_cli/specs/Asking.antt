@@ -1,13 +1,19 @@
--- Whether a node is asked a question, or told it; and whether it answers that this is neither.
-use Rattle.std.specs.Prelude.{◌≡◌, ℕ, ◌==◌, nat_lt, List, [], ◌∷◌, ◌++◌, codes, Option, Some, None, Result, Err, if◌then◌else◌}
+-- Whether a node is asked a question, or told it; whether it answers that this is neither, or that it doesn't do it.
+use Rattle.std.specs.Prelude.{◌≡◌, ◌⊎◌, ℕ, ◌==◌, nat_lt, List, [], ◌∷◌, ◌++◌, codes, Option, Some, None, Result, Err, if◌then◌else◌}
+use Rattle.std.specs.Int.{is_in_range}
+use Rattle.std.specs.Io.KnownBytes.{Appends}
 use Rattle.std.specs.List.{after_first, before_first, list_any}
 use Rattle.std.specs.Option.{option_and_then}
 use Rattle.lisp_script.specs.Words.{is_word}
 use Rattle.lisp_texts.specs.Number.{number_of}
+use Rattle.lisp_answer.specs.declared.fault.AnswerFault.TheVariants.{Write}
+use Rattle.lispd_cli.specs.PrintedLine.{fault_of}
+use Rattle.lispd_cli.specs.declared.advice.Advice.{Advice}
+use Rattle.lispd_cli.specs.declared.advice.Advice.TheVariants.{Questions, Orders, Address, Records}
 use Rattle.lispd_cli.specs.declared.asking.Errand.{Errand}
 use Rattle.lispd_cli.specs.declared.asking.Errand.TheVariants.{Ask, Tell}
 use Rattle.lispd_cli.specs.declared.fault.ProgramFault.{ProgramFault}
-use Rattle.lispd_cli.specs.declared.fault.ProgramFault.TheVariants.{Run}
+use Rattle.lispd_cli.specs.declared.fault.ProgramFault.TheVariants.{Answer, Refused, Run}
 
 -- the first word ends at a space (32)
 abbrev pub first_word : List ℕ → List ℕ
@@ -35,3 +41,48 @@ bad_line number = Run (record { number = number; line = 0 })
 -- where a node's answer, up to its last line feed, tells that, it is the program's fault
 abbrev pub EndsAtFault : {X : Type 0} → List ℕ → Result X ProgramFault → Type 0
 EndsAtFault answer result = (lines : List ℕ) (number : ℕ) → answer ≡ lines ++ 10 ∷ [] → fault_in lines ≡ Some number → result ≡ Err (bad_line number)
+
+-- what is advised where a line is no question or order, by its fault
+abbrev pub listed : Errand → Advice
+listed Ask = Questions
+listed Tell = Orders
+
+abbrev pub spelled : Errand → Advice
+spelled Ask = Address
+spelled Tell = Records
+
+abbrev pub advice_of : Errand → ℕ → Option Advice
+advice_of errand number = if is_in_range 80 82 number then Some (listed errand) else if number == 84 then Some (spelled errand) else None
+
+-- a space (32) parts a line's words
+abbrev pub behind_word : List ℕ → List ℕ
+behind_word line = after_first (λ b. b == 32) line
+
+abbrev pub second_word : List ℕ → List ℕ
+second_word line = first_word (behind_word line)
+
+abbrev pub third_word : List ℕ → List ℕ
+third_word line = first_word (behind_word (behind_word line))
+
+-- why a node doesn't do what it was told: the number behind `fault`, or behind `refused` and its name; that of a router that
+-- didn't start where it is down
+abbrev pub refused_in : List ℕ → Option ℕ
+refused_in lines =
+    if is_word (codes "fault") (first_word lines) then fault_of (second_word lines)
+    else if is_word (codes "refused") (first_word lines) then fault_of (third_word lines)
+    else if is_word (codes "down") (first_word lines) then Some 76 else None
+
+abbrev pub refusal_of : Errand → List ℕ → Option ℕ
+refusal_of Ask lines = None
+refusal_of Tell lines = refused_in lines
+
+-- then its answer is written, and the program ends so
+abbrev pub Refuses : {X : Type 0} → ℕ → List ℕ → Option (List ℕ) → Option (List ℕ) → Result X ProgramFault → Type 0
+Refuses number answer old new result = (result ≡ Err (Answer Write)) ⊎ ((result ≡ Err (Refused number)) × Appends old new answer)
+
+abbrev pub EndsAtRefusal : {X : Type 0} → Errand → List ℕ → Option (List ℕ) → Option (List ℕ) → Result X ProgramFault → Type 0
+EndsAtRefusal errand answer old new result = (lines : List ℕ) (number : ℕ) → answer ≡ lines ++ 10 ∷ [] → fault_in lines ≡ None → refusal_of errand lines ≡ Some number → Refuses number answer old new result
+
+-- an answer tells of such a refusal
+abbrev pub TellsRefusal : Errand → List ℕ → ℕ → Type 0
+TellsRefusal errand answer number = (lines : List ℕ) × (answer ≡ lines ++ 10 ∷ []) × (refusal_of errand lines ≡ Some number)

@@ -1,6 +1,7 @@
 -- The numbers of the program's faults, and its exit statuses: 1 where files, streams or memory failed, 2 for the
--- words of the command line.
-use Rattle.std.specs.Prelude.{ℕ, Option, None}
+-- words of the command line, 3 where a node doesn't do what it was told.
+use Rattle.std.specs.Prelude.{◌≡◌, ℕ, Option, None}
+use Rattle.lisp_files.specs.declared.ending.Ending.{Ending}
 use Rattle.lisp_answer.specs.Fault.{fault_number}
 use Rattle.lisp_script.specs.PlayFault.{play_fault_number, play_fault_status, play_fault_line}
 use Rattle.lisp_refusals.specs.Fault.{explain_fault_number, explain_fault_status}
@@ -8,10 +9,11 @@ use Rattle.lisp_script.specs.RunFault.{run_status, run_line}
 use Rattle.lisp_script.specs.declared.input_fault.InputFault.{InputFault}
 use Rattle.lisp_script.specs.declared.input_fault.InputFault.TheVariants as input_faults
 use Rattle.lisp_script.specs.declared.play_fault.PlayFault.TheVariants as play_faults
+use Rattle.lispd_cli.specs.declared.failure.Failure.{Failure}
 use Rattle.lispd_cli.specs.declared.fault.SetupFault.{SetupFault}
 use Rattle.lispd_cli.specs.declared.fault.SetupFault.TheVariants as setup_faults
 use Rattle.lispd_cli.specs.declared.fault.ProgramFault.{ProgramFault}
-use Rattle.lispd_cli.specs.declared.fault.ProgramFault.TheVariants.{Words, Setup, Answer, File, Play, Turns, Known, Group, GroupOfFiles, Run, Explain, Unanswered, Warnings}
+use Rattle.lispd_cli.specs.declared.fault.ProgramFault.TheVariants.{Words, Setup, Answer, File, Play, Turns, Known, Group, GroupOfFiles, Run, Explain, Unanswered, Refused, Warnings}
 
 abbrev pub setup_fault_number : SetupFault → ℕ
 setup_fault_number (setup_faults.BadOption _) = 98
@@ -34,6 +36,7 @@ program_fault_number GroupOfFiles = 98
 program_fault_number (Run fault) = fault.number
 program_fault_number (Explain fault) = explain_fault_number fault
 program_fault_number Unanswered = 99
+program_fault_number (Refused number) = number
 program_fault_number Warnings = 25
 
 abbrev pub program_fault_status : ProgramFault → ℕ
@@ -49,6 +52,7 @@ program_fault_status GroupOfFiles = 2
 program_fault_status (Run fault) = run_status fault.number
 program_fault_status (Explain fault) = explain_fault_status fault
 program_fault_status Unanswered = 1
+program_fault_status (Refused _) = 3
 program_fault_status Warnings = 2
 
 -- the faulty line of a script
@@ -56,6 +60,11 @@ abbrev pub program_fault_line : ProgramFault → Option ℕ
 program_fault_line (Play fault) = play_fault_line fault
 program_fault_line (Run fault) = run_line fault.line
 program_fault_line _ = None
+
+-- what ended a node or a network is to the program, with the same words
+pub record IsOfEnding (ending : Ending) (failure : Failure) : Type 0 where
+  pub fault : failure.fault ≡ Run ending.fault
+  pub details : failure.details ≡ ending.details
 
 -- what a fault of an input is to the program: a configuration's fault without its place
 abbrev pub of_input : InputFault → ProgramFault

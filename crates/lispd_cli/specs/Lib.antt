@@ -3,3 +3,4 @@ pub mod Options
 pub mod Words
 pub mod Asking
 pub mod Check
+pub mod PrintedLine

@@ -1,5 +1,6 @@
 -- The words of `server` and `router`, as `clap` matched them.
 use Rattle.std.specs.Prelude.{◌≡◌, ℕ, ◌^◌, nat_lt, Bool, List, [], codes, Option, Some, None, unwrap_or, if◌then◌else◌}
+use Rattle.std.specs.Option.{option_map}
 use Rattle.clap.specs.Words.{first_value, found_of}
 use Rattle.clap.specs.declared.parser.matches.ArgMatches.{ArgMatches}
 use Rattle.lisp_texts.specs.Number.{number_of}
@@ -45,3 +46,4 @@ pub record ReadsNode (words : ArgMatches) (read : NodeWords) : Type 0 where
   pub known : read.is_known ≡ is_given_in words (codes "known")
   pub database : read.has_database ≡ is_given_in words (codes "database")
   pub group : group_of (option_in words (codes "group")) ≡ Some read.group
+  pub control : option_map (λ dir. dir.now) read.control ≡ option_in words (codes "control")

@@ -1,14 +1,21 @@
 //! What a node that runs is asked, and told to do.
 
-ghost use Rattle.std.specs.Prelude.{◌≡◌};
-ghost use Rattle.lispd_cli.specs.Asking.{EndsAtFault, bad_line, errand_of, fault_in, first_word};
+ghost use Rattle.std.specs.Prelude.{◌≡◌, ℕ, IfErr, OnOk};
+ghost use Rattle.std.specs.Io.KnownBytes.{Appends};
+ghost use Rattle.lispd_cli.specs.Asking.{EndsAtFault, EndsAtRefusal, TellsRefusal, bad_line, behind_word, errand_of, fault_in, first_word, refusal_of, refused_in, third_word};
+ghost use Rattle.lispd_cli.specs.declared.fault.ProgramFault.TheVariants.{Answer, Refused};
+ghost use Rattle.lisp_answer.specs.declared.fault.AnswerFault.TheVariants as answers;
 
+use crate::advice::advice_of;
 use crate::command_line::{FOLDER, PROMETHEUS, QUESTION};
+use crate::failure::Failure;
 use crate::fault::ProgramFault;
+use crate::printed_line::fault_of;
 use crate::words::{is_given, word};
 use clap::ArgMatches;
 use lisp_answer::AnswerFault;
 use lisp_memory::FallibleString;
+use lisp_refusals::{meaning, remedy};
 use lisp_script::{RunFault, ScriptWhat};
 use lisp_texts::number_from_text;
 use std::alloc::{AllocError, Global};
@@ -24,6 +31,9 @@ const PATIENCE: u64 = 10;
 /// The first words of answers that tell in their first line how many lines follow.
 const LISTS: [&str; 3] = ["hold", "records", "routers"];
 
+/// The number of a router that didn't start.
+const NOT_STARTED: u16 = 76;
+
 /// Whether a node is asked, or told what to do.
 #[derive(Clone, Copy, Debug, PartialEq, Eq)]
 pub enum Errand {
@@ -33,9 +43,25 @@ pub enum Errand {
     Tell,
 }
 
-/// Asks the node that runs over a folder, or tells it what to do, and prints its answer. Faults: 80 where it is asked an order, or told a
-/// question; 99 where no node answers; those of the line, 80 to 86; 88 where the answer can't be written; 97.
+/// Asks the node that runs over a folder, or tells it what to do, and prints its answer. Faults: 80 where it is asked an
+/// order, or told a question; 99 where no node answers; those of the line, 80 to 86; what keeps the node from doing what it is told, with
+/// the status 3; 88 where the answer can't be written; 97.
 pub fn ask_node<R: Files + Net + AllocGlobal, W: Write>(
+    rt: &R,
+    errand: Errand,
+    words: &ArgMatches<'_>,
+    writer: &mut W,
+) -> Result<(), Failure> {
+    match ask(rt, errand, words, writer) {
+        Ok(()) => Ok(()),
+        Err(fault) => Err(Failure {
+            fault,
+            details: details(rt.alloc(), errand, fault),
+        }),
+    }
+}
+
+fn ask<R: Files + Net + AllocGlobal, W: Write>(
     rt: &R,
     errand: Errand,
     words: &ArgMatches<'_>,
@@ -49,7 +75,26 @@ pub fn ask_node<R: Files + Net + AllocGlobal, W: Write>(
     let Ok(answer) = answer(rt, path.as_str(), question.as_str()) else {
         return Err(ProgramFault::Unanswered);
     };
-    print_answer(answer.as_str(), writer)
+    print_answer(errand, answer.as_str(), writer)
+}
+
+// What is wrong with the question or the order, in words; `None` where the fault's own words say it, or there is no memory.
+fn details(alloc: Global, errand: Errand, fault: ProgramFault) -> Option<String> {
+    match fault {
+        ProgramFault::Run(fault) => {
+            let words = advice_of(errand, fault.number)?.words();
+            String::try_from_str(alloc, words).ok()
+        }
+        ProgramFault::Refused(number) => {
+            let (meaning, remedy) = (meaning(number)?, remedy(number)?);
+            String::try_format(
+                alloc,
+                format_args!("the node doesn't do it: {meaning}: {remedy}"),
+            )
+            .ok()
+        }
+        _ => None,
+    }
 }
 
 // The words of the question, with a space between them.
@@ -88,6 +133,21 @@ fn first_word(question: &str) -> &str
     }
 }
 
+fn behind_word(line: &str) -> &str
+    ensures { result.now ≡ behind_word line.now }
+{
+    match line.split_once(' ') {
+        Some((_, behind)) => behind,
+        None => "",
+    }
+}
+
+fn third_word(line: &str) -> &str
+    ensures { result.now ≡ third_word line.now }
+{
+    first_word(behind_word(behind_word(line)))
+}
+
 // What the node answers to a question at its socket.
 fn answer<R: Files + Net + AllocGlobal>(rt: &R, path: &str, question: &str) -> io::Result<String> {
     let mut stream = UnixStream::connect(rt, path)?;
@@ -97,9 +157,12 @@ fn answer<R: Files + Net + AllocGlobal>(rt: &R, path: &str, question: &str) -> i
     io::read_to_string(rt.alloc(), stream)
 }
 
-// Prints an answer, unless it is the fault of the line. One that is cut off, or empty, is none.
-fn print_answer<W: Write>(answer: &str, writer: &mut W) -> Result<(), ProgramFault>
-    ensures { EndsAtFault answer.now result }
+// Prints an answer, unless it is the fault of the line. One that is cut off, or empty, is none; one that says that the node doesn't do
+// what it is told ends the program.
+fn print_answer<W: Write>(errand: Errand, answer: &str, writer: &mut W) -> Result<(), ProgramFault>
+    ensures fault { EndsAtFault answer.now result }
+    ensures refusal { EndsAtRefusal errand answer.now (W.contents writer.old) (W.contents writer.new) result }
+    ensures refused { IfErr result (λ fault. (number : ℕ) → fault ≡ Refused number → TellsRefusal errand answer.now number) }
 {
     let Some(lines) = answer.strip_suffix('\n') else {
         return Err(ProgramFault::Unanswered);
@@ -107,12 +170,44 @@ fn print_answer<W: Write>(answer: &str, writer: &mut W) -> Result<(), ProgramFau
     if let Some(number) = fault_in(lines) {
         return Err(bad_line(number));
     }
-    if !is_whole(lines) {
-        return Err(ProgramFault::Unanswered);
+    match refusal_of(errand, lines) {
+        Some(number) => {
+            write_answer(answer, writer)?;
+            Err(ProgramFault::Refused(number))
+        }
+        None if is_whole(lines) => write_answer(answer, writer),
+        None => Err(ProgramFault::Unanswered),
     }
+}
+
+fn write_answer<W: Write>(answer: &str, writer: &mut W) -> Result<(), ProgramFault>
+    ensures ok { OnOk result (Appends (W.contents writer.old) (W.contents writer.new) answer.now) }
+    ensures fault { IfErr result (λ fault. fault ≡ Answer answers.Write) }
+{
     match writer.write_all(answer.as_bytes()) {
         Ok(()) => Ok(()),
         Err(_) => Err(ProgramFault::Answer(AnswerFault::Write)),
+    }
+}
+
+// The number of the refusal or the fault that keeps a node from doing what it is told.
+fn refusal_of(errand: Errand, lines: &str) -> Option<u16>
+    ensures { result ≡ refusal_of errand lines.now }
+{
+    match errand {
+        Errand::Ask => None,
+        Errand::Tell => refused_in(lines),
+    }
+}
+
+fn refused_in(lines: &str) -> Option<u16>
+    ensures { result ≡ refused_in lines.now }
+{
+    match first_word(lines) {
+        "fault" => fault_of(first_word(behind_word(lines))),
+        "refused" => fault_of(third_word(lines)),
+        "down" => Some(NOT_STARTED),
+        _ => None,
     }
 }
 

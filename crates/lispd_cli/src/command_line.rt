@@ -49,6 +49,9 @@ pub const TURNS: &str = "turns";
 /// The switch of a node whose store has to keep nonces already.
 pub const KNOWN: &str = "known";
 
+/// The option for the folder in which a node is asked.
+pub const CONTROL: &str = "control";
+
 /// The switch of `check` that makes warnings a fault.
 pub const STRICT: &str = "strict";
 
@@ -132,6 +135,7 @@ default) to 64; only with --database",
             },
             TURNS_ARGUMENT,
             KNOWN_ARGUMENT,
+            CONTROL_ARGUMENT,
             WORDS_ARGUMENT,
         ],
     },
@@ -146,6 +150,7 @@ default) to 64; only with --database",
             DATABASE_ARGUMENT,
             TURNS_ARGUMENT,
             KNOWN_ARGUMENT,
+            CONTROL_ARGUMENT,
             WORDS_ARGUMENT,
         ],
     },
@@ -209,7 +214,7 @@ default) to 64; only with --database",
         arguments: &[
             Argument::Words {
                 name: NUMBER,
-                help: "The number, such as 57, and what stands behind it in a line, such as saved 3",
+                help: "The number, such as 57, or the line that has it, whole or from its number on",
             },
             WORDS_ARGUMENT,
         ],
@@ -263,6 +268,14 @@ until it is killed",
 const KNOWN_ARGUMENT: Argument = Argument::Switch {
     name: KNOWN,
     help: "Don't start where the store keeps no nonces; not with --turns",
+};
+
+const CONTROL_ARGUMENT: Argument = Argument::Value {
+    name: CONTROL,
+    letters: "DIR",
+    is_required: false,
+    help: "The folder of the socket at which the node is asked and told, which has to be there: \
+who may write it may do so; left out, the node's own folder",
 };
 
 const WORDS_ARGUMENT: Argument = Argument::Switch {

@@ -1,94 +1,72 @@
-//! What `explain` is asked for: a line that a node printed, from its number on.
+//! What `explain` is asked for: the numbers of a line that a node printed.
 
-use crate::fault::{ProgramFault, SetupFault};
-use lisp_memory::FallibleVec;
+ghost use Rattle.std.specs.Prelude.{◌≡◌, ◌≢◌, IfErr, IfOk, IsErrOf, None, OnErr, OnOk};
+ghost use Rattle.std.specs.List.{list_all};
+ghost use Rattle.std.specs.Option.{option_map, IsSome};
+ghost use Rattle.lisp_refusals.specs.Numbers.{is_known};
+ghost use Rattle.lispd_cli.specs.PrintedLine.{texts, explained_of, ExplainsEach, ExplainsLine, out_of_memory, unknown, unwritten};
+
+use crate::fault::ProgramFault;
+use crate::line_words::{line_of, words_of};
+use crate::printed_line::numbers_of;
+use lisp_memory::Memory;
 use lisp_refusals::{ExplainFault, explain, is_known};
-use lisp_texts::number_from_text;
 use std::alloc::{AllocError, Global};
 use std::io::Write;
 
-/// Explains the number that the words begin with, as `57` or `57 saved 3`, then each fault that they carry, as 30 in
-/// `56 store 30`. Faults: `ExplainFault::Unknown` (98) where the words are no such line or a number is that of nothing, and
-/// nothing was written; `Write` (88); `SetupFault::OutOfMemory` (97).
+/// Explains each number of a line that a node printed, in the order of the line: whole, as `refused s1 56 store 30 from 192.0.2.1`,
+/// also with what a log puts in front of it, or from its number on, as `56 store 30`. Faults: `ExplainFault::Unknown` (98) where the
+/// words are no such line, or a number of it is that of nothing; `SetupFault::OutOfMemory` (97): nothing was written;
+/// `ExplainFault::Write` (88).
 pub(crate) fn explain_line<W: Write>(
     alloc: Global,
     words: &[&str],
     writer: &mut W,
-) -> Result<(), ProgramFault> {
-    match line_numbers(alloc, words) {
-        Ok(Some(numbers)) => Ok(explain_numbers(&numbers, writer)?),
-        Ok(None) => Err(ProgramFault::Explain(ExplainFault::Unknown)),
-        Err(_) => Err(ProgramFault::Setup(SetupFault::OutOfMemory)),
+) -> Result<(), ProgramFault>
+    ensures ok { OnOk result (ExplainsLine (texts words.now) (W.contents writer.old) (W.contents writer.new)) }
+    ensures unknown { IsErrOf result unknown → explained_of (texts words.now) ≡ None }
+    ensures write { IsErrOf result unwritten → IsSome (explained_of (texts words.now)) }
+    ensures memory { IsErrOf result out_of_memory → ⟦<Global as Memory>⟧.may_refuse }
+    ensures kept { IfErr result (λ fault. fault ≢ unwritten → writer.new ≡ writer.old) }
+{
+    match explained_of(alloc, words)? {
+        Some(numbers) => explain_each(&numbers, writer),
+        None => Err(ProgramFault::Explain(ExplainFault::Unknown)),
     }
 }
 
-fn explain_numbers<W: Write>(numbers: &[u16], writer: &mut W) -> Result<(), ExplainFault> {
-    if !numbers.iter().all(|number| is_known(*number)) {
-        return Err(ExplainFault::Unknown);
+// The numbers that are explained of the words; `None` where one is that of nothing, or they are no line.
+fn explained_of(alloc: Global, words: &[&str]) -> Result<Option<Vec<u16>>, AllocError>
+    ensures numbers { IfOk result (λ found. option_map (λ numbers. numbers.items) found ≡ explained_of (texts words.now)) }
+    ensures memory { OnErr result ⟦<Global as Memory>⟧.may_refuse }
+{
+    let line = line_of(alloc, words)?;
+    let words = words_of(alloc, line.as_str())?;
+    let Some(numbers) = numbers_of(alloc, &words)? else {
+        return Ok(None);
+    };
+    if are_known(&numbers) {
+        Ok(Some(numbers))
+    } else {
+        Ok(None)
     }
+}
+
+fn are_known(numbers: &[u16]) -> bool
+    ensures { result ≡ list_all is_known numbers.now }
+{
+    numbers.iter().all(|number| is_known(*number))
+}
+
+// Writes the explanations of known numbers, one after the other: then only writing fails.
+fn explain_each<W: Write>(numbers: &[u16], writer: &mut W) -> Result<(), ProgramFault>
+    ensures ok { OnOk result (ExplainsEach numbers.now (W.contents writer.old) (W.contents writer.new)) }
+    ensures fault { IfErr result (λ fault. fault ≡ unwritten) }
+{
     for number in numbers {
-        explain(*number, writer)?;
+        if explain(*number, writer).is_err() {
+            return Err(ProgramFault::Explain(ExplainFault::Write));
+        }
     }
     Ok(())
-}
-
-// The numbers of the words, parted at their spaces; `None` where they are no line.
-fn line_numbers(alloc: Global, words: &[&str]) -> Result<Option<Vec<u16>>, AllocError> {
-    let mut parts = Vec::new(alloc);
-    for word in words {
-        for part in word.split_whitespace() {
-            parts.try_push(part)?;
-        }
-    }
-    numbers(alloc, &parts)
-}
-
-// The number of the line, then those of the faults that it carries.
-fn numbers(alloc: Global, words: &[&str]) -> Result<Option<Vec<u16>>, AllocError> {
-    let [first, carried @ ..] = words else {
-        return Ok(None);
-    };
-    let Some(first) = number(first) else {
-        return Ok(None);
-    };
-    let mut numbers = Vec::new(alloc);
-    numbers.try_push(first)?;
-    for pair in carried.chunks(2) {
-        match carried_by(pair) {
-            Carried::Fault(number) => numbers.try_push(number)?,
-            Carried::Value => {}
-            Carried::Unknown => return Ok(None),
-        }
-    }
-    Ok(Some(numbers))
-}
-
-/// What two words behind a line's number are.
-enum Carried {
-    /// A fault, as `store 30`.
-    Fault(u16),
-    /// A nonce, a line or the place of a record.
-    Value,
-    /// No words of a line.
-    Unknown,
-}
-
-// What the words are: one, and its number.
-fn carried_by(pair: &[&str]) -> Carried {
-    let [word, value] = pair else {
-        return Carried::Unknown;
-    };
-    match (*word, number(value), number_from_text(value)) {
-        ("read" | "store" | "fault", Some(number), _) => Carried::Fault(number),
-        ("latest" | "line" | "record" | "saved", _, Some(_)) => Carried::Value,
-        _ => Carried::Unknown,
-    }
-}
-
-// The number of a refusal or a fault that the text is.
-fn number(text: &str) -> Option<u16> {
-    match u16::try_from(number_from_text(text)?) {
-        Ok(number) => Some(number),
-        Err(_) => None,
-    }
 }

@@ -1,5 +1,5 @@
 //! What keeps `setup` from giving a setup, and what ends the program: each with its number and its exit
-//! status, 1 where files, streams or memory fail and 2 for the words of the command line.
+//! status, 1 where files, streams or memory fail, 2 for the words of the command line and 3 where a node refuses.
 
 ghost use Rattle.std.specs.Prelude.{◌≡◌};
 ghost use Rattle.lispd_cli.specs.Fault.{setup_fault_number, setup_fault_status, program_fault_number, program_fault_status, program_fault_line};
@@ -93,6 +93,9 @@ pub enum ProgramFault {
     /// No node runs over the folder, or it didn't answer.
     #[error("no node answers there: it doesn't run, or ended")]
     Unanswered,
+    /// The node doesn't do what it was told, for a refusal or a fault with this number; nothing was sent, or its answer was printed.
+    #[error("the node doesn't do it")]
+    Refused(u16),
     /// The configuration has warnings, and `--strict` was given.
     #[error("the configuration has warnings, and --strict was given")]
     Warnings,
@@ -100,7 +103,7 @@ pub enum ProgramFault {
 
 impl ProgramFault {
     /// The number that operators see: `Words`, `Turns`, `Known`, `Group` and `GroupOfFiles` 98, `File` 93, `Unanswered` 99,
-    /// `Warnings` 25, or that of the fault inside.
+    /// `Warnings` 25, or that of the fault or the refusal inside.
     pub const fn number(&self) -> u16
         ensures { result ≡ program_fault_number self.now }
     {
@@ -117,12 +120,13 @@ impl ProgramFault {
             ProgramFault::Run(fault) => fault.number,
             ProgramFault::Explain(fault) => fault.number(),
             ProgramFault::Unanswered => 99,
+            ProgramFault::Refused(number) => *number,
             ProgramFault::Warnings => 25,
         }
     }
 
-    /// The exit status: `Words`, `Turns`, `Known`, `Group`, `GroupOfFiles` and `Warnings` 2, `File` and `Unanswered` 1, or that of the
-    /// fault inside.
+    /// The exit status: `Words`, `Turns`, `Known`, `Group`, `GroupOfFiles` and `Warnings` 2, `Refused` 3, `File` and
+    /// `Unanswered` 1, or that of the fault inside.
     pub fn status(&self) -> u8
         ensures { result ≡ program_fault_status self.now }
     {
@@ -139,6 +143,7 @@ impl ProgramFault {
             ProgramFault::Play(fault) => fault.status(),
             ProgramFault::Run(fault) => fault.status(),
             ProgramFault::Explain(fault) => fault.status(),
+            ProgramFault::Refused(_) => 3,
         }
     }
 

@@ -124,6 +124,8 @@ and a router:
   change RECORD ..    to register these records from now on, or `empty`; the configuration stays as it is
   rotate KEY          to go over to another key of its site; the configuration stays as it is
 
+The status is 3 where it doesn't do so; its answer says why.
+
 Example:
   lispd tell nonces/s1 notice r1";
 
@@ -138,12 +140,16 @@ nothing is printed, and standard error names its entry.";
 
 /// What `explain` does, for its help.
 pub(crate) const EXPLAIN_ABOUT: &str =
-    "Explain the number of a refusal or a fault: what it means, and what to do about it; all of them, \
-where none is given";
+    "Explain the numbers of a line that a node printed, or one number: what each means, and what to do about it; all \
+numbers, where none is given";
 
 /// Words of a line, for its help.
 pub(crate) const LINE_EXAMPLE: &str =
-    "A fault that the line carries is explained too, as 30 in the example.
+    "The line may be whole, also with what a log puts in front of it, or begin with its number. A fault that it carries is explained
+too, as 30 in the examples. What is no such line is fault 98.
 
-Example:
-  lispd explain 56 store 30";
+Examples:
+  lispd explain 57
+  lispd explain 56 store 30
+  lispd explain refused s1 59 store 30 StorageFull from 192.0.2.11
+  lispd explain 'Nov 29 03:23:24 host lispd[812]: lispd: fault 93'";

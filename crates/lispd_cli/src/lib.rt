@@ -2,6 +2,7 @@
 //! of a fault that ends it; the subcommands that need no network, and those that ask a node that runs.
 #![tactic(auto)]
 
+mod advice;
 mod argument;
 mod asking;
 mod check;
@@ -10,8 +11,10 @@ mod explanation;
 mod failure;
 mod fault;
 mod help;
+mod line_words;
 mod option;
 mod options;
+mod printed_line;
 mod remedy;
 mod reporting;
 mod source;
@@ -21,8 +24,8 @@ mod words;
 pub use asking::{Errand, ask_node};
 pub use check::check_config;
 pub use command_line::{
-    CONFIG, DATABASE, FILE, FOLDER, GROUP, KNOWN, NAME, NUMBER, QUESTION, STORE, STRICT, TEXT,
-    TURNS, WORDS, command,
+    CONFIG, CONTROL, DATABASE, FILE, FOLDER, GROUP, KNOWN, NAME, NUMBER, QUESTION, STORE, STRICT,
+    TEXT, TURNS, WORDS, command,
 };
 pub use failure::Failure;
 pub use fault::{ProgramFault, SetupFault};

@@ -38,7 +38,8 @@ fn put_remedy<W: Write>(number: u16, formatter: &mut Formatter<W>) -> fmt::Resul
     }
 }
 
-/// The words after the program's name: which subcommand, file and node.
+/// The words after the program's name: which subcommand, file and node. Characters that would begin
+/// another line are escaped.
 #[derive(Drop)]
 struct Words<'a>(&'a [String]);
 
@@ -46,7 +47,7 @@ impl Display for Words<'_> {
     fn fmt<W: Write>(&self, formatter: &mut Formatter<W>) -> fmt::Result {
         if let [_, words @ ..] = self.0 {
             for word in words {
-                write!(formatter, " {word}")?;
+                write!(formatter, " {}", word.escape_debug())?;
             }
         }
         Ok(())

@@ -1,12 +1,16 @@
 //! Where a configuration is read.
 
-use lisp_script::{InputFault, PlayFault, read_to_end};
+use crate::failure::Failure;
+use crate::fault::ProgramFault;
+use lisp_files::{Problem, STANDARD_INPUT, WatchedReader};
+use lisp_script::{PlayFault, read_to_end};
+use std::alloc::Global;
 use std::fs::{self, Files, OpenFile};
-use std::io::BufReader;
+use std::io::{BufReader, Read};
 use std::os::unix::fs::MetadataExt;
 
-/// The name of standard input.
-const STANDARD_INPUT: &str = "-";
+/// The path of standard input.
+const PATH_OF_INPUT: &str = "-";
 
 /// The bits of a file's mode by which others than its owner can read, write or run it.
 const OTHERS: u32 = 0o077;
@@ -23,24 +27,41 @@ pub(crate) struct Source {
 pub(crate) fn read_source<R: Input + Files + AllocGlobal>(
     rt: &R,
     path: &str,
-) -> Result<Source, InputFault> {
-    if path == STANDARD_INPUT {
+) -> Result<Source, Failure> {
+    let alloc = rt.alloc();
+    if path == PATH_OF_INPUT {
         return Ok(Source {
-            bytes: read_to_end(rt.alloc(), &mut rt.reader())?,
+            bytes: read_bytes(alloc, STANDARD_INPUT, rt.reader())?,
             is_open_to_others: false,
         });
     }
-    let Ok(file) = fs::open(rt, path) else {
-        return Err(InputFault::File);
+    let file = match fs::open(rt, path) {
+        Ok(file) => file,
+        Err(error) => {
+            let fault = ProgramFault::File;
+            return Err(Failure::of_file(alloc, fault, path, Problem::Open(error)));
+        }
     };
     let is_open_to_others = is_open_to_others(&file);
-    let Ok(mut reader) = BufReader::new(rt.alloc(), file) else {
-        return Err(InputFault::Input(PlayFault::OutOfMemory));
+    let Ok(reader) = BufReader::new(alloc, file) else {
+        return Err(Failure::from(PlayFault::OutOfMemory));
     };
     Ok(Source {
-        bytes: read_to_end(rt.alloc(), &mut reader)?,
+        bytes: read_bytes(alloc, path, reader)?,
         is_open_to_others,
     })
+}
+
+// The bytes that the reader of a path has left.
+fn read_bytes<R: Read + Drop>(alloc: Global, path: &str, reader: R) -> Result<Vec<u8>, Failure> {
+    let mut reader = WatchedReader::over(reader);
+    match read_to_end(alloc, &mut reader) {
+        Ok(bytes) => Ok(bytes),
+        Err(fault) => {
+            let fault = ProgramFault::Play(fault);
+            Err(Failure::of_input(alloc, fault, path, reader.error()))
+        }
+    }
 }
 
 fn is_open_to_others<F: OpenFile>(file: &F) -> bool {

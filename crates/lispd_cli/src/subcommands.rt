@@ -9,6 +9,7 @@ use crate::options::setup;
 use crate::words::{is_given, word};
 use clap::ArgMatches;
 use lisp_answer::{AnswerSetup, answer};
+use lisp_files::{STANDARD_INPUT, WatchedReader};
 use lisp_refusals::explain_all;
 use std::alloc::Global;
 use std::io::{Read, Write};
@@ -21,12 +22,12 @@ pub fn run_alone<R: Input + Files + AllocGlobal, W: Write>(
     writer: &mut W,
 ) -> Result<(), Failure> {
     let Some((name, words)) = named else {
-        return Ok(run_answer(rt, None, writer)?);
+        return run_answer(rt, None, writer);
     };
     match name {
         CHECK => check(rt, words, writer),
         "explain" => Ok(explain_words(rt.alloc(), words, writer)?),
-        _ => Ok(run_answer(rt, Some(words), writer)?),
+        _ => run_answer(rt, Some(words), writer),
     }
 }
 
@@ -35,9 +36,20 @@ fn run_answer<R: Input + AllocGlobal, W: Write>(
     rt: &R,
     matches: Option<&ArgMatches<'_>>,
     writer: &mut W,
-) -> Result<(), ProgramFault> {
-    let setup = setup(rt.alloc(), matches)?;
-    answer_from(rt.alloc(), &setup, &mut rt.reader(), writer)
+) -> Result<(), Failure> {
+    let alloc = rt.alloc();
+    let setup = match setup(alloc, matches) {
+        Ok(setup) => setup,
+        Err(fault) => return Err(Failure::from(ProgramFault::Setup(fault))),
+    };
+    let mut reader = WatchedReader::over(rt.reader());
+    match answer_from(alloc, &setup, &mut reader, writer) {
+        Ok(()) => Ok(()),
+        Err(fault) => {
+            let error = reader.error();
+            Err(Failure::of_input(alloc, fault, STANDARD_INPUT, error))
+        }
+    }
 }
 
 // As `answer`. It promises nothing, so that nothing need be proved of standard input.
@@ -64,7 +76,7 @@ fn check<R: Input + Files + AllocGlobal, W: Write>(
     Ok(())
 }
 
-// `explain`: explains the words of a line; with none, all numbers.
+// `explain`: explains each number of a line; with none, all numbers.
 fn explain_words<W: Write>(
     alloc: Global,
     words: &ArgMatches<'_>,

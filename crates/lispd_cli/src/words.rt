@@ -4,7 +4,9 @@ ghost use Rattle.std.specs.Prelude.{◌≡◌, ◌≢◌, ◌≤◌, true, codes
 ghost use Rattle.lispd_cli.specs.Words.{word_in, is_given_in, option_in, turns_of, group_below, group_of, ReadsNode};
 ghost use Rattle.lisp_texts.specs.Number.{number_of};
 
-use crate::command_line::{CHECK, CONFIG, DATABASE, GROUP, KNOWN, NAME, STORE, TURNS, WORDS};
+use crate::command_line::{
+    CHECK, CONFIG, CONTROL, DATABASE, GROUP, KNOWN, NAME, STORE, TURNS, WORDS,
+};
 use crate::fault::ProgramFault;
 use clap::ArgMatches;
 use lisp_texts::number_from_text;
@@ -58,6 +60,8 @@ pub struct NodeWords<'a> {
     pub has_database: bool,
     /// How many datagrams it takes in a turn at most, whose nonces are committed together; 1 where they are in files.
     pub group: u8,
+    /// The folder in which it is asked; `None` where that is its own.
+    pub control: Option<&'a str>,
 }
 
 /// The words of `server` and `router`. Faults, all 98: `ProgramFault::Turns` where the turns have another form than they take,
@@ -83,6 +87,7 @@ pub fn node_words<'a>(words: &ArgMatches<'a>) -> Result<NodeWords<'a>, ProgramFa
         is_known,
         has_database,
         group: group(words, has_database)?,
+        control: words.get_str(CONTROL),
     })
 }
 

@@ -17,6 +17,9 @@ use std::rt::Env;
 /// Out of memory before a subcommand runs.
 const OUT_OF_MEMORY: ProgramFault = ProgramFault::Setup(SetupFault::OutOfMemory);
 
+/// The help or the version can't be written.
+const UNWRITTEN: ProgramFault = ProgramFault::Answer(AnswerFault::Write);
+
 /// The exit status for words that `clap` refuses.
 const MISUSED: u8 = 2;
 
@@ -51,7 +54,7 @@ fn run(rt: &HostRuntime, words: &[String], is_terminal: bool) -> ExitCode {
         Ok(matches) => run_matches(rt, words, &matches, is_terminal),
         Err(error) => match print_words_error(rt, &error) {
             Ok(status) => status,
-            Err(fault) => report(rt, &Failure::from(fault), words, is_terminal),
+            Err(failure) => report(rt, &failure, words, is_terminal),
         },
     }
 }
@@ -69,19 +72,19 @@ fn run_matches(
 }
 
 // Prints the help or the version that was asked for, or why `clap` refuses the words.
-fn print_words_error<R: Print + Eprint>(
+fn print_words_error<R: Print + Eprint + AllocGlobal>(
     rt: &R,
     error: &clap::Error,
-) -> Result<ExitCode, ProgramFault> {
+) -> Result<ExitCode, Failure> {
     if error.kind() == WordsErrorKind::OutOfMemory {
-        return Err(OUT_OF_MEMORY);
+        return Err(Failure::from(OUT_OF_MEMORY));
     }
     let printed = error.print(rt);
     if error.use_stderr() {
-        Ok(ExitCode::from(MISUSED))
-    } else if printed.is_ok() {
-        Ok(ExitCode::SUCCESS)
-    } else {
-        Err(ProgramFault::Answer(AnswerFault::Write))
+        return Ok(ExitCode::from(MISUSED));
+    }
+    match printed {
+        Ok(()) => Ok(ExitCode::SUCCESS),
+        Err(error) => Err(Failure::from(UNWRITTEN).with_output(rt.alloc(), Some(error))),
     }
 }

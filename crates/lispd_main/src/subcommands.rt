@@ -2,9 +2,10 @@
 
 use clap::ArgMatches;
 use lisp_database_store::SystemTable;
+use lisp_files::{Ending, Problem, STANDARD_INPUT, WatchedReader, WatchedWriter};
 use lisp_picture::{Form, draw};
 use lisp_player::play;
-use lisp_script::{PlayFault, RunFault};
+use lisp_script::PlayFault;
 use lisp_sqlite::{Task, run_task};
 use lisp_udp::{Storage, Stretch, Subject, run_subject};
 use lispd_cli::{
@@ -16,8 +17,8 @@ use std::fs;
 use std::io::{self, BufReader, Read, Write};
 use std::rt::Files;
 
-/// The name of standard input.
-const STANDARD_INPUT: &str = "-";
+/// The path of standard input.
+const PATH_OF_INPUT: &str = "-";
 
 /// A kind of node.
 #[derive(Clone, Copy)]
@@ -28,7 +29,11 @@ enum NodeKind {
 
 /// Runs the subcommand that the words name; with none, `answer`.
 pub(crate) fn run_subcommand(rt: &HostRuntime, matches: &ArgMatches<'_>) -> Result<(), Failure> {
-    run_named(rt, matches.subcommand(), &mut io::writer(rt))
+    let mut writer = WatchedWriter::over(io::writer(rt));
+    match run_named(rt, matches.subcommand(), &mut writer) {
+        Ok(()) => Ok(()),
+        Err(failure) => Err(failure.with_output(rt.alloc(), writer.error())),
+    }
 }
 
 fn run_named<W: Write>(
@@ -39,7 +44,7 @@ fn run_named<W: Write>(
     let Some((name, words)) = named else {
         return run_alone(rt, named, writer);
     };
-    let ran = match name {
+    match name {
         "play" => run_schedule(rt, words, Outlet::Lines, writer),
         "draw" => run_draw(rt, words, writer),
         "server" => run_node(rt, NodeKind::Server, words, writer),
@@ -47,9 +52,8 @@ fn run_named<W: Write>(
         "loop" => run_network(rt, words, writer),
         "ask" => ask_node(rt, Errand::Ask, words, writer),
         "tell" => ask_node(rt, Errand::Tell, words, writer),
-        _ => return run_alone(rt, named, writer),
-    };
-    Ok(ran?)
+        _ => run_alone(rt, named, writer),
+    }
 }
 
 fn run_node<W: Write>(
@@ -57,7 +61,7 @@ fn run_node<W: Write>(
     kind: NodeKind,
     words: &ArgMatches<'_>,
     writer: &mut W,
-) -> Result<(), ProgramFault> {
+) -> Result<(), Failure> {
     let NodeWords {
         config,
         name,
@@ -66,14 +70,23 @@ fn run_node<W: Write>(
         is_known,
         has_database,
         group,
+        control,
     } = node_words(words)?;
     let stretch = match turns {
         Some(turns) => Stretch::Turns(turns),
         None => Stretch::Endless { is_known },
     };
     let subject = match kind {
-        NodeKind::Server => Subject::Server { name, stretch },
-        NodeKind::Router => Subject::Router { name, stretch },
+        NodeKind::Server => Subject::Server {
+            name,
+            stretch,
+            control,
+        },
+        NodeKind::Router => Subject::Router {
+            name,
+            stretch,
+            control,
+        },
     };
     let run = Run {
         rt,
@@ -99,9 +112,9 @@ struct Run<'a, W> {
 }
 
 impl<W: Write> Task for Run<'_, W> {
-    type Output = Result<(), RunFault>;
+    type Output = Result<(), Ending>;
 
-    fn run<T: SystemTable>(self) -> Result<(), RunFault> {
+    fn run<T: SystemTable>(self) -> Result<(), Ending> {
         run_subject::<T, W>(
             self.rt,
             self.config,
@@ -125,7 +138,7 @@ fn run_network<W: Write>(
     rt: &HostRuntime,
     words: &ArgMatches<'_>,
     writer: &mut W,
-) -> Result<(), ProgramFault> {
+) -> Result<(), Failure> {
     let run = Run {
         rt,
         config: word(words, CONFIG),
@@ -153,7 +166,7 @@ fn run_draw<R: Input + Files + AllocGlobal, W: Write>(
     rt: &R,
     words: &ArgMatches<'_>,
     writer: &mut W,
-) -> Result<(), ProgramFault> {
+) -> Result<(), Failure> {
     let form = if is_given(words, TEXT) {
         Form::Text
     } else {
@@ -168,26 +181,45 @@ fn run_schedule<R: Input + Files + AllocGlobal, W: Write>(
     words: &ArgMatches<'_>,
     outlet: Outlet,
     writer: &mut W,
-) -> Result<(), ProgramFault> {
-    let name = word(words, FILE);
-    if name == STANDARD_INPUT {
-        return play_from(rt.alloc(), outlet, &mut rt.reader(), writer);
+) -> Result<(), Failure> {
+    let (alloc, path) = (rt.alloc(), word(words, FILE));
+    if path == PATH_OF_INPUT {
+        return play_watched(alloc, outlet, STANDARD_INPUT, rt.reader(), writer);
     }
-    match fs::open(rt, name) {
-        Ok(file) => play_file(rt.alloc(), outlet, file, writer),
-        Err(_) => Err(ProgramFault::File),
+    match fs::open(rt, path) {
+        Ok(file) => play_file(alloc, outlet, path, file, writer),
+        Err(error) => {
+            let fault = ProgramFault::File;
+            Err(Failure::of_file(alloc, fault, path, Problem::Open(error)))
+        }
     }
 }
 
 fn play_file<R: Read + Drop, W: Write>(
     alloc: Global,
     outlet: Outlet,
+    path: &str,
     file: R,
     writer: &mut W,
-) -> Result<(), ProgramFault> {
+) -> Result<(), Failure> {
     match BufReader::new(alloc, file) {
-        Ok(mut reader) => play_from(alloc, outlet, &mut reader, writer),
-        Err(_) => Err(ProgramFault::Play(PlayFault::OutOfMemory)),
+        Ok(reader) => play_watched(alloc, outlet, path, reader, writer),
+        Err(_) => Err(Failure::from(PlayFault::OutOfMemory)),
+    }
+}
+
+// As `play_from`, with the path and the error of a reader that fails.
+fn play_watched<R: Read + Drop, W: Write>(
+    alloc: Global,
+    outlet: Outlet,
+    path: &str,
+    reader: R,
+    writer: &mut W,
+) -> Result<(), Failure> {
+    let mut reader = WatchedReader::over(reader);
+    match play_from(alloc, outlet, &mut reader, writer) {
+        Ok(()) => Ok(()),
+        Err(fault) => Err(Failure::of_input(alloc, fault, path, reader.error())),
     }
 }
 

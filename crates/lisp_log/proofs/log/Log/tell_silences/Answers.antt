@@ -1,6 +1,6 @@
 use Rattle.std.proofs.Common.{[], ◌∷◌}
 use Rattle.lisp_log.proofs.Silent.{fewer}
-use Rattle.lisp_log.proofs.log.Log.pass.Goals as goal
+use Rattle.lisp_log.proofs.log.Log.tell_silences.Goals as goal
 
 pub loop-smaller : goal.loop-smaller
 loop-smaller g c =
@@ -13,6 +13,4 @@ loop-preserved g c = λ end others rest.
     c.loop.invariant end (one.0 ∷ others) (c.tell_silence.new.self, one.1, rest)
 
 pub returns : goal.returns
-returns g c =
-    let all = c.loop.invariant c.tell_silence.new.self [] (c.tell_silence.ensures.none c.loop-test.false) in
-    record { between = c.end_second.new.self; second = c.end_second.ensures; told = all.0; silences = all.1 }
+returns g c = c.loop.invariant c.tell_silence.new.self [] (c.tell_silence.ensures.none c.loop-test.false)

@@ -1,7 +1,7 @@
 use Rattle.std.proofs.Common.{ℕ, List}
 use Rattle.lisp_log.specs.Log.{LogState, TellsSilences}
 use Rattle.lisp_log.proofs.Silent.{count_silent}
-use Rattle.lisp_log.proofs.log.Log.pass.Given as goal
+use Rattle.lisp_log.proofs.log.Log.tell_silences.Given as goal
 
 -- what is told from here on is told behind what was told so far
 abbrev pub invariant-loop : goal.invariant-loop
