@@ -457,6 +457,26 @@ def a_socket_that_can_not_be_made(here):
     check("the file", (folder / "control").read_text(), "a letter")
 
 
+def a_socket_that_was_removed(here):
+    """It is there again within ten seconds. What else lies in its place stays, and that is said once."""
+    path = Path(f"{here.folder}/s1/control")
+    with open(f"{here.folder}/error", "w+", encoding="utf-8") as error:
+        process = up(here, "server", "s1", here.s1, stderr=error)
+        path.unlink()
+        check("it is there again", until(lambda: ask(here, "s1", "due")[0] == 0, 10), True)
+        check("its mode", f"{os.stat(path).st_mode & 0o777:o}", "200")
+        path.unlink()
+        path.write_text("a letter")
+        time.sleep(11)
+        check("the file", path.read_text(), "a letter")
+        path.unlink()
+        check("it is there once more", until(lambda: ask(here, "s1", "due")[0] == 0, 10), True)
+        killed(process)
+        error.seek(0)
+        said = error.read().splitlines()
+    check("what is said", (len(said), said[0].startswith(f"warning: {here.folder}/s1: nobody can ask the node: ")), (1, True))
+
+
 def a_killed_process_leaves_its_socket(here):
     """The next one listens in its place."""
     killed(up(here, "server", "s1", here.s1))
@@ -468,5 +488,5 @@ run_tests([
     *(over(store, test) for store in (FILES, GROUPS) for test in (a_map_server_is_asked, a_map_server_is_told, what_is_counted)),
     who_is_refused_as_replaying, a_router_is_told, a_router_that_is_down, advice, wrong_words, an_answer_that_is_a_fault,
     a_node_under_its_unit, another_user_is_refused, a_group_asks_under_the_drop_in, a_socket_in_another_folder,
-    a_socket_that_can_not_be_made, a_killed_process_leaves_its_socket,
+    a_socket_that_can_not_be_made, a_socket_that_was_removed, a_killed_process_leaves_its_socket,
 ], alone=[clients_that_misbehave, a_client_that_takes_nothing_of_many_rows])

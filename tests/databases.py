@@ -556,6 +556,45 @@ def heard(*peers):
     return [nonce_in(message) for it in peers for message in received(it, 0.001)]
 
 
+# Files that somebody takes away.
+
+
+def copied(database, log):
+    shutil.copy(database, f"{database}.copy")
+    os.replace(f"{database}.copy", database)
+
+
+TAKEN_AWAY = {
+    "removed": lambda database, log: os.unlink(database),
+    "renamed": lambda database, log: os.rename(database, f"{database}.old"),
+    "a copy in its place": copied,
+    "cut": lambda database, log: os.truncate(database, 0),
+    "its log removed": lambda database, log: os.unlink(log),
+    "its log cut": lambda database, log: os.truncate(log, os.path.getsize(log) - 100),
+}
+
+
+def a_database_that_is_taken_away(here):
+    """While a Map-Server runs its database is removed, renamed, replaced or cut: nothing is answered from then on, and no other one is made."""
+    database, log = f"{here.folder}/s1/{DATABASE_FILE}", f"{here.folder}/s1/{LOG_FILE}"
+    for name, take_away in TAKEN_AWAY.items():
+        process = here.start(*here.words("server", "s1"))
+        is_up(here.s1)
+        with peer(here.r1) as it:
+            check(f"{name}: before", nonce_in(here.answer(it, map_register(1))), 1)
+            take_away(database, log)
+            there = os.path.exists(database), os.path.exists(log)
+            check(f"{name}: it printed", next_line(process), f"accepted s1 r1 key 1 nonce 1 from {here.r1}")
+            it.sendto(map_register(2, xtr=2), (here.s1, PORT))
+            check(f"{name}: it is said", next_line(process), f"refused s1 59 store 30 NotFound from {here.r1}")
+            for nonce in (2, 3):
+                it.sendto(map_register(nonce, xtr=nonce), (here.s1, PORT))
+            check(f"{name}: answers", received(it, 0.3), [])
+        killed(process)
+        check(f"{name}: what is there", (os.path.exists(database), os.path.exists(log)), there)
+        shutil.rmtree(f"{here.folder}/s1")
+
+
 # Memory that is refused.
 
 
@@ -624,6 +663,7 @@ run_tests([a_database_tells_of_itself, a_router_s_database, kinds_are_kept_apart
            killed_while_files_are_taken("kill"), killed_while_files_are_taken("tear"), killed_while_older_files_are_taken,
            a_database_that_was_put_back, a_start_that_knows_no_machine, a_log_without_its_database, what_is_no_database,
            what_is_told_of_a_database, a_damaged_page, a_damaged_log,
+           *(over(store, a_database_that_is_taken_away) for store in (DATABASE, GROUPS)),
            *(over(store, a_call_that_fails(call, error)) for store in (DATABASE, GROUPS)
              for call, error in (("sync", errno.EIO), ("write", errno.ENOSPC), ("cut", errno.EIO))),
            *(over(DATABASE, a_router_whose_call_fails(call, error))

@@ -96,22 +96,29 @@ def map_register(router, nonce, first, count):
 
 
 class Server:
-    """A Map-Server at an address, with its nonces in a folder."""
+    """A Map-Server at an address, with its nonces in a folder. Its lines are taken, or go to an output."""
 
-    def __init__(self, disk, folder, words, address=SERVER):
+    def __init__(self, disk, folder, words, address=SERVER, output=None, **how):
         config = f"{folder}/configuration.toml"
         with open(config, "w", encoding="utf-8") as file:
             file.write(CONFIG.replace("ADDRESS", address))
         start = time.monotonic()
-        self.process = subprocess.Popen(
-            [PROGRAM, "server", config, "s1", "--store", folder, *words], env=disk.environment, stdout=subprocess.PIPE
-        )
+        how = {"env": disk.environment, "stdout": output or subprocess.PIPE, **how}
+        self.process = subprocess.Popen([PROGRAM, "server", config, "s1", "--store", folder, *words], **how)
+        self.reader = None
+        if output is not None:
+            return
         started = self.process.stdout.readline()
         if not started.startswith(b"started "):
             raise SystemExit(f"the Map-Server didn't start: {started}")
         self.start_seconds = time.monotonic() - start
         # Takes what it prints.
         self.reader = subprocess.Popen(["cat"], stdin=self.process.stdout, stdout=subprocess.DEVNULL)
+
+    def processor_seconds(self):
+        with open(f"/proc/{self.process.pid}/stat", encoding="ascii") as file:
+            user, system = file.read().rpartition(")")[2].split()[11:13]
+        return (int(user) + int(system)) / os.sysconf("SC_CLK_TCK")
 
     def resident_kb(self):
         with open(f"/proc/{self.process.pid}/status", encoding="ascii") as file:
@@ -123,8 +130,9 @@ class Server:
     def __exit__(self, *_):
         self.process.kill()
         self.process.wait()
-        self.process.stdout.close()
-        self.reader.wait()
+        if self.reader is not None:
+            self.process.stdout.close()
+            self.reader.wait()
 
 
 class Router:

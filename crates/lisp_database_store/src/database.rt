@@ -7,26 +7,35 @@ ghost use Rattle.lisp_database_store.specs.Table.{IsOpen, Finds, LeavesAll, Save
 ghost use Rattle.lisp_database_store.specs.Table.{CountsPairs, FindsWriter, SavesWriter};
 
 use crate::failure::Failure;
+use crate::files::Watch;
 use crate::keeper::Keeper;
 use crate::log_file::refuse_damage;
 use crate::new_file::place_empty;
+use crate::reopening::Reopening;
 use crate::table::SystemTable;
 use lisp_memory::FallibleString;
 use lisp_nonces::{Pair, StoreFault};
 use lisp_store::Writer;
-use std::io::ErrorKind;
+use std::io::{self, ErrorKind};
+use std::time::Instant;
 
 /// A database of one row for each pair, in a file of the system's, which sqlite3 reads while the node doesn't run. The log beside
-/// the file, named with `-wal` added, is part of it. After a call that failed by the device the next one opens the file anew, since
+/// the file, named with `-wal` added, is part of it. After a call that failed by the device the next one opens the file again, since
 /// it is in doubt what the disk has.
 ///
-/// That the disk returns what was synced, and that nobody else writes the two files or takes them away, is a premise.
+/// That the disk returns what was synced, and that nobody else writes the two files, is a premise. Where somebody removes, renames,
+/// replaces or cuts one of them, each call that writes fails by the device, and none opens another file in its place. Where the disk stays
+/// full, or fails otherwise, the file is opened again once in a second at most, and for a twentieth of the time.
 #[derive(Drop)]
 pub struct Database<T> {
     rt: HostRuntime,
     path: String,
     // None after a call that failed by the device.
     table: Option<T>,
+    watch: Watch,
+    reopening: Reopening,
+    // The kind of the last failure by the device.
+    failed: ErrorKind,
 }
 
 impl<T: SystemTable> Database<T> {
@@ -38,13 +47,15 @@ impl<T: SystemTable> Database<T> {
     {
         place_empty(rt, path)?;
         refuse_damage(rt, path)?;
-        let mut database = Database {
+        let table = open_table(rt, path)?;
+        Ok(Database {
             rt: rt.clone()?,
             path: String::try_from_str(rt.alloc(), path)?,
-            table: None,
-        };
-        database.table = Some(database.opened()?);
-        Ok(database)
+            table: Some(table),
+            watch: Watch::over(rt, path)?,
+            reopening: Reopening::new(),
+            failed: ErrorKind::Other,
+        })
     }
 
     /// The nonce that is kept for the pair, `None` for nothing. `Damaged` where its row has another form.
@@ -131,14 +142,8 @@ impl<T: SystemTable> Database<T> {
         ensures anew { OnErr result (self.new.table ≡ None) }
     {
         let mut table = self.opened_to_write()?;
-        match table.commit() {
-            Ok(()) if !table.has_transaction() => {
-                self.table = Some(table);
-                Ok(())
-            }
-            Ok(()) => Err(Failure::of_device(ErrorKind::Other)),
-            Err(failure) => Err(Failure::of_device(failure.kind)),
-        }
+        let answer = commit_all(&mut table);
+        self.written(table, answer)
     }
 
     /// Whether a transaction is open. One is rolled back by a call that fails for memory or by the device.
@@ -158,7 +163,7 @@ impl<T: SystemTable> Database<T> {
         self.table = None;
     }
 
-    // The database, which is opened where it isn't open.
+    // The database, which is opened where it isn't open. `Device` where it was opened just now, and failed.
     fn opened(&mut self) -> Result<T, Failure>
         ensures same { (c : _) → self.old.table ≡ Some c → result ≡ Ok c }
         ensures taken { self.new.table ≡ None }
@@ -167,20 +172,51 @@ impl<T: SystemTable> Database<T> {
         if let Some(table) = self.table.take() {
             return Ok(table);
         }
-        open_table(&self.rt, self.path.as_str())
+        if self.reopening.is_recent(&self.rt) {
+            return Err(Failure::of_device(self.failed));
+        }
+        self.opened_again()
     }
 
-    // The same, for a call that writes.
+    // The database, opened again: the same files as before.
+    fn opened_again(&mut self) -> Result<T, Failure>
+        ensures same { self.new.table ≡ self.old.table }
+        ensures tables { IfOk result T.Table.means.has_tables }
+    {
+        self.watch.refuse_others(&self.rt, self.path.as_str())?;
+        let begin = Instant::now(&self.rt)?;
+        let table = open_table(&self.rt, self.path.as_str());
+        self.reopening.note(&self.rt, begin);
+        let table = table?;
+        self.watch.note(&self.rt, self.path.as_str())?;
+        Ok(table)
+    }
+
+    // The same, for a call that writes: nobody changed the files since the last one that wrote.
     fn opened_to_write(&mut self) -> Result<T, Failure>
-        ensures same { (c : _) → self.old.table ≡ Some c → result ≡ Ok c }
+        ensures same { (c : _) → self.old.table ≡ Some c → IfOk result (λ table. table ≡ c) }
         ensures taken { self.new.table ≡ None }
         ensures tables { self.old.table ≡ None → IfOk result T.Table.means.has_tables }
         ensures device { IfErr result (λ failure. failure.fault ≡ StoreFault.Device) }
     {
+        let seen = self.see_unchanged();
         match self.opened() {
-            Ok(table) => Ok(table),
+            Ok(table) => match seen {
+                Ok(()) => Ok(table),
+                Err(error) => Err(Failure::of_device(error.kind())),
+            },
             Err(failure) => Err(Failure::of_device(failure.kind)),
         }
+    }
+
+    // Sees that nobody changed the files of a database that is open.
+    fn see_unchanged(&mut self) -> io::Result<()>
+        ensures { self.new.table ≡ self.old.table }
+    {
+        if self.table.is_none() {
+            return Ok(());
+        }
+        self.watch.refuse_changed(&self.rt, self.path.as_str())
     }
 
     // The answer of a call that reads; the database stays open unless its device failed.
@@ -189,25 +225,40 @@ impl<T: SystemTable> Database<T> {
         ensures open { OnOk result (self.new.table ≡ Some table) }
         ensures anew { IfErr result (λ failure. failure.fault ≡ StoreFault.Device → self.new.table ≡ self.old.table) }
     {
-        if !matches!(&answer, Err(failure) if failure.fault == StoreFault::Device) {
-            self.table = Some(table);
+        match &answer {
+            Err(failure) if failure.fault == StoreFault::Device => self.failed = failure.kind,
+            _ => self.table = Some(table),
         }
         answer
     }
 
-    // The answer of a call that writes; the database stays open if that was done.
+    // The answer of a call that writes; the database stays open if that was done, in the files that lie at their names.
     fn written<V: Drop>(&mut self, table: T, answer: Result<V, Failure>) -> Result<(), Failure>
         ensures ok { OnOk result ((value : _) × (answer ≡ Ok value) × (self.new.table ≡ Some table)) }
-        ensures done { OnOk answer (result ≡ Ok tt) }
         ensures anew { OnErr result (self.new.table ≡ self.old.table) }
         ensures device { IfErr result (λ failure. failure.fault ≡ StoreFault.Device) }
     {
         match answer {
             Ok(_) => {
+                self.note_written()?;
                 self.table = Some(table);
                 Ok(())
             }
-            Err(failure) => Err(Failure::of_device(failure.kind)),
+            Err(failure) => {
+                self.failed = failure.kind;
+                Err(Failure::of_device(failure.kind))
+            }
+        }
+    }
+
+    // Notes how the files are left that were written.
+    fn note_written(&mut self) -> Result<(), Failure>
+        ensures same { self.new.table ≡ self.old.table }
+        ensures device { IfErr result (λ failure. failure.fault ≡ StoreFault.Device) }
+    {
+        match self.watch.note(&self.rt, self.path.as_str()) {
+            Ok(()) => Ok(()),
+            Err(error) => Err(Failure::of_device(error.kind())),
         }
     }
 }
@@ -238,4 +289,17 @@ fn open_table<T: SystemTable>(rt: &HostRuntime, path: &str) -> Result<T, Failure
     let mut table = T::open(rt, path)?;
     table.make_tables()?;
     Ok(table)
+}
+
+// Commits the transaction of a table, after which none is open.
+fn commit_all<T: SystemTable>(table: &mut T) -> Result<(), Failure>
+    ensures committed { T.Table.means.has_tables table.old → T.Table.means.has_clean_disk table.new
+        → OnOk result (T.Table.means.commits_group table.old table.new) }
+    ensures settled { OnOk result (T.Table.means.is_committed table.new) }
+{
+    match table.commit() {
+        Ok(()) if !table.has_transaction() => Ok(()),
+        Ok(()) => Err(Failure::of_device(ErrorKind::Other)),
+        Err(failure) => Err(failure),
+    }
 }

@@ -4,10 +4,12 @@
 
 mod database;
 mod failure;
+mod files;
 mod group;
 mod keeper;
 mod log_file;
 mod new_file;
+mod reopening;
 mod shared;
 mod store;
 mod table;

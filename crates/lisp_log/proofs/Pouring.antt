@@ -1,27 +1,17 @@
 -- What a sink takes, and what it leaves.
-use Rattle.std.proofs.Common.{◌≡◌, ℕ, ◌-◌, Bool, true, eqb, ◌≤◌, ◌<◌, List, [], ◌∷◌, ◌++◌, length, take, drop, Option, Some, None, refl, sym, ap, ◌∙◌, subst, inr, arith, append_assoc, length-drop, zero-add}
+use Rattle.std.proofs.Common.{◌≡◌, ℕ, ◌≤◌, ◌<◌, List, [], ◌∷◌, ◌++◌, length, take, drop, Option, Some, None, refl, sym, ap, ◌∙◌, subst, inr, arith, append_assoc}
 use Rattle.std.specs.Option.{option_map}
-use Rattle.std.proofs.Math.Seq.{paste}
-use Rattle.std.proofs.lemmas.Bool.{eqb-true}
-use Rattle.std.proofs.lemmas.List.{take-append-drop, take_rest, append-nil}
-use Rattle.std.proofs.lemmas.List.Edits.{take-paste}
+use Rattle.std.proofs.lemmas.List.{take-append-drop, append-nil}
 use Rattle.lisp_log.specs.Waiting.{WaitingState, Takes, Gives, Pours, dropped_text}
 
--- bytes whose front is written over by what is behind it, and cut
-pub without_front : (bytes : List ℕ) (count n : ℕ) → n ≡ length bytes - count → count ≤ length bytes → take n (paste bytes 0 (drop count bytes) n) ≡ drop count bytes
-without_front bytes count n is within =
-    let short : n ≤ length (drop count bytes) = omega (arith, length-drop count bytes) in
-    ap (λ (k : ℕ). take k (paste bytes 0 (drop count bytes) n)) (sym (zero-add n))
-    ∙ take-paste bytes 0 (drop count bytes) n (omega arith) short
-    ∙ ap (λ (k : ℕ). take k (drop count bytes)) is ∙ take_rest bytes count
-
--- a sink took a front, and the rest waits
-pub gives : (old new : WaitingState) (before after : Option (List ℕ)) (count : ℕ) → Takes before after count old.bytes → new ≡ record old { bytes = drop count old.bytes } → Gives old new before after
-gives old new before after count takes is = record {
-  poured = take count old.bytes;
-  owed = ap (λ (w : WaitingState). take count old.bytes ++ w.bytes) is ∙ take-append-drop count old.bytes;
-  same = ap (λ (w : WaitingState). w.dropped) is;
-  taken = takes;
+-- a sink took a front of what it was offered, and the rest waits
+pub gives : (bytes offered rest : List ℕ) (dropped : ℕ) (before after : Option (List ℕ)) (count : ℕ) → offered ≡ bytes → Takes before after count offered → rest ≡ drop count bytes
+    → Gives (record { bytes = bytes; dropped = dropped }) (record { bytes = rest; dropped = dropped }) before after
+gives bytes offered rest dropped before after count all takes is = record {
+  poured = take count bytes;
+  owed = ap (λ (more : List ℕ). take count bytes ++ more) is ∙ take-append-drop count bytes;
+  same = refl;
+  taken = subst (λ (xs : List ℕ). Takes before after count xs) all takes;
 }
 
 -- a sink that takes twice
@@ -47,7 +37,7 @@ pours_both old middle told new before between after first empty some tells secon
   told = λ missing. absurd (omega (arith, missing, second.same, ap (λ (w : WaitingState). w.dropped) tells));
 }
 
--- a vector whose length is tested to be 0
-pub emptied : (xs : List ℕ) (n : ℕ) (is_empty : Bool) → n ≡ length xs → is_empty ≡ eqb n 0 → is_empty ≡ true → xs ≡ []
-emptied [] n is_empty counted tested holds = refl
-emptied (x ∷ xs) n is_empty counted tested holds = let zero : n ≡ 0 = eqb-true n 0 (sym tested ∙ holds) in absurd (omega arith)
+-- a list whose length is 0
+pub emptied : (xs : List ℕ) (n : ℕ) → n ≡ length xs → n ≡ 0 → xs ≡ []
+emptied [] n counted zero = refl
+emptied (x ∷ xs) n counted zero = absurd (omega arith)

@@ -9,6 +9,7 @@ mod replays;
 mod silences;
 
 // Its text, and where it waits until it is written.
+mod byte_queue;
 mod text;
 mod waiting;
 

@@ -1,15 +1,13 @@
 //! Lines that wait until they can be written.
 
-ghost use Rattle.std.specs.Prelude.{◌≡◌, ℕ, ◌+◌, ◌≤◌, List, [], ◌++◌, drop, length, Option, IfOk, OnErr};
-ghost use Rattle.lisp_log.specs.Waiting.{room, nothing_waits, dropped_text, Takes, PutsLine, put_sum, drops, drops_one, Gives, Pours};
+ghost use Rattle.std.specs.Prelude.{◌≡◌, ℕ, ◌≤◌, List, [], length, Option, IfOk, OnErr};
+ghost use Rattle.lisp_log.specs.Waiting.{nothing_waits, dropped_text, Takes, PutsLine, put_sum, drops, drops_one, Gives, Pours};
 
+use crate::byte_queue::{ByteQueue, ROOM};
 use itoa::Buffer;
-use lisp_memory::{FallibleVec, Memory};
+use lisp_memory::Memory;
 use std::alloc::{AllocError, Allocator, Global};
 use std::marker::Model;
-
-/// How many bytes may wait.
-const ROOM: usize = 65_536;
 
 /// Where bytes go, which takes as many as it can at once and never waits.
 pub trait Sink {
@@ -22,24 +20,20 @@ pub trait Sink {
         ensures taken { Takes (taken self.old) (taken self.new) result bytes.now };
 }
 
-/// Whole lines that wait until they can be written, in a buffer of 65,536 bytes. A line that finds no room there is dropped,
+/// Whole lines that wait until they can be written, at most 65,536 bytes of them. A line that finds no room there is dropped,
 /// and the events that it tells are counted; then all are, until what waits has been written, and a line says how many were.
 #[derive(Drop)]
 pub struct Waiting<A: Allocator = Global> {
-    bytes: Vec<u8, A>,
+    bytes: ByteQueue<A>,
     dropped: u64,
 }
 
 impl<A: Allocator> Model for Waiting<A> {
-    ghost use Rattle.std.specs.Prelude.{◌≤◌, length};
-    ghost use Rattle.std.specs.Vec.{vec_capacity};
-    ghost use Rattle.lisp_log.specs.Waiting.{WaitingState, room};
+    ghost use Rattle.lisp_log.specs.Waiting.{WaitingState};
 
     ghost Value = { WaitingState };
 
-    ghost view = { λ w. record { bytes = w.bytes.items; dropped = w.dropped } };
-
-    ghost invariant = { λ w. (length w.bytes.items ≤ room) × (room ≤ vec_capacity w.bytes) };
+    ghost view = { λ w. record { bytes = w.bytes; dropped = w.dropped } };
 }
 
 impl<A: Memory + Copy> Waiting<A> {
@@ -48,8 +42,7 @@ impl<A: Memory + Copy> Waiting<A> {
         ensures none { IfOk result (λ w. w ≡ nothing_waits) }
         ensures memory { OnErr result A.may_refuse }
     {
-        let mut bytes = Vec::new(alloc);
-        bytes.make_room(ROOM)?;
+        let bytes = ByteQueue::new(alloc)?;
         Ok(Waiting { bytes, dropped: 0 })
     }
 
@@ -65,7 +58,7 @@ impl<A: Memory + Copy> Waiting<A> {
         ensures { self.new ≡ put_sum self.old line.now events }
     {
         if self.dropped == 0 && line.len() <= ROOM - self.bytes.len() {
-            self.append(line);
+            self.bytes.append(line);
         } else {
             self.drop_sum(events);
         }
@@ -91,7 +84,7 @@ impl<A: Memory + Copy> Waiting<A> {
         ensures { Pours self.old self.new (S.taken sink.old) (S.taken sink.new) }
     {
         self.give(sink);
-        if self.bytes.is_empty() && self.dropped > 0 {
+        if self.bytes.len() == 0 && self.dropped > 0 {
             self.tell_dropped();
             self.give(sink);
         }
@@ -101,17 +94,8 @@ impl<A: Memory + Copy> Waiting<A> {
     fn give<S: Sink>(&mut self, sink: &mut S)
         ensures { Gives self.old self.new (S.taken sink.old) (S.taken sink.new) }
     {
-        let taken = sink.take(&self.bytes);
-        self.forget(taken);
-    }
-
-    // So many bytes of the front wait no more.
-    fn forget(&mut self, count: usize)
-        requires { count ≤ length self.old.bytes }
-        ensures { self.new ≡ record self.old { bytes = drop count self.old.bytes } }
-    {
-        self.bytes.copy_within(count.., 0);
-        self.bytes.truncate(self.bytes.len() - count);
+        let taken = sink.take(self.bytes.as_slice());
+        self.bytes.forget(taken);
     }
 
     // Where nothing waits, the line that says how many events were dropped does.
@@ -120,18 +104,9 @@ impl<A: Memory + Copy> Waiting<A> {
         ensures { self.new ≡ record { bytes = dropped_text self.old.dropped; dropped = 0 } }
     {
         let mut number = Buffer::new();
-        self.append(b"dropped ");
-        self.append(number.format(self.dropped).as_bytes());
-        self.append(b"\n");
+        self.bytes.append(b"dropped ");
+        self.bytes.append(number.format(self.dropped).as_bytes());
+        self.bytes.append(b"\n");
         self.dropped = 0;
-    }
-
-    // These bytes wait, for which there is room.
-    fn append(&mut self, bytes: &[u8])
-        requires { length self.old.bytes + length bytes.now ≤ room }
-        ensures { self.new ≡ record self.old { bytes = self.old.bytes ++ bytes.now } }
-    {
-        // There is room, so no memory is asked for.
-        let _appended = self.bytes.extend_from_slice(bytes);
     }
 }

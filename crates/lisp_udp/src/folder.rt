@@ -4,6 +4,7 @@ ghost use Rattle.std.specs.Prelude.{◌≡◌, IfOk, IfErr};
 ghost use Rattle.lisp_script.specs.RunFault.{numbered};
 ghost use Rattle.lisp_udp.specs.Folder.{OpensSigned, database_fault};
 
+use crate::bound_socket;
 use crate::connection::AskedNode;
 use crate::control::ControlSocket;
 use crate::storage::{NodeStore, Storage};
@@ -154,17 +155,16 @@ impl LockedFolder {
     /// Where the node is asked: in a folder that is given, or in its own; `None` where that can't be
     /// made, which is a warning on standard error.
     pub(crate) fn control<'a>(
-        &self,
-        rt: &HostRuntime,
-        folder: Option<&str>,
+        &'a self,
+        rt: &'a HostRuntime,
+        folder: Option<&'a str>,
         node: AskedNode<'a>,
     ) -> Option<ControlSocket<'a>> {
         let path = folder.unwrap_or(self.path.as_str());
         match ControlSocket::open(rt, path, node) {
             Ok(control) => Some(control),
             Err(error) => {
-                let path = path.escape_debug();
-                let _ = eprintln!(rt; "warning: {path}: nobody can ask the node: {error}");
+                bound_socket::warn(rt, path, &error);
                 None
             }
         }

@@ -4,6 +4,7 @@
 #![tactic(auto)]
 
 // What each node has: a place, a folder, and the system's devices.
+mod bound_socket;
 mod connection;
 mod control;
 mod devices;

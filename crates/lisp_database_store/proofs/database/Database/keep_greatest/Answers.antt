@@ -1,11 +1,11 @@
 use Rattle.std.proofs.Common.{subst}
 use Rattle.std.specs.Prelude.{OnOk}
-use Rattle.lisp_database_store.proofs.Opened.{of_done, uses}
+use Rattle.lisp_database_store.proofs.Opened.{of_done, uses_if}
 use Rattle.lisp_database_store.proofs.database.Database.keep_greatest.Goals as goal
 
 pub returns-clause-greatest : goal.returns-clause-greatest
 returns-clause-greatest g c = of_done _ _ c.written.result (λ done is had.
-    uses g.T.Table.means c.args.self.now.table c.written.new.self.table c.opened_to_write.result c.in_ok-table.table c.keep_greatest-answer.new.self
+    uses_if g.T.Table.means c.args.self.now.table c.written.new.self.table c.opened_to_write.result c.in_ok-table.table c.keep_greatest-answer.new.self
     (λ old new. g.T.Table.means.is_of_nonces old → g.T.Table.means.has_clean_disk new → g.T.Table.means.keeps_greatest old new c.args.pair.now c.args.nonce) c.opened_to_write.ensures.same c.opened_to_write.ensures.tables c.in_ok-table.was had.2
     (λ has clean. subst (λ answer. OnOk answer (g.T.Table.means.keeps_greatest c.in_ok-table.table c.keep_greatest-answer.new.self c.args.pair.now c.args.nonce)) had.1 (c.keep_greatest-answer.ensures has clean)))
     c.written.ensures.ok
