@@ -196,6 +196,39 @@ def a_router_is_told(here):
     killed(server)
 
 
+def records_that_are_not_allowed(here):
+    """A router is told to register what its site doesn't allow by force alone; else its records are those before."""
+    router = up(here, "router", "r1", here.r1)
+    strange = "10.9.0.0/16=1440+192.0.2.1"
+    check("which they are", ask(here, "r1", "disallowed", RECORD, strange), (0, "disallowed r1 1\nrecord 10.9.0.0/16\n", ""))
+    check("none", ask(here, "r1", "disallowed", RECORD), (0, "disallowed r1 0\n", ""))
+    check("no records", ask(here, "r1", "disallowed", "empty"), (0, "disallowed r1 0\n", ""))
+    check("no record", ask(here, "r1", "disallowed", "10.9"), wrong(84))
+    warning = ("warning: a Map-Server refuses 10.9.0.0/16 (55), and with it the whole Map-Register; --force sends it all the same\n"
+               "lispd: fault 55\n")
+    check("a warning", tell(here, "r1", "change", RECORD, strange), (3, "", warning))
+    check("its records", ask(here, "r1", "records"), (0, f"records r1 1\nrecord {RECORD}/1/100/255/0\n", ""))
+    check("by force", tell(here, "r1", "change", RECORD, strange, "--force"), (0, "change r1 records 2\n", ""))
+    killed(router)
+
+
+def an_older_node(here):
+    """One that can't answer which records aren't allowed is told all the same."""
+    os.mkdir(f"{here.folder}/r1")
+    with socket.socket(socket.AF_UNIX) as node:
+        node.bind(f"{here.folder}/r1/control")
+        node.listen()
+        order, answer = f"change {RECORD}", "change r1 records 1\n"
+        with ThreadPoolExecutor() as pool:
+            told = pool.submit(tell, here, "r1", *order.split())
+            for question in (f"disallowed {RECORD}", order):
+                user, _ = node.accept()
+                with user, user.makefile("rw") as line:
+                    check("what it is asked and told", line.readline(), f"{question}\n")
+                    line.write(answer if question == order else "fault 80\n")
+            check("its answer", told.result(), (0, answer, ""))
+
+
 def a_router_that_is_down(here):
     """An order to it ends with the number of a router that doesn't start."""
     os.mkdir(f"{here.folder}/r1")
@@ -217,7 +250,7 @@ def advice(here):
     router = up(here, "router", "r1", here.r1)
     for call, name, words, said in (
             (ask, "s1", ["ask", "2001:db8:1::5"], ("84\n", "all eight groups", "`::` isn't read here", "2001:db8:1:0:0:0:0:5")),
-            (ask, "r1", ["hold"], ("82\n", "a Map-Server is asked hold, ask ADDRESS, routers, due or counts", "a router records, acks, due or counts")),
+            (ask, "r1", ["hold"], ("82\n", "a Map-Server is asked hold, ask ADDRESS, routers, due or counts", "a router records, acks, due, counts")),
             (ask, "s1", ["nonsense"], ("80\n", "a Map-Server is asked hold, ask ADDRESS, routers, due or counts")),
             (tell, "s1", ["nonsense"], ("80\n", "a Map-Server is told notice ROUTER", "a router change RECORD .. or rotate KEY")),
             (tell, "r1", ["change", "2001:db8:1::/48=5"], ("84\n", "all eight groups are written, since `::` isn't read here"))):
@@ -230,7 +263,7 @@ def advice(here):
 def wrong_words(here):
     """What is no question, and no order, for a node is a fault of the words, and changes nothing."""
     process = up(here, "server", "s1", here.s1)
-    for words, number in ((["hold", "s1"], 81), (["acks"], 82), (["ask", "10.1"], 84), (["tick", "5"], 81), (["resend", "r1"], 80),
+    for words, number in ((["disallowed", RECORD], 82), (["hold", "s1"], 81), (["acks"], 82), (["ask", "10.1"], 84), (["tick", "5"], 81), (["resend", "r1"], 80),
                           ([], 80), (["notice", "r1"], 80), (["records"], 80), (["counts", "s1"], 80), (["hold", "--prometheus"], 81)):
         check(f"ask {words}", ask(here, "s1", *words), wrong(number))
     for words, number in ((["hold"], 80), (["notice", "r9"], 82), (["notice", "r1", "doubt"], 80), (["change", RECORD], 82), ([], 80)):
@@ -486,7 +519,7 @@ def a_killed_process_leaves_its_socket(here):
 
 run_tests([
     *(over(store, test) for store in (FILES, GROUPS) for test in (a_map_server_is_asked, a_map_server_is_told, what_is_counted)),
-    who_is_refused_as_replaying, a_router_is_told, a_router_that_is_down, advice, wrong_words, an_answer_that_is_a_fault,
-    a_node_under_its_unit, another_user_is_refused, a_group_asks_under_the_drop_in, a_socket_in_another_folder,
-    a_socket_that_can_not_be_made, a_socket_that_was_removed, a_killed_process_leaves_its_socket,
+    who_is_refused_as_replaying, a_router_is_told, records_that_are_not_allowed, an_older_node, a_router_that_is_down, advice, wrong_words,
+    an_answer_that_is_a_fault, a_node_under_its_unit, another_user_is_refused, a_group_asks_under_the_drop_in,
+    a_socket_in_another_folder, a_socket_that_can_not_be_made, a_socket_that_was_removed, a_killed_process_leaves_its_socket,
 ], alone=[clients_that_misbehave, a_client_that_takes_nothing_of_many_rows])

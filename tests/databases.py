@@ -556,6 +556,25 @@ def heard(*peers):
     return [nonce_in(message) for it in peers for message in received(it, 0.001)]
 
 
+def commits_in(log):
+    """How many transactions of a log aren't moved into the database yet (the SQLite file format, section 4.1)."""
+    head, frames = log[:32], [log[at:at + 24] for at in range(32, len(log), FRAME)]
+    return sum(frame[4:8] != bytes(4) for frame in frames if frame[8:16] == head[16:24])
+
+
+def a_log_that_is_moved(here):
+    """It never has more than some hundred nonces that the database lacks."""
+    here.store, most = DATABASE, 0
+    process = here.start(*here.words("server", "s1"), stdout=DEVNULL)
+    is_up(here.s1)
+    with peer(here.r1) as it:
+        for nonce in range(1, 1501):
+            here.answer(it, map_register(nonce))
+            most = max(most, commits_in(Path(f"{here.folder}/s1/{LOG_FILE}").read_bytes()) if nonce % 50 == 0 else 0)
+    killed(process)
+    check("nonces in the log", 100 < most < 600, True)
+
+
 # Files that somebody takes away.
 
 
@@ -663,7 +682,7 @@ run_tests([a_database_tells_of_itself, a_router_s_database, kinds_are_kept_apart
            killed_while_files_are_taken("kill"), killed_while_files_are_taken("tear"), killed_while_older_files_are_taken,
            a_database_that_was_put_back, a_start_that_knows_no_machine, a_log_without_its_database, what_is_no_database,
            what_is_told_of_a_database, a_damaged_page, a_damaged_log,
-           *(over(store, a_database_that_is_taken_away) for store in (DATABASE, GROUPS)),
+           a_log_that_is_moved, *(over(store, a_database_that_is_taken_away) for store in (DATABASE, GROUPS)),
            *(over(store, a_call_that_fails(call, error)) for store in (DATABASE, GROUPS)
              for call, error in (("sync", errno.EIO), ("write", errno.ENOSPC), ("cut", errno.EIO))),
            *(over(DATABASE, a_router_whose_call_fails(call, error))

@@ -21,10 +21,11 @@ LIMIT = 20
 TOLD = re.compile(r"refused \S+ (?:36|48|58|66|(?:35|38|42|56|59|65|68) store 32)|fault 75")
 # A start that was refused.
 UNSTARTED = re.compile(r"refused (\S+) (?:36|35 store 32)\n")
-# How a play ends where memory is refused and no node is asked: the configuration, the network, a line of the script, the rest.
-ENDED = re.compile(r"lispd: fault (?:24|75|76|86 line \d+|97)\n")
+# How a play ends where memory is refused and no node is asked: the configuration, the network, a line of the script, the rest; after
+# the commands that weren't taken.
+ENDED = re.compile(r"(?:lispd: fault 7\d line \d+\n)*lispd: fault (?:24|75|76|86 line \d+|97)\n")
 # What `lispd check` tells of it in words.
-IN_WORDS = re.compile(r"lispd check \S+: (?:\S+ \S+(?:, \S+ \d+)?: )?out of memory.*\n")
+IN_WORDS = re.compile(r"lispd check \S+: (?:line \d+: )?(?:\S+ \S+(?:, \S+ \d+)?: )?out of memory.*\n")
 # How many reads are never ready: each is tried two million times.
 UNREADY = 3
 # How often an input is read at most, a byte at a time, the reads that were interrupted among them.

@@ -22,7 +22,9 @@ HERE = Path(__file__).resolve().parent
 LIMIT = 20
 GROWTHS = 600
 FAULT = re.compile(r"lispd: fault (?:2[0-3]|74|96|8[0-5] line \d+)\n")
-REFUSED_MEMORY = re.compile(r"lispd: fault (?:24|75|76|86 line \d+|97)\n")
+# A command that wasn't taken, by what keeps the network from it and its line.
+UNTAKEN = re.compile(r"lispd: fault (7\d) line (\d+)\n")
+REFUSED_MEMORY = re.compile(r"(?:lispd: fault 7\d line \d+\n)*lispd: fault (?:24|75|76|86 line \d+|97)\n")
 SITED = re.compile(r'name = "(r\d+)"\naddress = .*\nsite = "(\w+)"')
 PART = r"(?: part ([1-9]\d*))?"
 SENT = re.compile(r"sent (\S+) (\S+) key (\d+) nonce (\d+) datagram \d+" + PART)
@@ -233,13 +235,21 @@ def played(text, room=None, growth=0):
     return done.returncode, done.stdout.decode(), done.stderr.decode().replace("!", "", 1 if growth else 0)
 
 
+def is_reported(text, output, error):
+    """Whether standard error has each command that wasn't taken, in order: its number, and the line of a command."""
+    found, script = UNTAKEN.findall(error), text.split("\n---\n", 1)[1].split("\n")
+    places = [int(line) for _, line in found]
+    return (UNTAKEN.sub("", error) == "" and [number for number, _ in found] == re.findall(r"^fault (\d+)$", output, re.M)
+            and places == sorted(set(places)) and all(script[place - 1].strip(" ") and script[place - 1][0] != "#" for place in places))
+
+
 def what_fails(text, room, growth):
     """What is wrong with a schedule's runs, or None."""
     status, output, error = played(text)
     again, squeezed = played(text), played(text, room, growth)
     if (status, output, error) != again:
         return "another output at the second run"
-    if status == 2 and (output or not FAULT.fullmatch(error)) or status not in (0, 2) or status == 0 and error:
+    if status == 2 and (output or not FAULT.fullmatch(error)) or status not in (0, 2) or status == 0 and not is_reported(text, output, error):
         return f"status {status}, '{error}'"
     if squeezed[0] == 1 and not REFUSED_MEMORY.fullmatch(squeezed[2]) or squeezed[0] not in (status, 1):
         return f"growth {growth} refused: status {squeezed[0]}, '{squeezed[2]}'"

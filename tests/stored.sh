@@ -16,13 +16,16 @@ differs() {
     failed=1
 }
 
-# plays SCHEDULE: plays a schedule, and shows where its lines differ from those of the file beside it.
+# plays SCHEDULE: plays a schedule, and shows where its lines differ from those of the file beside it. What it reports is that of a file
+# beside it, too, or nothing where there is none.
 plays() {
     "$program" play "$1" > ../out/stdout 2> ../out/stderr
     status=$?
     runs=$((runs + 1))
-    [ $status = 0 ] && [ ! -s ../out/stderr ] && diff -u "${1%.schedule}.out" ../out/stdout ||
-        differs "$1" "0, '$(cat "${1%.schedule}.out")', ''"
+    reported=${1%.schedule}.err
+    [ -e "$reported" ] || reported=/dev/null
+    [ $status = 0 ] && cmp -s "$reported" ../out/stderr && diff -u "${1%.schedule}.out" ../out/stdout ||
+        differs "$1" "0, '$(cat "${1%.schedule}.out")', '$(cat "$reported")'"
 }
 
 # holds FILE TEXT: whether the file is this line, nothing where TEXT is empty, any text where it is *, and the
@@ -130,9 +133,16 @@ expect 'a configuration that is checked' 0 @checked/example.txt '' check - < $co
 : > ../out/configuration.toml
 expect 'an empty configuration' 0 'warning: -: no server and no router' '' check - < ../out/configuration.toml
 
-# Each configuration of checked/, with its warnings.
+# Each configuration of checked/, with its warnings, and with its faults where it has some.
 for file in checked/*.toml; do
-    expect "$file" 0 "@${file%.toml}.txt" '' check - < "$file"
+    wanted=${file%.toml}
+    if [ -e "$wanted.err" ]; then
+        output=''
+        [ -e "$wanted.txt" ] && output=@$wanted.txt
+        expect "$file" 2 "$output" "@$wanted.err" check - < "$file"
+    else
+        expect "$file" 0 "@$wanted.txt" '' check - < "$file"
+    fi
 done
 
 # Each line of faults.txt, by what it makes of the configuration.

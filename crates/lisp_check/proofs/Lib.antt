@@ -7,3 +7,6 @@ pub mod Whole
 mod Worded
 pub mod Decided
 pub mod Repeats
+pub mod SecretWarnings
+pub mod Walk
+pub mod Among

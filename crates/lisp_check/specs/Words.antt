@@ -13,6 +13,11 @@ use Rattle.lisp_check.specs.declared.warning.Warning.TheVariants.{NoNodes, NoKey
 abbrev pub GivesText : {E Z : Type 0} → Result (String Z) E → List ℕ → Type 0
 GivesText result words = IfOk result (λ text. string_bytes text ≡ words)
 
+-- words after their line, where it is known
+abbrev pub lined : Option ℕ → List ℕ → List ℕ
+lined (Some line) words = codes "line " ++ (decimal line ++ (codes ": " ++ words))
+lined None words = words
+
 -- a site, counted from 1; and its Site-ID, as 16 hexadecimal digits
 abbrev pub site_words : ℕ → List ℕ
 site_words place = codes "site " ++ decimal (min (place + 1) (2 ^ 64 - 1))

@@ -1,12 +1,71 @@
-//! The entries of a document, by their arrays and numbers, and their names.
+//! A configuration's document; its entries, by their arrays and numbers, and their names.
 
+ghost use Rattle.std.specs.Prelude.{◌≡◌, IfOk};
+ghost use Rattle.lisp_check.specs.Header.{headers_in};
+
+use crate::header::{Header, headers, name_at};
 use lisp_memory::FallibleString;
-use lisp_sites::{Entry, Field};
+use lisp_sites::{Entry, Field, Place};
 use std::alloc::{AllocError, Global};
-use toml::Value;
+use std::marker::Model;
+use toml::{Table, Value};
 
 /// The most letters of a name.
 const MAX_NAME: usize = 32;
+
+/// A configuration's text, as TOML, and the headers in it.
+#[derive(Drop)]
+pub struct Document {
+    pub(crate) value: Value,
+    text: String,
+    headers: Vec<Header>,
+}
+
+impl Model for Document {
+    ghost use Rattle.std.specs.Prelude.{◌≡◌, string_bytes};
+    ghost use Rattle.lisp_check.specs.Header.{DocumentValue, headers_in};
+
+    ghost Value = { DocumentValue };
+
+    ghost view = { λ d. record { text = string_bytes d.text } };
+
+    ghost invariant = { λ d. d.headers.items ≡ headers_in (string_bytes d.text) };
+}
+
+impl Document {
+    /// The document that a text is.
+    pub(crate) fn new(alloc: Global, text: &str, table: Table) -> Result<Document, AllocError>
+        ensures { IfOk result (λ document. document.text ≡ text.now) }
+    {
+        Ok(Document {
+            value: Value::Table(table),
+            text: String::try_from_str(alloc, text)?,
+            headers: headers(alloc, text)?,
+        })
+    }
+
+    /// The headers in its text.
+    pub(crate) fn headers(&self) -> &[Header]
+        ensures { result.now ≡ headers_in self.now.text }
+    {
+        &self.headers
+    }
+
+    /// The name in a header.
+    pub(crate) fn name(&self, header: &Header) -> &str {
+        name_at(&self.text, header.offset)
+    }
+}
+
+/// The document of a text that was read as TOML before: so only memory can run out.
+pub fn read_document(alloc: Global, text: &str) -> Result<Document, AllocError>
+    ensures document { IfOk result (λ document. document.text ≡ text.now) }
+{
+    match toml::table_from_str(alloc, text) {
+        Ok(table) => Document::new(alloc, text, table),
+        Err(_) => Err(AllocError),
+    }
+}
 
 /// The elements of an array; none where there is no such array.
 pub(crate) fn elements<'a>(table: &'a Value, key: &str) -> &'a [Value] {
@@ -29,7 +88,7 @@ pub(crate) fn array_key(array: Field) -> &'static str {
     last_part(array.name())
 }
 
-/// What stands behind the last dot of a field's name: its key.
+/// What stands after the last dot of a field's name: its key.
 pub(crate) fn last_part(name: &'static str) -> &'static str {
     match name.rsplit_once('.') {
         Some((_, key)) => key,
@@ -37,17 +96,32 @@ pub(crate) fn last_part(name: &'static str) -> &'static str {
     }
 }
 
-/// An entry of the document in words: a Map-Server or a router by its name, any other by its number.
-pub(crate) fn entry_words(
-    alloc: Global,
-    document: &Value,
-    entry: Entry,
-) -> Result<String, AllocError> {
+// An entry of the document in words: a Map-Server or a router by its name, any other by its number.
+fn entry_words(alloc: Global, document: &Value, entry: Entry) -> Result<String, AllocError> {
     let key = array_key(entry.array);
-    let named = element(document, key, entry.number);
+    let named = match entry.array {
+        Field::Server | Field::Router => element(document, key, entry.number),
+        _ => None,
+    };
     match named.and_then(name) {
         Some(name) => String::try_format(alloc, format_args!("{key} {name}")),
         None => String::try_format(alloc, entry),
+    }
+}
+
+/// A place in words, with a colon after it: as it says, with the name of its entry where it has one. Empty where it is in no entry.
+pub(crate) fn place_words(
+    alloc: Global,
+    document: &Value,
+    place: Place,
+) -> Result<String, AllocError> {
+    let Some(entry) = place.entry else {
+        return Ok(String::new(alloc));
+    };
+    let words = entry_words(alloc, document, entry)?;
+    match place.part {
+        Some(part) => String::try_format(alloc, format_args!("{words}, {part}: ")),
+        None => String::try_format(alloc, format_args!("{words}: ")),
     }
 }
 

@@ -1,9 +1,11 @@
 //! Keys and tables of a document that no configuration has.
 
-use crate::document::{elements, entry_words};
+use crate::document::{Document, array_key, elements, place_words};
+use crate::line::{entry_line, table_line};
 use crate::nearest::nearest;
+use crate::places::{NOWHERE, entry_place, part_place};
 use lisp_memory::{FallibleString, FallibleVec};
-use lisp_sites::{Entry, Field};
+use lisp_sites::{Field, Place};
 use std::alloc::{AllocError, Global};
 use toml::Value;
 
@@ -34,110 +36,147 @@ const ROUTER_KEYS: &[&str] = &[
     "records",
 ];
 
-/// A line for each key or table of the document that no configuration has, behind its entry, with the nearest one that is known:
-/// `site 1, prefix 2: unknown key more_specific (more_specifics?)`.
-pub fn unknown_keys(alloc: Global, document: &Value) -> Result<Vec<String>, AllocError> {
-    let mut lines = Vec::new(alloc);
-    add_unknown(&mut lines, alloc, "", ARRAYS, document)?;
-    add_of_sites(&mut lines, alloc, document)?;
-    add_of_entries(&mut lines, alloc, document, Field::Server, SERVER_KEYS)?;
-    add_of_entries(&mut lines, alloc, document, Field::Router, ROUTER_KEYS)?;
-    Ok(lines)
+/// A key or a table of a document that no configuration has.
+#[derive(Drop)]
+pub struct Unknown {
+    /// It is a table or an array of tables: what was written in it vanishes.
+    pub is_table: bool,
+    /// The line of the table, or else of the entry that it is in, where that is known.
+    pub line: Option<usize>,
+    /// Its name, after its entry, with the nearest one that is known: `site 1, prefix 2: unknown key more_specific
+    /// (more_specifics?)`.
+    pub words: String,
+}
+
+/// A table of a document: where it is, and the keys that it may have.
+#[derive(Drop)]
+struct Known<'a> {
+    table: &'a Value,
+    place: Place,
+    keys: &'a [&'static str],
+}
+
+/// The keys and tables of the document that no configuration has.
+pub fn unknown_keys(alloc: Global, document: &Document) -> Result<Vec<Unknown>, AllocError> {
+    let mut all = Vec::new(alloc);
+    let whole = Known {
+        table: &document.value,
+        place: NOWHERE,
+        keys: ARRAYS,
+    };
+    add_unknown(&mut all, alloc, document, &whole)?;
+    add_of_sites(&mut all, alloc, document)?;
+    add_of_entries(&mut all, alloc, document, Field::Server, SERVER_KEYS)?;
+    add_of_entries(&mut all, alloc, document, Field::Router, ROUTER_KEYS)?;
+    Ok(all)
 }
 
 fn add_of_entries(
-    lines: &mut Vec<String>,
+    all: &mut Vec<Unknown>,
     alloc: Global,
-    document: &Value,
+    document: &Document,
     array: Field,
-    known: &[&'static str],
+    keys: &[&'static str],
 ) -> Result<(), AllocError> {
-    for (index, table) in elements(document, array.name()).iter().enumerate() {
-        let entry = Entry {
-            array,
-            number: index + 1,
-        };
-        let words = entry_words(alloc, document, entry)?;
-        let place = String::try_format(alloc, format_args!("{words}: "))?;
-        add_unknown(lines, alloc, place.as_str(), known, table)?;
+    for (index, table) in elements(&document.value, array.name()).iter().enumerate() {
+        let place = entry_place(array, index);
+        add_unknown(all, alloc, document, &Known { table, place, keys })?;
     }
     Ok(())
 }
 
 fn add_of_sites(
-    lines: &mut Vec<String>,
+    all: &mut Vec<Unknown>,
     alloc: Global,
-    document: &Value,
+    document: &Document,
 ) -> Result<(), AllocError> {
-    for (index, site) in elements(document, "site").iter().enumerate() {
-        let number = index + 1;
-        let place = String::try_format(alloc, format_args!("site {number}: "))?;
-        add_unknown(lines, alloc, place.as_str(), SITE_KEYS, site)?;
-        add_of_parts(lines, alloc, site, number, "key", KEY_KEYS)?;
-        add_of_parts(lines, alloc, site, number, "prefix", PREFIX_KEYS)?;
+    for (site, table) in elements(&document.value, "site").iter().enumerate() {
+        let known = Known {
+            table,
+            place: entry_place(Field::Site, site),
+            keys: SITE_KEYS,
+        };
+        add_unknown(all, alloc, document, &known)?;
+        add_of_parts(all, alloc, document, site, table, Field::SiteKey, KEY_KEYS)?;
+        add_of_parts(
+            all,
+            alloc,
+            document,
+            site,
+            table,
+            Field::SitePrefix,
+            PREFIX_KEYS,
+        )?;
     }
     Ok(())
 }
 
 fn add_of_parts(
-    lines: &mut Vec<String>,
+    all: &mut Vec<Unknown>,
     alloc: Global,
-    site: &Value,
-    number: usize,
-    key: &str,
-    known: &[&'static str],
+    document: &Document,
+    site: usize,
+    owner: &Value,
+    array: Field,
+    keys: &[&'static str],
 ) -> Result<(), AllocError> {
-    for (index, part) in elements(site, key).iter().enumerate() {
-        let which = index + 1;
-        let place = String::try_format(alloc, format_args!("site {number}, {key} {which}: "))?;
-        add_unknown(lines, alloc, place.as_str(), known, part)?;
+    for (index, table) in elements(owner, array_key(array)).iter().enumerate() {
+        let place = part_place(site, array, index);
+        add_unknown(all, alloc, document, &Known { table, place, keys })?;
     }
     Ok(())
 }
 
-// A line for each key of the table that isn't known.
+// Those of a table.
 fn add_unknown(
-    lines: &mut Vec<String>,
+    all: &mut Vec<Unknown>,
     alloc: Global,
-    place: &str,
-    known: &[&'static str],
-    table: &Value,
+    document: &Document,
+    known: &Known<'_>,
 ) -> Result<(), AllocError> {
-    let Some(table) = table.as_table() else {
+    let Some(table) = known.table.as_table() else {
         return Ok(());
     };
     for (key, value) in table.iter() {
         let key = key.as_str();
-        if !known.iter().any(|name| *name == key) {
-            lines.try_push(unknown_line(alloc, place, key, value, known)?)?;
+        if !known.keys.iter().any(|name| *name == key) {
+            all.try_push(described(alloc, document, known, key, value)?)?;
         }
     }
     Ok(())
 }
 
-fn unknown_line(
+fn described(
     alloc: Global,
-    place: &str,
+    document: &Document,
+    known: &Known<'_>,
     key: &str,
     value: &Value,
-    known: &[&'static str],
-) -> Result<String, AllocError> {
-    let what = if is_tables(value) { "table" } else { "key" };
-    let mut line = String::try_format(alloc, format_args!("{place}unknown {what} "))?;
-    put_key(&mut line, key)?;
-    if let Some(name) = nearest(alloc, key, known)? {
-        line.try_write(format_args!(" ({name}?)"))?;
+) -> Result<Unknown, AllocError> {
+    let is_table = is_tables(value);
+    let line = if is_table {
+        table_line(document, known.place, key)
+    } else {
+        entry_line(document, known.place)
+    };
+    let place = place_words(alloc, &document.value, known.place)?;
+    let what = if is_table { "table" } else { "key" };
+    let mut words = String::try_format(alloc, format_args!("{place}unknown {what} "))?;
+    put_key(&mut words, key)?;
+    if let Some(name) = nearest(alloc, key, known.keys)? {
+        words.try_write(format_args!(" ({name}?)"))?;
     }
-    Ok(line)
+    Ok(Unknown {
+        is_table,
+        line,
+        words,
+    })
 }
 
-// A table, or an array of them.
+// A table, or an array that has one.
 fn is_tables(value: &Value) -> bool {
     match value.as_array() {
-        Some(values) => match values.first() {
-            Some(value) => value.is_table(),
-            None => false,
-        },
+        Some(values) => values.iter().any(|value| value.is_table()),
         None => value.is_table(),
     }
 }

@@ -1,7 +1,7 @@
 //! Warnings in words.
 
-ghost use Rattle.std.specs.Prelude.{◌≡◌, slice_get, Some};
-ghost use Rattle.lisp_check.specs.Words.{GivesText, no_keys_words, no_prefixes_words, site_words, prefix_number_words, site_prefix_words, same_prefix_text, inside_text, same_key_text, no_servers_text, site_id_words, kind_words, node_words, router_words, addressed, site_id_of, eid_words, no_unicast_text, same_address_text, same_identity_text, not_allowed_text, other_family_text, warning_text};
+ghost use Rattle.std.specs.Prelude.{◌≡◌, slice_get, string_bytes, Some};
+ghost use Rattle.lisp_check.specs.Words.{GivesText, lined, no_keys_words, no_prefixes_words, site_words, prefix_number_words, site_prefix_words, same_prefix_text, inside_text, same_key_text, no_servers_text, site_id_words, kind_words, node_words, router_words, addressed, site_id_of, eid_words, no_unicast_text, same_address_text, same_identity_text, not_allowed_text, other_family_text, warning_text};
 
 use crate::warning::Warning;
 use lisp_memory::FallibleString;
@@ -12,8 +12,8 @@ use std::fmt::{self, Display, Formatter, Write};
 
 /// A site, by its place.
 #[derive(Drop)]
-struct SiteNumber {
-    place: usize,
+pub(crate) struct SiteNumber {
+    pub(crate) place: usize,
 }
 
 impl Display for SiteNumber {
@@ -56,6 +56,16 @@ impl Display for SiteId {
     fn fmt<W: Write>(&self, formatter: &mut Formatter<W>) -> fmt::Result {
         let id = self.id;
         write!(formatter, "{id:016x}")
+    }
+}
+
+/// Words after the line of their entry, where it is known: `line 12: router r2: ..`.
+pub fn lined(alloc: Global, line: Option<usize>, words: String) -> Result<String, AllocError>
+    ensures lined { GivesText result (lined line (string_bytes words)) }
+{
+    match line {
+        Some(line) => String::try_format(alloc, format_args!("line {line}: {words}")),
+        None => Ok(words),
     }
 }
 

@@ -30,8 +30,9 @@ use Rattle.lisp_lines.specs.declared.datagram_place.DatagramPlace.TheVariants.{H
 use Rattle.lisp_asked.specs.Router.{TellsRouter}
 use Rattle.lisp_asked.specs.Server.{TellsServer}
 use Rattle.lisp_turns.specs.Node.{CoreState, ServerCore, RouterCore}
+use Rattle.lisp_control.specs.Disallowed.{disallowed_text}
 use Rattle.lisp_control.specs.declared.question.Question.{Question}
-use Rattle.lisp_control.specs.declared.question.Question.TheVariants.{Server, Router, Routers, Counts}
+use Rattle.lisp_control.specs.declared.question.Question.TheVariants.{Server, Router, Routers, Counts, Disallowed}
 
 -- a fault's line
 abbrev pub numbered : ℕ → List ℕ
@@ -88,5 +89,6 @@ Answers c number (ServerCore core) s runs (Server question) now text = TellsServ
 Answers c number (ServerCore core) s runs Routers now text = TellsRouters c number core s runs now text
 Answers c number (RouterCore (Some core)) s runs (Router question) now text = TellsRouter c number (servers_of c number) core question now text
 Answers c number (RouterCore None) s runs (Router question) now text = text ≡ line_text c Hidden (Down number)
+Answers c number (RouterCore _) s runs (Disallowed records) now text = text ≡ disallowed_text c number records
 Answers c number core s runs (Counts format) now text = TellsCounts c number core s runs format now text
 Answers c number _ s runs _ now text = text ≡ fault_text Word

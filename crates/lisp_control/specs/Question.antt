@@ -19,7 +19,7 @@ use Rattle.lisp_asked.specs.declared.router.RouterQuestion.TheVariants as of_rou
 use Rattle.lisp_turns.specs.declared.order.Order.{Order}
 use Rattle.lisp_turns.specs.declared.order.Order.TheVariants as orders
 use Rattle.lisp_control.specs.declared.question.Question.{Question}
-use Rattle.lisp_control.specs.declared.question.Question.TheVariants.{Server, Router, Routers, Counts, Tell}
+use Rattle.lisp_control.specs.declared.question.Question.TheVariants.{Server, Router, Routers, Counts, Disallowed, Tell}
 use Rattle.lisp_statistics.specs.declared.counts.Format.TheVariants as formats
 
 -- what an event tells the node with a number to do: its store's calls are done
@@ -49,9 +49,9 @@ question_of c number (commands.Acks router) = asked_of number router (Router of_
 question_of c number (commands.Due node) = asked_of number node (due_at c number)
 question_of c number (commands.Act event) = told (order_of number event)
 
--- the line with the name of a node behind its first word, which ends at a space (32)
-abbrev pub named : List ℕ → List ℕ → List ℕ
-named name line = before_first (λ b. b == 32) line ++ 32 ∷ name ++ 32 ∷ after_first (λ b. b == 32) line
+-- a line of a script: the name of a node behind its first word, with spaces (32) between them
+abbrev pub named : List ℕ → List ℕ → List ℕ → List ℕ
+named name word rest = word ++ 32 ∷ name ++ 32 ∷ rest
 
 -- what is wrong, whichever line it is in
 abbrev pub what_of : {X : Type 0} → Result X ScriptFault → Result X ScriptWhat
@@ -63,10 +63,10 @@ abbrev pub only : List CommandValue → Result CommandValue ScriptWhat
 only (command ∷ []) = Ok command
 only _ = Err whats.Word
 
--- what a line asks as a script's
-abbrev pub question_in_script : ConfigValue → ℕ → List ℕ → List ℕ → Result Question ScriptWhat
-question_in_script c number name line = do
-  commands ← what_of (script_of c (named name line))
+-- what a line asks as a script's, by its first word and what is behind it
+abbrev pub question_in_script : ConfigValue → ℕ → List ℕ → List ℕ → List ℕ → Result Question ScriptWhat
+question_in_script c number name word rest = do
+  commands ← what_of (script_of c (named name word rest))
   command ← only commands
   question_of c number command
 
@@ -82,6 +82,16 @@ abbrev pub or_read : Option Question → Result Question ScriptWhat → Result Q
 or_read (Some question) read = Ok question
 or_read None read = read
 
--- what a line asks of the node with a number and a name
+-- the records of an order to register others; `disallowed` asks of them, and is read as that order
+abbrev pub records_of_change : Question → Result Question ScriptWhat
+records_of_change (Tell (orders.Change records)) = Ok (Disallowed records)
+records_of_change _ = Err whats.Word
+
+abbrev pub question_by_word : ConfigValue → ℕ → List ℕ → List ℕ → List ℕ → Result Question ScriptWhat
+question_by_word c number name word rest =
+    if is_word word (codes "disallowed") then question_in_script c number name (codes "change") rest >>= records_of_change
+    else question_in_script c number name word rest
+
+-- what a line asks of the node with a number and a name; its first word ends at a space
 abbrev pub question_in : ConfigValue → ℕ → List ℕ → List ℕ → Result Question ScriptWhat
-question_in c number name line = or_read (own_question line) (question_in_script c number name line)
+question_in c number name line = or_read (own_question line) (question_by_word c number name (before_first (λ b. b == 32) line) (after_first (λ b. b == 32) line))

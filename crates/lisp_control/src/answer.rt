@@ -5,6 +5,7 @@ ghost use Rattle.std.specs.String.{string_bytes};
 ghost use Rattle.lisp_turns.specs.Node.{core_value};
 ghost use Rattle.lisp_control.specs.Answer.{Answers, TellsCounts, TellsRouters, fault_text, gauge, numbered, outcome_text, servers_of};
 
+use crate::disallowed::disallowed_text;
 use crate::question::Question;
 use lisp_asked::{router_answer, server_answer};
 use lisp_lines::{DatagramPlace, line_text};
@@ -51,6 +52,9 @@ pub fn answer_text(
         }
         (Question::Routers, NodeCore::Server(core)) => {
             routers(alloc, config, number, core, statistics, runs, now)
+        }
+        (Question::Disallowed(db), NodeCore::Router(_)) => {
+            disallowed_text(alloc, config, number, db.records())
         }
         (Question::Counts(format), core) => {
             counts(alloc, config, number, core, statistics, runs, *format, now)

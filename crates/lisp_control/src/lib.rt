@@ -3,6 +3,7 @@
 #![tactic(auto)]
 
 mod answer;
+mod disallowed;
 mod line;
 mod question;
 

@@ -1,13 +1,13 @@
 //! A line of a user's.
 
-ghost use Rattle.std.specs.Prelude.{◌≡◌, ◌==◌, ◌∷◌, ◌++◌, map, IfOk, OnErr};
+ghost use Rattle.std.specs.Prelude.{◌≡◌, ◌==◌, map, IfOk, OnErr};
 ghost use Rattle.std.specs.List.{before_first, after_first};
 ghost use Rattle.std.specs.String.{string_bytes};
 ghost use Rattle.lisp_records.specs.Result.{Reads};
 ghost use Rattle.lisp_script.specs.Command.{command_value};
 ghost use Rattle.lisp_script.specs.Fault.{Gives};
 ghost use Rattle.lisp_script.specs.Spelling.{script_of};
-ghost use Rattle.lisp_control.specs.Question.{question_in, own_question, question_in_script, named, what_of, only};
+ghost use Rattle.lisp_control.specs.Question.{question_in, own_question, question_by_word, question_in_script, records_of_change, named, what_of, only};
 
 use crate::question::Question;
 use lisp_asked::RouterQuestion;
@@ -15,10 +15,11 @@ use lisp_memory::{FallibleString, Memory};
 use lisp_script::{Command, ScriptWhat, parse_script};
 use lisp_sites::Config;
 use lisp_statistics::Format;
+use lisp_turns::Order;
 use std::alloc::{AllocError, Global};
 
 /// What a line asks of the node with a number and a name: `records`, `routers`, `counts` and `counts --prometheus` by themselves; of any other
-/// line the name is put behind the first word, and it is read as a script's.
+/// line the name is put behind the first word, and it is read as a script's. `disallowed` is read as `change` is, and asks of its records.
 ///
 /// Faults: those of such a line, 80 to 86. 80 is also told where the command is no question and no order for a node, or is for
 /// another node, and where the text has no command, or more than one.
@@ -33,7 +34,10 @@ pub fn question_in(
 {
     match own_question(line) {
         Some(question) => Ok(question),
-        None => question_in_script(alloc, config, number, name, line),
+        None => {
+            let (word, rest) = parted(line);
+            question_by_word(alloc, config, number, name, word, rest)
+        }
     }
 }
 
@@ -50,33 +54,56 @@ fn own_question(line: &str) -> Option<Question>
     }
 }
 
-// What a line asks as a script's.
+// What a line asks, by its first word and what is behind it.
+fn question_by_word(
+    alloc: Global,
+    config: &Config,
+    number: usize,
+    name: &str,
+    word: &str,
+    rest: &str,
+) -> Result<Question, ScriptWhat>
+    ensures { Gives ⟦<Global as Memory>⟧.may_refuse (λ question. question) result
+        (question_by_word config.now number name.now word.now rest.now) }
+{
+    if word == "disallowed" {
+        let change = question_in_script(alloc, config, number, name, "change", rest)?;
+        records_of_change(change)
+    } else {
+        question_in_script(alloc, config, number, name, word, rest)
+    }
+}
+
+// Asks of the records of an order to register others.
+fn records_of_change(question: Question) -> Result<Question, ScriptWhat>
+    ensures { result ≡ records_of_change question }
+{
+    match question {
+        Question::Tell(Order::Change { db }) => Ok(Question::Disallowed(db)),
+        _ => Err(ScriptWhat::Word),
+    }
+}
+
+// What a line asks as a script's, by its first word and what is behind it.
 fn question_in_script(
     alloc: Global,
     config: &Config,
     number: usize,
     name: &str,
-    line: &str,
+    word: &str,
+    rest: &str,
 ) -> Result<Question, ScriptWhat>
-    ensures { Gives ⟦<Global as Memory>⟧.may_refuse (λ question. question) result (question_in_script config.now number name.now line.now) }
+    ensures { Gives ⟦<Global as Memory>⟧.may_refuse (λ question. question) result
+        (question_in_script config.now number name.now word.now rest.now) }
 {
-    let text = named(alloc, name, line)?;
+    let text = named(alloc, name, word, rest)?;
     let commands = commands_in(alloc, config, text.as_str())?;
     Question::from_command(config, number, only(commands)?)
 }
 
 // The line with the name behind its first word.
-fn named<A: Memory>(alloc: A, name: &str, line: &str) -> Result<String<A>, AllocError>
-    ensures text { IfOk result (λ text. string_bytes text ≡ named name.now line.now) }
-    ensures memory { OnErr result A.may_refuse }
-{
-    let (word, rest) = parted(line);
-    joined(alloc, word, name, rest)
-}
-
-// Three words, with spaces between them.
-fn joined<A: Memory>(alloc: A, word: &str, name: &str, rest: &str) -> Result<String<A>, AllocError>
-    ensures text { IfOk result (λ text. string_bytes text ≡ word.now ++ 32 ∷ name.now ++ 32 ∷ rest.now) }
+fn named<A: Memory>(alloc: A, name: &str, word: &str, rest: &str) -> Result<String<A>, AllocError>
+    ensures text { IfOk result (λ text. string_bytes text ≡ named name.now word.now rest.now) }
     ensures memory { OnErr result A.may_refuse }
 {
     String::try_format(alloc, format_args!("{word} {name} {rest}"))

@@ -8,6 +8,7 @@ ghost use Rattle.lisp_control.specs.Question.{question_of, due_at, told, order_o
 use lisp_asked::{RouterQuestion, ServerQuestion};
 use lisp_model::Event;
 use lisp_nonces::Fate;
+use lisp_records::Database;
 use lisp_script::{Command, ScriptWhat};
 use lisp_sites::Config;
 use lisp_statistics::Format;
@@ -24,6 +25,8 @@ pub enum Question {
     Routers,
     /// What is counted of the node since its start.
     Counts(Format),
+    /// Which of these records the router's site doesn't allow, by the configuration.
+    Disallowed(Database),
     /// What the node is to do.
     Tell(Order),
 }

@@ -10,12 +10,12 @@ use lisp_lines::{node_name, router_name};
 use lisp_memory::{FallibleString, Memory};
 use lisp_model::{Event, Line, Refusal};
 use lisp_nonces::{Fate, PairKind};
-use lisp_player::{KeptNonce, Outcome};
+use lisp_player::{KeptNonce, Outcome, fault_number};
 use lisp_refusals::{meaning, name};
 use lisp_script::Command;
 use lisp_server::{NoticeFault, Refused};
 use lisp_sites::Config;
-use lisp_texts::{addr_to_text, number_from_text};
+use lisp_texts::addr_to_text;
 use std::alloc::{AllocError, Allocator};
 
 /// Appends what isn't in the line of a command: where bytes come from outside, what the store did, what a refusal means, what
@@ -34,7 +34,7 @@ pub(crate) fn add_notes<A: Memory + Copy>(
 {
     add_source(alloc, lines, command)?;
     add_fate(lines, row.fate)?;
-    add_meaning(alloc, lines, config, outcome)
+    add_meaning(alloc, lines, config, row, outcome)
 }
 
 // Where bytes from outside come from.
@@ -77,6 +77,7 @@ fn add_meaning<A: Memory + Copy>(
     alloc: A,
     lines: &mut Lines<A>,
     config: &Config<A>,
+    row: &Row,
     outcome: &Outcome<A>,
 ) -> Result<(), AllocError>
     ensures grows { OnOk result (Grows lines.old lines.new) }
@@ -87,7 +88,7 @@ fn add_meaning<A: Memory + Copy>(
         Some(Line::Restarted { .. } | Line::Emptied { .. }) => {
             add_kept(alloc, lines, config, outcome)
         }
-        None => add_fault(alloc, lines, &outcome.text),
+        None => add_fault(alloc, lines, row, &outcome.text),
         _ => Ok(()),
     }
 }
@@ -148,18 +149,36 @@ fn inner_number(refusal: &Refusal) -> Option<u16> {
     }
 }
 
-// What keeps the network from taking an event, by the line that tells its number.
+// Where the network doesn't take a command: the line that it stands on, and what keeps the network from it.
 #[tactic(auto, using(crate::proofs::Wrapping::steps))]
-fn add_fault<A: Memory + Copy>(alloc: A, lines: &mut Lines<A>, text: &str) -> Result<(), AllocError>
+fn add_fault<A: Memory + Copy>(
+    alloc: A,
+    lines: &mut Lines<A>,
+    row: &Row,
+    text: &str,
+) -> Result<(), AllocError>
     ensures grows { OnOk result (Grows lines.old lines.new) }
     ensures memory { OnErr result A.may_refuse }
 {
-    let Some(number) = text.trim().strip_prefix("fault ") else {
+    let Some(number) = fault_number(text).and_then(|number| u16::try_from(number).ok()) else {
         return Ok(());
     };
-    match number_from_text(number).map(u16::try_from) {
-        Some(Ok(number)) => add_number(alloc, lines, number),
-        _ => Ok(()),
+    add_script_line(alloc, lines, row)?;
+    add_number(alloc, lines, number)
+}
+
+#[tactic(auto, using(crate::proofs::Wrapping::steps))]
+fn add_script_line<A: Memory + Copy>(
+    alloc: A,
+    lines: &mut Lines<A>,
+    row: &Row,
+) -> Result<(), AllocError>
+    ensures grows { OnOk result (Grows lines.old lines.new) }
+    ensures memory { OnErr result A.may_refuse }
+{
+    match row.script_line {
+        Some(line) => add(alloc, lines, format_args!("Line {line} of the script.")),
+        None => Ok(()),
     }
 }
 

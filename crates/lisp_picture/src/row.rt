@@ -20,16 +20,23 @@ pub(crate) struct Row {
     pub(crate) now: Option<u64>,
     /// What became of the store's calls.
     pub(crate) fate: Fate,
+    /// The line of the script that the command stands on.
+    pub(crate) script_line: Option<usize>,
 }
 
-/// What a command did, by the line of its event, where it is one that was taken.
-pub(crate) fn row_of<A: Allocator>(command: &Command<A>, line: Option<&Line>) -> Row {
+/// What a command did, by the line of its event, where it is one that was taken, and by its line in the script.
+pub(crate) fn row_of<A: Allocator>(
+    command: &Command<A>,
+    line: Option<&Line>,
+    script_line: Option<usize>,
+) -> Row {
     Row {
         sign: sign(command, line),
         arrival: arrival(command, line),
         sends: sends(line),
         now: now(line),
         fate: fate(command),
+        script_line,
     }
 }
 

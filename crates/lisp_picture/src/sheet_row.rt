@@ -16,7 +16,7 @@ use crate::table::table;
 use crate::wrap::Lines;
 use lisp_memory::{FallibleString, Memory};
 use lisp_nonces::Fate;
-use lisp_player::{History, Outcome};
+use lisp_player::{History, Outcome, fault_number};
 use lisp_script::Command;
 use std::alloc::{AllocError, Allocator};
 
@@ -113,7 +113,7 @@ pub(crate) fn draw_row<A: Memory + Copy>(
         return Ok(LEAST_HEIGHT);
     };
     match row.sign {
-        Some((node, Sign::Asked)) => {
+        Some((node, Sign::Asked)) if fault_number(&outcome.text).is_none() => {
             let x = columns.x(node).unwrap_or(0);
             draw_table(pen, command, outcome, x, spot)
         }

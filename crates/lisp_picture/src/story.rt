@@ -34,7 +34,7 @@ pub(crate) fn story_of<A: Memory + Copy>(
             break;
         };
         let line = outcome.line.as_ref();
-        rows.try_push(row_of(command, line))?;
+        rows.try_push(row_of(command, line, history.lines.get(place).copied()))?;
         if let Some(line) = line {
             add_datagram(&mut datagrams, &history.config, command, line, place)?;
         }

@@ -2,6 +2,7 @@
 
 ghost use Rattle.std.specs.Prelude.{◌≡◌, [], map, length, take, All, Some, Ok, OnErr, IfOk, IfErr, IsErrOf};
 ghost use Rattle.lisp_script.specs.Command.{command_value};
+ghost use Rattle.lisp_script.specs.CommandLines.{schedule_lines};
 ghost use Rattle.lisp_script.specs.Schedule.{schedule_value};
 ghost use Rattle.lisp_player.specs.Outcomes.{Leads, ListsKept, OutcomesFrom, OutcomesLead, TellsLine, texts};
 ghost use Rattle.lisp_player.specs.Playing.{Wrote};
@@ -14,7 +15,7 @@ use crate::schedule::begin;
 use lisp_memory::{FallibleVec, Memory};
 use lisp_model::Line;
 use lisp_nonces::MemoryStore;
-use lisp_script::{Command, PlayFault, read_schedule};
+use lisp_script::{Command, PlayFault, read_schedule, schedule_lines};
 use lisp_sites::Config;
 use lisp_world::World;
 use std::alloc::{AllocError, Allocator, Global};
@@ -29,6 +30,8 @@ pub struct History<A: Allocator = Global> {
     pub config: Config<A>,
     /// Its commands.
     pub commands: Vec<Command<A>, A>,
+    /// The lines of the script that they stand on, in their order, counted from 1 on right after the line `---`.
+    pub lines: Vec<usize, A>,
     /// What they came to: one for each command, in their order.
     pub outcomes: Vec<Outcome<A>, A>,
 }
@@ -47,6 +50,8 @@ pub fn history_of<A: Memory + Copy>(
     ensures each { IfOk result (λ h. OutcomesFrom A A.may_refuse h.config
         (map command_value h.commands.items) h.outcomes.items) }
     ensures counts { IfOk result (λ h. length h.outcomes.items ≡ length h.commands.items) }
+    ensures numbers { IfOk result (λ h. h.lines.items ≡ schedule_lines input.now) }
+    ensures numbered { IfOk result (λ h. length h.lines.items ≡ length h.commands.items) }
     ensures lines { IfOk result (λ h. All (TellsLine h.config) h.outcomes.items) }
     ensures kept { IfOk result (λ h. All ListsKept h.outcomes.items) }
     ensures refuses { IfErr result (RefusesInput A.may_refuse input.now) }
@@ -54,10 +59,12 @@ pub fn history_of<A: Memory + Copy>(
     ensures memory { IsErrOf result PlayFault.OutOfMemory → A.may_refuse }
 {
     let (config, commands) = read_schedule(heap, alloc, input)?;
+    let lines = schedule_lines(alloc, input)?;
     let outcomes = outcomes_from(alloc, &config, &commands)?;
     Ok(History {
         config,
         commands,
+        lines,
         outcomes,
     })
 }

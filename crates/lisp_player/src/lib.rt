@@ -1,6 +1,6 @@
-//! Plays a schedule: a configuration and a script, over a network that begins with stores that keep nothing (`play`); gives what
-//! each of its commands came to, in place of writing it (`history_of`); and plays commands over a network that is there, one after
-//! another (`play_on`). Scripts and their faults are passed on.
+//! Plays a schedule: a configuration and a script, over a network that begins with stores that keep nothing (`play`), also noting
+//! which commands it doesn't take (`play_noting`); gives what each of its commands came to, in place of writing it (`history_of`);
+//! and plays commands over a network that is there, one after another (`play_on`). Scripts and their faults are passed on.
 #![tactic(auto)]
 
 mod asked;
@@ -10,6 +10,7 @@ mod kept_nonce;
 mod outcome;
 mod playing;
 mod schedule;
+mod untaken;
 
 pub use history::{History, history_of};
 pub use kept_nonce::KeptNonce;
@@ -17,4 +18,5 @@ pub use lisp_lines::{DatagramPlace, write_line};
 pub use lisp_script::{Command, PlayFault, ScriptFault, ScriptWhat, parse_script};
 pub use outcome::Outcome;
 pub use playing::play_on;
-pub use schedule::play;
+pub use schedule::{play, play_noting};
+pub use untaken::{Untaken, fault_number};

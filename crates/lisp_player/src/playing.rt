@@ -8,6 +8,7 @@ ghost use Rattle.lisp_player.specs.Playing.{Loses, WroteOne, Wrote, StopsAt, Bre
 ghost use Rattle.lisp_script.specs.declared.play_fault.PlayFault.TheVariants as faults;
 
 use crate::command::command_outcome;
+use crate::untaken::{Untaken, add_untaken};
 use lisp_lines::write_text;
 use lisp_memory::Memory;
 use lisp_nonces::WorldStore;
@@ -41,19 +42,49 @@ pub fn play_on<S: WorldStore, A: Memory + Copy, E: Allocator, F: Allocator, W: W
     ensures memory { IsErrOf result PlayFault.OutOfMemory → A.may_refuse }
     ensures faults { IfErr result (λ fault. IsWritingFault fault) }
 {
-    for command in commands {
-        play_one(alloc, world, config, command, writer)?;
+    let mut untaken = Vec::new(alloc);
+    play_all(alloc, world, config, commands, &[], writer, &mut untaken)
+}
+
+/// Plays commands as `play_on` does, and appends those that the network doesn't take, where their lines are known: `lines` has
+/// the line of the script that each of them stands on, in their order.
+pub(crate) fn play_all<S: WorldStore, A: Memory + Copy, E: Allocator, F: Allocator, W: Write>(
+    alloc: A,
+    world: &mut World<S, A>,
+    config: &Config<E>,
+    commands: &[Command<F>],
+    lines: &[usize],
+    writer: &mut W,
+    untaken: &mut Vec<Untaken, A>,
+) -> Result<(), PlayFault>
+    ensures plays { OnOk result (Wrote A A.may_refuse S.may_refuse world.old world.new config.now
+        (map command_value commands.now) (W.contents writer.old) (W.contents writer.new)) }
+    ensures stops { IsErrOf result PlayFault.OutOfMemory
+        → StopsAt A A.may_refuse S.may_refuse world.old world.new config.now
+        (map command_value commands.now) (W.contents writer.old) (W.contents writer.new) }
+    ensures breaks { IsErrOf result faults.Write
+        → Breaks A A.may_refuse S.may_refuse world.old world.new config.now
+        (map command_value commands.now) (W.contents writer.old) (W.contents writer.new) }
+    ensures memory { IsErrOf result PlayFault.OutOfMemory → A.may_refuse }
+    ensures faults { IfErr result (λ fault. IsWritingFault fault) }
+{
+    for (place, command) in commands.iter().enumerate() {
+        let line = lines.get(place).copied();
+        play_one(alloc, world, config, command, line, writer, untaken)?;
     }
     Ok(())
 }
 
-// Plays one command, and writes its lines. Out of memory nothing was written, though an event may have been taken.
+// Plays one command, and writes its lines; appends it, where the network doesn't take it and its line is known. Out of memory
+// nothing was written, though an event may have been taken.
 fn play_one<S: WorldStore, A: Memory + Copy, E: Allocator, F: Allocator, W: Write>(
     alloc: A,
     world: &mut World<S, A>,
     config: &Config<E>,
     command: &Command<F>,
+    line: Option<usize>,
     writer: &mut W,
+    untaken: &mut Vec<Untaken, A>,
 ) -> Result<(), PlayFault>
     ensures plays { OnOk result (WroteOne A A.may_refuse S.may_refuse world.old world.new config.now
         (command_value command.now) (W.contents writer.old) (W.contents writer.new)) }
@@ -68,5 +99,6 @@ fn play_one<S: WorldStore, A: Memory + Copy, E: Allocator, F: Allocator, W: Writ
     ensures faults { IfErr result (λ fault. IsWritingFault fault) }
 {
     let text = command_outcome(alloc, world, config, command)?.text;
+    add_untaken(untaken, line, &text)?;
     write_text(&text, writer)
 }

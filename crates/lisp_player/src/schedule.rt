@@ -6,10 +6,11 @@ ghost use Rattle.lisp_script.specs.Command.{command_value};
 ghost use Rattle.lisp_player.specs.Schedule.{Begins, BrokenFrom, Cuts, Ends, EndsBy, IsSilentElse, NotBegun, PlayedFrom, Refuses, RefusesInput, StoppedFrom, Stops, fresh};
 ghost use Rattle.lisp_script.specs.declared.play_fault.PlayFault.TheVariants as faults;
 
-use crate::playing::play_on;
+use crate::playing::play_all;
+use crate::untaken::Untaken;
 use lisp_memory::{FallibleVec, Memory};
 use lisp_nonces::MemoryStore;
-use lisp_script::{Command, PlayFault, read_schedule, read_to_end};
+use lisp_script::{Command, PlayFault, read_schedule, read_to_end, schedule_lines};
 use lisp_sites::Config;
 use lisp_world::World;
 use std::alloc::{AllocError, Allocator, Global};
@@ -38,8 +39,32 @@ pub fn play<A: Memory + Copy, R: Read, W: Write>(
     ensures silent { IsSilentElse result W.contents writer.old writer.new }
     ensures memory { IsErrOf result PlayFault.OutOfMemory → A.may_refuse }
 {
+    let mut untaken = Vec::new(alloc);
+    play_noting(heap, alloc, reader, writer, &mut untaken)
+}
+
+/// Plays as `play` does, and appends the commands that the network doesn't take, in their order: those whose text is `fault N`,
+/// by N and by their line, which is counted from 1 on right after the line `---`. It does so also where the play then ends by a
+/// fault.
+pub fn play_noting<A: Memory + Copy, R: Read, W: Write>(
+    heap: Global,
+    alloc: A,
+    reader: &mut R,
+    writer: &mut W,
+    untaken: &mut Vec<Untaken, A>,
+) -> Result<(), PlayFault>
+    ensures plays { Ends result A A.may_refuse (R.remaining reader.old)
+        W.contents writer.old writer.new }
+    ensures stops { Stops result A A.may_refuse (R.remaining reader.old)
+        W.contents writer.old writer.new }
+    ensures breaks { Cuts result A A.may_refuse (R.remaining reader.old)
+        W.contents writer.old writer.new }
+    ensures refuses { Refuses result A.may_refuse (R.remaining reader.old) }
+    ensures silent { IsSilentElse result W.contents writer.old writer.new }
+    ensures memory { IsErrOf result PlayFault.OutOfMemory → A.may_refuse }
+{
     let input = read_to_end(alloc, reader)?;
-    play_input(heap, alloc, &input, writer)
+    play_input(heap, alloc, &input, writer, untaken)
 }
 
 // Plays the schedule that an input is.
@@ -48,6 +73,7 @@ fn play_input<A: Memory + Copy, W: Write>(
     alloc: A,
     input: &[u8],
     writer: &mut W,
+    untaken: &mut Vec<Untaken, A>,
 ) -> Result<(), PlayFault>
     ensures plays { Ends result A A.may_refuse (Some input.now) W.contents writer.old writer.new }
     ensures stops { Stops result A A.may_refuse (Some input.now) W.contents writer.old writer.new }
@@ -57,7 +83,8 @@ fn play_input<A: Memory + Copy, W: Write>(
     ensures memory { IsErrOf result PlayFault.OutOfMemory → A.may_refuse }
 {
     let (config, commands) = read_schedule(heap, alloc, input)?;
-    play_commands(alloc, &config, &commands, writer)
+    let lines = schedule_lines(alloc, input)?;
+    play_commands(alloc, &config, &commands, &lines, writer, untaken)
 }
 
 // Plays commands from the beginning of a network of the configuration.
@@ -65,7 +92,9 @@ fn play_commands<A: Memory + Copy, E: Allocator, F: Allocator, W: Write>(
     alloc: A,
     config: &Config<E>,
     commands: &[Command<F>],
+    lines: &[usize],
     writer: &mut W,
+    untaken: &mut Vec<Untaken, A>,
 ) -> Result<(), PlayFault>
     ensures plays { OnOk result (PlayedFrom A A.may_refuse config.now
         (map command_value commands.now) (W.contents writer.old) (W.contents writer.new)) }
@@ -80,7 +109,7 @@ fn play_commands<A: Memory + Copy, E: Allocator, F: Allocator, W: Write>(
     ensures faults { IfErr result (EndsBy A.may_refuse config.now) }
 {
     let mut world = begin(alloc, config)?;
-    play_on(alloc, &mut world, config, commands, writer)
+    play_all(alloc, &mut world, config, commands, lines, writer, untaken)
 }
 
 /// A network of a configuration, over stores that keep nothing.

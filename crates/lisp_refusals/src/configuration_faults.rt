@@ -6,8 +6,8 @@ use crate::row::{HEADER, Row, STATUS_HEADER, Section};
 pub(crate) const CONFIGURATION_FAULTS: Section = Section {
     title: "Faults of a configuration",
     introduction: "What is wrong in the configuration of `lispd play`, or in the file CONFIG: the first fault. [CONFIGURATION](CONFIGURATION.md)
-has the fields and the order of the checks. Where a fault is told in words, the field is named too; `lispd check` names its entry.
-25 is of `lispd check` alone.",
+has the fields and the order of the checks. Where a fault is told in words, the field is named too; `lispd check` has its line, its
+entry and the value, and up to 20 further faults after it. 25 is of `lispd check` alone.",
     header: STATUS_HEADER,
     rows: &[
         Row {
@@ -54,9 +54,9 @@ has the fields and the order of the checks. Where a fault is told in words, the 
             number: 25,
             carried: "",
             name: "Warnings",
-            meaning: "a configuration has warnings, and `--strict` was given",
+            meaning: "a configuration has a table that nothing reads; or it has warnings, and `--strict` was given",
             status: "2",
-            remedy: "see the warnings",
+            remedy: "see the lines before it",
         },
     ],
 };

@@ -10,3 +10,4 @@ mod Commands
 mod InputLemmas
 mod PartsLemmas
 mod Scheduled
+mod Numbers

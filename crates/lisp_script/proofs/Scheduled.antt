@@ -1,6 +1,7 @@
 -- An input is a schedule, or what is wrong with it.
-use Rattle.std.proofs.Common.{◌≡◌, ℕ, Bool, true, false, List, Some, None, Ok, Err, refl, ◌∙◌}
+use Rattle.std.proofs.Common.{◌≡◌, ℕ, Bool, true, false, List, [], length, Some, None, Result, Ok, Err, refl, sym, ap, ◌∙◌}
 use Rattle.std.specs.Prelude.{◌≢◌}
+use Rattle.lisp_records.specs.Result.{◌>>=◌}
 use Rattle.std.specs.Str.{IsUtf8, is_utf8}
 use Rattle.std.proofs.lemmas.Str.{is_utf8-from_IsUtf8, IsUtf8-from_is_utf8}
 use Rattle.toml.specs.Parse.{parse_document}
@@ -15,19 +16,31 @@ use Rattle.lisp_script.specs.declared.fault.ScriptWhat.{ScriptWhat}
 use Rattle.lisp_script.specs.declared.fault.ScriptWhat.TheVariants as whats
 use Rattle.lisp_script.specs.declared.play_fault.PlayFault.TheVariants as faults
 use Rattle.lisp_script.specs.Parts.{parted}
-use Rattle.lisp_script.specs.Schedule.{script_in, parts_in, schedule_of, HasParts, IsNoConfig, IsNoScript}
+use Rattle.lisp_script.specs.declared.play_fault.PlayFault.{PlayFault}
+use Rattle.lisp_script.specs.CommandLines.{command_lines, schedule_lines, AsManyAsCommands, AsManyAsOrders}
+use Rattle.lisp_script.specs.Schedule.{as_fault, script_in, parts_in, schedule_of, HasParts, IsNoConfig, IsNoScript}
 
 module _ (input : List ℕ) where
+  is_no_utf8 : (test : Bool) → is_utf8 input ≡ test → (IsUtf8 input → ⊥) → is_utf8 input ≡ false
+  is_no_utf8 true is not = absurd (not (IsUtf8-from_is_utf8 input is))
+  is_no_utf8 false is not = is
+
   -- it is no text
   pub no_text : (IsUtf8 input → ⊥) → schedule_of input ≡ Err faults.NotUtf8
   unfolding schedule_of
-  no_text not = rw (is_no_utf8 (is_utf8 input) refl) refl
-    where
-      is_no_utf8 : (test : Bool) → is_utf8 input ≡ test → is_utf8 input ≡ false
-      is_no_utf8 true is = absurd (not (IsUtf8-from_is_utf8 input is))
-      is_no_utf8 false is = is
+  no_text not = rw (is_no_utf8 (is_utf8 input) refl not) refl
+
+  pub no_lines_of_text : (IsUtf8 input → ⊥) → [] ≡ schedule_lines input
+  no_lines_of_text not = rw (is_no_utf8 (is_utf8 input) refl not) refl
+
+  -- no schedule has no commands
+  pub no_orders : (why : PlayFault) (numbers : List ℕ) → schedule_of input ≡ Err why → AsManyAsOrders input numbers
+  no_orders why numbers fault schedule is = absurd cc
 
   module _ (utf8 : IsUtf8 input) where
+    pub no_lines : parted input ≡ None → [] ≡ schedule_lines input
+    no_lines none = rw (is_utf8-from_IsUtf8 input utf8, none) refl
+
     -- it has no two parts
     pub no_parts : parted input ≡ None → schedule_of input ≡ Err faults.NoScript
     unfolding schedule_of
@@ -40,6 +53,26 @@ module _ (input : List ℕ) where
 
       has_parts : HasParts input (configuration, script)
       has_parts = (is_utf8-from_IsUtf8 input utf8, parts)
+
+      -- the lines of the second one
+      pub lines_there : (numbers : List ℕ) → numbers ≡ command_lines script → numbers ≡ schedule_lines input
+      lines_there numbers is = is ∙ rw (is_utf8-from_IsUtf8 input utf8, parts) refl
+
+      pub as_many_orders : (numbers : List ℕ) → AsManyAsCommands script numbers → AsManyAsOrders input numbers
+      unfolding parts_in script_in
+      as_many_orders numbers many schedule is = configured (config_of (parse_document configuration)) (sym in_parts ∙ is)
+        where
+          scripted : (c : ConfigValue) (read : Result (List CommandValue) ScriptFault) → script_of c script ≡ read
+              → (as_fault faults.Script read >>= λ orders. Ok (c, orders)) ≡ Ok schedule → length numbers ≡ length schedule.1
+          scripted c (Err why) read is = absurd cc
+          scripted c (Ok orders) read is =
+              let same : (c, orders) ≡ schedule = cc in
+              many c orders read ∙ ap (λ (s : ConfigValue × List CommandValue). length s.1) same
+
+          configured : (read : Result ConfigValue ConfigFault)
+              → (as_fault faults.Config read >>= λ c. script_in c script) ≡ Ok schedule → length numbers ≡ length schedule.1
+          configured (Err why) is = absurd cc
+          configured (Ok c) is = scripted c (script_of c script) refl is
 
       -- the first one is no configuration
       no_config : (why : ConfigFault) → config_of (parse_document configuration) ≡ Err why → schedule_of input ≡ Err (faults.Config why)

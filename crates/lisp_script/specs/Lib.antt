@@ -1,6 +1,7 @@
 pub mod Command
 pub mod Words
 pub mod Spelling
+pub mod CommandLines
 pub mod Answers
 pub mod Fault
 pub mod PlayFault

@@ -70,7 +70,8 @@ fn read_words<A: Memory + Copy, E: Allocator>(
     Ok(())
 }
 
-fn is_comment(line: &str) -> bool
+/// Whether a line is a comment.
+pub(crate) fn is_comment(line: &str) -> bool
     ensures { result ≡ is_comment line.now }
 {
     matches!(line.as_bytes(), [b'#', ..])

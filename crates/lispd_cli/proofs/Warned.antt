@@ -1,25 +1,37 @@
 -- What `check` prints.
 use Rattle.std.proofs.Common.{◌≡◌, ℕ, ◌+◌, ◌<◌, List, [], ◌∷◌, ◌++◌, map, length, take, get_or, Option, Some, None, Result, Ok, Err, sym, ap, ◌∙◌, subst, append-nil, append_assoc}
-use Rattle.std.specs.Prelude.{String, string_bytes, IfOk, IsOkAnd}
+use Rattle.std.specs.Prelude.{String, string_bytes, IfOk, IfSome, IsOkAnd}
 use Rattle.std.specs.Io.KnownBytes.{Appends}
 use Rattle.std.proofs.lemmas.List.{flat_map_more, map_push, take_more}
 use Rattle.lisp_policy.specs.Configuration.{ConfigValue}
 use Rattle.lisp_check.specs.declared.warning.Warning.{Warning}
-use Rattle.lisp_check.specs.Words.{warning_text}
-use Rattle.lispd_cli.specs.Check.{Grows, warning_of, warning_line, warning_lines}
+use Rattle.lisp_check.specs.Line.{IsHeaderLine}
+use Rattle.lisp_check.specs.Words.{lined, warning_text}
+use Rattle.lispd_cli.specs.Check.{Grows, IsLined, AreLined, AddedLined, warning_of, warning_line, warning_lines}
 
--- one more warning in words
-pub added : {Z : Type 0} (c : ConfigValue) (ws : List Warning) (before : List (List ℕ)) (all next : List (String Z)) (i : ℕ) (w : Warning) (text : String Z) → i < length ws → w ≡ get_or ws i w
-    → map string_bytes all ≡ before ++ map (warning_text c) (take i ws) → string_bytes text ≡ warning_text c w → next ≡ all ++ text ∷ []
-    → map string_bytes next ≡ before ++ map (warning_text c) (take (i + 1) ws)
-added {Z} c ws before all next i w text within at so_far words pushed =
-    let mapped : map (warning_text c) (take (i + 1) ws) ≡ map (warning_text c) (take i ws) ++ warning_text c w ∷ [] =
-    ap (map (warning_text c)) (take_more ws i w within) ∙ map_push (warning_text c) (take i ws) (get_or ws i w) ∙ ap (λ (x : Warning). map (warning_text c) (take i ws) ++ warning_text c x ∷ []) (sym at) in
-    ap (map string_bytes) pushed ∙ map_push string_bytes all text
-    ∙ ap (λ (l : List (List ℕ)). l ++ string_bytes text ∷ []) so_far
-    ∙ ap (λ (t : List ℕ). (before ++ map (warning_text c) (take i ws)) ++ t ∷ []) words
-    ∙ append_assoc before (map (warning_text c) (take i ws)) (warning_text c w ∷ [])
-    ∙ ap (λ (l : List (List ℕ)). before ++ l) (sym mapped)
+-- one more after its line
+more_lined : (text : List ℕ) (warnings words : List (List ℕ)) (w one : List ℕ) → AreLined text warnings words → IsLined text w one → AreLined text (warnings ++ w ∷ []) (words ++ one ∷ [])
+more_lined text [] [] w one are is = (is, tt)
+more_lined text [] (x ∷ words) w one are is = absurd are
+more_lined text (v ∷ warnings) [] w one are is = absurd are
+more_lined text (v ∷ warnings) (x ∷ words) w one (first, others) is = (first, more_lined text warnings words w one others is)
+
+-- no warning, and one more
+pub added_none : (text : List ℕ) (all : List (List ℕ)) → AddedLined text all all []
+added_none text all = ([], tt, sym (append-nil all))
+
+pub added : {Z : Type 0} (text : List ℕ) (c : ConfigValue) (ws : List Warning) (before : List (List ℕ)) (all next : List (String Z)) (i : ℕ) (d : Warning) (words one : String Z)
+    → i < length ws → AddedLined text before (map string_bytes all) (map (warning_text c) (take i ws)) → string_bytes words ≡ warning_text c (get_or ws i d)
+    → (line : Option ℕ) → IfSome line (IsHeaderLine text) → string_bytes one ≡ lined line (string_bytes words) → next ≡ all ++ one ∷ []
+    → AddedLined text before (map string_bytes next) (map (warning_text c) (take (i + 1) ws))
+added {Z = Z} text c ws before all next i d words one within (so, are, so_far) is line of_header after pushed = (
+  so ++ string_bytes one ∷ [],
+  subst (λ (l : List (List ℕ)). AreLined text l (so ++ string_bytes one ∷ [])) (sym mapped)
+      (more_lined text (map (warning_text c) (take i ws)) so (warning_text c (get_or ws i d)) (string_bytes one) are (line, of_header, after ∙ ap (lined line) is)),
+  ap (map string_bytes) pushed ∙ map_push string_bytes all one ∙ ap (λ (l : List (List ℕ)). l ++ string_bytes one ∷ []) so_far ∙ append_assoc before so (string_bytes one ∷ []),
+) where
+  mapped : map (warning_text c) (take (i + 1) ws) ≡ map (warning_text c) (take i ws) ++ warning_text c (get_or ws i d) ∷ []
+  mapped = ap (map (warning_text c)) (take_more ws i d within) ∙ map_push (warning_text c) (take i ws) (get_or ws i d)
 
 -- one more text
 pub one_added : {Z : Type 0} (all next : List (String Z)) (text : String Z) (words : List ℕ) → next ≡ all ++ text ∷ [] → string_bytes text ≡ words → map string_bytes next ≡ map string_bytes all ++ words ∷ []

@@ -1,5 +1,5 @@
 -- Whether a node is asked a question, or told it; whether it answers that this is neither, or that it doesn't do it.
-use Rattle.std.specs.Prelude.{◌≡◌, ◌⊎◌, ℕ, ◌==◌, nat_lt, List, [], ◌∷◌, ◌++◌, codes, Option, Some, None, Result, Err, if◌then◌else◌}
+use Rattle.std.specs.Prelude.{◌≡◌, ◌⊎◌, ℕ, ◌==◌, nat_lt, Bool, false, List, [], ◌∷◌, ◌++◌, codes, Option, Some, None, Result, Err, if◌then◌else◌}
 use Rattle.std.specs.Int.{is_in_range}
 use Rattle.std.specs.Io.KnownBytes.{Appends}
 use Rattle.std.specs.List.{after_first, before_first, list_any}
@@ -86,3 +86,18 @@ EndsAtRefusal errand answer old new result = (lines : List ℕ) (number : ℕ) �
 -- an answer tells of such a refusal
 abbrev pub TellsRefusal : Errand → List ℕ → ℕ → Type 0
 TellsRefusal errand answer number = (lines : List ℕ) × (answer ≡ lines ++ 10 ∷ []) × (refusal_of errand lines ≡ Some number)
+
+-- a router's site doesn't allow some records: `disallowed NAME N`, where N isn't 0
+abbrev pub is_some_number : Option ℕ → Bool
+is_some_number None = false
+is_some_number (Some n) = nat_lt 0 n
+
+abbrev pub disallows_in : List ℕ → Bool
+disallows_in head = if is_word (codes "disallowed") (first_word head) then is_some_number (number_of (third_word head)) else false
+
+-- in the first line of an answer, which ends at a line feed (10)
+abbrev pub first_line : List ℕ → List ℕ
+first_line answer = before_first (λ b. b == 10) answer
+
+abbrev pub disallows : List ℕ → Bool
+disallows answer = disallows_in (first_line answer)

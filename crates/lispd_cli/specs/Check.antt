@@ -1,5 +1,5 @@
 -- What `check` warns of.
-use Rattle.std.specs.Prelude.{◌≡◌, ℕ, Bool, true, false, List, [], ◌∷◌, ◌++◌, not, ◌==◌, length, codes, map, Result, Ok, OnOk, IsOkAnd, String, string_bytes, Vec, Option}
+use Rattle.std.specs.Prelude.{◌≡◌, ℕ, Bool, true, false, List, [], ◌∷◌, ◌++◌, not, ◌==◌, length, codes, map, Result, Ok, OnOk, IsOkAnd, String, string_bytes, Vec, Option, IfSome}
 use Rattle.std.specs.List.{flat_map}
 use Rattle.std.specs.Io.KnownBytes.{Appends}
 use Rattle.std.specs.declared.alloc.Global.{Global}
@@ -8,7 +8,8 @@ use Rattle.lisp_policy.specs.Configuration.{ConfigValue}
 use Rattle.lisp_sites.specs.Table.{config_of}
 use Rattle.lisp_check.specs.declared.warning.Warning.{Warning}
 use Rattle.lisp_check.specs.Warning.{IsWarned, AreThose, of_all}
-use Rattle.lisp_check.specs.Words.{warning_text}
+use Rattle.lisp_check.specs.Line.{IsHeaderLine}
+use Rattle.lisp_check.specs.Words.{lined, warning_text}
 
 -- at Ok a text was made, and written as a line
 abbrev pub WritesLine : {X E F W Z : Type 0} → Result X E → Result (String Z) F → (W → Option (List ℕ)) → W → W → Type 0
@@ -44,22 +45,40 @@ words_of_mode false = []
 abbrev pub AddsWords : {X E Z : Type 0} → Result X E → Vec (String Z) Z → Vec (String Z) Z → List (List ℕ) → Type 0
 AddsWords result old new words = OnOk result (map string_bytes new.items ≡ map string_bytes old.items ++ words)
 
--- the warnings of a configuration, in words: keys that no configuration has, then what may not be meant, each once and in its
--- order, then that others can read the file
-pub record AreWarnings {Z : Type 0} (c : ConfigValue) (is_open : Bool) (all : Vec (String Z) Z) : Type 0 where
+-- a warning in words, after its line or none: each line is that of a header in the text
+abbrev pub IsLined : List ℕ → List ℕ → List ℕ → Type 0
+IsLined text warning words = (line : Option ℕ) × IfSome line (IsHeaderLine text) × (words ≡ lined line warning)
+
+abbrev pub AreLined : List ℕ → List (List ℕ) → List (List ℕ) → Type 0
+AreLined text [] [] = Unit {0}
+AreLined text (warning ∷ warnings) (words ∷ others) = IsLined text warning words × AreLined text warnings others
+AreLined _ _ _ = ⊥
+
+-- such words of warnings were added to some; and at Ok they were
+abbrev pub AddedLined : List ℕ → List (List ℕ) → List (List ℕ) → List (List ℕ) → Type 0
+AddedLined text old new warnings = (words : List (List ℕ)) × AreLined text warnings words × (new ≡ old ++ words)
+
+abbrev pub AddsLined : {X E Z : Type 0} → Result X E → List ℕ → Vec (String Z) Z → Vec (String Z) Z → List (List ℕ) → Type 0
+AddsLined result text old new warnings = OnOk result (AddedLined text (map string_bytes old.items) (map string_bytes new.items) warnings)
+
+-- the warnings of the configuration that a text is, in words: keys that no configuration has and secrets, then what may not be meant,
+-- each once and in its order, after its line, then that others can read the file
+pub record AreWarnings {Z : Type 0} (c : ConfigValue) (text : List ℕ) (is_open : Bool) (all : Vec (String Z) Z) : Type 0 where
   pub unknown : List (List ℕ)
   pub given : List Warning
   pub order : AreThose (IsWarned c) (of_all c) given
-  pub words : map string_bytes all.items ≡ unknown ++ map (warning_text c) given ++ words_of_mode is_open
+  pub words : List (List ℕ)
+  pub lines : AreLined text (map (warning_text c) given) words
+  pub all_is : map string_bytes all.items ≡ unknown ++ words ++ words_of_mode is_open
 
--- behind some bytes, the warnings of a configuration were written, each as a line; and whether there are any
-pub record Warns {W : Type 0} (c : ConfigValue) (is_open : Bool) (path : List ℕ) (contents : W → Option (List ℕ)) (old new : W) (warned : Bool) : Type 0 where
+-- after some bytes, the warnings of a configuration were written, each as a line; and whether there are any
+pub record Warns {W : Type 0} (c : ConfigValue) (text : List ℕ) (is_open : Bool) (path : List ℕ) (contents : W → Option (List ℕ)) (old new : W) (warned : Bool) : Type 0 where
   pub all : Vec (String Global) Global
-  pub warnings : AreWarnings c is_open all
+  pub warnings : AreWarnings c text is_open all
   pub before : List ℕ
   pub written : Appends (contents old) (contents new) (before ++ warning_lines path (map string_bytes all.items))
   pub warned_is : warned ≡ not (length all.items == 0)
 
 -- those of the configuration that a text is
 abbrev pub WarnsOfText : {W : Type 0} → List ℕ → (W → Option (List ℕ)) → W → W → Bool → Type 0
-WarnsOfText path contents old new warned = (text : List ℕ) × (c : ConfigValue) × (is_open : Bool) × (config_of (parse_document text) ≡ Ok c) × Warns c is_open path contents old new warned
+WarnsOfText path contents old new warned = (text : List ℕ) × (c : ConfigValue) × (is_open : Bool) × (config_of (parse_document text) ≡ Ok c) × Warns c text is_open path contents old new warned

@@ -23,8 +23,8 @@ impl Advice {
     pub(crate) const fn words(self) -> &'static str {
         match self {
             Advice::Questions => {
-                "a Map-Server is asked hold, ask ADDRESS, routers, due or counts, and a router records, acks, due or \
-                 counts; an order is for `lispd tell`"
+                "a Map-Server is asked hold, ask ADDRESS, routers, due or counts, and a router records, acks, due, counts or \
+                 disallowed RECORD ..; an order is for `lispd tell`"
             }
             Advice::Orders => {
                 "a Map-Server is told notice ROUTER, a router of its configuration, and a router change RECORD .. or rotate KEY; \

@@ -2,12 +2,12 @@
 
 ghost use Rattle.std.specs.Prelude.{◌≡◌, ℕ, IfErr, OnOk};
 ghost use Rattle.std.specs.Io.KnownBytes.{Appends};
-ghost use Rattle.lispd_cli.specs.Asking.{EndsAtFault, EndsAtRefusal, TellsRefusal, bad_line, behind_word, errand_of, fault_in, first_word, refusal_of, refused_in, third_word};
+ghost use Rattle.lispd_cli.specs.Asking.{EndsAtFault, EndsAtRefusal, TellsRefusal, bad_line, behind_word, disallows, errand_of, fault_in, first_line, first_word, refusal_of, refused_in, third_word};
 ghost use Rattle.lispd_cli.specs.declared.fault.ProgramFault.TheVariants.{Answer, Refused};
 ghost use Rattle.lisp_answer.specs.declared.fault.AnswerFault.TheVariants as answers;
 
 use crate::advice::advice_of;
-use crate::command_line::{FOLDER, PROMETHEUS, QUESTION};
+use crate::command_line::{FOLDER, FORCE, PROMETHEUS, QUESTION};
 use crate::failure::Failure;
 use crate::fault::ProgramFault;
 use crate::printed_line::fault_of;
@@ -31,6 +31,9 @@ const PATIENCE: u64 = 10;
 /// The first words of answers that tell in their first line how many lines follow.
 const LISTS: [&str; 3] = ["hold", "records", "routers"];
 
+/// The number of a record that its site doesn't allow.
+const NOT_ALLOWED: u16 = 55;
+
 /// The number of a router that didn't start.
 const NOT_STARTED: u16 = 76;
 
@@ -43,10 +46,12 @@ pub enum Errand {
     Tell,
 }
 
-/// Asks the node that runs over a folder, or tells it what to do, and prints its answer. Faults: 80 where it is asked an
-/// order, or told a question; 99 where no node answers; those of the line, 80 to 86; what keeps the node from doing what it is told, with
-/// the status 3; 88 where the answer can't be written; 97.
-pub fn ask_node<R: Files + Net + AllocGlobal, W: Write>(
+/// Asks the node that runs over a folder, or tells it what to do, and prints its answer. Before it tells a router to register other
+/// records it asks which of them the router's site doesn't allow; it warns of each on standard error, and doesn't tell it then, but
+/// with `--force`. Faults: 80 where it is asked an order, or told a question; 99 where no node answers; those of the line, 80 to 86;
+/// what keeps the node from doing what it is told, 55 where a record isn't allowed, with the status 3; 88 where the answer can't be
+/// written; 97.
+pub fn ask_node<R: Eprint + Files + Net + AllocGlobal, W: Write>(
     rt: &R,
     errand: Errand,
     words: &ArgMatches<'_>,
@@ -61,7 +66,7 @@ pub fn ask_node<R: Files + Net + AllocGlobal, W: Write>(
     }
 }
 
-fn ask<R: Files + Net + AllocGlobal, W: Write>(
+fn ask<R: Eprint + Files + Net + AllocGlobal, W: Write>(
     rt: &R,
     errand: Errand,
     words: &ArgMatches<'_>,
@@ -72,6 +77,9 @@ fn ask<R: Files + Net + AllocGlobal, W: Write>(
         return Err(bad_line(ScriptWhat::Word.number()));
     }
     let path = String::try_format(rt.alloc(), format_args!("{}/control", word(words, FOLDER)))?;
+    if errand == Errand::Tell && !is_given(words, FORCE) {
+        check_change(rt, path.as_str(), question.as_str())?;
+    }
     let Ok(answer) = answer(rt, path.as_str(), question.as_str()) else {
         return Err(ProgramFault::Unanswered);
     };
@@ -94,6 +102,62 @@ fn details(alloc: Global, errand: Errand, fault: ProgramFault) -> Option<String>
             .ok()
         }
         _ => None,
+    }
+}
+
+// Warns of each record of an order to register other records that the router's site doesn't allow, and refuses the order then. A
+// node that doesn't answer which these are, as an older one, is told all the same.
+fn check_change<R: Eprint + Files + Net + AllocGlobal>(
+    rt: &R,
+    path: &str,
+    order: &str,
+) -> Result<(), ProgramFault> {
+    if first_word(order) != "change" {
+        return Ok(());
+    }
+    let records = behind_word(order);
+    let question = String::try_format(rt.alloc(), format_args!("disallowed {records}"))?;
+    match answer(rt, path, question.as_str()) {
+        Ok(answer) if disallows(answer.as_str()) => {
+            warn_of_records(rt, answer.as_str());
+            Err(ProgramFault::Refused(NOT_ALLOWED))
+        }
+        _ => Ok(()),
+    }
+}
+
+// Warns of each record that isn't allowed.
+fn warn_of_records<R: Eprint>(rt: &R, answer: &str) {
+    for line in answer.split('\n') {
+        if let Some(prefix) = line.strip_prefix("record ") {
+            let _ = eprintln!(rt;
+                "warning: a Map-Server refuses {prefix} ({NOT_ALLOWED}), and with it the whole Map-Register; --force \
+sends it all the same"
+            );
+        }
+    }
+}
+
+// Whether an answer says that some records aren't allowed.
+fn disallows(answer: &str) -> bool
+    ensures { result ≡ disallows answer.now }
+{
+    let head = first_line(answer);
+    if first_word(head) != "disallowed" {
+        return false;
+    }
+    match number_from_text(third_word(head)) {
+        Some(number) => number > 0,
+        None => false,
+    }
+}
+
+fn first_line(answer: &str) -> &str
+    ensures { result.now ≡ first_line answer.now }
+{
+    match answer.split_once('\n') {
+        Some((line, _)) => line,
+        None => answer,
     }
 }
 

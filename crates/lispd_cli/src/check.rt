@@ -2,13 +2,17 @@
 
 ghost use Rattle.std.specs.Prelude.{◌≡◌, map, string_bytes, IfOk};
 ghost use Rattle.lisp_check.specs.Words.{warning_text};
-ghost use Rattle.lispd_cli.specs.Check.{WritesLine, WritesSome, Writes, AddsWords, Warns, WarnsOfText, warning_of, warning_lines, words_of_mode, AreWarnings};
+ghost use Rattle.lispd_cli.specs.Check.{WritesLine, WritesSome, Writes, AddsWords, AddsLined, Warns, WarnsOfText, warning_of, warning_lines, words_of_mode, AreWarnings};
 
 use crate::failure::Failure;
 use crate::fault::ProgramFault;
 use crate::remedy::advice;
 use crate::source::{Source, read_source};
-use lisp_check::{Warning, fault_note, unknown_keys, warning_line, warnings};
+use lisp_check::{
+    Document, Unknown, Warning, entry_line, fault_note, further_faults, key_secrets, lined,
+    read_document, secret_line, secret_place, secret_warnings, unknown_keys, warning_line,
+    warning_place, warnings,
+};
 use lisp_memory::{FallibleString, FallibleVec};
 use lisp_policy::{Site, SitePrefix};
 use lisp_records::{Addr, Database};
@@ -20,11 +24,11 @@ use std::fmt::Display;
 use std::fs::Files;
 use std::io::Write;
 use std::str;
-use toml::Value;
 
 /// Reads the configuration of a file, of standard input where the path is `-`, and prints a line for each site, Map-Server and
-/// router of it, then one for each warning: of keys that aren't known, then of what may not be meant, then that others can read
-/// the file. At a fault of the configuration nothing is printed. Returns whether there are warnings.
+/// router of it, then one for each warning: of keys that aren't known and of secrets, then of what may not be meant, then that others
+/// can read the file. At a fault of the configuration nothing is printed. Returns whether there are warnings. Where a table is ignored,
+/// the failure is `ProgramFault::Warnings` (25), and its details name each.
 pub fn check_config<R: Input + Files + AllocGlobal, W: Write>(
     rt: &R,
     path: &str,
@@ -41,13 +45,68 @@ pub fn check_config<R: Input + Files + AllocGlobal, W: Write>(
         Ok(config) => config,
         Err(placed) => return Err(placed_failure(alloc, text, &placed)),
     };
-    Ok(print_checked(alloc, path, &source, text, &config, writer)?)
+    let document = document_of(alloc, text)?;
+    let unknown = unknown_in(alloc, &document)?;
+    let has_warnings = print_checked(alloc, path, &source, &document, &unknown, &config, writer)?;
+    if let Some(failure) = ignored_failure(alloc, &unknown)? {
+        return Err(failure);
+    }
+    Ok(has_warnings)
 }
 
-// A fault of a configuration, with its place there and what would be right.
+fn document_of(alloc: Global, text: &str) -> Result<Document, InputFault>
+    ensures { IfOk result (λ document. document.text ≡ text.now) }
+{
+    Ok(read_document(alloc, text)?)
+}
+
+fn unknown_in(alloc: Global, document: &Document) -> Result<Vec<Unknown>, InputFault> {
+    Ok(unknown_keys(alloc, document)?)
+}
+
+// The fault of a configuration that has tables which are ignored, with a line for each; `None` where it has none.
+fn ignored_failure(alloc: Global, unknown: &[Unknown]) -> Result<Option<Failure>, InputFault> {
+    let mut details = String::new(alloc);
+    for table in unknown {
+        if table.is_table {
+            put_ignored(&mut details, alloc, table)?;
+        }
+    }
+    if details.is_empty() {
+        return Ok(None);
+    }
+    Ok(Some(Failure {
+        fault: ProgramFault::Warnings,
+        details: Some(details),
+    }))
+}
+
+// Adds the line of a table that is ignored.
+fn put_ignored(details: &mut String, alloc: Global, table: &Unknown) -> Result<(), AllocError> {
+    let words = lined_words(alloc, table)?;
+    put_line(details, format_args!("{words}: nothing in it is read"))
+}
+
+fn put_line<D: Display + Drop>(lines: &mut String, line: D) -> Result<(), AllocError> {
+    if !lines.is_empty() {
+        lines.try_push('\n')?;
+    }
+    lines.try_write(line)
+}
+
+// A key or table that isn't known, after its line.
+fn lined_words(alloc: Global, unknown: &Unknown) -> Result<String, AllocError> {
+    lined(
+        alloc,
+        unknown.line,
+        String::try_from_str(alloc, unknown.words.as_str())?,
+    )
+}
+
+// A fault of a configuration, with its place there and what would be right; then the further ones.
 fn placed_failure(alloc: Global, text: &str, placed: &PlacedFault) -> Failure {
-    let details = match fault_words(alloc, text, placed) {
-        Ok(words) => Some(words),
+    let details = match fault_lines(alloc, text, placed) {
+        Ok(lines) => Some(lines),
         Err(_) => None,
     };
     Failure {
@@ -56,11 +115,21 @@ fn placed_failure(alloc: Global, text: &str, placed: &PlacedFault) -> Failure {
     }
 }
 
+// A line for the fault and for each further one.
+fn fault_lines(alloc: Global, text: &str, placed: &PlacedFault) -> Result<String, AllocError> {
+    let mut lines = fault_words(alloc, text, placed)?;
+    for further in further_faults(alloc, text, placed)? {
+        put_line(&mut lines, fault_words(alloc, text, &further)?)?;
+    }
+    Ok(lines)
+}
+
 fn fault_words(alloc: Global, text: &str, placed: &PlacedFault) -> Result<String, AllocError> {
     let note = fault_note(alloc, text, placed)?;
     let mut words = note.place;
     let fault = placed.fault;
     words.try_write(fault)?;
+    words.try_write(note.value)?;
     match &note.advice {
         Some(advice) => words.try_write(format_args!(": {advice}"))?,
         None => {
@@ -76,13 +145,14 @@ fn print_checked<W: Write>(
     alloc: Global,
     path: &str,
     source: &Source,
-    text: &str,
+    document: &Document,
+    unknown: &[Unknown],
     config: &Config,
     writer: &mut W,
 ) -> Result<bool, InputFault>
-    ensures { IfOk result (Warns config.now source.now.is_open_to_others path.now W.contents writer.old writer.new) }
+    ensures { IfOk result (Warns config.now document.now.text source.now.is_open_to_others path.now W.contents writer.old writer.new) }
 {
-    let lines = warning_words(alloc, source, text, config)?;
+    let lines = warning_words(alloc, source, document, unknown, config)?;
     print_config(alloc, config, writer)?;
     print_warnings(alloc, path, &lines, writer)?;
     Ok(!lines.is_empty())
@@ -111,18 +181,21 @@ fn warning_of(alloc: Global, path: &str, words: &str) -> Result<String, AllocErr
     String::try_format(alloc, format_args!("warning: {path}: {words}"))
 }
 
-// The warnings in words: keys that aren't known, then those of the configuration, then that of its file.
+// The warnings in words, after their lines: keys that aren't known, then secrets, then those of the configuration, then that of
+// its file.
 fn warning_words(
     alloc: Global,
     source: &Source,
-    text: &str,
+    document: &Document,
+    unknown: &[Unknown],
     config: &Config,
 ) -> Result<Vec<String>, AllocError>
-    ensures { IfOk result (AreWarnings config.now source.now.is_open_to_others) }
+    ensures { IfOk result (AreWarnings config.now document.now.text source.now.is_open_to_others) }
 {
-    let mut all = unknown_in(alloc, text)?;
+    let mut all = key_words(alloc, unknown)?;
+    add_secrets(&mut all, alloc, document)?;
     let warnings = warnings(alloc, config)?;
-    add_warnings(&mut all, alloc, config, &warnings)?;
+    add_warnings(&mut all, alloc, document, config, &warnings)?;
     add_mode(&mut all, alloc, source.is_open_to_others)?;
     Ok(all)
 }
@@ -139,26 +212,45 @@ fn add_mode(all: &mut Vec<String>, alloc: Global, is_open: bool) -> Result<(), A
     Ok(())
 }
 
-// A line for each key of a text that isn't known.
-fn unknown_in(alloc: Global, text: &str) -> Result<Vec<String>, AllocError> {
-    match toml::table_from_str(alloc, text) {
-        Ok(table) => unknown_keys(alloc, &Value::Table(table)),
-        Err(_) => Err(AllocError),
+// A line for each key that isn't known.
+fn key_words(alloc: Global, unknown: &[Unknown]) -> Result<Vec<String>, AllocError> {
+    let mut all = Vec::new(alloc);
+    for key in unknown {
+        if !key.is_table {
+            all.try_push(lined_words(alloc, key)?)?;
+        }
     }
+    Ok(all)
+}
+
+// Adds the warnings of secrets in words.
+fn add_secrets(
+    all: &mut Vec<String>,
+    alloc: Global,
+    document: &Document,
+) -> Result<(), AllocError> {
+    let secrets = key_secrets(alloc, document)?;
+    for warning in secret_warnings(alloc, &secrets)? {
+        let line = entry_line(document, secret_place(warning));
+        all.try_push(lined(alloc, line, secret_line(alloc, warning)?)?)?;
+    }
+    Ok(())
 }
 
 // Adds these warnings of a configuration in words.
-#[tactic(auto, using(crate::proofs::Warned::added))]
 fn add_warnings(
     all: &mut Vec<String>,
     alloc: Global,
+    document: &Document,
     config: &Config,
     warnings: &[Warning],
 ) -> Result<(), AllocError>
-    ensures { AddsWords result all.old all.new (map (warning_text config.now) warnings.now) }
+    ensures { AddsLined result document.now.text all.old all.new (map (warning_text config.now) warnings.now) }
 {
     for warning in warnings {
-        all.try_push(warning_line(alloc, config, *warning)?)?;
+        let line = entry_line(document, warning_place(config, *warning));
+        let words = warning_line(alloc, config, *warning)?;
+        all.try_push(lined(alloc, line, words)?)?;
     }
     Ok(())
 }
@@ -224,7 +316,7 @@ fn router_line(alloc: Global, config: &Config, router: &RouterEntry) -> Result<S
     Ok(line)
 }
 
-// A node's name and address, behind what it is.
+// A node's name and address, after what it is.
 fn node_line(alloc: Global, what: &str, name: &Name, address: &Addr) -> Result<String, AllocError> {
     let name = name.as_str();
     let address = addr_to_text(alloc, address)?;
@@ -261,7 +353,7 @@ fn put_flags(line: &mut String, router: &RouterEntry) -> Result<(), AllocError> 
     Ok(())
 }
 
-// A router's records, behind how many parts they are where they are more than one.
+// A router's records, after how many parts they are where they are more than one.
 fn put_database(line: &mut String, alloc: Global, database: &Database) -> Result<(), AllocError> {
     let parts = database.parts();
     if parts > 1 {
@@ -273,7 +365,7 @@ fn put_database(line: &mut String, alloc: Global, database: &Database) -> Result
     Ok(())
 }
 
-// A value, behind what it is.
+// A value, after what it is.
 fn put<D: Display + Drop>(line: &mut String, what: &str, value: D) -> Result<(), AllocError> {
     line.try_write(format_args!(" {what} {value}"))
 }

@@ -28,6 +28,9 @@ pub const FOLDER: &str = "FOLDER";
 /// In the text format of Prometheus.
 pub const PROMETHEUS: &str = "prometheus";
 
+/// Without asking what the router's site allows.
+pub const FORCE: &str = "force";
+
 /// What the node is asked or told.
 pub const QUESTION: &str = "WORD";
 
@@ -69,8 +72,8 @@ struct Subcommand {
     arguments: &'static [Argument],
 }
 
-/// The subcommands, in the order of the help.
-static SUBCOMMANDS: [Subcommand; 10] = [
+/// The subcommands that answer, play and run, in the order of the help. (Two tables, since the prover computes with each as a whole.)
+static RUNNING: [Subcommand; 6] = [
     Subcommand {
         name: "answer",
         about: ANSWER_ABOUT,
@@ -170,6 +173,10 @@ default) to 64; only with --database",
             WORDS_ARGUMENT,
         ],
     },
+];
+
+/// Those that ask a node, tell it something, and look at a configuration or a number; they come after the others.
+static ASKING: [Subcommand; 4] = [
     Subcommand {
         name: "ask",
         about: ASK_ABOUT,
@@ -188,7 +195,15 @@ default) to 64; only with --database",
         name: "tell",
         about: TELL_ABOUT,
         after_help: Some(TELL_FORM),
-        arguments: &[FOLDER_ARGUMENT, QUESTION_ARGUMENT, WORDS_ARGUMENT],
+        arguments: &[
+            FOLDER_ARGUMENT,
+            QUESTION_ARGUMENT,
+            Argument::Switch {
+                name: FORCE,
+                help: "Send `change` also where the router's site doesn't allow a record",
+            },
+            WORDS_ARGUMENT,
+        ],
     },
     Subcommand {
         name: CHECK,
@@ -287,15 +302,22 @@ const WORDS_ARGUMENT: Argument = Argument::Switch {
 pub fn command<'a>(alloc: Global) -> Result<Command<'a>, AllocError> {
     let mut command = Command::new(alloc, "lispd").version("0.1.0").about(ABOUT);
     command = command.arg(WORDS_ARGUMENT.to_arg(alloc))?;
-    for subcommand in subcommands() {
+    for subcommand in subcommands_that_run() {
+        command = command.subcommand(subcommand.to_command(alloc)?)?;
+    }
+    for subcommand in subcommands_that_ask() {
         command = command.subcommand(subcommand.to_command(alloc)?)?;
     }
     Ok(command)
 }
 
-// A function of its own, since `command` would be proved over all that the table holds.
-fn subcommands() -> &'static [Subcommand] {
-    &SUBCOMMANDS
+// Functions of their own, since `command` would be proved over all that the tables hold.
+fn subcommands_that_run() -> &'static [Subcommand] {
+    &RUNNING
+}
+
+fn subcommands_that_ask() -> &'static [Subcommand] {
+    &ASKING
 }
 
 impl Subcommand {

@@ -96,7 +96,7 @@ pub enum ProgramFault {
     /// The node doesn't do what it was told, for a refusal or a fault with this number; nothing was sent, or its answer was printed.
     #[error("the node doesn't do it")]
     Refused(u16),
-    /// The configuration has warnings, and `--strict` was given.
+    /// The configuration has warnings, and `--strict` was given; or it has tables that are ignored.
     #[error("the configuration has warnings, and --strict was given")]
     Warnings,
 }

@@ -106,6 +106,8 @@ pub(crate) const ASK_FORM: &str = "A Map-Server is asked:
 a router:
   records       which records it registers
   acks          what it counted of each Map-Server
+  disallowed RECORD ..
+                which of these records its site doesn't allow: a Map-Server refuses each Map-Register with one of them (55)
   due           to which Map-Server it has a Map-Register to send
 and both:
   counts        how many lines of each kind it printed since its start; and its rows, sites and notices, or its records
@@ -124,7 +126,9 @@ and a router:
   change RECORD ..    to register these records from now on, or `empty`; the configuration stays as it is
   rotate KEY          to go over to another key of its site; the configuration stays as it is
 
-The status is 3 where it doesn't do so; its answer says why.
+The status is 3 where it doesn't do so; its answer says why. Where the router's site doesn't allow a record of `change`, a
+Map-Server would refuse the whole Map-Register: each such record is a warning on standard error, and the router isn't told,
+but with --force.
 
 Example:
   lispd tell nonces/s1 notice r1";
@@ -135,8 +139,9 @@ pub(crate) const CHECK_ABOUT: &str =
 
 /// What warnings are, for its help.
 pub(crate) const CHECK_WARNS: &str =
-    "A line `warning: ..` tells what may not be meant, as an unknown key or a record that no Map-Server takes. At a fault \
-nothing is printed, and standard error names its entry.";
+    "A line `warning: ..` says what may not be meant, as an unknown key, a short secret or a record that no Map-Server takes. At a \
+fault nothing is printed, and standard error names its entry, with its line and its value; then further faults, at most 20. A table \
+that no configuration has is fault 25.";
 
 /// What `explain` does, for its help.
 pub(crate) const EXPLAIN_ABOUT: &str =

@@ -74,7 +74,7 @@ pub fn report<R: Eprint>(
     ExitCode::from(fault.status())
 }
 
-// A fault of a file, a schedule or a node comes with the words that name them.
+// A fault of a file, a schedule or a node comes with the words that name them, before each line of what is known of it.
 fn explain<R: Eprint>(rt: &R, failure: &Failure, words: &[String]) {
     let words = Words(match failure.fault {
         ProgramFault::File
@@ -83,8 +83,11 @@ fn explain<R: Eprint>(rt: &R, failure: &Failure, words: &[String]) {
         | ProgramFault::Warnings => words,
         _ => &[],
     });
-    let _ = match &failure.details {
-        Some(details) => eprintln!(rt; "lispd{words}: {details}"),
-        None => eprintln!(rt; "lispd{words}: {}", InWords(&failure.fault)),
+    let Some(details) = &failure.details else {
+        let _ = eprintln!(rt; "lispd{words}: {}", InWords(&failure.fault));
+        return;
     };
+    for line in details.split('\n') {
+        let _ = eprintln!(rt; "lispd{words}: {line}");
+    }
 }

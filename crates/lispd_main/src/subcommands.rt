@@ -4,7 +4,7 @@ use clap::ArgMatches;
 use lisp_database_store::SystemTable;
 use lisp_files::{Ending, Problem, STANDARD_INPUT, WatchedReader, WatchedWriter};
 use lisp_picture::{Form, draw};
-use lisp_player::play;
+use lisp_player::{Untaken, play_noting};
 use lisp_script::PlayFault;
 use lisp_sqlite::{Task, run_task};
 use lisp_udp::{Storage, Stretch, Subject, run_subject};
@@ -162,7 +162,7 @@ enum Outlet {
     Picture(Form),
 }
 
-fn run_draw<R: Input + Files + AllocGlobal, W: Write>(
+fn run_draw<R: Input + Files + AllocGlobal + Eprint, W: Write>(
     rt: &R,
     words: &ArgMatches<'_>,
     writer: &mut W,
@@ -175,19 +175,35 @@ fn run_draw<R: Input + Files + AllocGlobal, W: Write>(
     run_schedule(rt, words, Outlet::Picture(form), writer)
 }
 
-// Plays the schedule of a file.
-fn run_schedule<R: Input + Files + AllocGlobal, W: Write>(
+// Plays the schedule of a file, and reports the commands that the network didn't take, which lines have.
+fn run_schedule<R: Input + Files + AllocGlobal + Eprint, W: Write>(
     rt: &R,
     words: &ArgMatches<'_>,
     outlet: Outlet,
     writer: &mut W,
 ) -> Result<(), Failure> {
-    let (alloc, path) = (rt.alloc(), word(words, FILE));
+    let mut untaken = Vec::new(rt.alloc());
+    let played = play_path(rt, outlet, word(words, FILE), writer, &mut untaken);
+    for command in &untaken {
+        let Untaken { line, number } = *command;
+        let _ = eprintln!(rt; "lispd: fault {number} line {line}");
+    }
+    played
+}
+
+fn play_path<R: Input + Files + AllocGlobal, W: Write>(
+    rt: &R,
+    outlet: Outlet,
+    path: &str,
+    writer: &mut W,
+    untaken: &mut Vec<Untaken>,
+) -> Result<(), Failure> {
+    let alloc = rt.alloc();
     if path == PATH_OF_INPUT {
-        return play_watched(alloc, outlet, STANDARD_INPUT, rt.reader(), writer);
+        return play_watched(alloc, outlet, STANDARD_INPUT, rt.reader(), writer, untaken);
     }
     match fs::open(rt, path) {
-        Ok(file) => play_file(alloc, outlet, path, file, writer),
+        Ok(file) => play_file(alloc, outlet, path, file, writer, untaken),
         Err(error) => {
             let fault = ProgramFault::File;
             Err(Failure::of_file(alloc, fault, path, Problem::Open(error)))
@@ -201,9 +217,10 @@ fn play_file<R: Read + Drop, W: Write>(
     path: &str,
     file: R,
     writer: &mut W,
+    untaken: &mut Vec<Untaken>,
 ) -> Result<(), Failure> {
     match BufReader::new(alloc, file) {
-        Ok(reader) => play_watched(alloc, outlet, path, reader, writer),
+        Ok(reader) => play_watched(alloc, outlet, path, reader, writer, untaken),
         Err(_) => Err(Failure::from(PlayFault::OutOfMemory)),
     }
 }
@@ -215,23 +232,25 @@ fn play_watched<R: Read + Drop, W: Write>(
     path: &str,
     reader: R,
     writer: &mut W,
+    untaken: &mut Vec<Untaken>,
 ) -> Result<(), Failure> {
     let mut reader = WatchedReader::over(reader);
-    match play_from(alloc, outlet, &mut reader, writer) {
+    match play_from(alloc, outlet, &mut reader, writer, untaken) {
         Ok(()) => Ok(()),
         Err(fault) => Err(Failure::of_input(alloc, fault, path, reader.error())),
     }
 }
 
-// As `play` or `draw`. It promises nothing, so that nothing need be proved of standard input.
+// As `play_noting` or `draw`. It promises nothing, so that nothing need be proved of standard input.
 fn play_from<R: Read, W: Write>(
     alloc: Global,
     outlet: Outlet,
     reader: &mut R,
     writer: &mut W,
+    untaken: &mut Vec<Untaken>,
 ) -> Result<(), ProgramFault> {
     match outlet {
-        Outlet::Lines => play(alloc, alloc, reader, writer)?,
+        Outlet::Lines => play_noting(alloc, alloc, reader, writer, untaken)?,
         Outlet::Picture(form) => draw(alloc, alloc, form, reader, writer)?,
     }
     Ok(())

@@ -1,4 +1,5 @@
-use Rattle.std.proofs.Common.{map}
+use Rattle.std.proofs.Common.{map, ◌∙◌}
+use Rattle.std.proofs.lemmas.List.{length-map}
 use Rattle.std.proofs.lemmas.Result.{err_from_is_err_and}
 use Rattle.lisp_script.specs.Command.{command_value}
 use Rattle.lisp_player.proofs.Beginning.{asked, begun_ends, ended_refuses, played, refuses_so}
@@ -36,3 +37,6 @@ returns-in_err-outcomes-clause-faults g c =
 
 pub returns-clause-each : goal.returns-clause-each
 returns-clause-each g c = rw c.deref.ensures.value at c.in_ok-outcomes.ensures.each
+
+pub returns-clause-numbered : goal.returns-clause-numbered
+returns-clause-numbered g c = c.in_ok-lines.ensures.counts _ c.in_ok-config.ensures.schedule ∙ length-map c.in_ok-config.commands.items command_value

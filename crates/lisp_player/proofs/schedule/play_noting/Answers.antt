@@ -1,7 +1,7 @@
 use Rattle.std.proofs.lemmas.Result.{IfErr-weaker}
 use Rattle.lisp_player.proofs.Taking.{at_ok}
 use Rattle.lisp_player.proofs.Beginning.{of_input}
-use Rattle.lisp_player.proofs.schedule.play.Goals as goal
+use Rattle.lisp_player.proofs.schedule.play_noting.Goals as goal
 
 pub returns-clause-plays : goal.returns-clause-plays
 returns-clause-plays g c = at_ok c.play_input.result _ _ (λ played. of_input _ c.in_ok-input.input.items _ c.in_ok-input.ensures.whole (rw c.deref.ensures.value at played)) c.play_input.ensures.plays

@@ -1,6 +1,6 @@
 use Rattle.std.proofs.Common.{refl, ◌∙◌, append_assoc}
 use Rattle.std.proofs.lemmas.Result.{IfOk-weaker}
-use Rattle.lisp_control.proofs.line.joined.Goals as goal
+use Rattle.lisp_control.proofs.line.named.Goals as goal
 
 pub returns-clause-text : goal.returns-clause-text
 returns-clause-text g c = IfOk-weaker c.try_format.result _ _ (λ text is. is ∙ simp append_assoc refl) c.try_format.ensures.ok

@@ -1,0 +1,58 @@
+-- What is warned of secrets.
+use Rattle.std.specs.Prelude.{◌≡◌, ℕ, ◌+◌, ◌-◌, ◌^◌, nat_lt, ◌==◌, ◌&&◌, min, Bool, List, [], ◌∷◌, ◌++◌, codes, length, Option, Some, None, Result, OnOk, Vec, if◌then◌else◌}
+use Rattle.std.specs.Fmt.{decimal}
+use Rattle.std.specs.List.{find, flat_map}
+use Rattle.std.specs.Str.{bytes_eq}
+use Rattle.lisp_check.specs.Words.{site_words}
+use Rattle.lisp_check.specs.declared.secret.KeyPlace.{KeyPlace}
+use Rattle.lisp_check.specs.declared.secret.SecretWarning.{SecretWarning}
+use Rattle.lisp_check.specs.declared.secret.SecretWarning.TheVariants.{Short, Same}
+
+-- the secret of a key, and where the key stands
+pub record KeySecretValue : Type 0 where
+  pub place : KeyPlace
+  pub secret : List ℕ
+
+-- a secret below 16 bytes, and one like another
+abbrev pub is_short : KeySecretValue → Bool
+is_short s = nat_lt (length s.secret) 16
+
+abbrev pub is_like : KeySecretValue → KeySecretValue → Bool
+is_like s other = bytes_eq other.secret s.secret
+
+abbrev pub is_place : KeyPlace → KeyPlace → Bool
+is_place place other = (other.site == place.site) && (other.key == place.key)
+
+-- the first key with the secret of a key, unless it is that key
+abbrev pub other_place : KeyPlace → Option KeySecretValue → Option KeyPlace
+other_place place (Some first) = if is_place place first.place then None else Some first.place
+other_place place None = None
+
+abbrev pub first_like : List KeySecretValue → KeySecretValue → Option KeyPlace
+first_like secrets s = other_place s.place (find (is_like s) secrets)
+
+-- what is warned of a secret among others, and of all
+abbrev pub short_of : KeySecretValue → List SecretWarning
+short_of s = if is_short s then Short s.place ∷ [] else []
+
+abbrev pub same_of : KeyPlace → Option KeyPlace → List SecretWarning
+same_of place (Some first) = Same first place ∷ []
+same_of place None = []
+
+abbrev pub of_secret : List KeySecretValue → KeySecretValue → List SecretWarning
+of_secret secrets s = short_of s ++ same_of s.place (first_like secrets s)
+
+abbrev pub of_secrets : List KeySecretValue → List SecretWarning
+of_secrets secrets = flat_map (of_secret secrets) secrets
+
+-- these were added, where the call succeeds
+abbrev pub AddsSecret : {T E Z : Type 0} → Result T E → Vec SecretWarning Z → Vec SecretWarning Z → List SecretWarning → Type 0
+AddsSecret result old new those = OnOk result (new.items ≡ old.items ++ those)
+
+-- a key of a site, both counted from 1; and a warning in words
+abbrev pub key_words : KeyPlace → List ℕ
+key_words place = site_words place.site ++ (codes ", key " ++ decimal (min (place.key + 1) (2 ^ 64 - 1)))
+
+abbrev pub secret_text : SecretWarning → List ℕ
+secret_text (Short place) = key_words place ++ codes ": the secret has fewer than 16 bytes: it can be guessed"
+secret_text (Same first place) = key_words place ++ (codes ": the secret is that of " ++ (key_words first ++ codes " too: each key needs its own"))
