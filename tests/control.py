@@ -312,13 +312,93 @@ def clients_that_misbehave(here):
     killed(process)
 
 
+def host_records(place, count, ttl=1440):
+    """Records of so many hosts of 10.1.PLACE.0/24, the first ones."""
+    return [struct.pack("!I", ttl) + bytes.fromhex("00201000000000010a01") + bytes([place, host]) for host in range(count)]
+
+
+def check_list(here, name, rows):
+    """The rows come by parts, and as many as there are; what they are."""
+    status, text, wrongs = ask(here, "s1", "hold")
+    first, *lines, last = text.splitlines()
+    check(name, (status, first, len(lines), last, wrongs), (0, "hold s1 by parts", rows, f"held s1 {rows}", ""))
+    found = [line.split()[2].split("=")[0] for line in lines]
+    check(f"{name}, each once", len(set(found)), rows)
+    return set(found)
+
+
+def a_list_by_parts(here):
+    """As many rows as a part has come at once, in their order; more come by parts, and `routers` and `counts` count them all."""
+    process = up(here, "server", "s1", here.s1)
+    with peer(here.r1) as it:
+        check("its answer", nonce_in(here.answer(it, map_register(1, records=host_records(0, 255)))), 1)
+        check("another answer", nonce_in(here.answer(it, map_register(2, records=host_records(1, 1)))), 2)
+        status, text, wrongs = ask(here, "s1", "hold")
+        lines = text.splitlines()
+        check("256 rows", (status, lines[0], len(lines), wrongs), (0, "hold s1 256", 257, ""))
+        wanted = [f"10.1.0.{host}/32" for host in range(255)] + ["10.1.1.0/32"]
+        check("their order", [line.split()[2].split("=")[0] for line in lines[1:]], wanted)
+        for nonce, rows in ((3, 2), (4, 45)):
+            check("its answer", nonce_in(here.answer(it, map_register(nonce, records=host_records(1, rows)))), nonce)
+            found = check_list(here, f"{255 + rows} rows", 255 + rows)
+            check("which they are", found, {f"10.1.0.{host}/32" for host in range(255)} | {f"10.1.1.{host}/32" for host in range(rows)})
+        check("its row's line", "row r1 10.1.1.44/32=1440" in ask(here, "s1", "hold")[1], True)
+        check("its router", re.sub(r" age \d+", "", ask(here, "s1", "routers")[1]), f"routers s1 1\nrouter r1 from {here.r1} key 1 nonce 4 rows 300\n")
+        found = counts(here, "s1")
+        check("what is counted", (found["rows"], found["sites"]), ("300", "1"))
+        check("withdrawn", nonce_in(here.answer(it, map_register(5, records=host_records(0, 255, ttl=0)))), 5)
+        check("the rows that are left", ask(here, "s1", "hold")[1].startswith("hold s1 45\n"), True)
+        check("their number", (counts(here, "s1")["rows"], " rows 45\n" in ask(here, "s1", "routers")[1]), ("45", True))
+    killed(process)
+
+
+def rows_that_come_meanwhile(here):
+    """A list by parts that is asked for while rows come and are registered again has each row that stays, once."""
+    process = up(here, "server", "s1", here.s1)
+    places, more = 20, 20
+    with peer(here.r1) as it, ThreadPoolExecutor() as pool:
+        for place in range(places):
+            check("its answer", nonce_in(here.answer(it, map_register(place + 1, records=host_records(place, 255)))), place + 1)
+        staying = {f"10.1.{place}.{host}/32" for place in range(places) for host in range(255)}
+        nonce = places
+        while more:
+            asked = pool.submit(ask, here, "s1", "hold")
+            while not asked.done() and more:
+                nonce, more = nonce + 1, more - 1
+                place = places + more if more % 2 else more
+                check("its answer", nonce_in(here.answer(it, map_register(nonce, records=host_records(place, 255)))), nonce)
+            status, text, wrongs = asked.result()
+            first, *lines, last = text.splitlines()
+            found = [line.split()[2].split("=")[0] for line in lines]
+            check("a list", (status, first, last, wrongs), (0, "hold s1 by parts", f"held s1 {len(lines)}", ""))
+            check("each row that stays, once", (staying <= set(found), len(set(found))), (True, len(found)))
+    killed(process)
+
+
+def a_list_that_is_cut(here):
+    """A list by parts without its last line, or with another number of rows, is no answer."""
+    os.mkdir(f"{here.folder}/s1")
+    with socket.socket(socket.AF_UNIX) as node:
+        node.bind(f"{here.folder}/s1/control")
+        node.listen()
+        row = "row r1 10.1.0.0/16=1440+192.0.2.1 key 1 nonce 7 age 5\n"
+        for text, whole in ((f"{row}held s1 1\n", True), ("held s1 0\n", True), (row, False), (f"{row}{row}held s1 1\n", False), ("", False),
+                            (f"{row}held s1 2\n", False), (f"{row}held s1 1\n{row}", False), (f"{row}held s1\n", False)):
+            with ThreadPoolExecutor() as pool:
+                asked = pool.submit(ask, here, "s1", "hold")
+                user, _ = node.accept()
+                with user, user.makefile("rw") as line:
+                    check("the question", line.readline(), "hold\n")
+                    line.write(f"hold s1 by parts\n{text}")
+                check(f"{text!r}", asked.result(), (0, f"hold s1 by parts\n{text}", "") if whole else UNANSWERED)
+
+
 def a_client_that_takes_nothing_of_many_rows(here):
     """It is dropped, and the node goes on beside it; one that takes them gets them all."""
     process = up(here, "server", "s1", here.s1)
     with peer(here.r1) as it:
         for place in range(MANY):
-            records = [bytes.fromhex("000005a000201000000000010a01") + bytes([place, host]) for host in range(255)]
-            check("its answer", nonce_in(here.answer(it, map_register(place + 1, records=records))), place + 1)
+            check("its answer", nonce_in(here.answer(it, map_register(place + 1, records=host_records(place, 255)))), place + 1)
         for nonce in range(MANY + 1, MANY + 4):
             with connected(here) as deaf:
                 deaf.sendall(b"hold\n")
@@ -328,8 +408,7 @@ def a_client_that_takes_nothing_of_many_rows(here):
                 check("it is answered soon", time.monotonic() - begun < PROMPT, True)
                 prompt(here, "takes nothing", PROMPT + 2 * MOST)
     rows = MANY * 255 + 1
-    status, text, wrongs = ask(here, "s1", "hold")
-    check("all rows", (status, text.startswith(f"hold s1 {rows}\n"), text.count("\n"), wrongs), (0, True, rows + 1, ""))
+    check_list(here, "all rows", rows)
     check("its router", f" rows {rows}\n" in ask(here, "s1", "routers")[1], True)
     killed(process)
 
@@ -520,6 +599,7 @@ def a_killed_process_leaves_its_socket(here):
 run_tests([
     *(over(store, test) for store in (FILES, GROUPS) for test in (a_map_server_is_asked, a_map_server_is_told, what_is_counted)),
     who_is_refused_as_replaying, a_router_is_told, records_that_are_not_allowed, an_older_node, a_router_that_is_down, advice, wrong_words,
-    an_answer_that_is_a_fault, a_node_under_its_unit, another_user_is_refused, a_group_asks_under_the_drop_in,
-    a_socket_in_another_folder, a_socket_that_can_not_be_made, a_socket_that_was_removed, a_killed_process_leaves_its_socket,
-], alone=[clients_that_misbehave, a_client_that_takes_nothing_of_many_rows])
+    an_answer_that_is_a_fault, a_list_by_parts, a_list_that_is_cut, a_node_under_its_unit, another_user_is_refused,
+    a_group_asks_under_the_drop_in, a_socket_in_another_folder, a_socket_that_can_not_be_made, a_socket_that_was_removed,
+    a_killed_process_leaves_its_socket,
+], alone=[clients_that_misbehave, rows_that_come_meanwhile, a_client_that_takes_nothing_of_many_rows])

@@ -1,1 +1,3 @@
 mod Counting
+pub mod Walking
+mod Lines

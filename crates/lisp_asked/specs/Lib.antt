@@ -1,2 +1,4 @@
 pub mod Server
 pub mod Router
+pub mod Walk
+pub mod Listing

@@ -78,6 +78,11 @@ abbrev pub site_id_of : Option RouterEntryValue → ℕ
 site_id_of (Some router) = router.me.site
 site_id_of None = 0
 
+-- its Key ID
+abbrev pub key_of : Option RouterEntryValue → ℕ
+key_of (Some router) = router.key_id
+key_of None = 0
+
 -- a warning in words, behind the entry that it is of: by these words of it
 abbrev pub no_unicast_words : List ℕ → List ℕ → List ℕ → List ℕ
 no_unicast_words kind name address = kind ++ (codes " " ++ (name ++ (codes ": address " ++ (address ++ codes " can't be a node's"))))
@@ -87,18 +92,18 @@ same_address_words kind name address first_kind first =
     kind ++ (codes " " ++ (name ++ (codes ": address " ++ (address ++ (codes " is that of "
     ++ (first_kind ++ (codes " " ++ (first ++ codes " too: play refuses both (74)"))))))))
 
-abbrev pub same_identity_words : List ℕ → List ℕ → List ℕ
-same_identity_words name first =
-    codes "router " ++ (name ++ (codes ": site and xtr are those of router " ++ (first ++ codes " too: play refuses both (74)")))
+abbrev pub same_identity_words : List ℕ → List ℕ → List ℕ → List ℕ
+same_identity_words name site first =
+    codes "router " ++ (name ++ (codes ": site " ++ (site ++ (codes " and xtr are those of router " ++ (first ++ codes " too: play refuses both (74)")))))
 
 abbrev pub not_allowed_words : List ℕ → List ℕ → List ℕ → List ℕ
 not_allowed_words name eid site =
     codes "router " ++ (name ++ (codes ": record " ++ (eid ++ (codes " is no prefix of site " ++ (site ++ codes ": a Map-Server refuses the whole Map-Register, all its records (55)")))))
 
-abbrev pub other_family_words : List ℕ → List ℕ → List ℕ → List ℕ
-other_family_words name kind server =
-    codes "router " ++ (name ++ (codes ": address is of another family than that of "
-    ++ (kind ++ (codes " " ++ (server ++ codes ": neither reaches the other (91)")))))
+abbrev pub other_family_words : List ℕ → List ℕ → List ℕ → List ℕ → List ℕ
+other_family_words name address kind server =
+    codes "router " ++ (name ++ (codes ": address " ++ (address ++ (codes " is of another family than that of "
+    ++ (kind ++ (codes " " ++ (server ++ codes ": neither reaches the other (91)")))))))
 
 abbrev pub no_keys_words : List ℕ → List ℕ
 no_keys_words site = site ++ codes ": no keys: no router of it can register"
@@ -112,8 +117,9 @@ same_prefix_words entry eid first = entry ++ (codes ": " ++ (eid ++ (codes " is 
 abbrev pub inside_words : List ℕ → List ℕ → List ℕ → List ℕ
 inside_words entry eid around = entry ++ (codes ": " ++ (eid ++ (codes " lies inside a prefix of " ++ (around ++ codes " that has more_specifics: routers of both can register it"))))
 
-abbrev pub same_key_words : List ℕ → List ℕ → List ℕ
-same_key_words name first = codes "router " ++ (name ++ (codes ": key is that of router " ++ (first ++ codes " too: each can register as the other")))
+abbrev pub same_key_words : List ℕ → List ℕ → List ℕ → List ℕ
+same_key_words name key first =
+    codes "router " ++ (name ++ (codes ": key " ++ (key ++ (codes " is that of router " ++ (first ++ codes " too: each can register as the other")))))
 
 abbrev pub no_servers_words : List ℕ → List ℕ
 no_servers_words name = codes "router " ++ (name ++ codes ": no Map-Servers: it registers nowhere")
@@ -127,7 +133,9 @@ same_address_text c first node =
     same_address_words (kind_words (slice_get c.servers node)) (node_words c node) (addressed c node) (kind_words (slice_get c.servers first)) (node_words c first)
 
 abbrev pub same_identity_text : ConfigValue → ℕ → ℕ → List ℕ
-same_identity_text c first router = same_identity_words (router_words (slice_get c.routers router)) (router_words (slice_get c.routers first))
+same_identity_text c first router =
+    same_identity_words (router_words (slice_get c.routers router)) (site_id_words (site_id_of (slice_get c.routers router)))
+    (router_words (slice_get c.routers first))
 
 abbrev pub not_allowed_text : ConfigValue → ℕ → ℕ → List ℕ
 not_allowed_text c router place =
@@ -135,7 +143,7 @@ not_allowed_text c router place =
 
 abbrev pub other_family_text : ConfigValue → ℕ → ℕ → List ℕ
 other_family_text c router server =
-    other_family_words (router_words (slice_get c.routers router)) (kind_words (slice_get c.servers server)) (node_words c server)
+    other_family_words (router_words (slice_get c.routers router)) (router_address_words (slice_get c.routers router)) (kind_words (slice_get c.servers server)) (node_words c server)
 
 abbrev pub same_prefix_text : ConfigValue → ℕ → ℕ → ℕ → List ℕ
 same_prefix_text c first site place = same_prefix_words (prefix_number_words site place) (site_prefix_words (slice_get c.sites site) place) (site_words first)
@@ -144,7 +152,8 @@ abbrev pub inside_text : ConfigValue → ℕ → ℕ → ℕ → List ℕ
 inside_text c around site place = inside_words (prefix_number_words site place) (site_prefix_words (slice_get c.sites site) place) (site_words around)
 
 abbrev pub same_key_text : ConfigValue → ℕ → ℕ → List ℕ
-same_key_text c first router = same_key_words (router_words (slice_get c.routers router)) (router_words (slice_get c.routers first))
+same_key_text c first router =
+    same_key_words (router_words (slice_get c.routers router)) (decimal (key_of (slice_get c.routers router))) (router_words (slice_get c.routers first))
 
 abbrev pub no_servers_text : ConfigValue → ℕ → List ℕ
 no_servers_text c router = no_servers_words (router_words (slice_get c.routers router))

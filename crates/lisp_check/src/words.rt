@@ -1,7 +1,7 @@
 //! Warnings in words.
 
 ghost use Rattle.std.specs.Prelude.{◌≡◌, slice_get, string_bytes, Some};
-ghost use Rattle.lisp_check.specs.Words.{GivesText, lined, no_keys_words, no_prefixes_words, site_words, prefix_number_words, site_prefix_words, same_prefix_text, inside_text, same_key_text, no_servers_text, site_id_words, kind_words, node_words, router_words, addressed, site_id_of, eid_words, no_unicast_text, same_address_text, same_identity_text, not_allowed_text, other_family_text, warning_text};
+ghost use Rattle.lisp_check.specs.Words.{GivesText, lined, no_keys_words, no_prefixes_words, site_words, prefix_number_words, site_prefix_words, same_prefix_text, inside_text, same_key_text, no_servers_text, site_id_words, key_of, router_address_words, kind_words, node_words, router_words, addressed, site_id_of, eid_words, no_unicast_text, same_address_text, same_identity_text, not_allowed_text, other_family_text, warning_text};
 
 use crate::warning::Warning;
 use lisp_memory::FallibleString;
@@ -221,10 +221,13 @@ fn same_identity(
 {
     let name = router_name(config, router);
     let first = router_name(config, first);
+    let site = SiteId {
+        id: site_of(config, router),
+    };
     String::try_format(
         alloc,
         format_args!(
-            "router {name}: site and xtr are those of router {first} too: play refuses both (74)"
+            "router {name}: site {site} and xtr are those of router {first} too: play refuses both (74)"
         ),
     )
 }
@@ -260,10 +263,11 @@ fn other_family(
 {
     let name = router_name(config, router);
     let (kind, server) = (node_kind(config, server), node_name(config, server));
+    let address = router_address(alloc, config, router)?;
     String::try_format(
         alloc,
         format_args!(
-            "router {name}: address is of another family than that of {kind} {server}: neither reaches the other (91)"
+            "router {name}: address {address} is of another family than that of {kind} {server}: neither reaches the other (91)"
         ),
     )
 }
@@ -278,10 +282,11 @@ fn same_key(
 {
     let name = router_name(config, router);
     let first = router_name(config, first);
+    let key = key_of(config, router);
     String::try_format(
         alloc,
         format_args!(
-            "router {name}: key is that of router {first} too: each can register as the other"
+            "router {name}: key {key} is that of router {first} too: each can register as the other"
         ),
     )
 }
@@ -302,6 +307,15 @@ fn site_of(config: &Config, router: usize) -> u64
 {
     match config.routers().get(router) {
         Some(router) => router.me.site,
+        None => 0,
+    }
+}
+
+fn key_of(config: &Config, router: usize) -> u8
+    ensures { result ≡ key_of (slice_get config.now.routers router) }
+{
+    match config.routers().get(router) {
+        Some(router) => router.key_id,
         None => 0,
     }
 }
@@ -364,10 +378,13 @@ fn node_address(alloc: Global, config: &Config, node: usize) -> Result<String, A
     if let Some(server) = config.servers().get(node) {
         return addr_to_text(alloc, &server.address);
     }
-    match config
-        .routers()
-        .get(node.saturating_sub(config.servers().len()))
-    {
+    router_address(alloc, config, node.saturating_sub(config.servers().len()))
+}
+
+fn router_address(alloc: Global, config: &Config, router: usize) -> Result<String, AllocError>
+    ensures { GivesText result (router_address_words (slice_get config.now.routers router)) }
+{
+    match config.routers().get(router) {
         Some(router) => addr_to_text(alloc, &router.address),
         None => String::try_from_str(alloc, ""),
     }

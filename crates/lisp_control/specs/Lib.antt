@@ -1,3 +1,4 @@
 pub mod Question
 pub mod Disallowed
 pub mod Answer
+pub mod Part

@@ -1,13 +1,15 @@
 //! What a node that runs answers its user.
 
 ghost use Rattle.std.specs.Prelude.{◌≡◌, IfOk, OnErr};
+ghost use Rattle.std.specs.Option.{option_map};
 ghost use Rattle.std.specs.String.{string_bytes};
-ghost use Rattle.lisp_turns.specs.Node.{core_value};
-ghost use Rattle.lisp_control.specs.Answer.{Answers, TellsCounts, TellsRouters, fault_text, gauge, numbered, outcome_text, servers_of};
+ghost use Rattle.lisp_control.specs.Answer.{AnswersRouter, fault_text, gauge, numbered, outcome_text, router_counts, servers_of};
+ghost use Rattle.lisp_control.specs.Part.{told_server};
 
 use crate::disallowed::disallowed_text;
 use crate::question::Question;
-use lisp_asked::{router_answer, server_answer};
+use lisp_asked::router_answer;
+use lisp_etr::Etr;
 use lisp_lines::{DatagramPlace, line_text};
 use lisp_log::Replay;
 use lisp_memory::{FallibleString, Memory};
@@ -15,107 +17,91 @@ use lisp_model::{Line, WorldFault};
 use lisp_script::ScriptWhat;
 use lisp_server::Server;
 use lisp_sites::Config;
-use lisp_statistics::{
-    Figure, Format, Gauge, Statistics, count_replays, count_sites, counts_text, routers_text,
-};
-use lisp_turns::NodeCore;
+use lisp_statistics::{Figure, Format, Gathering, Gauge, Statistics, count_replays, counts_text};
 use std::alloc::{AllocError, Global};
 
-/// The lines that answer a question to the node with a number, by its core at a moment, in ms, what is
-/// counted of it, and the runs of Map-Registers that it refuses as replays: those of a schedule, where it
-/// has some. A router that is down says so; a question for a node of the other kind, and what is an
-/// order, is the fault 80.
-pub fn answer_text(
+/// The lines that answer a question to the router with a number at a moment, in ms, by its core, if it is
+/// up, and by what is counted of it. A router that is down says so; a question for a Map-Server, and what
+/// is an order, is the fault 80.
+pub(crate) fn router_text(
     alloc: Global,
     config: &Config,
     number: usize,
-    core: NodeCore<'_>,
+    core: Option<&Etr>,
     statistics: &Statistics,
-    runs: &[Replay],
     question: &Question,
     now: u64,
 ) -> Result<String, AllocError>
-    ensures told { IfOk result (λ text. Answers config.now number (core_value core.entry) statistics.now runs.now question.now now (string_bytes text)) }
+    ensures told { IfOk result (λ text. AnswersRouter config.now number
+        (option_map (λ etr. etr.now) core.entry) statistics.now question.now now (string_bytes text)) }
     ensures memory { OnErr result ⟦<Global as Memory>⟧.may_refuse }
 {
     match (question, core) {
-        (Question::Server(question), NodeCore::Server(core)) => {
-            server_answer(alloc, config, number, core, *question, now)
-        }
-        (Question::Router(question), NodeCore::Router(Some(core))) => {
+        (Question::Router(question), Some(core)) => {
             let servers = servers_of(config, number);
             router_answer(alloc, config, number, servers, core, *question, now)
         }
-        (Question::Router(_), NodeCore::Router(None)) => {
+        (Question::Router(_), None) => {
             let line = Line::Down { router: number };
             line_text(alloc, config, &line, DatagramPlace::Hidden)
         }
-        (Question::Routers, NodeCore::Server(core)) => {
-            routers(alloc, config, number, core, statistics, runs, now)
-        }
-        (Question::Disallowed(db), NodeCore::Router(_)) => {
-            disallowed_text(alloc, config, number, db.records())
-        }
+        (Question::Disallowed(db), _) => disallowed_text(alloc, config, number, db.records()),
         (Question::Counts(format), core) => {
-            counts(alloc, config, number, core, statistics, runs, *format, now)
+            router_counts(alloc, config, number, core, statistics, *format)
         }
         _ => fault_text(alloc, ScriptWhat::Word),
     }
 }
 
-// Which routers the Map-Server with a number heard, with their rows at a moment, and its runs of replays.
-fn routers(
+// What is counted of the router with a number, and what it has.
+fn router_counts(
+    alloc: Global,
+    config: &Config,
+    number: usize,
+    core: Option<&Etr>,
+    statistics: &Statistics,
+    format: Format,
+) -> Result<String, AllocError>
+    ensures told { IfOk result (λ text. string_bytes text ≡
+        router_counts config.now number (option_map (λ etr. etr.now) core.entry) statistics.now format) }
+    ensures memory { OnErr result ⟦<Global as Memory>⟧.may_refuse }
+{
+    let save = gauge(Figure::LongestSave, statistics.longest_save());
+    match core {
+        Some(core) => {
+            let records = core.database().records().len() as u64;
+            let gauges = [gauge(Figure::Records, records), save];
+            counts_text(alloc, config, number, format, statistics, &gauges)
+        }
+        None => counts_text(alloc, config, number, format, statistics, &[save]),
+    }
+}
+
+/// What is counted of the Map-Server with a number, and what it has at a moment, in ms, by its core, its rows as they
+/// were counted, and the runs of Map-Registers that it refuses as replays.
+pub(crate) fn server_counts(
     alloc: Global,
     config: &Config,
     number: usize,
     core: &Server,
-    statistics: &Statistics,
-    runs: &[Replay],
-    now: u64,
-) -> Result<String, AllocError>
-    ensures told { IfOk result (λ text. TellsRouters config.now number core.now statistics.now runs.now now (string_bytes text)) }
-    ensures memory { OnErr result ⟦<Global as Memory>⟧.may_refuse }
-{
-    let rows = core.held(now)?;
-    routers_text(alloc, config, number, statistics, runs, &rows, now)
-}
-
-// What is counted of the node with a number, and what it has at a moment.
-fn counts(
-    alloc: Global,
-    config: &Config,
-    number: usize,
-    core: NodeCore<'_>,
+    rows: &Gathering,
     statistics: &Statistics,
     runs: &[Replay],
     format: Format,
     now: u64,
 ) -> Result<String, AllocError>
-    ensures told { IfOk result (λ text. TellsCounts config.now number (core_value core.entry) statistics.now runs.now format now (string_bytes text)) }
+    ensures told { IfOk result (λ text. string_bytes text ≡
+        told_server config.now number core.now statistics.now runs.now format now rows.now) }
     ensures memory { OnErr result ⟦<Global as Memory>⟧.may_refuse }
 {
-    let save = gauge(Figure::LongestSave, statistics.longest_save());
-    match core {
-        NodeCore::Server(core) => {
-            let rows = core.held(now)?;
-            let gauges = [
-                gauge(Figure::Rows, rows.len() as u64),
-                gauge(Figure::Sites, count_sites(&rows)),
-                gauge(Figure::StandingNotices, core.count_notices() as u64),
-                gauge(Figure::Replays, count_replays(runs, now)),
-                save,
-            ];
-            counts_text(alloc, config, number, format, statistics, &gauges)
-        }
-        NodeCore::Router(Some(core)) => {
-            let records = core.database().records().len() as u64;
-            let gauges = [gauge(Figure::Records, records), save];
-            counts_text(alloc, config, number, format, statistics, &gauges)
-        }
-        NodeCore::Router(None) => {
-            counts_text(alloc, config, number, format, statistics, &[save])
-        }
-    }
+    let gauges = [
+        gauge(Figure::Rows, rows.rows()),
+        gauge(Figure::Sites, rows.sites()),
+        gauge(Figure::StandingNotices, core.count_notices() as u64),
+        gauge(Figure::Replays, count_replays(runs, now)),
+        gauge(Figure::LongestSave, statistics.longest_save()),
+    ];
+    counts_text(alloc, config, number, format, statistics, &gauges)
 }
 
 fn gauge(figure: Figure, value: u64) -> Gauge

@@ -5,8 +5,10 @@
 mod answer;
 mod disallowed;
 mod line;
+mod part;
 mod question;
 
-pub use answer::{answer_text, fault_text, outcome_text};
+pub use answer::{fault_text, outcome_text};
 pub use line::question_in;
+pub use part::{Part, Progress, answer_part};
 pub use question::Question;

@@ -22,6 +22,13 @@ hold_head server rows = codes "hold " ++ server ++ codes " " ++ decimal rows ++ 
 abbrev pub hold_text : ConfigValue → ℕ → ℕ → List RowValue → List ℕ
 hold_text c server now rows = hold_head (node_name c server) (length rows) ++ flat_map (row_text c now) rows
 
+-- the rows by parts: the line before them; and the one after them, which says how many came
+abbrev pub hold_by_parts : List ℕ → List ℕ
+hold_by_parts server = codes "hold " ++ server ++ codes " by parts\n"
+
+abbrev pub held_line : List ℕ → ℕ → List ℕ
+held_line server rows = codes "held " ++ server ++ codes " " ++ decimal rows ++ 10 ∷ []
+
 -- what a router counted last from a Map-Server
 abbrev pub counted_words : Option (ℕ × ℕ) → List ℕ
 counted_words None = codes " none"

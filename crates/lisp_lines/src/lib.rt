@@ -4,6 +4,7 @@
 mod append;
 mod carried;
 mod datagram_place;
+mod held;
 mod line;
 mod name;
 mod query;
@@ -12,8 +13,9 @@ mod writing;
 
 pub use carried::put_carried;
 pub use datagram_place::DatagramPlace;
+pub use held::{hold_by_parts, put_held};
 pub use line::line_text;
 pub use name::{node_name, router_name};
-pub use query::{ask_text, due_router_text, due_server_text, hold_text, put_acks};
+pub use query::{ask_text, due_router_text, due_server_text, hold_text, put_acks, put_row};
 pub use records::records_text;
 pub use writing::{write_line, write_text};

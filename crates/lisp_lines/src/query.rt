@@ -46,8 +46,8 @@ fn hold_head<A: Memory>(alloc: A, server: &str, rows: usize) -> Result<String<A>
     String::try_format(alloc, format_args!("hold {server} {rows}\n"))
 }
 
-// Appends the line of a row at a moment. Out of memory, it may leave a part of it.
-fn put_row<A: Memory + Copy, E: Allocator, F: Allocator>(
+/// Appends the line of a row at a moment, in ms. Out of memory, it may leave a front of it.
+pub fn put_row<A: Memory + Copy, E: Allocator, F: Allocator>(
     alloc: A,
     text: &mut String<A>,
     config: &Config<E>,

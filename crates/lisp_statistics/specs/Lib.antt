@@ -6,3 +6,4 @@ pub mod Counts
 pub mod Replays
 pub mod Routers
 pub mod Sites
+pub mod Gathering

@@ -49,6 +49,10 @@ counted_text c now counts heard = router_text c now heard.0 heard.1 (rows_in cou
 abbrev pub heard_text : ConfigValue → ℕ → List RowValue → RouterId × Hearing → List ℕ
 heard_text c now rows heard = router_text c now heard.0 heard.1 (rows_of heard.0 rows)
 
+abbrev pub routers_counted_text : ConfigValue → ℕ → ℕ → BTreeMap RouterId ℕ → List (RouterId × Hearing) → List Replay → List ℕ
+routers_counted_text c number now counts heard runs = routers_head (node_name c number) (length heard + length runs)
+    ++ flat_map (counted_text c now counts) heard ++ flat_map (run_text (node_name c number) now) runs
+
 abbrev pub routers_text : ConfigValue → ℕ → ℕ → List RowValue → List (RouterId × Hearing) → List Replay → List ℕ
 routers_text c number now rows heard runs = routers_head (node_name c number) (length heard + length runs)
     ++ flat_map (heard_text c now rows) heard ++ flat_map (run_text (node_name c number) now) runs

@@ -1,13 +1,14 @@
--- Of how many sites rows are that come in the order of their sites: a site begins where the row before is of another one.
-use Rattle.std.specs.Prelude.{ℕ, ◌+◌, ◌==◌, List, [], ◌∷◌, Option, Some, None, if◌then◌else◌}
+-- Of how many sites rows are.
+use Rattle.std.specs.Prelude.{ℕ, ◌+◌, Bool, List, [], ◌∷◌, if◌then◌else◌}
+use Rattle.std.specs.List.{list_any}
+use Rattle.std.specs.Ordering.{eq_by_cmp, nat_cmp}
 use Rattle.lisp_records.specs.Row.{RowValue}
 
--- how many sites begin at a row, behind one of this site: 1, or none where both are of one
-abbrev pub sites_begun : Option ℕ → ℕ → ℕ
-sites_begun None site = 1
-sites_begun (Some last) site = if last == site then 0 else 1
+-- a row is of a site
+abbrev pub has_site : ℕ → List RowValue → Bool
+has_site site rows = list_any (λ h. eq_by_cmp nat_cmp h.router.site site) rows
 
--- how many begin behind a row of this site
-abbrev pub site_count : Option ℕ → List RowValue → ℕ
-site_count last [] = 0
-site_count last (h ∷ more) = sites_begun last h.router.site + site_count (Some h.router.site) more
+-- each site counts once, at the last of its rows
+abbrev pub site_count : List RowValue → ℕ
+site_count [] = 0
+site_count (h ∷ more) = (if has_site h.router.site more then 0 else 1) + site_count more

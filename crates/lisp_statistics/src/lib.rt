@@ -8,8 +8,8 @@ mod kind;
 mod statistics;
 
 // What it is beside: the node as it stands.
+mod gathering;
 mod gauge;
-mod sites;
 
 // The text of both.
 mod counts;
@@ -18,10 +18,10 @@ mod replays;
 mod routers;
 
 pub use counts::{Format, counts_text};
+pub use gathering::Gathering;
 pub use gauge::{Figure, Gauge};
 pub use hearing::Hearing;
 pub use kind::LineKind;
 pub use replays::count_replays;
 pub use routers::routers_text;
-pub use sites::count_sites;
 pub use statistics::Statistics;

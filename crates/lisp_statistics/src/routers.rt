@@ -1,55 +1,60 @@
 //! The text of the routers that a Map-Server heard, or refuses as replaying.
 
-ghost use Rattle.std.specs.Prelude.{◌≡◌, ℕ, List, IfOk, OnOk, OnErr, length};
+ghost use Rattle.std.specs.Prelude.{◌≡◌, List, OnOk, OnErr};
 ghost use Rattle.std.specs.List.{flat_map};
 ghost use Rattle.lisp_lines.specs.Front.{Adds, GivesText};
 ghost use Rattle.lisp_records.specs.Router.{router_cmp};
-ghost use Rattle.lisp_statistics.specs.Routers.{CountsRows, rows_in, AddsRow, routers_text, routers_head, router_text, counted_text, hearing_words};
+ghost use Rattle.lisp_records.specs.Row.{RowValue};
+ghost use Rattle.lisp_statistics.specs.Routers.{CountsRows, rows_in, AddsRow, routers_text, routers_counted_text, routers_head, router_text, counted_text, hearing_words};
 
+use crate::gathering::Gathering;
 use crate::hearing::Hearing;
 use crate::replays::put_replays;
 use crate::statistics::Statistics;
 use lisp_lines::{node_name, router_name};
 use lisp_log::Replay;
 use lisp_memory::{FallibleMap, FallibleString, Memory};
-use lisp_records::{RouterId, Row};
+use lisp_records::RouterId;
 use lisp_sites::Config;
 use lisp_texts::addr_to_text;
 use std::alloc::{AllocError, Allocator};
 use std::collections::BTreeMap;
 
-/// The routers that the Map-Server with a number heard since its start, which holds these rows at a
-/// moment, in ms, and the runs of Map-Registers that it refuses as replays: a line that says how many
-/// lines follow; then one for each router, by Site-ID, then xTR-ID: where its last accepted
-/// Map-Register came from, under which key and nonce, how many ms ago, and how many of the rows are its;
-/// then one for each run: the one by which the Map-Server tells it.
-pub fn routers_text<A: Memory + Copy, B: Memory + Copy, E: Allocator, F: Allocator>(
+/// The routers that the Map-Server with a number heard since its start, whose rows were counted, and the
+/// runs of Map-Registers that it refuses as replays, at a moment, in ms: a line that says how many lines
+/// follow; then one for each router, by Site-ID, then xTR-ID: where its last accepted Map-Register came
+/// from, under which key and nonce, how many ms ago, and how many of the rows are its; then one for each
+/// run: the one by which the Map-Server tells it.
+pub fn routers_text<A: Memory + Copy, B: Memory + Copy, C: Memory + Copy, E: Allocator>(
     alloc: A,
     config: &Config<E>,
     number: usize,
     statistics: &Statistics<B>,
     runs: &[Replay],
-    rows: &[Row<F>],
+    rows: &Gathering<C>,
     now: u64,
 ) -> Result<String<A>, AllocError>
-    ensures text { GivesText result (routers_text config.now number now rows.now statistics.now.heard.entries runs.now) }
+    ensures text { GivesText result (routers_counted_text config.now number now rows.now.routers
+        statistics.now.heard.entries runs.now) }
+    ensures rows { (counted : List RowValue) → CountsRows rows.now.routers counted →
+        GivesText result (routers_text config.now number now counted
+        statistics.now.heard.entries runs.now) }
     ensures memory { OnErr result A.may_refuse }
 {
-    let counts = count_rows(alloc, rows)?;
     let heard = &statistics.heard;
     let name = node_name(config, number);
     let mut text = routers_head(alloc, name, heard.len() + runs.len())?;
-    put_routers(alloc, &mut text, config, &counts, heard, now)?;
+    put_routers(alloc, &mut text, config, &rows.routers, heard, now)?;
     put_replays(alloc, &mut text, name, runs, now)?;
     Ok(text)
 }
 
 // Appends the line of each router, with its rows by these counts. Out of memory, it may leave a part of them.
-fn put_routers<A: Memory + Copy, B: Memory + Copy, E: Allocator>(
+fn put_routers<A: Memory + Copy, B: Memory + Copy, C: Memory + Copy, E: Allocator>(
     alloc: A,
     text: &mut String<A>,
     config: &Config<E>,
-    counts: &BTreeMap<RouterId, u64, A>,
+    counts: &BTreeMap<RouterId, u64, C>,
     heard: &BTreeMap<RouterId, Hearing, B>,
     now: u64,
 ) -> Result<(), AllocError>
@@ -110,23 +115,8 @@ fn put_hearing<A: Memory>(
     text.try_write(format_args!(" key {key} nonce {nonce} age {age}"))
 }
 
-// How many of these rows each router has.
-fn count_rows<A: Memory + Copy, F: Allocator>(
-    alloc: A,
-    rows: &[Row<F>],
-) -> Result<BTreeMap<RouterId, u64, A>, AllocError>
-    ensures counts { IfOk result (λ counts. CountsRows counts rows.now) }
-    ensures memory { OnErr result A.may_refuse }
-{
-    let mut counts = BTreeMap::new(alloc);
-    for row in rows {
-        add_row(&mut counts, &row.router)?;
-    }
-    Ok(counts)
-}
-
-// One more row of a router.
-fn add_row<A: Memory + Copy>(
+/// One more row of a router.
+pub(crate) fn add_row<A: Memory + Copy>(
     counts: &mut BTreeMap<RouterId, u64, A>,
     router: &RouterId,
 ) -> Result<(), AllocError>

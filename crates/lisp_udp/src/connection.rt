@@ -1,6 +1,6 @@
 //! A connection of a user's, for one question: a line, then the lines that answer it, and the end.
 
-use lisp_control::{Question, answer_text, fault_text, outcome_text, question_in};
+use lisp_control::{Part, Progress, Question, answer_part, fault_text, outcome_text, question_in};
 use lisp_log::Replay;
 use lisp_memory::FallibleVec;
 use lisp_model::{Line, WorldFault};
@@ -10,9 +10,10 @@ use lisp_statistics::Statistics;
 use lisp_turns::{NodeCore, Order};
 use std::alloc::{AllocError, Global};
 use std::io::{ErrorKind, Read, Write};
+use std::mem;
 use std::os::unix::net::UnixStream;
 
-/// How long a connection may take for its line, and for each 65,536 bytes of its answer, in ms.
+/// How long a connection may take for its line, and for each part of its answer and each 65,536 bytes of one, in ms.
 pub(crate) const MOST_MS: u64 = 100;
 
 /// How many bytes of its answer it has to take in that time.
@@ -58,27 +59,66 @@ pub(crate) struct Connection {
 enum Stage {
     /// These bytes of its line came.
     Asks(Vec<u8>),
-    /// The question waits for its answer.
-    Asked(Question),
+    /// The next part of its answer is to be made.
+    Asked(Answering),
     /// The node was told the order.
     Told,
-    /// So many bytes of the answer are written.
+    /// So many bytes of a part of the answer are written.
     Answered {
-        /// The answer.
+        /// The part.
         text: String,
         /// How many bytes of it.
         written: usize,
+        /// The parts after it; `None` where it is the last.
+        rest: Option<Answering>,
     },
     /// It ended, or failed.
     Ended,
+}
+
+/// An answer of which not all is made.
+#[derive(Drop)]
+struct Answering {
+    question: Question,
+    progress: Progress,
 }
 
 impl Stage {
     // There is an answer, unless memory for it was refused.
     fn answered(text: Result<String, AllocError>) -> Stage {
         match text {
-            Ok(text) => Stage::Answered { text, written: 0 },
+            Ok(text) => Stage::Answered {
+                text,
+                written: 0,
+                rest: None,
+            },
             Err(_) => Stage::Ended,
+        }
+    }
+
+    // There is a part of the answer to a question, unless memory for it was refused.
+    fn of_part(question: Question, part: Result<Part, AllocError>) -> Stage {
+        let Ok(Part { text, rest }) = part else {
+            return Stage::Ended;
+        };
+        let Some(progress) = rest else {
+            return Stage::answered(Ok(text));
+        };
+        Stage::Answered {
+            text,
+            written: 0,
+            rest: Some(Answering { question, progress }),
+        }
+    }
+
+    // All that there is of an answer is written.
+    fn written(self) -> Stage {
+        let Stage::Answered { rest, .. } = self else {
+            return Stage::Ended;
+        };
+        match rest {
+            Some(answering) => Stage::Asked(answering),
+            None => Stage::Ended,
         }
     }
 }
@@ -126,7 +166,8 @@ impl Connection {
     }
 
     /// Answers by the node's core at a moment, in ms, what is counted of it, and the runs of Map-Registers
-    /// that it refuses as replays, or by what came of the order; and writes what the connection takes.
+    /// that it refuses as replays, or by what came of the order; and writes what the connection takes. Of an
+    /// answer that has several parts it makes one, once what was made before is written.
     pub(crate) fn answer(
         &mut self,
         node: &AskedNode<'_>,
@@ -136,33 +177,42 @@ impl Connection {
         now: u64,
         outcome: Option<Result<Line, WorldFault>>,
     ) {
-        let AskedNode {
-            alloc,
-            config,
-            number,
-            ..
-        } = *node;
-        let text = match (&self.stage, &outcome) {
-            (Stage::Asked(question), _) => {
-                answer_text(alloc, config, number, core, statistics, runs, question, now)
+        match mem::replace(&mut self.stage, Stage::Ended) {
+            Stage::Asked(Answering { question, progress }) => {
+                let part = next_part(node, core, statistics, runs, &question, progress, now);
+                self.stage = Stage::of_part(question, part);
+                self.is_renewed = true;
             }
-            (Stage::Told, Some(outcome)) => outcome_text(alloc, config, outcome),
-            _ => return self.write(),
-        };
-        self.stage = Stage::answered(text);
-        self.is_renewed = true;
+            stage => self.stage = self.outcome(node, stage, outcome),
+        }
         self.write();
+    }
+
+    // What came of the order, where there was one.
+    fn outcome(
+        &mut self,
+        node: &AskedNode<'_>,
+        stage: Stage,
+        outcome: Option<Result<Line, WorldFault>>,
+    ) -> Stage {
+        match (&stage, &outcome) {
+            (Stage::Told, Some(outcome)) => {
+                self.is_renewed = true;
+                Stage::answered(outcome_text(node.alloc, node.config, outcome))
+            }
+            _ => stage,
+        }
     }
 
     // Writes what the connection takes.
     fn write(&mut self) {
-        let Stage::Answered { text, written } = &mut self.stage else {
+        let Stage::Answered { text, written, .. } = &mut self.stage else {
             return;
         };
         for _ in 0..MOST_CALLS {
             let rest = &text.as_bytes()[(*written).min(text.len())..];
             if rest.is_empty() {
-                self.stage = Stage::Ended;
+                self.stage = mem::replace(&mut self.stage, Stage::Ended).written();
                 return;
             }
             match self.stream.write(rest) {
@@ -179,6 +229,27 @@ impl Connection {
             }
         }
     }
+}
+
+// The next part of the answer to a question.
+fn next_part(
+    node: &AskedNode<'_>,
+    core: NodeCore<'_>,
+    statistics: &Statistics,
+    runs: &[Replay],
+    question: &Question,
+    progress: Progress,
+    now: u64,
+) -> Result<Part, AllocError> {
+    let AskedNode {
+        alloc,
+        config,
+        number,
+        ..
+    } = *node;
+    answer_part(
+        alloc, config, number, core, statistics, runs, question, progress, now,
+    )
 }
 
 /// What came of a line.
@@ -218,7 +289,10 @@ fn read_line(stream: &mut UnixStream, line: &mut Vec<u8>) -> Heard {
 fn asked(node: &AskedNode<'_>, bytes: &[u8]) -> (Stage, Option<Order>) {
     match question_of(node, bytes) {
         Ok(Question::Tell(order)) => (Stage::Told, Some(order)),
-        Ok(question) => (Stage::Asked(question), None),
+        Ok(question) => {
+            let progress = Progress::Asked;
+            (Stage::Asked(Answering { question, progress }), None)
+        }
         Err(what) => (Stage::answered(fault_text(node.alloc, what)), None),
     }
 }

@@ -34,9 +34,14 @@ impl<'a> ControlSocket<'a> {
         })
     }
 
+    /// Whether somebody is connected.
+    pub(crate) fn is_connected(&self) -> bool {
+        self.connection.is_some()
+    }
+
     /// Whether somebody is connected, or was so lately that another question may come soon, at a moment in ms.
     pub(crate) fn is_busy(&self, now: u64) -> bool {
-        self.connection.is_some() || now < self.busy_until
+        self.is_connected() || now < self.busy_until
     }
 
     /// What a user tells the node at a moment, in ms, if one does. Waits for nobody. A socket that was removed is bound again.

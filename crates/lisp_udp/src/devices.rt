@@ -11,6 +11,7 @@ ghost use Rattle.lisp_udp.specs.Moments.{moment_of};
 
 use crate::control::ControlSocket;
 use crate::group::Group;
+use crate::pace::Pace;
 use crate::printer::Printer;
 use crate::save_times::SaveTimes;
 use crate::socket::NodeSocket;
@@ -27,7 +28,7 @@ use lisp_turns::{
 use std::alloc::Global;
 use std::net::Net;
 use std::thread;
-use std::time::Duration;
+use std::time::{Duration, Instant};
 
 /// How long a turn of a node waits for a datagram, in ms.
 const RECEIVE_TIMEOUT_MS: u64 = 100;
@@ -45,6 +46,7 @@ pub(crate) struct Devices<'a, R, T, P> {
     group: Option<Group<'a, T>>,
     // None where it couldn't be opened.
     control: Option<ControlSocket<'a>>,
+    pace: Pace,
     stopwatch: Stopwatch,
     statistics: Statistics,
     saves: &'a SaveTimes<'a, R>,
@@ -71,6 +73,7 @@ impl<'a, R: Net + std::time::Clock + AllocGlobal, T: SystemTable, P: Printer + D
             socket: NodeSocket::bind(rt, address, RECEIVE_TIMEOUT_MS)?,
             group,
             control,
+            pace: Pace::start(),
             stopwatch: Stopwatch::start(rt)?,
             statistics: Statistics::start(rt.alloc()),
             saves,
@@ -106,8 +109,10 @@ impl<R: std::time::Clock, T: SystemTable, P: Printer> Endpoint for Devices<'_, R
             None => self.socket.receive(buffer),
             Some(group) => group.receive(&mut self.socket, buffer),
         };
-        if is_busy && received == Received::Nothing {
-            let _ = thread::sleep(self.rt, Duration::from_micros(BUSY_REST_US));
+        if received == Received::Nothing {
+            rest(self.rt, &mut self.pace, is_busy);
+        } else {
+            self.pace.hear(is_busy);
         }
         received
     }
@@ -142,15 +147,26 @@ impl<R: std::time::Clock, T: SystemTable, P: Printer> Commit for Devices<'_, R, 
 
 impl<R: std::time::Clock, T, P: Printer> Control for Devices<'_, R, T, P> {
     fn listen(&mut self) -> Option<Order> {
+        if !self.pace.may_answer() {
+            return None;
+        }
         let now = self.stopwatch.told();
         self.control.as_mut()?.listen(now)
     }
 
     fn answer(&mut self, core: NodeCore<'_>, now: u64, outcome: Option<Result<Line, WorldFault>>) {
         self.statistics.note_save(self.saves.longest());
-        if let Some(control) = &mut self.control {
+        if !self.pace.may_answer() {
+            return;
+        }
+        let Some(control) = &mut self.control else {
+            return;
+        };
+        if control.is_connected() {
+            let begun = Instant::now(self.rt).ok();
             let runs = self.printer.replays();
             control.answer(core, &self.statistics, runs, now, outcome);
+            spend(self.rt, &mut self.pace, begun);
         }
     }
 }
@@ -181,4 +197,26 @@ impl<R, T, P: Printer> Lines for Devices<'_, R, T, P> {
     fn is_cut(&self) -> bool {
         self.printer.is_cut()
     }
+}
+
+// No datagram waits: rests where somebody is connected to the control socket, or was lately; else the node waited for one.
+fn rest<R: std::time::Clock>(rt: &R, pace: &mut Pace, is_busy: bool) {
+    if !is_busy {
+        pace.rest(u64::MAX);
+        return;
+    }
+    let begun = Instant::now(rt).ok();
+    let _ = thread::sleep(rt, Duration::from_micros(BUSY_REST_US));
+    pace.rest(us_since(rt, begun).unwrap_or(BUSY_REST_US));
+}
+
+// The node answered from then on; where the clock can't be read, for no time.
+fn spend<R: std::time::Clock>(rt: &R, pace: &mut Pace, begun: Option<Instant>) {
+    pace.answer(us_since(rt, begun).unwrap_or(0));
+}
+
+// How many us it is since then, where the clock can be read.
+fn us_since<R: std::time::Clock>(rt: &R, begun: Option<Instant>) -> Option<u64> {
+    let passed = begun?.elapsed(rt).ok()?;
+    Some(u64::try_from(passed.as_micros()).unwrap_or(u64::MAX))
 }

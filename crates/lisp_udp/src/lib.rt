@@ -11,6 +11,7 @@ mod devices;
 mod entry;
 mod folder;
 mod group;
+mod pace;
 mod save_times;
 mod socket;
 mod stopwatch;

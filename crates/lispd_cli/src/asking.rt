@@ -31,6 +31,12 @@ const PATIENCE: u64 = 10;
 /// The first words of answers that tell in their first line how many lines follow.
 const LISTS: [&str; 3] = ["hold", "records", "routers"];
 
+/// How the first line of a list ends that comes by parts.
+const BY_PARTS: &str = " by parts";
+
+/// The first word of its last line.
+const CLOSING: &str = "held";
+
 /// The number of a record that its site doesn't allow.
 const NOT_ALLOWED: u16 = 55;
 
@@ -289,17 +295,33 @@ fn fault_in(lines: &str) -> Option<u16>
     }
 }
 
-// Whether no line of an answer is missing, where its first line tells how many follow.
+// Whether no line of an answer is missing, where its first line tells how many follow, or its last one how many came.
 fn is_whole(lines: &str) -> bool {
-    let mut lines = lines.split('\n');
-    let head = lines.next().unwrap_or("");
+    let head = first_line(lines);
     if !LISTS.contains(&first_word(head)) {
         return true;
     }
-    let following = head
-        .rsplit_once(' ')
-        .and_then(|(_, number)| number_from_text(number));
-    following == Some(lines.count() as u64)
+    let following = (lines.split('\n').count() as u64).saturating_sub(1);
+    if head.ends_with(BY_PARTS) {
+        is_closed(lines, following)
+    } else {
+        last_number(head) == Some(following)
+    }
+}
+
+// Whether the last line of a list that comes by parts says how many came before it: all but that line.
+fn is_closed(lines: &str, following: u64) -> bool {
+    match lines.rsplit_once('\n') {
+        Some((_, last)) => first_word(last) == CLOSING
+            && last_number(last) == following.checked_sub(1),
+        None => false,
+    }
+}
+
+// The number at the end of a line.
+fn last_number(line: &str) -> Option<u64> {
+    line.rsplit_once(' ')
+        .and_then(|(_, number)| number_from_text(number))
 }
 
 fn bad_line(number: u16) -> ProgramFault
