@@ -1,0 +1,17 @@
+pub mod Sums
+pub mod Loop
+pub mod ReadLemmas
+pub mod WrittenLemmas
+pub mod ReplyLemmas
+pub mod InnerLemmas
+pub mod Fields
+pub mod EachLaws
+pub mod PartLaws
+pub mod RequestLaws
+pub mod ReplyLaws
+pub mod GivenLaws
+pub mod InnerLaws
+pub mod EncapsulatedLaws
+pub mod SpelledLaws
+pub mod LayoutLemmas
+pub mod FitLaws

@@ -1,0 +1,9 @@
+pub mod Fault
+pub mod Checksum
+pub mod Reading
+pub mod Format
+pub mod Request
+pub mod Reply
+pub mod Encapsulated
+pub mod Meaning
+pub mod Layout

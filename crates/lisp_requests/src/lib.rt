@@ -1,0 +1,22 @@
+//! The messages by which others ask a Map-Server: the Map-Request (RFC 9301 section 5.2), the Map-Reply (sections 5.4
+//! and 5.5) and what stands around an encapsulated Map-Request (section 5.8), read from bytes and written as bytes.
+#![tactic(auto)]
+
+mod address;
+mod checksum;
+mod encapsulated;
+mod fault;
+mod head;
+mod inner;
+pub mod laws;
+mod layout;
+mod reply;
+mod request;
+#[cfg(test)]
+mod samples;
+
+pub use encapsulated::{EncapsulatedRequest, read_encapsulated, write_encapsulated};
+pub use fault::RequestFault;
+pub use layout::{RequestLayout, eid_record_at, itr_rloc_at, request_layout};
+pub use reply::{MapReply, read_reply, write_reply};
+pub use request::{MapRequest, read_request, write_request};
