@@ -575,6 +575,21 @@ def a_log_that_is_moved(here):
     check("nonces in the log", 100 < most < 600, True)
 
 
+def an_empty_database_beside_its_log(here):
+    """No crash leaves one: the node says no, where SQLite would begin an empty database and drop the log."""
+    here.store = DATABASE
+    for count in (5, 1500):
+        process = here.start(*here.words("server", "s1"), stdout=DEVNULL)
+        is_up(here.s1)
+        with peer(here.r1) as it:
+            for nonce in range(1, count + 1):
+                here.answer(it, map_register(nonce))
+        killed(process)
+        os.truncate(f"{here.folder}/s1/{DATABASE_FILE}", 0)
+        check(f"after {count} nonces", ran(*here.words("server", "s1", "--turns", "0")), UNUSABLE)
+        shutil.rmtree(f"{here.folder}/s1")
+
+
 # Files that somebody takes away.
 
 
@@ -682,7 +697,7 @@ run_tests([a_database_tells_of_itself, a_router_s_database, kinds_are_kept_apart
            killed_while_files_are_taken("kill"), killed_while_files_are_taken("tear"), killed_while_older_files_are_taken,
            a_database_that_was_put_back, a_start_that_knows_no_machine, a_log_without_its_database, what_is_no_database,
            what_is_told_of_a_database, a_damaged_page, a_damaged_log,
-           a_log_that_is_moved, *(over(store, a_database_that_is_taken_away) for store in (DATABASE, GROUPS)),
+           a_log_that_is_moved, an_empty_database_beside_its_log, *(over(store, a_database_that_is_taken_away) for store in (DATABASE, GROUPS)),
            *(over(store, a_call_that_fails(call, error)) for store in (DATABASE, GROUPS)
              for call, error in (("sync", errno.EIO), ("write", errno.ENOSPC), ("cut", errno.EIO))),
            *(over(DATABASE, a_router_whose_call_fails(call, error))

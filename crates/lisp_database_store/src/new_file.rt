@@ -35,10 +35,11 @@ const FRONT: &[u8] = &[
 
 /// Puts an empty database at `path`, where no file is there, which tells whose it is: the page is written into a new file, named with
 /// `.new` added, which is synced and then renamed; last the folder is synced. So a crash leaves no database or a whole one, and never a
-/// log without its database. Such a log has nonces, which SQLite would drop: it is an error of the kind `InvalidData`, and stays.
+/// log without its database. Such a log has nonces, which SQLite would drop: it is an error of the kind `InvalidData`, and stays. So is a
+/// file without a whole page, which no crash leaves: SQLite would begin an empty database in it, and drop its log.
 pub(crate) fn place_empty<R: Files + AllocGlobal>(rt: &R, path: &str) -> io::Result<()> {
     if is_file_there(rt, path)? {
-        return Ok(());
+        return refuse_short(rt, path);
     }
     let log = String::try_format(rt.alloc(), format_args!("{path}-wal"))?;
     if is_file_there(rt, log.as_str())? {
@@ -52,6 +53,14 @@ pub(crate) fn place_empty<R: Files + AllocGlobal>(rt: &R, path: &str) -> io::Res
     file.sync_all()?;
     fs::rename(rt, new.as_str(), path)?;
     fs::open(rt, folder_of(path))?.sync_all()
+}
+
+// Refuses a file that has no whole page.
+fn refuse_short<R: Files>(rt: &R, path: &str) -> io::Result<()> {
+    if fs::metadata(rt, path)?.len() < PAGE {
+        return Err(io::Error::from(ErrorKind::InvalidData));
+    }
+    Ok(())
 }
 
 // The folder of a path.
