@@ -1,5 +1,10 @@
 //! What a Map-Server checks before it accepts a Map-Register or sends an unsolicited Map-Notify (notice): site,
 //! key, tag and prefixes, and its nonces against the store (RFC 9301 sections 5.6, 5.7 and 8.2).
+//!
+//! # Decisions
+//!
+//! - What a Map-Server checks is apart from the Map-Server, since most of its wrong bodies are tried here and each costs a
+//!   check of the crate. `lisp_server` passes `Refused` and `NoticeFault` on.
 #![tactic(auto)]
 
 mod checks;

@@ -1,5 +1,20 @@
 //! What may not be meant in a configuration that can be read: warnings, by places in its lists, secrets, and keys that aren't known.
 //! And what a fault of a configuration is about: the entry by its name, its line, and the value.
+//!
+//! # Decisions
+//!
+//! - Lines are found by a walk over the text for headers such as `[[router]]`, since `toml` gives no places of keys. It doesn't
+//!   see headers with blanks or quotes between the brackets, nor entries written inline.
+//! - Where an array has another number of entries than headers no line is given, so that none is wrong.
+//! - Further faults are found by reading the file again without what was at fault. Nodes stop at the first fault, so what they
+//!   read stays proved as it is.
+//! - What may only follow from an earlier fault is left out: once a site or a key was at fault, a router's Site-ID and Key ID
+//!   that nothing has, and once a Map-Server was, a name of one.
+//! - A table that is ignored is a fault, and a key that is ignored a warning: with a table, entries that an operator wrote
+//!   would vanish. Nodes ignore both, so that a file of a later version still starts them.
+//! - A configuration keeps no secret, only what is made of it for tags. So secrets are read in the text again, to warn of those
+//!   that are short or that two keys have.
+//! - Warnings go to standard output, since they are the answer; with `--strict` they are a fault.
 #![tactic(auto)]
 
 mod adding;

@@ -1,5 +1,18 @@
 //! What a user asks of a node that runs, or tells it to do, a line of a script without the node's name; and what the node answers, the
 //! lines of a schedule, or what is counted of it.
+//!
+//! # Decisions
+//!
+//! - `records`, `routers` and `counts` are no words of a schedule: what they say is since a process's start, or stands in the
+//!   schedule's own lines.
+//! - No answer is empty: a list has a line with its number, and `counts` its longest save. So `lispd ask` sees where lines are
+//!   missing.
+//! - `disallowed` is a question of its own that `lispd tell` asks before `change`, which stays the order that a schedule has.
+//!   It is answered by the site alone: whether a Map-Server has another configuration only the operator knows, who has
+//!   `--force`.
+//! - What a node does on an order isn't written into the configuration: that is the operator's file.
+//! - The moment of the question serves all parts of its answer. The text of `routers` is made in one turn, since it grows with
+//!   the routers and not with the rows.
 #![tactic(auto)]
 
 mod answer;

@@ -1,5 +1,14 @@
 //! A Map-Server for a program that keeps its nonces itself: the program loads the last nonce of a datagram's pair, passes
 //! it with the datagram, and saves the nonce of an accepted Map-Register before it sends the answer.
+//!
+//! # Decisions
+//!
+//! - The program keeps the nonces: no function of its own is let in, since no proof could see what it does.
+//! - `pair_needed` finds the pair by the ends of the datagram, and doesn't read each record: `Server::receive` does so anyway.
+//!   Where a pair is needed, it is proved to be that one.
+//! - A save that fails is a restart: the Map-Server already holds the nonce and its rows. Starting again takes no memory, so
+//!   that it can't fail.
+//! - A router has no restart of its own: its start takes memory, which may be refused, so it is started again.
 #![tactic(auto)]
 
 mod host_store;

@@ -1,6 +1,13 @@
 //! Files and streams that programs read and write, and what is told where one fails: which it is, what
 //! was tried, and the system's error. The configuration and the script of a file; why a program on
 //! sockets and files ended.
+//!
+//! # Decisions
+//!
+//! - A number alone says the same of a full disk and a missing folder, so the second line has the path, what was tried and the
+//!   system's error. Of a database it is std's word for the error's kind, since SQLite keeps no more.
+//! - Readers and writers are watched (`WatchedReader`, `WatchedWriter`), so that `play` and `answer` need not pass an error on.
+//!   `RunFault` stays a number and a line, and an `Ending` has the words too.
 #![tactic(auto)]
 
 mod ending;

@@ -1,4 +1,10 @@
 //! The text of each line that an event or a query of a schedule prints, and writing it.
+//!
+//! # Decisions
+//!
+//! - A text that must be exact when memory runs out is appended a character at a time (`put_carried`, `put_acks`): std says
+//!   nothing of what a `write!` that failed leaves.
+//! - Lines don't name part 0, so that those of a router whose database fits one message have no part.
 #![tactic(auto)]
 
 mod append;

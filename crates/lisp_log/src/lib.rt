@@ -1,6 +1,19 @@
 //! What a node that runs without an end writes of itself: its lines, with what one needs at night behind them. Repeats of refusals
 //! are summed, and lines wait in a bounded buffer while they can't be written, so that neither a stranger nor whoever reads the
 //! lines can fill a disk, take memory, or hold the node back.
+//!
+//! # Decisions
+//!
+//! - Refusals are summed by the second of the node's clock, and not from the first of each on. Then one table is enough, which
+//!   is emptied each second.
+//! - Only refusals of datagrams are summed: those of what is due have a pause of their own.
+//! - What was written stays before the bytes that wait until it is as much as they may be. So a reader who takes little at a
+//!   time costs no move of all that waits.
+//! - Once a line was dropped, all are until what waits has been written. So the line `dropped N` stands where they are missing,
+//!   and a slow reader gets few of these.
+//! - Who is refused as replaying is named by source address: the line of a refusal names no router, and a Map-Register that
+//!   somebody repeats is as authentic as the router's own.
+//! - The kinds of errors are std's words (`StorageFull`), and not a table of ours.
 #![tactic(auto)]
 
 // What is told.

@@ -1,5 +1,23 @@
 //! The rows that a Map-Server holds, one for each router and EID-Prefix, and who answers for an address
 //! by them (RFC 9301 sections 8.2 and 8.3).
+//!
+//! # Decisions
+//!
+//! - Who answers is the greatest row by an order, and not the first that a search finds. So the same rows give one answer for
+//!   an address (`laws::one_answer`).
+//! - A look-up tries the prefixes that contain the address one by one, the longest first. Each is found by halving, and then
+//!   the rows of that prefix are looked at, one for each router.
+//! - A table keeps its rows in no order, beside two orders of their numbers: by prefix, then router, and by deadline, then the
+//!   same. So a change moves numbers, and no row but the last, which takes the place of one that is taken out.
+//! - Both orders are queues, so that the shorter side moves. A row that is refreshed mostly goes from the front of the
+//!   deadlines to their end.
+//! - The ends of an order are taken by `pop_front` and `push_back_reserved`. std's `remove` and `insert` move nothing there
+//!   either, but take longer.
+//! - What each refreshed row runs through has the hint `#[inline(always)]`: LLVM left calls, which hand slices over in memory.
+//!   A hint changes no proof.
+//! - `Steps`, by which the looks of a search are counted, has no bytes and is in no program. The ledger is part of the type
+//!   `CountedRows`, so that a search can't use one of its own.
+//! - `Answer` borrows the record from the table, so that an answer takes no memory.
 #![tactic(auto)]
 
 mod answer;

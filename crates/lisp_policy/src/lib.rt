@@ -1,5 +1,10 @@
 //! The sites that a Map-Server serves: their keys, and the prefixes that their routers may register
 //! (RFC 9301 section 8.2); and the definition of a configuration: sites, Map-Servers and routers.
+//!
+//! # Decisions
+//!
+//! - Sites and keys keep the order of the configuration, which contracts show, beside an `Index` of their numbers by which each
+//!   message finds its own. `proofs/Halving.antt` has the lemmas of searches by halving, also for `lisp_server`.
 #![tactic(auto)]
 
 mod index;

@@ -4,6 +4,27 @@
 //!
 //! Each export does what the function of a core or of `lisp_messages` below it does, and says so in its contract. What the
 //! caller has to keep (pointers to so much memory) no contract can say: it stands in the header.
+//!
+//! # Decisions
+//!
+//! - The library is three parts, and messages can be taken alone: they have no state, so nothing is kept for C between calls.
+//! - A handle is a struct with one pointer, null where it holds nothing. So zeros are a handle, a stopped one can be stopped
+//!   again, and no call returns a pointer that might be used after it was freed.
+//! - C sees structs and arrays of numbers, without `bool`, enums and pointers. So whatever C leaves in a field is a value that
+//!   contracts speak of, and nothing has to be freed but the handle.
+//! - There is one struct for all three messages, and it is read and written. So a Map-Notify is written from its Map-Register
+//!   with one number changed.
+//! - Null pointers are answered by inline functions of the header, `lisp_..`, in front of the exports `lisp_registration_..`.
+//!   An export takes references, which are never null: with raw pointers each clause would have to say what memory is at them.
+//! - Reading takes no memory: it gives places in the caller's bytes, and C walks from one to the next. Writing takes some,
+//!   since a writer for a fixed buffer would be all of `lisp_messages` a second time.
+//! - Layouts are stated by the reading functions (`record_at`, `message_at`), so that they can't differ from what `lispd`
+//!   reads.
+//! - A record's fault comes from `lisp_read_record` and is no second result of `lisp_read_message`: who wants to know it walks
+//!   the records.
+//! - Rows are given one by one over the table itself, which takes no memory and no second handle. Their order is the table's,
+//!   so a program walks them at once.
+//! - A secret comes with each call on messages: a key made ready would need a handle. That costs two blocks of SHA-256 a call.
 #![tactic(auto)]
 
 mod address;

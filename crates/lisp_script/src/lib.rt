@@ -1,5 +1,11 @@
 //! Scripts: the events of a schedule and what is asked of its nodes, a line each. And where they are read: an input to its
 //! end, a schedule; why an input can't be taken, or a play or a node ends.
+//!
+//! # Decisions
+//!
+//! - The bound on reads is tested and not proved: contracts see what is left of std's readers, and not how often they were
+//!   asked.
+//! - `WorldFault` stands in `lisp_model`, so that scripts and what the program's words need are read without a network.
 #![tactic(auto)]
 
 mod command;

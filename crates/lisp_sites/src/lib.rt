@@ -1,5 +1,17 @@
 //! The configuration of a network: sites with their keys and prefixes, Map-Servers and site routers,
 //! as an operator writes them. The sites of `lisp_policy` and the texts of `lisp_texts` are passed on.
+//!
+//! # Decisions
+//!
+//! - `Config::from_toml` takes two allocators, since `toml` reads in `Global` alone, and a configuration may lie in any memory.
+//! - What may not be repeated is found in maps and sets of std while it is read (`Nodes`, `Keyed`), which go when the list is
+//!   read. The keys of a site, at most 256, are walked.
+//! - What must differ is compared by value: prefixes with the bits after their mask cleared, digits in either letter case.
+//! - All arrays are read by one loop, `read_each`, entry by entry. So the fault of a first entry is found before a later
+//!   element that is not a table, and the loop adds the entry's number to the fault.
+//! - A fault's field is an enum, `Field`, with its name as text: a clause that names a fault can't hold a borrowed text.
+//! - `Config::from_toml` gives the field of a fault alone, and `Config::read` its place too. Lines and columns are found in the
+//!   text again by `lisp_check`, so that what nodes read stays small.
 #![tactic(auto)]
 
 mod config;

@@ -1,4 +1,9 @@
 //! SQLite's databases in the system's files, for what is written over databases of any kind.
+//!
+//! # Decisions
+//!
+//! - A function with a value of the connection's type, which has hundreds of fields, takes half a minute to prove. So that type
+//!   is named only here, in `run_task`, and what runs on sockets takes the kind of database as a type parameter.
 #![tactic(auto)]
 
 use lisp_database::{SqliteTable, SystemDisk, SystemStore};

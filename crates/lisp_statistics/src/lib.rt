@@ -1,5 +1,13 @@
 //! What is counted of a node that runs, since its start: the lines of each kind that it prints, the routers that it heard, and how long
 //! its longest save took; and the text of this.
+//!
+//! # Decisions
+//!
+//! - A router was heard where a Map-Register of it was accepted: whatever else comes from its address may be anybody's.
+//! - Counts are of the lines that a node prints, before its log leaves out repeats, so that a flood is counted too.
+//! - A kind of line or a router that is new takes memory, and isn't kept where that is refused. Room could be taken at the
+//!   start for kinds, but not for routers, of which there are as many as have a key.
+//! - Prometheus gets the longest save in seconds as `12e-3`: its format takes that, and the ms stay whole numbers.
 #![tactic(auto)]
 
 // What is kept.

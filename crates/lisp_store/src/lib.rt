@@ -1,6 +1,17 @@
 //! Where routers and Map-Servers keep their nonces: stores in the files of a folder (`FileStore`, `Folder`) and in memory; what
 //! another store takes over of these files (`read_nonces`, `put_aside`), and who wrote one last (`Writer`); and for tests a folder in memory (`MemoryFolder`), a store of which a call fails (`Failing`), and one that keeps no promise about
 //! nonces (`Liar`).
+//!
+//! # Decisions
+//!
+//! - A folder that isn't there keeps no nonces, as a file that isn't there does. So a program makes the folder when it starts,
+//!   and that nobody takes it away is part of the premise.
+//! - Out of memory comes only before a file is touched. Each refusal of the file system is `Device`, even where the system
+//!   itself is out of memory, since it may come after something was written.
+//! - A link is `Device` too, even one to a regular file. So a link that leads nowhere isn't taken for a pair without a nonce.
+//! - `FileStore` and `Liar` do nothing where a network loses their store: what is left of files is the disk's affair.
+//! - Who wrote last is known by the ids of the machine and of its boot. Linux counts no boots, so a warning after each boot is
+//!   the price: nothing else at hand distinguishes an old copy from a new one.
 #![tactic(auto)]
 
 mod file;

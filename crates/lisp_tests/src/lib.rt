@@ -2,6 +2,11 @@
 //! (`records`, `messages`), a table of hundreds of rows (`rows`), readers and writers that fail (`playing`),
 //! stores that fail (`stores`), a store in files (`files`), what a client is told (`client`), and a Map-Server that takes turns
 //! (`turns`). This crate has no function of its own.
+//!
+//! # Decisions
+//!
+//! - The tests are one crate, since each crate of tests costs up to a minute of a processor whatever it has. A long test is
+//!   slow to prove, so a test is rows of data, over which one small function loops.
 #![tactic(auto)]
 
 #[cfg(test)]

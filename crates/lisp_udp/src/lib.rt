@@ -1,6 +1,29 @@
 //! Nodes on UDP sockets, and files or databases: a Map-Server or a site router (`run_server`, `run_router`), and a whole network in one
 //! process that a script drives (`run_loop`). Each node has a socket at its address, UDP port 4342 (RFC 9301 section 5),
 //! and keeps its nonces in a folder.
+//!
+//! # Decisions
+//!
+//! - A node runs until it is killed, since the kit sees no signals. Nothing is lost by that: a nonce is synced before its
+//!   message is answered or sent.
+//! - With `--turns` a test reads each line, and all lines are as in a schedule. Without it the node is a service and prints
+//!   through `lisp_log`, so only then come sources, kinds of errors and sums.
+//! - A node that opened its pipe again is its own reader, so it never sees that the others are gone: its lines fill the pipe
+//!   and are dropped. A pipe of another user can't be opened again, and ends the node when its reader goes away: the kit's
+//!   write that raises no signal stands beside its calls for child processes, which no program of ours may reach.
+//! - To ask for room before each write (`epoll`) would leave a race with others that write to the same pipe. So standard output
+//!   doesn't wait.
+//! - A node has one connection at a time, and the others wait in the system's queue. One that doesn't take its answer in time
+//!   is dropped.
+//! - `--control` names a folder and not a socket: who may write the folder may connect. What isn't a socket is never removed,
+//!   since the folder need not be the node's.
+//! - The socket gets the write bits of its folder's mode right after it was made, since the kit has no call for the umask. Who
+//!   connected before is dropped.
+//! - A node whose socket can't be made runs without it, with a warning: a long path is no reason to stop a Map-Server.
+//! - In `loop` the stores obey the disk and not the script: `doubt`, `loadfails` and the value that a restart picks have no
+//!   effect.
+//! - Without `--database` a folder that has `nonces.db` is refused, whatever is in it: even an empty one was meant to be the
+//!   truth.
 #![tactic(auto)]
 
 // What each node has: a place, a folder, and the system's devices.

@@ -2,6 +2,11 @@
 //! digits, is answered as a fresh Map-Server would answer it (`answer`); a schedule is played over a network
 //! (`lisp_player::play`); nodes run on sockets (`run_server`, `run_router`), and so does a whole network (`run_loop`), over any kind
 //! of database, and over SQLite's (`run_task`); a configuration is checked (`check_config`), and a number explained (`explain`).
+//!
+//! # Decisions
+//!
+//! - A crate of this toolchain is a library or a program. `lispd_main` calls the lower crates itself, so that the program
+//!   doesn't wait for this one.
 #![tactic(auto)]
 
 pub use lisp_answer::{AnswerFault, AnswerSetup, answer};

@@ -1,5 +1,11 @@
 //! The program of a first answer: of `lispd` the subcommands `answer`, with its defaults, and `play`. It stands on few crates, so
 //! that it is soon compiled.
+//!
+//! # Decisions
+//!
+//! - `make run` compiles all crates of its program where nothing is proved yet. Without command line library, database and
+//!   pictures that takes a third of the time.
+//! - Commands that the network doesn't take aren't reported here; `lispd play` reports them.
 #![tactic(auto)]
 
 mod fault;

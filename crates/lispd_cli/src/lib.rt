@@ -1,5 +1,17 @@
 //! The words of the program `lispd`: its subcommands with their arguments and help, the options of `answer`, what is reported
 //! of a fault that ends it; the subcommands that need no network, and those that ask a node that runs.
+//!
+//! # Decisions
+//!
+//! - Standard error has exactly the line `lispd: fault N`, for programs. A second line in words follows on a terminal, or with
+//!   `--words`.
+//! - Words of the command line and paths are escaped, so that no name of a file forges a line.
+//! - The fault of an option says which option it is (`BadOption`), so that the program can say what is expected. The number is
+//!   the same for each.
+//! - The conversions into `ProgramFault` are written out and not derived, since a derived `From` promises nothing of its
+//!   result.
+//! - `ask` takes no order, and `tell` no question, so that a word that is mistyped never changes a node.
+//! - `explain` takes a line as it was printed, whatever a log put in front of it.
 #![tactic(auto)]
 
 mod advice;
