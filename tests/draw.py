@@ -1,10 +1,10 @@
 #!/usr/bin/env -S python3 -B
 """draw.py PROGRAM
 
-Draws schedules: those that have their picture beside them, as each of examples/ does; and some that a picture has to bear: 10,000 commands,
-comments with markup and control characters, more nodes than a text has room for. Looks at each picture as a document of XML, and at
-each text for its width. Looks at the pixels of one that rsvg-convert renders, where it is installed. Prints what is wrong, and ends with
-1 where something is."""
+Draws schedules: those that have their picture in the folder `pictures` beside them, as each of examples/ does; and some that a picture has
+to bear: 10,000 commands, comments with markup and control characters, more nodes than a text has room for. Looks at each picture as a
+document of XML, and at each text for its width. Looks at the pixels of one that rsvg-convert renders, where it is installed. Prints what is
+wrong, and ends with 1 where something is."""
 import re
 import shutil
 import struct
@@ -87,13 +87,17 @@ def looks_at_text(name, text):
     return lines
 
 
+def picture_of(schedule):
+    return schedule.parent / "pictures" / f"{schedule.stem}.svg"
+
+
 def pictures_are_those_beside():
     examples = [*(EXAMPLES / "schedules").glob("*.schedule"), *(EXAMPLES / "attacks").glob("*.schedule")]
-    found = sorted([*examples, *(picture.with_suffix(".schedule") for picture in (HERE / "schedules").glob("*/*.svg"))])
+    found = sorted([*examples, *(it for it in (HERE / "schedules").glob("*/*.schedule") if picture_of(it).exists())])
     for schedule in found:
         drawn, _ = looks_at_image(schedule.name, schedule.read_text())
         looks_at_text(schedule.name, schedule.read_text())
-        check(f"the picture of {schedule.name}", drawn == schedule.with_suffix(".svg").read_bytes(), True)
+        check(f"the picture of {schedule.name}", drawn == picture_of(schedule).read_bytes(), True)
     check("some pictures", len(found) > 20, True)
 
 
@@ -102,7 +106,7 @@ def what_a_viewer_shows():
     if not shutil.which("rsvg-convert"):
         print("rsvg-convert isn't here: no picture was rendered")
         return
-    image = (EXAMPLES / "schedules" / "02-replay.svg").read_text()
+    image = picture_of(EXAMPLES / "schedules" / "02-replay.schedule").read_text()
     for name, shown in (("a picture", image), ("one without its style", re.sub(r"(?s)<style>.*</style>", "", image))):
         root = ElementTree.fromstring(shown)
         rendered = subprocess.run(["rsvg-convert"], input=shown.encode(), capture_output=True, timeout=LIMIT, check=True)
