@@ -4,8 +4,9 @@
 # make demo     a Map-Server and two routers on loopback, of which the Map-Server is killed and comes back: some seconds
 # make test     the gate: proves everything from nothing, tries the wrong bodies, runs the tests and the samples. out/test.log has the details
 # make quick    NAME=lisp_server: proves that crate over what is kept of those below, and runs what is stored over the program built last
-# make mutants  tries all wrong bodies, over what the gate kept; NAME=lisp_server those of one crate. docs/MUTANTS.log has the last answers
-# make slips    plants wrong definitions: an example of theirs has to refuse each; NAME=lisp_client those of one list
+# make mutants  tries all wrong bodies, over what the gate kept; NAME=lisp_server those of one crate. mutants/MUTANTS.log has the last answers
+# make slips    prints the table of wrong definitions and plants them: an example of theirs has to refuse each; NAME=lisp_client those of one list
+# make docs     writes what is generated of the documents: docs/CONTRACTS.md, and tables of docs/ARCHITECTURE.md and docs/EMBEDDING.md
 # make fuzz     plays schedules that are drawn: COUNT of them from SEED on, over out/lispd
 # make bench    measures the codec, the tag and registrations, also through the library for C programs; and of out/lispd saves on a disk, the
 #               reading of configurations, plays, and a server
@@ -16,7 +17,7 @@
 # make deb      packs what `make install` installs as a package for Debian, out/lispd_VERSION_ARCHITECTURE.deb, with Debian's tools
 # make believe  counts the definitions that the contracts of `play`, `World::run` and `Server::receive` stand on
 # make clean    removes what was built
-.PHONY: run lispd library demo test quick mutants slips fuzz bench install install-library uninstall dist deb believe clean
+.PHONY: run lispd library demo test quick mutants slips docs fuzz bench install install-library uninstall dist deb believe clean
 # Each proof takes all processors, and two at a time would write the same files.
 .NOTPARALLEL:
 
@@ -39,7 +40,7 @@ test:
 	@! grep -roE 'Rattle\.lisp_memory[.A-Za-z_]*|lisp_memory::(specs|proofs)' crates --include=*.antt --include=*.rt --exclude-dir=lisp_memory --exclude-dir=out | grep -vE ':Rattle\.lisp_memory\.specs\.(Appending|Inserting|Refusal|Room)\.?$$'
 	@! grep -rE '(Starting|Groups)(\.|::)Asked' crates --include=*.antt --include=*.rt --exclude-dir=out | grep -vE '^crates/(lisp_registration/proofs/starting/read|lisp_database_store/proofs/.*/SharedDatabase/commit)/'
 	@! grep -rE 'Witness|unfolding.*MachineMayRefuse' crates --include=*.antt --include=*.rt --exclude-dir=lisp_memory --exclude-dir=out
-	@tools/slips --compare docs/SLIPS.md
+	@tools/docs --check
 	@tools/gate
 
 quick:
@@ -50,6 +51,9 @@ mutants:
 
 slips:
 	@tools/slips $(NAME)
+
+docs:
+	@tools/docs
 
 SEED = 1
 COUNT = 10000
