@@ -1,5 +1,5 @@
 -- What the calls of a router come to, as the turns of a change, a send and a restart want it.
-use Rattle.std.proofs.Common.{◌≡◌, ℕ, ◌+◌, ◌<◌, true, false, true≢false, List, [], ◌++◌, length, get_or, Result, Ok, Err, Option, refl, sym, ap, subst, ◌∙◌}
+use Rattle.std.proofs.Common.{◌≡◌, ℕ, ◌+◌, ◌<◌, Bool, true, false, true≢false, List, [], ◌++◌, length, get_or, Result, Ok, Err, Option, refl, sym, ap, subst, ◌∙◌}
 use Rattle.std.specs.Prelude.{IsSome, slice_set}
 use Rattle.std.proofs.lemmas.List.{append-nil}
 use Rattle.std.proofs.lemmas.Option.{slice_get_read}
@@ -17,6 +17,7 @@ use Rattle.lisp_refinement.specs.World.{DatagramValue, RouterNodeState, RouterCo
 use Rattle.lisp_refinement.specs.Calls.{CoreSends}
 use Rattle.lisp_refinement.specs.Events.{RouterActs, is_up, change_line, NodeSends, SaysSendAnswer, RouterSends}
 use Rattle.lisp_refinement.proofs.Heads.{head_written}
+use Rattle.lisp_nodes.specs.Asked.{said_changed}
 
 -- a network with a bag is itself where that is its bag
 pub same_bag : (w : WorldState) (bag : List DatagramValue) → w.bag ≡ bag → w ≡ record w { bag = bag }
@@ -41,15 +42,13 @@ abbrev pub router_changed : (old : WorldState) (node place : ℕ) (before after 
 router_changed old node place before after number within at =
     acted old _ node place [] before after (number, within) at (ap (λ (bag : List DatagramValue). record old { bag = bag; routers = slice_set old.routers place after }) (sym (append-nil old.bag)))
 
--- the line of a router that is given a database while it is up
-pub line_up : (router : ℕ) (db : List MapRecordValue) (core : RouterCoreState) → is_up core ≡ true → lines.Changed router (length db) ≡ change_line router db core
-line_up router db (Up e) up = refl
-line_up router db (Down config database) up = absurd (true≢false (sym up))
-
--- and of one that is down
-pub line_down : (router : ℕ) (db : List MapRecordValue) (core : RouterCoreState) → is_up core ≡ false → lines.Down router ≡ change_line router db core
-line_down router db (Up e) down = absurd (true≢false down)
-line_down router db (Down config database) down = refl
+-- the line of a router that is given a database
+pub changed_line : (router records : ℕ) (db : List MapRecordValue) (core : RouterCoreState) (up : Bool) → records ≡ length db → up ≡ is_up core
+    → said_changed router records up ≡ change_line router db core
+changed_line router records db (Up e) true is up = ap (lines.Changed router) is
+changed_line router records db (Up e) false is up = absurd (true≢false (sym up))
+changed_line router records db (Down config database) true is up = absurd (true≢false up)
+changed_line router records db (Down config database) false is up = refl
 
 -- a Map-Register that was sent has a head
 pub sent_head : (old new : EtrState) (armed called : StoreState) (place part now : ℕ) (bytes : List ℕ) → CoreSends old new armed called place part now bytes → IsSome (head_at bytes)

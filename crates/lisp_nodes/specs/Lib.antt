@@ -1,3 +1,4 @@
 pub mod Cores
 pub mod Hearing
 pub mod Memory
+pub mod Asked

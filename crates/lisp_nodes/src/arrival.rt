@@ -5,6 +5,7 @@ ghost use Rattle.std.specs.Vec.{vec_len, vec_capacity};
 ghost use Rattle.lisp_records.specs.declared.address.Addr.{Addr};
 ghost use Rattle.lisp_model.specs.Memory.{MayTell};
 ghost use Rattle.lisp_refinement.specs.Events.{server_line, server_number, replies, router_line, acknowledges, datagram_to};
+ghost use Rattle.lisp_nodes.specs.Asked.{datagram_of};
 ghost use Rattle.lisp_nodes.specs.Hearing.{NodesHear, ServerHears, OneRouterHears};
 
 use crate::datagram::{Datagram, post};
@@ -99,6 +100,21 @@ pub fn post_reply<A: Memory>(
     ensures { bag.new.items ≡ bag.old.items ++ datagram_to from to reply }
 {
     if let Some(bytes) = reply {
+        post(bag, Datagram { from, to, bytes });
+    }
+}
+
+/// A message of a node, if it made one, goes to the end of the datagrams that were sent, which have room for it; the others
+/// are left unchanged. Takes no memory.
+pub fn post_to<A: Memory>(
+    bag: &mut Vec<Datagram<A>, A>,
+    from: Addr,
+    message: Option<(Addr, Bytes<A>)>,
+)
+    requires { vec_len bag.old < vec_capacity bag.old }
+    ensures { bag.new.items ≡ bag.old.items ++ datagram_of from message }
+{
+    if let Some((to, bytes)) = message {
         post(bag, Datagram { from, to, bytes });
     }
 }

@@ -8,13 +8,15 @@
 
 mod arming;
 mod arrival;
+mod asked;
 mod datagram;
 mod router_core;
 mod router_node;
 mod server_node;
 mod used_keys;
 
-pub use arrival::{Arrival, hear, post_reply, router_hears, server_hears};
-pub use datagram::{Datagram, post, post_message};
+pub use arrival::{Arrival, hear, post_reply, post_to, router_hears, server_hears};
+pub use asked::{changed, noticed, resent, rotated, sent};
+pub use datagram::Datagram;
 pub use router_node::{RouterNode, Start};
 pub use server_node::ServerNode;

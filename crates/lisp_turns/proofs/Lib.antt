@@ -18,6 +18,7 @@ pub mod DeadRows
 pub mod Calls
 pub mod Reaching
 pub mod Acting
+pub mod Asked
 pub mod Ticking
 pub mod OwnActs
 pub mod Parts

@@ -20,7 +20,7 @@ use Rattle.lisp_refinement.specs.Calls.{CoreAnswersRotate}
 use Rattle.lisp_refinement.specs.Events.{NodeRotates, changed_node, changed_core, change_line}
 use Rattle.lisp_refinement.specs.Stands.{Stands}
 use Rattle.lisp_refinement.specs.Taking.{NetworkTakes}
-use Rattle.lisp_world.specs.Asked.{asked_rotate_line}
+use Rattle.lisp_nodes.specs.Asked.{asked_rotate_line}
 use Rattle.lisp_world.specs.Faults.{IsPlaceWithKey, router_fault}
 use Rattle.lisp_world.proofs.Keys.{rotated}
 use Rattle.lisp_turns.specs.Act.{ActValue, numbered, line_act}

@@ -17,7 +17,7 @@ use Rattle.lisp_nodes.specs.Hearing.{ServerHears, OneRouterHears}
 use Rattle.lisp_refinement.specs.Calls.{NodeNotifies}
 use Rattle.lisp_refinement.specs.Events.{NodeSends, NodeResends, NodeRotates, ChangesNoticesAlone, changed_node, change_line, is_up}
 use Rattle.lisp_refinement.specs.World.{RouterNodeState, is_used}
-use Rattle.lisp_world.specs.Asked.{asked_rotate_line}
+use Rattle.lisp_nodes.specs.Asked.{asked_rotate_line}
 use Rattle.lisp_turns.specs.Act.{ActValue, line_act}
 use Rattle.lisp_turns.specs.Node.{NodeState, Server, Router}
 use Rattle.lisp_turns.specs.Serving.{answer_act, number_of, SendAct, resend_act, NoticeAct}

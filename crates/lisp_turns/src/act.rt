@@ -1,11 +1,11 @@
 //! What a node did of itself, or made of a datagram.
 
 ghost use Rattle.std.specs.Prelude.{◌≡◌, ◌↔◌, IsTrue};
-ghost use Rattle.lisp_turns.specs.Act.{line_act, refused_act};
+ghost use Rattle.lisp_turns.specs.Act.{line_act};
 ghost use Rattle.lisp_turns.specs.Due.{IsRefused};
 ghost use Rattle.lisp_turns.specs.Serving.{answer_act};
 
-use lisp_model::{Line, Refusal};
+use lisp_model::Line;
 use lisp_records::{Addr, Bytes};
 use std::marker::Model;
 
@@ -46,13 +46,6 @@ impl Act {
             line,
             message: None,
         }
-    }
-
-    /// The node with a number refused.
-    pub(crate) fn refused(node: usize, what: Refusal) -> Act
-        ensures { result ≡ refused_act node what }
-    {
-        Act::line(Line::Refused { node, what })
     }
 
     /// Whether the node refused.

@@ -6,14 +6,12 @@ ghost use Rattle.lisp_messages.specs.Head.{head_at};
 ghost use Rattle.lisp_nonces.specs.declared.fate.Fate.TheVariants.{Done};
 ghost use Rattle.lisp_model.specs.Memory.{MayTell};
 ghost use Rattle.lisp_model.specs.declared.event.Event.TheVariants as events;
-ghost use Rattle.lisp_world.specs.Asked.{asked_rotate_line};
 ghost use Rattle.lisp_world.specs.Faults.{refusal_of};
-ghost use Rattle.lisp_turns.specs.Act.{line_act};
 ghost use Rattle.lisp_turns.specs.Acts.{DoesOne};
 ghost use Rattle.lisp_turns.specs.Due.{IsRegisterDue, NothingDue, DoesDuty};
 ghost use Rattle.lisp_turns.specs.Node.{Router as RouterNodeOf, IsPlaced};
 ghost use Rattle.lisp_turns.specs.Order.{rotate_fault};
-ghost use Rattle.lisp_turns.specs.Serving.{SentAct, SendAct};
+ghost use Rattle.lisp_turns.specs.Serving.{SendAct};
 
 use crate::act::Act;
 use crate::node::Node;
@@ -21,11 +19,10 @@ use crate::node_core::NodeCore;
 use crate::order::Order;
 use crate::place::Place;
 use lisp_admission::key_at;
-use lisp_etr::{RotateFault, SendFault};
+use lisp_etr::SendFault;
 use lisp_memory::Memory;
-use lisp_messages::Head;
-use lisp_model::{Line, Refusal, WorldFault};
-use lisp_nodes::{Arrival, RouterNode, router_hears};
+use lisp_model::WorldFault;
+use lisp_nodes::{Arrival, RouterNode, changed, rotated, router_hears, sent};
 use lisp_nonces::{Fate, WorldStore};
 use lisp_records::{Addr, Bytes, Database, Prefix, RouterId};
 use std::alloc::Global;
@@ -121,30 +118,8 @@ fn told(place: &Place, due: Due, answer: Result<Bytes, SendFault>) -> Act
     requires server { due.server < length place.now.config.now.servers }
     ensures { SendAct place.now.config.now place.now.number due.server due.part answer result }
 {
-    match answer {
-        Ok(message) => sent(place, due, message),
-        Err(fault) => Act::refused(place.number, Refusal::Send(fault)),
-    }
-}
-
-// The line of a Map-Register, whose key and nonce stand in it, and its message, to its Map-Server's address.
-fn sent(place: &Place, due: Due, message: Bytes) -> Act
-    requires head { IsSome (head_at message) }
-    requires server { due.server < length place.now.config.now.servers }
-    ensures { SentAct place.now.config.now place.now.number due.server due.part message result }
-{
-    let Head { key_id, nonce } = Head::read(message.as_slice()).unwrap();
-    Act {
-        line: Line::Sent {
-            router: place.number,
-            server: due.server,
-            part: due.part,
-            key: key_id,
-            nonce,
-            datagram: 0,
-        },
-        message: Some((place.address_of_server(due.server), message)),
-    }
+    let (line, message) = sent(place.number, due.server, due.part, 0, Some(answer));
+    Act::answer(line, place.address_of_server(due.server), message)
 }
 
 // Has the router register another database, where it is up.
@@ -154,17 +129,8 @@ fn change<S: WorldStore>(router: &mut RouterNode<S>, place: &Place, db: Database
     ensures tells { MayTell ⟦<Global as Memory>⟧.may_refuse S.may_refuse result.line }
 {
     let records = db.records().len();
-    let line = if router.change(db, now) {
-        Line::Changed {
-            router: place.number,
-            records,
-        }
-    } else {
-        Line::Down {
-            router: place.number,
-        }
-    };
-    Act::line(line)
+    let is_up = router.change(db, now);
+    Act::line(changed(place.number, records, is_up))
 }
 
 // Has the router go over to another key of its site, where it is up. Not to one that it used before its store was lost.
@@ -187,16 +153,5 @@ fn rotate<S: WorldStore>(
         return Err(WorldFault::KeyUsed);
     }
     let answer = router.rotate(key, secret.copy(), Fate::Done, now);
-    Ok(rotated(place.number, key, answer))
-}
-
-// The act of a router with a number that was told to go over to a key.
-fn rotated(router: usize, key: u8, answer: Option<Result<(), RotateFault>>) -> Act
-    ensures { result ≡ line_act (asked_rotate_line router key answer) }
-{
-    match answer {
-        Some(Ok(())) => Act::line(Line::Rotated { router, key }),
-        Some(Err(fault)) => Act::refused(router, Refusal::Rotate(fault)),
-        None => Act::line(Line::Down { router }),
-    }
+    Ok(Act::line(rotated(place.number, key, answer)))
 }

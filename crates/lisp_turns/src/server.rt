@@ -18,9 +18,8 @@ use crate::node_core::NodeCore;
 use crate::order::Order;
 use crate::place::Place;
 use lisp_memory::Memory;
-use lisp_messages::Head;
-use lisp_model::{Line, Refusal, WorldFault};
-use lisp_nodes::{Arrival, ServerNode, server_hears};
+use lisp_model::WorldFault;
+use lisp_nodes::{Arrival, ServerNode, noticed, resent, server_hears};
 use lisp_nonces::{Fate, WorldStore};
 use lisp_records::{Addr, Bytes, Prefix, RouterId};
 use lisp_server::NoticeFault;
@@ -80,24 +79,15 @@ fn resend<S: WorldStore>(
     ensures tells { MayTell ⟦<Global as Memory>⟧.may_refuse S.may_refuse result.line }
 {
     let answer = server.resend(router, now);
-    resent(place.number, place.number_of(router), answer)
+    act_of_resend(place.number, place.number_of(router), answer)
 }
 
 // The act of a Map-Server with a number that was asked for the notice to the router with another one.
-fn resent(server: usize, router: usize, answer: Result<(Addr, Bytes), NoticeFault>) -> Act
+fn act_of_resend(server: usize, router: usize, answer: Result<(Addr, Bytes), NoticeFault>) -> Act
     ensures { result ≡ resend_act server router answer }
 {
-    match answer {
-        Ok(message) => Act {
-            line: Line::Resent {
-                server,
-                router,
-                datagram: 0,
-            },
-            message: Some(message),
-        },
-        Err(fault) => Act::refused(server, Refusal::Notice(fault)),
-    }
+    let (line, message) = resent(server, router, 0, answer);
+    Act { line, message }
 }
 
 // Sends a notice to the router with a number, whose identity is given.
@@ -116,28 +106,14 @@ fn notify<S: WorldStore>(
     ensures tells { MayTell ⟦<Global as Memory>⟧.may_refuse S.may_refuse result.line }
 {
     let answer = server.notify(Fate::Done, me, now);
-    noticed(place.number, router, answer)
+    act_of_notice(place.number, router, answer)
 }
 
 // The act of a Map-Server with a number that was told to send a notice to the router with another one.
-fn noticed(server: usize, router: usize, answer: Result<(Addr, Bytes), NoticeFault>) -> Act
+fn act_of_notice(server: usize, router: usize, answer: Result<(Addr, Bytes), NoticeFault>) -> Act
     requires { IfOk answer (λ sent. IsSome (head_at sent.1)) }
     ensures { NoticeAct server router answer result }
 {
-    match answer {
-        Ok((to, message)) => {
-            let Head { key_id, nonce } = Head::read(message.as_slice()).unwrap();
-            Act {
-                line: Line::Notice {
-                    server,
-                    router,
-                    key: key_id,
-                    nonce,
-                    datagram: 0,
-                },
-                message: Some((to, message)),
-            }
-        }
-        Err(fault) => Act::refused(server, Refusal::Notice(fault)),
-    }
+    let (line, message) = noticed(server, router, 0, answer);
+    Act { line, message }
 }

@@ -15,7 +15,7 @@ use Rattle.lisp_refinement.specs.World.{RouterNodeState, RouterCoreState, Up, Do
 use Rattle.lisp_refinement.specs.Nodes.{router_at}
 use Rattle.lisp_refinement.specs.Calls.{NodeLoses}
 use Rattle.lisp_refinement.specs.Events.{IsKeyOf, NodeRotates, RouterRotates, NetworkRotates, NetworkLoses, RouterActs, is_up, rotate_line, loss_line}
-use Rattle.lisp_world.specs.Asked.{asked_rotate_line}
+use Rattle.lisp_nodes.specs.Asked.{asked_rotate_line}
 use Rattle.lisp_world.proofs.MakingChecks.{neither}
 use Rattle.lisp_world.specs.Faults.{IsRouterPlace, IsPlaceWithKey, RefusesKey, router_fault, router_key_fault, used_before_loss, used_ever}
 

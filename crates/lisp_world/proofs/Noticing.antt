@@ -1,5 +1,5 @@
 -- A Map-Server's notice, made or made again, and what the network says of it.
-use Rattle.std.proofs.Common.{◌≡◌, ℕ, ◌+◌, ◌<◌, List, get_or, ◌++◌, Result, Ok, Err, refl, subst, length}
+use Rattle.std.proofs.Common.{◌≡◌, ℕ, ◌+◌, ◌<◌, List, get_or, [], ◌∷◌, ◌++◌, Option, Result, Ok, Err, refl, ap, ◌∙◌, subst, length}
 use Rattle.std.specs.Prelude.{IfOk, IsSome, slice_set}
 use Rattle.std.proofs.lemmas.Option.{slice_get_read}
 use Rattle.lisp_records.specs.declared.address.Addr.{Addr}
@@ -7,6 +7,9 @@ use Rattle.lisp_records.specs.declared.router.RouterId.{RouterId}
 use Rattle.lisp_nonces.specs.declared.fate.Fate.{Fate}
 use Rattle.lisp_admission.specs.declared.notice_fault.NoticeFault.{NoticeFault}
 use Rattle.lisp_model.specs.declared.line.Line.{Line}
+use Rattle.lisp_model.specs.declared.line.Line.TheVariants as lines
+use Rattle.lisp_nodes.specs.Asked.{SaysNotice, said_resent, datagram_of}
+use Rattle.lisp_world.specs.Asked.{BagGrowsByNotice, BagGrowsByResend}
 use Rattle.lisp_messages.specs.Head.{head_at}
 use Rattle.lisp_nodes.proofs.ServerCalls.{server_acted, notice_head}
 use Rattle.lisp_refinement.specs.Calls.{NodeNotifies}
@@ -53,3 +56,36 @@ module _ (old : WorldState) (server router place : ℕ) (line : Line) (before af
     resends = subst (λ (r : RouterId). NodeResends before after old.clock r answer) is_me resends;
     says = told.2;
   }
+
+-- what a Map-Server made of being asked goes to the end of a bag
+module _ (old new : List DatagramValue) (from : Addr) (server router : ℕ) (said : Line × Option (Addr × List ℕ)) (line : Line)
+    (is : line ≡ said.0) (posted : new ≡ old ++ datagram_of from said.1) where
+  abbrev Said : Type 0
+  Said = Line × Option (Addr × List ℕ)
+
+  grown : (w : WorldState) (message : Said) → said ≡ message → old ≡ w.bag → new ≡ w.bag ++ datagram_of from message.1
+  grown w message says bag = posted ∙ ap (λ (s : Said). old ++ datagram_of from s.1) says ∙ ap (λ (b : List DatagramValue). b ++ datagram_of from message.1) bag
+
+  pub grows_by_notice : (notice : Result (Addr × List ℕ) NoticeFault) → SaysNotice server router (length old) notice said → BagGrowsByNotice old new from server router notice line
+  grows_by_notice (Ok sent) says = λ w bag from_is. (
+      record { from = from; to = sent.0; bytes = sent.1 } ∷ [],
+      grown w _ says.is bag,
+      record {
+        head = says.head;
+        read = says.read;
+        said = is ∙ ap (λ (s : Said). s.0) says.is ∙ ap (λ (b : List DatagramValue). lines.Notice server router says.head.key_id says.head.nonce (length b)) bag;
+        posts = ap (λ (from : Addr). record { from = from; to = sent.0; bytes = sent.1 } ∷ []) from_is;
+      },
+    )
+  grows_by_notice (Err fault) says = λ w bag from_is. ([], grown w _ says bag, (is ∙ ap (λ (s : Said). s.0) says, refl))
+
+  pub grows_by_resend : (notice : Result (Addr × List ℕ) NoticeFault) → said ≡ said_resent server router (length old) notice → BagGrowsByResend old new from server router notice line
+  grows_by_resend (Ok sent) says = λ w bag from_is. (
+      record { from = from; to = sent.0; bytes = sent.1 } ∷ [],
+      grown w _ says bag,
+      (
+        is ∙ ap (λ (s : Said). s.0) says ∙ ap (λ (b : List DatagramValue). lines.Resent server router (length b)) bag,
+        ap (λ (from : Addr). record { from = from; to = sent.0; bytes = sent.1 } ∷ []) from_is,
+      ),
+    )
+  grows_by_resend (Err fault) says = λ w bag from_is. ([], grown w _ says bag, (is ∙ ap (λ (s : Said). s.0) says, refl))

@@ -20,7 +20,8 @@ use Rattle.lisp_model.specs.declared.refusal.Refusal.TheVariants as refusals
 use Rattle.lisp_model.specs.Memory.{MayTell, is_store_memory}
 use Rattle.lisp_refinement.specs.World.{DatagramValue, ServerNodeState, WorldState}
 use Rattle.lisp_refinement.specs.Events.{NodeResends, SaysNoticeAnswer, SaysResendAnswer, loss_line}
-use Rattle.lisp_world.specs.Asked.{SaysAsked, asked_rotate_line}
+use Rattle.lisp_nodes.specs.Asked.{asked_rotate_line}
+use Rattle.lisp_world.specs.Asked.{SaysAsked}
 
 module _ (node_may store_may : Type 0) (node : ℕ) where
   -- of a Map-Register

@@ -1,23 +1,17 @@
 -- What a network says of a node that was asked for a message, and what it sent.
 use Rattle.std.specs.Prelude.{◌≡◌, ℕ, List, [], ◌++◌, Option, Some, None, Result}
 use Rattle.lisp_records.specs.declared.address.Addr.{Addr}
-use Rattle.lisp_etr.specs.declared.rotate_fault.RotateFault.{RotateFault}
 use Rattle.lisp_etr.specs.declared.send_fault.SendFault.{SendFault}
 use Rattle.lisp_admission.specs.declared.notice_fault.NoticeFault.{NoticeFault}
 use Rattle.lisp_model.specs.declared.line.Line.{Line}
 use Rattle.lisp_model.specs.declared.line.Line.TheVariants as lines
 use Rattle.lisp_refinement.specs.World.{DatagramValue, WorldState}
-use Rattle.lisp_refinement.specs.Events.{address_of, rotate_line, SaysSendAnswer, SaysNoticeAnswer, SaysResendAnswer}
+use Rattle.lisp_refinement.specs.Events.{address_of, SaysSendAnswer, SaysNoticeAnswer, SaysResendAnswer}
 
 -- a router's line and what it sent; one that is down answers nothing
 abbrev pub SaysAsked : WorldState → ℕ → ℕ → ℕ → Option (Result (List ℕ) SendFault) → Line → List DatagramValue → Type 0
 SaysAsked old router server part (Some answer) line more = SaysSendAnswer old router server part answer line more
 SaysAsked old router server part None line more = (line ≡ lines.Down router) × (more ≡ [])
-
--- the line of a router that was asked to go over to a key
-abbrev pub asked_rotate_line : ℕ → ℕ → Option (Result (Unit {0}) RotateFault) → Line
-asked_rotate_line router key (Some answer) = rotate_line router key answer
-asked_rotate_line router key None = lines.Down router
 
 -- in each network that has this bag it grew by what a router sent of a part, from its address to a Map-Server's
 abbrev pub BagGrowsBySend : (old new : List DatagramValue) → (from to : Addr) → (router server part : ℕ)

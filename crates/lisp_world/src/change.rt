@@ -6,6 +6,7 @@ ghost use Rattle.lisp_world.specs.Taking.{Takes};
 use crate::world::World;
 use lisp_memory::Memory;
 use lisp_model::{Line, WorldFault};
+use lisp_nodes::changed;
 use lisp_nonces::WorldStore;
 use lisp_records::Database;
 use std::alloc::Allocator;
@@ -23,11 +24,7 @@ impl<S: WorldStore, A: Memory + Copy> World<S, A> {
         let records = db.records().len();
         let copy = db.copy(self.alloc)?;
         let clock = self.clock;
-        let line = if self.routers[place].change(copy, clock) {
-            Line::Changed { router, records }
-        } else {
-            Line::Down { router }
-        };
-        Ok(line)
+        let is_up = self.routers[place].change(copy, clock);
+        Ok(changed(router, records, is_up))
     }
 }

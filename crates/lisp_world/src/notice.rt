@@ -10,8 +10,8 @@ ghost use Rattle.lisp_world.specs.Taking.{Takes};
 use crate::room::with_room;
 use crate::world::World;
 use lisp_memory::Memory;
-use lisp_model::{Line, Refusal, WorldFault};
-use lisp_nodes::{Datagram, post_message};
+use lisp_model::{Line, WorldFault};
+use lisp_nodes::{Datagram, noticed, post_to};
 use lisp_nonces::{Fate, WorldStore};
 use lisp_records::{Addr, Bytes};
 use lisp_server::NoticeFault;
@@ -47,21 +47,7 @@ fn notice_line<A: Memory>(
     requires head { IfOk notice (λ sent. IsSome (head_at sent.1)) }
     ensures { BagGrowsByNotice bag.old.items bag.new.items from server router notice result }
 {
-    match notice {
-        Ok((to, bytes)) => {
-            let datagram = bag.len();
-            let head = post_message(bag, Datagram { from, to, bytes });
-            Line::Notice {
-                server,
-                router,
-                key: head.key_id,
-                nonce: head.nonce,
-                datagram,
-            }
-        }
-        Err(fault) => Line::Refused {
-            node: server,
-            what: Refusal::Notice(fault),
-        },
-    }
+    let (line, message) = noticed(server, router, bag.len(), notice);
+    post_to(bag, from, message);
+    line
 }

@@ -9,8 +9,8 @@ ghost use Rattle.lisp_world.specs.Taking.{Takes};
 use crate::room::with_room;
 use crate::world::World;
 use lisp_memory::Memory;
-use lisp_model::{Line, Refusal, WorldFault};
-use lisp_nodes::{Datagram, post};
+use lisp_model::{Line, WorldFault};
+use lisp_nodes::{Datagram, post_to, resent};
 use lisp_nonces::WorldStore;
 use lisp_records::{Addr, Bytes};
 use lisp_server::NoticeFault;
@@ -40,19 +40,7 @@ fn resend_line<A: Memory>(
     requires { vec_len bag.old < vec_capacity bag.old }
     ensures { BagGrowsByResend bag.old.items bag.new.items from server router notice result }
 {
-    match notice {
-        Ok((to, bytes)) => {
-            let datagram = bag.len();
-            post(bag, Datagram { from, to, bytes });
-            Line::Resent {
-                server,
-                router,
-                datagram,
-            }
-        }
-        Err(fault) => Line::Refused {
-            node: server,
-            what: Refusal::Notice(fault),
-        },
-    }
+    let (line, message) = resent(server, router, bag.len(), notice);
+    post_to(bag, from, message);
+    line
 }

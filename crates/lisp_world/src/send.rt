@@ -11,8 +11,8 @@ use crate::room::with_room;
 use crate::world::World;
 use lisp_etr::SendFault;
 use lisp_memory::Memory;
-use lisp_model::{Line, Refusal, WorldFault};
-use lisp_nodes::{Datagram, post_message};
+use lisp_model::{Line, WorldFault};
+use lisp_nodes::{Datagram, post_reply, sent};
 use lisp_nonces::{Fate, WorldStore};
 use lisp_records::{Addr, Bytes};
 
@@ -51,23 +51,7 @@ fn send_line<A: Memory>(
     requires head { IfSome answer (λ sent. IfOk sent (λ bytes. IsSome (head_at bytes))) }
     ensures { BagGrowsBySend bag.old.items bag.new.items from to router server part answer result }
 {
-    match answer {
-        Some(Ok(bytes)) => {
-            let datagram = bag.len();
-            let head = post_message(bag, Datagram { from, to, bytes });
-            Line::Sent {
-                router,
-                server,
-                part,
-                key: head.key_id,
-                nonce: head.nonce,
-                datagram,
-            }
-        }
-        Some(Err(fault)) => Line::Refused {
-            node: router,
-            what: Refusal::Send(fault),
-        },
-        None => Line::Down { router },
-    }
+    let (line, message) = sent(router, server, part, bag.len(), answer);
+    post_reply(bag, from, to, message);
+    line
 }

@@ -6,12 +6,12 @@ use Rattle.lisp_world.proofs.Noticing.{notice_headed}
 use Rattle.lisp_turns.proofs.ObeyingServer.{notice_does_one}
 use Rattle.lisp_turns.proofs.server.notify.Goals as goal
 
-pub noticed-requires : goal.noticed-requires
-noticed-requires g c = notice_headed c.args.server.now c.notify-answer.new.self Done c.args.me.now c.args.now c.notify-answer.ensures.notifies
+pub act_of_notice-requires : goal.act_of_notice-requires
+act_of_notice-requires g c = notice_headed c.args.server.now c.notify-answer.new.self Done c.args.me.now c.args.now c.notify-answer.ensures.notifies
 
 pub returns-clause-does : goal.returns-clause-does
 returns-clause-does g c =
-    notice_does_one c.args.place.now.config.now c.args.place.now.number c.args.router c.args.now c.args.server.now c.notify-answer.new.self c.notify-answer.result c.noticed.result
+    notice_does_one c.args.place.now.config.now c.args.place.now.number c.args.router c.args.now c.args.server.now c.notify-answer.new.self c.notify-answer.result c.act_of_notice.result
     c.requires.router
     (subst (λ (me : RouterId). NodeNotifies c.args.server.now c.notify-answer.new.self Done me c.args.now c.notify-answer.result) c.requires.me c.notify-answer.ensures.notifies)
-    c.noticed.ensures c.requires.placed
+    c.act_of_notice.ensures c.requires.placed

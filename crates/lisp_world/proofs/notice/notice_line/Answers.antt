@@ -1,23 +1,9 @@
-use Rattle.std.proofs.Common.{ℕ, List, refl, sym, ap, ◌∙◌, length, [], ◌∷◌, ◌++◌}
-use Rattle.std.proofs.lemmas.List.{append-nil}
-use Rattle.lisp_records.specs.declared.address.Addr.{Addr}
-use Rattle.lisp_model.specs.declared.line.Line.TheVariants as lines
-use Rattle.lisp_refinement.specs.World.{DatagramValue}
+use Rattle.std.proofs.Common.{ℕ, refl, subst, ◌∙◌}
+use Rattle.lisp_nodes.specs.Asked.{SaysNotice}
+use Rattle.lisp_world.proofs.Noticing.{grows_by_notice}
 use Rattle.lisp_world.proofs.notice.notice_line.Goals as goal
 
-pub returns-in-Ok : goal.returns-in-Ok
-returns-in-Ok g c = λ w bag from.
-    let head = c.post_message-head.result in
-    let more : List DatagramValue = record { from = c.args.from; to = c.in-Ok.to; bytes = c.in-Ok.bytes } ∷ [] in (
-      more,
-      c.post_message-head.ensures.bag ∙ ap (λ (b : List DatagramValue). b ++ more) bag,
-      rw c.in-Ok.is (record {
-        head = head;
-        read = c.post_message-head.ensures.head;
-        said = ap (λ (k : ℕ). lines.Notice c.args.server c.args.router head.key_id head.nonce k) (c.len-datagram.ensures ∙ c.args.bag.now.ok.0 ∙ ap length bag);
-        posts = ap (λ (from : Addr). record { from = from; to = c.in-Ok.to; bytes = c.in-Ok.bytes } ∷ []) from;
-      }),
-    )
-
-pub returns-in-Err : goal.returns-in-Err
-returns-in-Err g c = λ w bag from. ([], bag ∙ sym (append-nil w.bag), rw c.in-Err.is (refl, refl))
+pub returns : goal.returns
+returns g c = grows_by_notice c.args.bag.now.items c.post_to.new.bag.items c.args.from c.args.server c.args.router c.noticed-line.result c.noticed-line.result.0
+    refl c.post_to.ensures c.args.notice
+    (subst (λ (n : ℕ). SaysNotice c.args.server c.args.router n c.args.notice c.noticed-line.result) (c.len.ensures ∙ c.args.bag.now.ok.0) c.noticed-line.ensures)

@@ -1,9 +1,8 @@
-use Rattle.std.proofs.Common.{◌∙◌, [], append-nil, sym, arith}
+use Rattle.std.proofs.Common.{◌∙◌, [], append-nil, sym, ap, length, arith}
 use Rattle.std.proofs.lemmas.List.{length-set}
-use Rattle.lisp_nodes.proofs.RouterCalls.{acted, same_bag, line_up, line_down}
+use Rattle.lisp_nodes.proofs.RouterCalls.{acted, same_bag, changed_line}
 use Rattle.lisp_world.proofs.Taking.{changes_taken}
 use Rattle.lisp_world.proofs.world.World.change.Goals as goal
-use Rattle.lisp_world.proofs.world.World.change.Goals.{then-change, else-change}
 
 pub returns : goal.returns
 returns g c =
@@ -11,13 +10,11 @@ returns g c =
     let possible = rw (← c.self.view_is) at c.in_ok-place.ensures.fault in
     rw (← c.self.view_is)
     (changes_taken _ _ _ _ c.args.router c.args.db.now _ possible (record {
-      acts = acted _ _ _ c.in_ok-place.place [] c.index_mut.result.now c.change.new.self there c.index_mut.ensures.value (same_bag _ _ (sym (append-nil c.self.inside.bag.items)));
+      acts = acted _ _ _ c.in_ok-place.place [] c.index_mut.result.now c.change-is_up.new.self there c.index_mut.ensures.value (same_bag _ _ (sym (append-nil c.self.inside.bag.items)));
       fits = c.records-records.ensures.fits;
-      changes = rw (← c.in_ok-copy.ensures.equal) c.change.ensures.0;
-      said = elim c.if-change.branch [
-        | then-change w ↦ rw (w.line-is, c.records-records.ensures.value) (line_up c.args.router c.args.db.now c.index_mut.result.now.core (sym c.change.ensures.1 ∙ w.if-change.true))
-        | else-change w ↦ rw w.line-is (line_down c.args.router c.args.db.now c.index_mut.result.now.core (sym c.change.ensures.1 ∙ w.if-change.false))
-      ];
+      changes = rw (← c.in_ok-copy.ensures.equal) c.change-is_up.ensures.0;
+      said = c.changed.ensures
+          ∙ changed_line c.args.router (length c.records-records.result.now) c.args.db.now c.index_mut.result.now.core c.change-is_up.result (ap length c.records-records.ensures.value) c.change-is_up.ensures.1;
     }))
 
 pub index_mut-requires : goal.index_mut-requires
@@ -28,4 +25,4 @@ index_mut-requires g c =
 -- as many routers as before
 pub invariant_of-self : goal.invariant_of-self
 invariant_of-self g c =
-    (c.self.invariant.0, omega (arith, length-set c.self.inside.routers.items c.in_ok-place.place c.change.new.self, c.self.invariant.1))
+    (c.self.invariant.0, omega (arith, length-set c.self.inside.routers.items c.in_ok-place.place c.change-is_up.new.self, c.self.invariant.1))

@@ -24,7 +24,7 @@ returns g c =
     let was_used = used_before_loss c.args.key in
     let unused = used_there w c.args.router c.args.key place secret found c.index.result.now c.index.ensures was_used _ c.used_before_loss.ensures ∙ c.if-used_before_loss.false in
     let e = c.rotate-answer.ensures in
-    rw (← c.self.view_is, c.rotate_line.ensures)
+    rw (← c.self.view_is, c.rotated.ensures)
     (rotates_taken _ _ w _ c.args.router c.args.key c.args.fate _ (no_key_fault w c.args.router c.args.key place secret found was_used unused)
     (rotated w c.args.router c.args.key place secret found c.index_mut.result.now c.index_mut.ensures.value c.rotate-answer.new.self (omega arith) c.args.fate c.rotate-answer.result unused e.up e.down)
     (rotated_tells _ _ c.args.router c.args.key c.rotate-answer.result e.store_memory))
