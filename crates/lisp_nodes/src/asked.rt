@@ -56,12 +56,12 @@ pub fn noticed<A: Allocator>(
 {
     match answer {
         Ok((to, message)) => {
-            let Head { key_id, nonce } = Head::read(message.as_slice()).unwrap();
+            let head = Head::read(message.as_slice()).unwrap();
             let line = Line::Notice {
                 server,
                 router,
-                key: key_id,
-                nonce,
+                key: head.key_id,
+                nonce: head.nonce,
                 datagram,
             };
             (line, Some((to, message)))

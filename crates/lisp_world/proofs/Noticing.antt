@@ -68,24 +68,24 @@ module _ (old new : List DatagramValue) (from : Addr) (server router : ℕ) (sai
 
   pub grows_by_notice : (notice : Result (Addr × List ℕ) NoticeFault) → SaysNotice server router (length old) notice said → BagGrowsByNotice old new from server router notice line
   grows_by_notice (Ok sent) says = λ w bag from_is. (
-      record { from = from; to = sent.0; bytes = sent.1 } ∷ [],
-      grown w _ says.is bag,
-      record {
-        head = says.head;
-        read = says.read;
-        said = is ∙ ap (λ (s : Said). s.0) says.is ∙ ap (λ (b : List DatagramValue). lines.Notice server router says.head.key_id says.head.nonce (length b)) bag;
-        posts = ap (λ (from : Addr). record { from = from; to = sent.0; bytes = sent.1 } ∷ []) from_is;
-      },
-    )
+    record { from = from; to = sent.0; bytes = sent.1 } ∷ [],
+    grown w _ says.is bag,
+    record {
+      head = says.head;
+      read = says.read;
+      said = is ∙ ap (λ (s : Said). s.0) says.is ∙ ap (λ (b : List DatagramValue). lines.Notice server router says.head.key_id says.head.nonce (length b)) bag;
+      posts = ap (λ (from : Addr). record { from = from; to = sent.0; bytes = sent.1 } ∷ []) from_is;
+    },
+  )
   grows_by_notice (Err fault) says = λ w bag from_is. ([], grown w _ says bag, (is ∙ ap (λ (s : Said). s.0) says, refl))
 
   pub grows_by_resend : (notice : Result (Addr × List ℕ) NoticeFault) → said ≡ said_resent server router (length old) notice → BagGrowsByResend old new from server router notice line
   grows_by_resend (Ok sent) says = λ w bag from_is. (
-      record { from = from; to = sent.0; bytes = sent.1 } ∷ [],
-      grown w _ says bag,
-      (
-        is ∙ ap (λ (s : Said). s.0) says ∙ ap (λ (b : List DatagramValue). lines.Resent server router (length b)) bag,
-        ap (λ (from : Addr). record { from = from; to = sent.0; bytes = sent.1 } ∷ []) from_is,
-      ),
-    )
+    record { from = from; to = sent.0; bytes = sent.1 } ∷ [],
+    grown w _ says bag,
+    (
+      is ∙ ap (λ (s : Said). s.0) says ∙ ap (λ (b : List DatagramValue). lines.Resent server router (length b)) bag,
+      ap (λ (from : Addr). record { from = from; to = sent.0; bytes = sent.1 } ∷ []) from_is,
+    ),
+  )
   grows_by_resend (Err fault) says = λ w bag from_is. ([], grown w _ says bag, (is ∙ ap (λ (s : Said). s.0) says, refl))

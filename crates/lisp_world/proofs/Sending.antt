@@ -56,12 +56,12 @@ module _ (old new : List DatagramValue) (from to : Addr) (router server part : �
         },
       )
   grows_by_send (Some (Err fault)) says = λ w bag from_is to_is. (
-      [],
-      posted ∙ ap (λ (s : Line × Option (List ℕ)). old ++ datagram_to from to s.1) says ∙ ap (λ (b : List DatagramValue). b ++ []) bag,
-      (is ∙ ap (λ (s : Line × Option (List ℕ)). s.0) says, refl),
-    )
+    [],
+    posted ∙ ap (λ (s : Line × Option (List ℕ)). old ++ datagram_to from to s.1) says ∙ ap (λ (b : List DatagramValue). b ++ []) bag,
+    (is ∙ ap (λ (s : Line × Option (List ℕ)). s.0) says, refl),
+  )
   grows_by_send None says = λ w bag from_is to_is. (
-      [],
-      posted ∙ ap (λ (s : Line × Option (List ℕ)). old ++ datagram_to from to s.1) says ∙ ap (λ (b : List DatagramValue). b ++ []) bag,
-      (is ∙ ap (λ (s : Line × Option (List ℕ)). s.0) says, refl),
-    )
+    [],
+    posted ∙ ap (λ (s : Line × Option (List ℕ)). old ++ datagram_to from to s.1) says ∙ ap (λ (b : List DatagramValue). b ++ []) bag,
+    (is ∙ ap (λ (s : Line × Option (List ℕ)). s.0) says, refl),
+  )
