@@ -35,6 +35,10 @@ why_bytes_are_not_a_message = 1 ∷ 9 ∷ 10 ∷ 11 ∷ 12 ∷ 13 ∷ 14 ∷ 15 
 abbrev pub why_bytes_are_not_a_record : List ℕ
 why_bytes_are_not_a_record = 1 ∷ 2 ∷ 3 ∷ 9 ∷ []
 
+-- why bytes are not a Map-Request, a Map-Reply or an encapsulated message
+abbrev pub why_bytes_are_not_a_request : List ℕ
+why_bytes_are_not_a_request = 9 ∷ 110 ∷ 111 ∷ 112 ∷ 113 ∷ 114 ∷ 115 ∷ 116 ∷ 117 ∷ 118 ∷ 119 ∷ 120 ∷ 121 ∷ 122 ∷ 123 ∷ 124 ∷ 125 ∷ []
+
 -- faults of a configuration
 abbrev pub faults_of_a_configuration : List ℕ
 faults_of_a_configuration = 20 ∷ 21 ∷ 22 ∷ 23 ∷ 24 ∷ 25 ∷ []
@@ -77,6 +81,7 @@ numbers = refusals_of_a_message
     ∷ refusals_of_a_router
     ∷ why_bytes_are_not_a_message
     ∷ why_bytes_are_not_a_record
+    ∷ why_bytes_are_not_a_request
     ∷ faults_of_a_configuration
     ∷ faults_of_a_database
     ∷ faults_of_a_store_of_nonces

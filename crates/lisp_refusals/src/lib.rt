@@ -12,6 +12,7 @@ mod network_faults;
 mod notice_faults;
 mod output;
 mod program_faults;
+mod request_faults;
 mod router_faults;
 mod row;
 mod server_refusals;

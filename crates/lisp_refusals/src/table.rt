@@ -1,7 +1,7 @@
 //! The whole table.
 
 ghost use Rattle.std.specs.Prelude.{◌≡◌};
-ghost use Rattle.lisp_refusals.specs.Numbers.{section_numbers, HasNumbers, refusals_of_a_message, faults_of_a_notice, faults_of_a_router_that_starts, faults_of_a_router_that_sends, faults_of_a_router_that_changes_its_key, refusals_of_a_router, why_bytes_are_not_a_message, why_bytes_are_not_a_record, faults_of_a_configuration, faults_of_a_database, faults_of_a_store_of_nonces, faults_of_a_network, faults_of_a_script, refusals_of_a_socket, faults_of_the_program, refusals_of_the_library};
+ghost use Rattle.lisp_refusals.specs.Numbers.{section_numbers, HasNumbers, refusals_of_a_message, faults_of_a_notice, faults_of_a_router_that_starts, faults_of_a_router_that_sends, faults_of_a_router_that_changes_its_key, refusals_of_a_router, why_bytes_are_not_a_message, why_bytes_are_not_a_record, why_bytes_are_not_a_request, faults_of_a_configuration, faults_of_a_database, faults_of_a_store_of_nonces, faults_of_a_network, faults_of_a_script, refusals_of_a_socket, faults_of_the_program, refusals_of_the_library};
 
 use crate::configuration_faults::{CONFIGURATION_FAULTS, DATABASE_FAULTS};
 use crate::library_refusals::LIBRARY_REFUSALS;
@@ -9,6 +9,7 @@ use crate::message_faults::{MESSAGE_FAULTS, RECORD_FAULTS};
 use crate::network_faults::{NETWORK_FAULTS, SCRIPT_FAULTS};
 use crate::notice_faults::{NOTICE_FAULTS, STORE_FAULTS};
 use crate::program_faults::{PROGRAM_FAULTS, SOCKET_FAULTS};
+use crate::request_faults::REQUEST_FAULTS;
 use crate::router_faults::{ROTATE_FAULTS, ROUTER_REFUSALS, SEND_FAULTS, START_FAULTS};
 use crate::row::Section;
 use crate::server_refusals::SERVER_REFUSALS;
@@ -35,7 +36,7 @@ pub(crate) fn opening() -> &'static str {
 
 /// The sections, in the order of the document.
 #[tactic(auto, unfolding(crate::specs::Numbers::numbers))]
-pub(crate) fn sections() -> [Section; 16]
+pub(crate) fn sections() -> [Section; 17]
     ensures { HasNumbers result }
 {
     [
@@ -47,6 +48,7 @@ pub(crate) fn sections() -> [Section; 16]
         router_refusals(),
         message_faults(),
         record_faults(),
+        request_faults(),
         configuration_faults(),
         database_faults(),
         store_faults(),
@@ -104,6 +106,12 @@ fn record_faults() -> Section
     ensures { section_numbers result ≡ why_bytes_are_not_a_record }
 {
     RECORD_FAULTS
+}
+
+fn request_faults() -> Section
+    ensures { section_numbers result ≡ why_bytes_are_not_a_request }
+{
+    REQUEST_FAULTS
 }
 
 fn configuration_faults() -> Section
