@@ -1,6 +1,6 @@
-//! Measures the codec and the tag, registrations and lookups at a Map-Server whose store lies in memory, a large database in
-//! its parts, the reading of a configuration, and how often a router saves, if there is a word; with no word nothing is
-//! measured. `make bench` runs it.
+//! Measures the codec and the tag, the messages by which others ask, registrations and lookups at a Map-Server whose store lies
+//! in memory, a large database in its parts, the reading of a configuration, and how often a router saves, if there is a word;
+//! with no word nothing is measured. `make bench` runs it.
 #![tactic(auto)]
 
 mod codec;
@@ -9,6 +9,7 @@ mod lookups;
 mod network;
 mod parts;
 mod registers;
+mod requests;
 mod saves;
 mod stopwatch;
 
@@ -28,6 +29,7 @@ fn run<R: Env + Print + Clock + AllocGlobal>(rt: &R) -> Option<()> {
         return Some(());
     }
     codec::measure(rt)?;
+    requests::measure(rt)?;
     network::measure(rt)?;
     parts::measure(rt)?;
     configuration::measure(rt)?;
