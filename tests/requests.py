@@ -17,9 +17,11 @@ import tempfile
 from typing import NamedTuple
 
 LIMIT, AT_ONCE = 20, 200
-SHORT, KIND, SECURITY, IP_VERSION, IHL, IP_LENGTH, FRAGMENT, PROTOCOL, IP_SUM, PORT, UDP_LENGTH, UDP_SUM, NO_RECORD, AFI, MASK, TRAILING = range(110, 126)
+SHORT, KIND, SECURITY, IP_VERSION, IHL, IP_LENGTH, FRAGMENT, PROTOCOL = range(110, 118)
+IP_SUM, PORT, UDP_LENGTH, UDP_SUM, NO_RECORD, AFI, MASK, TRAILING = range(118, 126)
 # The faults that a message of each kind can have: each has to come.
-FAULTS = {"request": {SHORT, KIND, NO_RECORD, AFI, MASK}, "reply": {SHORT, KIND, AFI, MASK, TRAILING}, "encapsulated": set(range(SHORT, NO_RECORD))}
+FAULTS = {"request": {SHORT, KIND, NO_RECORD, AFI, MASK}, "reply": {SHORT, KIND, AFI, MASK, TRAILING},
+          "encapsulated": set(range(SHORT, NO_RECORD))}
 FAULTS["layout"] = FAULTS["request"]
 CONTROL_PORT, UDP, WIDTHS = 4342, 17, {1: 4, 2: 16}
 # The bytes of the longest message in UDP over IPv4; a longer one that came over IPv6 isn't written.
@@ -295,7 +297,8 @@ def summed(data, at, front=b""):
 def write_ip(it, payload, free):
     if len(it.source) == 4:
         options = bytes(free(8) for _ in range(4 * (free(4) % 11)))
-        head = struct.pack("!2B3H2BH", 0x45 + len(options) // 4, free(8), 20 + len(options) + len(payload), free(16), free(2) << 14, free(8) or 64, UDP, 0)
+        lengths = 0x45 + len(options) // 4, free(8), 20 + len(options) + len(payload)
+        head = struct.pack("!2B3H2BH", *lengths, free(16), free(2) << 14, free(8) or 64, UDP, 0)
         return summed(head + it.source + it.destination + options, 10) + payload
     return struct.pack("!LH2B", 6 << 28 | free(28), len(payload), UDP, free(8) or 64) + it.source + it.destination + payload
 
@@ -449,8 +452,9 @@ def changed(draw, kind, data):
     value = data[place]
     other = draw.choice([value ^ 1 << draw.randrange(8), draw.getrandbits(8), (value + 1) % 256, (value - 1) % 256, 0, 255])
     some = draw.randint(1, 4)
-    data = draw.choice([data[:place] + bytes([other]) + data[place + 1:]] * 4
-                       + [data[:place], data[:-some], data[:place] + data[place + some:], data[:place] + draw.randbytes(some) + data[place:], data + draw.randbytes(some)])
+    front, after = data[:place], data[place:]
+    data = draw.choice([front + bytes([other]) + after[1:]] * 4
+                       + [front, data[:-some], front + after[some:], front + draw.randbytes(some) + after, data + draw.randbytes(some)])
     return mended(data) if kind == "encapsulated" and len(data) > 4 and draw.random() < 0.5 else data
 
 

@@ -54,7 +54,10 @@ enum Call {
 }
 
 static NAMES: [(&str, Call); 4] = [
-    ("reading the 60 byte encapsulated Map-Request", Call::ReadRequest),
+    (
+        "reading the 60 byte encapsulated Map-Request",
+        Call::ReadRequest,
+    ),
     ("reading it with its UDP checksum", Call::ReadSummed),
     ("laying it out with its UDP checksum", Call::LayOut),
     ("writing the 40 byte Map-Reply", Call::WriteReply),
