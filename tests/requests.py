@@ -2,9 +2,9 @@
 """requests.py PROGRAM SEED COUNT
 Compares what PROGRAM (crates/lisp_fields) reads and writes of Map-Requests, Map-Replies and encapsulated messages with a slow reader, which
 takes a message bit by bit as RFC 9301 sections 5.2, 5.4, 5.5 and 5.8, RFC 791, RFC 768 and RFC 8200 lay it out. The messages are samples,
-each cut of them and each change of a bit; and COUNT that are drawn from SEED, with free bits, options and bytes after them, each with one
-change. Then each growth of memory is refused in turn. Where `tshark` is installed it reads what is written, and its fields are compared.
-Prints each message that differs, up to 20, and ends with 1 where one does."""
+each cut of them, each change of a bit, and others near them; and COUNT that are drawn from SEED, with free bits, options and bytes after
+them, each as it is and with one change. Then each growth of memory is refused in turn. Where `tshark` is installed, it reads what is
+written, and its fields are compared. Prints each message that differs, up to 20, and ends with 1 where one does."""
 import ipaddress
 import itertools
 import os
@@ -294,6 +294,11 @@ def summed(data, at, front=b""):
     return data[:at] + struct.pack("!H", 0xFFFF if front and checksum == 0 else checksum) + data[at + 2:]
 
 
+def without_checksum(data, at):
+    """The bytes with a checksum of 0 in the UDP header at a place."""
+    return data[:at + 6] + bytes(2) + data[at + 8:]
+
+
 def write_ip(it, payload, free):
     if len(it.source) == 4:
         options = bytes(free(8) for _ in range(4 * (free(4) % 11)))
@@ -304,11 +309,11 @@ def write_ip(it, payload, free):
 
 
 def write_encapsulated(it, free=none):
-    """With free bits there may be no UDP checksum over IPv4, and bytes after the UDP datagram and after that of IP."""
+    """With free bits there may be no UDP checksum, which is a fault over IPv6, and bytes after the UDP datagram and after that of IP."""
     header = struct.pack("!4H", it.port, CONTROL_PORT, 8 + len(it.message), 0)
     udp = summed(header + it.message, 6, pseudo_header(it.source, it.destination, 8 + len(it.message)))
-    if len(it.source) == 4 and free(2) == 1:
-        udp = udp[:6] + bytes(2) + udp[8:]
+    if free(3) == 1:
+        udp = without_checksum(udp, 0)
     more, after = (bytes(free(8) for _ in range(free(3) * free(1))) for _ in range(2))
     return struct.pack("!BHB", 8 << 4 | free(3), free(16), free(8)) + write_ip(it, udp + more, free) + after
 
@@ -458,24 +463,42 @@ def changed(draw, kind, data):
     return mended(data) if kind == "encapsulated" and len(data) > 4 and draw.random() < 0.5 else data
 
 
-def bits_and_cuts(data):
+def near(data):
+    """The message, each cut of it, each change of a bit, bytes that are other numbers, and one more byte."""
+    yield data
     for length in range(len(data)):
         yield data[:length]
-    for bit in range(8 * len(data)):
-        value = bytearray(data)
-        value[bit // 8] ^= 0x80 >> bit % 8
-        yield bytes(value)
+    for place, value in enumerate(data):
+        for other in {value ^ 1 << bit for bit in range(8)} | set(range(8)) | {127, 128, 254, 255}:
+            yield data[:place] + bytes([other]) + data[place + 1:]
+    yield data + b"\0"
+
+
+def around_a_sum(it):
+    """A message whose UDP datagram sums to all ones without a checksum, so that all ones are sent in place of 0; and with 0 after all."""
+    at = 24 if len(it.source) == 4 else 44
+    bare = without_checksum(write_encapsulated(it._replace(port=0)), at)[at:]
+    summing = write_encapsulated(it._replace(port=0xFFFF - sum_of(pseudo_header(it.source, it.destination, len(bare)) + bare)))
+    return summing, without_checksum(summing, at)
+
+
+def lengths(data):
+    """An encapsulated message over IPv4, of each total length and IHL, with right checksums."""
+    for total in range(len(data)):
+        for ihl in range(16):
+            yield mended(data[:4] + bytes([0x40 + ihl, 0]) + struct.pack("!H", total) + data[8:])
 
 
 def samples():
-    """Each sample, over IPv6 too, and what is near it; and the longest messages."""
-    over_ipv6 = Encapsulated(bytes.fromhex("20010db8") + bytes(11) + b"\1", bytes.fromhex("20010db8") + bytes(11) + b"\2", 40000, REQUEST)
+    """Each sample, over IPv6 too, and what is near it; sums, lengths; and the longest messages."""
+    addresses = (bytes.fromhex("20010db8") + bytes(11) + bytes([last]) for last in (1, 2))
+    over_ipv4, over_ipv6 = OUTER._replace(message=REQUEST), Encapsulated(*addresses, 40000, REQUEST)
+    found = [("encapsulated", data) for it in (over_ipv4, over_ipv6) for data in around_a_sum(it)]
+    found += [("encapsulated", data) for data in lengths(SAMPLES[1][1])]
     for kind, data in SAMPLES + [("encapsulated", write_encapsulated(over_ipv6))]:
-        for near in (data, *bits_and_cuts(data), data + b"\0"):
-            yield kind, near
-    for length in (MOST, MOST + 1, 65_527):
-        yield "encapsulated", write_encapsulated(over_ipv6._replace(message=bytes(length)))
-    yield "encapsulated", write_encapsulated(OUTER._replace(message=bytes(MOST)))
+        found += [(kind, it) for it in near(data)]
+    found += [("encapsulated", write_encapsulated(over_ipv6._replace(message=bytes(length)))) for length in (MOST, MOST + 1, 65_527)]
+    return found + [("encapsulated", write_encapsulated(over_ipv4._replace(message=bytes(MOST))))]
 
 
 def drawn(seed, count):
