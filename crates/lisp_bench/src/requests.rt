@@ -10,10 +10,10 @@ use lisp_requests::{
 use std::alloc::Global;
 use std::rt::Clock;
 
-/// How often each is called in a round, and how many rounds there are.
-const CALLS: u32 = 10_000;
+/// How often each is called in a round, and how many rounds there are: the shortest round of each counts.
+const CALLS: u32 = 1_000;
 
-const ROUNDS: u32 = 40;
+const ROUNDS: u32 = 400;
 
 /// A call is to take at most so many hundredths of the time that the Map-Register takes.
 const BOUND: u128 = 200;
@@ -68,18 +68,18 @@ pub(crate) fn measure<R: Print + Clock + AllocGlobal>(rt: &R) -> Option<()> {
     let reply = read_reply(rt.alloc(), &REPLY).ok()?;
     for (name, call) in &NAMES {
         let (own, register) = nanos(rt, &reply, *call)?;
-        print_mean(rt, name, own, register)?;
+        print_ratio(rt, name, own, register)?;
     }
     Some(())
 }
 
-// The nanoseconds of all calls, and of as many readings of the Map-Register. A round times both, so that both see the same
-// changes of the machine's speed.
+// The nanoseconds of the shortest round, and of the shortest one of reading the Map-Register. Their rounds take turns, so that
+// both see the same changes of the machine's speed.
 fn nanos<R: Clock + AllocGlobal>(rt: &R, reply: &MapReply, call: Call) -> Option<(u128, u128)> {
-    let (mut own, mut register) = (0_u128, 0_u128);
+    let (mut own, mut register) = (u128::MAX, u128::MAX);
     for _ in 0..ROUNDS {
-        own = own.saturating_add(nanos_of_round(rt, reply, call)?);
-        register = register.saturating_add(nanos_of_round(rt, reply, Call::ReadRegister)?);
+        own = own.min(nanos_of_round(rt, reply, call)?);
+        register = register.min(nanos_of_round(rt, reply, Call::ReadRegister)?);
     }
     Some((own, register))
 }
@@ -120,12 +120,11 @@ fn is_laid_out(bytes: &[u8]) -> bool {
     }
 }
 
-fn print_mean<R: Print>(rt: &R, name: &str, own: u128, register: u128) -> Option<()> {
-    let calls = u128::from(CALLS).saturating_mul(u128::from(ROUNDS)).max(1);
+fn print_ratio<R: Print>(rt: &R, name: &str, own: u128, register: u128) -> Option<()> {
     let ratio = own.saturating_mul(100) / register.max(1);
     let (whole, hundredths) = (ratio / 100, ratio % 100);
     let fits = if ratio <= BOUND { "within" } else { "above" };
-    let (own, register) = (own / calls, register / calls);
+    let (own, register) = (own / u128::from(CALLS), register / u128::from(CALLS));
     println!(rt;
         "{name}: {own} ns, {whole}.{hundredths:02} times the {register} ns of reading the 84 byte Map-Register, {fits} the bound"
     ).ok()
