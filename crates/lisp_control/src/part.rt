@@ -1,4 +1,5 @@
-//! What a node that runs answers its user, part by part: a turn of the node makes one part, which takes less than 1 ms.
+//! What a node that runs answers its user, part by part: a turn of the node makes one part, which lists 256 rows at most, or counts 512.
+//! Where all rows are counted, the last part has a line for each router that was heard, or the counts; any other answer is one part.
 
 ghost use Rattle.std.specs.Prelude.{◌≡◌, [], Some, None, IfOk, OnErr};
 ghost use Rattle.std.specs.String.{string_bytes};

@@ -1,19 +1,39 @@
--- When a node answers its user: one that asks in a loop takes at most half of the time that datagrams leave.
-use Rattle.std.specs.Prelude.{ℕ, Bool, ◌+◌, ◌-◌, ◌^◌, ◌==◌, ◌||◌, not, nat_le, min}
+-- When a node answers its user: one that asks in a loop takes at most half of the time that datagrams leave, or an eighth of theirs.
+use Rattle.std.specs.Prelude.{ℕ, Bool, false, ◌+◌, ◌-◌, ◌*◌, ◌^◌, ◌==◌, ◌||◌, ◌&&◌, nat_le, min}
 use Rattle.lisp_udp.specs.declared.pace.Pace.{Pace}
 
--- where somebody asked lately, it answers in each such turn of those that bring datagrams
-abbrev pub most_passed : ℕ
-most_passed = 4
+-- so many us of the turns that take datagrams weigh as much as one us of rest
+abbrev pub work_per_rest : ℕ
+work_per_rest = 8
 
--- a turn begins that brings datagrams: it answers where nobody asked lately, or as many turns passed
-abbrev pub heard : Pace → Bool → Pace
-heard p is_busy = record p { passed = min (p.passed + 1) (2 ^ 32 - 1); may_answer = not is_busy || nat_le most_passed (min (p.passed + 1) (2 ^ 32 - 1)) }
+-- datagrams between which it rests no longer, in us, follow each other closely
+abbrev pub most_between : ℕ
+most_between = 1000
 
--- a turn begins that brings none, after a rest: it answers where the rests are as long as the answers were
-abbrev pub rested : Pace → ℕ → Pace
-rested p us = record p { owed = p.owed - us; may_answer = (p.owed - us) == 0 }
+-- it owes nothing, and no datagram came lately
+abbrev pub cleared : Pace
+cleared = record { rest_left = 0; work_left = 0; rested = 0; is_close = false }
 
--- an answer took so long
-abbrev pub answered : Pace → ℕ → Pace
-answered p us = record p { owed = min (p.owed + us) (2 ^ 64 - 1); passed = 0 }
+-- it rested so long
+abbrev pub rested_for : Pace → ℕ → Pace
+rested_for p us = record p { rest_left = p.rest_left - us; rested = min (p.rested + us) (2 ^ 64 - 1) }
+
+-- it took datagrams for so long
+abbrev pub worked_for : Pace → ℕ → Pace
+worked_for p us = record p { work_left = p.work_left - us }
+
+-- a datagram came
+abbrev pub heard : Pace → Pace
+heard p = record p { rested = 0; is_close = nat_le p.rested most_between }
+
+-- it answered for so long: it owes as long a rest, or eight times as long a time in which it takes datagrams
+abbrev pub answered_for : Pace → ℕ → Pace
+answered_for p us = record p { rest_left = us; work_left = min (work_per_rest * us) (2 ^ 64 - 1) }
+
+-- it answers where it owes nothing
+abbrev pub answers : Pace → Bool
+answers p = (p.rest_left == 0) || (p.work_left == 0)
+
+-- it waits for the next datagram where that one came closely after the one before it, and it didn't rest since
+abbrev pub awaits_next : Pace → Bool
+awaits_next p = p.is_close && (p.rested == 0)

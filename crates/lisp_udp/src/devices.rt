@@ -1,12 +1,12 @@
 //! What a node that runs has outside: the system's socket and clock, and where its lines go.
 
-ghost use Rattle.std.specs.Prelude.{None, IfSome, IsTrue};
+ghost use Rattle.std.specs.Prelude.{◌≡◌, None, IfSome, IsTrue, length};
 ghost use Rattle.lisp_database_store.specs.Groups.{SomeIsDone};
 ghost use Rattle.lisp_records.specs.Router.{router_cmp};
 ghost use Rattle.lisp_statistics.specs.Hearing.{heard_in};
 ghost use Rattle.lisp_statistics.specs.Kind.{kind_of};
 ghost use Rattle.lisp_statistics.specs.Statistics.{CountsLine, HearsLine};
-ghost use Rattle.lisp_turns.specs.Outside.{Commits, Logs, LogsLine};
+ghost use Rattle.lisp_turns.specs.Outside.{Commits, FitsBuffer, Logs, LogsLine};
 ghost use Rattle.lisp_udp.specs.Moments.{moment_of};
 
 use crate::control::ControlSocket;
@@ -33,9 +33,13 @@ use std::time::{Duration, Instant};
 /// How long a turn of a node waits for a datagram, in ms.
 const RECEIVE_TIMEOUT_MS: u64 = 100;
 
-/// How long it rests where none waits while somebody is connected to its control socket, or was lately, in microseconds: a time limit of a
-/// socket is rounded up to some ms.
+/// How long while somebody asks, where the next datagram is to follow soon: the system rounds it up to some ms.
+const BUSY_TIMEOUT_MS: u64 = 1;
+
+/// How long it rests where none is, in us.
 const BUSY_REST_US: u64 = 200;
+
+const US_PER_MS: u64 = 1_000;
 
 /// A node's socket, its clock, where its lines go, and where it is asked. Of what the system makes of their calls nothing is known.
 #[derive(Drop)]
@@ -47,6 +51,8 @@ pub(crate) struct Devices<'a, R, T, P> {
     // None where it couldn't be opened.
     control: Option<ControlSocket<'a>>,
     pace: Pace,
+    // Since when it takes the datagrams of this turn, while somebody asks; its answer left out.
+    works_since: Option<Instant>,
     stopwatch: Stopwatch,
     statistics: Statistics,
     saves: &'a SaveTimes<'a, R>,
@@ -74,6 +80,7 @@ impl<'a, R: Net + std::time::Clock + AllocGlobal, T: SystemTable, P: Printer + D
             group,
             control,
             pace: Pace::start(),
+            works_since: None,
             stopwatch: Stopwatch::start(rt)?,
             statistics: Statistics::start(rt.alloc()),
             saves,
@@ -97,24 +104,70 @@ impl<R, T, P> Devices<'_, R, T, P> {
     }
 }
 
+impl<R: std::time::Clock, T: SystemTable, P: Printer> Devices<'_, R, T, P> {
+    // The next datagram that comes in so many ms; with `None`, that waits already.
+    fn receive_in(&mut self, ms: Option<u64>, buffer: &mut [u8]) -> Received
+        ensures seen { ⟦<Self as Outside>⟧.seen self.new ≡ ⟦<Self as Outside>⟧.seen self.old }
+        ensures within { FitsBuffer result buffer.new }
+        ensures room { length buffer.new ≡ length buffer.old }
+    {
+        self.socket.set_receive_ms(ms);
+        match &mut self.group {
+            None => self.socket.receive(buffer),
+            Some(group) => group.receive(&mut self.socket, buffer),
+        }
+    }
+
+    // The next datagram while somebody asks, once what the last turn took is taken off.
+    fn receive_paced(&mut self, buffer: &mut [u8]) -> Received
+        ensures seen { ⟦<Self as Outside>⟧.seen self.new ≡ ⟦<Self as Outside>⟧.seen self.old }
+        ensures within { FitsBuffer result buffer.new }
+        ensures room { length buffer.new ≡ length buffer.old }
+    {
+        let mut begun = Instant::now(self.rt).ok();
+        self.pace
+            .work(us_between(self.works_since.take(), begun).unwrap_or(0));
+        let mut received = self.receive_in(None, buffer);
+        if received == Received::Nothing {
+            received = self.rest(buffer);
+            let rested = Instant::now(self.rt).ok();
+            self.pace
+                .rest(us_between(begun, rested).unwrap_or(BUSY_REST_US));
+            begun = rested;
+        }
+        if let Received::Datagram { .. } = received {
+            self.pace.hear();
+            self.works_since = begun;
+        }
+        received
+    }
+
+    // No datagram waits while somebody asks: waits for one that follows soon, or rests.
+    fn rest(&mut self, buffer: &mut [u8]) -> Received
+        ensures seen { ⟦<Self as Outside>⟧.seen self.new ≡ ⟦<Self as Outside>⟧.seen self.old }
+        ensures within { FitsBuffer result buffer.new }
+        ensures room { length buffer.new ≡ length buffer.old }
+    {
+        if self.pace.awaits_next() {
+            return self.receive_in(Some(BUSY_TIMEOUT_MS), buffer);
+        }
+        let _ = thread::sleep(self.rt, Duration::from_micros(BUSY_REST_US));
+        Received::Nothing
+    }
+}
+
 impl<R, T, P: Printer> Outside for Devices<'_, R, T, P> {
     ghost seen = { λ d. record { log = None; moment = moment_of d.stopwatch.last; is_cut = P.cut d.printer } };
 }
 
 impl<R: std::time::Clock, T: SystemTable, P: Printer> Endpoint for Devices<'_, R, T, P> {
     fn receive(&mut self, buffer: &mut [u8]) -> Received {
-        let is_busy = self.is_busy();
-        self.socket.set_receive_waits(!is_busy);
-        let received = match &mut self.group {
-            None => self.socket.receive(buffer),
-            Some(group) => group.receive(&mut self.socket, buffer),
-        };
-        if received == Received::Nothing {
-            rest(self.rt, &mut self.pace, is_busy);
-        } else {
-            self.pace.hear(is_busy);
+        if self.is_busy() {
+            return self.receive_paced(buffer);
         }
-        received
+        self.pace = Pace::start();
+        self.works_since = None;
+        self.receive_in(Some(RECEIVE_TIMEOUT_MS), buffer)
     }
 
     fn poll(&mut self, buffer: &mut [u8]) -> Received {
@@ -166,7 +219,11 @@ impl<R: std::time::Clock, T, P: Printer> Control for Devices<'_, R, T, P> {
             let begun = Instant::now(self.rt).ok();
             let runs = self.printer.replays();
             control.answer(core, &self.statistics, runs, now, outcome);
-            spend(self.rt, &mut self.pace, begun);
+            let ended = Instant::now(self.rt).ok();
+            self.pace.answer(us_between(begun, ended).unwrap_or(0));
+            if self.works_since.is_some() {
+                self.works_since = ended;
+            }
         }
     }
 }
@@ -180,6 +237,7 @@ impl<R: std::time::Clock, T, P: Printer> Clock for Devices<'_, R, T, P> {
 
     fn wait(&mut self, ms: u64) {
         let _ = thread::sleep(self.rt, Duration::from_millis(ms));
+        self.pace.rest(ms.saturating_mul(US_PER_MS));
     }
 }
 
@@ -199,24 +257,8 @@ impl<R, T, P: Printer> Lines for Devices<'_, R, T, P> {
     }
 }
 
-// No datagram waits: rests where somebody is connected to the control socket, or was lately; else the node waited for one.
-fn rest<R: std::time::Clock>(rt: &R, pace: &mut Pace, is_busy: bool) {
-    if !is_busy {
-        pace.rest(u64::MAX);
-        return;
-    }
-    let begun = Instant::now(rt).ok();
-    let _ = thread::sleep(rt, Duration::from_micros(BUSY_REST_US));
-    pace.rest(us_since(rt, begun).unwrap_or(BUSY_REST_US));
-}
-
-// The node answered from then on; where the clock can't be read, for no time.
-fn spend<R: std::time::Clock>(rt: &R, pace: &mut Pace, begun: Option<Instant>) {
-    pace.answer(us_since(rt, begun).unwrap_or(0));
-}
-
-// How many us it is since then, where the clock can be read.
-fn us_since<R: std::time::Clock>(rt: &R, begun: Option<Instant>) -> Option<u64> {
-    let passed = begun?.elapsed(rt).ok()?;
+// How many us lie between two readings of the clock, where it could be read.
+fn us_between(from: Option<Instant>, to: Option<Instant>) -> Option<u64> {
+    let passed = to?.duration_since(from?);
     Some(u64::try_from(passed.as_micros()).unwrap_or(u64::MAX))
 }

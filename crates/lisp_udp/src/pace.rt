@@ -1,64 +1,84 @@
 //! When a node answers its user, between the datagrams that it takes.
 
-ghost use Rattle.std.specs.Prelude.{◌≡◌, false};
-ghost use Rattle.lisp_udp.specs.Pace.{answered, heard, rested};
+ghost use Rattle.std.specs.Prelude.{◌≡◌};
+ghost use Rattle.lisp_udp.specs.Pace.{answered_for, answers, awaits_next, cleared, heard, rested_for, worked_for};
 
-/// In each such turn of those that bring datagrams the node answers all the same.
-const MOST_PASSED: u32 = 4;
+/// So many us of the turns that take datagrams weigh as much as one us of rest.
+const WORK_PER_REST: u64 = 8;
 
-/// How long a node answered lately, and how long it rested after that. It answers in a turn that brings no datagram, once it rested as
-/// long as it answered: so a user who asks in a loop takes at most half of the time that datagrams leave. Where they leave none, it
-/// answers in each fourth turn; and in each turn while nobody asked lately.
+/// Datagrams between which the node rests no longer follow each other closely, in us.
+const MOST_BETWEEN_US: u64 = 1_000;
+
+/// What a node owes since it answered: it answers again once it rested as long as it answered, or once it took datagrams for eight times
+/// as long. So a user who asks in a loop takes at most half of the time that datagrams leave; where they leave none, an eighth of their
+/// time.
 #[derive(Clone, Copy, Debug, PartialEq, Eq)]
 pub(crate) struct Pace {
-    // For so many us it is to rest yet.
-    owed: u64,
-    // So many turns brought datagrams since it answered last.
-    passed: u32,
-    // It answers in this turn.
-    may_answer: bool,
+    // For so many us it is to rest yet,
+    rest_left: u64,
+    // or to take datagrams.
+    work_left: u64,
+    // For so many us it rested since the last datagram.
+    rested: u64,
+    // That datagram came closely after the one before it.
+    is_close: bool,
 }
 
 impl Pace {
-    /// Of a node that starts.
+    /// Of a node that nobody asked lately.
     pub(crate) fn start() -> Pace
-        ensures { result ≡ record { owed = 0; passed = 0; may_answer = false } }
+        ensures { result ≡ cleared }
     {
         Pace {
-            owed: 0,
-            passed: 0,
-            may_answer: false,
+            rest_left: 0,
+            work_left: 0,
+            rested: 0,
+            is_close: false,
         }
     }
 
-    /// A turn begins that brings datagrams, while somebody asks or asked lately (`is_busy`), or nobody.
-    pub(crate) fn hear(&mut self, is_busy: bool)
-        ensures { self.new ≡ heard self.old is_busy }
-    {
-        self.passed = self.passed.saturating_add(1);
-        self.may_answer = !is_busy || self.passed >= MOST_PASSED;
-    }
-
-    /// A turn begins that brings none, after a rest of so many us.
+    /// It rested for so many us.
     pub(crate) fn rest(&mut self, us: u64)
-        ensures { self.new ≡ rested self.old us }
+        ensures { self.new ≡ rested_for self.old us }
     {
-        self.owed = self.owed.saturating_sub(us);
-        self.may_answer = self.owed == 0;
+        self.rest_left = self.rest_left.saturating_sub(us);
+        self.rested = self.rested.saturating_add(us);
     }
 
-    /// Whether the node answers in this turn.
-    pub(crate) fn may_answer(&self) -> bool
-        ensures { result ≡ self.now.may_answer }
+    /// It took datagrams for so many us.
+    pub(crate) fn work(&mut self, us: u64)
+        ensures { self.new ≡ worked_for self.old us }
     {
-        self.may_answer
+        self.work_left = self.work_left.saturating_sub(us);
+    }
+
+    /// A datagram came.
+    pub(crate) fn hear(&mut self)
+        ensures { self.new ≡ heard self.old }
+    {
+        self.is_close = self.rested <= MOST_BETWEEN_US;
+        self.rested = 0;
     }
 
     /// It answered for so many us.
     pub(crate) fn answer(&mut self, us: u64)
-        ensures { self.new ≡ answered self.old us }
+        ensures { self.new ≡ answered_for self.old us }
     {
-        self.owed = self.owed.saturating_add(us);
-        self.passed = 0;
+        self.rest_left = us;
+        self.work_left = us.saturating_mul(WORK_PER_REST);
+    }
+
+    /// Whether the node answers in this turn.
+    pub(crate) fn may_answer(&self) -> bool
+        ensures { result ≡ answers self.now }
+    {
+        self.rest_left == 0 || self.work_left == 0
+    }
+
+    /// Whether the node waits for the next datagram, where none waits: it follows soon, as the last one did.
+    pub(crate) fn awaits_next(&self) -> bool
+        ensures { result ≡ awaits_next self.now }
+    {
+        self.is_close && self.rested == 0
     }
 }

@@ -17,10 +17,11 @@ const PORT: u16 = 4342;
 #[derive(Drop)]
 pub(crate) struct NodeSocket {
     socket: UdpSocket,
-    // Whether its calls wait, a receive for its time limit.
+    // Whether its calls wait, a receive for so many ms.
     waits: bool,
-    // Whether a receive waits.
-    receive_waits: bool,
+    timeout_ms: u64,
+    // For how many ms a receive is to wait; `None` where it takes only what waits already.
+    receive_ms: Option<u64>,
     // The kind of the last failure.
     failure: Option<ErrorKind>,
 }
@@ -39,16 +40,17 @@ impl NodeSocket {
             Ok(()) => Ok(NodeSocket {
                 socket,
                 waits: true,
-                receive_waits: true,
+                timeout_ms,
+                receive_ms: Some(timeout_ms),
                 failure: None,
             }),
             Err(_) => Err(RunFault::BIND),
         }
     }
 
-    /// Whether a receive waits from now on, or takes only what waits already.
-    pub(crate) fn set_receive_waits(&mut self, receive_waits: bool) {
-        self.receive_waits = receive_waits;
+    /// For how many ms a receive waits from now on; with `None` it takes only what waits already.
+    pub(crate) fn set_receive_ms(&mut self, receive_ms: Option<u64>) {
+        self.receive_ms = receive_ms;
     }
 
     /// The kind of the last error of a call that failed.
@@ -56,12 +58,12 @@ impl NodeSocket {
         self.failure
     }
 
-    // The next datagram.
-    fn next(&mut self, buffer: &mut [u8], waits: bool) -> Received
+    // The next datagram that comes in so many ms; with `None`, that waits already.
+    fn next(&mut self, buffer: &mut [u8], ms: Option<u64>) -> Received
         ensures within { FitsBuffer result buffer.new }
         ensures room { length buffer.new ≡ length buffer.old }
     {
-        match self.try_next(buffer, waits) {
+        match self.try_next(buffer, ms) {
             Ok((count, from)) => Received::Datagram {
                 from: address_of(&from),
                 count,
@@ -78,11 +80,14 @@ impl NodeSocket {
         }
     }
 
-    fn try_next(&mut self, buffer: &mut [u8], waits: bool) -> io::Result<(usize, SocketAddr)>
+    fn try_next(&mut self, buffer: &mut [u8], ms: Option<u64>) -> io::Result<(usize, SocketAddr)>
         ensures within { IfOk result (λ next. next.0 ≤ length buffer.new) }
         ensures room { length buffer.new ≡ length buffer.old }
     {
-        self.set_waits(waits)?;
+        self.set_waits(ms.is_some())?;
+        if let Some(ms) = ms {
+            self.set_timeout(ms)?;
+        }
         self.socket.recv_from(buffer)
     }
 
@@ -98,6 +103,15 @@ impl NodeSocket {
         }
         Ok(())
     }
+
+    fn set_timeout(&mut self, ms: u64) -> io::Result<()> {
+        if self.timeout_ms != ms {
+            self.socket
+                .set_read_timeout(Some(Duration::from_millis(ms)))?;
+            self.timeout_ms = ms;
+        }
+        Ok(())
+    }
 }
 
 impl Outside for NodeSocket {
@@ -106,11 +120,11 @@ impl Outside for NodeSocket {
 
 impl Endpoint for NodeSocket {
     fn receive(&mut self, buffer: &mut [u8]) -> Received {
-        self.next(buffer, self.receive_waits)
+        self.next(buffer, self.receive_ms)
     }
 
     fn poll(&mut self, buffer: &mut [u8]) -> Received {
-        self.next(buffer, false)
+        self.next(buffer, None)
     }
 
     /// To UDP port 4342 of the address.
