@@ -7,7 +7,7 @@ use Rattle.hex.specs.Hex.{decode_of}
 use Rattle.lisp_answer.specs.Setup.{AnswerSetupValue, sites_of}
 use Rattle.lisp_answer.specs.Input.{content}
 use Rattle.lisp_answer.specs.Line.{AreWords, IsLine, Adds, AddsFront}
-use Rattle.lisp_output.specs.Output.{WroteFront}
+use Rattle.lisp_lines.specs.Output.{WroteFront}
 
 -- the words for what the line says, and a line feed, are the line that answers the input
 pub answered : (may_refuse : Type 0) (s : AnswerSetupValue) (old : Option (List ℕ)) (line words text : List ℕ) → IfSome old (λ input. line ≡ take_through 10 input) → AreWords may_refuse (sites_of s) (decode_of (content line)) words → text ≡ words ++ 10 ∷ [] → IfSome old (λ input. IsLine may_refuse s input text)

@@ -11,7 +11,7 @@ use Rattle.lisp_answer.specs.Words.{refusal_words}
 use Rattle.lisp_answer.specs.Answer.{Answer, Answers}
 use Rattle.lisp_answer.specs.declared.fault.AnswerFault.{AnswerFault}
 use Rattle.lisp_answer.specs.declared.fault.AnswerFault.TheVariants.{Write}
-use Rattle.lisp_output.specs.Output.{WroteFront}
+use Rattle.lisp_lines.specs.Output.{WroteFront}
 
 -- an answer in words: the Map-Notify in digits, or why there is none
 abbrev pub answer_words : Answer → List ℕ

@@ -9,8 +9,8 @@ use crate::fault::AnswerFault;
 use crate::input::{content, read_line};
 use crate::line::words_for;
 use crate::site::AnswerSetup;
+use lisp_lines::{Unwritten, write_bytes};
 use lisp_memory::{FallibleString, Memory};
-use lisp_output::{Unwritten, write_bytes};
 use std::alloc::Allocator;
 use std::io::{Read, Write};
 

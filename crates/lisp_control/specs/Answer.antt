@@ -21,7 +21,7 @@ use Rattle.lisp_statistics.specs.declared.gauge.Figure.TheVariants.{Records, Row
 use Rattle.lisp_statistics.specs.declared.gauge.Gauge.{Gauge}
 use Rattle.lisp_statistics.specs.declared.statistics.Statistics.{Statistics}
 use Rattle.lisp_lines.specs.declared.datagram_place.DatagramPlace.TheVariants.{Hidden}
-use Rattle.lisp_asked.specs.Router.{TellsRouter}
+use Rattle.lisp_lines.specs.Router.{TellsRouter}
 use Rattle.lisp_control.specs.Disallowed.{disallowed_text}
 use Rattle.lisp_control.specs.declared.question.Question.{Question}
 use Rattle.lisp_control.specs.declared.question.Question.TheVariants.{Router, Counts, Disallowed}

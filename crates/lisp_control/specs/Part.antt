@@ -10,11 +10,11 @@ use Rattle.lisp_script.specs.declared.fault.ScriptWhat.TheVariants.{Word}
 use Rattle.lisp_lines.specs.Name.{node_name}
 use Rattle.lisp_lines.specs.Query.{hold_by_parts}
 use Rattle.lisp_log.specs.declared.replays.Replay.{Replay}
-use Rattle.lisp_asked.specs.Listing.{ListsRows, most_rows}
-use Rattle.lisp_asked.specs.Server.{TellsHeld, TellsServer}
-use Rattle.lisp_asked.specs.Walk.{HavePlaces, walk_start}
-use Rattle.lisp_asked.specs.declared.server.ServerQuestion.TheVariants.{Hold}
-use Rattle.lisp_asked.specs.declared.walk.Walk.{Walk}
+use Rattle.lisp_lines.specs.Listing.{ListsRows, most_rows}
+use Rattle.lisp_lines.specs.Server.{TellsHeld, TellsServer}
+use Rattle.lisp_lines.specs.Walk.{HavePlaces, walk_start}
+use Rattle.lisp_lines.specs.declared.server.ServerQuestion.TheVariants.{Hold}
+use Rattle.lisp_lines.specs.declared.walk.Walk.{Walk}
 use Rattle.lisp_statistics.specs.Gathering.{Counted, Gathers, StaysExact}
 use Rattle.lisp_statistics.specs.Replays.{replay_count}
 use Rattle.lisp_statistics.specs.Routers.{routers_counted_text}

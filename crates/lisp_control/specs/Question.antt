@@ -14,8 +14,8 @@ use Rattle.lisp_script.specs.declared.command.Command.TheVariants as commands
 use Rattle.lisp_script.specs.declared.fault.ScriptFault.{ScriptFault}
 use Rattle.lisp_script.specs.declared.fault.ScriptWhat.{ScriptWhat}
 use Rattle.lisp_script.specs.declared.fault.ScriptWhat.TheVariants as whats
-use Rattle.lisp_asked.specs.declared.server.ServerQuestion.TheVariants as of_server
-use Rattle.lisp_asked.specs.declared.router.RouterQuestion.TheVariants as of_router
+use Rattle.lisp_lines.specs.declared.server.ServerQuestion.TheVariants as of_server
+use Rattle.lisp_lines.specs.declared.router.RouterQuestion.TheVariants as of_router
 use Rattle.lisp_turns.specs.declared.order.Order.{Order}
 use Rattle.lisp_turns.specs.declared.order.Order.TheVariants as orders
 use Rattle.lisp_control.specs.declared.question.Question.{Question}

@@ -8,9 +8,8 @@ ghost use Rattle.lisp_control.specs.Part.{told_server};
 
 use crate::disallowed::disallowed_text;
 use crate::question::Question;
-use lisp_asked::router_answer;
 use lisp_etr::Etr;
-use lisp_lines::{DatagramPlace, line_text};
+use lisp_lines::{DatagramPlace, line_text, router_answer};
 use lisp_log::Replay;
 use lisp_memory::{FallibleString, Memory};
 use lisp_model::{Line, WorldFault};

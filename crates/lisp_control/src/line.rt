@@ -10,7 +10,7 @@ ghost use Rattle.lisp_script.specs.Spelling.{script_of};
 ghost use Rattle.lisp_control.specs.Question.{question_in, own_question, question_by_word, question_in_script, records_of_change, named, what_of, only};
 
 use crate::question::Question;
-use lisp_asked::RouterQuestion;
+use lisp_lines::RouterQuestion;
 use lisp_memory::{FallibleString, Memory};
 use lisp_script::{Command, ScriptWhat, parse_script};
 use lisp_sites::Config;

@@ -9,8 +9,9 @@ ghost use Rattle.lisp_control.specs.declared.part.Progress.TheVariants as progre
 
 use crate::answer::{fault_text, router_text, server_counts};
 use crate::question::Question;
-use lisp_asked::{MOST_ROWS, ServerQuestion, Walk, holds_at_least, next_rows, server_answer};
-use lisp_lines::hold_by_parts;
+use lisp_lines::{
+    MOST_ROWS, ServerQuestion, Walk, hold_by_parts, holds_at_least, next_rows, server_answer,
+};
 use lisp_log::Replay;
 use lisp_memory::Memory;
 use lisp_script::ScriptWhat;

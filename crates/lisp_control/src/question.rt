@@ -5,7 +5,7 @@ ghost use Rattle.lisp_model.specs.Trace.{event_value};
 ghost use Rattle.lisp_script.specs.Command.{command_value};
 ghost use Rattle.lisp_control.specs.Question.{question_of, due_at, told, order_of};
 
-use lisp_asked::{RouterQuestion, ServerQuestion};
+use lisp_lines::{RouterQuestion, ServerQuestion};
 use lisp_model::Event;
 use lisp_nonces::Fate;
 use lisp_records::Database;

@@ -6,3 +6,8 @@ pub mod Parts
 pub mod Query
 pub mod Writing
 pub mod Records
+pub mod Output
+pub mod Server
+pub mod Router
+pub mod Walk
+pub mod Listing

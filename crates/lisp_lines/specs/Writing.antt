@@ -2,7 +2,7 @@
 use Rattle.std.specs.Prelude.{ℕ, List, Option, Result, IsErrOf}
 use Rattle.lisp_policy.specs.Configuration.{ConfigValue}
 use Rattle.lisp_model.specs.declared.line.Line.{Line}
-use Rattle.lisp_output.specs.Output.{Writes, WroteFront}
+use Rattle.lisp_lines.specs.Output.{Writes, WroteFront}
 use Rattle.lisp_script.specs.declared.play_fault.PlayFault.{PlayFault}
 use Rattle.lisp_script.specs.declared.play_fault.PlayFault.TheVariants.{Write}
 use Rattle.lisp_lines.specs.declared.datagram_place.DatagramPlace.{DatagramPlace}

@@ -2,15 +2,15 @@
 
 ghost use Rattle.std.specs.Prelude.{◌≡◌, IfErr, IsErrOf};
 ghost use Rattle.lisp_lines.specs.Writing.{CutsLine, WritesLine};
-ghost use Rattle.lisp_output.specs.Output.{IsSilentAt, Writes, WritesFront};
+ghost use Rattle.lisp_lines.specs.Output.{IsSilentAt, Writes, WritesFront};
 ghost use Rattle.lisp_script.specs.PlayFault.{IsWritingFault};
 ghost use Rattle.lisp_script.specs.declared.play_fault.PlayFault.TheVariants as faults;
 
 use crate::datagram_place::DatagramPlace;
 use crate::line::line_text;
+use crate::output::{Unwritten, write_bytes};
 use lisp_memory::Memory;
 use lisp_model::Line;
-use lisp_output::{Unwritten, write_bytes};
 use lisp_script::PlayFault;
 use lisp_sites::Config;
 use std::alloc::Allocator;

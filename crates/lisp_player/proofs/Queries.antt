@@ -25,7 +25,7 @@ use Rattle.lisp_refinement.specs.Asked.{ServerTells, RouterTells}
 use Rattle.lisp_refinement.proofs.Gets.{none_is_some, same_some, get_within}
 use Rattle.lisp_refinement.proofs.Asking.{servers_tell, routers_tell}
 use Rattle.lisp_lines.specs.Query.{hold_text, ack_text, ask_text, due_text, due_server, due_router}
-use Rattle.lisp_asked.specs.Router.{CountedFrom, due_of, due_in}
+use Rattle.lisp_lines.specs.Router.{CountedFrom, due_of, due_in}
 use Rattle.lisp_player.specs.Asked.{Where, Holds, Asks, Acknowledges, IsDue, IsDueAtRouter, OfTraces, acked_parts, router_in, is_router, of_router, down_text, fault_text, missing_text}
 use Rattle.lisp_model.specs.declared.world_fault.WorldFault.{WorldFault}
 use Rattle.lisp_model.specs.declared.world_fault.WorldFault.TheVariants.{NoNode, WrongKind}

@@ -24,7 +24,7 @@ use Rattle.lisp_model.specs.Faults.{world_fault_number}
 use Rattle.lisp_lines.specs.declared.datagram_place.DatagramPlace.TheVariants.{Shown}
 use Rattle.lisp_lines.specs.Line.{line_text}
 use Rattle.lisp_lines.specs.Query.{hold_text, ack_text, ask_text, due_text, due_server, due_router}
-use Rattle.lisp_asked.specs.Router.{due_of}
+use Rattle.lisp_lines.specs.Router.{due_of}
 
 -- a fault of the network
 abbrev pub fault_text : WorldFault → List ℕ

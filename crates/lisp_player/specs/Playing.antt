@@ -13,7 +13,7 @@ use Rattle.lisp_model.specs.declared.world_fault.WorldFault.{WorldFault}
 use Rattle.lisp_model.specs.declared.world_fault.WorldFault.TheVariants.{OutOfMemory}
 use Rattle.lisp_lines.specs.declared.datagram_place.DatagramPlace.TheVariants.{Shown}
 use Rattle.lisp_lines.specs.Line.{line_text}
-use Rattle.lisp_output.specs.Output.{WroteFront}
+use Rattle.lisp_lines.specs.Output.{WroteFront}
 use Rattle.lisp_script.specs.declared.command.Command.TheVariants.{Act, Hold, Acks, Ask, Due}
 use Rattle.lisp_script.specs.declared.command.Command.{Command}
 use Rattle.lisp_script.specs.Command.{CommandValue, command_value}

@@ -18,7 +18,7 @@ use Rattle.lisp_script.specs.Command.{CommandValue}
 use Rattle.lisp_script.specs.declared.play_fault.PlayFault.{PlayFault}
 use Rattle.lisp_script.specs.declared.play_fault.PlayFault.TheVariants as faults
 use Rattle.lisp_script.specs.Input.{most_bytes}
-use Rattle.lisp_output.specs.Output.{WroteFront}
+use Rattle.lisp_lines.specs.Output.{WroteFront}
 use Rattle.lisp_script.specs.Schedule.{schedule_of, IsFaulty}
 use Rattle.lisp_player.specs.Playing.{Tells, Plays, FailsAsAsked}
 

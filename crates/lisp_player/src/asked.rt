@@ -5,8 +5,9 @@ ghost use Rattle.std.specs.Option.{option_map};
 ghost use Rattle.std.specs.String.{string_bytes};
 ghost use Rattle.lisp_player.specs.Asked.{Acknowledges, Asks, Holds, IsDue, IsDueAtRouter, SaysOfTraces, fault_text, missing_text, router_in};
 
-use lisp_asked::{RouterQuestion, ServerQuestion, router_answer, server_answer};
-use lisp_lines::{DatagramPlace, line_text};
+use lisp_lines::{
+    DatagramPlace, RouterQuestion, ServerQuestion, line_text, router_answer, server_answer,
+};
 use lisp_memory::{FallibleString, Memory};
 use lisp_model::Line;
 use lisp_nonces::WorldStore;

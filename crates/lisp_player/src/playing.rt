@@ -1,7 +1,7 @@
 //! Playing commands over a network.
 
 ghost use Rattle.std.specs.Prelude.{map, OnOk, IfErr, IsErrOf};
-ghost use Rattle.lisp_output.specs.Output.{IsSilentAt};
+ghost use Rattle.lisp_lines.specs.Output.{IsSilentAt};
 ghost use Rattle.lisp_script.specs.Command.{command_value};
 ghost use Rattle.lisp_script.specs.PlayFault.{IsWritingFault};
 ghost use Rattle.lisp_player.specs.Playing.{Loses, WroteOne, Wrote, StopsAt, BreaksOne, Breaks};

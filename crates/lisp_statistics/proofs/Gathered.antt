@@ -16,9 +16,9 @@ use Rattle.lisp_lookup.specs.Table.{live_from}
 use Rattle.lisp_records.specs.declared.router.RouterId.{RouterId}
 use Rattle.lisp_records.specs.Router.{router_cmp}
 use Rattle.lisp_records.specs.Row.{RowValue, is_alive}
-use Rattle.lisp_asked.specs.Walk.{GoesOn, HavePlaces, LooksAt, Takes, left_of, up_to_most}
-use Rattle.lisp_asked.specs.declared.walk.Walk.{Walk}
-use Rattle.lisp_asked.proofs.Walking.{Taken, all_taken, no_more, none_taken, one_taken}
+use Rattle.lisp_lines.specs.Walk.{GoesOn, HavePlaces, LooksAt, Takes, left_of, up_to_most}
+use Rattle.lisp_lines.specs.declared.walk.Walk.{Walk}
+use Rattle.lisp_lines.proofs.Walking.{Taken, all_taken, no_more, none_taken, one_taken}
 use Rattle.lisp_statistics.specs.Gathering.{AddsSite, Counted, CountsAll, CountsNext, Gathers, IsPartOf, StaysExact, most_counted}
 use Rattle.lisp_statistics.specs.Routers.{AddsRow, rows_in, rows_of}
 use Rattle.lisp_statistics.specs.Sites.{has_site, site_count}

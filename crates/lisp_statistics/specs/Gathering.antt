@@ -6,7 +6,7 @@ use Rattle.std.specs.Ordering.{nat_cmp}
 use Rattle.lisp_records.specs.declared.router.RouterId.{RouterId}
 use Rattle.lisp_records.specs.Row.{RowValue}
 use Rattle.lisp_lookup.specs.Table.{live_from}
-use Rattle.lisp_asked.specs.Walk.{HavePlaces, LooksAt, Takes, left_of, up_to_most}
+use Rattle.lisp_lines.specs.Walk.{HavePlaces, LooksAt, Takes, left_of, up_to_most}
 use Rattle.lisp_statistics.specs.Routers.{CountsRows, rows_in, rows_of}
 use Rattle.lisp_statistics.specs.Sites.{has_site, site_count}
 use Rattle.lisp_statistics.specs.declared.gathering.Gathering.{Gathering}

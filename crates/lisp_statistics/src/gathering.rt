@@ -1,12 +1,12 @@
 //! What is counted of the rows that a Map-Server holds, which is made by parts.
 
 ghost use Rattle.std.specs.Prelude.{◌≡◌, [], IfOk, OnOk, OnErr, List};
-ghost use Rattle.lisp_asked.specs.Walk.{walk_start};
+ghost use Rattle.lisp_lines.specs.Walk.{walk_start};
 ghost use Rattle.lisp_records.specs.Row.{RowValue};
 ghost use Rattle.lisp_statistics.specs.Gathering.{AddsSite, Counted, CountsNext, Gathers, IsPartOf, StaysExact};
 
 use crate::routers::add_row;
-use lisp_asked::Walk;
+use lisp_lines::Walk;
 use lisp_memory::{FallibleSet, Memory};
 use lisp_records::RouterId;
 use lisp_server::Server;

@@ -2,7 +2,7 @@
 use Rattle.std.proofs.Common.{ℕ, List, [], length, Option, Some, None, Result, Ok, Err, OnErr, sym, ◌∙◌, append-nil}
 use Rattle.std.proofs.Math.Seq.{take-length}
 use Rattle.std.specs.Io.KnownBytes.{Appends, Keeps}
-use Rattle.lisp_output.specs.Output.{WroteFront}
+use Rattle.lisp_lines.specs.Output.{WroteFront}
 use Rattle.lisp_udp.specs.Printing.{WroteSome}
 
 -- a flush adds nothing

@@ -3,7 +3,7 @@
 ghost use Rattle.std.specs.Prelude.{◌≡◌, OnOk, OnErr, IfErr};
 ghost use Rattle.std.specs.Io.KnownBytes.{Keeps};
 ghost use Rattle.lisp_lines.specs.Front.{GivesText};
-ghost use Rattle.lisp_output.specs.Output.{Writes};
+ghost use Rattle.lisp_lines.specs.Output.{Writes};
 ghost use Rattle.lisp_script.specs.RunFault.{numbered};
 ghost use Rattle.lisp_udp.specs.Printing.{printed_text, failed_text, lost_text, WritesSome, IsPrintingFault};
 

@@ -1,7 +1,7 @@
 use Rattle.std.proofs.Common.{rules, refl}
 use Rattle.std.specs.String.{string_bytes}
 use Rattle.std.proofs.lemmas.Result.{IfOk-weaker}
-use Rattle.lisp_asked.specs.Router.{due_in}
+use Rattle.lisp_lines.specs.Router.{due_in}
 use Rattle.lisp_player.proofs.Queries.{due_up, due_down, due_missing}
 use Rattle.lisp_player.proofs.asked.due_at_router.Goals as goal
 

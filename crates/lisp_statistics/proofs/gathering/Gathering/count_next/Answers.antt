@@ -1,7 +1,7 @@
 use Rattle.std.proofs.Common.{◌≡◌, ℕ, Option, Some, ap, subst}
 use Rattle.std.specs.Option.{option_map}
-use Rattle.lisp_asked.specs.Walk.{LooksAt}
-use Rattle.lisp_asked.specs.declared.walk.Walk.{Walk}
+use Rattle.lisp_lines.specs.Walk.{LooksAt}
+use Rattle.lisp_lines.specs.declared.walk.Walk.{Walk}
 use Rattle.lisp_records.specs.Row.{RowValue}
 use Rattle.lisp_records.specs.declared.router.RouterId.{RouterId}
 use Rattle.lisp_statistics.specs.Gathering.{AddsSite}

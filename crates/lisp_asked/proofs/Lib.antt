@@ -1,3 +1,0 @@
-mod Counting
-pub mod Walking
-mod Lines

@@ -1,8 +1,0 @@
-use Rattle.std.proofs.Common.{List}
-use Rattle.lisp_records.specs.Row.{RowValue}
-use Rattle.lisp_asked.proofs.Walking.{Taken}
-use Rattle.lisp_asked.proofs.walk.Walk.skip.Given as goal
-
--- the rows so far
-abbrev pub invariant-loop-count : goal.invariant-loop-count
-invariant-loop-count g l = (taken : List RowValue) × Taken l.core.rows l.fn.self l.self taken l._count

@@ -1,4 +1,0 @@
-pub mod Server
-pub mod Router
-pub mod Walk
-pub mod Listing
